@@ -8,7 +8,7 @@ use Rattle.sd_exit.specs.declared.stop.Stop.{Stop}
 use Rattle.sd_exit.specs.Ending.{Exits, OnWriter, end_status, end_text}
 use Rattle.sd_readers.specs.declared.steady.Reader.{Reader}
 use Rattle.sd_readers.specs.declared.steady.Reader.TheVariants.{Restore}
-use Rattle.sd_readers.specs.Reading.{Answers}
+use Rattle.sd_readers.specs.Reading.{ReaderEnds}
 use Rattle.sd_script.specs.declared.line.Line.{Line}
 use Rattle.sd_run.specs.Promise.{PromiseAnyway}
 use Rattle.sd_run.specs.Whole.{IsWholeRun}
@@ -16,14 +16,14 @@ use Rattle.sd_run.specs.Whole.{IsWholeRun}
 -- a program read the store in a folder, and exits with this status: what its files are then is what was read
 abbrev pub ReadsFolder : Reader → DirDisk × ℕ → Option (List ℕ) → Option (List ℕ) → Bool → Type 0
 ReadsFolder reader read before after refused =
-    Answers reader (IsFolderHonest read.0) (folder_files read.0) before after refused read.1
+    ReaderEnds reader (IsFolderHonest read.0) (folder_files read.0) before after refused read.1
 
 -- what comes behind the answers of a run: where it came to its end, the memory that the store then shows, if that was
 -- asked for; and else why it was stopped, if it was
 abbrev pub Then : {D : Type 0} → Ghosts D → Bool → Result Unit Stop → D → D → Option (List ℕ) → Option (List ℕ) → Bool
     → ℕ → Type 0
 Then g true (Ok _) ran new answered after refused status =
-    OnlyReads g ran new × Answers Restore (g.is_honest new) (g.contents ran) answered after refused status
+    OnlyReads g ran new × ReaderEnds Restore (g.is_honest new) (g.contents ran) answered after refused status
 Then g _ ended ran new answered after refused status =
     (new ≡ ran) × Exits answered after refused (end_text ended) (end_status ended) status
 

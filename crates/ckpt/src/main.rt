@@ -5,7 +5,7 @@ ghost use Rattle.std.specs.Prelude.{◌≡◌, ◌∷◌};
 ghost use Rattle.sd_disk.specs.Reads.{OnlyReads};
 ghost use Rattle.sd_script.specs.declared.line.Line.TheVariants as asked;
 ghost use Rattle.sd_readers.specs.declared.steady.Reader.TheVariants as reader;
-ghost use Rattle.sd_readers.specs.Reading.{Answers};
+ghost use Rattle.sd_readers.specs.Reading.{ReaderEnds};
 ghost use Rattle.ckpt.specs.Reading.{RunsScript};
 
 use cause::{Causes, causes_asked, tell, tell_device};
@@ -66,7 +66,7 @@ const UNFIT: u8 = 2;
 
 /// Prints the memory that a store shows, and gives the store back with the exit status.
 fn restore_over<D: Disk, W: Write>(alloc: Global, disk: D, out: &mut Output<W>) -> (D, u8)
-    ensures answers { Answers reader.Restore (D.is_honest result.0) (D.contents disk)
+    ensures answers { ReaderEnds reader.Restore (D.is_honest result.0) (D.contents disk)
         (W.contents out.old.writer) (W.contents out.new.writer) out.new.refused result.1 }
     ensures reads { OnlyReads D.Disk disk result.0 }
 {

@@ -2,7 +2,7 @@
 ghost use Rattle.std.specs.Prelude.{◌≡◌, false, [], Some, IfOk};
 ghost use Rattle.sd_disk.specs.Reads.{OnlyReads};
 ghost use Rattle.sd_disk.specs.Folder.{IsFolderHonest, folder_files};
-ghost use Rattle.sd_readers.specs.Reading.{Answers};
+ghost use Rattle.sd_readers.specs.Reading.{ReaderEnds};
 ghost use Rattle.ckpt.specs.Reading.{ReadsFolder};
 
 use crate::FAILED;
@@ -46,7 +46,7 @@ fn read_to<D: Disk, W: Write>(
     disk: &mut D,
     out: &mut Output<W>,
 ) -> u8
-    ensures answers { Answers reader (D.is_honest disk.new) (D.contents disk.old)
+    ensures answers { ReaderEnds reader (D.is_honest disk.new) (D.contents disk.old)
         (W.contents out.old.writer) (W.contents out.new.writer) out.new.refused result }
     ensures reads { OnlyReads D.Disk disk.old disk.new }
 {
@@ -65,7 +65,7 @@ fn try_to_read(
     reader: Reader,
     folder: &str,
 ) -> Result<Tried, Stop>
-    ensures { IfOk result (λ tried. Answers reader (IsFolderHonest tried.disk) (folder_files tried.disk)
+    ensures { IfOk result (λ tried. ReaderEnds reader (IsFolderHonest tried.disk) (folder_files tried.disk)
         (Some []) (Some tried.text.items) false tried.status) }
 {
     let mut disk = open_store(rt, causes, folder)?;
@@ -92,7 +92,7 @@ fn try_often<R: Clock + Wait>(
     reader: Reader,
     folder: &str,
 ) -> Result<Tried, Stop>
-    ensures { IfOk result (λ tried. Answers reader (IsFolderHonest tried.disk) (folder_files tried.disk)
+    ensures { IfOk result (λ tried. ReaderEnds reader (IsFolderHonest tried.disk) (folder_files tried.disk)
         (Some []) (Some tried.text.items) false tried.status) }
 {
     for pause in PAUSES {

@@ -10,7 +10,7 @@ use Rattle.std.proofs.lemmas.List.Quantifiers.{position-Some}
 use Rattle.sd_areas.specs.declared.area.Area.{Area}
 use Rattle.sd_areas.specs.Pages.{is_within, pages_from}
 use Rattle.sd_areas.specs.Areas.{PageMap, prot_in, AreMaximal, pages_of}
-use Rattle.sd_areas.specs.Calls.{has_hole, set_pages, remove_pages, within_areas, Answers}
+use Rattle.sd_areas.specs.Calls.{has_hole, set_pages, remove_pages, within_areas, RefusesAsDue}
 use Rattle.sd_areas.specs.declared.errno.Errno.{Errno}
 use Rattle.sd_areas.specs.declared.errno.Errno.TheVariants.{Enomem}
 use Rattle.sd_areas.specs.declared.errno.AreaError.{AreaError}
@@ -167,16 +167,16 @@ pub bare_fits : (areas : List Area) (first count : ℕ) → length areas ≡ 0 �
 bare_fits [] first count e = gap_fits [] [] [] first count (record { maximal = tt; same = λ page. bare_gap page (is_within first count page) }) refl (omega arith)
 bare_fits (area ∷ areas) first count e = absurd (omega (arith, e))
 
-refused_by : (r : Result PageMap Errno) (e : AreaError) (long : Type 0) → (long → r ≡ Err Enomem) → (e ≡ OutOfMemory) ⊎ ((e ≡ Refused Enomem) × long) → Answers r e
-refused_by r e long full (inl out) = subst (Answers r) (sym out) tt
-refused_by r e long full (inr many) = subst (Answers r) (sym many.0) (full many.1)
+refused_by : (r : Result PageMap Errno) (e : AreaError) (long : Type 0) → (long → r ≡ Err Enomem) → (e ≡ OutOfMemory) ⊎ ((e ≡ Refused Enomem) × long) → RefusesAsDue r e
+refused_by r e long full (inl out) = subst (RefusesAsDue r) (sym out) tt
+refused_by r e long full (inr many) = subst (RefusesAsDue r) (sym many.0) (full many.1)
 
 pub run_refused : (old placed : List Area) (area : Area) (e : AreaError) → HasRun old placed area → (e ≡ OutOfMemory) ⊎ ((e ≡ Refused Enomem) × (1024 < length placed))
-    → Answers (within_areas (set_pages (pages_of old) area.first area.count area.prot)) e
+    → RefusesAsDue (within_areas (set_pages (pages_of old) area.first area.count area.prot)) e
 run_refused old placed area e run why = refused_by _ e (1024 < length placed) (λ many. ap within_areas (run_is old placed area run) ∙ within_err placed run.maximal many) why
 
 pub gap_refused : (old placed : List Area) (first count : ℕ) (e : AreaError) → HasGap old placed first count → (e ≡ OutOfMemory) ⊎ ((e ≡ Refused Enomem) × (1024 < length placed))
-    → Answers (within_areas (remove_pages (pages_of old) first count)) e
+    → RefusesAsDue (within_areas (remove_pages (pages_of old) first count)) e
 gap_refused old placed first count e gap why = refused_by _ e (1024 < length placed) (λ many. ap within_areas (gap_is old placed first count gap) ∙ within_err placed gap.maximal many) why
 
 pub on_ok_both : {A E : Type 0} {P Q S : Type 0} (r : Result A E) → (P → Q → S) → OnOk r P → OnOk r Q → OnOk r S

@@ -52,6 +52,6 @@ protect_result pages address bytes prot =
     else within_areas (set_pages pages (page_of address) (pages_for bytes) prot)
 
 -- a refusal is the one that was due; out of memory says nothing of the call
-abbrev pub Answers : Result PageMap Errno → AreaError → Type 0
-Answers due (Refused e) = due ≡ Err e
-Answers due OutOfMemory = Unit {0}
+abbrev pub RefusesAsDue : Result PageMap Errno → AreaError → Type 0
+RefusesAsDue due (Refused e) = due ≡ Err e
+RefusesAsDue due OutOfMemory = Unit {0}

@@ -46,7 +46,8 @@ impl Model for AreaMap {
 
 impl AreaMap {
     ghost use Rattle.sd_areas.specs.Areas.{AreAreasOf, AreMaximal, areas_of, pages_of};
-    ghost use Rattle.sd_areas.specs.Calls.{map_result, unmap_result, protect_result, within_areas, has_hole, Answers};
+    ghost use Rattle.sd_areas.specs.Calls.{map_result, unmap_result, protect_result, within_areas, has_hole};
+    ghost use Rattle.sd_areas.specs.Calls.{RefusesAsDue};
     ghost use Rattle.sd_areas.specs.Memory.{prots_of};
     ghost use Rattle.sd_areas.specs.declared.errno.AreaError.TheVariants.{Refused, OutOfMemory};
     ghost use Rattle.sd_areas.specs.declared.errno.Errno.TheVariants.{Einval, Enomem};
@@ -72,7 +73,7 @@ impl AreaMap {
         pages: &BTreeMap<PageNo, SnapshotPage>,
     ) -> Result<Self, AreaError>
         ensures ok { IfOk result (λ map. within_areas (prots_of pages.now.entries) ≡ Ok map) }
-        ensures refused { IfErr result (Answers (within_areas (prots_of pages.now.entries))) }
+        ensures refused { IfErr result (RefusesAsDue (within_areas (prots_of pages.now.entries))) }
         ensures some { result ≡ Err OutOfMemory → pages.now.entries ≢ [] }
     {
         let areas = areas_in(alloc, pages)?;
@@ -108,7 +109,7 @@ impl AreaMap {
     /// Out of memory where the list of areas can't grow. An error changes nothing.
     pub fn map(&mut self, address: u64, bytes: u64, prot: Prot) -> Result<(), AreaError>
         ensures ok { OnOk result (map_result self.old address bytes prot ≡ Ok self.new) }
-        ensures refused { IfErr result (Answers (map_result self.old address bytes prot)) }
+        ensures refused { IfErr result (RefusesAsDue (map_result self.old address bytes prot)) }
         ensures invalid { IsTrue (is_invalid address bytes) → result ≡ Err (Refused Einval) }
         ensures outside { IsFalse (is_invalid address bytes) → IsTrue (is_outside address bytes)
             → result ≡ Err (Refused Enomem) }
@@ -130,7 +131,7 @@ impl AreaMap {
     /// nothing.
     pub fn unmap(&mut self, address: u64, bytes: u64) -> Result<(), AreaError>
         ensures ok { OnOk result (unmap_result self.old address bytes ≡ Ok self.new) }
-        ensures refused { IfErr result (Answers (unmap_result self.old address bytes)) }
+        ensures refused { IfErr result (RefusesAsDue (unmap_result self.old address bytes)) }
         ensures invalid { IsTrue (is_invalid address bytes) → result ≡ Err (Refused Einval) }
         ensures outside { IsFalse (is_invalid address bytes) → IsTrue (is_outside address bytes)
             → result ≡ Err (Refused Einval) }
@@ -153,7 +154,7 @@ impl AreaMap {
     /// Out of memory where the list of areas can't grow. An error changes nothing.
     pub fn protect(&mut self, address: u64, bytes: u64, prot: Prot) -> Result<(), AreaError>
         ensures ok { OnOk result (protect_result self.old address bytes prot ≡ Ok self.new) }
-        ensures refused { IfErr result (Answers (protect_result self.old address bytes prot)) }
+        ensures refused { IfErr result (RefusesAsDue (protect_result self.old address bytes prot)) }
         ensures invalid { IsFalse (address % 4096 == 0) → result ≡ Err (Refused Einval) }
         ensures nothing { IsTrue (address % 4096 == 0) → bytes ≡ 0 → result ≡ Ok tt }
         ensures outside { IsFalse (is_invalid address bytes) → IsTrue (is_outside address bytes)
@@ -187,7 +188,7 @@ impl AreaMap {
     fn from_areas(alloc: Global, areas: Vec<Area>) -> Result<Self, AreaError>
         requires { AreMaximal None areas.items }
         ensures ok { IfOk result (λ map. within_areas (pages_of areas.items) ≡ Ok map) }
-        ensures refused { IfErr result (Answers (within_areas (pages_of areas.items))) }
+        ensures refused { IfErr result (RefusesAsDue (within_areas (pages_of areas.items))) }
         ensures granted { result ≢ Err OutOfMemory }
     {
         if AREA_LIMIT < areas.len() {

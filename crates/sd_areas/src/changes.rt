@@ -4,7 +4,7 @@ ghost use Rattle.std.specs.Prelude.{◌≡◌, ◌≢◌, ◌⊎◌, ◌+◌, �
 ghost use Rattle.std.specs.Prelude.{None};
 ghost use Rattle.std.specs.List.{splice, AllWithin, position};
 ghost use Rattle.sd_areas.specs.Areas.{AreMaximal, pages_of};
-ghost use Rattle.sd_areas.specs.Calls.{set_pages, remove_pages, within_areas, Answers};
+ghost use Rattle.sd_areas.specs.Calls.{set_pages, remove_pages, within_areas, RefusesAsDue};
 ghost use Rattle.sd_areas.specs.declared.errno.AreaError.TheVariants.{Refused, OutOfMemory};
 ghost use Rattle.sd_areas.specs.declared.errno.Errno.TheVariants.{Enomem};
 
@@ -113,7 +113,7 @@ pub(crate) fn set_between(
     ensures ok { OnOk result
         (within_areas (set_pages (pages_of areas.old.items) area.first area.count area.prot)
         ≡ Ok (pages_of areas.new.items)) }
-    ensures refused { IfErr result (Answers
+    ensures refused { IfErr result (RefusesAsDue
         (within_areas (set_pages (pages_of areas.old.items) area.first area.count area.prot))) }
     ensures err { OnErr result (areas.new.items ≡ areas.old.items) }
 {
@@ -137,7 +137,7 @@ pub(crate) fn set_run(alloc: Global, areas: &mut Vec<Area>, area: Area) -> Resul
     ensures ok { OnOk result
         (within_areas (set_pages (pages_of areas.old.items) area.first area.count area.prot)
         ≡ Ok (pages_of areas.new.items)) }
-    ensures refused { IfErr result (Answers
+    ensures refused { IfErr result (RefusesAsDue
         (within_areas (set_pages (pages_of areas.old.items) area.first area.count area.prot))) }
     ensures err { OnErr result (areas.new.items ≡ areas.old.items) }
 {
@@ -168,7 +168,7 @@ pub(crate) fn remove_run(
     ensures ok { OnOk result
         (within_areas (remove_pages (pages_of areas.old.items) range.first range.count)
         ≡ Ok (pages_of areas.new.items)) }
-    ensures refused { IfErr result (Answers
+    ensures refused { IfErr result (RefusesAsDue
         (within_areas (remove_pages (pages_of areas.old.items) range.first range.count))) }
     ensures some { OnErr result (areas.old.items ≢ []) }
     ensures err { OnErr result (areas.new.items ≡ areas.old.items) }

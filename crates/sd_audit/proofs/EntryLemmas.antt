@@ -7,7 +7,7 @@ use Rattle.sd_journal.specs.declared.entry.Entry.{Entry}
 use Rattle.sd_journal.specs.declared.entry.Entry.TheVariants.{Applied, Freeze, Acked, Cancelled, Reopened}
 use Rattle.sd_journal.specs.History.{Base, History, memory_after, at_freeze}
 use Rattle.sd_journal.specs.Legal.{IsLegal}
-use Rattle.sd_audit.specs.Freezes.{memory_at}
+use Rattle.sd_audit.specs.Freezes.{memory_before}
 
 pub next_entry : (entries : List Entry) (k : ℕ) (entry : Entry) → k < length entries → entry ≡ get_or entries k entry → reverse (take (k + 1) entries) ≡ entry ∷ reverse (take k entries)
 next_entry entries k entry within e =
@@ -47,7 +47,7 @@ no_freeze base history n (Reopened m) apart = refl
 
 -- the place among all entries is right for those so far
 abbrev pub IsPlaceSoFar : List Entry → ℕ → ℕ → Option ℕ → Type 0
-IsPlaceSoFar entries k n place = (base : Base) → at_freeze base (reverse (take k entries)) n ≡ memory_at base entries n place
+IsPlaceSoFar entries k n place = (base : Base) → at_freeze base (reverse (take k entries)) n ≡ memory_before base entries n place
 
 pub place_stays : (entries : List Entry) (k n : ℕ) (entry : Entry) (place : Option ℕ) → k < length entries → entry ≡ get_or entries k entry → (entry ≡ Freeze n → ⊥)
     → IsPlaceSoFar entries k n place → IsPlaceSoFar entries (k + 1) n place

@@ -7,7 +7,7 @@ ghost use Rattle.sd_disk.specs.Reads.{OnlyReads};
 ghost use Rattle.sd_image.specs.Shows.{Shows};
 ghost use Rattle.sd_journal.specs.Allowed.{IsAllowed};
 ghost use Rattle.sd_journal.specs.Legal.{IsLegal};
-ghost use Rattle.sd_restore.specs.Faulty.{IsBrokenChain, IsDamage, Names};
+ghost use Rattle.sd_restore.specs.Faulty.{FaultNames, IsBrokenChain, IsDamage};
 ghost use Rattle.sd_audit.specs.ShowsOne.{ShowsOne, base_of, shown_by};
 
 use crate::freezes::memory_at_freeze;
@@ -38,12 +38,12 @@ pub fn audit<D: Disk>(
     ensures exact { D.is_honest disk.new → IfOk result (λ told. IsTrue told
         ↔ ShowsOne (base_of number base.now) (reverse entries.now) (D.contents disk.old)) }
     ensures damaged { D.is_honest disk.new
-        → IfErr result (Names
+        → IfErr result (FaultNames
         (λ slot reason. IsDamage (D.contents disk.old) slot reason
         ⊎ IsBrokenChain (D.contents disk.old) slot reason)) }
     // A store that shows something is never called damaged.
     ensures good { D.is_honest disk.new → (shown : Option (ℕ × PlainMemory))
-        → Shows (D.contents disk.old) shown → IfErr result (Names (λ _ _. ⊥)) }
+        → Shows (D.contents disk.old) shown → IfErr result (FaultNames (λ _ _. ⊥)) }
     ensures saved { result ≢ Err Fault.EmptyChain }
     ensures reads { OnlyReads D.Disk disk.old disk.new }
     ensures device { IsErrOf result Fault.Device → D.failed disk.old < D.failed disk.new }
@@ -60,11 +60,11 @@ fn restored<D: Disk>(alloc: Global, disk: &mut D) -> Result<Option<Snapshot>, Fa
     ensures shown { D.is_honest disk.new → IfOk result (λ found.
         Shows (D.contents disk.old) (option_map shown_by found)) }
     ensures damaged { D.is_honest disk.new
-        → IfErr result (Names
+        → IfErr result (FaultNames
         (λ slot reason. IsDamage (D.contents disk.old) slot reason
         ⊎ IsBrokenChain (D.contents disk.old) slot reason)) }
     ensures good { D.is_honest disk.new → (shown : Option (ℕ × PlainMemory))
-        → Shows (D.contents disk.old) shown → IfErr result (Names (λ _ _. ⊥)) }
+        → Shows (D.contents disk.old) shown → IfErr result (FaultNames (λ _ _. ⊥)) }
     ensures saved { result ≢ Err Fault.EmptyChain }
     ensures reads { OnlyReads D.Disk disk.old disk.new }
     ensures device { IsErrOf result Fault.Device → D.failed disk.old < D.failed disk.new }

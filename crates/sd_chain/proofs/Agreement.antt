@@ -16,7 +16,7 @@ use Rattle.sd_chain.specs.Catalog.{Opened, Places, AreInOrder, Changes, images, 
 use Rattle.sd_chain.specs.Catalog as catalog
 use Rattle.sd_chain.specs.Ways.{HasPage, LiesAt}
 use Rattle.sd_chain.specs.Ways as ways
-use Rattle.sd_chain.specs.Tells.{AddedImageIsTold, Agrees, HavePages, HeldPlacesTellNothing, IsStoredAt, IsToldAs, RemovedSlotIsUntold, RemovedSlotWasTold, Tells}
+use Rattle.sd_chain.specs.Tells.{AddedImageIsTold, Agrees, CatalogLists, HavePages, HeldPlacesTellNothing, IsStoredAt, IsToldAs, RemovedSlotIsUntold, RemovedSlotWasTold}
 use Rattle.sd_chain.proofs.Members.{open_place}
 use Rattle.sd_chain.proofs.Walks.{member_of}
 
@@ -36,7 +36,7 @@ parents i image told = ap (λ (h : Header). h.parent) told.header
 kinds : (i : Opened) (image : Image) → IsToldAs i image → image.header.kind ≡ i.header.kind
 kinds i image told = ap (λ (h : Header). h.kind) told.header
 
-module _ (places : Places) (all : List Image) (order : AreInOrder places) (tells : Tells places all) where
+module _ (places : Places) (all : List Image) (order : AreInOrder places) (tells : CatalogLists places all) where
   -- ---- what a number names, and the newest
 
   named_there : (number : ℕ) (i : Opened) (image : Image) → Contains all image → IsToldAs i image → catalog.Names places number i → IsNamed all number image
@@ -163,7 +163,7 @@ module _ (places : Places) (all : List Image) (order : AreInOrder places) (tells
 
 -- an image of the one is one of the other, where each of its places is
 moved : (old new : Places) (all : List Image) → AreInOrder old → AreInOrder new → ((serial : ℕ) (i : Opened) → place_of old serial ≡ Some (Some i) → place_of new serial ≡ Some (Some i))
-    → ((serial : ℕ) (i : Opened) → place_of new serial ≡ Some (Some i) → place_of old serial ≡ Some (Some i)) → Tells old all → Tells new all
+    → ((serial : ℕ) (i : Opened) → place_of new serial ≡ Some (Some i) → place_of old serial ≡ Some (Some i)) → CatalogLists old all → CatalogLists new all
 moved old new all before after there back tells = record {
   image = λ i c. tells.image i (member_of old i.header.serial i (back i.header.serial i (open_place new i after c)));
   opened = λ image c.

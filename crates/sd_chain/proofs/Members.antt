@@ -10,7 +10,7 @@ use Rattle.std.proofs.lemmas.List.Elements.{Contains-get_or, recursion_from_All}
 use Rattle.std.proofs.lemmas.List.Sorted.{IsNonDecreasingBy-from_sort}
 use Rattle.std.proofs.lemmas.Map.Views.{Contains-from_lookup, lookup-from_Contains}
 use Rattle.sd_image.proofs.Members.{contains_cases, contains_front, contains_later}
-use Rattle.sd_chain.specs.Catalog.{Opened, Places, AreInOrder, Changes, IsNewestChoice, IsSound, IsTip, place_of, images, IsRising, Names}
+use Rattle.sd_chain.specs.Catalog.{Opened, Places, AreInOrder, Changes, IsNewestChoice, IsSoundCatalog, IsTip, place_of, images, IsRising, Names}
 use Rattle.sd_chain.proofs.Places.{by_keys}
 
 -- ---- an image stands at a place
@@ -148,7 +148,7 @@ tip_once es a b order ta tb = same_serial es a b order ta.member tb.member (
       ]
     ])
 
-pub is_sound : (es : Places) → AreInOrder es → IsSound es
+pub is_sound : (es : Places) → AreInOrder es → IsSoundCatalog es
 is_sound es order = record {
   order = order;
   rising = rising es order;

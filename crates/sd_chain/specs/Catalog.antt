@@ -109,7 +109,7 @@ number_at number None = 0
 number_at number (Some i) = number i
 
 -- What is so of every catalog.
-pub record IsSound (places : Places) : Type 0 where
+pub record IsSoundCatalog (places : Places) : Type 0 where
   pub order : AreInOrder places
   pub rising : IsRising (images places)
   -- an image stands at its serial, and nowhere else

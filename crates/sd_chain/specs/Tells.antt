@@ -16,7 +16,7 @@ pub record IsToldAs (i : Opened) (image : Image) : Type 0 where
   pub spaces : image.spaces ≡ i.spaces
 
 -- each image of the catalog is one of these, and each of these is in the catalog
-pub record Tells (places : Places) (all : List Image) : Type 0 where
+pub record CatalogLists (places : Places) (all : List Image) : Type 0 where
   pub image : (i : Opened) → Contains (images places) i → (image : Image) × Contains all image × IsToldAs i image
   pub opened : (image : Image) → Contains all image → (i : Opened) × Contains (images places) i × IsToldAs i image
 
@@ -62,7 +62,7 @@ HeldPlacesTellNothing = (old new : Places) (serial : ℕ) (place : Option (Optio
     → catalog.AreInOrder old → catalog.AreInOrder new
     → ((i : Opened) → place_of old serial ≡ Some (Some i) → ⊥) → ((i : Opened) → place ≡ Some (Some i) → ⊥)
     → Changes old new serial place
-    → Tells old all ↔ Tells new all
+    → CatalogLists old all ↔ CatalogLists new all
 
 -- adding an image adds it
 abbrev pub AddedImageIsTold : Type 0
@@ -70,9 +70,9 @@ AddedImageIsTold =
     (old new : Places) (i : Opened) (image : Image) (all : List Image) → catalog.AreInOrder old → catalog.AreInOrder new
     → ((other : Opened) → place_of old i.header.serial ≡ Some (Some other) → ⊥)
     → Changes old new i.header.serial (Some (Some i)) → IsToldAs i image
-    → (Tells old all → Tells new (image ∷ all))
-    × (((other : Image) → Contains all other → other.header.serial ≢ i.header.serial) → Tells new (image ∷ all)
-    → Tells old all)
+    → (CatalogLists old all → CatalogLists new (image ∷ all))
+    × (((other : Image) → Contains all other → other.header.serial ≢ i.header.serial) → CatalogLists new (image ∷ all)
+    → CatalogLists old all)
 
 -- these are the images that are in other slots
 abbrev pub AreElsewhere : Places → ℕ → List Image → List Image → Type 0
@@ -85,7 +85,7 @@ abbrev pub RemovedSlotIsUntold : Type 0
 RemovedSlotIsUntold =
     (old new : Places) (slot : ℕ) (all left : List Image) → catalog.AreInOrder old → catalog.AreInOrder new
     → ((serial : ℕ) → place_of new serial ≡ without_slot slot (place_of old serial)) → AreElsewhere old slot all left
-    → Tells old all → Tells new left
+    → CatalogLists old all → CatalogLists new left
 
 -- the images of a slot are told by some of these, and those of these that have its serials tell them
 pub record AreToldAt (old : Places) (slot : ℕ) (all : List Image) : Type 0 where
@@ -100,4 +100,4 @@ RemovedSlotWasTold =
     (old new : Places) (slot : ℕ) (all left : List Image) → catalog.AreInOrder old → catalog.AreInOrder new
     → ((serial : ℕ) → place_of new serial ≡ without_slot slot (place_of old serial)) → AreElsewhere old slot all left
     → AreToldAt old slot all
-    → Tells new left → Tells old all
+    → CatalogLists new left → CatalogLists old all

@@ -5,8 +5,8 @@ ghost use Rattle.sd_image.specs.Image.{Image, OpenImages};
 ghost use Rattle.sd_chain.specs.declared.error.CatalogError.TheVariants.{DoubleSerial};
 ghost use Rattle.sd_chain.specs.Store.{IsCatalogOf, FindsNamed, FindsTip, HasTheImages};
 ghost use Rattle.sd_chain.specs.Catalog.{Opened, place_of, images, IsHeld, Changes, is_elsewhere, without_slot, Names};
-ghost use Rattle.sd_chain.specs.Catalog.{IsTip, IsRestored, IsGreatest, IsSound, serial_of, checkpoint_of};
-ghost use Rattle.sd_chain.specs.Tells.{Agrees, Tells};
+ghost use Rattle.sd_chain.specs.Catalog.{IsTip, IsRestored, IsGreatest, IsSoundCatalog, serial_of, checkpoint_of};
+ghost use Rattle.sd_chain.specs.Tells.{Agrees, CatalogLists};
 
 use crate::choice::{Places, greatest_checkpoint, greatest_serial, images_of, named_of, newest_of};
 use crate::error::CatalogError;
@@ -217,7 +217,7 @@ impl Catalog {
 
     /// A law: what is so of every catalog.
     pub fn sound(&self)
-        ensures { IsSound self.now }
+        ensures { IsSoundCatalog self.now }
     {
         let _places = &self.places;
     }
@@ -225,7 +225,7 @@ impl Catalog {
     /// A law: where each image of the catalog is one of some images, with its header and its table, and the other way
     /// round, the tip, what a number names and where pages lie agree in both.
     pub fn agrees(&self)
-        ensures { (all : List Image) → Tells self.now all → Agrees self.now all }
+        ensures { (all : List Image) → CatalogLists self.now all → Agrees self.now all }
     {
         let _places = &self.places;
     }

@@ -8,7 +8,7 @@ use Rattle.sd_pagetable.specs.declared.store_outcome.StoreOutcome.TheVariants as
 use Rattle.sd_pagetable.specs.Contents.{Contents, plain_of}
 use Rattle.sd_pagetable.specs.Due.{fault_due, store_due, try_outcome}
 use Rattle.sd_pagetable.specs.Effects.{IsLeastFree}
-use Rattle.sd_pagetable.specs.Page.{Page}
+use Rattle.sd_pagetable.specs.Page.{PageState}
 use Rattle.sd_pagetable.specs.Tracking.{Step, Mapped, Unmapped, Protected, Forked, Exited, Faulted, Tried, Stored}
 use Rattle.sd_command.specs.declared.command.Command.{Command}
 use Rattle.sd_command.specs.declared.command.Command.TheVariants as command
@@ -45,27 +45,27 @@ try_reply outcome.NeedsFault = reply.NeedsFault
 -- so many bytes from an address on
 abbrev pub IsLoaded : Contents → ℕ → ℕ → ℕ → Reply → Type 0
 IsLoaded memory space address count (reply.Bytes bytes) = IfSome (page_under memory space address)
-    (λ (page : Page). bytes ≡ slice_range page.bytes (address % 4096) (address % 4096 + count))
+    (λ (page : PageState). bytes ≡ slice_range page.bytes (address % 4096) (address % 4096 + count))
 IsLoaded memory space address count _ = ⊥
 
 -- what an accepted command does, by its reply
-abbrev pub Does : Command → Reply → Contents → Contents → Type 0
-Does (command.Mmap space address bytes prot) answer old new =
+abbrev pub CommandDoes : Command → Reply → Contents → Contents → Type 0
+CommandDoes (command.Mmap space address bytes prot) answer old new =
     (answer ≡ reply.Done) × Step old (Mapped space (page_of address) (pages_for bytes) prot) new
-Does (command.Munmap space address bytes) answer old new =
+CommandDoes (command.Munmap space address bytes) answer old new =
     (answer ≡ reply.Done) × Step old (Unmapped space (page_of address) (pages_for bytes)) new
-Does (command.Mprotect space address bytes prot) answer old new =
+CommandDoes (command.Mprotect space address bytes prot) answer old new =
     (answer ≡ reply.Done) × Step old (Protected space (page_of address) (pages_for bytes) prot) new
-Does (command.Fork space) answer old new =
+CommandDoes (command.Fork space) answer old new =
     (child : ℕ) × (answer ≡ reply.Child child) × IsLeastFree (plain_of old) child × Step old (Forked space child) new
-Does (command.Exit space) answer old new = (answer ≡ reply.Done) × Step old (Exited space) new
-Does (command.Load space address count) answer old new = (new ≡ old) × IsLoaded old space address count answer
-Does (command.TryStore space address bytes) answer old new =
+CommandDoes (command.Exit space) answer old new = (answer ≡ reply.Done) × Step old (Exited space) new
+CommandDoes (command.Load space address count) answer old new = (new ≡ old) × IsLoaded old space address count answer
+CommandDoes (command.TryStore space address bytes) answer old new =
     ((answer ≡ reply.Done) × (try_outcome old space address (length bytes) ≡ Ok outcome.Done)
     × Step old (Tried space (page_of address) (address % 4096) bytes) new)
     ⊎ ((answer ≡ reply.NeedsFault) × (try_outcome old space address (length bytes) ≡ Ok outcome.NeedsFault)
     × (new ≡ old))
-Does (command.Fault space address) answer old new =
+CommandDoes (command.Fault space address) answer old new =
     (answer ≡ reply.Done) × Step old (Faulted space (page_of address)) new
-Does (command.Store space address bytes) answer old new =
+CommandDoes (command.Store space address bytes) answer old new =
     (answer ≡ reply.Done) × Step old (Stored space (page_of address) (address % 4096) bytes) new

@@ -9,8 +9,9 @@ use Rattle.sd_pagetable.specs.Effects.{after_mmap}
 use Rattle.sd_pagetable.specs.Nested.{inside, is_alive}
 use Rattle.sd_pagetable.specs.RangeCalls.{IsRangeIn}
 use Rattle.sd_pagetable.specs.declared.access.Access.TheVariants.{Read}
-use Rattle.sd_pagetable.specs.Page.{Page}
-use Rattle.sd_pagetable.specs.Tracking.{Event, Mapped, Unmapped, Protected, Forked, Exited, Faulted, Tried, Stored}
+use Rattle.sd_pagetable.specs.Page.{PageState}
+use Rattle.sd_pagetable.specs.Tracking.{MemoryEvent, Mapped, Unmapped, Protected, Forked, Exited, Faulted, Tried}
+use Rattle.sd_pagetable.specs.Tracking.{Stored}
 use Rattle.sd_pagetable.specs.Tracking.{Passed, Step}
 use Rattle.sd_command.specs.declared.command.Command.{Command}
 use Rattle.sd_command.specs.declared.command.Command.TheVariants as command
@@ -20,7 +21,7 @@ use Rattle.sd_command.specs.declared.reply.Reply.TheVariants as reply
 use Rattle.sd_command.specs.Replies.{denial_in, effect}
 
 -- the page table's event: it has passed by where nothing happened
-abbrev pub event_of : Command → Reply → Event
+abbrev pub event_of : Command → Reply → MemoryEvent
 event_of (command.Mmap space address bytes prot) reply.Done = Mapped space (page_of address) (pages_for bytes) prot
 event_of (command.Munmap space address bytes) reply.Done = Unmapped space (page_of address) (pages_for bytes)
 event_of (command.Mprotect space address bytes prot) reply.Done =
@@ -33,7 +34,7 @@ event_of (command.Store space address bytes) reply.Done = Stored space (page_of 
 event_of _ _ = Passed
 
 -- the page of an address
-abbrev pub page_under : Contents → ℕ → ℕ → Option Page
+abbrev pub page_under : Contents → ℕ → ℕ → Option PageState
 page_under memory space address = page_at memory space (page_of address)
 
 -- What a legal reply leaves open: a try needs a fault exactly where the page isn't writable; a fault or a store is
@@ -41,7 +42,8 @@ page_under memory space address = page_at memory space (page_of address)
 abbrev pub Chooses : Contents → Command → Reply → Type 0
 Chooses memory (command.TryStore space address bytes) answer =
     denial_in (plain_of memory) (command.TryStore space address bytes) ≡ None
-    → (answer ≡ reply.NeedsFault) ↔ IfSome (page_under memory space address) (λ (page : Page). page.writable ≡ false)
+    → (answer ≡ reply.NeedsFault) ↔ IfSome (page_under memory space address)
+    (λ (page : PageState). page.writable ≡ false)
 Chooses memory (command.Fault space address) answer =
     denial_in (plain_of memory) (command.Fault space address) ≡ None
     → (answer ≡ reply.Refused refusal.NoFrame) ↔ (frame_due memory (page_under memory space address) ≢ None)

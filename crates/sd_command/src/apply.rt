@@ -4,7 +4,7 @@ ghost use Rattle.sd_pagetable.specs.Contents.{plain_of};
 ghost use Rattle.sd_pagetable.specs.Due.{Answers, access_due};
 ghost use Rattle.sd_pagetable.specs.Tracking.{Step};
 ghost use Rattle.sd_pagetable.specs.declared.access.Access.TheVariants.{Read};
-ghost use Rattle.sd_command.specs.Attempts.{Does, IsLoaded, denial, done_reply, try_reply};
+ghost use Rattle.sd_command.specs.Attempts.{CommandDoes, IsLoaded, denial, done_reply, try_reply};
 ghost use Rattle.sd_command.specs.Events.{Chooses, TakesMemory, event_of};
 ghost use Rattle.sd_command.specs.Replies.{IsLegalReply, effect};
 
@@ -51,7 +51,7 @@ pub fn apply_to(alloc: Global, memory: &mut Memory, command: &Command) -> Result
 fn attempt(alloc: Global, memory: &mut Memory, command: &Command) -> Result<Reply, MemoryError>
     ensures due { Answers (denial memory.old command.now) result }
     ensures takes_memory { result ≡ Err MemoryError.OutOfMemory → TakesMemory memory.old command.now }
-    ensures does { IfOk result (λ reply. Does command.now reply memory.old memory.new) }
+    ensures does { IfOk result (λ reply. CommandDoes command.now reply memory.old memory.new) }
     ensures effect { IfOk result (λ reply.
         plain_of memory.new ≡ effect command.now reply (plain_of memory.old)) }
     ensures err { OnErr result (memory.new ≡ memory.old) }

@@ -1,5 +1,8 @@
+ghost use Rattle.std.specs.Prelude.{◌≡◌, IfOk};
+
 use crate::bytes::Bytes;
 use sd_areas::{Prot, SpaceId};
+use std::alloc::AllocError;
 
 /// What is asked of a memory. Addresses, lengths and counts are in bytes.
 #[derive(Clone, Debug, PartialEq, Eq, Drop)]
@@ -55,4 +58,17 @@ pub enum Command {
         address: u64,
         bytes: Bytes,
     },
+}
+
+impl Command {
+    /// A copy. Only that of the bytes of a store takes memory.
+    ///
+    /// # Errors
+    ///
+    /// Out of memory where its bytes find no room; the command stands as it was.
+    pub fn try_clone(&self) -> Result<Command, AllocError>
+        ensures copy { IfOk result (λ copy. copy ≡ self.now) }
+    {
+        self.clone()
+    }
 }

@@ -14,7 +14,7 @@ use Rattle.sd_journal.specs.Marked.{Told, Marked, IsTracked, entries_of}
 use Rattle.sd_journal.specs.TrackedLaws.{TrackedLaws}
 use Rattle.sd_pagetable.specs.Contents.{Contents, IsSound}
 use Rattle.sd_pagetable.specs.Tracking.{Step}
-use Rattle.sd_crash_safety.specs.CoreSteps.{CoreSteps, IsApplied, IsCommanded, SameCore}
+use Rattle.sd_crash_safety.specs.CoreSteps.{CoreSteps, IsCommanded, JournalsCommand, SameCore}
 use Rattle.sd_crash_safety.specs.Calls.{AreGivenUp, Stays}
 use Rattle.sd_crash_safety.specs.View.{CoreView}
 use Rattle.sd_core.specs.Answering.{IsAnswered}
@@ -63,7 +63,7 @@ stays_same steps old new same = record {
 }
 
 -- a command was journaled
-pub stays_applied : CoreSteps → (old new : CoreView) (seat : ℕ) (command : Command) (reply : Reply) → IsApplied old seat command reply new → Stays old new
+pub stays_applied : CoreSteps → (old new : CoreView) (seat : ℕ) (command : Command) (reply : Reply) → JournalsCommand old seat command reply new → Stays old new
 stays_applied steps old new seat command reply a = record {
   base = a.store.base;
   outs = a.store.outs;

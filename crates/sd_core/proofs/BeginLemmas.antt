@@ -13,7 +13,7 @@ use Rattle.sd_crash_safety.specs.declared.standing.Standing.TheVariants as stand
 use Rattle.sd_crash_safety.specs.View.{CoreView}
 use Rattle.sd_core.specs.declared.numbers.Numbers.{Numbers}
 use Rattle.sd_core.specs.Beginning.{are_used_up, begin_refusal, free_entries, is_down, is_not_open}
-use Rattle.sd_core.specs.Sound.{AreCounted, AreNumbers, IsOpening}
+use Rattle.sd_core.specs.Sound.{AreSoundNumbers, CheckpointsAreCounted, IsOpening}
 
 -- ---- when no refusal holds
 
@@ -95,7 +95,7 @@ newest_below None old new rises was = tt
 newest_below (Some n) old new rises was = omega (arith, rises, was)
 
 pub begun_numbers : (base : Base) (items : Marked) (newest : Option ℕ) (old new : Numbers) → new.begun ≡ old.checkpoint + 1 → new.checkpoint ≡ old.checkpoint + 1
-    → new.given ≡ old.given → new.serial ≡ old.serial → AreNumbers base items None newest old → AreNumbers base items None newest new
+    → new.given ≡ old.given → new.serial ≡ old.serial → AreSoundNumbers base items None newest old → AreSoundNumbers base items None newest new
 begun_numbers base items newest old new begun checkpoint given serial was =
     let before = was.checkpoints in
     let serials = was.serials in
@@ -108,7 +108,7 @@ begun_numbers base items newest old new begun checkpoint given serial was =
       serials = omega (arith, given, serial, serials);
     }
 
-pub begun_counted : (places : Places) (old new : Numbers) → new.checkpoint ≡ old.checkpoint + 1 → AreCounted old places → AreCounted new places
+pub begun_counted : (places : Places) (old new : Numbers) → new.checkpoint ≡ old.checkpoint + 1 → CheckpointsAreCounted old places → CheckpointsAreCounted new places
 begun_counted places old new checkpoint was serial o at = let below = was serial o at in omega (arith, checkpoint, below)
 
 -- an opener runs only while the store isn't open

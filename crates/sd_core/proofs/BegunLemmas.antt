@@ -12,7 +12,7 @@ use Rattle.sd_crash_safety.specs.View.{CoreView}
 use Rattle.sd_free_slots.specs.Taken.{FreeSlotsLaw, IsReservedBy}
 use Rattle.sd_core.specs.declared.numbers.Numbers.{Numbers}
 use Rattle.sd_core.specs.Beginning.{AreReserved}
-use Rattle.sd_core.specs.Sound.{IsDoing, IsMerging, due_serials}
+use Rattle.sd_core.specs.Sound.{IsDoing, MergeRuns, due_serials}
 use Rattle.sd_core.proofs.SlotLemmas.{filled_free, free_unreserved, own_free}
 
 pub few_due : (merge : Option merger.Running) → due_serials merge ≤ 1
@@ -27,8 +27,8 @@ few_due (Some merge) = by merge.doing
 
 pub begun_beside : FreeSlotsLaw → (core : CoreView) (old new : Numbers) (room rounds n : ℕ) (pre_dumps : List ℕ) (dump parent : ℕ) → AreReserved core rounds pre_dumps dump
     → core.outs ≡ None ∷ merger.out_of_merge core.merger ∷ None ∷ no_writes → new.serial ≡ old.serial → new.given ≡ old.given → old.checkpoint ≤ new.checkpoint
-    → IfSome core.merger (IsMerging core.standing core.phases core.catalog core.opener old room core.dumper.running)
-    → IfSome core.merger (IsMerging core.standing core.phases core.catalog core.opener new room (Some (begun_checkpoint n pre_dumps dump parent)))
+    → IfSome core.merger (MergeRuns core.standing core.phases core.catalog core.opener old room core.dumper.running)
+    → IfSome core.merger (MergeRuns core.standing core.phases core.catalog core.opener new room (Some (begun_checkpoint n pre_dumps dump parent)))
 begun_beside law core old new room rounds n pre_dumps dump parent r outs serial given checkpoint was = by core.merger refl was
   where
     out_at : (merge : merger.Running) (id : RequestId) → core.merger ≡ Some merge → merger.out_in merge.doing ≡ Some id → IsReservedBy core.dumper.running core.merger core.outs id.slot
@@ -58,8 +58,8 @@ begun_beside law core old new room rounds n pre_dumps dump parent r outs serial 
       rises = d.rises;
     }
 
-    by : (m : Option merger.Running) → core.merger ≡ m → IfSome m (IsMerging core.standing core.phases core.catalog core.opener old room core.dumper.running)
-        → IfSome m (IsMerging core.standing core.phases core.catalog core.opener new room (Some (begun_checkpoint n pre_dumps dump parent)))
+    by : (m : Option merger.Running) → core.merger ≡ m → IfSome m (MergeRuns core.standing core.phases core.catalog core.opener old room core.dumper.running)
+        → IfSome m (MergeRuns core.standing core.phases core.catalog core.opener new room (Some (begun_checkpoint n pre_dumps dump parent)))
     by None is was = tt
     by (Some merge) is was = record {
       stands = was.stands;

@@ -20,7 +20,7 @@ use Rattle.sd_crash_safety.specs.declared.standing.Standing.TheVariants.{Open}
 use Rattle.sd_core.specs.declared.numbers.Numbers.{Numbers}
 use Rattle.sd_core.specs.Images.{begun_as}
 use Rattle.sd_core.specs.Merging.{IsMergedImage}
-use Rattle.sd_core.specs.Sound.{AreCounted, AreOuts, HasHeader, IsAtWork, IsCore, IsDoing, IsImageOf, IsMerging, IsOpening, Parts, begun_images, due_serials}
+use Rattle.sd_core.specs.Sound.{AreOuts, CheckpointRuns, CheckpointsAreCounted, ClosesWithHeader, IsCore, IsDoing, IsImageOf, IsOpening, MergeRuns, Parts, begun_images, due_serials}
 use Rattle.sd_core.proofs.MergeLemmas.{image_stays}
 use Rattle.sd_core.proofs.OutsLemmas.{DumperOuts, IsOfDumper, dumper_none, dumper_outs, lane_at, no_write, on_slot, open_outs}
 use Rattle.sd_core.proofs.OwnLemmas.{own_has, spared_of}
@@ -30,9 +30,9 @@ use Rattle.sd_core.proofs.WorkLemmas.{SameNumbers, at_work, image_of_work}
 -- ---- a merge that runs
 
 pub merger_works : (core : Parts) (merge : merger.Running) → IsCore core → core.merger ≡ Some merge
-    → IsMerging core.standing core.phases core.places core.opener core.numbers core.room core.dumper.running merge
+    → MergeRuns core.standing core.phases core.places core.opener core.numbers core.room core.dumper.running merge
 merger_works core merge sound is =
-    subst (λ m. IfSome m (IsMerging core.standing core.phases core.places core.opener core.numbers core.room core.dumper.running)) is sound.merging
+    subst (λ m. IfSome m (MergeRuns core.standing core.phases core.places core.opener core.numbers core.room core.dumper.running)) is sound.merging
 
 -- in an open store the requests that are out are those of the jobs
 pub jobs_out : (core : Parts) → IsCore core → core.standing ≡ Open → core.outs ≡ out_of_running core.dumper.running ∷ merger.out_of_merge core.merger ∷ None ∷ writes_of_running core.dumper.running
@@ -136,10 +136,10 @@ image_beside core places numbers merge running (Some image) l was making is =
 
 work_beside : (core : Parts) (phases : List Phase) (places : Places) (numbers : Numbers) (merge : Option merger.Running) → IsCore core → length phases ≡ length core.phases
     → LeavesWork core places numbers merge
-    → IfSome core.dumper.running (IsAtWork core.base core.journal.items core.frozen core.standing phases places merge core.opener numbers)
+    → IfSome core.dumper.running (CheckpointRuns core.base core.journal.items core.frozen core.standing phases places merge core.opener numbers)
 work_beside core phases places numbers merge sound count l = by core.dumper.running refl
   where
-    by : (running : Option Running) → core.dumper.running ≡ running → IfSome running (IsAtWork core.base core.journal.items core.frozen core.standing phases places merge core.opener numbers)
+    by : (running : Option Running) → core.dumper.running ≡ running → IfSome running (CheckpointRuns core.base core.journal.items core.frozen core.standing phases places merge core.opener numbers)
     by None is = tt
     by (Some running) is =
         let w = at_work core running sound is in
@@ -164,11 +164,11 @@ work_beside core phases places numbers merge sound count l = by core.dumper.runn
 
 -- the core, once its merger went on
 pub core_beside : (core : Parts) (outs : List (Option RequestId)) (phases : List Phase) (places : Places) (room : ℕ) (numbers : Numbers) (merge : Option merger.Running) → IsCore core
-    → core.standing ≡ Open → core.opener ≡ None → length phases ≡ length core.phases → LeavesWork core places numbers merge → AreCounted numbers places
+    → core.standing ≡ Open → core.opener ≡ None → length phases ≡ length core.phases → LeavesWork core places numbers merge → CheckpointsAreCounted numbers places
     → outs ≡ out_of_running core.dumper.running ∷ merger.out_of_merge merge ∷ None ∷ writes_of_running core.dumper.running
     → ((id : RequestId) → merger.out_of_merge merge ≡ Some id → (id.slot < length phases) × (id.worker ≡ Merger))
     → ((id : RequestId) → merger.out_of_merge merge ≡ Some id → IsSpared core.dumper.running id.slot)
-    → IfSome merge (IsMerging core.standing phases places core.opener numbers room core.dumper.running)
+    → IfSome merge (MergeRuns core.standing phases places core.opener numbers room core.dumper.running)
     → IsCore (record core { outs = outs; phases = phases; places = places; room = room; numbers = numbers; merger = merge })
 core_beside core outs phases places room numbers merge sound stands closed count l counted are within spared merging = record {
   journal_is = sound.journal_is;
@@ -217,8 +217,8 @@ due_rests core merge sound is doing = ap (λ all. slice_get all 1) (jobs_out cor
 -- it asks for a call
 pub core_asks : (core : Parts) (outs : List (Option RequestId)) (places : Places) (numbers : Numbers) (next : merger.Running) (now : Option merger.Running) (id : RequestId) → IsCore core
     → core.standing ≡ Open → core.opener ≡ None → now ≡ Some next → slice_get core.outs 1 ≡ Some None → outs ≡ slice_set core.outs 1 (Some id) → merger.out_in next.doing ≡ Some id
-    → id.slot < length core.phases → id.worker ≡ Merger → IsSpared core.dumper.running id.slot → LeavesWork core places numbers (Some next) → AreCounted numbers places
-    → IsMerging core.standing core.phases places core.opener numbers core.room core.dumper.running next
+    → id.slot < length core.phases → id.worker ≡ Merger → IsSpared core.dumper.running id.slot → LeavesWork core places numbers (Some next) → CheckpointsAreCounted numbers places
+    → MergeRuns core.standing core.phases places core.opener numbers core.room core.dumper.running next
     → IsCore (record core { outs = outs; places = places; numbers = numbers; merger = now })
 core_asks core outs places numbers next now id sound stands closed is rests are out within whose spared l counted merging =
     subst (λ m. IsCore (record core { outs = outs; places = places; numbers = numbers; merger = m })) (sym is)
@@ -276,10 +276,10 @@ merged_as merge next places serial own same slot source i = record {
 -- its image goes on: another request is out, on a slot that the checkpoint spares
 pub copy_goes_on : (core : Parts) (phases : List Phase) (places : Places) (numbers : Numbers) (merge : merger.Running) (copy next : Copying) → IsCore core → core.merger ≡ Some merge
     → merge.doing ≡ copying copy → next.order ≡ copy.order → length phases ≡ length core.phases → SameNumbers core.numbers numbers
-    → (HasHeader copy.order copy.stage → HasHeader copy.order next.stage) → (IsHeld core.places copy.order.serial → IsHeld places copy.order.serial)
+    → (ClosesWithHeader copy.order copy.stage → ClosesWithHeader copy.order next.stage) → (IsHeld core.places copy.order.serial → IsHeld places copy.order.serial)
     → ((id : RequestId) → out_of next.stage ≡ Some id → IsSpared core.dumper.running id.slot)
     → ((id : RequestId) → out_of next.stage ≡ Some id → id.call ≡ Sync → HasSlot core.dumper.running id.slot → ⊥)
-    → IsMerging core.standing phases places core.opener numbers core.room core.dumper.running (record merge { doing = copying next })
+    → MergeRuns core.standing phases places core.opener numbers core.room core.dumper.running (record merge { doing = copying next })
 copy_goes_on core phases places numbers merge copy next sound is doing order count same header held spared syncs =
     let m = merger_works core merge sound is in
     let d = subst (IsDoing core.phases core.places core.numbers core.room core.dumper.running merge) doing m.doing in
@@ -298,7 +298,7 @@ copy_goes_on core phases places numbers merge copy next sound is doing order cou
       syncs = syncs;
       doing = (
         record {
-          header = subst (λ o. HasHeader o next.stage) (sym order) (header d.0.header);
+          header = subst (λ o. ClosesWithHeader o next.stage) (sym order) (header d.0.header);
           given = omega (arith, given, more, own);
           held = subst (IsHeld places) (sym own) (held d.0.held);
           other = subst (MakesOther core.dumper.running) (sym own) d.0.other;
@@ -312,7 +312,7 @@ pub retiring_goes_on : (core : Parts) (phases : List Phase) (places : Places) (n
     → merge.doing ≡ retiring r → (next.serial ≡ r.serial) × (next.list ≡ r.list) → length phases ≡ length core.phases → SameNumbers core.numbers numbers
     → ((o : Opened) → place_of core.places r.serial ≡ Some (Some o) → o.slot ≡ merge.slot → place_of places r.serial ≡ Some (Some o))
     → ((id : RequestId) → next.plan.out ≡ Some id → (place : ℕ) × (one : Retired) × (slice_get r.list place ≡ Some one) × (id.slot ≡ one.slot))
-    → IsMerging core.standing phases places core.opener numbers core.room core.dumper.running (record merge { doing = retiring next })
+    → MergeRuns core.standing phases places core.opener numbers core.room core.dumper.running (record merge { doing = retiring next })
 retiring_goes_on core phases places numbers merge r next sound is doing same_list count same stays asks =
     let m = merger_works core merge sound is in
     let d = subst (IsDoing core.phases core.places core.numbers core.room core.dumper.running merge) doing m.doing in

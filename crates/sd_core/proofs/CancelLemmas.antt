@@ -5,7 +5,7 @@ use Rattle.std.proofs.lemmas.Bool.Decides.{eqb_tells}
 use Rattle.sd_chain.specs.Catalog.{Changes, IsHeld, Opened, Places, place_of}
 use Rattle.sd_journal.specs.declared.entry.Entry.TheVariants.{Cancelled}
 use Rattle.sd_journal.specs.History.{Base, last, pending, unless_it_is}
-use Rattle.sd_journal.specs.Kept.{Kept}
+use Rattle.sd_journal.specs.Kept.{JournalView}
 use Rattle.sd_journal.specs.Legal.{IsAbove, MayFollow}
 use Rattle.sd_journal.specs.Marked.{IsTracked, Marked, Told, entries_of}
 use Rattle.sd_journal.specs.TrackedLaws.{TrackedLaws}
@@ -18,7 +18,7 @@ use Rattle.sd_crash_safety.specs.Merges.{IsOtherImage, IsSpared, MakesOther}
 use Rattle.sd_core.specs.Dumping.{ReleasesPlace}
 use Rattle.sd_core.specs.Refusals.{is_page_out}
 use Rattle.sd_core.specs.declared.numbers.Numbers.{Numbers}
-use Rattle.sd_core.specs.Sound.{AreCounted, AreNumbers, AreOuts, IsCore, IsJournal, IsMerging, Parts}
+use Rattle.sd_core.specs.Sound.{AreOuts, AreSoundNumbers, CheckpointsAreCounted, IsCore, IsJournal, MergeRuns, Parts}
 use Rattle.sd_core.proofs.MergeLemmas.{merging_stays}
 use Rattle.sd_core.proofs.OutsLemmas.{no_writes_of}
 use Rattle.sd_core.proofs.SettledLemmas.{settled_more}
@@ -46,7 +46,7 @@ none_left : (n : ℕ) (frozen : Option ℕ) → IfSome frozen (λ m. m ≡ n) �
 none_left n None used = refl
 none_left n (Some m) used = sym (ap (λ b. if b then None else Some m) (eq-eqb n m (sym used)))
 
-pub cancelled_journal : TrackedLaws → (core : Parts) (journal : Kept) → IsCore core → MayFollow core.base (entries_of core.journal.items) (Cancelled core.numbers.begun)
+pub cancelled_journal : TrackedLaws → (core : Parts) (journal : JournalView) → IsCore core → MayFollow core.base (entries_of core.journal.items) (Cancelled core.numbers.begun)
     → journal.items ≡ Told (Cancelled core.numbers.begun) ∷ core.journal.items → journal.first ≡ core.journal.first → journal.limit ≡ core.journal.limit
     → IsJournal core.base journal core.memory None core.newest
 cancelled_journal laws core journal sound may items first limit = record {
@@ -60,8 +60,8 @@ cancelled_journal laws core journal sound may items first limit = record {
   settled = settled_more core.base core.journal.items journal.items (Told (Cancelled core.numbers.begun)) core.newest items sound.journal_is.settled;
 }
 
-pub cancelled_numbers : (base : Base) (items : Marked) (frozen newest : Option ℕ) (numbers : Numbers) → AreNumbers base items frozen newest numbers
-    → AreNumbers base (Told (Cancelled numbers.begun) ∷ items) None newest numbers
+pub cancelled_numbers : (base : Base) (items : Marked) (frozen newest : Option ℕ) (numbers : Numbers) → AreSoundNumbers base items frozen newest numbers
+    → AreSoundNumbers base (Told (Cancelled numbers.begun) ∷ items) None newest numbers
 cancelled_numbers base items frozen newest numbers was = record {
   used = λ n below. (below, was.used n below);
   newest_used = was.newest_used;
@@ -110,7 +110,7 @@ pub images_same : (own : Option ℕ) (old new : Places) → ReleasesPlace own ol
 images_same None old new r s o = ((λ at. ap (λ all. place_of all s) (sym r) ∙ at), (λ at. ap (λ all. place_of all s) r ∙ at))
 images_same (Some own) old new r s o = same_images old new own (record { released = r.0; nothing = r.1 }) s o
 
-pub counted_released : (numbers : Numbers) (old new : Places) (own : Option ℕ) → ReleasesPlace own old new → AreCounted numbers old → AreCounted numbers new
+pub counted_released : (numbers : Numbers) (old new : Places) (own : Option ℕ) → ReleasesPlace own old new → CheckpointsAreCounted numbers old → CheckpointsAreCounted numbers new
 counted_released numbers old new own r was s o at = was s o ((images_same own old new r s o).0 at)
 
 -- ---- no request of the dumper is out, and no write of a data page
@@ -151,7 +151,7 @@ rests_cancelled core running sound closed at pages gone = record {
 -- a merge beside it goes on
 pub merges_on : (core : Parts) (places : Places) (dumper : Dumping) → IsCore core → dumper.running ≡ None
     → ReleasesPlace (serial_of core.dumper.running) core.places places
-    → IfSome core.merger (IsMerging core.standing core.phases places core.opener core.numbers core.room dumper.running)
+    → IfSome core.merger (MergeRuns core.standing core.phases places core.opener core.numbers core.room dumper.running)
 merges_on core places dumper sound gone released = merging_stays core (record core { places = places; dumper = dumper }) (record {
   merger_is = refl;
   room = refl;

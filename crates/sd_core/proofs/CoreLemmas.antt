@@ -7,7 +7,7 @@ use Rattle.sd_gate.specs.Phases.{after, phases_after}
 use Rattle.sd_gate.specs.Requests.{Made}
 use Rattle.sd_gate.specs.declared.request_id.RequestId.{RequestId}
 use Rattle.sd_gate.specs.declared.worker.Worker.TheVariants.{Opener}
-use Rattle.sd_journal.specs.Kept.{Kept}
+use Rattle.sd_journal.specs.Kept.{JournalView}
 use Rattle.sd_merge.specs.Merger as merger
 use Rattle.sd_opener.specs.Looking.{IsDoneAsAsked, Looking}
 use Rattle.sd_rounds.specs.Dumper.{Running, out_of_running, writes_of_running}
@@ -15,8 +15,8 @@ use Rattle.sd_rounds.specs.Writes.{no_writes}
 use Rattle.sd_crash_safety.specs.declared.standing.Standing.{Standing}
 use Rattle.sd_crash_safety.specs.declared.standing.Standing.TheVariants.{Open}
 use Rattle.sd_crash_safety.specs.OpenerSteps.{nobody, opener_alone}
-use Rattle.sd_core.specs.Opening.{GoesOn, LetsGo, TeachesOpener}
-use Rattle.sd_core.specs.Sound.{AreOuts, IsCore, IsOpening, Parts, held_for, out_of_opener, worker_of}
+use Rattle.sd_core.specs.Opening.{LetsGo, OpenerGoesOn, TeachesOpener}
+use Rattle.sd_core.specs.Sound.{AreOuts, IsCore, IsOpening, Parts, held_for, out_of_opener, worker_of_lane}
 use Rattle.sd_core.proofs.OutsLemmas.{no_write, nobody_out}
 
 pub held_opening : (frozen : Option ℕ) (running : Option Running) (opener : Looking) → running ≡ None → held_for frozen running (Some opener) ≡ 1
@@ -27,7 +27,7 @@ pub held_idle : (running : Option Running) → running ≡ None → held_for Non
 held_idle running none = ap (λ r. held_for None r None) none
 
 -- once the opener let go of its entry, a pending checkpoint's is held
-pub held_let_go : (frozen : Option ℕ) (running : Option Running) (opener : Looking) (old new : Kept) → running ≡ None
+pub held_let_go : (frozen : Option ℕ) (running : Option Running) (opener : Looking) (old new : JournalView) → running ≡ None
     → old.held ≡ held_for frozen running (Some opener) → LetsGo frozen old new → new.held ≡ held_for frozen running None
 held_let_go (Some n) running opener old new none held gone = gone.held ∙ held
 held_let_go None running opener old new none held gone =
@@ -90,7 +90,7 @@ one_out stands outs phases running merge opener looking id closed runs own is wi
   none = λ not_open idle. absurd (let no : None ≡ Some looking = sym idle ∙ runs in cc);
   two = λ idle. absurd (let no : None ≡ Some looking = sym idle ∙ runs in cc);
   within = λ lane other out. subst (λ (i : RequestId). i.slot < length phases) (sym (its other lane (ap (λ all. slice_get all lane) (sym is) ∙ out)).1) within;
-  whose = λ lane other out. (let it = its other lane (ap (λ all. slice_get all lane) (sym is) ∙ out) in ap (λ (i : RequestId). i.worker) it.1 ∙ whose ∙ sym (ap worker_of it.0));
+  whose = λ lane other out. (let it = its other lane (ap (λ all. slice_get all lane) (sym is) ∙ out) in ap (λ (i : RequestId). i.worker) it.1 ∙ whose ∙ sym (ap worker_of_lane it.0));
   apart = λ one other a b out at same. inl ((its a one (ap (λ all. slice_get all one) (sym is) ∙ out)).0 ∙ sym (its b other (ap (λ all. slice_get all other) (sym is) ∙ at)).0);
 }
   where
@@ -125,7 +125,7 @@ pub record IsTaughtOn (old : Option Looking) (made : Made) (new : Option Looking
   pub next : Looking
   pub was : old ≡ Some opener
   pub is : new ≡ Some next
-  pub goes_on : GoesOn opener made next
+  pub goes_on : OpenerGoesOn opener made next
 
 pub taught_opener : (old : Option Looking) (made : Made) (new : Option Looking) → TeachesOpener old made true new → IsTaughtOn old made new
 taught_opener None made new taught = absurd (let no : true ≡ false = taught.0 in cc)

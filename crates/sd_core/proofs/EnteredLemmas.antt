@@ -8,7 +8,7 @@ use Rattle.sd_rounds.specs.Making.{Making}
 use Rattle.sd_crash_safety.specs.DumperOutcomes.{LeavesCatalog}
 use Rattle.sd_crash_safety.specs.Merges.{IsOtherImage, IsSpared, MakesOther}
 use Rattle.sd_core.specs.declared.numbers.Numbers.{Numbers}
-use Rattle.sd_core.specs.Sound.{IsCore, IsMerging, Parts}
+use Rattle.sd_core.specs.Sound.{IsCore, MergeRuns, Parts}
 use Rattle.sd_core.proofs.MergeLemmas.{merging_stays}
 use Rattle.sd_core.proofs.OutcomeLemmas.{left_held}
 use Rattle.sd_core.proofs.OwnLemmas.{own_has}
@@ -69,7 +69,7 @@ pub record Enters (old new : Parts) (running : Running) (image : Making) (o : Op
   pub other : (serial : ℕ) → MakesOther new.dumper.running serial
 
 pub entered_merge : (old new : Parts) (running : Running) (image : Making) (o : Opened) → IsCore old → Enters old new running image o
-    → IfSome new.merger (IsMerging new.standing new.phases new.places new.opener new.numbers new.room new.dumper.running)
+    → IfSome new.merger (MergeRuns new.standing new.phases new.places new.opener new.numbers new.room new.dumper.running)
 entered_merge old new running image o sound e = merging_stays old new (record {
   merger_is = e.merger_is;
   room = e.room;

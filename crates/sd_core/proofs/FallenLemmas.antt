@@ -8,7 +8,7 @@ use Rattle.sd_gate.specs.declared.worker.Worker.TheVariants.{Dumper, Merger, Ope
 use Rattle.sd_merge.specs.Merger as merger
 use Rattle.sd_opener.specs.Left.{looking_left, slots_left}
 use Rattle.sd_opener.specs.Looking.{Looking}
-use Rattle.sd_journal.specs.Kept.{Kept}
+use Rattle.sd_journal.specs.Kept.{JournalView}
 use Rattle.sd_rounds.specs.Dumper.{Dumping, Running}
 use Rattle.sd_crash_safety.specs.Calls.{IsFree}
 use Rattle.sd_crash_safety.specs.declared.standing.Standing.{Standing}
@@ -20,7 +20,7 @@ use Rattle.sd_core.specs.LittleWork.{HasLittle}
 use Rattle.sd_core.specs.Merging.{EndsCheckpoint}
 use Rattle.sd_core.specs.Refusals.{is_idle}
 use Rattle.sd_core.specs.Working.{fallen}
-use Rattle.sd_core.specs.Sound.{AreInPages, AreNumbers, AreOuts, AreTwo, IsAtWork, IsCore, IsMerging, IsOpening, Parts, held_for, out_of_opener}
+use Rattle.sd_core.specs.Sound.{AreInPages, AreOuts, AreSoundNumbers, AreTwo, CheckpointRuns, IsCore, IsOpening, MergeRuns, Parts, held_for, out_of_opener}
 use Rattle.sd_core.proofs.JournalLemmas.{same_journal}
 use Rattle.sd_core.proofs.OutsLemmas.{lanes_count}
 
@@ -76,7 +76,7 @@ free_after stands outs phases running merge opener place id are own few lane oth
     let far = (apart_after stands outs phases running merge opener place id are own lane other at same).first in omega (arith, few, far)
 
 -- the entries of the checkpoint that ended are let go, but that of a pending one
-pub let_go_two : (frozen : Option ℕ) (running : Option Running) (now : Running) (old new : Kept) → running ≡ Some now → old.held ≡ held_for frozen running None → LetsGoOfTwo frozen old new
+pub let_go_two : (frozen : Option ℕ) (running : Option Running) (now : Running) (old new : JournalView) → running ≡ Some now → old.held ≡ held_for frozen running None → LetsGoOfTwo frozen old new
     → new.held ≡ held_for frozen None None
 let_go_two (Some n) running now old new is held goes = goes.held ∙ held
 let_go_two None running now old new is held goes =
@@ -85,14 +85,14 @@ let_go_two None running now old new is held goes =
     omega (arith, before, less)
 
 -- those of the one that ended with the merger's call
-pub let_go_all : (frozen : Option ℕ) (running : Option Running) (old new : Kept) → old.held ≡ held_for frozen running None → EndsCheckpoint running frozen old new → new.held ≡ held_for frozen None None
+pub let_go_all : (frozen : Option ℕ) (running : Option Running) (old new : JournalView) → old.held ≡ held_for frozen running None → EndsCheckpoint running frozen old new → new.held ≡ held_for frozen None None
 let_go_all None None old new held ends = (let less = ends.held in omega (arith, held, less))
 let_go_all (Some n) None old new held ends = (let less = ends.held in omega (arith, held, less))
 let_go_all None (Some running) old new held ends = (let less = ends.held in omega (arith, held, less))
 let_go_all (Some n) (Some running) old new held ends = (let less = ends.held in omega (arith, held, less))
 
 -- a core whose store is down
-pub fallen_core : (core : Parts) (journal : Kept) (stands : Standing) (phases : List Phase) (outs : List (Option RequestId)) (dumper : Dumping) (merge : Option merger.Running) (room place : ℕ)
+pub fallen_core : (core : Parts) (journal : JournalView) (stands : Standing) (phases : List Phase) (outs : List (Option RequestId)) (dumper : Dumping) (merge : Option merger.Running) (room place : ℕ)
     → IsCore core → core.opener ≡ None → journal.items ≡ core.journal.items → journal.first ≡ core.journal.first → journal.limit ≡ core.journal.limit
     → journal.held ≡ held_for core.frozen None None → stands ≡ Down → length phases ≡ length core.phases → outs ≡ slice_set core.outs place None → dumper.running ≡ None → merge ≡ None
     → IsCore (record core { journal = journal; standing = stands; phases = phases; outs = outs; dumper = dumper; merger = merge; room = room })
@@ -103,15 +103,15 @@ fallen_core core journal stands phases outs dumper merge room place sound closed
       (subst (λ one. AreOuts Down (slice_set core.outs place None) phases dumper.running merge one) (sym closed)
       (fallen_outs core.standing core.outs core.phases phases core.dumper.running dumper.running core.merger merge core.opener place sound.outs_are closed count)));
   opening = subst (λ o. IfSome o (IsOpening stands phases)) (sym closed) tt;
-  numbers_are = subst (λ all. AreNumbers core.base all core.frozen core.newest core.numbers) (sym items) sound.numbers_are;
+  numbers_are = subst (λ all. AreSoundNumbers core.base all core.frozen core.newest core.numbers) (sym items) sound.numbers_are;
   counted = sound.counted;
   rests = λ resting open_. absurd (let no : Down ≡ Open = sym is_down ∙ open_ in cc);
   swept_is = sound.swept_is;
   flags_are = subst (λ all. AreFlags core.base all core.swept core.grows core.committing) (sym items) sound.flags_are;
   gated = subst (λ r. IfSome r (IsGated core.swept)) (sym idle) tt;
-  work = subst (λ r. IfSome r (IsAtWork core.base journal.items core.frozen stands phases core.places merge core.opener core.numbers)) (sym idle) tt;
+  work = subst (λ r. IfSome r (CheckpointRuns core.base journal.items core.frozen stands phases core.places merge core.opener core.numbers)) (sym idle) tt;
   little = subst (λ r. IfSome r (HasLittle core.base journal.items core.memory)) (sym idle) tt;
-  merging = subst (λ m. IfSome m (IsMerging stands phases core.places core.opener core.numbers room dumper.running)) (sym none) tt;
+  merging = subst (λ m. IfSome m (MergeRuns stands phases core.places core.opener core.numbers room dumper.running)) (sym none) tt;
 }
 
 -- ---- all jobs have ended

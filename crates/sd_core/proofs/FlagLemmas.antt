@@ -21,7 +21,7 @@ use Rattle.sd_rounds.specs.declared.image_order.ImageOrder.{ImageOrder}
 use Rattle.sd_rounds.specs.declared.stage.Stage.{Stage}
 use Rattle.sd_rounds.specs.declared.stage.Stage.TheVariants.{Format, Freeze as FreezeStage, Pass as PassStage, Close}
 use Rattle.sd_rounds.specs.Dumper.{Running, is_last}
-use Rattle.sd_rounds.specs.Making.{GoesOn, IsReadyFor, IsWritten, Making, plan_of, stage_after, stage_behind, with_plan}
+use Rattle.sd_rounds.specs.Making.{IsReadyFor, IsWritten, Making, PlanGoesOn, plan_of, stage_after, stage_behind, with_plan}
 use Rattle.sd_rounds.specs.Pass.{Pass}
 use Rattle.sd_rounds.specs.Sound.{IsSoundImage}
 use Rattle.sd_crash_safety.specs.DumperSteps.{opens_gate}
@@ -153,7 +153,7 @@ gated_after last swept order pass FreezeStage plan made (call ∷ calls) is read
 gated_after last swept order pass PassStage plan made (call ∷ calls) is ready gated = tt
 gated_after last swept order pass (Close own header tables) plan made (call ∷ calls) is ready gated = gated
 
-pub gated_more : (last swept : Bool) (image next : Making) (made : Made) → IsSoundImage image → GoesOn image made next ⊎ IsWritten image made next
+pub gated_more : (last swept : Bool) (image next : Making) (made : Made) → IsSoundImage image → PlanGoesOn image made next ⊎ IsWritten image made next
     → IsGatedStage last swept image.stage → IsGatedStage last swept next.stage
 gated_more last swept image next made sound (inl goes) gated = subst (IsGatedStage last swept) (sym (ap (λ (m : Making). m.stage) goes.is))
     (gated_after last swept image.order image.pass image.stage goes.plan made (plan_after goes.plan made).calls goes.awaited.was sound.ready gated)

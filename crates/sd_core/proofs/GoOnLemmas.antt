@@ -19,7 +19,7 @@ use Rattle.sd_crash_safety.specs.View.{CoreView}
 use Rattle.sd_core.specs.Beginning.{first_of}
 use Rattle.sd_core.specs.GoingOn.{AreOwnLanes, CanGoOn, HasNoneOut, OpenerAsksAlone}
 use Rattle.sd_core.specs.Refusals.{is_idle, is_page_out, must_wait, none_at, work_refusal}
-use Rattle.sd_core.specs.Sound.{IsCore, Parts, out_of_opener, worker_of}
+use Rattle.sd_core.specs.Sound.{IsCore, Parts, out_of_opener, worker_of_lane}
 use Rattle.sd_core.proofs.BesideLemmas.{jobs_out}
 use Rattle.sd_core.proofs.WorkLemmas.{at_work}
 
@@ -79,7 +79,7 @@ no_page (suc (suc (suc (suc (suc (suc zero)))))) id at = absurd (let no : Some N
 no_page (suc (suc (suc (suc (suc (suc (suc zero))))))) id at = absurd (let no : Some None ≡ Some (Some id) = at in cc)
 no_page (suc (suc (suc (suc (suc (suc (suc (suc lane)))))))) id at = absurd (let no : None ≡ Some (Some id) = at in cc)
 
-its_lane : (out : Option RequestId) (lane : ℕ) (id : RequestId) → slice_get (None ∷ None ∷ out ∷ no_writes) lane ≡ Some (Some id) → worker_of lane ≡ Opener
+its_lane : (out : Option RequestId) (lane : ℕ) (id : RequestId) → slice_get (None ∷ None ∷ out ∷ no_writes) lane ≡ Some (Some id) → worker_of_lane lane ≡ Opener
 its_lane out zero id at = absurd (let no : Some None ≡ Some (Some id) = at in cc)
 its_lane out (suc zero) id at = absurd (let no : Some None ≡ Some (Some id) = at in cc)
 its_lane out (suc (suc zero)) id at = refl
@@ -99,7 +99,7 @@ module _ (core : Parts) (view : CoreView) (sound : IsCore core) (outs_are : view
           subst (λ o. IfSome o (λ one. core.outs ≡ None ∷ None ∷ out_of_opener core.opener ∷ no_writes)) (sym opener_is ∙ is) sound.outs_are.opening in
           own_lanes lane id at ∙ its_lane (out_of_opener core.opener) lane id (ap (λ o. slice_get o lane) (sym (outs_are ∙ outs)) ∙ at)
 
-  lane_rests : (lane : ℕ) (worker : Worker) → lane < 11 → worker_of lane ≡ worker → HasNoneOut view.outs worker → slice_get view.outs lane ≡ Some None
+  lane_rests : (lane : ℕ) (worker : Worker) → lane < 11 → worker_of_lane lane ≡ worker → HasNoneOut view.outs worker → slice_get view.outs lane ≡ Some None
   lane_rests lane worker within own none = none_there view.outs lane (ap length outs_are ∙ sound.outs_are.count) within
       (λ id at. none lane id at (own_lanes lane id at ∙ own))
 

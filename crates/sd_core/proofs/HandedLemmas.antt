@@ -21,11 +21,11 @@ use Rattle.sd_rounds.specs.Writes.{no_writes}
 use Rattle.sd_crash_safety.specs.declared.standing.Standing.{Standing}
 use Rattle.sd_crash_safety.specs.declared.standing.Standing.TheVariants.{NotOpen, Open, Down}
 use Rattle.sd_crash_safety.specs.Calls.{AddsByOutcome, AreGivenUp, HandedIn}
-use Rattle.sd_crash_safety.specs.DumperOutcomes.{DumperOutcomes, IsDumpersOutcome, closes_for_sure, is_closing, is_sync}
+use Rattle.sd_crash_safety.specs.DumperOutcomes.{DumperOutcomes, IsDumpersOutcome, closes_for_sure, is_being_closed, is_sync}
 use Rattle.sd_crash_safety.specs.MergerOutcomes.{IsMergersOutcome, MergerOutcomes, OutcomeIsBelieved}
 use Rattle.sd_crash_safety.specs.View.{CoreView, history_of}
 use Rattle.sd_core.specs.Refusals.{is_idle}
-use Rattle.sd_core.specs.Sound.{AreInPages, IsCore, Parts, out_of_opener, worker_of}
+use Rattle.sd_core.specs.Sound.{AreInPages, IsCore, Parts, out_of_opener, worker_of_lane}
 use Rattle.sd_core.proofs.ApplyLemmas.{same_phases}
 use Rattle.sd_core.proofs.OutcomeLemmas.{handed_dumper}
 use Rattle.sd_core.proofs.OutsLemmas.{lane_at, no_write, nobody_out}
@@ -49,7 +49,7 @@ handed_merger old new made phase answer o base count goes adds = record {
 
 -- a call that closes a slot for sure is a sync
 pub sync_of : (phase : Phase) (one : Call) → closes_for_sure phase one ≡ true → one ≡ call.Sync
-sync_of phase one is = by one (second (is_closing phase) (is_sync one) is)
+sync_of phase one is = by one (second (is_being_closed phase) (is_sync one) is)
   where
     second : (a b : Bool) → (a && b) ≡ true → b ≡ true
     second true b e = e
@@ -77,7 +77,7 @@ pub is_late : (core : Parts) (running : Option Running) (merge : Option merger.R
     → ((id.worker ≡ Dumper) × (running ≡ None)) ⊎ (((id.worker ≡ Merger) × (merge ≡ None)) ⊎ ((id.worker ≡ Opener) × (opener ≡ None))) → IsLate core id
 is_late core running merge opener lane id sound out is_running is_merge is_opener idle = record { down = stands core.standing refl; closed = none; other = other }
   where
-    whose : id.worker ≡ worker_of lane
+    whose : id.worker ≡ worker_of_lane lane
     whose = sound.outs_are.whose lane id out
 
     not_dumper : id.worker ≡ Merger → id.worker ≡ Dumper → ⊥
@@ -90,7 +90,7 @@ is_late core running merge opener lane id sound out is_running is_merge is_opene
     opener_merger one other = (let no : Opener ≡ Merger = sym one ∙ other in cc)
 
     -- one that is out while an opener runs is its own
-    in_opener : (o : Option RequestId) (at : ℕ) → slice_get (None ∷ None ∷ o ∷ no_writes) at ≡ Some (Some id) → worker_of at ≡ Opener
+    in_opener : (o : Option RequestId) (at : ℕ) → slice_get (None ∷ None ∷ o ∷ no_writes) at ≡ Some (Some id) → worker_of_lane at ≡ Opener
     in_opener o zero e = absurd (let no : Some None ≡ Some (Some id) = e in cc)
     in_opener o (suc zero) e = absurd (let no : Some None ≡ Some (Some id) = e in cc)
     in_opener o (suc (suc zero)) e = refl
@@ -116,10 +116,10 @@ is_late core running merge opener lane id sound out is_running is_merge is_opene
     other same =
         let two = sound.outs_are.two none in
         elim (lane_at two.dumper two.merger two.pages lane id (ap (λ all. slice_get all lane) (sym two.are) ∙ out)) [
-          | inl a ↦ not_opener same (whose ∙ ap worker_of a.0)
+          | inl a ↦ not_opener same (whose ∙ ap worker_of_lane a.0)
           | inr rest ↦ elim rest [
-            | inl b ↦ opener_merger same (whose ∙ ap worker_of b.0)
-            | inr page ↦ not_opener same (whose ∙ ap worker_of page.1)
+            | inl b ↦ opener_merger same (whose ∙ ap worker_of_lane b.0)
+            | inr page ↦ not_opener same (whose ∙ ap worker_of_lane page.1)
           ]
         ]
 
@@ -131,16 +131,16 @@ is_late core running merge opener lane id sound out is_running is_merge is_opene
           | inl d ↦ elim at [
             | inl a ↦ (let no : None ≡ Some id = ap out_of_running (sym (is_running ∙ d.1)) ∙ a.1 in cc)
             | inr rest ↦ elim rest [
-              | inl b ↦ not_dumper (whose ∙ ap worker_of b.0) d.0
+              | inl b ↦ not_dumper (whose ∙ ap worker_of_lane b.0) d.0
               | inr page ↦ no_write page.0 id (ap (λ r. slice_get (writes_of_running r) page.0) (sym (is_running ∙ d.1)) ∙ page.2)
             ]
           ]
           | inr others ↦ elim others [
             | inl m ↦ elim at [
-              | inl a ↦ not_dumper m.0 (whose ∙ ap worker_of a.0)
+              | inl a ↦ not_dumper m.0 (whose ∙ ap worker_of_lane a.0)
               | inr rest ↦ elim rest [
                 | inl b ↦ (let no : None ≡ Some id = ap merger.out_of_merge (sym (is_merge ∙ m.1)) ∙ b.1 in cc)
-                | inr page ↦ not_dumper m.0 (whose ∙ ap worker_of page.1)
+                | inr page ↦ not_dumper m.0 (whose ∙ ap worker_of_lane page.1)
               ]
             ]
             | inr o ↦ other o.0
@@ -175,7 +175,7 @@ pub record IsHandedLate (old : CoreView) (lane : ℕ) (made : Made) (phase : Pha
   pub down : new.standing ≡ Down
   pub committing : new.committing ≡ old.committing
   pub other : made.request.id.worker ≢ Opener
-  pub whose : made.request.id.worker ≡ worker_of lane
+  pub whose : made.request.id.worker ≡ worker_of_lane lane
   pub out : slice_get old.outs lane ≡ Some (Some made.request.id)
   pub outs : new.outs ≡ slice_set old.outs lane None
   pub apart : (at : ℕ) (id : RequestId) → slice_get (slice_set old.outs lane None) at ≡ Some (Some id) → id.slot ≡ made.request.id.slot → AreInPages lane at made.request.id id
@@ -183,13 +183,13 @@ pub record IsHandedLate (old : CoreView) (lane : ℕ) (made : Made) (phase : Pha
   pub phases : new.phases ≡ phases_after old.phases made.request.id phase (is_done made.answer)
   pub count : length new.phases ≡ length old.phases
 
-pub merger_lane : (lane : ℕ) → worker_of lane ≡ Merger → lane ≡ 1
+pub merger_lane : (lane : ℕ) → worker_of_lane lane ≡ Merger → lane ≡ 1
 merger_lane zero is = absurd (let no : Dumper ≡ Merger = is in cc)
 merger_lane (suc zero) is = refl
 merger_lane (suc (suc zero)) is = absurd (let no : Opener ≡ Merger = is in cc)
 merger_lane (suc (suc (suc k))) is = absurd (let no : Dumper ≡ Merger = is in cc)
 
-pub opener_lane : (lane : ℕ) → worker_of lane ≡ Opener → lane ≡ 2
+pub opener_lane : (lane : ℕ) → worker_of_lane lane ≡ Opener → lane ≡ 2
 opener_lane zero is = absurd (let no : Dumper ≡ Opener = is in cc)
 opener_lane (suc zero) is = absurd (let no : Merger ≡ Opener = is in cc)
 opener_lane (suc (suc zero)) is = refl

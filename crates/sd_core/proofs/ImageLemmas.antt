@@ -16,7 +16,7 @@ use Rattle.sd_image.specs.declared.digester.Digester.{Digester}
 use Rattle.sd_rounds.specs.declared.image_order.ImageOrder.{ImageOrder}
 use Rattle.sd_rounds.specs.declared.stage.Stage.{Stage}
 use Rattle.sd_rounds.specs.declared.stage.Stage.TheVariants.{Format, Freeze as FreezeStage, Pass as PassStage, Close}
-use Rattle.sd_rounds.specs.Making.{Asks, CopiesSector, Freezes, GoesOn, IsWritten, Making, Visits, WritesPage, WritesTable, begun_image, is_frozen, is_passing, is_past_freeze, out_of, stage_after, with_plan}
+use Rattle.sd_rounds.specs.Making.{Asks, CopiesSector, IsWritten, MakerFreezes, Making, PlanGoesOn, Visits, WritesPage, WritesTable, begun_image, is_frozen_dump, is_passing, is_past_freeze, out_of, stage_after, with_plan}
 use Rattle.sd_rounds.specs.Pass.{Pass}
 use Rattle.sd_core.specs.declared.numbers.Numbers.{Numbers}
 use Rattle.sd_core.specs.Sound.{IsImageOf, IsStageOf, IsVisiting, IsVisitingIn}
@@ -28,7 +28,7 @@ use Rattle.sd_core.proofs.WorkLemmas.{SameNumbers, same_numbers}
 pub record IsTurned (items : Marked) (places : Places) (numbers : Numbers) (image next : Making) (out : Option RequestId) : Type 0 where
   pub image_is : IsImageOf items places numbers next
   pub order : next.order ≡ image.order
-  pub still : is_frozen next ≡ is_frozen image
+  pub still : is_frozen_dump next ≡ is_frozen_dump image
   pub out_is : out_of next.stage ≡ out
   pub slot : IfSome out (λ id. id.slot ≡ image.order.slot)
 
@@ -140,7 +140,7 @@ image_copied items places numbers image next memory copied is copies = subst (λ
 
 -- an outcome of its plan with which it goes on
 plan_more : (items : Marked) (places after : Places) (numbers : Numbers) (image next : Making) (made : Made)
-    → IsImageOf items places numbers image → IsHeld after image.order.serial → GoesOn image made next → IsTurned items after numbers image next None
+    → IsImageOf items places numbers image → IsHeld after image.order.serial → PlanGoesOn image made next → IsTurned items after numbers image next None
 plan_more items places after numbers image next made is held goes = subst (λ m. IsTurned items after numbers image m None) (sym goes.is) (record {
   image_is = turn items items places after numbers numbers image image.pass
       (stage_after image.order.kind image.stage (plan_after goes.plan made) (plan_after goes.plan made).calls) image.writes image.digester (same_numbers numbers) is held
@@ -173,7 +173,7 @@ page_more items places after numbers image next made is held written = subst (λ
 
 -- an outcome with which it goes on
 pub image_more : (items : Marked) (places after : Places) (numbers : Numbers) (image next : Making) (made : Made)
-    → IsImageOf items places numbers image → IsHeld after image.order.serial → GoesOn image made next ⊎ IsWritten image made next → IsTurned items after numbers image next None
+    → IsImageOf items places numbers image → IsHeld after image.order.serial → PlanGoesOn image made next ⊎ IsWritten image made next → IsTurned items after numbers image next None
 image_more items places after numbers image next made is held (inl goes) = plan_more items places after numbers image next made is held goes
 image_more items places after numbers image next made is held (inr written) = page_more items places after numbers image next made is held written
 
@@ -183,7 +183,7 @@ pub record IsFrozenNext (items : Marked) (places : Places) (numbers : Numbers) (
   pub image_is : IsImageOf (Told (Freeze numbers.begun) ∷ items) places numbers next
   pub out_is : out_of next.stage ≡ None
 
-pub image_frozen : (items : Marked) (places : Places) (numbers : Numbers) (image next : Making) → IsImageOf items places numbers image → Freezes image next
+pub image_frozen : (items : Marked) (places : Places) (numbers : Numbers) (image next : Making) → IsImageOf items places numbers image → MakerFreezes image next
     → IsFrozenNext items places numbers image next
 image_frozen items places numbers image next is f = subst (IsFrozenNext items places numbers image) (sym f.is) (record {
   order = refl;

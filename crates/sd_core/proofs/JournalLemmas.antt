@@ -4,7 +4,7 @@ use Rattle.sd_command.specs.declared.command.Command.{Command}
 use Rattle.sd_command.specs.declared.reply.Reply.{Reply}
 use Rattle.sd_journal.specs.declared.entry.Entry.TheVariants.{Applied, Reopened}
 use Rattle.sd_journal.specs.History.{Base, last, pending}
-use Rattle.sd_journal.specs.Kept.{Kept}
+use Rattle.sd_journal.specs.Kept.{JournalView}
 use Rattle.sd_journal.specs.Legal.{MayFollow}
 use Rattle.sd_journal.specs.Marked.{Told, IsTracked, Marked, entries_of}
 use Rattle.sd_journal.specs.TrackedLaws.{TrackedLaws}
@@ -12,13 +12,13 @@ use Rattle.sd_pagetable.specs.Contents.{Contents, IsSound}
 use Rattle.sd_pagetable.specs.Law.{PlainLaw}
 use Rattle.sd_core.specs.Answering.{IsAnswered}
 use Rattle.sd_core.specs.declared.numbers.Numbers.{Numbers}
-use Rattle.sd_core.specs.Sound.{AreNumbers, IsJournal}
+use Rattle.sd_core.specs.Sound.{AreSoundNumbers, IsJournal}
 use Rattle.sd_core.specs.Visited.{HasSettled, HasSwept}
 use Rattle.sd_core.proofs.ApplyLemmas.{tracked_on}
 use Rattle.sd_core.proofs.SettledLemmas.{settled_more, settled_now}
 
 -- the entries are the same
-pub same_journal : (base : Base) (old new : Kept) (memory : Contents) (frozen newest : Option ℕ) → new.first ≡ old.first → new.items ≡ old.items → new.limit ≡ old.limit
+pub same_journal : (base : Base) (old new : JournalView) (memory : Contents) (frozen newest : Option ℕ) → new.first ≡ old.first → new.items ≡ old.items → new.limit ≡ old.limit
     → IsJournal base old memory frozen newest → IsJournal base new memory frozen newest
 same_journal base old new memory frozen newest first items limit was = record {
   tracked = subst (λ all. IsTracked base all memory) (sym items) was.tracked;
@@ -30,7 +30,7 @@ same_journal base old new memory frozen newest first items limit was = record {
 }
 
 -- a command was journaled
-pub applied_journal : TrackedLaws → (base : Base) (old new : Kept) (before after : Contents) (frozen newest : Option ℕ) (seat : ℕ) (command : Command) (reply : Reply)
+pub applied_journal : TrackedLaws → (base : Base) (old new : JournalView) (before after : Contents) (frozen newest : Option ℕ) (seat : ℕ) (command : Command) (reply : Reply)
     → new.items ≡ Told (Applied seat command reply) ∷ old.items → new.first ≡ old.first → new.limit ≡ old.limit
     → IsSound before → IsJournal base old before frozen newest → IsAnswered (is_some frozen) command reply before after → IsJournal base new after frozen newest
 applied_journal laws base old new before after frozen newest seat command reply items first limit sound was answered = record {
@@ -52,7 +52,7 @@ expected_may frozen newest found false (inl own) = inl own
 expected_may frozen newest found false (inr pends) = absurd (pends.0 refl)
 
 -- the store was opened again
-pub reopened_journal : TrackedLaws → PlainLaw → (base : Base) (old new : Kept) (memory : Contents) (frozen newest found : Option ℕ) (swept : Bool)
+pub reopened_journal : TrackedLaws → PlainLaw → (base : Base) (old new : JournalView) (memory : Contents) (frozen newest found : Option ℕ) (swept : Bool)
     → new.items ≡ Told (Reopened found) ∷ old.items → new.first ≡ old.first → new.limit ≡ old.limit
     → (found ≡ newest) ⊎ ((frozen ≢ None) × (found ≡ frozen) × (swept ≡ true)) → IsSound memory → HasSwept swept frozen memory
     → IsJournal base old memory frozen newest → IsJournal base new memory None found × MayFollow base (entries_of old.items) (Reopened found)
@@ -101,8 +101,8 @@ found_used frozen newest found begun (inr is) last pends = subst (λ f. IfSome f
     at_most (Some n) e = omega (arith, e)
 
 pub reopened_numbers : (base : Base) (items : Marked) (frozen newest found : Option ℕ) (old new : Numbers) → new.begun ≡ old.begun → new.given ≡ old.given
-    → old.begun ≤ new.checkpoint → old.given ≤ new.serial → IfSome found (λ n. n ≤ old.begun) → AreNumbers base items frozen newest old
-    → AreNumbers base (Told (Reopened found) ∷ items) None found new
+    → old.begun ≤ new.checkpoint → old.given ≤ new.serial → IfSome found (λ n. n ≤ old.begun) → AreSoundNumbers base items frozen newest old
+    → AreSoundNumbers base (Told (Reopened found) ∷ items) None found new
 reopened_numbers base items frozen newest found old new begun given checkpoint serial used was = record {
   used = λ n above. (below n above found used, was.used n (omega (arith, above, begun)));
   newest_used = subst (λ b. IfSome found (λ n. n ≤ b)) (sym begun) used;

@@ -14,12 +14,12 @@ use Rattle.sd_rounds.specs.declared.new_image.NewImage.{NewImage}
 use Rattle.sd_rounds.specs.declared.stage.Stage.{Stage}
 use Rattle.sd_rounds.specs.declared.stage.Stage.TheVariants.{Format, Freeze, Pass as PassStage, Close}
 use Rattle.sd_rounds.specs.Dumper.{IsOutOfImage, IsOutOfRunning, Running, out_of_running, slot_of, writes_of_running}
-use Rattle.sd_rounds.specs.Making.{GoesOn, IsWritten, Making, Opens, WritesPage, is_passing, out_of, plan_of}
+use Rattle.sd_rounds.specs.Making.{IsWritten, Making, Opens, PlanGoesOn, WritesPage, is_passing, out_of, plan_of}
 use Rattle.sd_rounds.specs.Pass.{data_pages}
 use Rattle.sd_rounds.specs.Sound.{IsSoundImage}
 use Rattle.sd_rounds.specs.Writes.{no_writes}
 use Rattle.sd_crash_safety.specs.Calls.{HandedIn, IsApart}
-use Rattle.sd_crash_safety.specs.DumperOutcomes.{IsDumpersOutcome, closes_for_sure, is_closing}
+use Rattle.sd_crash_safety.specs.DumperOutcomes.{IsDumpersOutcome, closes_for_sure, is_being_closed}
 use Rattle.sd_crash_safety.specs.View.{CoreView, page_lane}
 use Rattle.sd_core.specs.Sound.{HasWrites, IsCore, Parts}
 use Rattle.sd_core.proofs.MergeLemmas.{asks_apart}
@@ -84,7 +84,7 @@ out_is Freeze plan was = absurd (let no : None ≡ Some plan = was in cc)
 out_is PassStage plan was = absurd (let no : None ≡ Some plan = was in cc)
 out_is (Close own header tables) plan was = ap (λ (p : Planned). p.out) (same_Some own plan was)
 
-pub goes_out : (image next : Making) (made : Made) → GoesOn image made next → out_of image.stage ≡ Some made.request.id
+pub goes_out : (image next : Making) (made : Made) → PlanGoesOn image made next → out_of image.stage ≡ Some made.request.id
 goes_out image next made goes = out_is image.stage goes.plan goes.awaited.was ∙ goes.awaited.out
 
 opens_out : (image : Making) (made : Made) (opened : NewImage) → Opens image made opened → out_of image.stage ≡ Some made.request.id
@@ -104,7 +104,7 @@ pub write_closes_none : (core : Parts) (running : Running) (image : Making) (k :
 write_closes_none core running image k phase id sound is making out =
     let w = at_work core running sound is in
     let page = (subst (λ i. HasWrites running i) making w.writes).0.each k id out in
-    ap (closes_for_sure phase) page.call ∙ and_false (is_closing phase)
+    ap (closes_for_sure phase) page.call ∙ and_false (is_being_closed phase)
   where
     and_false : (b : Bool) → (b && false) ≡ false
     and_false true = refl
@@ -113,7 +113,7 @@ write_closes_none core running image k phase id sound is making out =
 -- ---- what is out then
 
 pub more_outs : (core : Parts) (running : Running) (image next : Making) (lane : ℕ) (made : Made) → IsCore core → core.dumper.running ≡ Some running → running.image ≡ Some image
-    → slice_get core.outs lane ≡ Some (Some made.request.id) → out_of next.stage ≡ None → GoesOn image made next ⊎ IsWritten image made next
+    → slice_get core.outs lane ≡ Some (Some made.request.id) → out_of next.stage ≡ None → PlanGoesOn image made next ⊎ IsWritten image made next
     → slice_set core.outs lane None ≡ out_of next.stage ∷ merger.out_of_merge core.merger ∷ None ∷ next.writes
 more_outs core running image next lane made sound is making at rests (inl goes) =
     let zero_is = plan_lane core running image lane made.request.id sound is making at (goes_out image next made goes) in

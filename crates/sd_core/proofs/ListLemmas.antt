@@ -2,7 +2,7 @@
 use Rattle.std.proofs.Common.{◌≡◌, ℕ, zero, suc, true, false, is_none, List, length, Contains, Option, Some, None, slice_get, slice_set, refl, sym, ◌∙◌, ap, subst, inl, inr, arith}
 use Rattle.std.proofs.lemmas.Option.{same_Some}
 use Rattle.sd_image.proofs.Members.{place_in}
-use Rattle.sd_chain.specs.Catalog.{Changes, IsHeld, IsSound, Places, place_of}
+use Rattle.sd_chain.specs.Catalog.{Changes, IsHeld, IsSoundCatalog, Places, place_of}
 use Rattle.sd_gate.specs.declared.phase.Phase.{Phase}
 use Rattle.sd_gate.specs.declared.phase.Phase.TheVariants.{Bare}
 use Rattle.sd_gate.specs.declared.request_id.RequestId.{RequestId}
@@ -15,7 +15,7 @@ use Rattle.sd_merge.specs.declared.merge_progress.MergeProgress.{MergeProgress}
 use Rattle.sd_merge.specs.declared.retired.Retired.{Retired}
 use Rattle.sd_merge.specs.Copying.{Copying}
 use Rattle.sd_merge.specs.Merger as merger
-use Rattle.sd_merge.specs.Merger.{Doing, HandsAt, Retires, Retiring, copying, list_in, list_of, opened, retiring, source_of}
+use Rattle.sd_merge.specs.Merger.{Doing, HandsAt, Retiring, TakesList, copying, list_in, list_of, opened, retiring, source_of}
 use Rattle.sd_rounds.specs.declared.new_image.NewImage.{NewImage}
 use Rattle.sd_rounds.specs.Dumper.{Running}
 use Rattle.sd_crash_safety.specs.Calls.{IsFree}
@@ -81,7 +81,7 @@ fixed_list places running outs room count merge doing before now ended serial wa
     (subst (λ n. IsListOf places running (Some (opened_merge merge serial)) outs n fixes.list) long
     (subst (λ k. IsListOf places running k outs room fixes.list) (was ∙ ap (λ d. Some (record merge { doing = d })) is) fixes.is))
   where
-    list_is : (ended : Option ℕ) → Retires before fixes.list (retires_as ended) now → fixes.list ≡ list_of now
+    list_is : (ended : Option ℕ) → TakesList before fixes.list (retires_as ended) now → fixes.list ≡ list_of now
     list_is None r = sym (ap list_of r.is)
     list_is (Some number) r = r.none ∙ sym (ap list_of r.is)
 
@@ -98,7 +98,7 @@ retires_these merge core is o = record {
 
 module _ (places : Places) (laws : MergerOutcomes places) (core : Parts) (old new : CoreView) (merge : merger.Running) (made : Made) (phase : Phase) (image : NewImage) (doing : Doing)
     (before : Option merger.Running) (ended : Option ℕ) (sound : IsCore core) (runs : core.merger ≡ Some merge) (a : OpensAs core old merge made phase image places new) (o : OpensBeside core merge made image doing)
-    (before_is : before ≡ Some (record merge { doing = doing })) (in_order : IsSound places) (changes : Changes core.places places image.header.serial (Some (Some (image_of image))))
+    (before_is : before ≡ Some (record merge { doing = doing })) (in_order : IsSoundCatalog places) (changes : Changes core.places places image.header.serial (Some (Some (image_of image))))
     (fixes : FixesList places core.dumper.running new.outs core.room before ended new.merger) (outs_are : old.outs ≡ core.outs)
     (running_is : new.dumper.running ≡ core.dumper.running) (count : length new.phases ≡ length core.phases) where
   abbrev serial_now : ℕ

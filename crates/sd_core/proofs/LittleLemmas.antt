@@ -25,7 +25,7 @@ use Rattle.sd_journal.specs.TrackedLaws.{DueLaws, before_freeze}
 use Rattle.sd_pagetable.specs.Contents.{Contents, page_at}
 use Rattle.sd_pagetable.specs.Law.{PlainLaw}
 use Rattle.sd_pagetable.specs.Nested.{value_at}
-use Rattle.sd_pagetable.specs.Page.{Page, plain_page}
+use Rattle.sd_pagetable.specs.Page.{PageState, plain_page}
 use Rattle.sd_rounds.specs.declared.image_order.ImageOrder.{ImageOrder}
 use Rattle.sd_rounds.specs.declared.image_step.ImageStep.{ImageStep}
 use Rattle.sd_rounds.specs.declared.image_step.ImageStep.TheVariants.{Call, PageCall, TableCall, Frozen, Visited, Copied}
@@ -33,11 +33,11 @@ use Rattle.sd_rounds.specs.declared.new_image.NewImage.{NewImage}
 use Rattle.sd_rounds.specs.declared.stage.Stage.{Stage}
 use Rattle.sd_rounds.specs.declared.stage.Stage.TheVariants.{Format, Freeze as FreezeStage, Pass as PassStage, Close}
 use Rattle.sd_rounds.specs.declared.visit.Visit.{Visit as PageVisit}
-use Rattle.sd_rounds.specs.Dump.{due, kind_of_bytes}
+use Rattle.sd_rounds.specs.Dump.{kind_due, kind_of_bytes}
 use Rattle.sd_rounds.specs.Dumper.{Running, is_frozen_image, is_last, order_of}
 use Rattle.sd_rounds.specs.ImageVisits.{visits_after}
 use Rattle.sd_rounds.specs.LittleWork.{IsTaking, LittleLaws, TakesDue, TakesDueIn, TakesVisited, TookVisited}
-use Rattle.sd_rounds.specs.Making.{GoesOn, IsWritten, Making, Opens, Steps, Visits, begun_image, is_frozen, is_past_freeze, stage_after, stage_behind, with_plan}
+use Rattle.sd_rounds.specs.Making.{IsWritten, Making, Opens, PlanGoesOn, Steps, Visits, begun_image, is_frozen_dump, is_past_freeze, stage_after, stage_behind, with_plan}
 use Rattle.sd_rounds.specs.Pass.{Place}
 use Rattle.sd_rounds.specs.Rises.{IsRising}
 use Rattle.sd_rounds.specs.Sound.{IsSoundImage}
@@ -89,7 +89,7 @@ and_right : (one other : Bool) → (one && other) ≡ true → other ≡ true
 and_right true other is = is
 and_right false other is = absurd (both_ways false refl is)
 
-past_freeze : (image : Making) → is_frozen image ≡ true → is_past_freeze image.stage ≡ true
+past_freeze : (image : Making) → is_frozen_dump image ≡ true → is_past_freeze image.stage ≡ true
 past_freeze image is = and_right (kind_number image.order.kind == 2) (is_past_freeze image.stage) is
 
 not_closing : {P : Type 0} (stage : Stage) → stage ≡ PassStage → is_closing stage ≡ true → P
@@ -115,7 +115,7 @@ closed_step base items number ticket image next before after (Visited visit) s d
 closed_step base items number ticket image next before after (Copied copied) s dump was closing = not_closing next.stage (ap (λ (m : Making). m.stage) s.0.passes.1 ∙ s.0.passes.0) closing
 
 pub step_little : LittleLaws → (base : Base) (items now : Marked) (before after : Contents) (number ticket : ℕ) (image next : Making) (step : ImageStep)
-    → Steps ticket image before step next after → IsRising image.pass → is_frozen next ≡ is_frozen image
+    → Steps ticket image before step next after → IsRising image.pass → is_frozen_dump next ≡ is_frozen_dump image
     → visits_of base now image.order.serial ≡ visits_after step (visits_of base items image.order.serial) → before_freeze now number ≡ before_freeze items number
     → TakesLittle base items before number image → TakesLittle base now after number next
 step_little laws base items now before after number ticket image next step s rising still seen since was = record {
@@ -158,13 +158,13 @@ freeze_little laws base items before after number ticket image next s kind track
 
 -- an image that begins, with its first call
 pub begun_little : LittleLaws → (base : Base) (items : Marked) (before after : Contents) (number ticket : ℕ) (order : ImageOrder) (next : Making) (request : Asked)
-    → Steps ticket (begun_image order) before (Call request) next after → list_any (is_of order.serial) items ≡ false → is_frozen next ≡ false
+    → Steps ticket (begun_image order) before (Call request) next after → list_any (is_of order.serial) items ≡ false → is_frozen_dump next ≡ false
     → TakesLittle base (Noted (Start order.serial) ∷ items) after number next
 begun_little laws base items before after number ticket order next request s fresh not_yet = record {
   round = λ kind. subst (λ all. TakesVisited all next) (sym (no_visits base items order.serial fresh) ∙ ap (λ (o : ImageOrder). visits_of base items o.serial) (sym same))
       (laws.visits ticket [] (begun_image order) next before after (Call request) s (ap (λ (o : ImageOrder). o.kind) (sym same) ∙ kind) (laws.begins order));
-  dump = λ is. absurd (both_ways (is_frozen next) not_yet is);
-  closed = λ is closing. absurd (both_ways (is_frozen next) not_yet is);
+  dump = λ is. absurd (both_ways (is_frozen_dump next) not_yet is);
+  closed = λ is closing. absurd (both_ways (is_frozen_dump next) not_yet is);
 }
   where
     same : next.order ≡ order
@@ -182,14 +182,14 @@ after_closing : (kind : Kind) (stage : Stage) (plan : Planned) (calls : Calls) �
 after_closing kind stage plan [] closing = behind_closing kind stage closing
 after_closing kind stage plan (call ∷ calls) closing = sym (same_closing stage plan) ∙ closing
 
-still_closing : (image next : Making) (made : Made) → GoesOn image made next ⊎ IsWritten image made next → is_closing next.stage ≡ true → is_closing image.stage ≡ true
+still_closing : (image next : Making) (made : Made) → PlanGoesOn image made next ⊎ IsWritten image made next → is_closing next.stage ≡ true → is_closing image.stage ≡ true
 still_closing image next made (inl goes) closing =
     after_closing image.order.kind image.stage (plan_after goes.plan made) (plan_after goes.plan made).calls (sym (ap (λ (m : Making). is_closing m.stage) goes.is) ∙ closing)
 still_closing image next made (inr written) closing = sym (ap (λ (m : Making). is_closing m.stage) written.is) ∙ closing
 
 -- an outcome with which it goes on
 pub more_little : LittleLaws → (base : Base) (items : Marked) (memory : Contents) (number : ℕ) (image next : Making) (made : Made)
-    → GoesOn image made next ⊎ IsWritten image made next → is_frozen next ≡ is_frozen image → TakesLittle base items memory number image → TakesLittle base items memory number next
+    → PlanGoesOn image made next ⊎ IsWritten image made next → is_frozen_dump next ≡ is_frozen_dump image → TakesLittle base items memory number image → TakesLittle base items memory number next
 more_little laws base items memory number image next made g still was = record {
   round = λ kind. subst (λ (o : ImageOrder). TakesVisited (visits_of base items o.serial) next) (sym order)
       (laws.goes_on (visits_of base items image.order.serial) image next made g (was.round (ap (λ (o : ImageOrder). o.kind) (sym order) ∙ kind)));
@@ -211,7 +211,7 @@ more_little laws base items memory number image next made g still was = record {
 -- ---- a command was journaled
 
 applied_image : (base : Base) (items : Marked) (old new : Contents) (number : ℕ) (image : Making) (seat : ℕ) (command : Command) (reply : Reply)
-    → (is_frozen image ≡ true → new ≡ old) → TakesLittle base items old number image → TakesLittle base (Told (Applied seat command reply) ∷ items) new number image
+    → (is_frozen_dump image ≡ true → new ≡ old) → TakesLittle base items old number image → TakesLittle base (Told (Applied seat command reply) ∷ items) new number image
 applied_image base items old new number image seat command reply same was = record {
   round = λ kind. was.round kind;
   dump = λ is.
@@ -221,13 +221,13 @@ applied_image base items old new number image seat command reply same was = reco
 }
 
 applied_of : (base : Base) (items : Marked) (old new : Contents) (number : ℕ) (image : Option Making) (seat : ℕ) (command : Command) (reply : Reply)
-    → ((making : Making) → image ≡ Some making → is_frozen making ≡ true → new ≡ old) → IfSome image (TakesLittle base items old number)
+    → ((making : Making) → image ≡ Some making → is_frozen_dump making ≡ true → new ≡ old) → IfSome image (TakesLittle base items old number)
     → IfSome image (TakesLittle base (Told (Applied seat command reply) ∷ items) new number)
 applied_of base items old new number None seat command reply same was = tt
 applied_of base items old new number (Some image) seat command reply same was = applied_image base items old new number image seat command reply (same image refl) was
 
 pub applied_little : (base : Base) (items : Marked) (old new : Contents) (running : Option Running) (seat : ℕ) (command : Command) (reply : Reply)
-    → ((r : Running) (making : Making) → running ≡ Some r → r.image ≡ Some making → is_frozen making ≡ true → new ≡ old) → IfSome running (HasLittle base items old)
+    → ((r : Running) (making : Making) → running ≡ Some r → r.image ≡ Some making → is_frozen_dump making ≡ true → new ≡ old) → IfSome running (HasLittle base items old)
     → IfSome running (HasLittle base (Told (Applied seat command reply) ∷ items) new)
 applied_little base items old new None seat command reply same was = tt
 applied_little base items old new (Some running) seat command reply same was =
@@ -235,7 +235,7 @@ applied_little base items old new (Some running) seat command reply same was =
 
 -- a command that comes while the memory is frozen changes nothing
 pub still_while_frozen : (core : Parts) (new : Contents) (command : Command) (reply : Reply) → IsCore core → IsAnswered (is_some core.frozen) command reply core.memory new
-    → (running : Running) (making : Making) → core.dumper.running ≡ Some running → running.image ≡ Some making → is_frozen making ≡ true → new ≡ core.memory
+    → (running : Running) (making : Making) → core.dumper.running ≡ Some running → running.image ≡ Some making → is_frozen_dump making ≡ true → new ≡ core.memory
 still_while_frozen core new command reply sound answered running making was is frozen = (subst (λ f. IsAnswered (is_some f) command reply core.memory new) pends answered).1
   where
     pends : core.frozen ≡ Some running.number
@@ -246,14 +246,14 @@ still_while_frozen core new command reply sound answered running making was is f
 
 -- the way in which a page is due at the freeze, by the marked journal
 due_is_way : PlainLaw → DueLaws → (base : Base) (frozen : Marked) (cut : Contents) → IsTracked base frozen cut → (whole : Bool) (at : Place)
-    → due whole (page_at cut at.0 at.1) ≡ way_due whole base frozen at
+    → kind_due whole (page_at cut at.0 at.1) ≡ way_due whole base frozen at
 due_is_way law dues base frozen cut tracked whole at =
     by (page_at cut at.0 at.1) refl
     ∙ ap (option_map (λ (page : plain.Page). if whole || is_due base frozen at.0 at.1 then kind_of_bytes page.bytes else Parent))
     (sym (law.pages cut at.0 at.1) ∙ ap (λ m. value_at m at.0 at.1) tracked.memory)
   where
-    by : (o : Option Page) → page_at cut at.0 at.1 ≡ o
-        → due whole o ≡ option_map (λ (page : plain.Page). if whole || is_due base frozen at.0 at.1 then kind_of_bytes page.bytes else Parent) (option_map plain_page o)
+    by : (o : Option PageState) → page_at cut at.0 at.1 ≡ o
+        → kind_due whole o ≡ option_map (λ (page : plain.Page). if whole || is_due base frozen at.0 at.1 then kind_of_bytes page.bytes else Parent) (option_map plain_page o)
     by None there = refl
     by (Some page) there = ap (λ b. Some (if whole || b then kind_of_bytes page.bytes else Parent)) (dues.bit base frozen cut at.0 at.1 page tracked there)
 
@@ -263,7 +263,7 @@ whole_is image header sound now = sound.takes ∙ ap (λ p. p == 0) (sym now.par
 
 -- the last image of a checkpoint is a dump, and is open once the memory was frozen
 frozen_open : (running : Running) (image : Making) (made : Made) (opened : NewImage) → is_last running ≡ true
-    → image.order ≡ order_of running image.order.serial image.order.state → Opens image made opened → is_frozen image ≡ true
+    → image.order ≡ order_of running image.order.serial image.order.state → Opens image made opened → is_frozen_dump image ≡ true
 frozen_open running image made opened last own o =
     ap (λ (m : ImageOrder). (kind_number m.kind == 2) && is_past_freeze image.stage) own
     ∙ ap (λ b. (kind_number (if b then Dump else PreDump) == 2) && is_past_freeze image.stage) last
@@ -288,7 +288,7 @@ dump_ways laws law dues base items memory running image made opened last own o s
     d : IsFrozenFor base items memory running.number image
     d = was.dump (frozen_open running image made opened last own o)
 
-    same : (at : Place) → due image.pass.takes_all (page_at d.cut at.0 at.1) ≡ way_due (opened.header.parent == 0) base d.frozen at
+    same : (at : Place) → kind_due image.pass.takes_all (page_at d.cut at.0 at.1) ≡ way_due (opened.header.parent == 0) base d.frozen at
     same at = due_is_way law dues base d.frozen d.cut d.tracked image.pass.takes_all at
         ∙ ap (λ b. way_due b base d.frozen at) (whole_is image opened.header sound now)
 

@@ -9,7 +9,7 @@ use Rattle.sd_image.specs.Words.{kind_number}
 use Rattle.sd_journal.specs.declared.entry.Entry.TheVariants.{Freeze}
 use Rattle.sd_journal.specs.declared.mark.Mark.TheVariants.{Start, Table, Visit}
 use Rattle.sd_journal.specs.History.{Base, last, pending}
-use Rattle.sd_journal.specs.Kept.{Kept}
+use Rattle.sd_journal.specs.Kept.{JournalView}
 use Rattle.sd_journal.specs.Legal.{IsAbove, MayFollow}
 use Rattle.sd_journal.specs.Marked.{IsTracked, Marked, Noted, Told, entries_of, is_of, last_visit}
 use Rattle.sd_journal.specs.TrackedLaws.{TrackedLaws}
@@ -18,10 +18,10 @@ use Rattle.sd_pagetable.specs.Order.{IsNextPage}
 use Rattle.sd_rounds.specs.declared.stage.Stage.TheVariants.{Pass as PassStage}
 use Rattle.sd_rounds.specs.declared.visit.Visit.{Visit as PageVisit}
 use Rattle.sd_rounds.specs.Dumper.{Running, is_frozen_image, next_slot, slot_before, slot_of}
-use Rattle.sd_rounds.specs.Making.{Freezes, IsReadyFor, Making, Visits, WritesTable, is_frozen, is_past_freeze}
+use Rattle.sd_rounds.specs.Making.{IsReadyFor, MakerFreezes, Making, Visits, WritesTable, is_frozen_dump, is_past_freeze}
 use Rattle.sd_rounds.specs.Sound.{HasSoundImage, IsSoundImage, IsSoundMaking}
 use Rattle.sd_core.specs.declared.numbers.Numbers.{Numbers}
-use Rattle.sd_core.specs.Sound.{AreCounted, AreNumbers, IsCore, IsJournal, IsVisiting, IsVisitingIn, Parts, frozen_by}
+use Rattle.sd_core.specs.Sound.{AreSoundNumbers, CheckpointsAreCounted, IsCore, IsJournal, IsVisiting, IsVisitingIn, Parts, frozen_by}
 use Rattle.sd_core.proofs.SettledLemmas.{settled_more}
 use Rattle.sd_core.proofs.WorkLemmas.{at_work, image_of_work, noted_journal, numbers_noted}
 
@@ -41,7 +41,7 @@ cursor_of : (items : Marked) (image : Making) → image.stage ≡ PassStage → 
     → IsVisiting items image.order.serial image.pass
 cursor_of items image stage is = subst (λ s. IsVisitingIn items image.order.serial image.pass s) stage is
 
-pub table_journal : TrackedLaws → (core : Parts) (running : Running) (image next : Making) (request : Asked) (journal : Kept) → IsCore core
+pub table_journal : TrackedLaws → (core : Parts) (running : Running) (image next : Making) (request : Asked) (journal : JournalView) → IsCore core
     → core.dumper.running ≡ Some running → running.image ≡ Some image → WritesTable image core.memory request next
     → journal.items ≡ Noted (Table image.order.serial) ∷ core.journal.items → journal.first ≡ core.journal.first → journal.limit ≡ core.journal.limit
     → IsJournal core.base journal core.memory core.frozen core.newest
@@ -53,7 +53,7 @@ table_journal laws core running image next request journal sound was making writ
     cursor : IsVisiting core.journal.items image.order.serial image.pass
     cursor = cursor_of core.journal.items image writes.stage (image_of_work core running image sound was making).visiting_in
 
-pub visit_journal : TrackedLaws → (core : Parts) (running : Running) (image next : Making) (visit : PageVisit) (after : Contents) (journal : Kept) → IsCore core
+pub visit_journal : TrackedLaws → (core : Parts) (running : Running) (image next : Making) (visit : PageVisit) (after : Contents) (journal : JournalView) → IsCore core
     → core.dumper.running ≡ Some running → running.image ≡ Some image → Visits image core.memory visit next after
     → journal.items ≡ Noted (Visit image.order.serial visit.space visit.page) ∷ core.journal.items → journal.first ≡ core.journal.first
     → journal.limit ≡ core.journal.limit → IsJournal core.base journal after core.frozen core.newest
@@ -73,7 +73,7 @@ pub record IsBeforeFreeze (core : Parts) (running : Running) (image : Making) : 
   pub none : core.frozen ≡ None
 
 pub before_freeze : (core : Parts) (running : Running) (image next : Making) → IsCore core → core.dumper.running ≡ Some running → running.image ≡ Some image
-    → HasSoundImage core.dumper.running → Freezes image next → IsBeforeFreeze core running image
+    → HasSoundImage core.dumper.running → MakerFreezes image next → IsBeforeFreeze core running image
 before_freeze core running image next sound was making images f = record { kind = dump; none = (at_work core running sound was).pends ∙ none }
   where
     own : IsSoundImage image
@@ -82,14 +82,14 @@ before_freeze core running image next sound was making images f = record { kind 
     dump : image.order.kind ≡ Dump
     dump = (subst (λ s. IsReadyFor image.order image.pass s) f.stage own.ready).1
 
-    still : is_frozen image ≡ false
+    still : is_frozen_dump image ≡ false
     still = ap (λ s. (kind_number image.order.kind == 2) && is_past_freeze s) f.stage ∙ ap (λ k. (kind_number k == 2) && false) dump
 
     none : frozen_by running ≡ None
     none = ap (λ i. if is_frozen_image i then Some running.number else None) making ∙ ap (λ b. if b then Some running.number else None) still
 
-pub frozen_next : (image next : Making) → image.order.kind ≡ Dump → Freezes image next → is_frozen next ≡ true
-frozen_next image next dump f = ap is_frozen f.is ∙ ap (λ k. (kind_number k == 2) && true) dump
+pub frozen_next : (image next : Making) → image.order.kind ≡ Dump → MakerFreezes image next → is_frozen_dump next ≡ true
+frozen_next image next dump f = ap is_frozen_dump f.is ∙ ap (λ k. (kind_number k == 2) && true) dump
 
 -- the freeze may come
 pub may_freeze : (core : Parts) (running : Running) → IsCore core → core.dumper.running ≡ Some running → core.frozen ≡ None
@@ -99,7 +99,7 @@ may_freeze core running sound was none = (
   subst (IsAbove core.base (entries_of core.journal.items)) (at_work core running sound was).number ((at_work core running sound was).above none),
 )
 
-pub freeze_journal : TrackedLaws → (core : Parts) (running : Running) (journal : Kept) → IsCore core → core.dumper.running ≡ Some running → core.frozen ≡ None
+pub freeze_journal : TrackedLaws → (core : Parts) (running : Running) (journal : JournalView) → IsCore core → core.dumper.running ≡ Some running → core.frozen ≡ None
     → journal.items ≡ Told (Freeze core.numbers.begun) ∷ core.journal.items → journal.first ≡ core.journal.first → journal.limit ≡ core.journal.limit
     → IsJournal core.base journal core.memory (Some core.numbers.begun) core.newest
 freeze_journal laws core running journal sound was none items first limit = record {
@@ -112,8 +112,8 @@ freeze_journal laws core running journal sound was none items first limit = reco
   settled = settled_more core.base core.journal.items journal.items (Told (Freeze core.numbers.begun)) core.newest items sound.journal_is.settled;
 }
 
-pub freeze_numbers : (base : Base) (items : Marked) (newest : Option ℕ) (numbers : Numbers) → AreNumbers base items None newest numbers
-    → AreNumbers base (Told (Freeze numbers.begun) ∷ items) (Some numbers.begun) newest numbers
+pub freeze_numbers : (base : Base) (items : Marked) (newest : Option ℕ) (numbers : Numbers) → AreSoundNumbers base items None newest numbers
+    → AreSoundNumbers base (Told (Freeze numbers.begun) ∷ items) (Some numbers.begun) newest numbers
 freeze_numbers base items newest numbers was = record {
   used = λ n below. (below, was.used n below);
   newest_used = was.newest_used;
@@ -141,8 +141,8 @@ none_visited (Noted (Visit s space page) ∷ items) serial none =
 none_visited (Noted (Table s) ∷ items) serial none = none_visited items serial (later (s == serial) (list_any (is_of serial) items) none)
 
 pub start_numbers : (base : Base) (items : Marked) (frozen newest : Option ℕ) (old new : Numbers) → new.begun ≡ old.begun → new.checkpoint ≡ old.checkpoint
-    → new.given ≡ old.serial + 1 → new.serial ≡ old.serial + 1 → AreNumbers base items frozen newest old
-    → AreNumbers base (Noted (Start (old.serial + 1)) ∷ items) frozen newest new
+    → new.given ≡ old.serial + 1 → new.serial ≡ old.serial + 1 → AreSoundNumbers base items frozen newest old
+    → AreSoundNumbers base (Noted (Start (old.serial + 1)) ∷ items) frozen newest new
 start_numbers base items frozen newest old new begun checkpoint given serial was =
     let below = was.serials in
     let checkpoints = was.checkpoints in
@@ -177,7 +177,7 @@ next_is (Some running) slot is = go running.image refl is
 pub held_place : (old new : Places) (serial : ℕ) → Changes old new serial (Some None) → IsHeld new serial
 held_place old new serial changes = changes serial ∙ ap (λ b. if b then Some None else place_of old serial) (eq-eqb serial serial refl)
 
-pub counted_held : (numbers : Numbers) (old new : Places) (serial : ℕ) → Changes old new serial (Some None) → AreCounted numbers old → AreCounted numbers new
+pub counted_held : (numbers : Numbers) (old new : Places) (serial : ℕ) → Changes old new serial (Some None) → CheckpointsAreCounted numbers old → CheckpointsAreCounted numbers new
 counted_held numbers old new serial changes was s o at = go (serial == s) refl (sym (changes s) ∙ at)
   where
     go : (b : Bool) → (serial == s) ≡ b → (if b then Some None else place_of old s) ≡ Some (Some o) → o.header.checkpoint ≤ numbers.checkpoint

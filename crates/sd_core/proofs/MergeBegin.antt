@@ -1,7 +1,7 @@
 -- A merge begins.
 use Rattle.std.proofs.Common.{◌≡◌, ℕ, ◌<◌, ◌^◌, Bool, true, false, not, nat_le, is_some, List, [], ◌∷◌, length, Option, Some, None, refl, sym, ◌∙◌, ap, subst, inl, inr, arith}
 use Rattle.std.proofs.lemmas.Bool.{leb-false}
-use Rattle.sd_chain.specs.Catalog.{IsSound, Opened, place_of}
+use Rattle.sd_chain.specs.Catalog.{IsSoundCatalog, Opened, place_of}
 use Rattle.sd_chain.specs.Reaches.{ParentsFall}
 use Rattle.sd_command.specs.declared.refusal.Refusal.{Refusal}
 use Rattle.sd_command.specs.declared.refusal.Refusal.TheVariants as refusal
@@ -57,7 +57,7 @@ may_merge core is =
 
 -- ---- what stands in the merged image's slot isn't called for
 
-pub free_uncalled : FreeSlotsLaw → (core : CoreView) (slots : List ℕ) (slot : ℕ) → FreeSlots core slots → IsFreeAt slots slot → IsSound core.catalog → ParentsFall core.catalog
+pub free_uncalled : FreeSlotsLaw → (core : CoreView) (slots : List ℕ) (slot : ℕ) → FreeSlots core slots → IsFreeAt slots slot → IsSoundCatalog core.catalog → ParentsFall core.catalog
     → IsUncalled core.catalog core.dumper.running slot
 free_uncalled law core slots slot free f sound falls = by core.dumper.running refl
   where

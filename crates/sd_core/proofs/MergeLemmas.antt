@@ -9,7 +9,7 @@ use Rattle.sd_rounds.specs.Making.{Making}
 use Rattle.sd_crash_safety.specs.declared.standing.Standing.TheVariants.{Open}
 use Rattle.sd_crash_safety.specs.Merges.{IsSpared, MakesOther}
 use Rattle.sd_core.specs.Merging.{IsMergedImage}
-use Rattle.sd_core.specs.Sound.{IsCore, IsDoing, IsMerging, Parts, due_serials_in}
+use Rattle.sd_core.specs.Sound.{IsCore, IsDoing, MergeRuns, Parts, due_serials_in}
 
 -- what the dumper, and what else goes on, leaves of a merge
 pub record MergeStays (old new : Parts) : Type 0 where
@@ -68,8 +68,8 @@ doing_stays old new merge (retiring r) s was is spared d = record {
 }
 
 merge_stays : (old new : Parts) (merge : merger.Running) → MergeStays old new → old.merger ≡ Some merge
-    → IsMerging old.standing old.phases old.places old.opener old.numbers old.room old.dumper.running merge
-    → IsMerging new.standing new.phases new.places new.opener new.numbers new.room new.dumper.running merge
+    → MergeRuns old.standing old.phases old.places old.opener old.numbers old.room old.dumper.running merge
+    → MergeRuns new.standing new.phases new.places new.opener new.numbers new.room new.dumper.running merge
 merge_stays old new merge s was m = record {
   stands = s.standing ∙ m.stands;
   closed = s.opener ∙ m.closed;
@@ -81,12 +81,12 @@ merge_stays old new merge s was m = record {
   doing = doing_stays old new merge merge.doing s was refl m.spared m.doing;
 }
 
-pub merging_stays : (old new : Parts) → MergeStays old new → IfSome old.merger (IsMerging old.standing old.phases old.places old.opener old.numbers old.room old.dumper.running)
-    → IfSome new.merger (IsMerging new.standing new.phases new.places new.opener new.numbers new.room new.dumper.running)
-merging_stays old new s was = subst (λ m. IfSome m (IsMerging new.standing new.phases new.places new.opener new.numbers new.room new.dumper.running)) (sym s.merger_is) (by old.merger refl was)
+pub merging_stays : (old new : Parts) → MergeStays old new → IfSome old.merger (MergeRuns old.standing old.phases old.places old.opener old.numbers old.room old.dumper.running)
+    → IfSome new.merger (MergeRuns new.standing new.phases new.places new.opener new.numbers new.room new.dumper.running)
+merging_stays old new s was = subst (λ m. IfSome m (MergeRuns new.standing new.phases new.places new.opener new.numbers new.room new.dumper.running)) (sym s.merger_is) (by old.merger refl was)
   where
-    by : (m : Option merger.Running) → old.merger ≡ m → IfSome m (IsMerging old.standing old.phases old.places old.opener old.numbers old.room old.dumper.running)
-        → IfSome m (IsMerging new.standing new.phases new.places new.opener new.numbers new.room new.dumper.running)
+    by : (m : Option merger.Running) → old.merger ≡ m → IfSome m (MergeRuns old.standing old.phases old.places old.opener old.numbers old.room old.dumper.running)
+        → IfSome m (MergeRuns new.standing new.phases new.places new.opener new.numbers new.room new.dumper.running)
     by None is was = tt
     by (Some merge) is was = merge_stays old new merge s is was
 
@@ -94,7 +94,7 @@ merging_stays old new s was = subst (λ m. IfSome m (IsMerging new.standing new.
 pub none_merges : (core : Parts) → IsCore core → core.standing ≢ Open → core.merger ≡ None
 none_merges core sound closed = by core.merger sound.merging
   where
-    by : (m : Option merger.Running) → IfSome m (IsMerging core.standing core.phases core.places core.opener core.numbers core.room core.dumper.running) → m ≡ None
+    by : (m : Option merger.Running) → IfSome m (MergeRuns core.standing core.phases core.places core.opener core.numbers core.room core.dumper.running) → m ≡ None
     by None was = refl
     by (Some merge) was = absurd (closed was.stands)
 
@@ -110,7 +110,7 @@ fills_same running next slot spared r = spared (record { place = r.place; from =
 pub asks_apart : (core : Parts) (running : Running) (id other : RequestId) → IsCore core → core.dumper.running ≡ Some running → id.slot ≡ slot_of running → merger.out_of_merge core.merger ≡ Some other → id.slot ≢ other.slot
 asks_apart core running id other sound was own out same = by core.merger sound.merging out
   where
-    by : (m : Option merger.Running) → IfSome m (IsMerging core.standing core.phases core.places core.opener core.numbers core.room core.dumper.running)
+    by : (m : Option merger.Running) → IfSome m (MergeRuns core.standing core.phases core.places core.opener core.numbers core.room core.dumper.running)
         → merger.out_of_merge m ≡ Some other → ⊥
     by None is at = (let no : None ≡ Some other = at in cc)
     by (Some merge) is at = (subst (λ r. IsSpared r other.slot) was (is.asks other at))

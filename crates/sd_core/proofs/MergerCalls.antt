@@ -19,7 +19,7 @@ use Rattle.sd_crash_safety.specs.Merges.{IsSpared}
 use Rattle.sd_crash_safety.specs.View.{CoreView}
 use Rattle.sd_core.specs.declared.numbers.Numbers.{Numbers}
 use Rattle.sd_core.specs.Merging.{MayRead, StepsAt}
-use Rattle.sd_core.specs.Sound.{HasHeader, IsCore, IsDoing, IsMerging, Parts, due_serials}
+use Rattle.sd_core.specs.Sound.{ClosesWithHeader, IsCore, IsDoing, MergeRuns, Parts, due_serials}
 use Rattle.sd_core.proofs.BesideLemmas.{copy_goes_on, merger_works, retiring_goes_on}
 use Rattle.sd_core.proofs.MergerSteps.{AsksOwn, asks_header, asks_own, reads_header, reads_source, tables_header, tables_own, writes_header, writes_own}
 use Rattle.sd_core.proofs.OwnLemmas.{spared_of}
@@ -36,7 +36,7 @@ pub record AsksBeside (core : Parts) (numbers : Numbers) (merge : merger.Running
   pub within : request.id.slot < length core.phases
   pub spared : IsSpared core.dumper.running request.id.slot
   pub fewer : due_serials (Some (record merge { doing = doing })) ≤ due_serials (Some merge)
-  pub merging : IsMerging core.standing core.phases core.places core.opener numbers core.room core.dumper.running (record merge { doing = doing })
+  pub merging : MergeRuns core.standing core.phases core.places core.opener numbers core.room core.dumper.running (record merge { doing = doing })
 
 -- ---- on the slot of the merged image
 
@@ -45,7 +45,7 @@ own_slot_of merge copy is = ap (λ (o : CopyOrder). o.slot) is
 
 asks_on_own : (core : Parts) (numbers : Numbers) (merge : merger.Running) (copy next : Copying) (request : Asked) → IsCore core → core.merger ≡ Some merge → merge.doing ≡ copying copy
     → SameNumbers core.numbers numbers → copy.order ≡ merger.order_of merge copy.order.serial copy.order.state → request.id.worker ≡ its.Merger → AsksOwn copy next request
-    → (HasHeader copy.order copy.stage → HasHeader copy.order next.stage)
+    → (ClosesWithHeader copy.order copy.stage → ClosesWithHeader copy.order next.stage)
     → AsksBeside core numbers merge (copying next) request
 asks_on_own core numbers merge copy next request sound is doing same order worker own header =
     let m = merger_works core merge sound is in
@@ -81,7 +81,7 @@ asks_on_listed core numbers merge r ticket request doing sound is was same retir
       within = subst (λ s. s < length core.phases) (sym at) e.within;
       spared = spared_of core.dumper.running request.id.slot (λ has. e.spared (subst (HasSlot core.dumper.running) at has));
       fewer = subst (λ k. due_serials (Some (record merge { doing = k })) ≤ due_serials (Some merge)) (sym goes.is) (omega arith);
-      merging = subst (λ k. IsMerging core.standing core.phases core.places core.opener numbers core.room core.dumper.running (record merge { doing = k })) (sym goes.is)
+      merging = subst (λ k. MergeRuns core.standing core.phases core.places core.opener numbers core.room core.dumper.running (record merge { doing = k })) (sym goes.is)
           (retiring_goes_on core core.phases core.places numbers merge r (record r { plan = goes.next }) sound is was (refl, refl) refl same (λ o there at. there)
           (λ id id_out. (r.ended, one, there, ap (λ (i : RequestId). i.slot) (sym (same_Some request.id id (sym out ∙ id_out))) ∙ at)));
     }

@@ -13,7 +13,7 @@ use Rattle.sd_merge.specs.declared.merge_progress.MergeProgress.TheVariants as p
 use Rattle.sd_merge.specs.declared.retired.Retired.{Retired}
 use Rattle.sd_merge.specs.declared.stage.Stage.{Stage}
 use Rattle.sd_merge.specs.declared.stage.Stage.TheVariants.{Format, Pass as PassStage, PageRead, PageWrite, Close}
-use Rattle.sd_merge.specs.Copying.{Copying, GoesOn, IsSoundCopying, out_of, stage_after}
+use Rattle.sd_merge.specs.Copying.{Copying, IsSoundCopying, PlanGoesOn, out_of, stage_after}
 use Rattle.sd_merge.specs.Merger as merger
 use Rattle.sd_merge.specs.Merger.{AreRunning, Doing, GoesOnWith, Hands, HandsAt, HandsClosing, HasSoundCopy, HasSoundCopyIn, IsRetiring, IsRunningAt, Retiring, due, copying, opened, retiring}
 use Rattle.sd_rounds.specs.Dumper.{HasSlot, out_of_running, writes_of_running}
@@ -23,7 +23,7 @@ use Rattle.sd_crash_safety.specs.MergerOutcomes.{IsMergersOutcome, MergerOutcome
 use Rattle.sd_crash_safety.specs.MergerSteps.{OnlyMerges}
 use Rattle.sd_crash_safety.specs.declared.standing.Standing.TheVariants.{Open}
 use Rattle.sd_crash_safety.specs.View.{CoreView}
-use Rattle.sd_core.specs.Sound.{HasHeader, IsCore, IsDoing, IsMerging, Parts, due_serials}
+use Rattle.sd_core.specs.Sound.{ClosesWithHeader, IsCore, IsDoing, MergeRuns, Parts, due_serials}
 use Rattle.sd_core.proofs.BesideLemmas.{LeavesWork, copy_goes_on, core_beside, free_spared, jobs_out, merger_works, retiring_goes_on}
 use Rattle.sd_core.proofs.EnteredLemmas.{left_image}
 use Rattle.sd_core.proofs.MergerSteps.{asked_header}
@@ -69,7 +69,7 @@ list_free core merge sound is r doing place one at =
 
 -- ---- what is left of the plan
 
-header_after : (order : CopyOrder) (stage : Stage) (plan : Planned) (calls : Calls) → HasHeader order stage → HasHeader order (stage_after stage plan calls)
+header_after : (order : CopyOrder) (stage : Stage) (plan : Planned) (calls : Calls) → ClosesWithHeader order stage → ClosesWithHeader order (stage_after stage plan calls)
 header_after order stage plan [] has = tt
 header_after order stage plan (call ∷ calls) has = asked_header order stage plan has
 
@@ -86,16 +86,16 @@ rests_after (Close p header tables) plan (call ∷ calls) rests = rests
 pub record RestsBeside (core : Parts) (phases : List Phase) (places : Places) (merge : merger.Running) (doing : Doing) : Type 0 where
   pub rests : merger.out_in doing ≡ None
   pub fewer : due_serials (Some (record merge { doing = doing })) ≤ due_serials (Some merge)
-  pub merging : IsMerging core.standing phases places core.opener core.numbers core.room core.dumper.running (record merge { doing = doing })
+  pub merging : MergeRuns core.standing phases places core.opener core.numbers core.room core.dumper.running (record merge { doing = doing })
 
 copy_rests : (core : Parts) (phases : List Phase) (places : Places) (merge : merger.Running) (copy next : Copying) (made : Made) (closed : Bool) → IsCore core → core.merger ≡ Some merge
-    → merge.doing ≡ copying copy → length phases ≡ length core.phases → LeavesCatalog closed made.request.id.slot core.places places → GoesOn copy made next
+    → merge.doing ≡ copying copy → length phases ≡ length core.phases → LeavesCatalog closed made.request.id.slot core.places places → PlanGoesOn copy made next
     → RestsBeside core phases places merge (copying next)
 copy_rests core phases places merge copy next made closed sound is doing count leaves goes = record {
   rests = rests;
   fewer = omega arith;
   merging = copy_goes_on core phases places core.numbers merge copy next sound is doing (ap (λ (k : Copying). k.order) goes.is) count (same_numbers core.numbers)
-      (λ has. subst (HasHeader copy.order) (sym (ap (λ (k : Copying). k.stage) goes.is)) (header_after copy.order copy.stage (plan_after goes.plan made) (plan_after goes.plan made).calls has))
+      (λ has. subst (ClosesWithHeader copy.order) (sym (ap (λ (k : Copying). k.stage) goes.is)) (header_after copy.order copy.stage (plan_after goes.plan made) (plan_after goes.plan made).calls has))
       (λ held. left_held closed made.request.id.slot core.places places copy.order.serial leaves held)
       (λ id out. absurd (let no : None ≡ Some id = sym rests ∙ out in cc)) (λ id out. absurd (let no : None ≡ Some id = sym rests ∙ out in cc));
 }
@@ -170,7 +170,7 @@ leaves_work core places merge now id closed sound is fewer leaves sync out = rec
   stay = λ serial o there has. by closed refl leaves serial o there has;
 }
   where
-    m : IsMerging core.standing core.phases core.places core.opener core.numbers core.room core.dumper.running merge
+    m : MergeRuns core.standing core.phases core.places core.opener core.numbers core.room core.dumper.running merge
     m = merger_works core merge sound is
 
     by : (b : Bool) → closed ≡ b → LeavesCatalog b id.slot core.places places → (serial : ℕ) (o : Opened) → place_of core.places serial ≡ Some (Some o) → HasSlot core.dumper.running o.slot

@@ -15,7 +15,7 @@ use Rattle.sd_merge.specs.declared.copy_order.CopyOrder.{CopyOrder}
 use Rattle.sd_merge.specs.declared.stage.Stage.{Stage}
 use Rattle.sd_merge.specs.declared.stage.Stage.TheVariants.{Format, Pass as PassStage, PageRead, PageWrite, Close}
 use Rattle.sd_merge.specs.Copying.{Asks, Copying, IsOwnPlan, IsReadyFor, IsSoundCopying, StepsRead, StepsTable, WritesPage, begun_copy, out_of, plan_of, with_plan}
-use Rattle.sd_core.specs.Sound.{HasHeader, IsMergedHeader}
+use Rattle.sd_core.specs.Sound.{ClosesWithHeader, IsMergedHeader}
 
 -- ---- a request on the slot of the merged image
 
@@ -106,7 +106,7 @@ reads_source places copy next request s = record {
 -- ---- the header
 
 -- a plan that goes on ends with the same header
-pub asked_header : (order : CopyOrder) (stage : Stage) (next : Planned) → HasHeader order stage → HasHeader order (with_plan stage next)
+pub asked_header : (order : CopyOrder) (stage : Stage) (next : Planned) → ClosesWithHeader order stage → ClosesWithHeader order (with_plan stage next)
 asked_header order (Format p) next has = tt
 asked_header order PassStage next has = tt
 asked_header order (PageRead p) next has = tt
@@ -114,15 +114,15 @@ asked_header order (PageWrite p) next has = tt
 asked_header order (Close p header tables) next has = has
 
 -- what the steps leave of it
-pub asks_header : (copy next : Copying) (request : Asked) → Asks copy request next → HasHeader copy.order copy.stage → HasHeader copy.order next.stage
-asks_header copy next request a has = subst (HasHeader copy.order) (sym (ap (λ (k : Copying). k.stage) a.is)) (asked_header copy.order copy.stage a.next has)
+pub asks_header : (copy next : Copying) (request : Asked) → Asks copy request next → ClosesWithHeader copy.order copy.stage → ClosesWithHeader copy.order next.stage
+asks_header copy next request a has = subst (ClosesWithHeader copy.order) (sym (ap (λ (k : Copying). k.stage) a.is)) (asked_header copy.order copy.stage a.next has)
 
-pub writes_header : (copy next : Copying) (request : Asked) → WritesPage copy request next → HasHeader copy.order copy.stage → HasHeader copy.order next.stage
-writes_header copy next request w has = subst (HasHeader copy.order) (sym (ap (λ (k : Copying). k.stage) w.is)) tt
+pub writes_header : (copy next : Copying) (request : Asked) → WritesPage copy request next → ClosesWithHeader copy.order copy.stage → ClosesWithHeader copy.order next.stage
+writes_header copy next request w has = subst (ClosesWithHeader copy.order) (sym (ap (λ (k : Copying). k.stage) w.is)) tt
 
-pub tables_header : (places : Places) (copy next : Copying) (request : Asked) → StepsTable places copy request next → HasHeader copy.order copy.stage → HasHeader copy.order next.stage
-tables_header places copy next request t has = subst (HasHeader copy.order) (sym (ap (λ (k : Copying). k.stage) t.writes.is)) (subst (IsMergedHeader copy.order) (sym t.writes.numbers)
+pub tables_header : (places : Places) (copy next : Copying) (request : Asked) → StepsTable places copy request next → ClosesWithHeader copy.order copy.stage → ClosesWithHeader copy.order next.stage
+tables_header places copy next request t has = subst (ClosesWithHeader copy.order) (sym (ap (λ (k : Copying). k.stage) t.writes.is)) (subst (IsMergedHeader copy.order) (sym t.writes.numbers)
     (record { kind = refl; serial = refl; stands = refl; parent = refl; checkpoint = refl }))
 
-pub reads_header : (places : Places) (copy next : Copying) (request : Asked) → StepsRead places copy request next → HasHeader copy.order copy.stage → HasHeader copy.order next.stage
-reads_header places copy next request s has = subst (HasHeader copy.order) (sym (ap (λ (k : Copying). k.stage) s.reads.is)) tt
+pub reads_header : (places : Places) (copy next : Copying) (request : Asked) → StepsRead places copy request next → ClosesWithHeader copy.order copy.stage → ClosesWithHeader copy.order next.stage
+reads_header places copy next request s has = subst (ClosesWithHeader copy.order) (sym (ap (λ (k : Copying). k.stage) s.reads.is)) tt

@@ -3,7 +3,7 @@ use Rattle.std.proofs.Common.{◌≡◌, ◌≢◌, ℕ, ◌<◌, if◌then◌el
 use Rattle.std.proofs.lemmas.Bool.{eq-eqb}
 use Rattle.std.proofs.lemmas.Option.{same_Some}
 use Rattle.sd_image.proofs.Members.{contains_at}
-use Rattle.sd_chain.specs.Catalog.{Changes, IsHeld, IsSound, Opened, Places, place_of}
+use Rattle.sd_chain.specs.Catalog.{Changes, IsHeld, IsSoundCatalog, Opened, Places, place_of}
 use Rattle.sd_chain.specs.Reaches.{ParentsFall}
 use Rattle.sd_gate.specs.declared.phase.Phase.{Phase}
 use Rattle.sd_gate.specs.declared.request_id.RequestId.{RequestId}
@@ -16,7 +16,7 @@ use Rattle.sd_merge.specs.declared.merge_progress.MergeProgress.TheVariants as p
 use Rattle.sd_merge.specs.declared.retired.Retired.{Retired}
 use Rattle.sd_merge.specs.Copying.{Copying, IsSoundCopying, Opens}
 use Rattle.sd_merge.specs.Merger as merger
-use Rattle.sd_merge.specs.Merger.{AreRunning, BeginsList, Doing, HandsAt, HasSoundCopy, HasSoundCopyIn, IsRunningAt, Retires, Retiring, due, copying, opened, retiring}
+use Rattle.sd_merge.specs.Merger.{AreRunning, BeginsList, Doing, HandsAt, HasSoundCopy, HasSoundCopyIn, IsRunningAt, TakesList, Retiring, due, copying, opened, retiring}
 use Rattle.sd_rounds.specs.declared.new_image.NewImage.{NewImage}
 use Rattle.sd_rounds.specs.Dumper.{Running}
 use Rattle.sd_rounds.specs.Making.{Making}
@@ -26,7 +26,7 @@ use Rattle.sd_crash_safety.specs.Merges.{IsOtherImage, MakesOther}
 use Rattle.sd_crash_safety.specs.View.{CoreView}
 use Rattle.sd_free_slots.specs.Taken.{IsLeftOver, IsListOf, IsReservedBy, NamesParent}
 use Rattle.sd_core.specs.Merging.{FixesList, IsMergedImage, retires_as}
-use Rattle.sd_core.specs.Sound.{AreCounted, HasHeader, IsCopyOf, IsCore, IsDoing, IsMergedHeader, IsMerging, Parts, due_serials}
+use Rattle.sd_core.specs.Sound.{CheckpointsAreCounted, ClosesWithHeader, IsCopyOf, IsCore, IsDoing, IsMergedHeader, MergeRuns, Parts, due_serials}
 use Rattle.sd_core.proofs.BesideLemmas.{LeavesWork, core_beside, merger_works}
 use Rattle.sd_core.proofs.EnteredLemmas.{entered_held, entered_image}
 use Rattle.sd_core.proofs.MergerHands.{outs_without}
@@ -64,7 +64,7 @@ opens_beside core merge made image doing sound is running copied hands = by merg
           was = was;
           opens = hands.hands;
           is = hands.is;
-          header = subst (HasHeader copy.order) hands.hands.was d.0.header;
+          header = subst (ClosesWithHeader copy.order) hands.hands.was d.0.header;
           order = order;
           sound = good;
           works = d.0;
@@ -97,7 +97,7 @@ one_unreserved : (places : Places) (running : Option Running) (outs : List (Opti
     → IsReservedBy running (Some (record merge { doing = opened serial })) outs one.slot → ⊥
 one_unreserved places running outs merge serial count list place one is at = (is.each one (contains_at list place one at)).1.spared
 
-may_retire : (places : Places) (old : CoreView) (outs : List (Option RequestId)) (merge : merger.Running) (serial count : ℕ) (list : List Retired) (place : ℕ) (one : Retired) → IsSound places
+may_retire : (places : Places) (old : CoreView) (outs : List (Option RequestId)) (merge : merger.Running) (serial count : ℕ) (list : List Retired) (place : ℕ) (one : Retired) → IsSoundCatalog places
     → IsListOf places old.dumper.running (Some (record merge { doing = opened serial })) outs count list → outs ≡ slice_set old.outs 1 None → slice_get list place ≡ Some one → MayRetire places old one
 may_retire places old outs merge serial count list place one sound is are at = record {
   opened = left.image;
@@ -124,7 +124,7 @@ may_retire places old outs merge serial count list place one sound is are at = r
       at = reached_at places start.header.serial other one.slot o sound there here reaches;
     })
 
-pub may_all_retire : (places : Places) (old : CoreView) (outs : List (Option RequestId)) (merge : merger.Running) (serial count : ℕ) (list : List Retired) → IsSound places
+pub may_all_retire : (places : Places) (old : CoreView) (outs : List (Option RequestId)) (merge : merger.Running) (serial count : ℕ) (list : List Retired) → IsSoundCatalog places
     → IsListOf places old.dumper.running (Some (record merge { doing = opened serial })) outs count list → outs ≡ slice_set old.outs 1 None → MayAllRetire places old list
 may_all_retire places old outs merge serial count list sound is are = record {
   each = λ place one at. may_retire places old outs merge serial count list place one sound is are at;
@@ -155,7 +155,7 @@ begins_list : (core : Parts) (phases : List Phase) (places : Places) (outs : Lis
     → Changes core.places places image.header.serial (Some (Some (image_of image))) → length phases ≡ length core.phases
     → IsListOf places core.dumper.running (Some (record merge { doing = opened image.header.serial })) outs core.room list
     → r.list ≡ list → r.serial ≡ image.header.serial → r.plan.out ≡ None
-    → IsMerging core.standing phases places core.opener core.numbers room core.dumper.running (record merge { doing = retiring r })
+    → MergeRuns core.standing phases places core.opener core.numbers room core.dumper.running (record merge { doing = retiring r })
 begins_list core phases places outs merge made image doing room list r sound is o changes count fixed is_list serial rests =
     let m = merger_works core merge sound is in
     let i = merged_image core merge made image doing places o changes in
@@ -194,10 +194,10 @@ pub core_opened : (core : Parts) (outs : List (Option RequestId)) (phases : List
     → FixesList places core.dumper.running outs core.room before ended now → IsCore (record core { outs = outs; phases = phases; places = places; room = room; merger = now })
 core_opened core outs phases places room merge made image doing before now ended sound is o before_is changes count are fixes = by ended fixes.retires
   where
-    m : IsMerging core.standing core.phases core.places core.opener core.numbers core.room core.dumper.running merge
+    m : MergeRuns core.standing core.phases core.places core.opener core.numbers core.room core.dumper.running merge
     m = merger_works core merge sound is
 
-    counted : AreCounted core.numbers places
+    counted : CheckpointsAreCounted core.numbers places
     counted = counted_opened core.numbers core.places places image.header.serial (image_of image) changes
         (let below = m.counted in let same = o.header.checkpoint ∙ ap (λ (k : CopyOrder). k.source.checkpoint) o.order in omega (arith, below, same)) sound.counted
 
@@ -223,7 +223,7 @@ core_opened core outs phases places room merge made image doing before now ended
         (begins_list core phases places outs merge made image doing room fixes.list (record { serial = b.serial; list = fixes.list; ended = 0; plan = begun b.first.slot closing_calls nothing })
         sound is o changes count fixed refl serial refl))
 
-    by : (ended : Option ℕ) → Retires before fixes.list (retires_as ended) now → IsCore (record core { outs = outs; phases = phases; places = places; room = room; merger = now })
+    by : (ended : Option ℕ) → TakesList before fixes.list (retires_as ended) now → IsCore (record core { outs = outs; phases = phases; places = places; room = room; merger = now })
     by None retires = begins retires
     by (Some serial) retires =
         subst (λ k. IsCore (record core { outs = outs; phases = phases; places = places; room = room; merger = k })) (sym retires.is)
@@ -244,7 +244,7 @@ pub record OpensAs (core : Parts) (old : CoreView) (merge : merger.Running) (mad
 
 pub merged_opens : (places : Places) (core : Parts) (old new : CoreView) (merge : merger.Running) (made : Made) (phase : Phase) (image : NewImage) (doing : Doing)
     (before : Option merger.Running) (ended : Option ℕ) (count : ℕ) → OpensAs core old merge made phase image places new → (o : OpensBeside core merge made image doing)
-    → before ≡ Some (record merge { doing = doing }) → IsSound places → Changes core.places places image.header.serial (Some (Some (image_of image)))
+    → before ≡ Some (record merge { doing = doing }) → IsSoundCatalog places → Changes core.places places image.header.serial (Some (Some (image_of image)))
     → (fixes : FixesList places core.dumper.running new.outs count before ended new.merger) → MergedOpens places old merge o.copy made phase image fixes.list (retires_as ended) new
 merged_opens places core old new merge made phase image doing before ended count a o before_is sound changes fixes = record {
   outcome = a.outcome;
@@ -261,13 +261,13 @@ merged_opens places core old new merge made phase image doing before ended count
   listed = may_all_retire places old new.outs merge image.header.serial count fixes.list sound
       (subst (λ r. IsListOf places r (Some (record merge { doing = opened image.header.serial })) new.outs count fixes.list) (sym a.old_running)
       (subst (λ k. IsListOf places core.dumper.running k new.outs count fixes.list) (before_is ∙ ap (λ k. Some (record merge { doing = k })) o.is) fixes.is)) a.outcome.outs;
-  retires = subst (λ k. Retires k fixes.list (retires_as ended) new.merger)
+  retires = subst (λ k. TakesList k fixes.list (retires_as ended) new.merger)
       (before_is ∙ ap (λ k. Some (record merge { doing = k })) o.is ∙ ap (λ n. Some (record merge { doing = opened n })) o.header.serial) fixes.retires;
 }
 
 pub opened_believed : (places : Places) → MergerOutcomes places → (core : Parts) (old new : CoreView) (merge : merger.Running) (made : Made) (phase : Phase) (image : NewImage) (doing : Doing)
     (before : Option merger.Running) (ended : Option ℕ) (count : ℕ) → OpensAs core old merge made phase image places new → OpensBeside core merge made image doing
-    → before ≡ Some (record merge { doing = doing }) → IsSound places → Changes core.places places image.header.serial (Some (Some (image_of image)))
+    → before ≡ Some (record merge { doing = doing }) → IsSoundCatalog places → Changes core.places places image.header.serial (Some (Some (image_of image)))
     → FixesList places core.dumper.running new.outs count before ended new.merger → OutcomeIsBelieved old new made
 opened_believed places laws core old new merge made phase image doing before ended count a o before_is sound changes fixes =
     laws.opens old new merge o.copy made phase image fixes.list (retires_as ended) (merged_opens places core old new merge made phase image doing before ended count a o before_is sound changes fixes)

@@ -20,7 +20,7 @@ use Rattle.sd_opener.specs.Looking.{Looking}
 use Rattle.sd_opener.specs.Sees.{Sees}
 use Rattle.sd_crash_safety.specs.Calls.{AreGivenUp, HandedIn, HandsOut, IsFree, MakesStep, Stays}
 use Rattle.sd_crash_safety.specs.Laws.{IsOpenAs, ReopenedIsBelieved}
-use Rattle.sd_crash_safety.specs.OpenerSteps.{Decodes, GivesUpOpening, IsHandedIn, IsTaught, LooksOn, OnlyOpens, OpenerSteps, Reopens, nobody, opener_alone}
+use Rattle.sd_crash_safety.specs.OpenerSteps.{Decodes, GivesUpOpening, IsHandedToOpener, IsTaught, LooksOn, OnlyOpens, OpenerSteps, Reopens, nobody, opener_alone}
 use Rattle.sd_crash_safety.specs.View.{CoreView, history_of}
 use Rattle.sd_rounds.specs.Dumper.{Running}
 use Rattle.sd_core.specs.Opening.{with_opening}
@@ -160,12 +160,12 @@ pub record IsAfter (old : CoreView) (made : Made) (new : CoreView) : Type 0 wher
 outs_after : (id : RequestId) (outs now : List (Option RequestId)) → outs ≡ opener_alone id → now ≡ nobody → now ≡ slice_set outs 2 None
 outs_after id outs now alone none = none ∙ sym (ap (λ all. slice_set all 2 None) alone)
 
-handed_after : (old new : CoreView) (made : Made) → IsAfter old made new → (phase : Phase) → Waits old.phases made.request.id phase → IsHandedIn old made phase new
+handed_after : (old new : CoreView) (made : Made) → IsAfter old made new → (phase : Phase) → Waits old.phases made.request.id phase → IsHandedToOpener old made phase new
 handed_after old new made a phase waits = record { rest = a.rest; alone = a.alone; outs = a.outs; waits = waits; phases = a.phases phase waits.is }
 
 -- it goes on, or ends with a failure
 pub handed_on : OpenerSteps → (old new : CoreView) (made : Made) (opener next : Looking) → IsAfter old made new
-    → ((phase : Phase) → IsHandedIn old made phase new → IsTaught old opener made phase next new) → HandedIn old 2 made reply.Worked new
+    → ((phase : Phase) → IsHandedToOpener old made phase new → IsTaught old opener made phase next new) → HandedIn old 2 made reply.Worked new
 handed_on steps old new made opener next a taught = record {
   base = a.rest.base;
   outs = outs_after made.request.id old.outs new.outs a.alone a.outs;

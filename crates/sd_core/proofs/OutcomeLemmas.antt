@@ -12,7 +12,7 @@ use Rattle.sd_image.specs.declared.header.Kind.TheVariants.{Dump, PreDump}
 use Rattle.sd_image.specs.Words.{kind_number}
 use Rattle.sd_journal.specs.declared.entry.Entry.TheVariants.{Acked}
 use Rattle.sd_journal.specs.History.{Base, last, pending, unless_it_is}
-use Rattle.sd_journal.specs.Kept.{Kept}
+use Rattle.sd_journal.specs.Kept.{JournalView}
 use Rattle.sd_journal.specs.Marked.{IsTracked, Marked, Told, entries_of}
 use Rattle.sd_journal.specs.TrackedLaws.{TrackedLaws}
 use Rattle.sd_pagetable.specs.Contents.{IsSound}
@@ -27,7 +27,7 @@ use Rattle.sd_crash_safety.specs.Calls.{AddsByOutcome, AreGivenUp, HandedIn}
 use Rattle.sd_crash_safety.specs.DumperOutcomes.{IsDumpersOutcome, LeavesCatalog}
 use Rattle.sd_crash_safety.specs.View.{CoreView, history_of}
 use Rattle.sd_core.specs.declared.numbers.Numbers.{Numbers}
-use Rattle.sd_core.specs.Sound.{AreCounted, AreNumbers, IsCore, IsHeaderOf, IsImageOf, IsJournal, IsStageOf, Parts}
+use Rattle.sd_core.specs.Sound.{AreSoundNumbers, CheckpointsAreCounted, IsCore, IsHeaderOf, IsImageOf, IsJournal, IsStageOf, Parts}
 use Rattle.sd_core.specs.Visited.{IsClean}
 use Rattle.sd_core.proofs.ApplyLemmas.{same_phases}
 use Rattle.sd_core.proofs.SettledLemmas.{settled_now}
@@ -67,7 +67,7 @@ kept_of slot (Some place) o is = go (is_elsewhere slot place) is
     go true e = e
     go false e = absurd (let no : None ≡ Some (Some o) = e in cc)
 
-pub left_counted : (closed : Bool) (slot : ℕ) (old new : Places) (numbers : Numbers) → LeavesCatalog closed slot old new → AreCounted numbers old → AreCounted numbers new
+pub left_counted : (closed : Bool) (slot : ℕ) (old new : Places) (numbers : Numbers) → LeavesCatalog closed slot old new → CheckpointsAreCounted numbers old → CheckpointsAreCounted numbers new
 left_counted true slot old new numbers leaves was serial o at = was serial o (kept_of slot (place_of old serial) o (sym (leaves serial) ∙ at))
 left_counted false slot old new numbers leaves was serial o at = was serial o (ap (λ all. place_of all serial) (sym leaves) ∙ at)
 
@@ -79,7 +79,7 @@ opened_now items places numbers image opened made is opens = (subst (IsStageOf i
 
 -- a place changes to that of an image whose checkpoint was begun
 pub counted_opened : (numbers : Numbers) (old new : Places) (serial : ℕ) (o : Opened) → Changes old new serial (Some (Some o)) → o.header.checkpoint ≤ numbers.checkpoint
-    → AreCounted numbers old → AreCounted numbers new
+    → CheckpointsAreCounted numbers old → CheckpointsAreCounted numbers new
 counted_opened numbers old new serial o changes below was s other at = go (serial == s) refl (sym (changes s) ∙ at)
   where
     go : (b : Bool) → (serial == s) ≡ b → (if b then Some (Some o) else place_of old s) ≡ Some (Some other) → other.header.checkpoint ≤ numbers.checkpoint
@@ -112,7 +112,7 @@ dump_pends core since running image made opened sound are was making done opens 
 
 -- ---- the acknowledgement
 
-pub acked_journal : TrackedLaws → PlainLaw → (core : Parts) (journal : Kept) → IsCore core → core.frozen ≡ Some core.numbers.begun
+pub acked_journal : TrackedLaws → PlainLaw → (core : Parts) (journal : JournalView) → IsCore core → core.frozen ≡ Some core.numbers.begun
     → journal.items ≡ Told (Acked core.numbers.begun) ∷ core.journal.items → journal.first ≡ core.journal.first → journal.limit ≡ core.journal.limit
     → IsSound core.memory → IsClean core.memory → IsJournal core.base journal core.memory None (Some core.numbers.begun)
 acked_journal laws law core journal sound pends items first limit whole clean = record {
@@ -130,8 +130,8 @@ acked_journal laws law core journal sound pends items first limit whole clean = 
     tracked = subst (λ all. IsTracked core.base all core.memory) (sym items)
         (laws.told core.base core.journal.items core.memory (Acked core.numbers.begun) sound.journal_is.tracked (sym sound.journal_is.frozen_for ∙ pends) refl)
 
-pub acked_numbers : (base : Base) (items : Marked) (frozen newest : Option ℕ) (numbers : Numbers) → AreNumbers base items frozen newest numbers
-    → AreNumbers base (Told (Acked numbers.begun) ∷ items) None (Some numbers.begun) numbers
+pub acked_numbers : (base : Base) (items : Marked) (frozen newest : Option ℕ) (numbers : Numbers) → AreSoundNumbers base items frozen newest numbers
+    → AreSoundNumbers base (Told (Acked numbers.begun) ∷ items) None (Some numbers.begun) numbers
 acked_numbers base items frozen newest numbers was = record {
   used = λ n below. (below, was.used n below);
   newest_used = omega arith;

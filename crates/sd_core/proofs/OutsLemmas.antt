@@ -17,7 +17,7 @@ use Rattle.sd_crash_safety.specs.Calls.{AreOtherPages}
 use Rattle.sd_crash_safety.specs.declared.standing.Standing.TheVariants.{NotOpen, Open}
 use Rattle.sd_crash_safety.specs.OpenerSteps.{nobody}
 use Rattle.sd_crash_safety.specs.View.{page_lane}
-use Rattle.sd_core.specs.Sound.{AreInPages, AreOuts, HasWrites, worker_of}
+use Rattle.sd_core.specs.Sound.{AreInPages, AreOuts, HasWrites, worker_of_lane}
 
 pub far : (k : ℕ) → page_lane k ≡ suc (suc (suc k))
 far k = omega arith
@@ -165,10 +165,10 @@ open_outs outs phases running merge are dumper in_two apart = record {
     ]
   ];
   whose = λ lane id at. elim (at_lane lane id at) [
-    | inl a ↦ (dumper.own id (inl a.1)).1 ∙ sym (ap worker_of a.0)
+    | inl a ↦ (dumper.own id (inl a.1)).1 ∙ sym (ap worker_of_lane a.0)
     | inr rest ↦ elim rest [
-      | inl b ↦ (in_two id b.1).1 ∙ sym (ap worker_of b.0)
-      | inr page ↦ (dumper.own id (inr (page.0, page.2))).1 ∙ sym (ap worker_of page.1)
+      | inl b ↦ (in_two id b.1).1 ∙ sym (ap worker_of_lane b.0)
+      | inr page ↦ (dumper.own id (inr (page.0, page.2))).1 ∙ sym (ap worker_of_lane page.1)
     ]
   ];
   apart = λ one other a b at its same. by one other a b same (at_lane one a at) (at_lane other b its);

@@ -6,7 +6,7 @@ use Rattle.sd_chain.specs.Catalog.{Changes, IsHeld, Opened, Places, place_of, wi
 use Rattle.sd_image.specs.declared.header.Kind.TheVariants.{Dump, PreDump}
 use Rattle.sd_rounds.specs.Dumper.{AreRunning, Running, is_last, slot_of}
 use Rattle.sd_crash_safety.specs.DumperOutcomes.{LeavesCatalog}
-use Rattle.sd_core.specs.Images.{AreApart, HasImage, HasPreDumps, IsPreDump, begun_as}
+use Rattle.sd_core.specs.Images.{HasImage, HasPreDumps, IsPreDump, JobSlotsDiffer, begun_as}
 
 -- each of the first pre-dumps stays
 abbrev pub TheyStay : Running → Places → Places → ℕ → Type 0
@@ -44,7 +44,7 @@ none_held old serial o held is = let no : Some None ≡ Some (Some o) = sym held
 
 -- the image of another slot leaves
 pub leave_stays : (running : Running) (closed : Bool) (slot : ℕ) (old new : Places) → LeavesCatalog closed slot old new → slot ≡ slot_of running
-    → running.opened ≤ length running.pre_dumps → AreApart running → TheyStay (begun_as running) old new running.opened
+    → running.opened ≤ length running.pre_dumps → JobSlotsDiffer running → TheyStay (begun_as running) old new running.opened
 leave_stays running true slot old new leaves own few apart place serial o below is =
     leaves serial ∙ ap (without_slot slot) is.is_in ∙ ap (λ b. if not b then Some (Some o) else None) elsewhere
   where

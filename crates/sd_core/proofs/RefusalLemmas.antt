@@ -15,7 +15,7 @@ use Rattle.sd_crash_safety.specs.declared.standing.Standing.TheVariants as stand
 use Rattle.sd_crash_safety.specs.OpenerSteps.{nobody}
 use Rattle.sd_crash_safety.specs.View.{CoreView, history_of, index}
 use Rattle.sd_core.specs.Beginning.{first_of, free_entries}
-use Rattle.sd_core.specs.Refusals.{are_resting, cancel_refusal, cant_cancel, has_checkpoint, is_idle, is_in_use, is_open, is_page_out, is_resting, must_wait, must_wait_for_pages, none_at, reopen_refusal, wants_entry, work_refusal}
+use Rattle.sd_core.specs.Refusals.{are_resting, cancel_refusal, cant_cancel, has_checkpoint, is_idle, is_in_use, is_page_out, is_resting, is_store_open, must_wait, must_wait_for_pages, none_at, reopen_refusal, wants_entry, work_refusal}
 use Rattle.sd_core.specs.Sound.{IsCore, Parts}
 use Rattle.sd_core.proofs.BeginLemmas.{first_no, neither, none_some}
 use Rattle.sd_core.proofs.OutsLemmas.{nobody_of}
@@ -89,10 +89,10 @@ pub may_reopen : (core : CoreView) → reopen_refusal core ≡ None → MayReope
 may_reopen core is =
     let one = first_no (is_in_use core) refusal.Busy _ is in
     let two = first_no (wants_entry core) refusal.JournalFull _ one.1 in
-    let out = neither (is_open core.standing || is_some core.opener) (not (are_resting core.outs)) one.0 in
-    let open_is = neither (is_open core.standing) (is_some core.opener) out.0 in
+    let out = neither (is_store_open core.standing || is_some core.opener) (not (are_resting core.outs)) one.0 in
+    let open_is = neither (is_store_open core.standing) (is_some core.opener) out.0 in
     record {
-      closed = λ stands. let no : true ≡ false = ap is_open (sym stands) ∙ open_is.0 in cc;
+      closed = λ stands. let no : true ≡ false = ap is_store_open (sym stands) ∙ open_is.0 in cc;
       none = none_some core.opener open_is.1;
       rest = not_false (are_resting core.outs) out.1;
       free = λ none. some_free (ap (λ b. b && (free_entries core == 0)) (sym (none_true (pending (history_of core)) none)) ∙ two.0);

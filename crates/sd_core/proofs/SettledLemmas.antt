@@ -11,7 +11,7 @@ use Rattle.sd_journal.specs.Marked.{Item, IsTracked, Marked, Told, entries_of, e
 use Rattle.sd_journal.specs.Trimming.{Ends, HasVisited, IsEnded}
 use Rattle.sd_pagetable.specs.Contents.{Contents, IsSound, page_at}
 use Rattle.sd_pagetable.specs.Law.{ClearLaw, IsClearedAt, PlainLaw}
-use Rattle.sd_pagetable.specs.Page.{Page, cleared_page, plain_page}
+use Rattle.sd_pagetable.specs.Page.{PageState, cleared_page, plain_page}
 use Rattle.sd_pagetable.specs.Tracking.{Cleared, Step, is_page, is_writable}
 use Rattle.sd_core.specs.Answering.{IsAnswered}
 use Rattle.sd_core.specs.Visited.{HasSettled, HasSwept, IsClean}
@@ -46,11 +46,11 @@ visited_now law base items memory tracked sound clean = record {
     there : (space page : ℕ) → is_mapped (memory_at base items) space page ≡ true → is_some (option_map plain_page (page_at memory space page)) ≡ true
     there space page mapped = ap is_some (sym (law.pages memory space page)) ∙ ap (λ m. is_mapped m space page) tracked.memory ∙ mapped
 
-    due : (space page : ℕ) (o : Option Page) → page_at memory space page ≡ o → is_some (option_map plain_page o) ≡ true → is_due base items space page ≡ false
+    due : (space page : ℕ) (o : Option PageState) → page_at memory space page ≡ o → is_some (option_map plain_page o) ≡ true → is_due base items space page ≡ false
     due space page None is some = no_true some
     due space page (Some found) is some = sym (tracked.bits.soft_dirty space page found is) ∙ clean space page found is
 
-    still : (space page : ℕ) (o : Option Page) → page_at memory space page ≡ o → is_some (option_map plain_page o) ≡ true → is_writable (events_of items) space page ≡ false
+    still : (space page : ℕ) (o : Option PageState) → page_at memory space page ≡ o → is_some (option_map plain_page o) ≡ true → is_writable (events_of items) space page ≡ false
     still space page None is some = no_true some
     still space page (Some found) is some = sym (tracked.bits.writable space page found is) ∙ by (cases_Bool found.writable)
       where
@@ -118,11 +118,11 @@ clean_cleared law old new space number step clean at page found there = by (is_p
     done : IsClearedAt space number old new
     done = law old new space number step
 
-    cleared : (o : Option Page) → option_map cleared_page o ≡ Some found → found.soft_dirty ≡ false
+    cleared : (o : Option PageState) → option_map cleared_page o ≡ Some found → found.soft_dirty ≡ false
     cleared None e = absurd (let no : None ≡ Some found = e in cc)
-    cleared (Some was) e = ap (λ (p : Page). p.soft_dirty) (sym (same was e))
+    cleared (Some was) e = ap (λ (p : PageState). p.soft_dirty) (sym (same was e))
       where
-        same : (was : Page) → Some (cleared_page was) ≡ Some found → cleared_page was ≡ found
+        same : (was : PageState) → Some (cleared_page was) ≡ Some found → cleared_page was ≡ found
         same was e = cc
 
     by : (b : Bool) → is_page space number at page ≡ b → found.soft_dirty ≡ false

@@ -5,7 +5,7 @@ use Rattle.std.proofs.lemmas.List.{get_or-take, get_or_past, length-take-le}
 use Rattle.std.proofs.lemmas.Option.{same_Some, slice_get-get_or}
 use Rattle.std.specs.Option.{option_map}
 use Rattle.sd_image.proofs.Members.{contains_at}
-use Rattle.sd_chain.specs.Catalog.{IsSound, Opened, Places, images, place_of}
+use Rattle.sd_chain.specs.Catalog.{IsSoundCatalog, Opened, Places, images, place_of}
 use Rattle.sd_chain.specs.Reaches.{ParentsFall, Reaches, ReachesSerial}
 use Rattle.sd_merge.specs.declared.retired.Retired.{Retired}
 use Rattle.sd_merge.specs.declared.source.Source.{Source}
@@ -40,7 +40,7 @@ reached_in places j _ Reaches.itself member = member
 reached_in places j _ (Reaches.beyond i parent named rest) member = reached_in places j parent rest named.member
 
 -- an image that another reaches stands in its slot
-pub reached_at : (places : Places) (serial reached slot : ℕ) (o : Opened) → IsSound places → place_of places reached ≡ Some (Some o) → o.slot ≡ slot
+pub reached_at : (places : Places) (serial reached slot : ℕ) (o : Opened) → IsSoundCatalog places → place_of places reached ≡ Some (Some o) → o.slot ≡ slot
     → ReachesSerial places serial reached → IsReachedAt places serial slot
 reached_at places serial reached slot o sound at here r = record {
   from = r.0;
@@ -54,14 +54,14 @@ reached_at places serial reached slot o sound at here r = record {
     same_open a b e = cc
 
 -- no image that the tip reaches stands in it
-pub free_unreached : FreeSlotsLaw → (core : CoreView) (slots : List ℕ) (slot : ℕ) → FreeSlots core slots → IsFreeAt slots slot → IsSound core.catalog → ParentsFall core.catalog
+pub free_unreached : FreeSlotsLaw → (core : CoreView) (slots : List ℕ) (slot : ℕ) → FreeSlots core slots → IsFreeAt slots slot → IsSoundCatalog core.catalog → ParentsFall core.catalog
     → IsUnreached core.catalog slot
 free_unreached law core slots slot free f sound falls serial o tip at here is reaches =
     law.unneeded core.catalog core.dumper.running core.merger core.outs (length core.phases) slots f.place slot free falls f.at
     (record { root = tip.header.serial; is = inl (record { tip = tip; is = is; own = refl }); at = reached_at core.catalog tip.header.serial serial slot o sound at here reaches })
 
 -- none that a merge repeats, or that its source reaches
-pub free_unread : FreeSlotsLaw → (core : CoreView) (slots : List ℕ) (slot : ℕ) (merge : merger.Running) → FreeSlots core slots → IsFreeAt slots slot → IsSound core.catalog
+pub free_unread : FreeSlotsLaw → (core : CoreView) (slots : List ℕ) (slot : ℕ) (merge : merger.Running) → FreeSlots core slots → IsFreeAt slots slot → IsSoundCatalog core.catalog
     → ParentsFall core.catalog → core.merger ≡ Some merge → IsUnread core.catalog (source_in merge merge.doing) slot
 free_unread law core slots slot merge free f sound falls runs = by (source_in merge merge.doing) (ap merger.source_of runs)
   where
@@ -126,7 +126,7 @@ slots_apart law core rounds pre_dumps dump one other r below within same =
 
 -- ---- the merge that runs
 
-leaves_at : FreeSlotsLaw → (core : CoreView) (slots : List ℕ) (slot : ℕ) (merge : merger.Running) → FreeSlots core slots → IsFreeAt slots slot → IsSound core.catalog
+leaves_at : FreeSlotsLaw → (core : CoreView) (slots : List ℕ) (slot : ℕ) (merge : merger.Running) → FreeSlots core slots → IsFreeAt slots slot → IsSoundCatalog core.catalog
     → ParentsFall core.catalog → core.merger ≡ Some merge → LeavesMergeAt core.catalog merge slot
 leaves_at law core slots slot merge free f sound falls runs = record {
   target = λ same. free_unreserved law core slots slot free f (inr (inl (target same)));
@@ -141,7 +141,7 @@ leaves_at law core slots slot merge free f sound falls runs = record {
     listed place one at = subst (λ m. Contains (merger.list_of m) one) (sym runs) (contains_at (list_in merge.doing) place one at)
 
 -- what it needs is in none of the checkpoint's slots
-pub leaves_merge : FreeSlotsLaw → (core : CoreView) (rounds n : ℕ) (pre_dumps : List ℕ) (dump parent : ℕ) → AreReserved core rounds pre_dumps dump → IsSound core.catalog
+pub leaves_merge : FreeSlotsLaw → (core : CoreView) (rounds n : ℕ) (pre_dumps : List ℕ) (dump parent : ℕ) → AreReserved core rounds pre_dumps dump → IsSoundCatalog core.catalog
     → ParentsFall core.catalog → LeavesMerge core.catalog (begun_checkpoint n pre_dumps dump parent) core.merger
 leaves_merge law core rounds n pre_dumps dump parent r sound falls = by core.merger refl
   where

@@ -14,7 +14,7 @@ use Rattle.sd_rounds.specs.declared.copied.Copied.TheVariants.{More, Zero, Gone}
 use Rattle.sd_rounds.specs.declared.image_order.ImageOrder.{ImageOrder}
 use Rattle.sd_rounds.specs.declared.stage.Stage.{Stage}
 use Rattle.sd_rounds.specs.declared.stage.Stage.TheVariants.{Format, Freeze, Pass as PassStage, Close}
-use Rattle.sd_rounds.specs.Making.{closing, is_past_freeze, out_of, plan_of, stage_after, stage_behind, with_plan}
+use Rattle.sd_rounds.specs.Making.{closing_outcomes, is_past_freeze, out_of, plan_of, stage_after, stage_behind, with_plan}
 use Rattle.sd_rounds.specs.Pass.{Pass, Place, begun_to_take, left_to_parent, visited}
 use Rattle.sd_rounds.specs.Rounds.{Copies}
 use Rattle.sd_core.specs.Sound.{IsStageOf, IsVisitingIn}
@@ -82,7 +82,7 @@ format_behind items order pass plan Merged is = record {
 }
 
 pub behind : (items : Marked) (order : ImageOrder) (pass : Pass) (stage : Stage) (plan next : Planned) (calls : Calls) → plan_of stage ≡ Some plan
-    → next.slot ≡ plan.slot → next.out ≡ None → (closing stage ≢ 0 → calls ≢ []) → IsBehind items order pass stage (stage_after order.kind stage next calls)
+    → next.slot ≡ plan.slot → next.out ≡ None → (closing_outcomes stage ≢ 0 → calls ≢ []) → IsBehind items order pass stage (stage_after order.kind stage next calls)
 behind items order pass (Format p) plan next [] was same rests closes = format_behind items order pass p order.kind refl
 behind items order pass (Format p) plan next (call ∷ calls) was same rests closes =
     record { stage_is = slot_on p plan next order.slot was same; rests = rests; frozen = refl; visiting_in = λ v. v }

@@ -10,13 +10,13 @@ use Rattle.sd_journal.specs.declared.origin.Origin.{Origin}
 use Rattle.sd_journal.specs.declared.origin.Origin.TheVariants as origins
 use Rattle.sd_journal.specs.Allowed.{IsLastPair}
 use Rattle.sd_journal.specs.History.{Base, last, pending}
-use Rattle.sd_journal.specs.Kept.{Kept}
+use Rattle.sd_journal.specs.Kept.{JournalView}
 use Rattle.sd_journal.specs.Legal.{IsAbove}
 use Rattle.sd_journal.specs.Marked.{IsTracked, Marked, entries_of, is_due, is_of, is_opened}
 use Rattle.sd_pagetable.specs.Contents.{Contents, plain_of}
 use Rattle.sd_pagetable.specs.Tracking.{IsBeginning, clears, is_dirty, since, touches}
 use Rattle.sd_core.specs.declared.numbers.Numbers.{Numbers}
-use Rattle.sd_core.specs.Sound.{AreNumbers, IsJournal}
+use Rattle.sd_core.specs.Sound.{AreSoundNumbers, IsJournal}
 use Rattle.sd_crash_safety.specs.InUse.{id_of, ids_of}
 use Rattle.sd_core.specs.Starts.{nothing_asked, shown_base}
 use Rattle.sd_core.proofs.OutsLemmas.{nobody_out}
@@ -41,7 +41,7 @@ due_at_first : (base : Base) → base.origin ≡ origins.Opened → (space page 
 due_at_first base opened space page =
     ap (λ (o : Origin). if is_opened o then is_dirty [] space page else list_any (touches space page) (since (clears space page) [])) opened
 
-pub start_journal : (base : Base) (journal : Kept) (memory : Contents) (number : Option ℕ) → base.origin ≡ origins.Opened → IsBeginning memory → plain_of memory ≡ base.memory → base.number ≡ number → base.folded ≡ 0
+pub start_journal : (base : Base) (journal : JournalView) (memory : Contents) (number : Option ℕ) → base.origin ≡ origins.Opened → IsBeginning memory → plain_of memory ≡ base.memory → base.number ≡ number → base.folded ≡ 0
     → journal.items ≡ [] → journal.first ≡ 0 → journal.limit ≡ 1048576 → IsJournal base journal memory None number
 start_journal base journal memory number opened begins same own none_folded items first limit = record {
   tracked = subst (λ all. IsTracked base all memory) (sym items) (record { marked = tt; memory = same; bits = record { soft_dirty = λ space page at there. (begins space page at there).0 ∙ sym (due_at_first base opened space page); writable = λ space page at there. (begins space page at there).1 }; swept = tt });
@@ -53,7 +53,7 @@ start_journal base journal memory number opened begins same own none_folded item
 }
 
 pub start_numbers : (base : Base) (items : Marked) (number : Option ℕ) (numbers : Numbers) → base.number ≡ number → items ≡ [] → IfSome number (λ n. n ≡ numbers.begun)
-    → numbers.checkpoint ≡ numbers.begun → numbers.serial ≡ 0 → numbers.given ≡ 0 → AreNumbers base items None number numbers
+    → numbers.checkpoint ≡ numbers.begun → numbers.serial ≡ 0 → numbers.given ≡ 0 → AreSoundNumbers base items None number numbers
 start_numbers base items number numbers own none begun checkpoint serial given = record {
   used = λ n above. subst (λ all. IsAbove base (entries_of all) n) (sym none) (subst (λ b. IfSome b (λ own. own < n)) (sym own) (below number n begun above));
   newest_used = newest number begun;

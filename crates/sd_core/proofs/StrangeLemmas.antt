@@ -7,12 +7,12 @@ use Rattle.sd_opener.specs.declared.opened.Opened.{Opened}
 use Rattle.sd_opener.specs.Looking.{Looking}
 use Rattle.sd_restore.specs.declared.fault.Fault.{Fault}
 use Rattle.sd_restore.specs.declared.fault.Fault.TheVariants.{EmptyChain, Damaged, Device, OutOfMemory}
-use Rattle.sd_restore.specs.Faulty.{IsDamage, Names}
+use Rattle.sd_restore.specs.Faulty.{FaultNames, IsDamage}
 use Rattle.sd_crash_safety.specs.Laws.{OpenerFinds}
 use Rattle.sd_crash_safety.specs.View.{CoreView, history_of}
 use Rattle.sd_core.specs.declared.taken.Taken.{Taken}
 use Rattle.sd_core.specs.Grown.{has_swept}
-use Rattle.sd_core.specs.Opening.{IsDamaged, IsExpected, IsOwnStore, OpensBelieved, RefusesRightly, awaited}
+use Rattle.sd_core.specs.Opening.{IsDamaged, IsExpected, IsOwnStore, OpensBelieved, RefusesRightly, awaited_checkpoint}
 
 pub same_own : (last pending other_last other : Option ℕ) (files : List (List ℕ)) → ((found : Option ℕ) → IsExpected last pending found → IsExpected other_last other found)
     → IsOwnStore last pending files → IsOwnStore other_last other files
@@ -20,13 +20,13 @@ same_own last pending other_last other files more own = record { images = own.im
 
 is_own : (core : CoreView) (files : List (List ℕ)) (shown : Shown) → (core.committing ≡ true → has_swept core.items ≡ true) → Shows files shown
     → IsLastPair core.base (history_of core) shown ⊎ ((core.committing ≡ true) × IsPendingPair core.base (history_of core) shown)
-    → IsOwnStore (last core.base (history_of core)) (awaited core) files
+    → IsOwnStore (last core.base (history_of core)) (awaited_checkpoint core) files
 is_own core files None sure shows (inl is) = record { images = shows.images; store = shows.store; number = None; tip = shows.newest; expected = inl (sym is) }
 is_own core files None sure shows (inr is) = absurd is.1
 is_own core files (Some pair) sure shows (inl is) =
     record { images = shows.images; store = shows.store; number = Some pair.0; tip = (shows.newest.0, shows.newest.1, shows.newest.2); expected = inl (sym is.0) }
 is_own core files (Some pair) sure shows (inr is) =
-    let pends : awaited core ≡ Some pair.0 = ap (λ b. if b then pending (history_of core) else None) (sure is.0) ∙ is.1.0 in
+    let pends : awaited_checkpoint core ≡ Some pair.0 = ap (λ b. if b then pending (history_of core) else None) (sure is.0) ∙ is.1.0 in
     record {
       images = shows.images;
       store = shows.store;
@@ -36,7 +36,7 @@ is_own core files (Some pair) sure shows (inr is) =
     }
 
 -- an opening that failed names a slot as a scan does
-pub failed_damage : (files : List (List ℕ)) (read : Result Opened Fault) → ((opened : Opened) → read ≢ Ok opened) → IfErr read (Names (IsDamage files))
+pub failed_damage : (files : List (List ℕ)) (read : Result Opened Fault) → ((opened : Opened) → read ≢ Ok opened) → IfErr read (FaultNames (IsDamage files))
     → read ≢ Err EmptyChain → read ≢ Err Device → read ≢ Err OutOfMemory → IsDamaged files
 failed_damage files (Ok opened) failed named empty device memory = absurd (failed opened refl)
 failed_damage files (Err EmptyChain) failed named empty device memory = absurd (empty refl)

@@ -7,7 +7,7 @@ use Rattle.sd_journal.specs.Marked.{Marked}
 use Rattle.sd_pagetable.specs.Contents.{Contents}
 use Rattle.sd_rounds.specs.declared.image_order.ImageOrder.{ImageOrder}
 use Rattle.sd_rounds.specs.Dumper.{Running, is_frozen_image, is_last, order_of}
-use Rattle.sd_rounds.specs.Making.{Making, WritesTable, is_frozen, is_past_freeze}
+use Rattle.sd_rounds.specs.Making.{Making, WritesTable, is_frozen_dump, is_past_freeze}
 use Rattle.sd_core.specs.LittleWork.{TakesLittle}
 use Rattle.sd_core.specs.Sound.{IsCore, Parts}
 use Rattle.sd_core.specs.Visited.{HasSwept, IsClean, is_closing}
@@ -26,17 +26,17 @@ pub pends_last : (core : Parts) (running : Running) (image : Making) → IsCore 
     → image.order ≡ order_of running image.order.serial image.order.state → is_past_freeze image.stage ≡ true → is_some core.frozen ≡ is_last running
 pends_last core running image sound was making own past =
     ap is_some ((at_work core running sound was).pends ∙ ap (λ i. if is_frozen_image i then Some running.number else None) making)
-    ∙ some_if (is_frozen image) running.number
+    ∙ some_if (is_frozen_dump image) running.number
     ∙ ap (λ (o : ImageOrder). (kind_number o.kind == 2) && is_past_freeze image.stage) own
     ∙ ap (λ b. (kind_number (if is_last running then Dump else PreDump) == 2) && b) past
     ∙ is_dump (is_last running)
 
 pub table_swept : (core : Parts) (running : Running) (image next : Making) (request : Asked) (new : Contents) (items : Marked) → IsCore core → core.dumper.running ≡ Some running
     → running.image ≡ Some image → image.order ≡ order_of running image.order.serial image.order.state → WritesTable image core.memory request next → new ≡ core.memory
-    → is_frozen next ≡ is_frozen image → TakesLittle core.base items new running.number next → HasSwept (core.swept || is_last running) core.frozen new
+    → is_frozen_dump next ≡ is_frozen_dump image → TakesLittle core.base items new running.number next → HasSwept (core.swept || is_last running) core.frozen new
 table_swept core running image next request new items sound was making own writes same still little = by core.swept sound.swept_is
   where
-    frozen : is_last running ≡ true → is_frozen image ≡ true
+    frozen : is_last running ≡ true → is_frozen_dump image ≡ true
     frozen last = ap (λ (o : ImageOrder). (kind_number o.kind == 2) && is_past_freeze image.stage) own
         ∙ ap (λ b. (kind_number (if b then Dump else PreDump) == 2) && is_past_freeze image.stage) last
         ∙ ap is_past_freeze writes.stage

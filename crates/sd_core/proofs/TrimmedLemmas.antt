@@ -6,7 +6,7 @@ use Rattle.std.specs.List.{list_any}
 use Rattle.sd_journal.specs.declared.entry.Entry.TheVariants.{Acked, Applied, Cancelled, Freeze, Reopened}
 use Rattle.sd_journal.specs.declared.mark.Mark.TheVariants.{Start, Table, Visit}
 use Rattle.sd_journal.specs.History.{Base, last, pending, unless_it_is}
-use Rattle.sd_journal.specs.Kept.{Kept}
+use Rattle.sd_journal.specs.Kept.{JournalView}
 use Rattle.sd_journal.specs.Legal.{IsAbove, IsLegal}
 use Rattle.sd_journal.specs.Marked.{IsMarked, IsTracked, Marked, Noted, Told, entries_of, is_due, is_of, starts, visiting}
 use Rattle.sd_journal.specs.TrackedLaws.{TrackedLaws, before_freeze}
@@ -15,12 +15,12 @@ use Rattle.sd_rounds.specs.declared.stage.Stage.{Stage}
 use Rattle.sd_rounds.specs.declared.stage.Stage.TheVariants.{Format, Freeze as FreezeStage, Pass as PassStage, Close}
 use Rattle.sd_rounds.specs.Dumper.{Running, is_frozen_image}
 use Rattle.sd_rounds.specs.LittleWork.{TakesVisited}
-use Rattle.sd_rounds.specs.Making.{Making, is_frozen}
+use Rattle.sd_rounds.specs.Making.{Making, is_frozen_dump}
 use Rattle.sd_rounds.specs.Pass.{Pass}
 use Rattle.sd_core.proofs.FlagLemmas.{grown_trims, swept_trims}
 use Rattle.sd_core.specs.Grown.{has_grown, has_swept}
 use Rattle.sd_core.specs.LittleWork.{HasLittle, IsFrozenFor, TakesLittle, visits_of}
-use Rattle.sd_core.specs.Sound.{AreNumbers, IsAtWork, IsCore, IsImageOf, IsVisiting, IsVisitingIn, Parts}
+use Rattle.sd_core.specs.Sound.{AreSoundNumbers, CheckpointRuns, IsCore, IsImageOf, IsVisiting, IsVisitingIn, Parts}
 use Rattle.sd_core.specs.Visited.{HasSettled, is_begun}
 use Rattle.sd_core.proofs.FrontLemmas.{same_front}
 use Rattle.sd_core.proofs.LittleLemmas.{no_visits}
@@ -117,7 +117,7 @@ freeze_kept (Told (Reopened r) ∷ kept) front m is = absurd (let no : None ≡ 
 -- ---- the parts of a core
 
 -- what was folded, and what the core goes on from
-pub record IsTrimmed (core : Parts) (base : Base) (journal : Kept) (n : ℕ) (front : Marked) : Type 0 where
+pub record IsTrimmed (core : Parts) (base : Base) (journal : JournalView) (n : ℕ) (front : Marked) : Type 0 where
   pub newest : core.newest ≡ Some n
   pub other : core.base.number ≢ Some n
   pub parts : core.journal.items ≡ journal.items ++ front
@@ -164,7 +164,7 @@ module _ (laws : TrimLaws) (marked_laws : MarkedTrimLaws) (tracked_laws : Tracke
   above : (k : ℕ) → IsAbove core.base (entries_of core.journal.items) k → IsAbove after (entries_of kept) k
   above k is = (laws.above core.base (entries_of kept) (entries_of front) n k legal f.ended).1 (subst (λ h. IsAbove core.base h k) history is)
 
-  numbers : AreNumbers after kept core.frozen core.newest core.numbers
+  numbers : AreSoundNumbers after kept core.frozen core.newest core.numbers
   numbers = record {
     used = λ k below. above k (sound.numbers_are.used k below);
     newest_used = sound.numbers_are.newest_used;
@@ -207,8 +207,8 @@ module _ (laws : TrimLaws) (marked_laws : MarkedTrimLaws) (tracked_laws : Tracke
   image_some None is = tt
   image_some (Some making) is = image making is
 
-  work : (running : Running) → IsAtWork core.base core.journal.items core.frozen core.standing core.phases core.places core.merger core.opener core.numbers running
-      → IsAtWork after kept core.frozen core.standing core.phases core.places core.merger core.opener core.numbers running
+  work : (running : Running) → CheckpointRuns core.base core.journal.items core.frozen core.standing core.phases core.places core.merger core.opener core.numbers running
+      → CheckpointRuns after kept core.frozen core.standing core.phases core.places core.merger core.opener core.numbers running
   work running w = record {
     stands = w.stands;
     closed = w.closed;
@@ -228,13 +228,13 @@ module _ (laws : TrimLaws) (marked_laws : MarkedTrimLaws) (tracked_laws : Tracke
   }
 
   work_some : (running : Option Running)
-      → IfSome running (IsAtWork core.base core.journal.items core.frozen core.standing core.phases core.places core.merger core.opener core.numbers)
-      → IfSome running (IsAtWork after kept core.frozen core.standing core.phases core.places core.merger core.opener core.numbers)
+      → IfSome running (CheckpointRuns core.base core.journal.items core.frozen core.standing core.phases core.places core.merger core.opener core.numbers)
+      → IfSome running (CheckpointRuns after kept core.frozen core.standing core.phases core.places core.merger core.opener core.numbers)
   work_some None w = tt
   work_some (Some running) w = work running w
 
   -- the pages that it has
-  little : (number : ℕ) (making : Making) → IsImageOf core.journal.items core.places core.numbers making → (is_frozen making ≡ true → core.frozen ≡ Some number)
+  little : (number : ℕ) (making : Making) → IsImageOf core.journal.items core.places core.numbers making → (is_frozen_dump making ≡ true → core.frozen ≡ Some number)
       → TakesLittle core.base core.journal.items core.memory number making → TakesLittle after kept core.memory number making
   little number making is pends takes = record {
     round = λ kind. subst (λ all. TakesVisited all making) seen (takes.round kind);
@@ -273,7 +273,7 @@ module _ (laws : TrimLaws) (marked_laws : MarkedTrimLaws) (tracked_laws : Tracke
   has_little (Some running) is takes = little_some running running.image refl is (at_work core running sound is).image takes
 
 -- the core that goes on from the last checkpoint
-pub trimmed_core : TrimLaws → MarkedTrimLaws → TrackedLaws → (core : Parts) (base : Base) (journal : Kept) (n : ℕ) (front : Marked) → IsCore core → IsTrimmed core base journal n front
+pub trimmed_core : TrimLaws → MarkedTrimLaws → TrackedLaws → (core : Parts) (base : Base) (journal : JournalView) (n : ℕ) (front : Marked) → IsCore core → IsTrimmed core base journal n front
     → IsCore (record core { base = base; journal = journal })
 trimmed_core laws marked_laws tracked_laws core base journal n front sound t = record {
   journal_is = record {
@@ -289,11 +289,11 @@ trimmed_core laws marked_laws tracked_laws core base journal n front sound t = r
   held = t.held ∙ sound.held;
   outs_are = sound.outs_are;
   opening = sound.opening;
-  numbers_are = subst (λ b. AreNumbers b journal.items core.frozen core.newest core.numbers) (sym t.base_is)
+  numbers_are = subst (λ b. AreSoundNumbers b journal.items core.frozen core.newest core.numbers) (sym t.base_is)
       (numbers laws marked_laws tracked_laws core journal.items front n sound t.newest t.other t.parts t.ended);
   counted = sound.counted;
   rests = sound.rests;
-  work = subst (λ b. IfSome core.dumper.running (IsAtWork b journal.items core.frozen core.standing core.phases core.places core.merger core.opener core.numbers)) (sym t.base_is)
+  work = subst (λ b. IfSome core.dumper.running (CheckpointRuns b journal.items core.frozen core.standing core.phases core.places core.merger core.opener core.numbers)) (sym t.base_is)
       (work_some laws marked_laws tracked_laws core journal.items front n sound t.newest t.other t.parts t.ended core.dumper.running sound.work);
   little = subst (λ b. IfSome core.dumper.running (HasLittle b journal.items core.memory)) (sym t.base_is)
       (has_little laws marked_laws tracked_laws core journal.items front n sound t.newest t.other t.parts t.ended core.dumper.running refl sound.little);

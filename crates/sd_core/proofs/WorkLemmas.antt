@@ -12,7 +12,7 @@ use Rattle.sd_command.specs.declared.reply.Reply.{Reply}
 use Rattle.sd_journal.specs.declared.entry.Entry.TheVariants.{Applied}
 use Rattle.sd_journal.specs.declared.mark.Mark.{Mark}
 use Rattle.sd_journal.specs.History.{Base, last, pending}
-use Rattle.sd_journal.specs.Kept.{HasGrown, Kept}
+use Rattle.sd_journal.specs.Kept.{HasGrown, JournalView}
 use Rattle.sd_journal.specs.Legal.{IsAbove}
 use Rattle.sd_journal.specs.Marked.{IsTracked, Marked, Noted, Told, entries_of, is_of, mark_serial}
 use Rattle.sd_merge.specs.Merger as merger
@@ -21,7 +21,7 @@ use Rattle.sd_pagetable.specs.Contents.{Contents}
 use Rattle.sd_rounds.specs.declared.stage.Stage.{Stage}
 use Rattle.sd_rounds.specs.declared.stage.Stage.TheVariants.{Format, Freeze as FreezeStage, Pass as PassStage, Close}
 use Rattle.sd_rounds.specs.Dumper.{AreRunning, HasSlot, IsItsImage, Running, order_of, out_of_image, out_of_running, serial_of, slot_of, writes_of_image, writes_of_running}
-use Rattle.sd_rounds.specs.Making.{Making, is_frozen, out_of}
+use Rattle.sd_rounds.specs.Making.{Making, is_frozen_dump, out_of}
 use Rattle.sd_rounds.specs.Pass.{data_pages}
 use Rattle.sd_rounds.specs.Sound.{IsSoundImage}
 use Rattle.sd_rounds.specs.Writes.{AreWrites, no_writes}
@@ -39,7 +39,7 @@ use Rattle.sd_core.proofs.PreDumpLemmas.{TheyStay, pre_dumps_stay}
 use Rattle.sd_core.proofs.SettledLemmas.{settled_more}
 use Rattle.sd_core.specs.Images.{begun_as}
 use Rattle.sd_core.specs.LittleWork.{HasLittle, TakesLittle}
-use Rattle.sd_core.specs.Sound.{AreCounted, AreNumbers, AreOuts, HasWrites, IsAtWork, IsCore, IsImageOf, IsJournal, IsMerging, IsOpening, IsVisiting, IsVisitingIn, Parts, begun_images, due_serials, frozen_by, held_for}
+use Rattle.sd_core.specs.Sound.{AreOuts, AreSoundNumbers, CheckpointRuns, CheckpointsAreCounted, HasWrites, IsCore, IsImageOf, IsJournal, IsOpening, IsVisiting, IsVisitingIn, MergeRuns, Parts, begun_images, due_serials, frozen_by, held_for}
 
 -- ---- where none runs
 
@@ -57,9 +57,9 @@ none_works P running none = subst (λ r. IfSome r P) (sym none) tt
 -- ---- where one does
 
 pub at_work : (core : Parts) (running : Running) → IsCore core → core.dumper.running ≡ Some running
-    → IsAtWork core.base core.journal.items core.frozen core.standing core.phases core.places core.merger core.opener core.numbers running
+    → CheckpointRuns core.base core.journal.items core.frozen core.standing core.phases core.places core.merger core.opener core.numbers running
 at_work core running sound is =
-    subst (λ r. IfSome r (IsAtWork core.base core.journal.items core.frozen core.standing core.phases core.places core.merger core.opener core.numbers)) is sound.work
+    subst (λ r. IfSome r (CheckpointRuns core.base core.journal.items core.frozen core.standing core.phases core.places core.merger core.opener core.numbers)) is sound.work
 
 -- what is out of the dumper
 pub out_at_work : (core : Parts) (running : Running) (out : Option RequestId) → IsCore core → core.dumper.running ≡ Some running → slice_get core.outs 0 ≡ Some out
@@ -83,11 +83,11 @@ pub record IsWorking (core : Parts) (running : Running) : Type 0 where
   pub journal_is : IsJournal core.base core.journal core.memory core.frozen core.newest
   pub held : core.journal.held ≡ held_for core.frozen (Some running) None
   pub outs_are : AreOuts core.standing core.outs core.phases (Some running) core.merger None
-  pub numbers_are : AreNumbers core.base core.journal.items core.frozen core.newest core.numbers
-  pub counted : AreCounted core.numbers core.places
-  pub work : IsAtWork core.base core.journal.items core.frozen core.standing core.phases core.places core.merger core.opener core.numbers running
+  pub numbers_are : AreSoundNumbers core.base core.journal.items core.frozen core.newest core.numbers
+  pub counted : CheckpointsAreCounted core.numbers core.places
+  pub work : CheckpointRuns core.base core.journal.items core.frozen core.standing core.phases core.places core.merger core.opener core.numbers running
   pub little : HasLittle core.base core.journal.items core.memory running
-  pub merging : IfSome core.merger (IsMerging core.standing core.phases core.places core.opener core.numbers core.room (Some running))
+  pub merging : IfSome core.merger (MergeRuns core.standing core.phases core.places core.opener core.numbers core.room (Some running))
   pub swept_is : HasSwept core.swept core.frozen core.memory
   pub flags_are : AreFlags core.base core.journal.items core.swept core.grows core.committing
   pub gated : IsGated core.swept running
@@ -105,9 +105,9 @@ core_working core running is w = record {
   swept_is = w.swept_is;
   flags_are = w.flags_are;
   gated = subst (λ r. IfSome r (IsGated core.swept)) (sym is) w.gated;
-  work = subst (λ r. IfSome r (IsAtWork core.base core.journal.items core.frozen core.standing core.phases core.places core.merger core.opener core.numbers)) (sym is) w.work;
+  work = subst (λ r. IfSome r (CheckpointRuns core.base core.journal.items core.frozen core.standing core.phases core.places core.merger core.opener core.numbers)) (sym is) w.work;
   little = subst (λ r. IfSome r (HasLittle core.base core.journal.items core.memory)) (sym is) w.little;
-  merging = subst (λ r. IfSome core.merger (IsMerging core.standing core.phases core.places core.opener core.numbers core.room r)) (sym is) w.merging;
+  merging = subst (λ r. IfSome core.merger (MergeRuns core.standing core.phases core.places core.opener core.numbers core.room r)) (sym is) w.merging;
 }
 
 -- ---- numbers
@@ -121,8 +121,8 @@ pub record SameNumbers (old new : Numbers) : Type 0 where
 pub same_numbers : (numbers : Numbers) → SameNumbers numbers numbers
 same_numbers numbers = record { begun = refl; given = refl; checkpoint = refl; serial = refl }
 
-pub numbers_same : (base : Base) (items : Marked) (frozen newest : Option ℕ) (old new : Numbers) → SameNumbers old new → AreNumbers base items frozen newest old
-    → AreNumbers base items frozen newest new
+pub numbers_same : (base : Base) (items : Marked) (frozen newest : Option ℕ) (old new : Numbers) → SameNumbers old new → AreSoundNumbers base items frozen newest old
+    → AreSoundNumbers base items frozen newest new
 numbers_same base items frozen newest old new same was =
     let begun = same.begun in
     let given = same.given in
@@ -139,7 +139,7 @@ numbers_same base items frozen newest old new same was =
       serials = omega (arith, given, serial, serials);
     }
 
-pub counted_same : (places : Places) (old new : Numbers) → SameNumbers old new → AreCounted old places → AreCounted new places
+pub counted_same : (places : Places) (old new : Numbers) → SameNumbers old new → CheckpointsAreCounted old places → CheckpointsAreCounted new places
 counted_same places old new same was serial o at =
     let checkpoint = same.checkpoint in
     let below = was serial o at in
@@ -153,7 +153,7 @@ below-eqb a b below = elim (eqb_tells a b) [
 
 -- a mark with a serial that was given out
 pub numbers_noted : (base : Base) (items : Marked) (frozen newest : Option ℕ) (numbers : Numbers) (mark : Mark) → mark_serial mark ≤ numbers.given
-    → AreNumbers base items frozen newest numbers → AreNumbers base (Noted mark ∷ items) frozen newest numbers
+    → AreSoundNumbers base items frozen newest numbers → AreSoundNumbers base (Noted mark ∷ items) frozen newest numbers
 numbers_noted base items frozen newest numbers mark given was = record {
   used = was.used;
   newest_used = was.newest_used;
@@ -165,7 +165,7 @@ numbers_noted base items frozen newest numbers mark given was = record {
 
 -- ---- the journal with a mark more
 
-pub noted_journal : (base : Base) (old new : Kept) (before after : Contents) (frozen newest : Option ℕ) (mark : Mark) → new.items ≡ Noted mark ∷ old.items
+pub noted_journal : (base : Base) (old new : JournalView) (before after : Contents) (frozen newest : Option ℕ) (mark : Mark) → new.items ≡ Noted mark ∷ old.items
     → new.first ≡ old.first → new.limit ≡ old.limit → IsTracked base (Noted mark ∷ old.items) after → IsJournal base old before frozen newest
     → IsJournal base new after frozen newest
 noted_journal base old new before after frozen newest mark items first limit tracked was = record {
@@ -204,15 +204,15 @@ pub record Turns (old new : Parts) (running : Running) (image next : Making) : T
   pub entries : entries_of new.journal.items ≡ entries_of old.journal.items
   pub held : new.journal.held ≡ old.journal.held
   pub journal_is : IsJournal new.base new.journal new.memory new.frozen new.newest
-  pub numbers_are : AreNumbers new.base new.journal.items new.frozen new.newest new.numbers
-  pub counted : AreCounted new.numbers new.places
+  pub numbers_are : AreSoundNumbers new.base new.journal.items new.frozen new.newest new.numbers
+  pub counted : CheckpointsAreCounted new.numbers new.places
   pub outs : new.outs ≡ out_of next.stage ∷ merger.out_of_merge old.merger ∷ None ∷ next.writes
   pub stay : TheyStay (begun_as running) old.places new.places running.opened
   pub asked : IfSome (out_of next.stage) (λ id. id.slot ≡ slot_of running)
   pub whose : IfSome (out_of next.stage) (λ id. id.worker ≡ Dumper)
   pub writes : HasWrites running (Some next)
   pub image_is : IsImageOf new.journal.items new.places new.numbers next
-  pub still : is_frozen next ≡ is_frozen image
+  pub still : is_frozen_dump next ≡ is_frozen_dump image
   pub little : TakesLittle new.base new.journal.items new.memory running.number next
   pub swept_is : HasSwept new.swept new.frozen new.memory
   pub flags_are : AreFlags new.base new.journal.items new.swept new.grows new.committing
@@ -234,7 +234,7 @@ pub held_at_work : (core : Parts) (running : Running) → IsCore core → core.d
 held_at_work core running sound is = sound.held ∙ ap (λ r. held_for core.frozen r core.opener) is ∙ ap (held_for core.frozen (Some running)) (at_work core running sound is).closed
 
 -- whether an image is the frozen memory's tells what is pending
-pub pends_so : (running : Running) (image next : Making) → running.image ≡ Some image → is_frozen next ≡ is_frozen image
+pub pends_so : (running : Running) (image next : Making) → running.image ≡ Some image → is_frozen_dump next ≡ is_frozen_dump image
     → frozen_by (record running { image = Some next }) ≡ frozen_by running
 pends_so running image next making still =
     ap (λ b. if b then Some running.number else None) still ∙ ap (λ i. frozen_by (record running { image = i })) (sym making)
@@ -254,7 +254,7 @@ pub record KeepsMerge (old new : Parts) (running : Running) (image next : Making
   pub numbers : SameNumbers old.numbers new.numbers
 
 pub merging_turned : (old new : Parts) (running : Running) (image next : Making) → IsCore old → KeepsMerge old new running image next
-    → IfSome new.merger (IsMerging new.standing new.phases new.places new.opener new.numbers new.room new.dumper.running)
+    → IfSome new.merger (MergeRuns new.standing new.phases new.places new.opener new.numbers new.room new.dumper.running)
 merging_turned old new running image next sound t = merging_stays old new (record {
   merger_is = t.merger_is;
   room = t.room;
@@ -315,7 +315,7 @@ turned old new running image next sound t =
       swept_is = t.swept_is;
       flags_are = t.flags_are;
       gated = t.gated;
-      merging = subst (λ r. IfSome new.merger (IsMerging new.standing new.phases new.places new.opener new.numbers new.room r)) t.is (merging_turned old new running image next sound (record {
+      merging = subst (λ r. IfSome new.merger (MergeRuns new.standing new.phases new.places new.opener new.numbers new.room r)) t.is (merging_turned old new running image next sound (record {
         was = t.was;
         making = t.making;
         is = t.is;
@@ -332,19 +332,19 @@ turned old new running image next sound t =
 
 -- ---- more room in the journal
 
-pub grown_core : (core : Parts) (journal : Kept) → IsCore core → HasGrown core.journal journal → IsCore (record core { journal = journal })
+pub grown_core : (core : Parts) (journal : JournalView) → IsCore core → HasGrown core.journal journal → IsCore (record core { journal = journal })
 grown_core core journal sound grown = record {
   journal_is = same_journal core.base core.journal journal core.memory core.frozen core.newest grown.first grown.items grown.limit sound.journal_is;
   held = grown.held ∙ sound.held;
   outs_are = sound.outs_are;
   opening = sound.opening;
-  numbers_are = subst (λ all. AreNumbers core.base all core.frozen core.newest core.numbers) (sym grown.items) sound.numbers_are;
+  numbers_are = subst (λ all. AreSoundNumbers core.base all core.frozen core.newest core.numbers) (sym grown.items) sound.numbers_are;
   counted = sound.counted;
   rests = sound.rests;
   swept_is = sound.swept_is;
   flags_are = subst (λ all. AreFlags core.base all core.swept core.grows core.committing) (sym grown.items) sound.flags_are;
   gated = sound.gated;
-  work = subst (λ all. IfSome core.dumper.running (IsAtWork core.base all core.frozen core.standing core.phases core.places core.merger core.opener core.numbers)) (sym grown.items) sound.work;
+  work = subst (λ all. IfSome core.dumper.running (CheckpointRuns core.base all core.frozen core.standing core.phases core.places core.merger core.opener core.numbers)) (sym grown.items) sound.work;
   little = subst (λ all. IfSome core.dumper.running (HasLittle core.base all core.memory)) (sym grown.items) sound.little;
   merging = sound.merging;
 }
@@ -405,7 +405,7 @@ free_beside core running slot sound was outs own worker id at same =
       ]
     ]
   where
-    by : (m : Option merger.Running) → IfSome m (IsMerging core.standing core.phases core.places core.opener core.numbers core.room core.dumper.running)
+    by : (m : Option merger.Running) → IfSome m (MergeRuns core.standing core.phases core.places core.opener core.numbers core.room core.dumper.running)
         → merger.out_of_merge m ≡ Some id → ⊥
     by None is out = (let no : None ≡ Some id = out in cc)
     by (Some merge) is out = (subst (λ r. IsSpared r id.slot) was (is.asks id out)) (record { place = running.opened; from = omega arith; is = same ∙ own })
@@ -430,7 +430,7 @@ open_more old new serial other o changes none there = changes other ∙ by (eqb_
 -- ---- a command was journaled
 
 pub applied_numbers : (base : Base) (items : Marked) (frozen newest : Option ℕ) (numbers : Numbers) (seat : ℕ) (command : Command) (reply : Reply)
-    → AreNumbers base items frozen newest numbers → AreNumbers base (Told (Applied seat command reply) ∷ items) frozen newest numbers
+    → AreSoundNumbers base items frozen newest numbers → AreSoundNumbers base (Told (Applied seat command reply) ∷ items) frozen newest numbers
 applied_numbers base items frozen newest numbers seat command reply was = record {
   used = was.used;
   newest_used = was.newest_used;
@@ -466,8 +466,8 @@ image_applied_some items places numbers None seat command reply is = tt
 image_applied_some items places numbers (Some image) seat command reply is = image_applied items places numbers image seat command reply is
 
 pub applied_work : (base : Base) (items : Marked) (frozen : Option ℕ) (stands : Standing) (phases : List Phase) (places : Places) (merge : Option merger.Running) (opener : Option Looking) (numbers : Numbers)
-    (running : Option Running) (seat : ℕ) (command : Command) (reply : Reply) → IfSome running (IsAtWork base items frozen stands phases places merge opener numbers)
-    → IfSome running (IsAtWork base (Told (Applied seat command reply) ∷ items) frozen stands phases places merge opener numbers)
+    (running : Option Running) (seat : ℕ) (command : Command) (reply : Reply) → IfSome running (CheckpointRuns base items frozen stands phases places merge opener numbers)
+    → IfSome running (CheckpointRuns base (Told (Applied seat command reply) ∷ items) frozen stands phases places merge opener numbers)
 applied_work base items frozen stands phases places merge opener numbers None seat command reply work = tt
 applied_work base items frozen stands phases places merge opener numbers (Some running) seat command reply work = record {
   stands = work.stands;

@@ -10,7 +10,7 @@ use Rattle.sd_pagetable.specs.Contents.{Contents, plain_of}
 use Rattle.sd_pagetable.specs.Tracking.{Step}
 
 -- the reply is legal, and is what the memory's frames and bits leave open; the memory makes the event's step
-pub record IsApplied (command : Command) (reply : Reply) (old new : Contents) : Type 0 where
+pub record IsAppliedToMemory (command : Command) (reply : Reply) (old new : Contents) : Type 0 where
   pub legal : IsLegalReply (plain_of old) false command reply
   pub chooses : Chooses old command reply
   pub step : Step old (event_of command reply) new
@@ -18,4 +18,4 @@ pub record IsApplied (command : Command) (reply : Reply) (old new : Contents) : 
 -- while frozen a command is refused so, and nothing changes
 abbrev pub IsAnswered : Bool → Command → Reply → Contents → Contents → Type 0
 IsAnswered true command reply old new = (reply ≡ Refused Frozen) × (new ≡ old)
-IsAnswered false command reply old new = IsApplied command reply old new
+IsAnswered false command reply old new = IsAppliedToMemory command reply old new

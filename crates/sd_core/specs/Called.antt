@@ -33,7 +33,7 @@ use Rattle.sd_core.specs.Orders.{BeginsToOpen, IsCancelled}
 use Rattle.sd_core.specs.Refusals.{cancel_refusal, is_idle, reopen_refusal, work_refusal}
 use Rattle.sd_core.specs.Rounds.{OpensItsGate, SameRound, TurnsRound}
 use Rattle.sd_core.specs.Starts.{TakesUp}
-use Rattle.sd_core.specs.Working.{FindsSource, Leaves, LeavesByOutcome}
+use Rattle.sd_core.specs.Working.{FindsSource, LeavesByOutcome, LeavesByWork}
 
 -- a command of a seat
 pub record IsApplied (seat : ℕ) (command : Command) (told : Result (ℕ × Reply) Refusal)
@@ -91,7 +91,7 @@ pub record IsReopenOrder (answer : Reply) (old new : CoreView) : Type 0 where
 pub record IsTakenUp (worker : Worker) (old : CoreView) (made : Taken) (new : CoreView) : Type 0 where
   pub takes : TakesUp old worker made new
   pub refused : (why : Refusal) → work_refusal old worker ≡ Some why → (made ≡ Step (reply.Refused why)) × (new ≡ old)
-  pub leaves : work_refusal old worker ≡ None → Leaves old worker made new
+  pub leaves : work_refusal old worker ≡ None → LeavesByWork old worker made new
   pub lasts : MergeLasts old new
   pub fixes : FixesNoList old new
   pub finds : worker ≡ Merger → FindsSource old made

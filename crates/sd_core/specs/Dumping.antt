@@ -3,7 +3,7 @@ use Rattle.std.specs.Prelude.{◌≡◌, ℕ, ◌+◌, if◌then◌else◌, Opti
 use Rattle.sd_chain.specs.Catalog.{Changes, IsHeld, Places}
 use Rattle.sd_gate.specs.declared.slot_state.SlotState.{SlotState}
 use Rattle.sd_gate.specs.Requests.{Asked}
-use Rattle.sd_journal.specs.Kept.{Kept}
+use Rattle.sd_journal.specs.Kept.{JournalView}
 use Rattle.sd_pagetable.specs.Contents.{Contents}
 use Rattle.sd_rounds.specs.declared.image_step.ImageStep.{ImageStep}
 use Rattle.sd_rounds.specs.declared.image_step.ImageStep.TheVariants.{Call}
@@ -38,7 +38,7 @@ abbrev pub with_two : Option ℕ → ℕ → ℕ
 with_two None held = held + 2
 with_two (Some n) held = held
 
-pub record LetsGoOfTwo (pending : Option ℕ) (old new : Kept) : Type 0 where
+pub record LetsGoOfTwo (pending : Option ℕ) (old new : JournalView) : Type 0 where
   pub first : new.first ≡ old.first
   pub items : new.items ≡ old.items
   pub limit : new.limit ≡ old.limit

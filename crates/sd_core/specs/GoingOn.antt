@@ -5,11 +5,11 @@ use Rattle.sd_gate.specs.declared.worker.Worker.{Worker}
 use Rattle.sd_gate.specs.declared.worker.Worker.TheVariants.{Opener}
 use Rattle.sd_crash_safety.specs.View.{CoreView}
 use Rattle.sd_core.specs.Refusals.{is_idle, work_refusal}
-use Rattle.sd_core.specs.Sound.{worker_of}
+use Rattle.sd_core.specs.Sound.{worker_of_lane}
 
 -- a request that is out in a lane is of the worker whose lane that is
 abbrev pub AreOwnLanes : List (Option RequestId) → Type 0
-AreOwnLanes outs = (lane : ℕ) (id : RequestId) → slice_get outs lane ≡ Some (Some id) → id.worker ≡ worker_of lane
+AreOwnLanes outs = (lane : ℕ) (id : RequestId) → slice_get outs lane ≡ Some (Some id) → id.worker ≡ worker_of_lane lane
 
 -- no request of a worker is out
 abbrev pub HasNoneOut : List (Option RequestId) → Worker → Type 0

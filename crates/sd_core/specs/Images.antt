@@ -14,8 +14,8 @@ job_of None = None
 job_of (Some running) = Some (begun_as running)
 
 -- its images have different slots
-abbrev pub AreApart : Running → Type 0
-AreApart running = (one other : ℕ) → one < other → other ≤ length running.pre_dumps
+abbrev pub JobSlotsDiffer : Running → Type 0
+JobSlotsDiffer running = (one other : ℕ) → one < other → other ≤ length running.pre_dumps
     → get_or running.pre_dumps one running.dump ≢ get_or running.pre_dumps other running.dump
 
 -- the pre-dump of a checkpoint with this place among them is in the catalog, under this serial

@@ -17,7 +17,7 @@ use Rattle.sd_pagetable.specs.Nested.{value_at}
 use Rattle.sd_rounds.specs.Dump.{kind_of_bytes}
 use Rattle.sd_rounds.specs.Dumper.{Running, is_last}
 use Rattle.sd_rounds.specs.LittleWork.{TakesDue, TakesVisited, TookVisited}
-use Rattle.sd_rounds.specs.Making.{Making, is_frozen}
+use Rattle.sd_rounds.specs.Making.{Making, is_frozen_dump}
 use Rattle.sd_rounds.specs.Pass.{Place}
 use Rattle.sd_rounds.specs.Visits as visits
 use Rattle.sd_crash_safety.specs.View.{CoreView, history_of}
@@ -87,9 +87,9 @@ pub record IsFrozenFor (base : Base) (items : Marked) (memory : Contents) (numbe
 
 pub record TakesLittle (base : Base) (items : Marked) (memory : Contents) (number : ℕ) (image : Making) : Type 0 where
   pub round : image.order.kind ≡ PreDump → TakesVisited (visits_of base items image.order.serial) image
-  pub dump : is_frozen image ≡ true → IsFrozenFor base items memory number image
+  pub dump : is_frozen_dump image ≡ true → IsFrozenFor base items memory number image
   -- each page was visited by the time its table is written
-  pub closed : is_frozen image ≡ true → is_closing image.stage ≡ true → IsClean memory
+  pub closed : is_frozen_dump image ≡ true → is_closing image.stage ≡ true → IsClean memory
 
 abbrev pub HasLittle : Base → Marked → Contents → Running → Type 0
 HasLittle base items memory running = IfSome running.image (TakesLittle base items memory running.number)

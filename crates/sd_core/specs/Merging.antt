@@ -11,13 +11,13 @@ use Rattle.sd_gate.specs.declared.phase.Phase.{Phase}
 use Rattle.sd_gate.specs.declared.phase.Phase.TheVariants.{Bare}
 use Rattle.sd_gate.specs.declared.request_id.RequestId.{RequestId}
 use Rattle.sd_gate.specs.declared.slot_state.SlotState.{SlotState}
-use Rattle.sd_gate.specs.Fits.{IsClosed, Reads}
+use Rattle.sd_gate.specs.Fits.{IsClosed, PhaseReads}
 use Rattle.sd_gate.specs.Phases.{bodies_after}
 use Rattle.sd_gate.specs.declared.worker.Worker.TheVariants.{Merger}
 use Rattle.sd_gate.specs.Requests.{Asked}
 use Rattle.sd_image.specs.declared.header.Kind.{Kind}
 use Rattle.sd_image.specs.declared.header.Kind.TheVariants.{PreDump, Dump, Merged}
-use Rattle.sd_journal.specs.Kept.{Kept}
+use Rattle.sd_journal.specs.Kept.{JournalView}
 use Rattle.sd_merge.specs.declared.merge_progress.MergeProgress.{MergeProgress}
 use Rattle.sd_merge.specs.declared.merge_progress.MergeProgress.TheVariants as progress
 use Rattle.sd_merge.specs.declared.merge_step.MergeStep.{MergeStep}
@@ -25,7 +25,7 @@ use Rattle.sd_merge.specs.declared.merge_step.MergeStep.TheVariants.{Call}
 use Rattle.sd_merge.specs.declared.retired.Retired.{Retired}
 use Rattle.sd_merge.specs.Copying.{Copying, Steps, begun_copy}
 use Rattle.sd_merge.specs.Merger as merger
-use Rattle.sd_merge.specs.Merger.{CopiesOn, Retires, RetiresOn, begun_merge, copying, due, list_of, opened, retiring}
+use Rattle.sd_merge.specs.Merger.{CopiesOn, RetiresOn, TakesList, begun_merge, copying, due, list_of, opened, retiring}
 use Rattle.sd_merge.specs.Sources.{source_from}
 use Rattle.sd_rounds.specs.Dumper.{Running}
 use Rattle.sd_crash_safety.specs.Believes.{Believes}
@@ -129,7 +129,7 @@ pub record FixesList (places : Places) (running : Option Running) (outs : List (
     (old : Option merger.Running) (ended : Option ℕ) (new : Option merger.Running) : Type 0 where
   pub list : List Retired
   pub is : IsListOf places running old outs count list
-  pub retires : Retires old list (retires_as ended) new
+  pub retires : TakesList old list (retires_as ended) new
 
 -- ---- the merged image
 
@@ -231,7 +231,7 @@ EntersAtRest old request new = (merge : merger.Running) (serial : ℕ) (bodies :
 -- a slot is closed, and whatever is read of it in its phase is one byte
 pub record IsOneByte (phases : List Phase) (slot : ℕ) : Type 0 where
   pub bare : slice_get phases slot ≡ Some Bare
-  pub reads : (body file : List ℕ) → Reads Bare body file → IsClosed file × (length file ≡ 1)
+  pub reads : (body file : List ℕ) → PhaseReads Bare body file → IsClosed file × (length file ≡ 1)
 
 -- so is the slot of each image that was on the list, and no request is out on it
 pub record AreCut (old new : CoreView) : Type 0 where
@@ -249,7 +249,7 @@ lets_go None pending = 0
 lets_go (Some running) None = 2
 lets_go (Some running) (Some n) = 0
 
-pub record EndsCheckpoint (running : Option Running) (pending : Option ℕ) (old new : Kept) : Type 0 where
+pub record EndsCheckpoint (running : Option Running) (pending : Option ℕ) (old new : JournalView) : Type 0 where
   pub first : new.first ≡ old.first
   pub items : new.items ≡ old.items
   pub limit : new.limit ≡ old.limit

@@ -17,12 +17,12 @@ use Rattle.sd_image.specs.Image.{Image}
 use Rattle.sd_image.specs.Shows.{IsRestorable, IsStore, IsTip, Shows}
 use Rattle.sd_journal.specs.Allowed.{Shown, shown_number}
 use Rattle.sd_journal.specs.History.{last, pending}
-use Rattle.sd_journal.specs.Kept.{Kept}
+use Rattle.sd_journal.specs.Kept.{JournalView}
 use Rattle.sd_opener.specs.declared.opened.Opened.{Opened}
 use Rattle.sd_opener.specs.declared.opener_step.OpenerStep.{OpenerStep}
-use Rattle.sd_opener.specs.Left.{Lowers, LowersByStep}
-use Rattle.sd_opener.specs.Looking.{IsDoneAsAsked, Looking, MovesOn, StepMoves, out_of}
-use Rattle.sd_opener.specs.Sees.{IsOpened, IsToldOf, Sees, SeesAfter, StepNames}
+use Rattle.sd_opener.specs.Left.{LowersByStep, LowersLooking}
+use Rattle.sd_opener.specs.Looking.{IsDoneAsAsked, Looking, LooksFurther, StepMoves, out_of}
+use Rattle.sd_opener.specs.Sees.{IsToldOf, Sees, SeesAfter, StepNames, StoreIsRead}
 use Rattle.sd_restore.specs.Faulty.{IsDamage, IsFirstFaulty}
 use Rattle.sd_restore.specs.Reading.{AreRightlyDigested}
 use Rattle.sd_crash_safety.specs.Believes.{Believes}
@@ -64,17 +64,17 @@ with_opening None held = held + 1
 with_opening (Some n) held = held
 
 -- the entries and the limit are as before, and so many are held
-pub record Holds (old : Kept) (count : ℕ) (new : Kept) : Type 0 where
+pub record HoldsEntries (old : JournalView) (count : ℕ) (new : JournalView) : Type 0 where
   pub first : new.first ≡ old.first
   pub items : new.items ≡ old.items
   pub limit : new.limit ≡ old.limit
   pub held : new.held ≡ count
 
-abbrev pub HoldsForOpening : {T E : Type 0} → Option ℕ → Kept → Result T E → Kept → Type 0
-HoldsForOpening pending old (Ok done) new = Holds old (with_opening pending old.held) new
+abbrev pub HoldsForOpening : {T E : Type 0} → Option ℕ → JournalView → Result T E → JournalView → Type 0
+HoldsForOpening pending old (Ok done) new = HoldsEntries old (with_opening pending old.held) new
 HoldsForOpening pending old (Err why) new = new ≡ old
 
-pub record LetsGo (pending : Option ℕ) (old new : Kept) : Type 0 where
+pub record LetsGo (pending : Option ℕ) (old new : JournalView) : Type 0 where
   pub first : new.first ≡ old.first
   pub items : new.items ≡ old.items
   pub limit : new.limit ≡ old.limit
@@ -125,14 +125,14 @@ SawDamage opener last pending =
     → IsDamagedOrOther last pending files
 
 -- the pending checkpoint, once the pass of its dump is over: only then the store may show it
-abbrev pub awaited : CoreView → Option ℕ
-awaited core = if has_swept core.items then pending (history_of core) else None
+abbrev pub awaited_checkpoint : CoreView → Option ℕ
+awaited_checkpoint core = if has_swept core.items then pending (history_of core) else None
 
 -- A store is refused as damaged only where it isn't one that shows the last checkpoint or the one that is awaited.
 abbrev pub RefusesStrange : CoreView → Reply → Type 0
 RefusesStrange core answer = answer ≡ reply.Refused Damaged → (opener : Looking) → core.opener ≡ Some opener
     → (files : List (List ℕ)) → Sees files None opener
-    → IsOwnStore (last core.base (history_of core)) (awaited core) files → ⊥
+    → IsOwnStore (last core.base (history_of core)) (awaited_checkpoint core) files → ⊥
 
 abbrev pub RefusesRightly : CoreView → Taken → Type 0
 RefusesRightly core (Step answer) = RefusesStrange core answer
@@ -143,7 +143,7 @@ RefusesRightly core (Call request) = Unit {0}
 abbrev pub RefusesDamage : CoreView → Reply → Type 0
 RefusesDamage core answer = answer ≡ reply.Refused Damaged → (opener : Looking) → core.opener ≡ Some opener
     → (files : List (List ℕ)) → Sees files None opener
-    → AreRightlyDigested files → IsDamagedOrOther (last core.base (history_of core)) (awaited core) files
+    → AreRightlyDigested files → IsDamagedOrOther (last core.base (history_of core)) (awaited_checkpoint core) files
 
 abbrev pub RefusesAsScan : CoreView → Taken → Type 0
 RefusesAsScan core (Step answer) = RefusesDamage core answer
@@ -152,7 +152,7 @@ RefusesAsScan core (Call request) = Unit {0}
 -- A store is opened only where it shows the last checkpoint or the one that is awaited.
 abbrev pub OpensOwn : CoreView → Taken → Type 0
 OpensOwn core made = (found : Option ℕ) → made ≡ Step (reply.Reopened found)
-    → IsExpected (last core.base (history_of core)) (awaited core) found
+    → IsExpected (last core.base (history_of core)) (awaited_checkpoint core) found
 
 -- Where the store is as it is believed to be, it isn't refused as damaged.
 abbrev pub OpensBelieved : CoreView → Taken → Type 0
@@ -165,23 +165,23 @@ pub record OpensAnew (opener : Looking) (last pending : Option ℕ) (opened : Op
   pub expected : IsExpected last pending found
   pub told : opened.phases.items ≡ opener.told
   pub read : (files : List (List ℕ)) → Sees files None opener → length opener.told ≡ length files
-      → (shown : Shown) → Shows files shown → IsOpened files opened
+      → (shown : Shown) → Shows files shown → StoreIsRead files opened
   pub number : (files : List (List ℕ)) → Sees files None opener → length opener.told ≡ length files
       → (shown : Shown) → Shows files shown → shown_number shown ≡ found
 
 -- an outcome that is handed to the opener, and whether it goes on
-pub record GoesOn (old : Looking) (made : Made) (new : Looking) : Type 0 where
+pub record OpenerGoesOn (old : Looking) (made : Made) (new : Looking) : Type 0 where
   pub done : out_of old.stage ≡ Some made.request.id → is_done made.answer ≡ true
-  pub moves : MovesOn old new
+  pub moves : LooksFurther old new
   pub slots : new.slots ≡ old.slots
   pub free : out_of old.stage ≡ Some made.request.id → out_of new.stage ≡ None
-  pub lowers : out_of old.stage ≡ Some made.request.id → Lowers old new
+  pub lowers : out_of old.stage ≡ Some made.request.id → LowersLooking old new
   pub sees : (files : List (List ℕ)) → IsToldOf (file_at files (length old.told)) made.request made
       → Sees files (Some made.request) old → Sees files None new
 
 abbrev pub TeachesOpener : Option Looking → Made → Bool → Option Looking → Type 0
 TeachesOpener None made goes new = (goes ≡ false) × (new ≡ None)
-TeachesOpener (Some opener) made true new = (next : Looking) × (new ≡ Some next) × GoesOn opener made next
+TeachesOpener (Some opener) made true new = (next : Looking) × (new ≡ Some next) × OpenerGoesOn opener made next
 TeachesOpener (Some opener) made false new = out_of opener.stage ≡ Some made.request.id → IsDoneAsAsked made → ⊥
 
 -- every slot was read

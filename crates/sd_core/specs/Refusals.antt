@@ -38,10 +38,10 @@ pub record IsPageOut (outs : List (Option RequestId)) (id : RequestId) : Type 0 
 abbrev pub are_resting : List (Option RequestId) → Bool
 are_resting outs = not (is_any_out outs)
 
-abbrev pub is_open : Standing → Bool
-is_open standing.NotOpen = false
-is_open standing.Open = true
-is_open standing.Down = false
+abbrev pub is_store_open : Standing → Bool
+is_store_open standing.NotOpen = false
+is_store_open standing.Open = true
+is_store_open standing.Down = false
 
 -- a checkpoint runs or is pending
 abbrev pub has_checkpoint : CoreView → Bool
@@ -57,7 +57,7 @@ cancel_refusal core = first_of ((not (has_checkpoint core), refusal.Idle) ∷ (c
 
 -- the store is open, an opener runs, or a request is out
 abbrev pub is_in_use : CoreView → Bool
-is_in_use core = is_open core.standing || is_some core.opener || not (are_resting core.outs)
+is_in_use core = is_store_open core.standing || is_some core.opener || not (are_resting core.outs)
 
 -- no entry is held for a pending checkpoint, and none is free
 abbrev pub wants_entry : CoreView → Bool

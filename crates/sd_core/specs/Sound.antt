@@ -10,7 +10,7 @@ use Rattle.sd_gate.specs.declared.worker.Worker.TheVariants.{Dumper, Merger, Ope
 use Rattle.sd_image.specs.declared.header.Header.{Header}
 use Rattle.sd_image.specs.declared.header.Kind.TheVariants.{Merged}
 use Rattle.sd_gate.specs.declared.call.Call.TheVariants.{Sync}
-use Rattle.sd_journal.specs.Kept.{Kept}
+use Rattle.sd_journal.specs.Kept.{JournalView}
 use Rattle.sd_journal.specs.History.{Base, last, pending}
 use Rattle.sd_journal.specs.Legal.{IsAbove}
 use Rattle.sd_journal.specs.Marked.{IsTracked, Marked, entries_of, is_of, last_visit, visiting}
@@ -38,7 +38,7 @@ use Rattle.sd_crash_safety.specs.Merges.{IsSpared, MakesOther}
 use Rattle.sd_crash_safety.specs.OpenerSteps.{nobody}
 use Rattle.sd_core.specs.declared.numbers.Numbers.{Numbers}
 use Rattle.sd_core.specs.Grown.{AreFlags, IsGated}
-use Rattle.sd_core.specs.Images.{AreApart, HasPreDumps, begun_as}
+use Rattle.sd_core.specs.Images.{HasPreDumps, JobSlotsDiffer, begun_as}
 use Rattle.sd_core.specs.LittleWork.{HasLittle}
 use Rattle.sd_core.specs.Merging.{IsMergedImage}
 use Rattle.sd_core.specs.Visited.{HasSettled, HasSwept, is_begun}
@@ -62,11 +62,11 @@ pub record IsOpening (standing : Standing) (phases : List Phase) (opener : Looki
   pub slots : opener.slots ≡ length phases
 
 -- whose a lane is: the first three are the workers', and the others are those of the dumper's data pages
-abbrev pub worker_of : ℕ → Worker
-worker_of zero = Dumper
-worker_of (suc zero) = Merger
-worker_of (suc (suc zero)) = Opener
-worker_of (suc (suc (suc lane))) = Dumper
+abbrev pub worker_of_lane : ℕ → Worker
+worker_of_lane zero = Dumper
+worker_of_lane (suc zero) = Merger
+worker_of_lane (suc (suc zero)) = Opener
+worker_of_lane (suc (suc (suc lane))) = Dumper
 
 -- the opener has no request out
 pub record AreTwo (outs : List (Option RequestId)) : Type 0 where
@@ -94,13 +94,13 @@ pub record AreOuts (standing : Standing) (outs : List (Option RequestId)) (phase
   pub none : standing ≡ NotOpen → opener ≡ None → outs ≡ nobody
   pub two : opener ≡ None → AreTwo outs
   pub within : (lane : ℕ) (id : RequestId) → slice_get outs lane ≡ Some (Some id) → id.slot < length phases
-  pub whose : (lane : ℕ) (id : RequestId) → slice_get outs lane ≡ Some (Some id) → id.worker ≡ worker_of lane
+  pub whose : (lane : ℕ) (id : RequestId) → slice_get outs lane ≡ Some (Some id) → id.worker ≡ worker_of_lane lane
   pub apart : (one other : ℕ) (a b : RequestId) → slice_get outs one ≡ Some (Some a)
       → slice_get outs other ≡ Some (Some b) → a.slot ≡ b.slot
       → (one ≡ other) ⊎ AreInPages one other a b
 
 -- its journal makes its memory, and tells what is pending and what is last
-pub record IsJournal (base : Base) (journal : Kept) (memory : Contents) (frozen newest : Option ℕ) : Type 0 where
+pub record IsJournal (base : Base) (journal : JournalView) (memory : Contents) (frozen newest : Option ℕ) : Type 0 where
   pub tracked : IsTracked base journal.items memory
   pub first : journal.first ≡ base.folded
   pub limit : journal.limit ≡ 1048576
@@ -112,7 +112,7 @@ pub record IsJournal (base : Base) (journal : Kept) (memory : Contents) (frozen 
 
 -- The checkpoint begun last has the greatest number of all that the journal speaks of, and is the pending one if there
 -- is one; no mark has a serial that wasn't given out. What was found in the store doesn't lower the next numbers.
-pub record AreNumbers (base : Base) (items : Marked) (frozen newest : Option ℕ) (numbers : Numbers) : Type 0 where
+pub record AreSoundNumbers (base : Base) (items : Marked) (frozen newest : Option ℕ) (numbers : Numbers) : Type 0 where
   pub used : (n : ℕ) → numbers.begun < n → IsAbove base (entries_of items) n
   pub newest_used : IfSome newest (λ n. n ≤ numbers.begun)
   pub frozen_used : IfSome frozen (λ n. n ≡ numbers.begun)
@@ -121,8 +121,8 @@ pub record AreNumbers (base : Base) (items : Marked) (frozen newest : Option ℕ
   pub serials : numbers.given ≤ numbers.serial
 
 -- no image has a greater checkpoint number than the greatest that was used
-abbrev pub AreCounted : Numbers → Places → Type 0
-AreCounted numbers places =
+abbrev pub CheckpointsAreCounted : Numbers → Places → Type 0
+CheckpointsAreCounted numbers places =
     (serial : ℕ) (o : Opened) → place_of places serial ≡ Some (Some o) → o.header.checkpoint ≤ numbers.checkpoint
 
 -- ---- the checkpoint that runs
@@ -188,7 +188,7 @@ HasWrites running (Some image) = AreWrites (slot_of running) (data_pages image.p
 
 -- A checkpoint runs while the store is open, under the number that was begun last, in slots of the store, of which no
 -- two are one. The pre-dumps so far are in the catalog.
-pub record IsAtWork (base : Base) (items : Marked) (frozen : Option ℕ) (standing : Standing) (phases : List Phase)
+pub record CheckpointRuns (base : Base) (items : Marked) (frozen : Option ℕ) (standing : Standing) (phases : List Phase)
     (places : Places)
     (merge : Option merger.Running) (opener : Option Looking) (numbers : Numbers) (running : Running) : Type 0 where
   pub stands : standing ≡ Open
@@ -200,7 +200,7 @@ pub record IsAtWork (base : Base) (items : Marked) (frozen : Option ℕ) (standi
   pub few : length running.pre_dumps ≤ 8
   pub serials : numbers.serial + due_serials merge ≤ 2 ^ 63 + begun_images running running.image
   pub within : (slot : ℕ) → IsReserved running slot → slot < length phases
-  pub apart : AreApart running
+  pub apart : JobSlotsDiffer running
   pub pre_dumps : HasPreDumps (begun_as running) places running.opened running.parent
   pub asked : IfSome (out_of_image running.image) (λ id. id.slot ≡ slot_of running)
   pub whose : IfSome (out_of_image running.image) (λ id. id.worker ≡ Dumper)
@@ -218,17 +218,17 @@ pub record IsMergedHeader (order : CopyOrder) (header : Header) : Type 0 where
   pub checkpoint : header.checkpoint ≡ order.source.checkpoint
 
 -- the plan of a merged image's body ends with its header
-abbrev pub HasHeader : CopyOrder → CopyStage → Type 0
-HasHeader order (copying_stage.Format plan) = Unit {0}
-HasHeader order copying_stage.Pass = Unit {0}
-HasHeader order (copying_stage.PageRead plan) = Unit {0}
-HasHeader order (copying_stage.PageWrite plan) = Unit {0}
-HasHeader order (copying_stage.Close plan header tables) = IsMergedHeader order header
+abbrev pub ClosesWithHeader : CopyOrder → CopyStage → Type 0
+ClosesWithHeader order (copying_stage.Format plan) = Unit {0}
+ClosesWithHeader order copying_stage.Pass = Unit {0}
+ClosesWithHeader order (copying_stage.PageRead plan) = Unit {0}
+ClosesWithHeader order (copying_stage.PageWrite plan) = Unit {0}
+ClosesWithHeader order (copying_stage.Close plan header tables) = IsMergedHeader order header
 
 -- The merged image in the making has a serial that was given out, whose place in the catalog is held, and that no image
 -- of the checkpoint has.
 pub record IsCopyOf (places : Places) (numbers : Numbers) (running : Option Running) (copy : Copying) : Type 0 where
-  pub header : HasHeader copy.order copy.stage
+  pub header : ClosesWithHeader copy.order copy.stage
   pub given : copy.order.serial ≤ numbers.given
   pub held : IsHeld places copy.order.serial
   pub other : MakesOther running copy.order.serial
@@ -258,7 +258,7 @@ IsDoing phases places numbers room running merge (retiring r) = IsClosingAll pha
 
 -- A merge runs while the store is open, in a slot of the store that no checkpoint has. What it asks for is on no slot
 -- that the checkpoint fills, and a sync on none of its slots.
-pub record IsMerging (standing : Standing) (phases : List Phase) (places : Places) (opener : Option Looking)
+pub record MergeRuns (standing : Standing) (phases : List Phase) (places : Places) (opener : Option Looking)
     (numbers : Numbers) (room : ℕ) (running : Option Running)
     (merge : merger.Running) : Type 0 where
   pub stands : standing ≡ Open
@@ -275,7 +275,7 @@ pub record IsMerging (standing : Standing) (phases : List Phase) (places : Place
 -- the parts of a core
 pub record Parts : Type 0 where
   pub base : Base
-  pub journal : Kept
+  pub journal : JournalView
   pub memory : Contents
   pub frozen : Option ℕ
   pub newest : Option ℕ
@@ -299,16 +299,17 @@ pub record IsCore (core : Parts) : Type 0 where
   pub held : core.journal.held ≡ held_for core.frozen core.dumper.running core.opener
   pub outs_are : AreOuts core.standing core.outs core.phases core.dumper.running core.merger core.opener
   pub opening : IfSome core.opener (IsOpening core.standing core.phases)
-  pub numbers_are : AreNumbers core.base core.journal.items core.frozen core.newest core.numbers
-  pub counted : AreCounted core.numbers core.places
+  pub numbers_are : AreSoundNumbers core.base core.journal.items core.frozen core.newest core.numbers
+  pub counted : CheckpointsAreCounted core.numbers core.places
   -- while the store is open a checkpoint is pending only while it runs
   pub rests : core.dumper.running ≡ None → core.standing ≡ Open → core.frozen ≡ None
   pub work : IfSome core.dumper.running
-      (IsAtWork core.base core.journal.items core.frozen core.standing core.phases core.places core.merger core.opener
+      (CheckpointRuns core.base core.journal.items core.frozen core.standing core.phases core.places core.merger
+      core.opener
       core.numbers)
   pub little : IfSome core.dumper.running (HasLittle core.base core.journal.items core.memory)
   pub merging : IfSome core.merger
-      (IsMerging core.standing core.phases core.places core.opener core.numbers core.room core.dumper.running)
+      (MergeRuns core.standing core.phases core.places core.opener core.numbers core.room core.dumper.running)
   pub swept_is : HasSwept core.swept core.frozen core.memory
   pub flags_are : AreFlags core.base core.journal.items core.swept core.grows core.committing
   pub gated : IfSome core.dumper.running (IsGated core.swept)

@@ -3,7 +3,7 @@ use Rattle.std.specs.Prelude.{◌≡◌, ℕ, ◌+◌, ◌==◌, ◌<◌, ◌≤
 use Rattle.std.specs.Prelude.{None, Result, Ok, Err}
 use Rattle.sd_command.specs.declared.refusal.Refusal.{Refusal}
 use Rattle.sd_command.specs.declared.refusal.Refusal.TheVariants.{NumbersUsed, OutOfMemory}
-use Rattle.sd_journal.specs.Kept.{Kept}
+use Rattle.sd_journal.specs.Kept.{JournalView}
 use Rattle.sd_journal.specs.Marked.{Marked, entries_of}
 use Rattle.sd_journal.specs.Trimming.{IsFolded, base_after}
 use Rattle.sd_receipts.specs.declared.folded.Folded.{Folded}
@@ -24,8 +24,8 @@ pub record HandsOutFront (first : ℕ) (front : Marked) (folded : Folded) : Type
   pub entries : folded.entries.items ≡ reverse (entries_of front)
 
 -- the front of the journal is folded into the base, and the rest is kept
-pub record FoldsFront (n : ℕ) (folded : Folded) (old : CoreBase) (before : Kept) (new : CoreBase)
-    (after : Kept) : Type 0 where
+pub record FoldsFront (n : ℕ) (folded : Folded) (old : CoreBase) (before : JournalView) (new : CoreBase)
+    (after : JournalView) : Type 0 where
   pub front : Marked
   pub parts : before.items ≡ after.items ++ front
   pub ended : IsFolded n front

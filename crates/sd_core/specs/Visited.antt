@@ -6,13 +6,14 @@ use Rattle.sd_journal.specs.History.{Base}
 use Rattle.sd_journal.specs.Marked.{Marked, Noted, Told}
 use Rattle.sd_journal.specs.Trimming.{HasVisited, IsFolded}
 use Rattle.sd_pagetable.specs.Contents.{Contents, page_at}
-use Rattle.sd_pagetable.specs.Page.{Page}
+use Rattle.sd_pagetable.specs.Page.{PageState}
 use Rattle.sd_rounds.specs.declared.stage.Stage.{Stage}
 use Rattle.sd_rounds.specs.declared.stage.Stage.TheVariants.{Format, Freeze, Pass, Close}
 
 -- no mapped page is soft-dirty
 abbrev pub IsClean : Contents → Type 0
-IsClean memory = (space number : ℕ) (page : Page) → page_at memory space number ≡ Some page → page.soft_dirty ≡ false
+IsClean memory =
+    (space number : ℕ) (page : PageState) → page_at memory space number ≡ Some page → page.soft_dirty ≡ false
 
 -- the pass of the pending checkpoint's dump is over: it visited each page, and nothing was touched since
 abbrev pub HasSwept : Bool → Option ℕ → Contents → Type 0

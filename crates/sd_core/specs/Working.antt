@@ -59,9 +59,9 @@ LeavesByStep old worker (reply.Refused OutOfMemory) new = new ≡ old
 LeavesByStep old worker (reply.Refused Damaged) new = LeavesUnread old worker new
 LeavesByStep old worker _ new = ⊥
 
-abbrev pub Leaves : CoreView → Worker → Taken → CoreView → Type 0
-Leaves old worker (Step answer) new = LeavesByStep old worker answer new
-Leaves old worker (Call request) new = MovesOn old worker new
+abbrev pub LeavesByWork : CoreView → Worker → Taken → CoreView → Type 0
+LeavesByWork old worker (Step answer) new = LeavesByStep old worker answer new
+LeavesByWork old worker (Call request) new = MovesOn old worker new
 
 -- an open store is down behind a call that failed
 abbrev pub fallen : Standing → Standing

@@ -5,7 +5,6 @@
 mod answering;
 mod base;
 mod beginning;
-mod copies;
 mod dumping;
 mod lanes;
 mod merging;

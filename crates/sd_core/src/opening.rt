@@ -11,7 +11,7 @@ ghost use Rattle.std.specs.Prelude.{slice_get};
 ghost use Rattle.sd_journal.specs.Kept.{entry_count};
 ghost use Rattle.sd_core.specs.Opening.{HoldsForOpening, IsExpected, IsFresh, IsResting, IsTipNumber, LetsGo};
 ghost use Rattle.sd_core.specs.Opening.{OpensAnew, SawDamage, SawStrange, TeachesOpener, WorksOpener};
-ghost use Rattle.sd_core.specs.Refusals.{is_open};
+ghost use Rattle.sd_core.specs.Refusals.{is_store_open};
 ghost use Rattle.sd_core.specs.Working.{opener_left};
 
 use sd_chain::Catalog;
@@ -26,7 +26,7 @@ use std::mem;
 
 /// Whether a store is open.
 pub(crate) fn is_open(standing: Standing) -> bool
-    ensures { result ≡ is_open standing }
+    ensures { result ≡ is_store_open standing }
 {
     matches!(standing, Standing::Open)
 }

@@ -12,10 +12,10 @@ use Rattle.sd_gate.specs.Requests.{Asked}
 use Rattle.sd_journal.specs.History.{Base, History}
 use Rattle.sd_pagetable.specs.Contents.{Contents}
 use Rattle.sd_rounds.specs.Dumper.{IsReserved, Running, writes_of_image}
-use Rattle.sd_rounds.specs.Making.{Making, is_frozen, plan_of, with_plan}
+use Rattle.sd_rounds.specs.Making.{Making, is_frozen_dump, plan_of, with_plan}
 use Rattle.sd_rounds.specs.Writes.{no_writes}
 use Rattle.sd_store_laws.specs.Beliefs.{Belief, Kept, Closing, image_at, image_in}
-use Rattle.sd_store_laws.specs.InUse.{CatalogFollows, HasImage}
+use Rattle.sd_store_laws.specs.InUse.{CatalogFollows, SlotHasImage}
 use Rattle.sd_store_laws.specs.Needs.{IsNeededIn}
 use Rattle.sd_store_laws.specs.Store.{Store}
 use Rattle.sd_crash_safety.specs.InUse.{ArePagesOf, IsFrozenAs, IsInUseOn, IsMakingOn, IsRunningOn, IsSlotFor, NoneAt, body_written, chain_of, ids_of, lanes_of}
@@ -38,20 +38,20 @@ unchanged_at beliefs slot belief at = record { there = at; others = λ k differs
 abbrev pub HasIt : Belief → Image → Type 0
 HasIt belief i = (belief ≡ Kept i) ⊎ (belief ≡ Closing i)
 
-has_it : (beliefs : List Belief) (slot : ℕ) (belief : Belief) (i : Image) → slice_get beliefs slot ≡ Some belief → HasImage beliefs slot i → HasIt belief i
+has_it : (beliefs : List Belief) (slot : ℕ) (belief : Belief) (i : Image) → slice_get beliefs slot ≡ Some belief → SlotHasImage beliefs slot i → HasIt belief i
 has_it beliefs slot belief i at (inl kept) = inl (same_Some belief (Kept i) (sym at ∙ kept))
 has_it beliefs slot belief i at (inr closing) = inr (same_Some belief (Closing i) (sym at ∙ closing))
 
-it_has : (beliefs : List Belief) (slot : ℕ) (belief : Belief) (i : Image) → slice_get beliefs slot ≡ Some belief → HasIt belief i → HasImage beliefs slot i
+it_has : (beliefs : List Belief) (slot : ℕ) (belief : Belief) (i : Image) → slice_get beliefs slot ≡ Some belief → HasIt belief i → SlotHasImage beliefs slot i
 it_has beliefs slot belief i at (inl kept) = inl (at ∙ ap Some kept)
 it_has beliefs slot belief i at (inr closing) = inr (at ∙ ap Some closing)
 
 pub same_images : (beliefs then : List Belief) (slot : ℕ) (old new : Belief) → slice_get beliefs slot ≡ Some old → IsChangedAt beliefs slot new then → ((i : Image) → HasIt old i ↔ HasIt new i)
-    → (k : ℕ) (i : Image) → HasImage beliefs k i ↔ HasImage then k i
+    → (k : ℕ) (i : Image) → SlotHasImage beliefs k i ↔ SlotHasImage then k i
 same_images beliefs then slot old new at changed same k i = elim (cases_eq k slot) [
   | inl its ↦ (
-    λ has. subst (λ s. HasImage then s i) (sym its) (it_has then slot new i changed.there ((same i).0 (has_it beliefs slot old i at (subst (λ s. HasImage beliefs s i) its has)))),
-    λ has. subst (λ s. HasImage beliefs s i) (sym its) (it_has beliefs slot old i at ((same i).1 (has_it then slot new i changed.there (subst (λ s. HasImage then s i) its has)))),
+    λ has. subst (λ s. SlotHasImage then s i) (sym its) (it_has then slot new i changed.there ((same i).0 (has_it beliefs slot old i at (subst (λ s. SlotHasImage beliefs s i) its has)))),
+    λ has. subst (λ s. SlotHasImage beliefs s i) (sym its) (it_has beliefs slot old i at ((same i).1 (has_it then slot new i changed.there (subst (λ s. SlotHasImage then s i) its has)))),
   )
   | inr differs ↦ (
     λ has. subst (λ o. (o ≡ Some (Kept i)) ⊎ (o ≡ Some (Closing i))) (sym (changed.others k differs)) has,
@@ -154,9 +154,9 @@ module _ (follows : CatalogFollows) (base : Base) (history : History) (places : 
   abbrev next : Planned → Making
   next p = record image { stage = with_plan image.stage p }
 
-  frozen_then : (p : Planned) → is_frozen (next p) ≡ true → IsFrozenAs base history running.number memory m.pages (chain_of store running.parent) (next p)
+  frozen_then : (p : Planned) → is_frozen_dump (next p) ≡ true → IsFrozenAs base history running.number memory m.pages (chain_of store running.parent) (next p)
   frozen_then p is =
-      let before : is_frozen image ≡ true = ap (λ past. (kind_number image.order.kind == 2) && past) (sym (past_with image.stage p)) ∙ is in
+      let before : is_frozen_dump image ≡ true = ap (λ past. (kind_number image.order.kind == 2) && past) (sym (past_with image.stage p)) ∙ is in
       let f = m.frozen before in
       record {
         cut = f.cut;

@@ -21,7 +21,7 @@ use Rattle.sd_rounds.specs.declared.stage.Stage.TheVariants.{Format, Freeze, Pas
 use Rattle.sd_rounds.specs.Dumper.{IsReserved, Running, is_last, slot_of, writes_of_image}
 use Rattle.sd_rounds.specs.Files.{IsFiled, IsFiledIn}
 use Rattle.sd_rounds.specs.Made.{MadeLaws}
-use Rattle.sd_rounds.specs.Making.{Asks, Making, is_frozen, is_past_freeze, with_plan}
+use Rattle.sd_rounds.specs.Making.{Asks, Making, is_frozen_dump, is_past_freeze, with_plan}
 use Rattle.sd_rounds.specs.MakingLaws.{image_of}
 use Rattle.sd_store_laws.specs.Beliefs.{Belief, Closed, Kept, Closing, Opening, image_in}
 use Rattle.sd_store_laws.specs.InUse.{CatalogFollows}
@@ -309,7 +309,7 @@ module _ (quiet : QuietSteps) (gates : GateSteps) (made : MadeLaws) (follows : C
               (dump_has made b.store.catalog running.parent frozen.cut m.pages image staged.2 staged.0 staged.1 old.memory staged.3 (ap (λ o. o.parent) s.own) m.files frozen.areas frozen.dumps)));
         }) (subst (λ d. HasStore old.base history old.phases asked bodies b.store d b.beliefs) q.alone b.has)
       where
-        frozen_so : image.order.kind ≡ Dump → is_frozen image ≡ true
+        frozen_so : image.order.kind ≡ Dump → is_frozen_dump image ≡ true
         frozen_so kind = ap (λ k. (kind_number k == 2) && is_past_freeze image.stage) kind ∙ ap is_past_freeze staged.3
 
     sure_then : new.committing ≡ false → pending_dump image.order.kind i ≡ None

@@ -22,7 +22,7 @@ use Rattle.sd_rounds.specs.Making.{plan_of, with_plan}
 use Rattle.sd_rounds.specs.MakingLaws.{Pages, image_of}
 use Rattle.sd_store_laws.specs.Beliefs.{Belief, Closed, Kept, Closing, Opening}
 use Rattle.sd_store_laws.specs.Gates.{IsBelievedAs}
-use Rattle.sd_crash_safety.specs.InUse.{AreLeft, IsClosing, IsFormatted, IsFormatting, IsSlotFor, call_of, calls_left, is_opening_at, pending_dump}
+use Rattle.sd_crash_safety.specs.InUse.{AreLeft, ClosesBody, IsFormatted, IsFormatting, IsSlotFor, call_of, calls_left, is_opening_at, pending_dump}
 use Rattle.sd_crash_safety.proofs.Leads.{is_whole, leads_end, leads_head}
 
 -- the image that a stage writes into its slot
@@ -185,7 +185,7 @@ module _ (order : ImageOrder) (pages : Pages) (phase : Phase) (body : List ℕ) 
 module _ (order : ImageOrder) (pages : Pages) (phase : Phase) (body : List ℕ) (belief : Belief) (dump : Option Image) (plan next : Planned) (request : Asked)
     (gives : Gives plan next request) where
   module _ (header : Header) (tables : List Listed)
-      (c : IsClosing order (image_of header pages tables) plan phase body None belief dump) where
+      (c : ClosesBody order (image_of header pages tables) plan phase body None belief dump) where
     abbrev i : Image
     i = image_of header pages tables
 

@@ -4,7 +4,7 @@ use Rattle.sd_image.specs.Image.{Image}
 use Rattle.sd_image.specs.Shows.{IsNamed}
 use Rattle.sd_image.proofs.Members.{contains_at}
 use Rattle.sd_chain.specs.Catalog.{Places}
-use Rattle.sd_chain.specs.Tells.{Tells}
+use Rattle.sd_chain.specs.Tells.{CatalogLists}
 use Rattle.sd_gate.specs.declared.phase.Phase.{Phase}
 use Rattle.sd_gate.specs.Requests.{Asked}
 use Rattle.sd_merge.specs.declared.retired.Retired.{Retired}
@@ -17,18 +17,18 @@ use Rattle.sd_merge.specs.Merger as merger
 use Rattle.sd_rounds.specs.Dumper.{IsReserved, Running}
 use Rattle.sd_rounds.specs.Pass.{Place}
 use Rattle.sd_store_laws.specs.Beliefs.{Belief, Kept}
-use Rattle.sd_store_laws.specs.InUse.{HasImage, IsCatalogInUse, ToldReachesSo}
+use Rattle.sd_store_laws.specs.InUse.{IsCatalogInUse, SlotHasImage, ToldReachesSo}
 use Rattle.sd_store_laws.specs.Reached.{Reaches, beyond, itself}
 use Rattle.sd_store_laws.specs.Store.{Store}
 use Rattle.sd_crash_safety.specs.CheckpointSteps.{IsUnread, LeavesMerge}
 use Rattle.sd_crash_safety.specs.Merges.{IsAskedIn, IsCopying, IsMergeAt, IsMergeOn, IsOtherImage, IsRepeating, IsRetiringOn, MakesOther}
 
-module _ (places : Places) (store : Store) (beliefs : List Belief) (in_use : IsCatalogInUse places beliefs) (told : Tells places store.catalog) (reaches : ToldReachesSo places)
+module _ (places : Places) (store : Store) (beliefs : List Belief) (in_use : IsCatalogInUse places beliefs) (told : CatalogLists places store.catalog) (reaches : ToldReachesSo places)
     (members : (i : Image) → Contains beliefs (Kept i) → Contains store.catalog i) (phases : List Phase) (asked : List (Option Asked)) (bodies : List (List ℕ)) (last : ℕ) (running : Running) where
   -- what the source reaches stands in none of these slots
   module _ (source : Source) (image : Image) (serial_is : source.serial ≡ image.header.serial) (there : Contains store.catalog image)
       (unread : (k : ℕ) → IsReserved running k → IsUnread places (Some source) k) where
-    pub unreserved : (k : ℕ) (i : Image) → HasImage beliefs k i → Reaches store.catalog i image → IsReserved running k → ⊥
+    pub unreserved : (k : ℕ) (i : Image) → SlotHasImage beliefs k i → Reaches store.catalog i image → IsReserved running k → ⊥
     unreserved k i has way r =
         let o = in_use.opened k i has in
         unread k r i.header.serial o.0 o.1 o.3 ((reaches store.catalog told source.serial i.header.serial).1 (image, i, there, sym serial_is, way, refl))
@@ -185,7 +185,7 @@ module _ (places : Places) (store : Store) (beliefs : List Belief) (in_use : IsC
   -- ---- what the work of a merge calls for
 
   -- what its source's parent names, and what that reaches, is in none of the slots
-  module _ (k : ℕ) (i : Image) (has : HasImage beliefs k i) (r : IsReserved running k) where
+  module _ (k : ℕ) (i : Image) (has : SlotHasImage beliefs k i) (r : IsReserved running k) where
     by_source : (at : ℕ) (origin : Source) → IsRepeating phases store beliefs None at origin → IsUnread places (Some origin) k
         → (number : ℕ) (start : Image) → Contains store.work number → IsNamed store.catalog number start → Reaches store.catalog i start → ⊥
     by_source at origin m unread number start member names way =

@@ -13,8 +13,8 @@ use Rattle.sd_rounds.specs.Dumper.{Running, order_of, slot_of, writes_of_image}
 use Rattle.sd_rounds.specs.Making.{Making, begun_image}
 use Rattle.sd_rounds.specs.MakingLaws.{MakingLaws}
 use Rattle.sd_store_laws.specs.Beliefs.{Belief, image_at, image_in}
-use Rattle.sd_store_laws.specs.InUse.{HasImage, IsCatalogInUse}
-use Rattle.sd_store_laws.specs.Makers.{IsAbove}
+use Rattle.sd_store_laws.specs.InUse.{IsCatalogInUse, SlotHasImage}
+use Rattle.sd_store_laws.specs.Makers.{IsAboveStore}
 use Rattle.sd_store_laws.specs.Store.{Store, jobs}
 use Rattle.sd_crash_safety.specs.Believes.{Believes}
 use Rattle.sd_crash_safety.specs.Calls.{IsFree}
@@ -32,7 +32,7 @@ use Rattle.sd_gate.specs.Inspections.{nothing}
 
 -- ---- numbers
 
-above_more : (store : Store) (n : ℕ) → IsAbove store n → IsAbove store (n + 1)
+above_more : (store : Store) (n : ℕ) → IsAboveStore store n → IsAboveStore store (n + 1)
 above_more store n is = record {
   serials = λ i member. let less = is.serials i member in omega (arith, less);
   stands = λ i member. let less = is.stands i member in omega (arith, less);
@@ -54,7 +54,7 @@ used_more last store beliefs used = record {
 -- ---- a place that is held
 
 pub held_in_use : (old new : Places) (beliefs : List Belief) (serial : ℕ) → Changes old new serial (Some None)
-    → ((slot : ℕ) (i : Image) → HasImage beliefs slot i → i.header.serial ≢ serial) → IsCatalogInUse old beliefs → IsCatalogInUse new beliefs
+    → ((slot : ℕ) (i : Image) → SlotHasImage beliefs slot i → i.header.serial ≢ serial) → IsCatalogInUse old beliefs → IsCatalogInUse new beliefs
 held_in_use old new beliefs serial held others use_old = record {
   image = λ other o at. use_old.image other o (was other o at);
   opened = λ slot i has.
@@ -69,13 +69,13 @@ held_in_use old new beliefs serial held others use_old = record {
         by_test true is = absurd (let no : Some None ≡ Some (Some o) = sym (held other ∙ ap (λ t. if t then Some None else place_of old other) is) ∙ at in cc)
         by_test false is = sym (held other ∙ ap (λ t. if t then Some None else place_of old other) is) ∙ at
 
-pub image_of_has : (beliefs : List Belief) (slot : ℕ) (i : Image) → HasImage beliefs slot i → image_at beliefs slot ≡ Some i
+pub image_of_has : (beliefs : List Belief) (slot : ℕ) (i : Image) → SlotHasImage beliefs slot i → image_at beliefs slot ≡ Some i
 image_of_has beliefs slot i (inl kept) = ap (λ o. option_and_then image_in o) kept
 image_of_has beliefs slot i (inr closing) = ap (λ o. option_and_then image_in o) closing
 
 -- ---- a number above all
 
-pub new_number : (store : Store) (number : ℕ) → IsAbove store number → IsNewNumber store number
+pub new_number : (store : Store) (number : ℕ) → IsAboveStore store number → IsNewNumber store number
 new_number store number above = record {
   serial = λ j member same. (let less = above.serials j member in omega (arith, less, same));
   unused = record {

@@ -7,7 +7,7 @@ use Rattle.sd_image.proofs.Members.{place_in}
 use Rattle.sd_chain.specs.Catalog.{Opened, Places}
 use Rattle.sd_chain.specs.Catalog as catalog
 use Rattle.sd_chain.specs.Reaches.{ReachesSerial}
-use Rattle.sd_chain.specs.Tells.{Agrees, IsToldAs, Tells}
+use Rattle.sd_chain.specs.Tells.{Agrees, CatalogLists, IsToldAs}
 use Rattle.sd_gate.specs.Requests.{Asked}
 use Rattle.sd_journal.specs.History.{History}
 use Rattle.sd_rounds.specs.Dumper.{IsReserved, Running, writes_of_image}
@@ -15,11 +15,11 @@ use Rattle.sd_rounds.specs.Keeps.{Rests}
 use Rattle.sd_rounds.specs.Making.{Making}
 use Rattle.sd_store_laws.specs.Beliefs.{Kept, image_at, image_in}
 use Rattle.sd_store_laws.specs.InUse.{CatalogInUseTells, ToldReachesSo}
-use Rattle.sd_store_laws.specs.Makers.{IsAbove}
+use Rattle.sd_store_laws.specs.Makers.{IsAboveStore}
 use Rattle.sd_store_laws.specs.Needed.{IsNeeded, NeededIsReached}
 use Rattle.sd_store_laws.specs.Reached.{Reaches}
 use Rattle.sd_store_laws.specs.Needs.{IsNeededIn, NeedsNoMore}
-use Rattle.sd_store_laws.specs.Steps.{begun}
+use Rattle.sd_store_laws.specs.Steps.{checkpoint_begun}
 use Rattle.sd_store_laws.specs.Store.{jobs}
 use Rattle.sd_crash_safety.specs.Believes.{Believes, HasStore}
 use Rattle.sd_crash_safety.specs.CheckpointSteps.{BeginningIsBelieved, BeginsCheckpoint}
@@ -32,7 +32,7 @@ use Rattle.sd_crash_safety.proofs.MergeStays.{LeavesMerge, holds_same, merge_the
 use Rattle.sd_crash_safety.proofs.OpenCore.{believes_parts}
 
 module _ (gates : GateSteps) (needs : NeedsNoMore) (reached : NeededIsReached) (places : Places) (tells : CatalogInUseTells places) (reaches : ToldReachesSo places)
-    (agrees : (all : List Image) → Tells places all → Agrees places all) (old new : CoreView) (running : Running)
+    (agrees : (all : List Image) → CatalogLists places all → Agrees places all) (old new : CoreView) (running : Running)
     (asked : List (Option Asked)) (bodies files : List (List ℕ)) (s : BeginsCheckpoint places old running new) (b : Believes old asked bodies files) where
   abbrev history : History
   history = history_of old
@@ -44,7 +44,7 @@ module _ (gates : GateSteps) (needs : NeedsNoMore) (reached : NeededIsReached) (
   rest : IsAtRest old.grows old.memory asked b.store b.dump
   rest = u.job
 
-  told : Tells places b.store.catalog
+  told : CatalogLists places b.store.catalog
   told = tells b.store b.dump b.beliefs b.has.slots u.catalog
 
   so : Agrees places b.store.catalog
@@ -91,8 +91,8 @@ module _ (gates : GateSteps) (needs : NeedsNoMore) (reached : NeededIsReached) (
 
   -- the store then, whose next image names this number
   record Begun (number : ℕ) : Type 0 where
-    pub has : HasStore old.base history old.phases asked bodies (begun b.store number) None b.beliefs
-    pub needs_no_more : (i : Image) → IsNeededIn (begun b.store number) i → IsNeededIn b.store i
+    pub has : HasStore old.base history old.phases asked bodies (checkpoint_begun b.store number) None b.beliefs
+    pub needs_no_more : (i : Image) → IsNeededIn (checkpoint_begun b.store number) i → IsNeededIn b.store i
     pub rests : number ≢ 0 → Rests (chain_of b.store number) old.memory
     pub low : number < old.numbers.serial + 1
 
@@ -137,7 +137,7 @@ module _ (gates : GateSteps) (needs : NeedsNoMore) (reached : NeededIsReached) (
       let o = so.stands j member in
       let less = s.newest j.header.serial o.0 o.1 in let same = ap (λ h. h.checkpoint) o.2.header in omega (arith, less, same)
 
-  above_then : IsAbove (begun b.store running.parent) (old.numbers.serial + 1)
+  above_then : IsAboveStore (checkpoint_begun b.store running.parent) (old.numbers.serial + 1)
   above_then = record {
     serials = u.used.above.serials;
     stands = u.used.above.stands;
@@ -154,11 +154,11 @@ module _ (gates : GateSteps) (needs : NeedsNoMore) (reached : NeededIsReached) (
       alone number (suc k, within, is) = absurd (omega (arith, within))
 
   image_then : (image : Option Making) → image ≡ None
-      → IsImageOn old.base history old.memory old.phases asked bodies old.numbers.serial (begun b.store running.parent) None b.beliefs running.parent running.number image
+      → IsImageOn old.base history old.memory old.phases asked bodies old.numbers.serial (checkpoint_begun b.store running.parent) None b.beliefs running.parent running.number image
   image_then None is = record { rests = then.rests; none = rest.none; alone = refl }
   image_then (Some image) is = absurd (let no : Some image ≡ None = is in cc)
 
-  beside : LeavesMerge old.numbers.serial b.store (Some running) (slots_at old.phases bodies b.beliefs) old.numbers.serial (begun b.store running.parent) (Some running) (slots_at old.phases bodies b.beliefs)
+  beside : LeavesMerge old.numbers.serial b.store (Some running) (slots_at old.phases bodies b.beliefs) old.numbers.serial (checkpoint_begun b.store running.parent) (Some running) (slots_at old.phases bodies b.beliefs)
   beside = record {
     count = refl;
     same = λ slot spared. record { phase = refl; body = refl; belief = refl };
@@ -187,7 +187,7 @@ module _ (gates : GateSteps) (needs : NeedsNoMore) (reached : NeededIsReached) (
         merger_is = s.rest.merger;
         closed = s.rest.closed;
       })
-      asked bodies files (begun b.store running.parent) None b.beliefs (λ is. refl) b.knows.count (b.knows.out ∙ sym s.outs) then.has
+      asked bodies files (checkpoint_begun b.store running.parent) None b.beliefs (λ is. refl) b.knows.count (b.knows.out ∙ sym s.outs) then.has
       (record {
         catalog = u.catalog;
         grows_is = u.grows_is;
@@ -204,13 +204,13 @@ module _ (gates : GateSteps) (needs : NeedsNoMore) (reached : NeededIsReached) (
           image = image_then running.image s.fresh.0;
         };
       })
-      (merge_then old.numbers.serial b.store (Some running) (slots_at old.phases bodies b.beliefs) old.numbers.serial (begun b.store running.parent) (Some running) (slots_at old.phases bodies b.beliefs)
+      (merge_then old.numbers.serial b.store (Some running) (slots_at old.phases bodies b.beliefs) old.numbers.serial (checkpoint_begun b.store running.parent) (Some running) (slots_at old.phases bodies b.beliefs)
       beside asked asked refl old.merger (b.knows.merging s.rest.stands).spelled (record {
         spelled = (b.knows.merging s.rest.stands).spelled;
         is = merge_on_beside places b.store b.beliefs u.catalog told reaches members old.phases asked bodies old.numbers.serial running s.fresh.0 old.merger (s.merge (so.fall.1 b.has.sound.fall)) merge;
       }))
 
 pub beginning_lem : GateSteps → NeedsNoMore → NeededIsReached → (places : Places) → CatalogInUseTells places → ToldReachesSo places
-    → ((all : List Image) → Tells places all → Agrees places all) → BeginningIsBelieved places
+    → ((all : List Image) → CatalogLists places all → Agrees places all) → BeginningIsBelieved places
 beginning_lem gates needs reached places tells reaches agrees old new running asked bodies files s b =
     begins_lem gates needs reached places tells reaches agrees old new running asked bodies files s b

@@ -8,7 +8,7 @@ use Rattle.sd_image.specs.Table.{Listed}
 use Rattle.sd_image.proofs.Members.{contains_at, place_in}
 use Rattle.sd_chain.specs.Catalog.{Opened, Places, place_of}
 use Rattle.sd_chain.specs.Reaches.{ReachesSerial}
-use Rattle.sd_chain.specs.Tells.{Agrees, IsToldAs, Tells}
+use Rattle.sd_chain.specs.Tells.{Agrees, CatalogLists, IsToldAs}
 use Rattle.sd_gate.specs.declared.phase.Phase.{Phase}
 use Rattle.sd_gate.specs.Laws.{PlansLead}
 use Rattle.sd_gate.specs.Phases.{state_of}
@@ -25,7 +25,7 @@ use Rattle.sd_rounds.specs.Making.{Making}
 use Rattle.sd_rounds.specs.MakingLaws.{MakingLaws}
 use Rattle.sd_store_laws.specs.Beliefs.{Kept, Opening, IsAdded, image_at, image_in}
 use Rattle.sd_store_laws.specs.InUse.{CatalogInUseTells, ToldReachesSo}
-use Rattle.sd_store_laws.specs.Makers.{IsAbove}
+use Rattle.sd_store_laws.specs.Makers.{IsAboveStore}
 use Rattle.sd_store_laws.specs.Needed.{NeededIsReached}
 use Rattle.sd_store_laws.specs.Needs.{IsNeededIn, NeedsNoMore}
 use Rattle.sd_store_laws.specs.Reached.{Reaches}
@@ -141,7 +141,7 @@ begins_merged_lem merge_laws making plans old new merge phase asked bodies files
 -- ---- a merge begins
 
 module _ (gates : GateSteps) (needs : NeedsNoMore) (making : MakingLaws) (reached : NeededIsReached) (places : Places) (tells : CatalogInUseTells places) (reaches : ToldReachesSo places)
-    (agrees : (all : List Image) → Tells places all → Agrees places all)
+    (agrees : (all : List Image) → CatalogLists places all → Agrees places all)
     (old new : CoreView) (t : Opened) (slot : ℕ) (before : List ℕ)
     (asked : List (Option Asked)) (bodies files : List (List ℕ)) (s : BeginsMerge places old t slot before new) (b : Believes old asked bodies files) where
   abbrev history : History
@@ -159,7 +159,7 @@ module _ (gates : GateSteps) (needs : NeedsNoMore) (making : MakingLaws) (reache
   m : IsUnmerged b.store × IsSilent asked
   m = subst (λ x. IsMergeOn old.phases asked bodies last b.store b.beliefs running x) s.was (b.knows.merging s.rest.stands).is
 
-  told : Tells places b.store.catalog
+  told : CatalogLists places b.store.catalog
   told = tells b.store b.dump b.beliefs b.has.slots u.catalog
 
   so : Agrees places b.store.catalog
@@ -296,7 +296,7 @@ module _ (gates : GateSteps) (needs : NeedsNoMore) (making : MakingLaws) (reache
       only n (zero, within, same) = sym same
       only n (suc j, within, same) = absurd (omega (arith, within))
 
-  above_then : IsAbove store_now (last + 1)
+  above_then : IsAboveStore store_now (last + 1)
   above_then = record {
     serials = u.used.above.serials;
     stands = u.used.above.stands;
@@ -340,6 +340,6 @@ module _ (gates : GateSteps) (needs : NeedsNoMore) (making : MakingLaws) (reache
       (record { spelled = (b.knows.merging s.rest.stands).spelled; is = (repeats, m.1) })
 
 pub begins_merge_lem : GateSteps → NeedsNoMore → MakingLaws → NeededIsReached → (places : Places) → CatalogInUseTells places → ToldReachesSo places
-    → ((all : List Image) → Tells places all → Agrees places all) → MergeBeginningIsBelieved places
+    → ((all : List Image) → CatalogLists places all → Agrees places all) → MergeBeginningIsBelieved places
 begins_merge_lem gates needs making reached places tells reaches agrees old new t slot before asked bodies files s b =
     begins_merge_at gates needs making reached places tells reaches agrees old new t slot before asked bodies files s b

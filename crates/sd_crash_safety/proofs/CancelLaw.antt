@@ -7,7 +7,7 @@ use Rattle.sd_journal.specs.declared.entry.Entry.TheVariants.{Cancelled}
 use Rattle.sd_journal.specs.Marked.{entries_of}
 use Rattle.sd_store_laws.specs.Beliefs.{Belief}
 use Rattle.sd_store_laws.specs.InUse.{IsCatalogInUse}
-use Rattle.sd_store_laws.specs.Makers.{IsAbove}
+use Rattle.sd_store_laws.specs.Makers.{IsAboveStore}
 use Rattle.sd_store_laws.specs.Needs.{NeedsNoMore}
 use Rattle.sd_store_laws.specs.Steps.{cancelled}
 use Rattle.sd_store_laws.specs.Store.{Store}
@@ -28,7 +28,7 @@ same_images old new beliefs same u = record {
   opened = λ slot i has. (let o = u.opened slot i has in (o.0, (same i.header.serial o.0).1 o.1, o.2, o.3));
 }
 
-above_idle : (store : Store) (number : ℕ) → IsAbove store number → IsAbove (cancelled store) number
+above_idle : (store : Store) (number : ℕ) → IsAboveStore store number → IsAboveStore (cancelled store) number
 above_idle store number is = record {
   serials = is.serials;
   stands = is.stands;

@@ -12,14 +12,14 @@ use Rattle.sd_journal.specs.Marked.{entries_of}
 use Rattle.sd_pagetable.specs.Contents.{Contents, IsSound}
 use Rattle.sd_pagetable.specs.Tracking.{Step}
 use Rattle.sd_rounds.specs.Dumper.{Running}
-use Rattle.sd_rounds.specs.Keeps.{Chain, KeepsLaws, Within}
+use Rattle.sd_rounds.specs.Keeps.{Chain, ChainWithin, KeepsLaws}
 use Rattle.sd_rounds.specs.Making.{Making}
 use Rattle.sd_rounds.specs.MakingLaws.{MakingLaws}
 use Rattle.sd_store_laws.specs.Beliefs.{Belief}
 use Rattle.sd_store_laws.specs.Store.{Store}
 use Rattle.sd_crash_safety.specs.declared.standing.Standing.TheVariants.{Open}
 use Rattle.sd_crash_safety.specs.Believes.{Believes, HasStore}
-use Rattle.sd_crash_safety.specs.CoreSteps.{CoreSteps, IsApplied, IsCommanded, SameCore, SameStore}
+use Rattle.sd_crash_safety.specs.CoreSteps.{CoreSteps, IsCommanded, JournalsCommand, SameCore, SameStore}
 use Rattle.sd_crash_safety.specs.InUse.{IsAtWork, IsImageOn, IsInUseOn, chain_of}
 use Rattle.sd_crash_safety.specs.Knows.{Knows, SeesStore}
 use Rattle.sd_crash_safety.specs.Merges.{IsMergeInUse}
@@ -88,7 +88,7 @@ same_lem old new asked bodies files s b = record {
 
 -- ---- a command
 
-within_itself : (chain : Chain) → Within chain chain
+within_itself : (chain : Chain) → ChainWithin chain chain
 within_itself chain at bytes below = below
 
 module _ (keeps : KeepsLaws) (making : MakingLaws) (base : Base) (history : History) (seat : ℕ) (command : Command) (told : Reply) (before after : Contents)
@@ -193,7 +193,7 @@ module _ (keeps : KeepsLaws) (making : MakingLaws) (base : Base) (history : Hist
       subst (λ m. IsAtWork base then grows m phases asked bodies last store dump beliefs running) (sym done) (work_waits grows running w)
 
 applied_lem : QuietSteps → KeepsLaws → MakingLaws → (old new : CoreView) (seat : ℕ) (command : Command) (told : Reply) (asked : List (Option Asked)) (bodies files : List (List ℕ))
-    → IsApplied old seat command told new → Believes old asked bodies files → Believes new asked bodies files
+    → JournalsCommand old seat command told new → Believes old asked bodies files → Believes new asked bodies files
 applied_lem quiet keeps making old new seat command told asked bodies files a b =
     let history : history_of new ≡ Applied seat command told ∷ history_of old = ap entries_of a.items in
     record {

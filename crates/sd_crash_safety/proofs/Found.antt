@@ -7,7 +7,7 @@ use Rattle.sd_crash_safety.proofs.FoundInUse.{found_in_use, found_merging}
 use Rattle.sd_store_laws.specs.Gates.{AreBelieved}
 use Rattle.sd_store_laws.specs.Opens.{OpenedIsSound}
 use Rattle.sd_store_laws.specs.SlotSteps.{SlotsAreFound}
-use Rattle.sd_store_laws.specs.Steps.{opened}
+use Rattle.sd_store_laws.specs.Steps.{found_store}
 use Rattle.sd_crash_safety.specs.Knows.{SeesStore}
 use Rattle.sd_crash_safety.specs.Laws.{FoundIsBelieved}
 
@@ -23,7 +23,7 @@ pub found_lem : FilesAreBelieved → FoundIsExact → CatalogIsFound → OpenedI
 found_lem files_are exact catalog_is is_sound slots_are core asked files shown phases closed none out open_as shows last =
     let slots = slots_are files shows.images shows.store in
     record {
-      store = opened shows.images;
+      store = found_store shows.images;
       dump = None;
       beliefs = slots.0;
       has = record {

@@ -13,7 +13,7 @@ use Rattle.sd_store_laws.specs.Beliefs.{AreSlotsOf, Belief, Closed, Kept, Closin
 use Rattle.sd_store_laws.specs.GateSteps.{FoundIsExact}
 use Rattle.sd_store_laws.specs.InUse.{CatalogIsFound, IsCatalogInUse}
 use Rattle.sd_store_laws.specs.SlotSteps.{IsFoundAs}
-use Rattle.sd_store_laws.specs.Steps.{opened}
+use Rattle.sd_store_laws.specs.Steps.{found_store}
 use Rattle.sd_crash_safety.specs.Calls.{NoneOut}
 use Rattle.sd_crash_safety.specs.InUse.{IsInUseOn, ids_of}
 use Rattle.sd_crash_safety.specs.Laws.{IsOpenAs}
@@ -65,7 +65,7 @@ module _ (core : CoreView) (files : List (List ℕ)) (is : IsOpenAs core files) 
   slot_serial slot i (Some (Opening j)) at has = absurd (file_of beliefs files found slot (Opening j) at).1
 
   -- an image of the store
-  kept_in : (store_images : List Image) → AreSlotsOf (opened store_images) None beliefs → (i : Image) → Contains store_images i
+  kept_in : (store_images : List Image) → AreSlotsOf (found_store store_images) None beliefs → (i : Image) → Contains store_images i
       → (slot : ℕ) × (slice_get beliefs slot ≡ Some (Kept i))
   kept_in store_images slots i member = elim ((slots.catalog i).0 member) [
     | inl kept ↦ place_in beliefs (Kept i) kept
@@ -74,12 +74,12 @@ module _ (core : CoreView) (files : List (List ℕ)) (is : IsOpenAs core files) 
 
 pub found_in_use : FoundIsExact → CatalogIsFound → (core : CoreView) (asked : List (Option Asked)) (files : List (List ℕ)) (images : List Image) (beliefs : List Belief)
     → core.phases ≡ map found_phase files → NoneOut asked → ids_of asked ≡ core.outs → IsOpenAs core files → AllZip IsFoundAs beliefs files
-    → AreSlotsOf (opened images) None beliefs
-    → IsInUseOn core.base (history_of core) core.catalog core.grows core.memory core.phases asked (map (drop 1) files) core.numbers.serial (opened images) None beliefs core.dumper.running
+    → AreSlotsOf (found_store images) None beliefs
+    → IsInUseOn core.base (history_of core) core.catalog core.grows core.memory core.phases asked (map (drop 1) files) core.numbers.serial (found_store images) None beliefs core.dumper.running
 found_in_use exact catalog_is core asked files images beliefs phases none out is found slots =
     let in_use = catalog_is core.catalog files beliefs is.order is.catalog found in
     let free : slice_get asked 0 ≡ Some None = free_there asked 0 (ap (λ ids. slice_get ids 0) (out ∙ is.outs)) in
-    subst (λ running. IsInUseOn core.base (history_of core) core.catalog core.grows core.memory core.phases asked (map (drop 1) files) core.numbers.serial (opened images) None beliefs running)
+    subst (λ running. IsInUseOn core.base (history_of core) core.catalog core.grows core.memory core.phases asked (map (drop 1) files) core.numbers.serial (found_store images) None beliefs running)
     (sym is.idle) (record {
       catalog = in_use;
       grows_is = sym is.grows;
@@ -108,13 +108,13 @@ found_in_use exact catalog_is core asked files images beliefs phases none out is
 
 -- no merge runs, and each image stands in a file
 pub found_merging : (core : CoreView) (asked : List (Option Asked)) (files : List (List ℕ)) (images : List Image) (beliefs : List Belief)
-    → ids_of asked ≡ core.outs → IsOpenAs core files → AllZip IsFoundAs beliefs files → AreSlotsOf (opened images) None beliefs
-    → IsMergeInUse core.phases asked (map (drop 1) files) core.numbers.serial (opened images) beliefs core.dumper.running core.merger
+    → ids_of asked ≡ core.outs → IsOpenAs core files → AllZip IsFoundAs beliefs files → AreSlotsOf (found_store images) None beliefs
+    → IsMergeInUse core.phases asked (map (drop 1) files) core.numbers.serial (found_store images) beliefs core.dumper.running core.merger
 found_merging core asked files images beliefs out is found slots = record {
   spelled = λ i member. elim ((slots.catalog i).0 member) [
     | inl kept ↦ (let at = place_in beliefs (Kept i) kept in file_of beliefs files found at.0 (Kept i) at.1)
     | inr closing ↦ (let at = place_in beliefs (Closing i) closing in absurd (file_of beliefs files found at.0 (Closing i) at.1).1)
   ];
-  is = subst (λ merge. IsMergeOn core.phases asked (map (drop 1) files) core.numbers.serial (opened images) beliefs core.dumper.running merge) (sym is.unmerged)
+  is = subst (λ merge. IsMergeOn core.phases asked (map (drop 1) files) core.numbers.serial (found_store images) beliefs core.dumper.running merge) (sym is.unmerged)
       (record { source = refl; work = refl }, free_there asked 1 (ap (λ ids. slice_get ids 1) (out ∙ is.outs)));
 }

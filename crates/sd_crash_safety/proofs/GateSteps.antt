@@ -20,12 +20,12 @@ use Rattle.sd_store_laws.specs.GateSteps.{BeliefsFollowCalls, OneBeliefChanges}
 use Rattle.sd_store_laws.specs.Opens.{StepsShow}
 use Rattle.sd_store_laws.specs.Pending.{PendingShows}
 use Rattle.sd_store_laws.specs.SlotSteps.{ClosingRetires, Lacks, SlotsDrop, SlotsFollowCalls, SlotsFollowImages, SlotsFollowJobs, with_belief}
-use Rattle.sd_store_laws.specs.Steps.{StepsKeep, added, begun, cancelled, committed, merging, replaced, retired}
-use Rattle.sd_store_laws.specs.Store.{IsNextDump, IsNextPreDump, IsSound, Store}
+use Rattle.sd_store_laws.specs.Steps.{StepsKeep, added, cancelled, checkpoint_begun, committed, merging, replaced, retired}
+use Rattle.sd_store_laws.specs.Store.{IsNextDump, IsNextPreDump, IsSoundStore, Store}
 use Rattle.sd_crash_safety.specs.Believes.{HasStore, IsCovered, ShowsLast, ShowsPending}
 use Rattle.sd_crash_safety.specs.GateSteps.{GateSteps, GateStepsAt, IsOnlyTwin, MayClose}
 use Rattle.sd_crash_safety.specs.InUse.{NoneAt}
-use Rattle.sd_crash_safety.specs.StoreSteps.{IsOpened, IsShut, MayOpen}
+use Rattle.sd_crash_safety.specs.StoreSteps.{IsShut, MayOpen, SlotIsOpened}
 use Rattle.sd_crash_safety.proofs.Places.{body_again, in_front, set_again, set_other, set_same}
 use Rattle.sd_crash_safety.proofs.QuietSteps.{asked_cases}
 
@@ -207,7 +207,7 @@ module _ (laws : StoreLaws) (base : Base) (history : History) (phases : List Pha
 
   -- ---- an image is open for sure
 
-  module _ (beliefs : List Belief) (slot : ℕ) (i : Image) (opened : IsOpened phases asked beliefs slot i) where
+  module _ (beliefs : List Belief) (slot : ℕ) (i : Image) (opened : SlotIsOpened phases asked beliefs slot i) where
     opened_whole : (store : Store) (dump : Option Image) → Has asked store dump beliefs → AreBelieved phases bodies (with_belief beliefs slot (Kept i))
     opened_whole store dump has =
         rebelieved phases bodies beliefs slot (Kept i) (Opening i) opened.belief laws.changes has.stored Whole opened.phase has.believed
@@ -307,7 +307,7 @@ module _ (laws : StoreLaws) (base : Base) (history : History) (phases : List Pha
 
   -- ---- jobs
 
-  jobs_change : (store new : Store) (dump : Option Image) (beliefs : List Belief) → new.catalog ≡ store.catalog → IsSound new → AreSlotsOf new dump beliefs
+  jobs_change : (store new : Store) (dump : Option Image) (beliefs : List Belief) → new.catalog ≡ store.catalog → IsSoundStore new → AreSlotsOf new dump beliefs
       → Has asked store dump beliefs → Has asked new dump beliefs
   jobs_change store new dump beliefs same sound slots has = record {
     sound = sound;
@@ -329,9 +329,9 @@ module _ (laws : StoreLaws) (base : Base) (history : History) (phases : List Pha
     replaces = λ store dump beliefs slot i opened only has. replaces beliefs slot i opened store dump only has;
     retires = λ store dump beliefs slot i shut there has. retires beliefs slot shut store dump i there has;
     drops = λ store dump beliefs slot i shut there has. drops beliefs slot shut store dump i there has;
-    begins = λ store beliefs tip grows is has. jobs_change store (begun store tip.header.stands_for) None beliefs refl
+    begins = λ store beliefs tip grows is has. jobs_change store (checkpoint_begun store tip.header.stands_for) None beliefs refl
         (laws.keep.begins store tip has.sound grows is) (laws.jobs.begins store tip beliefs has.sound grows is has.slots) has;
-    begins_whole = λ store beliefs has. jobs_change store (begun store 0) None beliefs refl
+    begins_whole = λ store beliefs has. jobs_change store (checkpoint_begun store 0) None beliefs refl
         (laws.keep.begins_whole store has.sound) (laws.jobs.begins_whole store beliefs has.sound has.slots) has;
     cancels = λ store beliefs has. jobs_change store (cancelled store) None beliefs refl
         (laws.keep.cancels store has.sound) (laws.jobs.cancels store beliefs has.sound has.slots) has;

@@ -23,24 +23,24 @@ use Rattle.sd_rounds.specs.declared.stage.Stage.{Stage}
 use Rattle.sd_rounds.specs.declared.stage.Stage.TheVariants.{Format, Freeze, Pass as PassStage, Close}
 use Rattle.sd_rounds.specs.Dumper.{Running, writes_of_image}
 use Rattle.sd_rounds.specs.Files.{IsFiledIn}
-use Rattle.sd_rounds.specs.Keeps.{Within}
-use Rattle.sd_rounds.specs.Making.{GoesOn, IsReadyFor, Making, closing, is_frozen, is_past_freeze, plan_of, stage_after}
+use Rattle.sd_rounds.specs.Keeps.{ChainWithin}
+use Rattle.sd_rounds.specs.Making.{IsReadyFor, Making, PlanGoesOn, closing_outcomes, is_frozen_dump, is_past_freeze, plan_of, stage_after}
 use Rattle.sd_rounds.specs.MakingLaws.{DumpsImage, KeepsImage, MakingLaws, Pages, image_of}
 use Rattle.sd_rounds.specs.Pass.{Pass, data_pages}
 use Rattle.sd_rounds.specs.Writes.{no_writes}
 use Rattle.sd_store_laws.specs.Beliefs.{Belief, Closed, Kept, Closing, Opening, image_at, image_in}
 use Rattle.sd_store_laws.specs.Below.{StepsGive}
 use Rattle.sd_store_laws.specs.Cut.{CutHoldsTheSame}
-use Rattle.sd_store_laws.specs.InUse.{CatalogFollows, HasImage, IsCatalogInUse}
+use Rattle.sd_store_laws.specs.InUse.{CatalogFollows, IsCatalogInUse, SlotHasImage}
 use Rattle.sd_store_laws.specs.Gates.{IsBelievedAs, IsInDoubt, MayBelieve}
-use Rattle.sd_store_laws.specs.Makers.{IsAbove}
+use Rattle.sd_store_laws.specs.Makers.{IsAboveStore}
 use Rattle.sd_store_laws.specs.Needs.{IsNeededIn, NeedsNoMore}
 use Rattle.sd_store_laws.specs.Needed.{IsCalled, by_job}
 use Rattle.sd_store_laws.specs.SlotSteps.{ClosingRetires, with_belief}
 use Rattle.sd_store_laws.specs.Steps.{retired}
 use Rattle.sd_store_laws.specs.Store.{Store, jobs}
 use Rattle.sd_crash_safety.specs.Believes.{Believes, HasStore}
-use Rattle.sd_crash_safety.specs.Calls.{IsApart, WritesPage}
+use Rattle.sd_crash_safety.specs.Calls.{IsApart, WritesDataPage}
 use Rattle.sd_crash_safety.specs.DumperOutcomes.{GoesDown, ImageGoesOn, IsDumpersOutcome, LeavesCatalog, closes_for_sure}
 use Rattle.sd_crash_safety.specs.GateSteps.{GateSteps}
 use Rattle.sd_crash_safety.specs.InUse.{IsFrozenAs, IsImageOn, IsInUseOn, IsMakingOn, IsNewNumber, IsRunningOn, IsSlotFor, NoneAt, ArePagesOf, body_written, chain_of, ids_of, lanes_of}
@@ -59,7 +59,7 @@ use Rattle.sd_crash_safety.proofs.Places.{body_other, id_there, ids_set, set_cou
 
 -- what else is out on its slot writes data pages, as it does
 others_of : (asked : List (Option Asked)) (outs : List (Option RequestId)) (lane : ℕ) (made : Made) → ids_of asked ≡ outs → IsApart (slice_set outs lane None) made.request.id
-    → (other : ℕ) (request : Asked) → other ≢ lane → slice_get asked other ≡ Some (Some request) → request.id.slot ≡ made.request.id.slot → WritesPage made.request.id × WritesPage request.id
+    → (other : ℕ) (request : Asked) → other ≢ lane → slice_get asked other ≡ Some (Some request) → request.id.slot ≡ made.request.id.slot → WritesDataPage made.request.id × WritesDataPage request.id
 others_of asked outs lane made out apart other request differs is same =
     let pages = apart other request.id (set_other outs lane other None differs ∙ ap (λ ids. slice_get ids other) (sym out) ∙ id_there asked other request is) same in
     (pages.one, pages.another)
@@ -118,7 +118,7 @@ pub record StoreFollows (old : Store) (beliefs : List Belief) (slot : ℕ) (beli
   pub source : new.source ≡ old.source
   pub grows : new.grows ≡ old.grows
   pub needs : (i : Image) → IsNeededIn new i → IsNeededIn old i
-  pub gives : Within (chain_of old parent) (chain_of new parent)
+  pub gives : ChainWithin (chain_of old parent) (chain_of new parent)
   pub still : (source : Image) → old.source ≡ Some source → HoldsStill old.catalog new.catalog source
 
 pub known_plan : (order : ImageOrder) (pass : Pass) (stage : Stage) (plan : Planned) → plan_of stage ≡ Some plan → IsReadyFor order pass stage → plan.awaits ≡ nothing
@@ -150,7 +150,7 @@ removed_none old new beliefs slot i at removes in_use = record {
       let it = in_use.image serial o before.0 in
       (it.0, it.1, still it.0 o.slot before.1 it.2);
   opened = λ k j has.
-      let other : k ≢ slot = (λ same. not_here j (subst (λ x. HasImage (slice_set beliefs slot Closed) x j) same has)) in
+      let other : k ≢ slot = (λ same. not_here j (subst (λ x. SlotHasImage (slice_set beliefs slot Closed) x j) same has)) in
       let o = in_use.opened k j (before_has j k other has) in
       (o.0, removes j.header.serial ∙ ap (without_slot slot) o.1 ∙ left o.0 (λ same. other (sym o.3 ∙ same)), o.2, o.3);
 }
@@ -172,13 +172,13 @@ removed_none old new beliefs slot i at removes in_use = record {
             inner : Some (Some x) ≡ Some (Some o) → x ≡ o
             inner e = cc
 
-    still : (j : Image) (k : ℕ) → k ≢ slot → HasImage beliefs k j → HasImage (slice_set beliefs slot Closed) k j
+    still : (j : Image) (k : ℕ) → k ≢ slot → SlotHasImage beliefs k j → SlotHasImage (slice_set beliefs slot Closed) k j
     still j k differs has = subst (λ o. (o ≡ Some (Kept j)) ⊎ (o ≡ Some (Closing j))) (sym (set_other beliefs slot k Closed differs)) has
 
-    before_has : (j : Image) (k : ℕ) → k ≢ slot → HasImage (slice_set beliefs slot Closed) k j → HasImage beliefs k j
+    before_has : (j : Image) (k : ℕ) → k ≢ slot → SlotHasImage (slice_set beliefs slot Closed) k j → SlotHasImage beliefs k j
     before_has j k differs has = subst (λ o. (o ≡ Some (Kept j)) ⊎ (o ≡ Some (Closing j))) (set_other beliefs slot k Closed differs) has
 
-    not_here : (j : Image) → HasImage (slice_set beliefs slot Closed) slot j → ⊥
+    not_here : (j : Image) → SlotHasImage (slice_set beliefs slot Closed) slot j → ⊥
     not_here j (inl kept) = let no : Some Closed ≡ Some (Kept j) = sym (set_same beliefs slot (Opening i) Closed at) ∙ kept in cc
     not_here j (inr closing_it) = let no : Some Closed ≡ Some (Closing j) = sym (set_same beliefs slot (Opening i) Closed at) ∙ closing_it in cc
 
@@ -217,7 +217,7 @@ module _ (making : MakingLaws) (old new : CoreView) (running : Running) (image n
   pub on : call_slot ≡ slot
   on = subst (λ r. IfSome r (λ x. x.id.slot ≡ slot)) out_is m.asked_at
 
-  pub go : GoesOn image made next
+  pub go : PlanGoesOn image made next
   go = s.hands
 
   pub phase_same : m.phase ≡ phase
@@ -252,7 +252,7 @@ module _ (making : MakingLaws) (old new : CoreView) (running : Running) (image n
   closes : (own : Planned) (header : Header) (tables : List Listed) → image.stage ≡ Close own header tables
       → (go.plan.calls ≢ []) × IsImage (gate ∷ image_text (image_of header m.pages tables)) (image_of header m.pages tables)
   closes own header tables is = (
-    λ none. go.closes (λ zero_is. (let five : 5 ≡ 0 = sym (ap closing is) ∙ zero_is in omega (arith, five))) (calls_same ∙ none),
+    λ none. go.closes (λ zero_is. (let five : 5 ≡ 0 = sym (ap closing_outcomes is) ∙ zero_is in omega (arith, five))) (calls_same ∙ none),
     (subst (λ st. IsFiledIn st image.order image.pass m.pages) is m.files).spelled,
   )
 
@@ -314,7 +314,7 @@ module _ (making : MakingLaws) (old new : CoreView) (running : Running) (image n
           (none_before k differs none))
     ]
 
-    above_then : (n : ℕ) → IsAbove b.store n → IsAbove store n
+    above_then : (n : ℕ) → IsAboveStore b.store n → IsAboveStore store n
     above_then n is = record {
       serials = λ i member. is.serials i (f.within i member);
       stands = λ i member. is.stands i (f.within i member);
@@ -339,7 +339,7 @@ module _ (making : MakingLaws) (old new : CoreView) (running : Running) (image n
         (making.agrees m.pages (chain_of b.store running.parent) (chain_of store running.parent) next old.memory f.gives
         (making.hands m.pages (chain_of b.store running.parent) image next old.memory made (inl s.hands) m.keeps))
 
-    frozen_then : is_frozen later_image ≡ true → IsFrozenAs old.base history running.number old.memory m.pages (chain_of store running.parent) later_image
+    frozen_then : is_frozen_dump later_image ≡ true → IsFrozenAs old.base history running.number old.memory m.pages (chain_of store running.parent) later_image
     frozen_then is =
         let past = was_frozen image.order.kind image.stage nplan go.plan nplan.calls go.awaited.was is in
         let before = m.frozen (frozen_before past is) in
@@ -354,7 +354,7 @@ module _ (making : MakingLaws) (old new : CoreView) (running : Running) (image n
           areas = areas_after image.order.kind image.stage nplan nplan.calls before.cut before.areas;
         }
       where
-        frozen_before : is_past_freeze image.stage ≡ true → is_frozen later_image ≡ true → is_frozen image ≡ true
+        frozen_before : is_past_freeze image.stage ≡ true → is_frozen_dump later_image ≡ true → is_frozen_dump image ≡ true
         frozen_before past now = and_true (kind_number image.order.kind == 2) (is_past_freeze later_image.stage) (is_past_freeze image.stage) now past
           where
             and_true : (k x y : Bool) → (k && x) ≡ true → y ≡ true → (k && y) ≡ true
@@ -482,7 +482,7 @@ module _ (making : MakingLaws) (old new : CoreView) (running : Running) (image n
     -- the beliefs then: the slot is closed
     closed_follows : (old_belief : Belief) → slice_get b.beliefs slot ≡ Some old_belief → (store : Store) → ((i : Image) → Contains store.catalog i → Contains b.store.catalog i)
         → store.chain ≡ b.store.chain → store.work ≡ b.store.work → store.source ≡ b.store.source → store.grows ≡ b.store.grows
-        → ((i : Image) → IsNeededIn store i → IsNeededIn b.store i) → Within (chain_of b.store running.parent) (chain_of store running.parent)
+        → ((i : Image) → IsNeededIn store i → IsNeededIn b.store i) → ChainWithin (chain_of b.store running.parent) (chain_of store running.parent)
         → ((source : Image) → b.store.source ≡ Some source → HoldsStill b.store.catalog store.catalog source)
         → StoreFollows b.store b.beliefs slot (belief_after (closes_for_sure phase made.request.id.call) m.belief) running.parent store (with_belief b.beliefs slot Closed)
     closed_follows old_belief was store within chain work source grows needed below still = record {

@@ -22,8 +22,8 @@ use Rattle.sd_rounds.specs.Making.{plan_of}
 use Rattle.sd_rounds.specs.MakingLaws.{Pages, image_of}
 use Rattle.sd_store_laws.specs.Beliefs.{Belief, Closed, Opening, FitsBelief}
 use Rattle.sd_store_laws.specs.Gates.{IsBelievedAs, IsInDoubt, MayBelieve}
-use Rattle.sd_crash_safety.specs.DumperOutcomes.{closes_for_sure, is_closing, is_sync}
-use Rattle.sd_crash_safety.specs.InUse.{IsClosing, IsFilled, IsFormatting, IsSlotFor, call_of, is_opening_at, pending_dump}
+use Rattle.sd_crash_safety.specs.DumperOutcomes.{closes_for_sure, is_being_closed, is_sync}
+use Rattle.sd_crash_safety.specs.InUse.{ClosesBody, IsFilled, IsFormatting, IsSlotFor, call_of, is_opening_at, pending_dump}
 use Rattle.sd_crash_safety.proofs.Leads.{leads_end, leads_head}
 
 pub and_false : (b : Bool) → (b && false) ≡ false
@@ -97,13 +97,13 @@ writes_closed DoubtSynced body belief may is = absurd (false≢true may)
 
 -- no other call than a sync closes for sure
 only_syncs : (phase : Phase) (call : Call) → call ≢ Sync → closes_for_sure phase call ≡ false
-only_syncs phase Len other = and_false (is_closing phase)
-only_syncs phase (Read at) other = and_false (is_closing phase)
-only_syncs phase (Write at) other = and_false (is_closing phase)
-only_syncs phase WriteHeader other = and_false (is_closing phase)
-only_syncs phase CloseCall other = and_false (is_closing phase)
-only_syncs phase Open other = and_false (is_closing phase)
-only_syncs phase Cut other = and_false (is_closing phase)
+only_syncs phase Len other = and_false (is_being_closed phase)
+only_syncs phase (Read at) other = and_false (is_being_closed phase)
+only_syncs phase (Write at) other = and_false (is_being_closed phase)
+only_syncs phase WriteHeader other = and_false (is_being_closed phase)
+only_syncs phase CloseCall other = and_false (is_being_closed phase)
+only_syncs phase Open other = and_false (is_being_closed phase)
+only_syncs phase Cut other = and_false (is_being_closed phase)
 only_syncs phase Sync other = absurd (other refl)
 
 -- ---- the calls that are left
@@ -232,7 +232,7 @@ module _ (order : ImageOrder) (plan next : Planned) (phase : Phase) (body : List
 
 -- ---- one whose body is being closed
 
-not_closing : (phase : Phase) → is_ready (synced phase) Open ≡ true → is_closing phase ≡ false
+not_closing : (phase : Phase) → is_ready (synced phase) Open ≡ true → is_being_closed phase ≡ false
 not_closing Raw may = absurd (false≢true may)
 not_closing RawClosing may = absurd (false≢true may)
 not_closing Whole may = absurd (false≢true may)
@@ -247,13 +247,13 @@ not_closing Doubt may = absurd (false≢true may)
 not_closing DoubtSynced may = absurd (false≢true may)
 
 pub record ClosesOn (order : ImageOrder) (i : Image) (next : Planned) (phase : Phase) (body : List ℕ) (request : Asked) (belief : Belief) (dump : Option Image) : Type 0 where
-  pub closing_is : IsClosing order i next (after phase request.id.call true) (body_after body request.id.call request.bytes) None belief dump
+  pub closing_is : ClosesBody order i next (after phase request.id.call true) (body_after body request.id.call request.bytes) None belief dump
   pub stays : closes_for_sure phase request.id.call ≡ false
   -- it is closed still, or its gate was just opened
   pub exact : (belief ≡ Closed) ⊎ ((after phase request.id.call true ≡ OpeningPhase) × (belief ≡ Opening i) × (body_after body request.id.call request.bytes ≡ image_text i))
 
 module _ (order : ImageOrder) (i : Image) (plan next : Planned) (phase : Phase) (body : List ℕ) (request : Asked) (belief : Belief) (dump : Option Image)
-    (c : IsClosing order i plan phase body (Some request) belief dump) (some : plan.calls ≢ []) (calls : next.calls ≡ plan.calls) (on : next.slot ≡ plan.slot) where
+    (c : ClosesBody order i plan phase body (Some request) belief dump) (some : plan.calls ≢ []) (calls : next.calls ≡ plan.calls) (on : next.slot ≡ plan.slot) where
   abbrev all : Calls
   all = body_calls i.header (table_text i.spaces)
 
@@ -265,7 +265,7 @@ module _ (order : ImageOrder) (i : Image) (plan next : Planned) (phase : Phase) 
 
   closing_at : (place : ℕ) → map call_of plan.calls ≡ drop place (map call_of all)
       → (is_opening_at place None ≡ false → (belief ≡ Closed) × (dump ≡ None)) → (is_opening_at place None ≡ true → (belief ≡ Opening i) × (dump ≡ pending_dump order.kind i))
-      → IsClosing order i next (after phase request.id.call true) (body_after body request.id.call request.bytes) None belief dump
+      → ClosesBody order i next (after phase request.id.call true) (body_after body request.id.call request.bytes) None belief dump
   closing_at place left shut opening = record {
     place = place;
     on = on ∙ c.on;
@@ -343,7 +343,7 @@ both_true : (a b : Bool) → (a && b) ≡ true → (a ≡ true) × (b ≡ true)
 both_true true b is = (refl, is)
 both_true false b is = absurd (false≢true is)
 
-is_closing_phase : (phase : Phase) → is_closing phase ≡ true → phase ≡ ClosingPhase
+is_closing_phase : (phase : Phase) → is_being_closed phase ≡ true → phase ≡ ClosingPhase
 is_closing_phase Raw is = absurd (false≢true is)
 is_closing_phase RawClosing is = absurd (false≢true is)
 is_closing_phase Whole is = absurd (false≢true is)
@@ -369,7 +369,7 @@ is_sync_call Sync is = refl
 
 pub syncs_closing : (phase : Phase) (call : Call) → closes_for_sure phase call ≡ true → (phase ≡ ClosingPhase) × (call ≡ Sync)
 syncs_closing phase call is =
-    let both = both_true (is_closing phase) (is_sync call) is in
+    let both = both_true (is_being_closed phase) (is_sync call) is in
     (is_closing_phase phase both.0, is_sync_call call both.1)
 
 -- only a slot that is formatted is closed so, and its image is in doubt

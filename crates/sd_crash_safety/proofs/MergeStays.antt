@@ -30,7 +30,7 @@ use Rattle.sd_store_laws.specs.Needed.{IsCalled, IsNeeded, by_job, by_parent}
 use Rattle.sd_store_laws.specs.Needs.{IsNeededIn}
 use Rattle.sd_store_laws.specs.Reached.{Reaches, beyond, itself}
 use Rattle.sd_store_laws.specs.Steps.{Adds, Retires}
-use Rattle.sd_store_laws.specs.Store.{IsFresh, IsMerged, IsSound, Store, jobs}
+use Rattle.sd_store_laws.specs.Store.{IsFresh, IsMergeSource, IsSoundStore, Store, jobs}
 use Rattle.sd_crash_safety.specs.Believes.{Believes}
 use Rattle.sd_crash_safety.specs.declared.standing.Standing.TheVariants.{Open}
 use Rattle.sd_crash_safety.specs.InUse.{IsNewNumber, IsSlotFor, body_written}
@@ -424,9 +424,9 @@ module _ (old new : List Image) (jobs : List ℕ) (named : (number : ℕ) (i : I
           beyond i parent (named i.header.parent parent called names) (follow parent (by_parent parent.header.parent i.header.parent parent called names refl) rest)
 
 -- where images are closed that nobody needs
-pub retires_still : CutHoldsTheSame → (s : Store) (new : List Image) → IsSound s → Retires s new → (source : Image) → s.source ≡ Some source → HoldsStill s.catalog new source
+pub retires_still : CutHoldsTheSame → (s : Store) (new : List Image) → IsSoundStore s → Retires s new → (source : Image) → s.source ≡ Some source → HoldsStill s.catalog new source
 retires_still cut s new sound retires source is =
-    let asks : IsMerged s source = subst (λ x. IfSome x (IsMerged s)) is sound.merged in
+    let asks : IsMergeSource s source = subst (λ x. IfSome x (IsMergeSource s)) is sound.merged in
     let called : IsCalled s.catalog (jobs s) source.header.parent = by_job source.header.parent (Contains-append_right s.chain s.work source.header.parent asks.asked) in
     record {
       holds = λ space page bytes.
@@ -441,10 +441,10 @@ retires_still cut s new sound retires source is =
     }
 
 -- where an image enters that is new
-pub adds_still : CutHoldsTheSame → UnusedIsUncalled → (s : Store) (one : Image) (new : List Image) → IsSound s → IsFresh s one → Adds s.catalog one new
+pub adds_still : CutHoldsTheSame → UnusedIsUncalled → (s : Store) (one : Image) (new : List Image) → IsSoundStore s → IsFresh s one → Adds s.catalog one new
     → (source : Image) → s.source ≡ Some source → HoldsStill s.catalog new source
 adds_still cut unused s one new sound fresh adds source is =
-    let asks : IsMerged s source = subst (λ x. IfSome x (IsMerged s)) is sound.merged in
+    let asks : IsMergeSource s source = subst (λ x. IfSome x (IsMergeSource s)) is sound.merged in
     let called : IsCalled s.catalog (jobs s) source.header.parent = by_job source.header.parent (Contains-append_right s.chain s.work source.header.parent asks.asked) in
     let uncalled : IsCalled s.catalog (jobs s) one.header.stands_for → ⊥ = unused s.catalog (jobs s) one.header.stands_for fresh.number in
     record {

@@ -27,7 +27,7 @@ use Rattle.sd_rounds.specs.declared.image_order.ImageOrder.{ImageOrder}
 use Rattle.sd_rounds.specs.Dumper.{Running}
 use Rattle.sd_rounds.specs.Making.{plan_of, with_plan}
 use Rattle.sd_rounds.specs.MakingLaws.{MakingLaws, Pages, image_of}
-use Rattle.sd_rounds.specs.Pass.{Entry, Place}
+use Rattle.sd_rounds.specs.Pass.{ImageEntry, Place}
 use Rattle.sd_store_laws.specs.Beliefs.{Belief, Closed, Kept, Closing, Opening, image_at, image_in}
 use Rattle.sd_store_laws.specs.Cut.{Repeats}
 use Rattle.sd_store_laws.specs.InUse.{CatalogFollows}
@@ -54,7 +54,7 @@ use Rattle.sd_crash_safety.proofs.Places.{free_there, ids_set, set_same}
 -- ---- what is done in the slot of a merged image
 
 -- a plan that gives a call is on the image's own slot: a read gives none once it is out
-pub plan_in_slot : (stage : CopyStage) (entries : List Entry) (taking : Option Place) (read : Option (List ℕ)) (plan next : Planned) (request : Asked)
+pub plan_in_slot : (stage : CopyStage) (entries : List ImageEntry) (taking : Option Place) (read : Option (List ℕ)) (plan next : Planned) (request : Asked)
     → IsReadyFor entries taking read stage → ((own : Planned) → stage ≡ copy.PageWrite own → ⊥) → copy_plan stage ≡ Some plan → Gives plan next request
     → (plan_of (stage_in_slot stage) ≡ Some plan) × (stage_in_slot (copy_with stage next) ≡ with_plan (stage_in_slot stage) next)
     × ((r : Option Asked) → request_in_slot (copy_with stage next) r ≡ r) × ((r : Option Asked) → request_in_slot stage r ≡ r)
@@ -91,7 +91,7 @@ copy_on catalog source pages made next k = record {
   over = over_with made.stage next k.rest k.over;
 }
 
-filed_with : (stage : CopyStage) (next : Planned) (order : CopyOrder) (source : Image) (entries : List Entry) (pages : Pages)
+filed_with : (stage : CopyStage) (next : Planned) (order : CopyOrder) (source : Image) (entries : List ImageEntry) (pages : Pages)
     → IsFiledIn stage order source entries pages → IsFiledIn (copy_with stage next) order source entries pages
 filed_with (copy.Format own) next order source entries pages is = is
 filed_with copy.Pass next order source entries pages is = is

@@ -14,14 +14,14 @@ use Rattle.sd_gate.specs.declared.phase.Phase.{Phase}
 use Rattle.sd_gate.specs.declared.phase.Phase.TheVariants.{Whole, Writing}
 use Rattle.sd_gate.specs.Calls.{IsLook, is_done}
 use Rattle.sd_gate.specs.Inspections.{nothing}
-use Rattle.sd_gate.specs.Fits.{Reads}
+use Rattle.sd_gate.specs.Fits.{PhaseReads}
 use Rattle.sd_gate.specs.Phases.{after, body_after, filled, is_ready}
 use Rattle.sd_gate.specs.Plans.{Planned, plan_after}
 use Rattle.sd_gate.specs.Requests.{Asked, Made}
 use Rattle.sd_gate.specs.Sequences.{Calls, data_place}
 use Rattle.sd_merge.specs.declared.stage.Stage.{Stage as CopyStage}
 use Rattle.sd_merge.specs.declared.stage.Stage.TheVariants as copy
-use Rattle.sd_merge.specs.Copying.{Copying, GoesOn, IsReadyFor, plan_of as copy_plan, stage_after as copy_after}
+use Rattle.sd_merge.specs.Copying.{Copying, IsReadyFor, PlanGoesOn, plan_of as copy_plan, stage_after as copy_after}
 use Rattle.sd_merge.specs.Copying as copies_of
 use Rattle.sd_merge.specs.Files.{FileLaws, IsFiledIn}
 use Rattle.sd_merge.specs.Merger.{copying}
@@ -32,7 +32,7 @@ use Rattle.sd_rounds.specs.declared.stage.Stage.TheVariants.{Format, Pass as Pas
 use Rattle.sd_rounds.specs.Dumper.{Running}
 use Rattle.sd_rounds.specs.Making.{plan_of, stage_after}
 use Rattle.sd_rounds.specs.MakingLaws.{MakingLaws, Pages, image_of}
-use Rattle.sd_rounds.specs.Pass.{Entry, Place, data_pages}
+use Rattle.sd_rounds.specs.Pass.{ImageEntry, Place, data_pages}
 use Rattle.sd_image.specs.declared.header.Kind.TheVariants.{Merged}
 use Rattle.sd_store_laws.specs.Beliefs.{Belief, Closed, Kept, Opening}
 use Rattle.sd_store_laws.specs.Below.{StepsGive}
@@ -45,7 +45,7 @@ use Rattle.sd_store_laws.specs.Steps.{StepsKeep}
 use Rattle.sd_store_laws.specs.Store.{Store}
 use Rattle.sd_crash_safety.specs.Believes.{Believes, HasStore}
 use Rattle.sd_crash_safety.specs.Calls.{WasTold}
-use Rattle.sd_crash_safety.specs.DumperOutcomes.{LeavesCatalog, closes_for_sure, is_closing}
+use Rattle.sd_crash_safety.specs.DumperOutcomes.{LeavesCatalog, closes_for_sure, is_being_closed}
 use Rattle.sd_crash_safety.specs.GateSteps.{GateSteps}
 use Rattle.sd_crash_safety.specs.InUse.{IsFilled, IsInUseOn, IsSlotFor, body_written}
 use Rattle.sd_crash_safety.specs.Knows.{SeesStore}
@@ -162,7 +162,7 @@ none_asked (copy.PageRead p) next (c ∷ calls) phases bodies store beliefs runn
 none_asked (copy.PageWrite p) next (c ∷ calls) phases bodies store beliefs running target source page own = absurd own
 none_asked (copy.Close p header tables) next (c ∷ calls) phases bodies store beliefs running target source page own = tt
 
-own_known : (stage : CopyStage) (entries : List Entry) (taking : Option Place) (read : Option (List ℕ)) (plan : Planned) → IsOwn stage → IsReadyFor entries taking read stage
+own_known : (stage : CopyStage) (entries : List ImageEntry) (taking : Option Place) (read : Option (List ℕ)) (plan : Planned) → IsOwn stage → IsReadyFor entries taking read stage
     → copy_plan stage ≡ Some plan → plan.awaits ≡ nothing
 own_known (copy.Format p) entries taking read plan own ready was = ap (λ (x : Planned). x.awaits) (sym (same_Some p plan was)) ∙ ready.2.known
 own_known copy.Pass entries taking read plan own ready was = absurd (let no : None ≡ Some plan = was in cc)
@@ -171,7 +171,7 @@ own_known (copy.PageWrite p) entries taking read plan own ready was = absurd own
 own_known (copy.Close p header tables) entries taking read plan own ready was = ap (λ (x : Planned). x.awaits) (sym (same_Some p plan was)) ∙ ready.2.known
 
 -- a slot that is formatted has no pages yet
-own_empty : (stage : CopyStage) (entries : List Entry) (taking : Option Place) (read : Option (List ℕ)) (own : Planned) → IsReadyFor entries taking read stage → stage_in_slot stage ≡ Format own → entries ≡ []
+own_empty : (stage : CopyStage) (entries : List ImageEntry) (taking : Option Place) (read : Option (List ℕ)) (own : Planned) → IsReadyFor entries taking read stage → stage_in_slot stage ≡ Format own → entries ≡ []
 own_empty (copy.Format p) entries taking read own ready is = ready.0
 own_empty copy.Pass entries taking read own ready is = absurd (let no : PassStage ≡ Format own = is in cc)
 own_empty (copy.PageRead p) entries taking read own ready is = absurd (let no : PassStage ≡ Format own = is in cc)
@@ -224,7 +224,7 @@ module _ (quiet : QuietSteps) (making : MakingLaws) (merges : MergeLaws) (files_
   abbrev source : Image
   source = k.repeats.image
 
-  go : GoesOn made call next
+  go : PlanGoesOn made call next
   go = s.hands
 
   abbrev nplan : Planned
@@ -437,7 +437,7 @@ module _ (quiet : QuietSteps) (making : MakingLaws) (merges : MergeLaws) (files_
     file_is =
         let ready : is_ready Whole call.request.id.call ≡ true = ap (is_ready Whole) r.call in
         let reads = told.reads (subst IsLook (sym r.call) tt) Whole (record { is = r.phase_is; ready = ready }) in
-        subst (λ p. Reads p (body_after (file_at bodies slot) call.request.id.call call.request.bytes) (file_at files slot)) (looked call.request.id.call r.call Whole refl (is_done call.answer)) reads
+        subst (λ p. PhaseReads p (body_after (file_at bodies slot) call.request.id.call call.request.bytes) (file_at files slot)) (looked call.request.id.call r.call Whole refl (is_done call.answer)) reads
         ∙ ap (λ body. gate ∷ body) same_body
 
     bytes_are : call.request.bytes ≡ r.bytes
@@ -503,7 +503,7 @@ module _ (quiet : QuietSteps) (making : MakingLaws) (merges : MergeLaws) (files_
     has_written = has_handed old new call phase asked bodies files s.outcome at b quiet
 
     no_close : closes_for_sure phase call.request.id.call ≡ false
-    no_close = ap (λ x. closes_for_sure phase x) write.call ∙ and_false (is_closing phase)
+    no_close = ap (λ x. closes_for_sure phase x) write.call ∙ and_false (is_being_closed phase)
 
     catalog_still : new.catalog ≡ old.catalog
     catalog_still = subst (λ sure. LeavesCatalog sure call.request.id.slot old.catalog new.catalog) no_close s.catalog

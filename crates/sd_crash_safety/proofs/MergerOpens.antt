@@ -9,7 +9,7 @@ use Rattle.sd_image.specs.Image.{Image, IsImage, gate, image_text}
 use Rattle.sd_image.specs.Shows.{IsNamed, IsTip}
 use Rattle.sd_chain.specs.Catalog.{Changes, Names, Opened, Places, place_of}
 use Rattle.sd_chain.specs.Reaches.{ParentsFall, ReachesSerial}
-use Rattle.sd_chain.specs.Tells.{Agrees, IsToldAs, Tells}
+use Rattle.sd_chain.specs.Tells.{Agrees, CatalogLists, IsToldAs}
 use Rattle.sd_gate.specs.declared.phase.Phase.{Phase}
 use Rattle.sd_gate.specs.declared.phase.Phase.TheVariants.{Whole}
 use Rattle.sd_gate.specs.Calls.{is_done}
@@ -22,7 +22,7 @@ use Rattle.sd_merge.specs.declared.merge_progress.MergeProgress.TheVariants as p
 use Rattle.sd_merge.specs.declared.retired.Retired.{Retired}
 use Rattle.sd_merge.specs.Copying.{Copying, IsReadyFor}
 use Rattle.sd_merge.specs.Files.{FileLaws, IsFiled, IsFiledIn}
-use Rattle.sd_merge.specs.Merger.{Retires, opened, retiring}
+use Rattle.sd_merge.specs.Merger.{TakesList, opened, retiring}
 use Rattle.sd_merge.specs.Merger as merger
 use Rattle.sd_pagetable.specs.Contents.{Contents}
 use Rattle.sd_image.proofs.Members.{contains_at, place_in}
@@ -38,7 +38,7 @@ use Rattle.sd_rounds.specs.Pass.{Pass}
 use Rattle.sd_store_laws.specs.Beliefs.{Belief, Closing, Kept, Opening, image_at, image_in}
 use Rattle.sd_store_laws.specs.Below.{StepsGive}
 use Rattle.sd_store_laws.specs.Gates.{IsBelievedAs}
-use Rattle.sd_store_laws.specs.InUse.{CatalogFollows, CatalogInUseTells, HasImage, IsCatalogInUse, ToldReachesSo}
+use Rattle.sd_store_laws.specs.InUse.{CatalogFollows, CatalogInUseTells, IsCatalogInUse, SlotHasImage, ToldReachesSo}
 use Rattle.sd_store_laws.specs.Needed.{NeededIsReached}
 use Rattle.sd_store_laws.specs.Needs.{IsNeededIn, NeedsNoMore}
 use Rattle.sd_store_laws.specs.Reached.{Reaches}
@@ -50,11 +50,11 @@ use Rattle.sd_crash_safety.specs.Believes.{Believes, HasStore}
 use Rattle.sd_crash_safety.specs.Calls.{IsFree}
 use Rattle.sd_crash_safety.specs.Copies.{AreImagesOf, IsCopyAtRest, IsCopyThere, IsOrderly, StandsIn}
 use Rattle.sd_crash_safety.specs.GateSteps.{GateSteps, IsOnlyTwin}
-use Rattle.sd_crash_safety.specs.InUse.{IsAtWork, IsClosing, IsImageOn, IsInUseOn, IsSlotFor, body_written, is_opening_at, lanes_of, pending_dump}
+use Rattle.sd_crash_safety.specs.InUse.{ClosesBody, IsAtWork, IsImageOn, IsInUseOn, IsSlotFor, body_written, is_opening_at, lanes_of, pending_dump}
 use Rattle.sd_crash_safety.specs.MergerOutcomes.{MayRetire, MergedOpens, OutcomeIsBelieved}
 use Rattle.sd_crash_safety.specs.MergerSteps.{IsUncalled}
 use Rattle.sd_crash_safety.specs.Merges.{IsAskedIn, IsCopyOn, IsCopying, IsListedOn, IsMergeAt, IsMergeOn, IsOtherImage, IsSpared, IsUnmerged, MakesOther, lanes_in_slot, order_of_slot, request_in_slot, stage_in_slot}
-use Rattle.sd_crash_safety.specs.StoreSteps.{IsOpened, QuietSteps}
+use Rattle.sd_crash_safety.specs.StoreSteps.{QuietSteps, SlotIsOpened}
 use Rattle.sd_crash_safety.specs.View.{CoreView, history_of}
 use Rattle.sd_crash_safety.proofs.BeginsImage.{image_of_has}
 use Rattle.sd_crash_safety.proofs.HandsImage.{calls_of_done}
@@ -113,7 +113,7 @@ module _ (base : Base) (history : History) (grows : Bool) (memory : Contents) (p
 
 module _ (quiet : QuietSteps) (gates : GateSteps) (making : MakingLaws) (keeps : StepsKeep) (gives : StepsGive) (needs : NeedsNoMore) (follows : CatalogFollows)
     (plans : PlansLead) (reached : NeededIsReached) (places : Places) (tells : CatalogInUseTells places) (reaches : ToldReachesSo places)
-    (agrees : (all : List Image) → Tells places all → Agrees places all)
+    (agrees : (all : List Image) → CatalogLists places all → Agrees places all)
     (old new : CoreView) (merge : merger.Running) (made : Copying) (call : Made) (phase : Phase) (image : NewImage) (list : List Retired) (done : MergeProgress)
     (s : MergedOpens places old merge made call phase image list done new)
     (asked : List (Option Asked)) (bodies files : List (List ℕ)) (at : slice_get asked 1 ≡ Some (Some call.request)) (b : Believes old asked bodies files) where
@@ -173,7 +173,7 @@ module _ (quiet : QuietSteps) (gates : GateSteps) (making : MakingLaws) (keeps :
   no_more : s.opens.plan.calls ≡ []
   no_more = sym (calls_of_done s.opens.plan call (subst (IsReadyFor made.entries made.taking made.read) s.opens.was s.sound.ready).2.known s.opens.done) ∙ s.opens.last
 
-  closing_was : IsClosing order i s.opens.plan phase (file_at bodies target) (Some call.request) c.belief None
+  closing_was : ClosesBody order i s.opens.plan phase (file_at bodies target) (Some call.request) c.belief None
   closing_was = subst (λ stage. IsSlotFor (stage_in_slot stage) order c.pages phase (body_written (file_at bodies target) (lanes_in_slot stage (Some call.request))) (request_in_slot stage (Some call.request)) c.belief None) s.opens.was
       (subst (λ p. IsSlotFor (stage_in_slot made.stage) order c.pages p (body_written (file_at bodies target) (lanes_in_slot made.stage (Some call.request))) (request_in_slot made.stage (Some call.request)) c.belief None) phase_same
       (subst (λ r. IsSlotFor (stage_in_slot made.stage) order c.pages c.phase (body_written (file_at bodies target) (lanes_in_slot made.stage r)) (request_in_slot made.stage r) c.belief None) out_is c.slot_is))
@@ -266,7 +266,7 @@ module _ (quiet : QuietSteps) (gates : GateSteps) (making : MakingLaws) (keeps :
   abbrev store_now : Store
   store_now = replaced b.store (i ∷ b.store.catalog)
 
-  opened_slot : IsOpened phases_now asked_now b.beliefs target i
+  opened_slot : SlotIsOpened phases_now asked_now b.beliefs target i
   opened_slot = record {
     belief = belief_at;
     phase = phase_then;
@@ -317,13 +317,13 @@ module _ (quiet : QuietSteps) (gates : GateSteps) (making : MakingLaws) (keeps :
 
   -- ---- it is a copy of its source
 
-  has_in : (n : ℕ) (j : Image) → HasImage b.beliefs n j → Contains b.beliefs (Kept j) ⊎ Contains b.beliefs (Closing j)
+  has_in : (n : ℕ) (j : Image) → SlotHasImage b.beliefs n j → Contains b.beliefs (Kept j) ⊎ Contains b.beliefs (Closing j)
   has_in n j has = elim has [
     | inl kept ↦ inl (contains_at b.beliefs n (Kept j) kept)
     | inr closing_it ↦ inr (contains_at b.beliefs n (Closing j) closing_it)
   ]
 
-  at_slot : (j : Image) → Contains b.store.catalog j → (n : ℕ) × HasImage b.beliefs n j
+  at_slot : (j : Image) → Contains b.store.catalog j → (n : ℕ) × SlotHasImage b.beliefs n j
   at_slot j member = elim ((b.has.slots.catalog j).0 member) [
     | inl kept ↦ (let it = place_in b.beliefs (Kept j) kept in (it.0, inl it.1))
     | inr closing_it ↦ (let it = place_in b.beliefs (Closing j) closing_it in (it.0, inr it.1))
@@ -404,7 +404,7 @@ module _ (quiet : QuietSteps) (gates : GateSteps) (making : MakingLaws) (keeps :
 
   -- ---- the list
 
-  told : Tells places store_now.catalog
+  told : CatalogLists places store_now.catalog
   told = tells store_now b.dump beliefs_now has_now.slots catalog_then
 
   so : Agrees places store_now.catalog
@@ -427,14 +427,14 @@ module _ (quiet : QuietSteps) (gates : GateSteps) (making : MakingLaws) (keeps :
   }
 
   module _ (one : Retired) (m : MayRetire places old one) where
-    its : (j : Image) × IsToldAs m.opened j × HasImage beliefs_now m.opened.slot j
+    its : (j : Image) × IsToldAs m.opened j × SlotHasImage beliefs_now m.opened.slot j
     its = catalog_then.image one.serial m.opened m.there
 
     abbrev j : Image
     j = its.0
 
-    here : HasImage beliefs_now one.slot j
-    here = subst (λ n. HasImage beliefs_now n j) m.slot its.2
+    here : SlotHasImage beliefs_now one.slot j
+    here = subst (λ n. SlotHasImage beliefs_now n j) m.slot its.2
 
     has : image_at beliefs_now one.slot ≡ Some j
     has = elim here [
@@ -510,7 +510,7 @@ module _ (quiet : QuietSteps) (gates : GateSteps) (making : MakingLaws) (keeps :
         is = m;
       })
 
-  opens_by : (done : MergeProgress) → Retires (Some (record merge { doing = opened made.order.serial })) list done new.merger → Believes new asked_now bodies_now files
+  opens_by : (done : MergeProgress) → TakesList (Some (record merge { doing = opened made.order.serial })) list done new.merger → Believes new asked_now bodies_now files
   opens_by progress.Strange r = absurd (let no : Some made.order.serial ≡ None = r.0 in cc)
   opens_by progress.Failed r = absurd r
   opens_by progress.More r = believes_merge (Some (record r.running { doing = retiring (begun_at r.serial list 0 r.first) })) r.is (record {
@@ -531,14 +531,14 @@ module _ (quiet : QuietSteps) (gates : GateSteps) (making : MakingLaws) (keeps :
   opens_it = opens_by done s.retires
 
 pub opens_lem : QuietSteps → GateSteps → MakingLaws → StepsKeep → StepsGive → NeedsNoMore → CatalogFollows → PlansLead → NeededIsReached
-    → (places : Places) → CatalogInUseTells places → ToldReachesSo places → ((all : List Image) → Tells places all → Agrees places all)
+    → (places : Places) → CatalogInUseTells places → ToldReachesSo places → ((all : List Image) → CatalogLists places all → Agrees places all)
     → (old new : CoreView) (merge : merger.Running) (copy : Copying) (made : Made) (phase : Phase) (image : NewImage) (list : List Retired) (done : MergeProgress)
     → MergedOpens places old merge copy made phase image list done new → OutcomeIsBelieved old new made
 opens_lem quiet gates making keeps gives needs follows plans reached places tells reaches agrees old new merge copy made phase image list done s asked bodies files at reads b =
     opens_it quiet gates making keeps gives needs follows plans reached places tells reaches agrees old new merge copy made phase image list done s asked bodies files at b
 
 pub copies_lem : QuietSteps → GateSteps → MakingLaws → StepsKeep → StepsGive → NeedsNoMore → CatalogFollows → PlansLead → NeededIsReached → SourceReachesNeeded → FileLaws
-    → (places : Places) → CatalogInUseTells places → ToldReachesSo places → ((all : List Image) → Tells places all → Agrees places all)
+    → (places : Places) → CatalogInUseTells places → ToldReachesSo places → ((all : List Image) → CatalogLists places all → Agrees places all)
     → (old new : CoreView) (merge : merger.Running) (copy : Copying) (made : Made) (phase : Phase) (image : NewImage) (list : List Retired) (done : MergeProgress)
     (asked : List (Option Asked)) (bodies files : List (List ℕ)) → MergedOpens places old merge copy made phase image list done new
     → ((slot : ℕ) → IsSpared old.dumper.running slot → IsFree (slice_set old.outs 1 None) slot) → slice_get asked 1 ≡ Some (Some made.request) → Believes old asked bodies files
@@ -547,7 +547,7 @@ copies_lem quiet gates making keeps gives needs follows plans reached needed_of 
     is_copy quiet gates making keeps gives needs follows plans reached places tells reaches agrees old new merge copy made phase image list done s asked bodies files at b needed_of files_of free
 
 pub rests_lem : QuietSteps → GateSteps → MakingLaws → StepsKeep → StepsGive → NeedsNoMore → CatalogFollows → PlansLead → NeededIsReached → SourceReachesNeeded → FileLaws
-    → (places : Places) → CatalogInUseTells places → ToldReachesSo places → ((all : List Image) → Tells places all → Agrees places all)
+    → (places : Places) → CatalogInUseTells places → ToldReachesSo places → ((all : List Image) → CatalogLists places all → Agrees places all)
     → (old new : CoreView) (merge : merger.Running) (copy : Copying) (made : Made) (phase : Phase) (image : NewImage) (list : List Retired) (done : MergeProgress)
     (asked : List (Option Asked)) (bodies files : List (List ℕ)) → MergedOpens places old merge copy made phase image list done new
     → ((slot : ℕ) → IsSpared old.dumper.running slot → IsFree (slice_set old.outs 1 None) slot) → slice_get asked 1 ≡ Some (Some made.request) → Believes old asked bodies files
@@ -556,7 +556,7 @@ rests_lem quiet gates making keeps gives needs follows plans reached needed_of f
     is_at_rest quiet gates making keeps gives needs follows plans reached places tells reaches agrees old new merge copy made phase image list done s asked bodies files at b needed_of files_of free
 
 pub orderly_lem : QuietSteps → GateSteps → MakingLaws → StepsKeep → StepsGive → NeedsNoMore → CatalogFollows → PlansLead → NeededIsReached
-    → (places : Places) → CatalogInUseTells places → ToldReachesSo places → ((all : List Image) → Tells places all → Agrees places all)
+    → (places : Places) → CatalogInUseTells places → ToldReachesSo places → ((all : List Image) → CatalogLists places all → Agrees places all)
     → (old new : CoreView) (merge : merger.Running) (copy : Copying) (made : Made) (phase : Phase) (image : NewImage) (list : List Retired) (done : MergeProgress)
     (asked : List (Option Asked)) (bodies files : List (List ℕ)) → MergedOpens places old merge copy made phase image list done new
     → slice_get asked 1 ≡ Some (Some made.request) → Believes old asked bodies files → IsOrderly places

@@ -23,7 +23,7 @@ use Rattle.sd_rounds.specs.declared.image_order.ImageOrder.{ImageOrder}
 use Rattle.sd_rounds.specs.declared.stage.Stage.{Stage}
 use Rattle.sd_rounds.specs.declared.stage.Stage.TheVariants.{Close}
 use Rattle.sd_rounds.specs.Dumper.{IsReserved, Running}
-use Rattle.sd_rounds.specs.Keeps.{Rests, Within}
+use Rattle.sd_rounds.specs.Keeps.{ChainWithin, Rests}
 use Rattle.sd_rounds.specs.Making.{plan_of}
 use Rattle.sd_rounds.specs.MakingLaws.{MakingLaws, Pages}
 use Rattle.sd_store_laws.specs.Beliefs.{Belief, Closed, Closing, Opening, image_at, image_in}
@@ -31,12 +31,12 @@ use Rattle.sd_store_laws.specs.Below.{StepsGive}
 use Rattle.sd_store_laws.specs.Cut.{CutHoldsTheSame}
 use Rattle.sd_store_laws.specs.InUse.{CatalogFollows, IsCatalogInUse}
 use Rattle.sd_store_laws.specs.Gates.{IsBelievedAs, IsInDoubt, MayBelieve}
-use Rattle.sd_store_laws.specs.Makers.{IsAbove}
+use Rattle.sd_store_laws.specs.Makers.{IsAboveStore}
 use Rattle.sd_store_laws.specs.Needs.{IsNeededIn, NeedsNoMore}
 use Rattle.sd_store_laws.specs.Needed.{by_job}
 use Rattle.sd_store_laws.specs.SlotSteps.{ClosingRetires, Lacks, with_belief}
-use Rattle.sd_store_laws.specs.Steps.{Retires, StepsKeep, begun, retired}
-use Rattle.sd_store_laws.specs.Store.{IsSound, Store}
+use Rattle.sd_store_laws.specs.Steps.{Retires, StepsKeep, checkpoint_begun, retired}
+use Rattle.sd_store_laws.specs.Store.{IsSoundStore, Store}
 use Rattle.sd_crash_safety.specs.Believes.{Believes, HasStore}
 use Rattle.sd_crash_safety.specs.Calls.{IsFree}
 use Rattle.sd_crash_safety.specs.DumperOutcomes.{LeavesCatalog, closes_for_sure}
@@ -116,13 +116,13 @@ pub record SlotThen (old new : Slots) (slot : ℕ) : Type 0 where
 
 -- what the checkpoint that runs, or the next one, knows of the store stays
 pub record StoreThen (memory : Contents) (last : ℕ) (running : Option Running) (beliefs : List Belief) (store store_now : Store) : Type 0 where
-  pub above : IsAbove store (last + 1) → IsAbove store_now (last + 1)
+  pub above : IsAboveStore store (last + 1) → IsAboveStore store_now (last + 1)
   pub chain : store_now.chain ≡ store.chain
   pub grows : store_now.grows ≡ store.grows
   pub newest : (j : Image) → Contains store_now.catalog j → IsRestorable j
       → (i : Image) × Contains store.catalog i × IsRestorable i × (j.header.checkpoint ≡ i.header.checkpoint)
   pub needs : (k : ℕ) (i : Image) (one : Running) → running ≡ Some one → IsReserved one k → image_at beliefs k ≡ Some i → IsNeededIn store_now i → IsNeededIn store i
-  pub gives : (one : Running) → running ≡ Some one → Within (chain_of store one.parent) (chain_of store_now one.parent)
+  pub gives : (one : Running) → running ≡ Some one → ChainWithin (chain_of store one.parent) (chain_of store_now one.parent)
   pub rests : running ≡ None → store.grows ≡ true → ((tip : Image) → IsTip store.catalog tip → Rests (chain_of store tip.header.stands_for) memory)
       → (tip : Image) → IsTip store_now.catalog tip → Rests (chain_of store_now tip.header.stands_for) memory
   pub numbers : (number : ℕ) → IsMakingNumber running number → IsNewNumber store number → IsNewNumber store_now number
@@ -195,7 +195,7 @@ store_same memory last running beliefs store = record {
 -- ---- an image that nobody needs leaves the catalog
 
 module _ (keeps : StepsKeep) (gives : StepsGive) (needs : NeedsNoMore) (memory : Contents) (last : ℕ) (running : Option Running) (beliefs : List Belief) (store : Store) (i : Image) (gone : List Image)
-    (sound : IsSound store) (member : Contains store.catalog i) (lacks : Lacks store.catalog i gone) (retires : Retires store gone)
+    (sound : IsSoundStore store) (member : Contains store.catalog i) (lacks : Lacks store.catalog i gone) (retires : Retires store gone)
     (asks : (one : Running) → running ≡ Some one → store.chain ≡ one.parent ∷ []) where
   unneeded : IsNeededIn store i → ⊥
   unneeded needed = ((lacks i).0 (retires.needed i needed)).1 refl
@@ -253,7 +253,7 @@ module _ (keeps : StepsKeep) (gives : StepsGive) (needs : NeedsNoMore) (memory :
   rests_then grown rests tip is =
       let before = tip_before tip is in
       let number : ℕ = tip.header.stands_for in
-      let still = gives.retires (begun store number) gone (keeps.begins store tip sound grown before)
+      let still = gives.retires (checkpoint_begun store number) gone (keeps.begins store tip sound grown before)
       (record { needed = λ j needed. retires.needed j (needs.begins store tip j sound grown before needed); within = retires.within }) in
       λ space page bytes clean. (still number space page bytes (by_job number (0, omega arith, refl))).0 (rests tip before space page bytes clean)
 

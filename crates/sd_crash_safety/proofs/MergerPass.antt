@@ -8,7 +8,7 @@ use Rattle.sd_image.specs.Table.{table_text}
 use Rattle.sd_image.specs.declared.header.Header.{Header}
 use Rattle.sd_image.proofs.Members.{contains_at, place_in}
 use Rattle.sd_chain.specs.Catalog.{Opened, Places, place_of}
-use Rattle.sd_chain.specs.Tells.{Tells}
+use Rattle.sd_chain.specs.Tells.{CatalogLists}
 use Rattle.sd_gate.specs.declared.call.Call.TheVariants.{Read, Write, Close as CloseCall, Open}
 use Rattle.sd_gate.specs.declared.phase.Phase.{Phase}
 use Rattle.sd_gate.specs.declared.phase.Phase.TheVariants.{Raw, RawClosing, Whole, Closing as ClosingPhase, Shut, ShutSynced, Bare, Writing, Ready, Opening as OpeningPhase, Doubt, DoubtSynced}
@@ -126,7 +126,7 @@ module _ (quiet : QuietSteps) (merge_laws : MergeLaws) (files_of : FileLaws) (ne
   there : Contains b.store.catalog source
   there = (b.has.slots.catalog source).1 (inl (contains_at b.beliefs k.repeats.source.slot (Kept source) k.repeats.source.kept))
 
-  told : Tells places b.store.catalog
+  told : CatalogLists places b.store.catalog
   told = knows.tells b.store b.dump b.beliefs b.has.slots (subst (λ p. IsCatalogInUse p b.beliefs) its_catalog u.catalog)
 
   source_is : IsSourceAt places b.store.catalog made.order.source.serial source

@@ -9,11 +9,11 @@ use Rattle.sd_rounds.specs.Keeps.{Rests}
 use Rattle.sd_store_laws.specs.Beliefs.{Belief, image_at}
 use Rattle.sd_store_laws.specs.Below.{StepsGive}
 use Rattle.sd_store_laws.specs.Harmless.{IsSource}
-use Rattle.sd_store_laws.specs.Makers.{IsAbove}
+use Rattle.sd_store_laws.specs.Makers.{IsAboveStore}
 use Rattle.sd_store_laws.specs.Needs.{NeedsNoMore}
 use Rattle.sd_store_laws.specs.Needed.{by_job}
-use Rattle.sd_store_laws.specs.Steps.{Adds, StepsKeep, begun, replaced}
-use Rattle.sd_store_laws.specs.Store.{IsMerged, IsSound, IsTwin, Store, jobs}
+use Rattle.sd_store_laws.specs.Steps.{Adds, StepsKeep, checkpoint_begun, replaced}
+use Rattle.sd_store_laws.specs.Store.{IsMergeSource, IsSoundStore, IsTwin, Store, jobs}
 use Rattle.sd_crash_safety.specs.InUse.{IsNewNumber, chain_of}
 use Rattle.sd_crash_safety.specs.Merges.{IsOtherImage, IsSpared, MakesOther}
 use Rattle.sd_crash_safety.proofs.BeginsImage.{in_front}
@@ -37,7 +37,7 @@ pub record IsRepeated (last : ℕ) (running : Option Running) (source i : Image)
   pub checkpoint : i.header.checkpoint ≡ source.header.checkpoint
 
 module _ (keeps : StepsKeep) (gives : StepsGive) (needs : NeedsNoMore) (memory : Contents) (last : ℕ) (running : Option Running) (beliefs : List Belief) (store : Store) (source i : Image) (slot : ℕ)
-    (sound : IsSound store) (twin : IsTwin store.catalog store.source i) (is_source : store.source ≡ Some source) (there : Contains store.catalog source) (restorable : IsRestorable source)
+    (sound : IsSoundStore store) (twin : IsTwin store.catalog store.source i) (is_source : store.source ≡ Some source) (there : Contains store.catalog source) (restorable : IsRestorable source)
     (its : IsRepeated last running source i) (adds : Adds store.catalog i (i ∷ store.catalog)) (spared : IsSpared running slot)
     (only_here : (k : ℕ) → image_at beliefs k ≡ Some i → k ≡ slot) (asks : (one : Running) → running ≡ Some one → store.chain ≡ one.parent ∷ [])
     (low : (number : ℕ) → IsMakingNumber running number → 0 < number) where
@@ -47,7 +47,7 @@ module _ (keeps : StepsKeep) (gives : StepsGive) (needs : NeedsNoMore) (memory :
   abbrev after : List Image
   after = i ∷ store.catalog
 
-  above_then : IsAbove store (last + 1) → IsAbove now (last + 1)
+  above_then : IsAboveStore store (last + 1) → IsAboveStore now (last + 1)
   above_then above = record {
     serials = λ j member. elim ((adds j).0 member) [
       | inl same ↦ (let own = ap (λ (x : Image). x.header.serial) same in let few = its.serial in omega (arith, own, few))
@@ -72,8 +72,8 @@ module _ (keeps : StepsKeep) (gives : StepsGive) (needs : NeedsNoMore) (memory :
     | inl same ↦ by_source same
   ]
     where
-      merged : IsMerged store source
-      merged = subst (λ x. IfSome x (IsMerged store)) is_source sound.merged
+      merged : IsMergeSource store source
+      merged = subst (λ x. IfSome x (IsMergeSource store)) is_source sound.merged
 
       was : IsSource store.catalog (jobs store) source
       was = merged.is
@@ -93,7 +93,7 @@ module _ (keeps : StepsKeep) (gives : StepsGive) (needs : NeedsNoMore) (memory :
   rests_then grown rests tip is =
       let before = tip_of tip is in
       let number : ℕ = before.0.header.stands_for in
-      let still = gives.replaces (begun store number) i after (keeps.begins store before.0 sound grown before.1) twin adds in
+      let still = gives.replaces (checkpoint_begun store number) i after (keeps.begins store before.0 sound grown before.1) twin adds in
       subst (λ n. Rests (chain_of now n) memory) before.2
       (λ space page bytes clean. (still number space page bytes (by_job number (0, omega arith, refl))).0 (rests before.0 before.1 space page bytes clean))
 

@@ -5,21 +5,21 @@ use Rattle.sd_image.specs.declared.header.Header.{Header}
 use Rattle.sd_image.specs.Image.{Image, IsImage}
 use Rattle.sd_image.specs.Laws.{HaveTables, PageInFile}
 use Rattle.sd_image.specs.Table.{IsTable}
-use Rattle.sd_chain.specs.Catalog.{IsSound, Places, images}
-use Rattle.sd_chain.specs.Tells.{Agrees, HavePages, Tells}
+use Rattle.sd_chain.specs.Catalog.{IsSoundCatalog, Places, images}
+use Rattle.sd_chain.specs.Tells.{Agrees, CatalogLists, HavePages}
 use Rattle.sd_chain.specs.Ways.{AreImages}
 use Rattle.sd_merge.specs.Merging.{IsSourceAt}
 use Rattle.sd_store_laws.specs.InUse.{CatalogInUseTells}
 
 -- what the catalog tells
 pub record KnowsCatalog (places : Places) : Type 0 where
-  pub sound : IsSound places
+  pub sound : IsSoundCatalog places
   pub tells : CatalogInUseTells places
-  pub agrees : (all : List Image) → Tells places all → Agrees places all
+  pub agrees : (all : List Image) → CatalogLists places all → Agrees places all
   pub page : PageInFile
 
 module _ (places : Places) (knows : KnowsCatalog places) (all : List Image) (spelled : (i : Image) → Contains all i → (file : List ℕ) × IsImage file i)
-    (fall : (i : Image) → Contains all i → i.header.parent < i.header.stands_for) (told : Tells places all) where
+    (fall : (i : Image) → Contains all i → i.header.parent < i.header.stands_for) (told : CatalogLists places all) where
   pub tables_of : HaveTables all
   tables_of i member = (spelled i member).1.table
 

@@ -25,7 +25,7 @@ use Rattle.sd_crash_safety.specs.Believes.{Believes, HasStore}
 use Rattle.sd_crash_safety.specs.Calls.{NoneOut, WasTold}
 use Rattle.sd_crash_safety.specs.InUse.{ids_of}
 use Rattle.sd_crash_safety.specs.Knows.{AreLooks, HasSynced, IsPastSync, IsRefound, Knows, SeesStore}
-use Rattle.sd_crash_safety.specs.OpenerSteps.{Decodes, GivesUpOpening, IsHandedIn, IsTaught, LooksOn, OnlyOpens, OpenerSteps, Reopens, opener_alone}
+use Rattle.sd_crash_safety.specs.OpenerSteps.{Decodes, GivesUpOpening, IsHandedToOpener, IsTaught, LooksOn, OnlyOpens, OpenerSteps, Reopens, opener_alone}
 use Rattle.sd_crash_safety.specs.StoreSteps.{IsOutcomeOf, MayAsk, QuietSteps}
 use Rattle.sd_crash_safety.specs.View.{CoreView, history_of}
 use Rattle.sd_rounds.specs.Writes.{no_writes}
@@ -312,7 +312,7 @@ decodes_lem old new opener next asked bodies files d b =
 -- ---- outcomes
 
 module _ (old new : CoreView) (made : Made) (phase : Phase) (asked : List (Option Asked)) (bodies files : List (List ℕ))
-    (h : IsHandedIn old made phase new) (at : slice_get asked 2 ≡ Some (Some made.request)) (b : Believes old asked bodies files) where
+    (h : IsHandedToOpener old made phase new) (at : slice_get asked 2 ≡ Some (Some made.request)) (b : Believes old asked bodies files) where
   abbrev handed_phases : List Phase
   handed_phases = phases_after old.phases made.request.id phase (is_done made.answer)
 

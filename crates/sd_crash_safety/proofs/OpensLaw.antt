@@ -18,7 +18,7 @@ use Rattle.sd_gate.specs.Requests.{Asked}
 use Rattle.sd_gate.specs.Sequences.{body_calls}
 use Rattle.sd_rounds.specs.declared.image_order.ImageOrder.{ImageOrder}
 use Rattle.sd_store_laws.specs.Beliefs.{Belief, Kept, Opening, image_at, image_in}
-use Rattle.sd_crash_safety.specs.InUse.{AreExact, IsClosing, IsImageOn, IsInUseOn, IsMakingOn, IsRunningOn, IsSlotFor, NoneAt, call_of, chain_of, is_opening_at, pending_dump, body_written, ids_of, lanes_of}
+use Rattle.sd_crash_safety.specs.InUse.{AreExact, ClosesBody, IsImageOn, IsInUseOn, IsMakingOn, IsRunningOn, IsSlotFor, NoneAt, call_of, chain_of, is_opening_at, pending_dump, body_written, ids_of, lanes_of}
 use Rattle.sd_chain.specs.Catalog.{Changes, place_of}
 use Rattle.sd_gate.specs.Calls.{is_done}
 use Rattle.sd_gate.specs.Phases.{bodies_after, phases_after}
@@ -39,7 +39,7 @@ use Rattle.sd_store_laws.specs.Harmless.{UnusedIsUncalled}
 use Rattle.sd_store_laws.specs.Gates.{IsBelievedAs}
 use Rattle.sd_store_laws.specs.InUse.{CatalogFollows, IsCatalogInUse}
 use Rattle.sd_store_laws.specs.Needed.{IsCalled, by_job}
-use Rattle.sd_store_laws.specs.Makers.{IsAbove}
+use Rattle.sd_store_laws.specs.Makers.{IsAboveStore}
 use Rattle.sd_store_laws.specs.Needs.{IsNeededIn, NeedsNoMore}
 use Rattle.sd_image.specs.Shows.{IsRestorable, IsTip}
 use Rattle.sd_store_laws.specs.SlotSteps.{with_belief}
@@ -48,7 +48,7 @@ use Rattle.sd_store_laws.specs.Store.{IsNext, IsNextDump, IsNextPreDump, Store, 
 use Rattle.sd_crash_safety.specs.Believes.{Believes, HasStore}
 use Rattle.sd_crash_safety.specs.DumperOutcomes.{ImageOpens}
 use Rattle.sd_crash_safety.specs.GateSteps.{GateSteps}
-use Rattle.sd_crash_safety.specs.StoreSteps.{IsOpened, QuietSteps}
+use Rattle.sd_crash_safety.specs.StoreSteps.{QuietSteps, SlotIsOpened}
 use Rattle.sd_crash_safety.specs.View.{CoreView, history_of}
 use Rattle.sd_crash_safety.proofs.AsksLaw.{its_parent}
 use Rattle.sd_crash_safety.proofs.BeginsImage.{in_front}
@@ -69,7 +69,7 @@ pub record IsOpenThen (order : ImageOrder) (i : Image) (phase : Phase) (body : L
   pub dump_is : dump ≡ pending_dump order.kind i
 
 module _ (order : ImageOrder) (i : Image) (plan : Planned) (phase : Phase) (body : List ℕ) (request : Asked) (belief : Belief) (dump : Option Image)
-    (c : IsClosing order i plan phase body (Some request) belief dump) (none : plan.calls ≡ []) where
+    (c : ClosesBody order i plan phase body (Some request) belief dump) (none : plan.calls ≡ []) where
   named : request.id.call ∷ [] ≡ drop c.place (map call_of (body_calls i.header (table_text i.spaces)))
   named = ap (λ cs. request.id.call ∷ map call_of cs) (sym none) ∙ c.left
 
@@ -160,7 +160,7 @@ module _ (quiet : QuietSteps) (gates : GateSteps) (file : FileLaws) (gives : Ste
   no_more : s.opens.plan.calls ≡ []
   no_more = sym (calls_of_done s.opens.plan made (known_plan image.order image.pass image.stage s.opens.plan plan_is s.sound.ready) s.opens.done) ∙ s.opens.last
 
-  closing_was : IsClosing image.order i s.opens.plan phase (file_at bodies slot) (Some made.request) m.belief b.dump
+  closing_was : ClosesBody image.order i s.opens.plan phase (file_at bodies slot) (Some made.request) m.belief b.dump
   closing_was = subst (λ st. IsSlotFor st image.order m.pages phase (file_at bodies slot) (Some made.request) m.belief b.dump) s.opens.was
       (subst (λ p. IsSlotFor image.stage image.order m.pages p (file_at bodies slot) (Some made.request) m.belief b.dump) phase_same
       (subst (λ body. IsSlotFor image.stage image.order m.pages m.phase body (Some made.request) m.belief b.dump) (body_still (file_at bodies slot) (lanes_of asked) lanes_empty)
@@ -219,7 +219,7 @@ module _ (quiet : QuietSteps) (gates : GateSteps) (file : FileLaws) (gives : Ste
   has_one : HasStore old.base history phases_now asked_now bodies_now b.store b.dump b.beliefs
   has_one = has_then quiet old new 0 made phase asked bodies files s.outcome at b
 
-  opened_slot : IsOpened phases_now asked_now b.beliefs slot i
+  opened_slot : SlotIsOpened phases_now asked_now b.beliefs slot i
   opened_slot = record { belief = belief_at; phase = phase_then; none = none_then }
 
   -- ---- what is known then
@@ -253,7 +253,7 @@ module _ (quiet : QuietSteps) (gates : GateSteps) (file : FileLaws) (gives : Ste
 
   -- a store with it, that asks for these numbers
   above_then : (chain : List ℕ) (grows : Bool) → ((asked_for : ℕ) → Contains chain asked_for → asked_for < old.numbers.serial + 1)
-      → IsAbove (record { catalog = i ∷ b.store.catalog; chain = chain; work = b.store.work; source = b.store.source; grows = grows }) (old.numbers.serial + 1)
+      → IsAboveStore (record { catalog = i ∷ b.store.catalog; chain = chain; work = b.store.work; source = b.store.source; grows = grows }) (old.numbers.serial + 1)
   above_then chain grows few = record {
     serials = λ j member. elim (member_then j member) [
       | inl same ↦ (let its = ap (λ (x : Image). x.header.serial) same in let serial = serial_is in let last = m.serial in omega (arith, its, serial, last))

@@ -13,7 +13,7 @@ use Rattle.sd_journal.specs.History.{History}
 use Rattle.sd_rounds.specs.declared.stage.Stage.{Stage}
 use Rattle.sd_rounds.specs.declared.stage.Stage.TheVariants.{Format, Freeze, Pass as PassStage, Close}
 use Rattle.sd_rounds.specs.Dumper.{Running, writes_of_image}
-use Rattle.sd_rounds.specs.Making.{Making, is_frozen, is_passing, is_past_freeze}
+use Rattle.sd_rounds.specs.Making.{Making, is_frozen_dump, is_passing, is_past_freeze}
 use Rattle.sd_rounds.specs.MakingLaws.{DumpsImage, KeepsImage, MakingLaws}
 use Rattle.sd_store_laws.specs.Beliefs.{Belief, Closed}
 use Rattle.sd_store_laws.specs.Gates.{IsBelievedAs, MayBelieve}
@@ -128,7 +128,7 @@ module _ (commutes : WritesCommute) (making : MakingLaws) (quiet : QuietSteps) (
         (u.exact k p belief (sym (set_other old.phases call_slot k (after phase made.request.id.call (is_done made.answer)) other) ∙ here) of (none_before k differs none))
   ]
 
-  frozen_then : is_frozen later ≡ true → IsFrozenAs old.base history running.number old.memory m.pages (chain_of b.store running.parent) later
+  frozen_then : is_frozen_dump later ≡ true → IsFrozenAs old.base history running.number old.memory m.pages (chain_of b.store running.parent) later
   frozen_then is =
       let f = m.frozen is in
       record {

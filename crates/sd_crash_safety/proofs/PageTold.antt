@@ -12,7 +12,7 @@ use Rattle.sd_image.specs.Laws.{PageInFile}
 use Rattle.sd_image.specs.Shows.{pages_of}
 use Rattle.sd_image.specs.Table.{Listed, data_count, is_data, run_pages}
 use Rattle.sd_gate.specs.declared.call.Call.TheVariants.{Read}
-use Rattle.sd_gate.specs.Calls.{Tells}
+use Rattle.sd_gate.specs.Calls.{CallTells}
 use Rattle.sd_gate.specs.Looks.{IsTold}
 use Rattle.sd_gate.specs.Requests.{Made}
 use Rattle.sd_gate.specs.Sequences.{data_place}
@@ -62,5 +62,5 @@ pub page_told : PageInFile → (file : List ℕ) (i : Image) (place : ℕ) (byte
     → made.request.id.call ≡ Read (data_place place) → length made.request.bytes ≡ 4096 → IsTold file made → made.request.bytes ≡ bytes
 page_told law file i place bytes made is there call whole told =
     let came : made.request.bytes ≡ slice_range file (data_place place) (data_place place + length made.request.bytes) =
-    subst (λ c. Tells c file made.answer made.request.bytes) call told.tells in
+    subst (λ c. CallTells c file made.answer made.request.bytes) call told.tells in
     came ∙ ap (λ n. slice_range file (data_place place) (data_place place + n)) whole ∙ sym (page_there law file i place bytes is there)

@@ -23,7 +23,7 @@ use Rattle.sd_store_laws.specs.Gates.{AreBelieved, IsBelievedAs, IsWeaker, MayBe
 use Rattle.sd_store_laws.specs.GateSteps.{BeliefsFollowCalls, OneBeliefChanges}
 use Rattle.sd_store_laws.specs.Store.{Store}
 use Rattle.sd_crash_safety.specs.Believes.{HasStore, IsCovered, ShowsPending}
-use Rattle.sd_crash_safety.specs.Calls.{WritesPage}
+use Rattle.sd_crash_safety.specs.Calls.{WritesDataPage}
 use Rattle.sd_crash_safety.specs.StoreSteps.{AreGivenUp, IsOutcomeOf, IsQuiet, MayAsk, QuietSteps}
 use Rattle.sd_crash_safety.proofs.Places.{body_other, has_too, set_again, set_count, set_other, set_same}
 
@@ -189,7 +189,7 @@ module _ (base : Base) (history : History) (phases : List Phase) (asked : List (
     }
 
     -- the write of another page of this slot is, too
-    page_covered : (r : Asked) → r.id.slot ≡ slot → WritesPage made.request.id → WritesPage r.id → IsCovered phases bodies beliefs r → IsCovered next_phases next_bodies beliefs r
+    page_covered : (r : Asked) → r.id.slot ≡ slot → WritesDataPage made.request.id → WritesDataPage r.id → IsCovered phases bodies beliefs r → IsCovered next_phases next_bodies beliefs r
     page_covered r same one other c =
         let here : slice_get next_phases slot ≡ Some (after o.phase made.request.id.call (is_done made.answer)) =
         set_same phases slot o.phase (after o.phase made.request.id.call (is_done made.answer)) o.waits.is in

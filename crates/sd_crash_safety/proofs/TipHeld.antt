@@ -19,7 +19,7 @@ use Rattle.sd_journal.specs.Allowed.{Shown}
 use Rattle.sd_merge.specs.Merging.{listed_places}
 use Rattle.sd_rounds.specs.Made.{entries_listed, run_entries}
 use Rattle.sd_rounds.specs.Pass as rounds
-use Rattle.sd_rounds.specs.Pass.{Entry, Place}
+use Rattle.sd_rounds.specs.Pass.{ImageEntry, Place}
 
 -- ---- the pages of areas
 
@@ -59,7 +59,7 @@ covered Merged areas runs other is page c = areas_have areas page (subst (λ pag
 -- ---- the pages that a table lists
 
 module _ (P : Place → Type 0) where
-  abbrev At : Entry → Type 0
+  abbrev At : ImageEntry → Type 0
   At entry = P entry.place
 
   runs_are : (space : ℕ) (runs : List Run) → ((page : ℕ) → Contains (flat_map run_pages runs) page → P (space, page)) → All At (flat_map (run_entries space) runs)
@@ -79,7 +79,7 @@ module _ (P : Place → Type 0) where
   listed_are : (h : Header) (spaces : List Listed) → h.kind ≢ PreDump → IsTable h spaces
       → ((s : Listed) → Contains spaces s → (page : ℕ) → (prot_in s.areas page ≡ None → ⊥) → P (s.space, page)) → (at : Place) → Contains (listed_places spaces) at → P at
   listed_are h spaces other table each at lists =
-      All-contains P (listed_places spaces) at (All-map P rounds.place_of (entries_listed spaces) (entries_are h 0 spaces other table.each each)) lists
+      All-contains P (listed_places spaces) at (All-map P rounds.place_of_entry (entries_listed spaces) (entries_are h 0 spaces other table.each each)) lists
 
 -- ---- the tip
 

@@ -6,7 +6,7 @@ use Rattle.sd_gate.specs.Requests.{Asked}
 use Rattle.sd_journal.specs.History.{Base, History}
 use Rattle.sd_pagetable.specs.Contents.{Contents}
 use Rattle.sd_rounds.specs.Dumper.{IsReserved, Running, slot_of}
-use Rattle.sd_rounds.specs.Keeps.{Rests, Within}
+use Rattle.sd_rounds.specs.Keeps.{ChainWithin, Rests}
 use Rattle.sd_rounds.specs.Making.{Making}
 use Rattle.sd_rounds.specs.MakingLaws.{MakingLaws}
 use Rattle.sd_store_laws.specs.Beliefs.{image_at, image_in}
@@ -31,7 +31,7 @@ pub record LeavesWork (store : Store) (running : Option Running) (memory : Conte
   pub newest : (j : Image) → Contains store_now.catalog j → IsRestorable j
       → (i : Image) × Contains store.catalog i × IsRestorable i × (j.header.checkpoint ≡ i.header.checkpoint)
   pub needs : (slot : ℕ) (i : Image) (one : Running) → running ≡ Some one → IsReserved one slot → image_at old.beliefs slot ≡ Some i → IsNeededIn store_now i → IsNeededIn store i
-  pub gives : (one : Running) → running ≡ Some one → Within (chain_of store one.parent) (chain_of store_now one.parent)
+  pub gives : (one : Running) → running ≡ Some one → ChainWithin (chain_of store one.parent) (chain_of store_now one.parent)
   pub rests : running ≡ None → store.grows ≡ true → ((tip : Image) → IsTip store.catalog tip → Rests (chain_of store tip.header.stands_for) memory)
       → (tip : Image) → IsTip store_now.catalog tip → Rests (chain_of store_now tip.header.stands_for) memory
   pub numbers : (number : ℕ) → IsMakingNumber running number → IsNewNumber store number → IsNewNumber store_now number
@@ -41,7 +41,7 @@ module _ (making : MakingLaws) (base : Base) (history : History) (memory : Conte
     (dump : Option Image) (asked asked_now : List (Option Asked)) (own_same : slice_get asked_now 0 ≡ slice_get asked 0)
     (lanes_same : lanes_of asked_now ≡ lanes_of asked) where
   module _ (running : Running) (leaves : LeavesWork store (Some running) memory old last last_now store_now new) where
-    gives : Within (chain_of store running.parent) (chain_of store_now running.parent)
+    gives : ChainWithin (chain_of store running.parent) (chain_of store_now running.parent)
     gives = leaves.gives running refl
 
     frozen_beside : (image : Making) (pages : List (List ℕ)) → IsFrozenAs base history running.number memory pages (chain_of store running.parent) image

@@ -15,7 +15,7 @@ use Rattle.sd_rounds.specs.declared.image_step.ImageStep.TheVariants.{Call, Page
 use Rattle.sd_rounds.specs.declared.stage.Stage.TheVariants.{Freeze as FreezeStage, Pass as PassStage}
 use Rattle.sd_rounds.specs.Dumper.{Running, writes_of_image}
 use Rattle.sd_rounds.specs.Files.{IsFiledIn}
-use Rattle.sd_rounds.specs.Making.{Making, Steps, is_frozen, is_past_freeze}
+use Rattle.sd_rounds.specs.Making.{Making, Steps, is_frozen_dump, is_past_freeze}
 use Rattle.sd_rounds.specs.MakingLaws.{DumpsImage, KeepsImage, MakingLaws, Pages, pages_after}
 use Rattle.sd_store_laws.specs.Beliefs.{Belief}
 use Rattle.sd_store_laws.specs.Store.{Store}
@@ -129,7 +129,7 @@ works_lem making old new running image next number step asked bodies files on s 
 
 -- ---- the freeze
 
-fresh_image : (image : Making) → image.stage ≡ FreezeStage → is_frozen image ≡ true → ⊥
+fresh_image : (image : Making) → image.stage ≡ FreezeStage → is_frozen_dump image ≡ true → ⊥
 fresh_image image stage is = false_last (kind_number image.order.kind == 2) (ap (λ past. (kind_number image.order.kind == 2) && past) (sym (ap is_past_freeze stage)) ∙ is)
   where
     false_last : (k : Bool) → (k && false) ≡ true → ⊥

@@ -24,7 +24,7 @@ use Rattle.sd_rounds.specs.declared.stage.Stage.TheVariants.{Pass as PassStage, 
 use Rattle.sd_rounds.specs.Dumper.{IsReserved, Running, is_last, order_of, writes_of_image}
 use Rattle.sd_rounds.specs.Files.{FileLaws, FilesImage, HasAreas}
 use Rattle.sd_rounds.specs.Keeps.{Chain}
-use Rattle.sd_rounds.specs.Making.{Making, WritesPage, WritesTable, is_frozen, is_past_freeze}
+use Rattle.sd_rounds.specs.Making.{Making, WritesPage, WritesTable, is_frozen_dump, is_past_freeze}
 use Rattle.sd_rounds.specs.MakingLaws.{AreItsNumbers, DumpsImage, KeepsImage, MakingLaws, Pages, image_of}
 use Rattle.sd_rounds.specs.Pass.{Pass, data_pages}
 use Rattle.sd_rounds.specs.Writes.{no_writes}
@@ -33,7 +33,7 @@ use Rattle.sd_store_laws.specs.InUse.{CatalogFollows}
 use Rattle.sd_store_laws.specs.Needs.{IsNeededIn}
 use Rattle.sd_crash_safety.specs.Believes.{Believes}
 use Rattle.sd_crash_safety.specs.DumperSteps.{AsksFor, AsksToWrite, OnlyDumps}
-use Rattle.sd_crash_safety.specs.InUse.{ArePagesOf, IsClosing, IsFilled, IsFrozenAs, IsImageOn, IsInUseOn, IsMakingOn, IsPageOf, IsRunningOn, IsSlotFor, body_written, call_of, chain_of, ids_of, lanes_of}
+use Rattle.sd_crash_safety.specs.InUse.{ArePagesOf, ClosesBody, IsFilled, IsFrozenAs, IsImageOn, IsInUseOn, IsMakingOn, IsPageOf, IsRunningOn, IsSlotFor, body_written, call_of, chain_of, ids_of, lanes_of}
 use Rattle.sd_crash_safety.specs.StoreSteps.{MayAsk, QuietSteps}
 use Rattle.sd_crash_safety.specs.View.{CoreView, history_of, page_lane}
 use Rattle.sd_crash_safety.proofs.Asks.{in_use_from, unchanged_at}
@@ -310,7 +310,7 @@ writes_table_lem quiet plans follows making file old new running image next numb
       asked_at = writes.gives.slot;
       rests = λ outside. writes.rests;
       writing = subst (ArePagesOf image.order.slot) (sym lanes_same) (no_pages image.order.slot (lanes_of asked) lanes_empty);
-      slot_is = subst (λ x. IsClosing image.order i writes.next m0.phase x (Some request) m0.belief b.dump) (sym (ap (body_written body) lanes_same ∙ still)) (record {
+      slot_is = subst (λ x. ClosesBody image.order i writes.next m0.phase x (Some request) m0.belief b.dump) (sym (ap (body_written body) lanes_same ∙ still)) (record {
         place = 0;
         on = writes.gives.same_slot;
         left = ap (map call_of) (sym given);
@@ -322,7 +322,7 @@ writes_table_lem quiet plans follows making file old new running image next numb
       });
     })
   where
-    is_frozen_so : image.stage ≡ PassStage → image.order.kind ≡ Dump → is_frozen image ≡ true
+    is_frozen_so : image.stage ≡ PassStage → image.order.kind ≡ Dump → is_frozen_dump image ≡ true
     is_frozen_so stage kind = ap (λ k. (kind_number k == 2) && is_past_freeze image.stage) kind ∙ ap is_past_freeze stage
 
     never_merged : (last : Bool) → (if last then Dump else PreDump) ≡ Merged → ⊥

@@ -10,7 +10,7 @@ use Rattle.sd_journal.specs.Allowed.{Shown, IsLastPair, IsPendingPair}
 use Rattle.sd_journal.specs.History.{Base, History}
 use Rattle.sd_store_laws.specs.Beliefs.{AreSlotsOf, Belief}
 use Rattle.sd_store_laws.specs.Gates.{AreBelieved, MayBelieve}
-use Rattle.sd_store_laws.specs.Store.{IsSound, Store}
+use Rattle.sd_store_laws.specs.Store.{IsSoundStore, Store}
 use Rattle.sd_crash_safety.specs.Knows.{Knows}
 use Rattle.sd_crash_safety.specs.View.{CoreView, history_of}
 
@@ -41,7 +41,7 @@ pub record ShowsPending (base : Base) (history : History) (images : List Image) 
 pub record HasStore (base : Base) (history : History) (phases : List Phase) (asked : List (Option Asked))
     (bodies : List (List ℕ))
     (store : Store) (dump : Option Image) (beliefs : List Belief) : Type 0 where
-  pub sound : IsSound store
+  pub sound : IsSoundStore store
   pub slots : AreSlotsOf store dump beliefs
   pub believed : AreBelieved phases bodies beliefs
   pub stored : length bodies ≡ length phases

@@ -13,7 +13,7 @@ use Rattle.sd_gate.specs.declared.request_id.RequestId.{RequestId}
 use Rattle.sd_gate.specs.declared.worker.Worker.{Worker}
 use Rattle.sd_gate.specs.declared.worker.Worker.TheVariants.{Dumper, Opener}
 use Rattle.sd_gate.specs.Calls.{IsLook, is_done}
-use Rattle.sd_gate.specs.Fits.{DiskLeaves, Reads}
+use Rattle.sd_gate.specs.Fits.{DiskLeaves, PhaseReads}
 use Rattle.sd_gate.specs.Laws.{found_phase}
 use Rattle.sd_gate.specs.Looks.{IsTold}
 use Rattle.sd_gate.specs.Phases.{Waits, after, body_after, bodies_after, given_up, phases_after}
@@ -28,8 +28,8 @@ use Rattle.sd_crash_safety.specs.Knows.{IsRefound}
 use Rattle.sd_crash_safety.specs.View.{CoreView, history_of}
 
 -- the core believes as much as before, with these requests out
-abbrev pub GoesOn : CoreView → List (Option Asked) → CoreView → List (Option Asked) → Type 0
-GoesOn old asked new now =
+abbrev pub StaysBelieved : CoreView → List (Option Asked) → CoreView → List (Option Asked) → Type 0
+StaysBelieved old asked new now =
     (bodies files : List (List ℕ)) → Believes old asked bodies files → Believes new now bodies files
 
 -- no request is out on a slot
@@ -37,14 +37,14 @@ abbrev pub IsFree : List (Option RequestId) → ℕ → Type 0
 IsFree outs slot = (worker : ℕ) (id : RequestId) → slice_get outs worker ≡ Some (Some id) → id.slot ≢ slot
 
 -- it writes a data page
-pub record WritesPage (id : RequestId) : Type 0 where
+pub record WritesDataPage (id : RequestId) : Type 0 where
   pub place : ℕ
   pub call : id.call ≡ Write (data_place place)
 
 -- both write data pages, and not the same one
 pub record AreOtherPages (id other : RequestId) : Type 0 where
-  pub one : WritesPage id
-  pub another : WritesPage other
+  pub one : WritesDataPage id
+  pub another : WritesDataPage other
   pub apart : id.call ≢ other.call
 
 -- each request that is out on the slot of this one writes a data page, as it does, and another one
@@ -66,7 +66,7 @@ pub record Stays (old new : CoreView) : Type 0 where
   pub base : new.base ≡ old.base
   pub outs : new.outs ≡ old.outs
   pub phases : AreGivenUp new.outs old.phases new.phases
-  pub goes_on : (asked : List (Option Asked)) → GoesOn old asked new asked
+  pub goes_on : (asked : List (Option Asked)) → StaysBelieved old asked new asked
 
 -- no request is out
 abbrev pub NoneOut : List (Option Asked) → Type 0
@@ -96,13 +96,13 @@ running_number None = None
 running_number (Some running) = Some running.number
 
 -- the dumper's step may freeze the memory for the running checkpoint
-pub record Freezes (worker : Worker) (core : CoreView) (n : ℕ) : Type 0 where
+pub record MayFreeze (worker : Worker) (core : CoreView) (n : ℕ) : Type 0 where
   pub dumper : worker ≡ Dumper
   pub number : running_number core.dumper.running ≡ Some n
 
 -- nothing, or the freeze
 abbrev pub AddsByWorked : Worker → CoreView → History → History → Type 0
-AddsByWorked worker core old new = (new ≡ old) ⊎ ((n : ℕ) × Freezes worker core n × (new ≡ Freeze n ∷ old))
+AddsByWorked worker core old new = (new ≡ old) ⊎ ((n : ℕ) × MayFreeze worker core n × (new ≡ Freeze n ∷ old))
 
 -- by a worker's step that makes no request
 abbrev pub AddsByStep : Worker → CoreView → Reply → History → History → Type 0
@@ -169,7 +169,7 @@ pub record HandsOut (old : CoreView) (worker : Worker) (request : Asked) (new : 
   pub beside : (other_lane : ℕ) (other : RequestId) → slice_get old.outs other_lane ≡ Some (Some other)
       → other.slot ≡ request.id.slot
       → (2 < lane) × (2 < other_lane)
-  pub goes_on : (asked : List (Option Asked)) → GoesOn old asked new (slice_set asked lane (Some request))
+  pub goes_on : (asked : List (Option Asked)) → StaysBelieved old asked new (slice_set asked lane (Some request))
 
 -- a step that makes no request
 pub record MakesStep (old : CoreView) (worker : Worker) (answer : Reply) (new : CoreView) : Type 0 where
@@ -180,7 +180,7 @@ pub record MakesStep (old : CoreView) (worker : Worker) (answer : Reply) (new : 
 -- was done, what it read
 pub record WasTold (phases : List Phase) (bodies files : List (List ℕ)) (made : Made) : Type 0 where
   pub reads : IsLook made.request.id.call → (phase : Phase) → Waits phases made.request.id phase
-      → Reads (after phase made.request.id.call (is_done made.answer))
+      → PhaseReads (after phase made.request.id.call (is_done made.answer))
       (body_after (file_at bodies made.request.id.slot) made.request.id.call made.request.bytes)
       (file_at files made.request.id.slot)
   pub told : is_done made.answer ≡ true → IsTold (file_at files made.request.id.slot) made

@@ -37,7 +37,8 @@ abbrev pub IsCommanded : Option ℕ → Command → Reply → Contents → Conte
 IsCommanded None command told old new = IsSound old × Step old (event_of command told) new
 IsCommanded (Some n) command told old new = new ≡ old
 
-pub record IsApplied (old : CoreView) (seat : ℕ) (command : Command) (told : Reply) (new : CoreView) : Type 0 where
+pub record JournalsCommand (old : CoreView) (seat : ℕ) (command : Command) (told : Reply)
+    (new : CoreView) : Type 0 where
   pub store : SameStore old new
   pub items : new.items ≡ Told (Applied seat command told) ∷ old.items
   pub memory : IsCommanded (pending (history_of old)) command told old.memory new.memory
@@ -47,4 +48,4 @@ pub record CoreSteps : Type 0 where
       → Believes old asked bodies files → Believes new asked bodies files
   pub applied : (old new : CoreView) (seat : ℕ) (command : Command) (told : Reply) (asked : List (Option Asked))
       (bodies files : List (List ℕ))
-      → IsApplied old seat command told new → Believes old asked bodies files → Believes new asked bodies files
+      → JournalsCommand old seat command told new → Believes old asked bodies files → Believes new asked bodies files

@@ -14,7 +14,7 @@ use Rattle.sd_journal.specs.Legal.{IsLegal}
 use Rattle.sd_journal.specs.Marked.{Told}
 use Rattle.sd_rounds.specs.declared.new_image.NewImage.{NewImage}
 use Rattle.sd_rounds.specs.Dumper.{Running, after_pre_dump, is_last, order_of}
-use Rattle.sd_rounds.specs.Making.{GoesOn, IsWritten, Making, Opens}
+use Rattle.sd_rounds.specs.Making.{IsWritten, Making, Opens, PlanGoesOn}
 use Rattle.sd_rounds.specs.Sound.{IsSoundImage}
 use Rattle.sd_crash_safety.specs.declared.standing.Standing.TheVariants as standing
 use Rattle.sd_crash_safety.specs.Believes.{Believes}
@@ -23,19 +23,19 @@ use Rattle.sd_crash_safety.specs.DumperSteps.{OnlyDumps}
 use Rattle.sd_crash_safety.specs.View.{CoreView, history_of, page_lane}
 
 -- a sync behind a close: from then on the slot is closed for sure
-abbrev pub is_closing : Phase → Bool
-is_closing Raw = false
-is_closing RawClosing = false
-is_closing Whole = false
-is_closing Closing = true
-is_closing Shut = false
-is_closing ShutSynced = false
-is_closing Bare = false
-is_closing Writing = false
-is_closing Ready = false
-is_closing Opening = false
-is_closing Doubt = false
-is_closing DoubtSynced = false
+abbrev pub is_being_closed : Phase → Bool
+is_being_closed Raw = false
+is_being_closed RawClosing = false
+is_being_closed Whole = false
+is_being_closed Closing = true
+is_being_closed Shut = false
+is_being_closed ShutSynced = false
+is_being_closed Bare = false
+is_being_closed Writing = false
+is_being_closed Ready = false
+is_being_closed Opening = false
+is_being_closed Doubt = false
+is_being_closed DoubtSynced = false
 
 abbrev pub is_sync : Call → Bool
 is_sync Len = false
@@ -48,7 +48,7 @@ is_sync Cut = false
 is_sync Sync = true
 
 abbrev pub closes_for_sure : Phase → Call → Bool
-closes_for_sure phase call = is_closing phase && is_sync call
+closes_for_sure phase call = is_being_closed phase && is_sync call
 
 -- the image of a slot that was closed for sure leaves the catalog
 abbrev pub LeavesCatalog : Bool → ℕ → Places → Places → Type 0
@@ -86,7 +86,7 @@ pub record ImageGoesOn (old : CoreView) (running : Running) (image : Making) (ma
   pub making : running.image ≡ Some image
   pub own : image.order ≡ order_of running image.order.serial image.order.state
   pub sound : IsSoundImage image
-  pub hands : GoesOn image made next
+  pub hands : PlanGoesOn image made next
   pub committing : new.committing ≡ old.committing
   pub is : new.dumper.running ≡ Some (record running { image = Some next })
 

@@ -13,11 +13,11 @@ use Rattle.sd_journal.specs.Legal.{IsLegal}
 use Rattle.sd_store_laws.specs.Beliefs.{Belief, Closed, Kept, Closing, Opening, IsAdded}
 use Rattle.sd_store_laws.specs.Needed.{IsNeeded}
 use Rattle.sd_store_laws.specs.SlotSteps.{Lacks, with_belief}
-use Rattle.sd_store_laws.specs.Steps.{added, begun, cancelled, committed, merging, replaced, retired}
+use Rattle.sd_store_laws.specs.Steps.{added, cancelled, checkpoint_begun, committed, merging, replaced, retired}
 use Rattle.sd_store_laws.specs.Store.{IsNextDump, IsNextPreDump, IsTwin, Store, jobs}
 use Rattle.sd_crash_safety.specs.Believes.{HasStore, ShowsPending}
 use Rattle.sd_crash_safety.specs.InUse.{NoneAt}
-use Rattle.sd_crash_safety.specs.StoreSteps.{IsOpened, IsShut, MayAsk, MayOpen}
+use Rattle.sd_crash_safety.specs.StoreSteps.{IsShut, MayAsk, MayOpen, SlotIsOpened}
 
 -- a worker may ask for the gate of an image to be closed: its slot keeps it, and nobody needs it
 pub record MayClose (phases : List Phase) (asked : List (Option Asked)) (store : Store) (beliefs : List Belief)
@@ -57,16 +57,16 @@ module _ (base : Base) (history : History) (phases : List Phase) (asked : List (
         → Has (slice_set asked worker (Some request)) store dump (with_belief beliefs request.id.slot (Closing i))
     -- a pre-dump is open for sure
     pub adds : (store : Store) (beliefs : List Belief) (slot : ℕ) (i : Image)
-        → IsOpened phases asked beliefs slot i → IsNextPreDump store i → Has asked store None beliefs
+        → SlotIsOpened phases asked beliefs slot i → IsNextPreDump store i → Has asked store None beliefs
         → Has asked (added store (i ∷ store.catalog) i.header.stands_for) None (with_belief beliefs slot (Kept i))
     -- a dump is open for sure, and acknowledged
     pub commits : (store : Store) (beliefs : List Belief) (slot n : ℕ) (i : Image)
-        → IsOpened phases asked beliefs slot i → IsLegal base (Acked n ∷ history) → Has asked store (Some i) beliefs
+        → SlotIsOpened phases asked beliefs slot i → IsLegal base (Acked n ∷ history) → Has asked store (Some i) beliefs
         → HasStore base (Acked n ∷ history) phases asked bodies (committed store (i ∷ store.catalog)) None
         (with_belief beliefs slot (Kept i))
     -- a merged image is open for sure
     pub replaces : (store : Store) (dump : Option Image) (beliefs : List Belief) (slot : ℕ) (i : Image)
-        → IsOpened phases asked beliefs slot i → IsOnlyTwin store dump beliefs i → Has asked store dump beliefs
+        → SlotIsOpened phases asked beliefs slot i → IsOnlyTwin store dump beliefs i → Has asked store dump beliefs
         → Has asked (replaced store (i ∷ store.catalog)) dump (with_belief beliefs slot (Kept i))
     -- an image is closed for sure, and leaves the catalog
     pub retires : (store : Store) (dump : Option Image) (beliefs : List Belief) (slot : ℕ) (i : Image)
@@ -78,9 +78,9 @@ module _ (base : Base) (history : History) (phases : List Phase) (asked : List (
         → IsShut phases asked slot → slice_get beliefs slot ≡ Some (Opening i) → Has asked store dump beliefs
         → Has asked store dump (with_belief beliefs slot Closed)
     pub begins : (store : Store) (beliefs : List Belief) (tip : Image) → store.grows ≡ true → IsTip store.catalog tip
-        → Has asked store None beliefs → Has asked (begun store tip.header.stands_for) None beliefs
+        → Has asked store None beliefs → Has asked (checkpoint_begun store tip.header.stands_for) None beliefs
     pub begins_whole : (store : Store) (beliefs : List Belief) → Has asked store None beliefs
-        → Has asked (begun store 0) None beliefs
+        → Has asked (checkpoint_begun store 0) None beliefs
     pub cancels : (store : Store) (beliefs : List Belief) → Has asked store None beliefs
         → Has asked (cancelled store) None beliefs
     pub merges : (store : Store) (dump : Option Image) (beliefs : List Belief) (tip : Image) → IsTip store.catalog tip

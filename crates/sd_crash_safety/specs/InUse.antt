@@ -28,14 +28,14 @@ use Rattle.sd_rounds.specs.declared.stage.Stage.TheVariants.{Format, Freeze, Pas
 use Rattle.sd_rounds.specs.Dumper.{IsReserved, Running, slot_of, writes_of_running}
 use Rattle.sd_rounds.specs.Files.{FilesImage, HasAreas}
 use Rattle.sd_rounds.specs.Keeps.{Chain, Rests}
-use Rattle.sd_rounds.specs.Making.{Making, is_frozen, is_passing}
+use Rattle.sd_rounds.specs.Making.{Making, is_frozen_dump, is_passing}
 use Rattle.sd_rounds.specs.MakingLaws.{DumpsImage, KeepsImage, Pages, image_of}
 use Rattle.sd_rounds.specs.Writes.{no_writes}
 use Rattle.sd_store_laws.specs.Beliefs.{Belief, Closed, Opening, image_at}
 use Rattle.sd_store_laws.specs.Gates.{IsBelievedAs}
 use Rattle.sd_store_laws.specs.Harmless.{IsUnused}
 use Rattle.sd_store_laws.specs.InUse.{IsCatalogInUse}
-use Rattle.sd_store_laws.specs.Makers.{IsAbove}
+use Rattle.sd_store_laws.specs.Makers.{IsAboveStore}
 use Rattle.sd_store_laws.specs.Needs.{IsNeededIn}
 use Rattle.sd_store_laws.specs.Store.{Store, jobs}
 
@@ -64,7 +64,7 @@ NoneAt asked slot =
 -- The last serial that was given out, or found, is above none of the store's numbers, and of none that stands in a
 -- slot.
 pub record AreUsed (last : ℕ) (store : Store) (beliefs : List Belief) : Type 0 where
-  pub above : IsAbove store (last + 1)
+  pub above : IsAboveStore store (last + 1)
   pub slots : (slot : ℕ) (i : Image) → image_at beliefs slot ≡ Some i → i.header.serial ≤ last
 
 -- An image of this serial may still enter the catalog: nobody has it as its serial or its number, or asks for it.
@@ -141,7 +141,7 @@ abbrev pub is_opening_at : ℕ → Option Asked → Bool
 is_opening_at place request = nat_lt 3 place || (place == 3 && is_some request)
 
 -- one that holds the image in the end: it is closed until the gate's opening is taken up, and then being opened
-pub record IsClosing (order : ImageOrder) (i : Image) (plan : Planned) (phase : Phase) (body : List ℕ)
+pub record ClosesBody (order : ImageOrder) (i : Image) (plan : Planned) (phase : Phase) (body : List ℕ)
     (request : Option Asked) (belief : Belief) (dump : Option Image) : Type 0 where
   pub place : ℕ
   pub on : plan.slot ≡ order.slot
@@ -159,7 +159,7 @@ IsSlotFor Freeze order pages phase body request belief dump =
 IsSlotFor PassStage order pages phase body request belief dump =
     IsFilled pages phase body belief × (request ≡ None) × (dump ≡ None)
 IsSlotFor (Close plan header tables) order pages phase body request belief dump =
-    IsClosing order (image_of header pages tables) plan phase body request belief dump
+    ClosesBody order (image_of header pages tables) plan phase body request belief dump
 
 -- ---- the checkpoint that runs
 
@@ -181,7 +181,7 @@ pub record IsMakingOn (base : Base) (history : History) (memory : Contents) (pha
   pub pages : Pages
   pub keeps : KeepsImage pages (chain_of store parent) image memory
   pub files : FilesImage pages image
-  pub frozen : is_frozen image ≡ true → IsFrozenAs base history number memory pages (chain_of store parent) image
+  pub frozen : is_frozen_dump image ≡ true → IsFrozenAs base history number memory pages (chain_of store parent) image
   pub serial : image.order.serial ≤ last
   pub fresh : IsNewNumber store image.order.serial
   pub low : parent < image.order.serial

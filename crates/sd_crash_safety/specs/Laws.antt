@@ -81,7 +81,7 @@ pub record OpenerFinds : Type 0 where
 
 -- a store was opened again: the journal has the checkpoint that its files show, and each slot is in the phase that its
 -- file tells
-pub record IsReopened (old new : CoreView) (files : List (List ℕ)) (found : Option ℕ) : Type 0 where
+pub record StoreIsReopened (old new : CoreView) (files : List (List ℕ)) (found : Option ℕ) : Type 0 where
   pub base : new.base ≡ old.base
   pub items : new.items ≡ Told (Reopened found) ∷ old.items
   pub legal : IsLegal old.base (Reopened found ∷ history_of old)
@@ -96,5 +96,5 @@ abbrev pub ReopenedIsBelieved : Type 0
 ReopenedIsBelieved =
     (old new : CoreView) (asked : List (Option Asked)) (bodies files : List (List ℕ)) (found : Option ℕ)
     → NoneOut asked → Believes old asked bodies files → DiskLeaves old.phases bodies files
-    → IsReopened old new files found
+    → StoreIsReopened old new files found
     → Believes new asked (map (drop 1) files) files

@@ -12,7 +12,7 @@ use Rattle.sd_merge.specs.declared.merge_progress.MergeProgress.{MergeProgress}
 use Rattle.sd_merge.specs.declared.merge_progress.MergeProgress.TheVariants as progress
 use Rattle.sd_merge.specs.declared.retired.Retired.{Retired}
 use Rattle.sd_merge.specs.Copying.{Copying, HandsIn, IsSoundCopying, Opens}
-use Rattle.sd_merge.specs.Merger.{HandsClosing, IsRetiring, Retires, Retiring, copying, opened, retiring}
+use Rattle.sd_merge.specs.Merger.{HandsClosing, IsRetiring, Retiring, TakesList, copying, opened, retiring}
 use Rattle.sd_merge.specs.Merger as merger
 use Rattle.sd_rounds.specs.declared.new_image.NewImage.{NewImage}
 use Rattle.sd_crash_safety.specs.declared.standing.Standing.TheVariants as standing
@@ -89,7 +89,7 @@ pub record MergedOpens (places : Places) (old : CoreView) (merge : merger.Runnin
   pub sound : IsSoundCopying copy
   pub opens : Opens copy made image
   pub listed : MayAllRetire places old list
-  pub retires : Retires (Some (record merge { doing = opened copy.order.serial })) list done new.merger
+  pub retires : TakesList (Some (record merge { doing = opened copy.order.serial })) list done new.merger
 
 -- An outcome of a call on an image of the list. No request is out on the slot of the next one.
 pub record RetiringGoesOn (old : CoreView) (merge : merger.Running) (r : Retiring) (made : Made) (phase : Phase)

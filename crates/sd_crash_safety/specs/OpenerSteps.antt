@@ -10,7 +10,7 @@ use Rattle.sd_gate.specs.Plans.{begun}
 use Rattle.sd_gate.specs.Requests.{Asked, Made}
 use Rattle.sd_gate.specs.Sequences.{first_looks}
 use Rattle.sd_opener.specs.declared.stage.Stage.TheVariants.{Asking}
-use Rattle.sd_opener.specs.Looking.{IsAskedBy, IsDecoded, Looking, MovesOn}
+use Rattle.sd_opener.specs.Looking.{IsAskedBy, IsDecoded, Looking, LooksFurther}
 use Rattle.sd_opener.specs.Sees.{IsToldOf, Sees}
 use Rattle.sd_rounds.specs.Writes.{no_writes}
 use Rattle.sd_crash_safety.specs.declared.standing.Standing.TheVariants.{Open}
@@ -75,7 +75,7 @@ pub record Decodes (old : CoreView) (opener next : Looking) (new : CoreView) : T
   pub sees : (files : List (List ℕ)) → Sees files None opener → Sees files None next
 
 -- an outcome was handed in: the slot's phase is the one behind the call
-pub record IsHandedIn (old : CoreView) (made : Made) (phase : Phase) (new : CoreView) : Type 0 where
+pub record IsHandedToOpener (old : CoreView) (made : Made) (phase : Phase) (new : CoreView) : Type 0 where
   pub rest : OnlyOpens old new
   pub alone : old.outs ≡ opener_alone made.request.id
   pub outs : new.outs ≡ nobody
@@ -85,11 +85,11 @@ pub record IsHandedIn (old : CoreView) (made : Made) (phase : Phase) (new : Core
 -- it told the slot's file, and the opener goes on
 pub record IsTaught (old : CoreView) (opener : Looking) (made : Made) (phase : Phase) (next : Looking)
     (new : CoreView) : Type 0 where
-  pub handed : IsHandedIn old made phase new
+  pub handed : IsHandedToOpener old made phase new
   pub done : is_done made.answer ≡ true
   pub was : old.opener ≡ Some opener
   pub is : new.opener ≡ Some next
-  pub moves : MovesOn opener next
+  pub moves : LooksFurther opener next
   pub sees : (files : List (List ℕ)) → IsToldOf (file_at files (length opener.told)) made.request made
       → Sees files (Some made.request) opener → Sees files None next
 
@@ -119,7 +119,7 @@ pub record OpenerSteps : Type 0 where
   -- its outcome failed, and it ends
   pub fails : (old new : CoreView) (made : Made) (phase : Phase) (asked : List (Option Asked))
       (bodies files : List (List ℕ))
-      → IsHandedIn old made phase new → new.opener ≡ None → slice_get asked 2 ≡ Some (Some made.request)
+      → IsHandedToOpener old made phase new → new.opener ≡ None → slice_get asked 2 ≡ Some (Some made.request)
       → Believes old asked bodies files
       → Believes new (slice_set asked 2 None) (bodies_after bodies made.request.id made.request.bytes) files
   pub ends : (old new : CoreView) (asked : List (Option Asked)) (bodies files : List (List ℕ))

@@ -17,7 +17,7 @@ use Rattle.sd_journal.specs.Legal.{IsLegal}
 use Rattle.sd_store_laws.specs.Beliefs.{Belief, Closed, Opening, image_at}
 use Rattle.sd_store_laws.specs.Store.{Store}
 use Rattle.sd_crash_safety.specs.Believes.{HasStore}
-use Rattle.sd_crash_safety.specs.Calls.{WritesPage}
+use Rattle.sd_crash_safety.specs.Calls.{WritesDataPage}
 use Rattle.sd_crash_safety.specs.InUse.{NoneAt}
 
 -- a call may be asked for in a lane: none is out in it, and the slot is ready for the call
@@ -35,7 +35,7 @@ pub record IsQuiet (phase : Phase) (call : Call) : Type 0 where
 pub record IsOutcomeOf (phases : List Phase) (asked : List (Option Asked)) (lane : ℕ) (made : Made) : Type 0 where
   pub out : slice_get asked lane ≡ Some (Some made.request)
   pub others : (other : ℕ) (request : Asked) → other ≢ lane → slice_get asked other ≡ Some (Some request)
-      → request.id.slot ≡ made.request.id.slot → WritesPage made.request.id × WritesPage request.id
+      → request.id.slot ≡ made.request.id.slot → WritesDataPage made.request.id × WritesDataPage request.id
   pub phase : Phase
   pub waits : Waits phases made.request.id phase
 
@@ -50,7 +50,7 @@ pub record MayOpen (phases : List Phase) (asked : List (Option Asked)) (bodies :
   pub alone : (other : ℕ) (j : Image) → image_at beliefs other ≡ Some j → j.header.serial ≢ i.header.serial
 
 -- the slot's gate was opened and synced, and no request is out on it
-pub record IsOpened (phases : List Phase) (asked : List (Option Asked)) (beliefs : List Belief) (slot : ℕ)
+pub record SlotIsOpened (phases : List Phase) (asked : List (Option Asked)) (beliefs : List Belief) (slot : ℕ)
     (i : Image) : Type 0 where
   pub belief : slice_get beliefs slot ≡ Some (Opening i)
   pub phase : slice_get phases slot ≡ Some Whole

@@ -59,56 +59,24 @@ pub record CoreView : Type 0 where
 abbrev pub saved_code : Coded (Option ℕ × PlainMemory)
 saved_code = coded× (coded_option coded_ℕ) plain_memory_code
 
+-- the requests that are out, and the workers
+abbrev pub Workers : Type 0
+Workers = List (Option RequestId) × (Places × (Dumping ×
+    (Option merger.Running × (Option Looking × (Numbers × (Bool × Bool))))))
+
+abbrev pub workers_of : CoreView → Workers
+workers_of c = (c.outs, (c.catalog, (c.dumper, (c.merger, (c.opener, (c.numbers, (c.grows, c.committing)))))))
+
 -- all but the number and the memory of the base, and the memory
 abbrev pub Rest : Type 0
-Rest = (Origin × ℕ) ×
-    (Marked × (ℕ × (ℕ × (Standing
-    × (List Phase × (List (Option RequestId)
-    × (Places × (Dumping ×
-    (Option merger.Running × (Option Looking × (Numbers × (Bool × Bool))))))))))))
+Rest = (Origin × ℕ) × (Marked × (ℕ × (ℕ × (Standing × (List Phase × Workers)))))
+
+abbrev pub rest_of : CoreView → Rest
+rest_of c = ((c.base.origin, c.base.folded), (c.items, (c.held, (c.limit, (c.standing, (c.phases, workers_of c))))))
 
 abbrev pub core_code : Coded Rest → Coded CoreView
 core_code rest = code_by ((Option ℕ × PlainMemory) × (Contents × Rest)) (coded× saved_code (coded× contents_code rest))
-    (λ c. (
-      (c.base.number, c.base.memory),
-      (
-        c.memory,
-        (
-          (c.base.origin, c.base.folded),
-          (
-            c.items,
-            (
-              c.held,
-              (
-                c.limit,
-                (
-                  c.standing,
-                  (
-                    c.phases,
-                    (
-                      c.outs,
-                      (
-                        c.catalog,
-                        (
-                          c.dumper,
-                          (
-                            c.merger,
-                            (
-                              c.opener,
-                              (c.numbers, (c.grows, c.committing)),
-                            ),
-                          ),
-                        ),
-                      ),
-                    ),
-                  ),
-                ),
-              ),
-            ),
-          ),
-        ),
-      ),
-    ))
+    (λ c. ((c.base.number, c.base.memory), (c.memory, rest_of c)))
     (λ t. record {
       base = record { number = t.0.0; memory = t.0.1; origin = t.1.1.0.0; folded = t.1.1.0.1 };
       memory = t.1.0;

@@ -5,7 +5,7 @@ use Rattle.std.proofs.lemmas.Bool.Decides.{eqb_tells}
 use Rattle.std.proofs.lemmas.List.{get_or_past, length-set}
 use Rattle.sd_disk.specs.Contents.{file_at, Torn, Cut, AtSlot}
 use Rattle.sd_disk.specs.Crash.{Elapses}
-use Rattle.sd_disk.specs.Events.{Outside, Event, files_after}
+use Rattle.sd_disk.specs.Events.{Outside, DiskEvent, files_after}
 use Rattle.sd_disk.specs.Laws.{Leads}
 use Rattle.sd_disk.specs.Moments.{LeftSince}
 use Rattle.sd_disk.specs.Outcomes.{Unsynced, Leaves, MayLeave, at_rest, with_write, with_cut, unsynced_after, was_synced}
@@ -15,7 +15,7 @@ use Rattle.sd_disk.proofs.OutcomeLemmas.{Allowed, changed_at, followed, reached}
 use Rattle.sd_disk.proofs.SoundLemmas.{sound}
 use Rattle.sd_disk.proofs.StepLemmas.{torn_same, cut_same}
 
-module _ (outside : Outside) (earlier : List Event) where
+module _ (outside : Outside) (earlier : List DiskEvent) where
   abbrev files : List (List ℕ)
   files = files_after outside earlier
 
@@ -36,7 +36,7 @@ module _ (outside : Outside) (earlier : List Event) where
   left_before d given = record { count = given.same; each = given.each }
 
   -- an event that changes one slot
-  module _ (event : Event) (number : ℕ) (step : List ℕ → List ℕ → Type 0) (change : ℕ → Unsynced → Unsynced) (size : length (files_after outside (event ∷ earlier)) ≡ length files)
+  module _ (event : DiskEvent) (number : ℕ) (step : List ℕ → List ℕ → Type 0) (change : ℕ → Unsynced → Unsynced) (size : length (files_after outside (event ∷ earlier)) ≡ length files)
       (after : (slot : ℕ) → unsynced_after outside (event ∷ earlier) slot ≡ changed_at number change known slot) (quiet : (slot : ℕ) → was_synced (event ∷ earlier) slot ≡ was_synced earlier slot) where
     step_back : ((file : List ℕ) → step file file)
         → ((file : List ℕ) → Leaves (change number (known number)) file → (before : List ℕ) × Leaves (known number) before × step before file)
@@ -101,7 +101,7 @@ module _ (outside : Outside) (earlier : List Event) where
   }
 
 -- an outcome after a call was one before it, and the call led there
-pub leads_back : (outside : Outside) (event : Event) (earlier : List Event) (c : List (List ℕ)) → MayLeave outside (event ∷ earlier) c
+pub leads_back : (outside : Outside) (event : DiskEvent) (earlier : List DiskEvent) (c : List (List ℕ)) → MayLeave outside (event ∷ earlier) c
     → (d : List (List ℕ)) × MayLeave outside earlier d × Leads event.0 event.1 (files_after outside earlier) d c
 leads_back outside (Measured number len, bytes) earlier c left = (c, record { count = left.count; each = left.each }, refl)
 leads_back outside (Read number at, bytes) earlier c left = (c, record { count = left.count; each = left.each }, refl)
@@ -121,7 +121,7 @@ leads_back outside (CutFailed number len, bytes) earlier c left =
     (cut_same len) (λ file. cut_undone (length (file_at (files_after outside earlier) number)) len (unsynced_after outside earlier number) file (ordered outside earlier number)) c left
 
 -- what is led to from an outcome before a call is an outcome after it
-pub leads_on : (outside : Outside) (event : Event) (earlier : List Event) (c : List (List ℕ))
+pub leads_on : (outside : Outside) (event : DiskEvent) (earlier : List DiskEvent) (c : List (List ℕ))
     → ((d : List (List ℕ)) × MayLeave outside earlier d × Leads event.0 event.1 (files_after outside earlier) d c) → MayLeave outside (event ∷ earlier) c
 leads_on outside (Measured number len, bytes) earlier c from = let left = subst (MayLeave outside earlier) from.2 from.1 in record { count = left.count; each = left.each }
 leads_on outside (Read number at, bytes) earlier c from = let left = subst (MayLeave outside earlier) from.2 from.1 in record { count = left.count; each = left.each }
@@ -142,7 +142,7 @@ leads_on outside (CutFailed number len, bytes) earlier c from =
     (λ before file. cut_leaves (length (file_at (files_after outside earlier) number)) len (unsynced_after outside earlier number) before file (sound outside earlier number).left.no_shorter (sound outside earlier number).covers) c from
 
 -- an event that was noted
-module _ (outside outside' : Outside) (events events' : List Event) (event : Event) (same : outside' ≡ outside) (noted : events' ≡ event ∷ events) where
+module _ (outside outside' : Outside) (events events' : List DiskEvent) (event : DiskEvent) (same : outside' ≡ outside) (noted : events' ≡ event ∷ events) where
   pub crash_noted : (c : List (List ℕ)) → MayLeave outside' events' c
       → (d : List (List ℕ)) × MayLeave outside events d × Leads event.0 event.1 (files_after outside events) d c
   crash_noted c left = leads_back outside event events c (subst (λ o. MayLeave o (event ∷ events) c) same (subst (λ es. MayLeave outside' es c) noted left))

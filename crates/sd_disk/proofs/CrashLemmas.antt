@@ -5,7 +5,7 @@ use Rattle.std.proofs.lemmas.List.{get_or_append_left, length-append, length-map
 use Rattle.std.proofs.Math.Seq.{get_or-append_seam}
 use Rattle.sd_disk.specs.Contents.{file_at}
 use Rattle.sd_disk.specs.Outcomes.{at_rest}
-use Rattle.sd_disk.specs.Slots.{held, room_of, Tracks, AreAtRest}
+use Rattle.sd_disk.specs.Slots.{held, room_of, ShadowTracks, AreAtRest}
 use Rattle.sd_disk.specs.declared.slot_file.SlotFile.{SlotFile}
 
 module _ (slots : List SlotFile) (new : SlotFile) where
@@ -15,10 +15,10 @@ module _ (slots : List SlotFile) (new : SlotFile) where
       let is : number ≡ length slots = omega (arith, length-append slots (new ∷ [])) in
       ap (λ n. slice_index_or (slots ++ new ∷ []) n other) is ∙ get_or-append_seam slots new [] other
 
-  pub rest_pushed : AreAtRest slots → Tracks new.shadow (at_rest (held new)) → AreAtRest (slots ++ new ∷ [])
+  pub rest_pushed : AreAtRest slots → ShadowTracks new.shadow (at_rest (held new)) → AreAtRest (slots ++ new ∷ [])
   rest_pushed rest tracks = λ number slot near here. ⊎_elim
       (λ before. rest number slot before (here ∙ get_or_append_left slots (new ∷ []) slot number before))
-      (λ past. subst (λ s. Tracks s.shadow (at_rest (held s))) (sym (here ∙ last number slot near past)) tracks)
+      (λ past. subst (λ s. ShadowTracks s.shadow (at_rest (held s))) (sym (here ∙ last number slot near past)) tracks)
       (cases_lt number (length slots))
 
   -- what holds of each file so far, and of the new one

@@ -2,7 +2,7 @@
 use Rattle.std.proofs.Common.{◌≡◌, ℕ, ◌<◌, List, [], ◌∷◌, length, refl, sym, ◌∙◌, subst}
 use Rattle.std.proofs.Math.ListN.{length-set}
 use Rattle.sd_disk.specs.Contents.{file_at, Torn, Cut, AtSlot}
-use Rattle.sd_disk.specs.Events.{Outside, Event, after, failures_in, files_after}
+use Rattle.sd_disk.specs.Events.{Outside, DiskEvent, after, failures_in, files_after}
 use Rattle.sd_disk.specs.declared.call.Call as call
 use Rattle.sd_disk.specs.declared.call.Call.TheVariants.{Measured, Read, Written, Cut as Cuts, Synced, Failed, WriteFailed, CutFailed}
 use Rattle.sd_disk.proofs.StepLemmas.{at_slot, torn_written, cut_taken, torn_by_write, torn_by_cut}
@@ -17,12 +17,12 @@ length_after Failed bytes left files = refl
 length_after (WriteFailed slot at) bytes left files = length-set files slot _
 length_after (CutFailed slot len) bytes left files = length-set files slot _
 
-pub length_files : (outside : Outside) (events : List Event) → length (files_after outside events) ≡ length outside.found
+pub length_files : (outside : Outside) (events : List DiskEvent) → length (files_after outside events) ≡ length outside.found
 length_files outside [] = refl
 length_files outside (event ∷ earlier) =
     length_after event.0 event.1 (file_at outside.left (failures_in earlier)) (files_after outside earlier) ∙ length_files outside earlier
 
-module _ (outside outside' : Outside) (events events' : List Event) (event : Event) (same : outside' ≡ outside) (noted : events' ≡ event ∷ events) where
+module _ (outside outside' : Outside) (events events' : List DiskEvent) (event : DiskEvent) (same : outside' ≡ outside) (noted : events' ≡ event ∷ events) where
   files_noted : files_after outside' events' ≡ after event.0 event.1 (file_at outside.left (failures_in events)) (files_after outside events)
   files_noted = rw (same, noted) refl
 
@@ -33,7 +33,7 @@ module _ (outside outside' : Outside) (events events' : List Event) (event : Eve
       let P : List (List ℕ) → Type 0 = AtSlot slot step (files_after outside events) in
       subst P (sym files_noted) stepped
 
-module _ (outside outside' : Outside) (events events' : List Event) (slot : ℕ) (known : slot < length (files_after outside events)) (same : outside' ≡ outside) where
+module _ (outside outside' : Outside) (events events' : List DiskEvent) (slot : ℕ) (known : slot < length (files_after outside events)) (same : outside' ≡ outside) where
   abbrev files : List (List ℕ)
   files = files_after outside events
 

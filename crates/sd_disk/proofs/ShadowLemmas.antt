@@ -3,10 +3,10 @@ use Rattle.std.proofs.Common.{◌≡◌, ℕ, ◌<◌, ◌≤◌, false, List, l
 use Rattle.std.proofs.lemmas.Grind.{same_number_lists}
 use Rattle.std.proofs.lemmas.List.{get_or-take, length-take}
 use Rattle.sd_disk.specs.Outcomes.{Unsynced, Leaves}
-use Rattle.sd_disk.specs.Slots.{Tracks}
+use Rattle.sd_disk.specs.Slots.{ShadowTracks}
 use Rattle.sd_disk.specs.declared.shadow.Shadow.{Shadow}
 
-module _ (shadow : Shadow) (known : Unsynced) (tracks : Tracks shadow known) where
+module _ (shadow : Shadow) (known : Unsynced) (tracks : ShadowTracks shadow known) where
   synced_size : length known.synced ≡ shadow.synced_len
   synced_size = sym (ap length tracks.synced) ∙ omega (arith, length-take shadow.synced_len shadow.synced.items, shadow.within)
 

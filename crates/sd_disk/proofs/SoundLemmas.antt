@@ -3,7 +3,7 @@ use Rattle.std.proofs.Common.{inl, inr, ℕ, cond, nat_eq, List, [], ◌∷◌, 
 use Rattle.std.proofs.lemmas.Bool.{cases_lt}
 use Rattle.std.proofs.lemmas.List.{set_past}
 use Rattle.sd_disk.specs.Contents.{file_at, Torn, Cut, AtSlot}
-use Rattle.sd_disk.specs.Events.{Outside, Event, failures_in, files_after}
+use Rattle.sd_disk.specs.Events.{Outside, DiskEvent, failures_in, files_after}
 use Rattle.sd_disk.specs.Outcomes.{Unsynced, Leaves, MayLeave, at_rest, with_write, with_cut, unsynced_after}
 use Rattle.sd_disk.specs.declared.call.Call.TheVariants.{Measured, Read, Written, Cut as Cuts, Synced, Failed, WriteFailed, CutFailed}
 use Rattle.sd_disk.proofs.LeaveLemmas.{Covers, rest_leaves, rest_covers, write_covers, cut_covers, write_leaves, cut_leaves}
@@ -48,7 +48,7 @@ sound_at number slot step old new known changed stepped sound there =
     (λ same. there (subst (λ s. step (file_at old s) (file_at new s)) same stepped.here))
     (λ apart. subst (IsSound known) (sym (stepped.others slot (λ e. apart (sym e)))) sound)
 
-pub sound : (outside : Outside) (events : List Event) (slot : ℕ) → IsSound (unsynced_after outside events slot) (file_at (files_after outside events) slot)
+pub sound : (outside : Outside) (events : List DiskEvent) (slot : ℕ) → IsSound (unsynced_after outside events slot) (file_at (files_after outside events) slot)
 sound outside [] slot = rest_sound (file_at outside.found slot)
 sound outside ((Measured number len, bytes) ∷ earlier) slot = sound outside earlier slot
 sound outside ((Read number at, bytes) ∷ earlier) slot = sound outside earlier slot
@@ -89,5 +89,5 @@ sound outside ((CutFailed number len, bytes) ∷ earlier) slot =
     (λ cut. cut_sound len known _ _ (sound outside earlier slot) cut)
 
 -- the files as read are one of what a crash may leave
-pub as_read : (outside : Outside) (events : List Event) → MayLeave outside events (files_after outside events)
+pub as_read : (outside : Outside) (events : List DiskEvent) → MayLeave outside events (files_after outside events)
 as_read outside events = record { count = refl; each = λ slot near was. (sound outside events slot).left }

@@ -14,8 +14,8 @@ pub record Outside : Type 0 where
   pub left : List (List ℕ)
 
 -- a call with what came back, and the bytes that it carried
-abbrev pub Event : Type 0
-Event = Call × List ℕ
+abbrev pub DiskEvent : Type 0
+DiskEvent = Call × List ℕ
 
 abbrev pub is_failure : Call → Bool
 is_failure (Measured slot len) = false
@@ -28,7 +28,7 @@ is_failure (WriteFailed slot at) = true
 is_failure (CutFailed slot len) = true
 
 -- how many calls failed. The last call stands first
-abbrev pub failures_in : List Event → ℕ
+abbrev pub failures_in : List DiskEvent → ℕ
 failures_in [] = 0
 failures_in (event ∷ earlier) = cond (is_failure event.0) (failures_in earlier + 1) (failures_in earlier)
 
@@ -60,7 +60,7 @@ after (WriteFailed slot at) bytes left files =
 after (CutFailed slot len) bytes left files = slice_set files slot (torn_cut len (file_at files slot) left)
 
 -- the files after all calls
-abbrev pub files_after : Outside → List Event → List (List ℕ)
+abbrev pub files_after : Outside → List DiskEvent → List (List ℕ)
 files_after outside [] = outside.found
 files_after outside (event ∷ earlier) =
     after event.0 event.1 (file_at outside.left (failures_in earlier)) (files_after outside earlier)
@@ -77,7 +77,7 @@ IsAnswer (WriteFailed slot at) bytes files = Unit {0}
 IsAnswer (CutFailed slot len) bytes files = Unit {0}
 
 -- what came back was each time that of files which keep what they are given
-abbrev pub AreAnswers : Outside → List Event → Type 0
+abbrev pub AreAnswers : Outside → List DiskEvent → Type 0
 AreAnswers outside [] = Unit {0}
 AreAnswers outside (event ∷ earlier) =
     IsAnswer event.0 event.1 (files_after outside earlier) × AreAnswers outside earlier

@@ -1,6 +1,6 @@
 -- What a disk over files holds, by its record of calls.
 use Rattle.std.specs.Prelude.{ℕ, List, length}
-use Rattle.sd_disk.specs.Events.{Event, files_after, failures_in, AreAnswers}
+use Rattle.sd_disk.specs.Events.{DiskEvent, files_after, failures_in, AreAnswers}
 use Rattle.sd_disk.specs.Outcomes.{MayLeave}
 use Rattle.sd_disk.specs.Moments.{LeftSince}
 use Rattle.sd_disk.specs.declared.dir_disk.DirDisk.{DirDisk}
@@ -11,7 +11,7 @@ abbrev pub folder_slots : Folder → ℕ
 folder_slots folder = length folder.images.items
 
 -- the calls on it, the last first
-abbrev pub folder_events : DirDisk → List Event
+abbrev pub folder_events : DirDisk → List DiskEvent
 folder_events disk = disk.log.log.trace.events
 
 -- its files

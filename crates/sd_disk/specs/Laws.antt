@@ -1,7 +1,7 @@
 -- Laws of what a crash may leave.
 use Rattle.std.specs.Prelude.{◌≡◌, ◌↔◌, ℕ, List, ◌∷◌, length}
 use Rattle.sd_disk.specs.Contents.{file_at, Torn, Cut, AtSlot}
-use Rattle.sd_disk.specs.Events.{Outside, Event, files_after}
+use Rattle.sd_disk.specs.Events.{Outside, DiskEvent, files_after}
 use Rattle.sd_disk.specs.Outcomes.{MayLeave}
 use Rattle.sd_disk.specs.declared.call.Call.{Call}
 use Rattle.sd_disk.specs.declared.call.Call.TheVariants.{Measured, Read, Written, Cut as Cuts, Synced, Failed}
@@ -20,7 +20,7 @@ Leads (CutFailed slot len) bytes files before c = AtSlot slot (Cut len) before c
 
 -- The rules, call by call, in both directions.
 abbrev pub CrashOutcomes : Type 0
-CrashOutcomes = (outside : Outside) (event : Event) (earlier : List Event) (c : List (List ℕ))
+CrashOutcomes = (outside : Outside) (event : DiskEvent) (earlier : List DiskEvent) (c : List (List ℕ))
     → MayLeave outside (event ∷ earlier) c ↔
     ((before : List (List ℕ)) × MayLeave outside earlier before
     × Leads event.0 event.1 (files_after outside earlier) before c)

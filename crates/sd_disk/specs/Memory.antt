@@ -1,6 +1,6 @@
 -- What a disk in memory holds, and what each call does to it.
 use Rattle.std.specs.Prelude.{◌≡◌, ℕ, ◌+◌, ◌-◌, ◌<◌, ◌≤◌, ◌^◌, min, List, length, map, slice_index}
-use Rattle.sd_disk.specs.Events.{Event, failures_in}
+use Rattle.sd_disk.specs.Events.{DiskEvent, failures_in}
 use Rattle.sd_disk.specs.Outcomes.{MayLeave}
 use Rattle.sd_disk.specs.Moments.{LeftSince}
 use Rattle.sd_disk.specs.Slots.{held, room_of}
@@ -27,7 +27,7 @@ abbrev pub memory_reads : MemDisk → ℕ
 memory_reads disk = disk.reads
 
 -- the writes, cuts and syncs on it, the last first
-abbrev pub memory_events : MemDisk → List Event
+abbrev pub memory_events : MemDisk → List DiskEvent
 memory_events disk = disk.budget.log.trace.events
 
 -- how many calls were made on it: these, and the questions for a length and the reads

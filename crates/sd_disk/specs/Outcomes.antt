@@ -9,7 +9,7 @@ use Rattle.std.specs.Prelude.{◌≡◌, ℕ, ◌+◌, ◌<◌, ◌≤◌, max, 
 use Rattle.std.specs.Prelude.{nat_lt, nat_le, List, [], ◌∷◌, length, slice_index}
 use Rattle.std.proofs.Common.{subst, ap, ◌∙◌}
 use Rattle.sd_disk.specs.Contents.{file_at}
-use Rattle.sd_disk.specs.Events.{Outside, Event, files_after, failures_in}
+use Rattle.sd_disk.specs.Events.{Outside, DiskEvent, files_after, failures_in}
 use Rattle.sd_disk.specs.declared.call.Call.{Call}
 use Rattle.sd_disk.specs.declared.call.Call.TheVariants.{Measured, Read, Written, Cut, Synced, Failed, WriteFailed}
 use Rattle.sd_disk.specs.declared.call.Call.TheVariants.{CutFailed}
@@ -79,7 +79,7 @@ with_call (CutFailed at_slot len) bytes slot file before =
     if at_slot == slot then with_cut (length file) len before else before
 
 -- a slot after all calls, the last of which stands first
-abbrev pub unsynced_after : Outside → List Event → ℕ → Unsynced
+abbrev pub unsynced_after : Outside → List DiskEvent → ℕ → Unsynced
 unsynced_after outside [] slot = at_rest (file_at outside.found slot)
 unsynced_after outside (event ∷ earlier) slot =
     with_call event.0 event.1 slot (file_at (files_after outside earlier) slot) (unsynced_after outside earlier slot)
@@ -96,29 +96,29 @@ is_sync_of (WriteFailed at_slot at) slot = false
 is_sync_of (CutFailed at_slot len) slot = false
 
 -- the slot was synced
-abbrev pub was_synced : List Event → ℕ → Bool
+abbrev pub was_synced : List DiskEvent → ℕ → Bool
 was_synced [] slot = false
 was_synced (event ∷ earlier) slot = is_sync_of event.0 slot || was_synced earlier slot
 
 -- what a crash after these calls may leave
-pub record MayLeave (outside : Outside) (events : List Event) (contents : List (List ℕ)) : Type 0 where
+pub record MayLeave (outside : Outside) (events : List DiskEvent) (contents : List (List ℕ)) : Type 0 where
   pub count : length contents ≡ length (files_after outside events)
   pub each : (slot : ℕ) → slot < length contents → was_synced events slot ≡ true
       → Leaves (unsynced_after outside events slot) (file_at contents slot)
 
 -- the slots below a number are synced with these files, and nothing befell them since
-pub record AreSettled (files : List (List ℕ)) (count : ℕ) (outside : Outside) (events : List Event) : Type 0 where
+pub record AreSettled (files : List (List ℕ)) (count : ℕ) (outside : Outside) (events : List DiskEvent) : Type 0 where
   pub replayed : files_after outside events ≡ files
   pub synced : (slot : ℕ) → slot < count → was_synced events slot ≡ true
   pub resting : (slot : ℕ) → unsynced_after outside events slot ≡ at_rest (file_at files slot)
   pub failures : failures_in events ≡ 0
 
 -- where the files as read are named otherwise
-pub read_as : (outside : Outside) (events : List Event) (files : List (List ℕ)) → files_after outside events ≡ files
+pub read_as : (outside : Outside) (events : List DiskEvent) (files : List (List ℕ)) → files_after outside events ≡ files
     → MayLeave outside events (files_after outside events) → MayLeave outside events files
 read_as outside events files same left = subst (MayLeave outside events) same left
 
-pub count_as : (outside : Outside) (events : List Event) (files contents : List (List ℕ))
+pub count_as : (outside : Outside) (events : List DiskEvent) (files contents : List (List ℕ))
     → files_after outside events ≡ files
     → MayLeave outside events contents → length contents ≡ length files
 count_as outside events files contents same left = left.count ∙ ap length same

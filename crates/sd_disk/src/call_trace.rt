@@ -1,7 +1,7 @@
 //! The calls on a device, one after another, for clauses alone. It takes no memory.
 ghost use Rattle.std.specs.Prelude.{◌≡◌, List, [], ◌∷◌};
 ghost use Rattle.std.specs.Borrow.{ftrue};
-ghost use Rattle.sd_disk.specs.Events.{Outside, Event};
+ghost use Rattle.sd_disk.specs.Events.{Outside, DiskEvent};
 
 use crate::call::Call;
 use std::marker::{Model, PhantomData};
@@ -10,7 +10,7 @@ use std::marker::{Model, PhantomData};
 pub struct CallTrace {
     marker: PhantomData<u8>,
     pub ghost outside: { Outside },
-    pub ghost events: { List Event },
+    pub ghost events: { List DiskEvent },
 }
 
 impl Model for CallTrace {

@@ -18,11 +18,11 @@ pub(crate) struct Shadow {
 
 impl Shadow {
     ghost use Rattle.sd_disk.specs.Outcomes.{Unsynced, at_rest, with_write, with_cut};
-    ghost use Rattle.sd_disk.specs.Slots.{shadow_room, Tracks};
+    ghost use Rattle.sd_disk.specs.Slots.{shadow_room, ShadowTracks};
 
     /// Of an empty file that is synced, with room for so many bytes.
     pub(crate) fn new(alloc: Global, bytes: usize) -> Result<Shadow, AllocError>
-        ensures empty { IfOk result (λ shadow. Tracks shadow (at_rest [])) }
+        ensures empty { IfOk result (λ shadow. ShadowTracks shadow (at_rest [])) }
         ensures room { IfOk result (λ shadow. shadow_room shadow ≡ bytes) }
     {
         Ok(Shadow {
@@ -37,8 +37,8 @@ impl Shadow {
     /// So many bytes are written at `at`.
     pub(crate) fn write(&mut self, at: usize, count: usize)
         requires { at + count ≤ shadow_room self.old }
-        ensures tracks { (known : Unsynced) → Tracks self.old known
-            → Tracks self.new (with_write at count known) }
+        ensures tracks { (known : Unsynced) → ShadowTracks self.old known
+            → ShadowTracks self.new (with_write at count known) }
         ensures room { shadow_room self.new ≡ shadow_room self.old }
         ensures least { self.new.least ≡ self.old.least }
         ensures greatest { self.new.greatest ≡ max self.old.greatest (at + count) }
@@ -51,8 +51,8 @@ impl Shadow {
     pub(crate) fn cut(&mut self, count: usize, len: usize)
         requires cut { len ≤ count }
         requires within { count ≤ shadow_room self.old }
-        ensures tracks { (known : Unsynced) → Tracks self.old known
-            → Tracks self.new (with_cut count len known) }
+        ensures tracks { (known : Unsynced) → ShadowTracks self.old known
+            → ShadowTracks self.new (with_cut count len known) }
         ensures room { shadow_room self.new ≡ shadow_room self.old }
         ensures least { self.new.least ≡ min self.old.least len }
         ensures greatest { self.new.greatest ≡ self.old.greatest }
@@ -64,7 +64,7 @@ impl Shadow {
     /// The file is synced.
     pub(crate) fn sync(&mut self, file: &[u8])
         requires { length file.now ≤ shadow_room self.old }
-        ensures tracks { Tracks self.new (at_rest file.now) }
+        ensures tracks { ShadowTracks self.new (at_rest file.now) }
         ensures room { shadow_room self.new ≡ shadow_room self.old }
         ensures least { self.new.least ≡ length file.now }
         ensures greatest { self.new.greatest ≡ length file.now }

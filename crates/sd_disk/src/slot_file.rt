@@ -21,13 +21,13 @@ pub(crate) struct SlotFile {
 impl SlotFile {
     ghost use Rattle.sd_disk.specs.Contents.{file_at, file_after_write};
     ghost use Rattle.sd_disk.specs.Outcomes.{Unsynced, Leaves, at_rest, with_write, with_cut};
-    ghost use Rattle.sd_disk.specs.Slots.{held, room_of, Tracks};
+    ghost use Rattle.sd_disk.specs.Slots.{held, room_of, ShadowTracks};
 
     /// An empty file with room for so many bytes.
     pub(crate) fn new(alloc: Global, bytes: usize) -> Result<SlotFile, AllocError>
         ensures empty { IfOk result (λ slot. held slot ≡ []) }
         ensures room { IfOk result (λ slot. room_of slot ≡ bytes) }
-        ensures rest { IfOk result (λ slot. Tracks slot.shadow (at_rest [])) }
+        ensures rest { IfOk result (λ slot. ShadowTracks slot.shadow (at_rest [])) }
     {
         Ok(SlotFile {
             room: vec![in alloc; 0; bytes]?,
@@ -68,8 +68,8 @@ impl SlotFile {
         requires { at + length bytes.now ≤ room_of self.old }
         ensures written { held self.new ≡ file_after_write (held self.old) at bytes.now }
         ensures room { room_of self.new ≡ room_of self.old }
-        ensures tracks { (known : Unsynced) → Tracks self.old.shadow known
-            → Tracks self.new.shadow (with_write at (length bytes.now) known) }
+        ensures tracks { (known : Unsynced) → ShadowTracks self.old.shadow known
+            → ShadowTracks self.new.shadow (with_write at (length bytes.now) known) }
     {
         self.shadow.write(at, bytes.len());
         self.fill_to(at);
@@ -109,8 +109,8 @@ impl SlotFile {
         requires { len ≤ length (held self.old) }
         ensures cut { held self.new ≡ take len (held self.old) }
         ensures room { room_of self.new ≡ room_of self.old }
-        ensures tracks { (known : Unsynced) → Tracks self.old.shadow known
-            → Tracks self.new.shadow (with_cut (length (held self.old)) len known) }
+        ensures tracks { (known : Unsynced) → ShadowTracks self.old.shadow known
+            → ShadowTracks self.new.shadow (with_cut (length (held self.old)) len known) }
     {
         self.shadow.cut(self.len, len);
         self.len = len;
@@ -120,7 +120,7 @@ impl SlotFile {
     pub(crate) fn sync(&mut self)
         ensures same { held self.new ≡ held self.old }
         ensures room { room_of self.new ≡ room_of self.old }
-        ensures tracks { Tracks self.new.shadow (at_rest (held self.old)) }
+        ensures tracks { ShadowTracks self.new.shadow (at_rest (held self.old)) }
     {
         self.shadow.sync(&self.room[..self.len]);
     }
@@ -132,13 +132,13 @@ impl SlotFile {
         number: usize,
         pick: &mut P,
     ) -> Result<SlotFile, AllocError>
-        ensures outcome { (known : Unsynced) → Tracks self.now.shadow known
+        ensures outcome { (known : Unsynced) → ShadowTracks self.now.shadow known
             → IfOk result (λ slot. Leaves known (held slot)) }
-        ensures aimed { (known : Unsynced) (c : List (List ℕ)) → Tracks self.now.shadow known
+        ensures aimed { (known : Unsynced) (c : List (List ℕ)) → ShadowTracks self.now.shadow known
             → P.aims pick.old c
             → Leaves known (file_at c number)
             → IfOk result (λ slot. (held slot ≡ file_at c number) × P.aims pick.new c) }
-        ensures rest { IfOk result (λ slot. Tracks slot.shadow (at_rest (held slot))) }
+        ensures rest { IfOk result (λ slot. ShadowTracks slot.shadow (at_rest (held slot))) }
         ensures room { IfOk result (λ slot. room_of slot ≡ room_of self.now) }
     {
         let len = self.picked_len(number, pick);
@@ -153,7 +153,7 @@ impl SlotFile {
     fn at_rest(alloc: Global, room: Vec<u8>, len: usize) -> Result<SlotFile, AllocError>
         requires { len ≤ length room.items }
         ensures held { IfOk result (λ slot. held slot ≡ take len room.items) }
-        ensures rest { IfOk result (λ slot. Tracks slot.shadow (at_rest (take len room.items))) }
+        ensures rest { IfOk result (λ slot. ShadowTracks slot.shadow (at_rest (take len room.items))) }
         ensures room { IfOk result (λ slot. room_of slot ≡ length room.items) }
     {
         let mut shadow = Shadow::new(alloc, room.len())?;

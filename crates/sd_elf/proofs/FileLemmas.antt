@@ -9,8 +9,8 @@ use Rattle.sd_areas.specs.PlainMemory.{Page, PlainMemory, Space}
 use Rattle.sd_image.specs.Shows.{Shows}
 use Rattle.sd_image.specs.Table.{Listed}
 use Rattle.sd_restore.specs.Fits.{prots_in}
-use Rattle.sd_restore.specs.Placed.{Entry, IsLaidOut, PlacedPage, memory_at, page_at, placed_entries}
-use Rattle.sd_elf.specs.Files.{CoreOfSpace, Takes, TakesCores, cores_of, placed_cores}
+use Rattle.sd_restore.specs.Placed.{IsLaidOut, PlacedPage, SpaceEntry, placed_entries, placed_memory, placed_page}
+use Rattle.sd_elf.specs.Files.{CoreOfSpace, TakesCores, TakesFiles, cores_of, placed_cores}
 use Rattle.sd_elf.specs.Texts.{front_text, placed_core}
 
 abbrev Taken : Type 0
@@ -38,13 +38,13 @@ module _ (wanted : ℕ → Bool) (contents : List (List ℕ)) (checkpoint : ℕ)
   abbrev page_bytes : ℕ × Page → List ℕ
   page_bytes e = e.1.bytes
 
-  abbrev entry_core : Entry → CoreOfSpace
+  abbrev entry_core : SpaceEntry → CoreOfSpace
   entry_core e = (e.0, front_text checkpoint e.0 e.1.0 ++ flat_map page_bytes e.1.1)
 
-  abbrev said : Listed → Entry
+  abbrev said : Listed → SpaceEntry
   said s = (s.space, (s.areas, placed_entries contents s.space pages))
 
-  abbrev seen : ℕ × Space → Entry
+  abbrev seen : ℕ × Space → SpaceEntry
   seen e = (e.0, (areas_of (prots_in e.1), finmap.entries e.1))
 
   abbrev placed : Listed → CoreOfSpace
@@ -52,20 +52,20 @@ module _ (wanted : ℕ → Bool) (contents : List (List ℕ)) (checkpoint : ℕ)
 
   of_space : (s : Listed) → entry_core (said s) ≡ placed s
   of_space s = ap {B = CoreOfSpace} (λ (bytes : List ℕ). (s.space, front_text checkpoint s.space s.areas ++ bytes))
-      (of_map page_bytes (λ (p : PlacedPage). (p.page, page_at contents p)) (filter (λ (p : PlacedPage). p.space == s.space) pages))
+      (of_map page_bytes (λ (p : PlacedPage). (p.page, placed_page contents p)) (filter (λ (p : PlacedPage). p.space == s.space) pages))
 
   pub cores_laid : placed_cores wanted contents checkpoint pages spaces ≡ cores_of wanted (checkpoint, memory)
   cores_laid =
-      sym (kept_map (λ (e : Entry). wanted e.0) entry_core said spaces
+      sym (kept_map (λ (e : SpaceEntry). wanted e.0) entry_core said spaces
       ∙ same_map (λ s. entry_core (said s)) placed (filter (λ (s : Listed). wanted s.space) spaces) of_space)
-      ∙ ap (λ es. map entry_core (filter (λ (e : Entry). wanted e.0) es)) (sym laid)
-      ∙ kept_map (λ (e : Entry). wanted e.0) entry_core seen (finmap.entries memory)
+      ∙ ap (λ es. map entry_core (filter (λ (e : SpaceEntry). wanted e.0) es)) (sym laid)
+      ∙ kept_map (λ (e : SpaceEntry). wanted e.0) entry_core seen (finmap.entries memory)
 
 pub takes_cores : (wanted : ℕ → Bool) (contents : List (List ℕ)) (checkpoint : ℕ) (spaces : List Listed) (pages : List PlacedPage) (before after : Taken)
-    → Shows contents (Some (checkpoint, memory_at contents spaces pages)) → IsLaidOut contents spaces pages (memory_at contents spaces pages)
-    → Takes before after (placed_cores wanted contents checkpoint pages spaces) → TakesCores contents wanted before after checkpoint
+    → Shows contents (Some (checkpoint, placed_memory contents spaces pages)) → IsLaidOut contents spaces pages (placed_memory contents spaces pages)
+    → TakesFiles before after (placed_cores wanted contents checkpoint pages spaces) → TakesCores contents wanted before after checkpoint
 takes_cores wanted contents checkpoint spaces pages before after shows laid taken = record {
-  memory = memory_at contents spaces pages;
+  memory = placed_memory contents spaces pages;
   shows = shows;
-  taken = subst (Takes before after) (cores_laid wanted contents checkpoint spaces pages (memory_at contents spaces pages) laid) taken;
+  taken = subst (TakesFiles before after) (cores_laid wanted contents checkpoint spaces pages (placed_memory contents spaces pages) laid) taken;
 }

@@ -24,9 +24,9 @@ placed_cores wanted contents checkpoint pages spaces =
     (filter (λ (s : Listed). wanted s.space) spaces)
 
 -- these files were taken behind others; nothing is claimed where those aren't known
-abbrev pub Takes : Option (List CoreOfSpace) → Option (List CoreOfSpace) → List CoreOfSpace → Type 0
-Takes None after files = Unit {0}
-Takes (Some before) after files = after ≡ Some (before ++ files)
+abbrev pub TakesFiles : Option (List CoreOfSpace) → Option (List CoreOfSpace) → List CoreOfSpace → Type 0
+TakesFiles None after files = Unit {0}
+TakesFiles (Some before) after files = after ≡ Some (before ++ files)
 
 -- the checkpoint that the contents show, and its memory, whose core files were taken
 pub record TakesCores (contents : List (List ℕ)) (wanted : ℕ → Bool) (before after : Option (List CoreOfSpace))
@@ -34,4 +34,4 @@ pub record TakesCores (contents : List (List ℕ)) (wanted : ℕ → Bool) (befo
     : Type 0 where
   pub memory : PlainMemory
   pub shows : Shows contents (Some (checkpoint, memory))
-  pub taken : Takes before after (cores_of wanted (checkpoint, memory))
+  pub taken : TakesFiles before after (cores_of wanted (checkpoint, memory))

@@ -8,7 +8,7 @@ use Rattle.sd_areas.specs.declared.area.Area.{Area}
 use Rattle.sd_areas.specs.declared.prot.Prot.{Prot}
 use Rattle.sd_chain.specs.Store.{bytes_at}
 use Rattle.sd_image.specs.Table.{Listed}
-use Rattle.sd_image.specs.Words.{number_bytes, zeros}
+use Rattle.sd_image.specs.Words.{number_bytes, zero_bytes}
 use Rattle.sd_restore.specs.Fits.{prots_in}
 use Rattle.sd_restore.specs.Placed.{PlacedPage, page_behind}
 use Rattle.sd_restore.specs.declared.placed_run.PlacedRun.{PlacedRun}
@@ -18,7 +18,8 @@ use Rattle.sd_elf.specs.Headers.{ident}
 
 -- Elf64_Ehdr: e_ident and what the file is, its places, and its sizes and counts
 abbrev pub kind_text : FileHeader → List ℕ
-kind_text h = ident ++ zeros 9 ++ number_bytes 2 h.e_type ++ number_bytes 2 h.e_machine ++ number_bytes 4 h.e_version
+kind_text h =
+    ident ++ zero_bytes 9 ++ number_bytes 2 h.e_type ++ number_bytes 2 h.e_machine ++ number_bytes 4 h.e_version
 
 abbrev pub places_text : FileHeader → List ℕ
 places_text h = number_bytes 8 h.e_entry ++ number_bytes 8 h.e_phoff ++ number_bytes 8 h.e_shoff
@@ -108,7 +109,7 @@ area_headers place (area ∷ areas) = area_header area place ∷ area_headers (p
 -- NT_PRSTATUS of a thread whose state is zeros
 unfoldable pub state_note : List ℕ
 state_note = number_bytes 4 5 ++ number_bytes 4 336 ++ number_bytes 4 1
-    ++ (codes "CORE" ++ 0 ∷ 0 ∷ 0 ∷ 0 ∷ []) ++ zeros 336
+    ++ (codes "CORE" ++ 0 ∷ 0 ∷ 0 ∷ 0 ∷ []) ++ zero_bytes 336
 
 -- the numbers of a checkpoint and a space
 unfoldable pub own_note : ℕ → ℕ → List ℕ
@@ -117,7 +118,7 @@ own_note checkpoint space = number_bytes 4 11 ++ number_bytes 4 16 ++ number_byt
 
 -- bytes with zeros behind them, up to a length
 abbrev pub padded : ℕ → List ℕ → List ℕ
-padded n bytes = bytes ++ zeros (n - length bytes)
+padded n bytes = bytes ++ zero_bytes (n - length bytes)
 
 -- what stands before the pages
 unfoldable pub front_text : ℕ → ℕ → List Area → List ℕ

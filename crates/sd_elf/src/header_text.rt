@@ -3,7 +3,7 @@
 ghost use Rattle.std.specs.Prelude.{◌≡◌, ◌+◌, ◌*◌, ◌^◌, ◌≤◌, ◌++◌, length, IfOk, None, OnOk};
 ghost use Rattle.std.specs.List.{flat_map};
 ghost use Rattle.sd_areas.specs.Areas.{AreMaximal};
-ghost use Rattle.sd_image.specs.Words.{zeros};
+ghost use Rattle.sd_image.specs.Words.{zero_bytes};
 ghost use Rattle.sd_elf.specs.Texts.{area_header, area_headers, core_header, counts_text, file_header_text, front_text};
 ghost use Rattle.sd_elf.specs.Texts.{kind_text, note_header, notes_place, own_note, padded, pages_place, place_text};
 ghost use Rattle.sd_elf.specs.Texts.{places_text, program_header_text, prot_flags, size_text, state_note};
@@ -234,9 +234,9 @@ fn put_own_note(out: &mut Vec<u8>, checkpoint: u64, space: SpaceId) -> Result<()
 }
 
 /// Writes so many zeros.
-#[tactic(auto, unfolding(sd_image::specs::Words::zeros))]
+#[tactic(auto, unfolding(sd_image::specs::Words::zero_bytes))]
 pub(crate) fn push_zeros(out: &mut Vec<u8>, count: usize) -> Result<(), AllocError>
-    ensures { OnOk result (out.new.items ≡ out.old.items ++ zeros count) }
+    ensures { OnOk result (out.new.items ≡ out.old.items ++ zero_bytes count) }
 {
     for _ in 0..count {
         out.push(0)?;

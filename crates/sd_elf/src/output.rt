@@ -12,7 +12,7 @@ use std::os::unix::fs::FileExt;
 pub trait CoreOutput {
     ghost use Rattle.std.specs.Prelude.{ℕ, List, Option, OnOk};
     ghost use Rattle.std.specs.Io.KnownBytes.{Appends};
-    ghost use Rattle.sd_image.specs.Words.{zeros};
+    ghost use Rattle.sd_image.specs.Words.{zero_bytes};
 
     /// What was written, where that is known.
     ghost contents: { Self → Option (List ℕ) };
@@ -23,7 +23,7 @@ pub trait CoreOutput {
 
     /// Writes so many zeros behind the others, at most 65,536.
     fn put_zeros(&mut self, count: usize) -> io::Result<()>
-        ensures { OnOk result (Appends (contents self.old) (contents self.new) (zeros count)) };
+        ensures { OnOk result (Appends (contents self.old) (contents self.new) (zero_bytes count)) };
 }
 
 /// The files of an export: one for each space that is wanted.

@@ -6,7 +6,7 @@ ghost use Rattle.sd_disk.specs.Reads.{OnlyReads};
 ghost use Rattle.sd_image.specs.declared.table.SpaceTable.{SpaceTable};
 ghost use Rattle.sd_image.specs.Table.{listing_of};
 ghost use Rattle.sd_restore.specs.Placed.{IsInSlots, IsWithin, placed_pages};
-ghost use Rattle.sd_elf.specs.Files.{Takes, TakesCores, placed_cores};
+ghost use Rattle.sd_elf.specs.Files.{TakesCores, TakesFiles, placed_cores};
 ghost use Rattle.sd_elf.specs.Texts.{placed_core};
 
 use crate::header_text::front_of;
@@ -76,7 +76,7 @@ fn write_wanted<D: Disk, S: CoreFiles>(
         (λ r. IsInSlots (length (D.contents disk.old)) r.there) placed.now.runs.items }
     requires within { All IsWithin placed.now.runs.items }
     requires areas { AreMaximal None space.now.areas.items }
-    ensures taken { D.is_honest disk.new → OnOk result (Takes (S.taken files.old) (S.taken files.new)
+    ensures taken { D.is_honest disk.new → OnOk result (TakesFiles (S.taken files.old) (S.taken files.new)
         (placed_cores (S.wanted files.old) (D.contents disk.old) placed.now.checkpoint
         (placed_pages placed.now.runs.items) (listing_of space.now ∷ []))) }
     ensures same { OnOk result (S.wanted files.new ≡ S.wanted files.old) }
@@ -102,7 +102,7 @@ fn write_placed<D: Disk, S: CoreFiles>(
     requires within { All IsWithin placed.now.runs.items }
     requires areas { All
         (λ (s : SpaceTable). AreMaximal None s.areas.items) placed.now.spaces.now }
-    ensures taken { D.is_honest disk.new → OnOk result (Takes (S.taken files.old) (S.taken files.new)
+    ensures taken { D.is_honest disk.new → OnOk result (TakesFiles (S.taken files.old) (S.taken files.new)
         (placed_cores (S.wanted files.old) (D.contents disk.old) placed.now.checkpoint
         (placed_pages placed.now.runs.items) (map listing_of placed.now.spaces.now))) }
     ensures reads { OnlyReads D.Disk disk.old disk.new }

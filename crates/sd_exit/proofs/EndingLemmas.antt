@@ -7,15 +7,15 @@ use Rattle.std.specs.Io.KnownBytes.{Appends, Keeps}
 use Rattle.sd_restore.specs.declared.fault.Fault.TheVariants.{EmptyChain, Damaged, Device, OutOfMemory}
 use Rattle.sd_exit.specs.declared.stop.Stop.{Stop}
 use Rattle.sd_exit.specs.declared.stop.Stop.TheVariants as stop
-use Rattle.sd_exit.specs.Ending.{Exits, IsTold, OnFault, OnWriter, end_status, end_text, status_of}
+use Rattle.sd_exit.specs.Ending.{Exits, IsWrittenLast, OnFault, OnWriter, end_status, end_text, status_of}
 
 -- what is told last is written, or was refused; and what came of the flush
 pub exits : (before mid after : Option (List ℕ)) (refused : Bool) (text : List ℕ) (due wanted status : ℕ) (told_refused : Bool)
-    → IsTold before mid told_refused text due wanted → (told_refused ≡ true → refused ≡ true)
+    → IsWrittenLast before mid told_refused text due wanted → (told_refused ≡ true → refused ≡ true)
     → Keeps mid after → status ≡ (if refused then 1 else wanted) → Exits before after refused text due status
 exits before mid after refused text due wanted status told_refused told since kept is = by refused refl told
   where
-    by : (b : Bool) → refused ≡ b → IsTold before mid told_refused text due wanted → Exits before after refused text due status
+    by : (b : Bool) → refused ≡ b → IsWrittenLast before mid told_refused text due wanted → Exits before after refused text due status
     by true e told = inr (e, is ∙ cond-true _ _ _ e)
     by false e (inl t) = inl (e, Appends-kept before mid after text t.1 kept, is ∙ cond-false _ _ _ e ∙ t.0)
     by false e (inr t) = absurd (let f : false ≡ true = sym e ∙ since t in cc)

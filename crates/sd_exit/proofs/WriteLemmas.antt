@@ -3,7 +3,7 @@ use Rattle.std.proofs.Common.{◌≡◌, ℕ, ◌-◌, List, [], ◌++◌, Optio
 use Rattle.std.proofs.lemmas.List.{take_rest}
 use Rattle.std.specs.Io.KnownBytes.{Appends, Keeps}
 use Rattle.std.proofs.KnownBytes.{Appends-kept, Appends-nil, Appends-trans}
-use Rattle.sd_exit.specs.Texts.{Begins}
+use Rattle.sd_exit.specs.Texts.{PrintsBeginning}
 
 -- what stays grows by nothing
 pub nothing_more : (a b : Option (List ℕ)) → Keeps a b → Appends a b []
@@ -16,7 +16,7 @@ some_more all done rest n e =
     ∙ ap (λ l. (done ++ take n rest) ++ l) (sym (take_rest rest n))
 
 -- what is written is a beginning, also where nothing more is
-pub begun : (a b c : Option (List ℕ)) (all done rest : List ℕ) → all ≡ done ++ rest → Appends a b done → Appends b c [] → Begins a c all
+pub begun : (a b c : Option (List ℕ)) (all done rest : List ℕ) → all ≡ done ++ rest → Appends a b done → Appends b c [] → PrintsBeginning a c all
 begun a b c all done rest split written none = record {
   front = done ++ [];
   rest = rest;

@@ -38,8 +38,9 @@ end_text (Ok _) = []
 end_text (Err why) = stop_text why
 
 -- a last text is written, and the status is the one that comes with it; or the writer refused the text
-abbrev pub IsTold : Option (List ℕ) → Option (List ℕ) → Bool → List ℕ → ℕ → ℕ → Type 0
-IsTold before after refused text wanted status = ((status ≡ wanted) × Appends before after text) ⊎ (refused ≡ true)
+abbrev pub IsWrittenLast : Option (List ℕ) → Option (List ℕ) → Bool → List ℕ → ℕ → ℕ → Type 0
+IsWrittenLast before after refused text wanted status =
+    ((status ≡ wanted) × Appends before after text) ⊎ (refused ≡ true)
 
 -- how a program exits behind a last text: nothing was ever refused, the writer took that text, and the status is the
 -- one that comes with it; or something was refused, and the status is 1

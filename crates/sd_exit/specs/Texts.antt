@@ -19,7 +19,7 @@ fault_line Device = codes "device" ++ 10 ∷ []
 fault_line OutOfMemory = codes "out-of-memory" ++ 10 ∷ []
 
 -- a beginning of a text was printed
-pub record Begins (before after : Option (List ℕ)) (text : List ℕ) : Type 0 where
+pub record PrintsBeginning (before after : Option (List ℕ)) (text : List ℕ) : Type 0 where
   pub front : List ℕ
   pub rest : List ℕ
   pub whole : front ++ rest ≡ text

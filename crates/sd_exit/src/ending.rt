@@ -1,7 +1,7 @@
 //! How a program ends: what it prints last, and its exit status.
 ghost use Rattle.std.specs.Prelude.{◌≡◌, true, [], OnOk, OnErr};
 ghost use Rattle.std.specs.Io.KnownBytes.{Appends};
-ghost use Rattle.sd_exit.specs.Ending.{Exits, IsTold, end_status, end_text, status_of, stop_text};
+ghost use Rattle.sd_exit.specs.Ending.{Exits, IsWrittenLast, end_status, end_text, status_of, stop_text};
 ghost use Rattle.sd_exit.specs.Texts.{fault_line};
 ghost use Rattle.sd_restore.specs.declared.fault.Fault.TheVariants.{Damaged};
 
@@ -53,7 +53,7 @@ pub fn exit_told<W: Write>(fault: Fault, out: &mut Output<W>) -> u8
 
 /// Prints why a program ended early, and returns its exit status, or 1 where the line is refused.
 fn told_status<W: Write>(stop: &Stop, out: &mut Output<W>) -> u8
-    ensures told { IsTold (W.contents out.old.writer) (W.contents out.new.writer) out.new.refused
+    ensures told { IsWrittenLast (W.contents out.old.writer) (W.contents out.new.writer) out.new.refused
         (stop_text stop.now) (status_of stop.now) result }
     ensures kept { out.old.refused ≡ true → out.new.refused ≡ true }
 {

@@ -2,7 +2,7 @@
 ghost use Rattle.std.specs.Prelude.{◌≡◌, ◌≤◌, ℕ, true, false, [], length, take, if◌then◌else◌, IfOk, IfSome, IsOk};
 ghost use Rattle.std.specs.Prelude.{OnOk, OnErr};
 ghost use Rattle.std.specs.Io.KnownBytes.{Appends, Keeps};
-ghost use Rattle.sd_exit.specs.Texts.{Begins};
+ghost use Rattle.sd_exit.specs.Texts.{PrintsBeginning};
 
 use sd_restore::Fault;
 use std::fmt::Display;
@@ -99,7 +99,7 @@ impl<W: Write> Output<W> {
     pub fn write_all(&mut self, bytes: &[u8]) -> io::Result<()>
         ensures bytes { OnOk result
             (Appends (W.contents self.old.writer) (W.contents self.new.writer) bytes.now) }
-        ensures begins { Begins (W.contents self.old.writer) (W.contents self.new.writer) bytes.now }
+        ensures begins { PrintsBeginning (W.contents self.old.writer) (W.contents self.new.writer) bytes.now }
         ensures ok { OnOk result (self.new.refused ≡ self.old.refused) }
         ensures refused { OnErr result (self.new.refused ≡ true) }
     {
@@ -143,7 +143,7 @@ impl<W: Write> Output<W> {
 /// Writes the bytes, in as many calls as the writer wants.
 fn write_from<W: Write>(writer: &mut W, bytes: &[u8]) -> io::Result<()>
     ensures bytes { OnOk result (Appends (W.contents writer.old) (W.contents writer.new) bytes.now) }
-    ensures begins { Begins (W.contents writer.old) (W.contents writer.new) bytes.now }
+    ensures begins { PrintsBeginning (W.contents writer.old) (W.contents writer.new) bytes.now }
 {
     let mut rest = bytes;
     for _ in 0..u64::MAX {

@@ -9,7 +9,7 @@ use Rattle.sd_areas.specs.Memory.{page_of_snapshot}
 use Rattle.sd_areas.specs.PlainMemory.{Page, Space, PlainMemory}
 use Rattle.sd_pagetable.specs.Nested.{inside, is_alive, put_at}
 use Rattle.sd_fold.specs.declared.added.Added.{Added}
-use Rattle.sd_fold.specs.Overlay.{Changes, Layers, changes_of, with_page, pages_over, memory_over}
+use Rattle.sd_fold.specs.Overlay.{PageChanges, Layers, changes_of, with_page, pages_over, memory_over}
 use Rattle.sd_fold.specs.Room.{before, HasPages, HasRoom}
 use Rattle.sd_fold.proofs.OverLemmas.{change_of, over_put, over_apart}
 use Rattle.sd_fold.proofs.OverlayLemmas.{space_under, space_under_same, get_memory_over, next_memory}
@@ -36,7 +36,7 @@ apart_put rest left kept more k x rises e apart put q y found =
     put q ∙ ap (λ b. cond b (Some x) (lookup (is_at (nat_cmp q)) kept)) (still_later rest left k q x y rises e found) ∙ apart_next rest left kept k x rises e apart q y found
 
 -- the pages of a space so far: those that are left and those that are kept make together what they are to be
-pub record PagesAdded (all rest kept : Changes) (first added : List Added) (old now : PlainMemory) (s : ℕ) : Type 0 where
+pub record PagesAdded (all rest kept : PageChanges) (first added : List Added) (old now : PlainMemory) (s : ℕ) : Type 0 where
   pub rises : Rising rest
   pub apart : IsApart rest kept
   pub alive : is_alive now s ≡ true
@@ -45,24 +45,24 @@ pub record PagesAdded (all rest kept : Changes) (first added : List Added) (old 
   pub room : HasPages kept (inside now s)
   pub undo : before (reverse added) now ≡ before (reverse first) old
 
-pub pages_begin : (all rest kept : Changes) (first : List Added) (old : PlainMemory) (s : ℕ) → rest ≡ all → kept ≡ [] → Rising all → is_alive old s ≡ true
+pub pages_begin : (all rest kept : PageChanges) (first : List Added) (old : PlainMemory) (s : ℕ) → rest ≡ all → kept ≡ [] → Rising all → is_alive old s ≡ true
     → PagesAdded all rest kept first first old old s
 pages_begin all rest kept first old s e none rises alive = record {
   rises = subst Rising (sym e) rises;
   apart = λ q x found. ap (lookup (is_at (nat_cmp q))) none;
   alive = alive;
   others = space_stays old s alive;
-  same = ap (λ (es : Changes). pages_over rest (pages_over es (inside old s))) none ∙ ap (λ (es : Changes). pages_over es (inside old s)) e;
+  same = ap (λ (es : PageChanges). pages_over rest (pages_over es (inside old s))) none ∙ ap (λ (es : PageChanges). pages_over es (inside old s)) e;
   room = λ q x found. absurd (none_found kept q (Some x) none found);
   undo = refl;
 }
 
 -- the first of what is left, put below the others
-first_below : (rest left : Changes) (pages : Space) (k : ℕ) (c : Option SnapshotPage) → Rising rest → rest ≡ (k, c) ∷ left
+first_below : (rest left : PageChanges) (pages : Space) (k : ℕ) (c : Option SnapshotPage) → Rising rest → rest ≡ (k, c) ∷ left
     → pages_over left (with_page pages k (change_of c)) ≡ pages_over rest pages
-first_below rest left pages k c rises e = over_apart left pages k (change_of c) (not_left rest left k c rises e) ∙ sym (ap (λ (es : Changes). pages_over es pages) e)
+first_below rest left pages k c rises e = over_apart left pages k (change_of c) (not_left rest left k c rises e) ∙ sym (ap (λ (es : PageChanges). pages_over es pages) e)
 
-pub pages_keep : (all rest left kept more : Changes) (first added : List Added) (old now : PlainMemory) (s k : ℕ) (c : Option SnapshotPage) → PagesAdded all rest kept first added old now s
+pub pages_keep : (all rest left kept more : PageChanges) (first added : List Added) (old now : PlainMemory) (s k : ℕ) (c : Option SnapshotPage) → PagesAdded all rest kept first added old now s
     → rest ≡ (k, c) ∷ left → IsPut kept more k c → changes_of more ≡ finmap.insert (changes_of kept) k (change_of c)
     → ((x : SnapshotPage) → c ≡ Some x → IsSome (finmap.get (inside now s) k)) → PagesAdded all left more first added old now s
 pages_keep all rest left kept more first added old now s k c so e put put_of there = record {
@@ -83,7 +83,7 @@ pages_keep all rest left kept more first added old now s k c so e put put_of the
     by q x true same found = subst (λ n. IsSome (finmap.get (inside now s) n)) (sym (same_of q k same))
         (there x (some_is c (Some x) (sym (ap (λ b. cond b (Some c) (lookup (is_at (nat_cmp q)) kept)) same) ∙ found)))
 
-pub pages_add : (all rest left kept : Changes) (first added more : List Added) (old now new : PlainMemory) (s k : ℕ) (found : SnapshotPage) → PagesAdded all rest kept first added old now s
+pub pages_add : (all rest left kept : PageChanges) (first added more : List Added) (old now new : PlainMemory) (s k : ℕ) (found : SnapshotPage) → PagesAdded all rest kept first added old now s
     → rest ≡ (k, Some found) ∷ left → new ≡ put_at now s k (page_of_snapshot found) → before (reverse more) new ≡ before (reverse added) now
     → PagesAdded all left kept first more old new s
 unfolding put_at
@@ -107,9 +107,9 @@ pages_add all rest left kept first added more old now new s k found so e put und
     either true o some = refl
     either false o some = some
 
-pub pages_left : (all rest kept : Changes) (first added : List Added) (old now : PlainMemory) (s : ℕ) → PagesAdded all rest kept first added old now s → rest ≡ []
+pub pages_left : (all rest kept : PageChanges) (first added : List Added) (old now : PlainMemory) (s : ℕ) → PagesAdded all rest kept first added old now s → rest ≡ []
     → pages_over kept (inside now s) ≡ pages_over all (inside old s)
-pages_left all rest kept first added old now s so none = sym (ap (λ (es : Changes). pages_over es (pages_over kept (inside now s))) none) ∙ so.same
+pages_left all rest kept first added old now s so none = sym (ap (λ (es : PageChanges). pages_over es (pages_over kept (inside now s))) none) ∙ so.same
 
 -- ---- spaces
 

@@ -15,7 +15,7 @@ use Rattle.sd_areas.specs.Memory.{space_of, page_of_snapshot}
 use Rattle.sd_areas.specs.Pages.{is_within}
 use Rattle.sd_areas.specs.PlainMemory.{Page, Space}
 use Rattle.sd_pagetable.specs.Nested.{remove_within}
-use Rattle.sd_fold.specs.Overlay.{Changes, changes_of, with_page, pages_over, or_else, IsFilled}
+use Rattle.sd_fold.specs.Overlay.{PageChanges, changes_of, with_page, pages_over, or_else, IsFilled}
 use Rattle.sd_fold.proofs.Tables.{same_table, get_put, get_removed, same_key, same_of, get_seen, seen_put, seen_removed, get_space, get-remove_within, not_none}
 
 -- a change as it is seen
@@ -31,17 +31,17 @@ pub get_with : (pages : Space) (k : ℕ) (v : Option Page) (q : ℕ) → finmap.
 get_with pages k None q = get_removed pages k q
 get_with pages k (Some found) q = get_put pages k found q
 
-pub get_changes : (es : Changes) (q : ℕ) → finmap.get (changes_of es) q ≡ option_map change_of (lookup (is_at (nat_cmp q)) es)
+pub get_changes : (es : PageChanges) (q : ℕ) → finmap.get (changes_of es) q ≡ option_map change_of (lookup (is_at (nat_cmp q)) es)
 unfolding changes_of
 get_changes es q = get_seen change_of es q
 
-pub changes_put : (old new : Changes) (k : ℕ) (v : Option SnapshotPage)
+pub changes_put : (old new : PageChanges) (k : ℕ) (v : Option SnapshotPage)
     → ((q : ℕ) → lookup (is_at (nat_cmp q)) new ≡ cond (is_at (nat_cmp k) q) (Some v) (lookup (is_at (nat_cmp q)) old))
     → changes_of new ≡ finmap.insert (changes_of old) k (change_of v)
 unfolding changes_of
 changes_put old new k v is = seen_put change_of old new k v is
 
-pub changes_removed : (old new : Changes) (k : ℕ)
+pub changes_removed : (old new : PageChanges) (k : ℕ)
     → ((q : ℕ) → lookup (is_at (nat_cmp q)) new ≡ cond (is_at (nat_cmp k) q) None (lookup (is_at (nat_cmp q)) old))
     → changes_of new ≡ finmap.remove (changes_of old) k
 unfolding changes_of
@@ -52,14 +52,14 @@ first_under : (b : Bool) (v : Option SnapshotPage) (o : Option (Option SnapshotP
 first_under true v o p = refl
 first_under false v o p = refl
 
-pub get_through : (es : Changes) (pages : Space) (q : ℕ) → finmap.get (pages_over es pages) q ≡ under (option_map change_of (lookup (is_at (nat_cmp q)) es)) (finmap.get pages q)
+pub get_through : (es : PageChanges) (pages : Space) (q : ℕ) → finmap.get (pages_over es pages) q ≡ under (option_map change_of (lookup (is_at (nat_cmp q)) es)) (finmap.get pages q)
 get_through [] pages q = refl
 get_through (e ∷ es) pages q = get_with (pages_over es pages) e.0 (change_of e.1) q
     ∙ ap (cond (nat_eq q e.0) (change_of e.1)) (get_through es pages q)
     ∙ first_under (nat_eq q e.0) e.1 (lookup (is_at (nat_cmp q)) es) (finmap.get pages q)
     ∙ ap (λ b. under (option_map change_of (cond b (Some e.1) (lookup (is_at (nat_cmp q)) es))) (finmap.get pages q)) (sym (same_key q e.0))
 
-pub get_over : (es : Changes) (pages : Space) (q : ℕ) → finmap.get (pages_over es pages) q ≡ under (finmap.get (changes_of es) q) (finmap.get pages q)
+pub get_over : (es : PageChanges) (pages : Space) (q : ℕ) → finmap.get (pages_over es pages) q ≡ under (finmap.get (changes_of es) q) (finmap.get pages q)
 get_over es pages q = get_through es pages q ∙ ap (λ o. under o (finmap.get pages q)) (sym (get_changes es q))
 
 under_cond : (b : Bool) (v : Option Page) (o : Option (Option Page)) (p : Option Page) → under (cond b (Some v) o) p ≡ cond b v (under o p)
@@ -67,7 +67,7 @@ under_cond true v o p = refl
 under_cond false v o p = refl
 
 -- a change that was put, seen through
-pub over_put : (old new : Changes) (k : ℕ) (v : Option Page) (pages : Space) → changes_of new ≡ finmap.insert (changes_of old) k v
+pub over_put : (old new : PageChanges) (k : ℕ) (v : Option Page) (pages : Space) → changes_of new ≡ finmap.insert (changes_of old) k v
     → pages_over new pages ≡ with_page (pages_over old pages) k v
 over_put old new k v pages put = same_table _ _ (λ q. get_over new pages q
     ∙ ap (λ m. under (finmap.get m q) (finmap.get pages q)) put
@@ -76,14 +76,14 @@ over_put old new k v pages put = same_table _ _ (λ q. get_over new pages q
     ∙ ap (cond (nat_eq q k) v) (sym (get_over old pages q)) ∙ sym (get_with (pages_over old pages) k v q))
 
 -- what stands at a page that was touched, and at one that wasn't
-pub touched : (es : Changes) (pages : Space) (k : ℕ) (found : Option SnapshotPage) → Some found ≡ lookup (is_at (nat_cmp k)) es
+pub touched : (es : PageChanges) (pages : Space) (k : ℕ) (found : Option SnapshotPage) → Some found ≡ lookup (is_at (nat_cmp k)) es
     → change_of found ≡ finmap.get (pages_over es pages) k
 touched es pages k found e = sym (get_through es pages k ∙ ap (λ o. under (option_map change_of o) (finmap.get pages k)) (sym e))
 
-pub untouched : (es : Changes) (pages : Space) (k : ℕ) → None ≡ lookup (is_at (nat_cmp k)) es → finmap.get pages k ≡ finmap.get (pages_over es pages) k
+pub untouched : (es : PageChanges) (pages : Space) (k : ℕ) → None ≡ lookup (is_at (nat_cmp k)) es → finmap.get pages k ≡ finmap.get (pages_over es pages) k
 untouched es pages k e = sym (get_through es pages k ∙ ap (λ o. under (option_map change_of o) (finmap.get pages k)) (sym e))
 
-pub removed_fewer : (es : Changes) (k : ℕ) (r : Option (Option SnapshotPage)) (new old : ℕ) → r ≡ lookup (is_at (nat_cmp k)) es
+pub removed_fewer : (es : PageChanges) (k : ℕ) (r : Option (Option SnapshotPage)) (new old : ℕ) → r ≡ lookup (is_at (nat_cmp k)) es
     → new + cond (is_some r) 1 0 ≡ old → IsSome (finmap.get (changes_of es) k) → new < old
 removed_fewer es k None new old e len some =
     absurd (not_none _ (get_changes es k ∙ ap (option_map change_of) (sym e)) some)
@@ -95,7 +95,7 @@ abbrev pub Pages : Type 0
 Pages = List (ℕ × SnapshotPage)
 
 -- what was filled in and what is left to fill are together all
-abbrev pub Filling : (SnapshotPage → Option Page) → Pages → Pages → Changes → Changes → Type 0
+abbrev pub Filling : (SnapshotPage → Option Page) → Pages → Pages → PageChanges → PageChanges → Type 0
 Filling fill all rest old now = (q : ℕ) → or_else (finmap.get (changes_of now) q) (option_map fill (lookup (is_at (nat_cmp q)) rest))
     ≡ or_else (finmap.get (changes_of old) q) (option_map fill (lookup (is_at (nat_cmp q)) all))
 
@@ -105,7 +105,7 @@ stands false o fill x l is = refl
 stands true (Some y) fill x l is = refl
 stands true None fill x l is = absurd (let f : false ≡ true = is refl in cc)
 
-pub filling_skips : (fill : SnapshotPage → Option Page) (all rest left : Pages) (old now : Changes) (k : ℕ) (x : SnapshotPage) → Filling fill all rest old now
+pub filling_skips : (fill : SnapshotPage → Option Page) (all rest left : Pages) (old now : PageChanges) (k : ℕ) (x : SnapshotPage) → Filling fill all rest old now
     → rest ≡ (k, x) ∷ left → IsSome (lookup (is_at (nat_cmp k)) now) → Filling fill all left old now
 filling_skips fill all rest left old now k x filling e some q =
     stands (is_at (nat_cmp q) k) (finmap.get (changes_of now) q) fill x (lookup (is_at (nat_cmp q)) left) there
@@ -125,7 +125,7 @@ gets : {X : Type 0} (b : Bool) (o : Option X) (fill : SnapshotPage → X) (x : S
 gets false o fill x l none = refl
 gets true o fill x l none = ap (λ o. or_else o (Some (fill x))) (sym (none refl))
 
-pub filling_goes : (fill : SnapshotPage → Option Page) (all rest left : Pages) (old now new : Changes) (k : ℕ) (x : SnapshotPage) → Filling fill all rest old now
+pub filling_goes : (fill : SnapshotPage → Option Page) (all rest left : Pages) (old now new : PageChanges) (k : ℕ) (x : SnapshotPage) → Filling fill all rest old now
     → rest ≡ (k, x) ∷ left → lookup (is_at (nat_cmp k)) now ≡ None → changes_of new ≡ finmap.insert (changes_of now) k (fill x) → Filling fill all left old new
 filling_goes fill all rest left old now new k x filling e none put q =
     ap (λ m. or_else (finmap.get m q) (option_map fill (lookup (is_at (nat_cmp q)) left))) put
@@ -180,7 +180,7 @@ hidden_by true o (Some x) = refl
 hidden_by false None l = refl
 hidden_by false (Some x) l = refl
 
-pub unmapped : (old mid new : Changes) (es range : Pages) (first last end : ℕ) → last ≡ end - 1 → first < end
+pub unmapped : (old mid new : PageChanges) (es range : Pages) (first last end : ℕ) → last ≡ end - 1 → first < end
     → changes_of mid ≡ remove_within (changes_of old) first (end - first)
     → range ≡ entries_between nat_cmp (Included first) (Included last) es
     → IsFilled (λ _. None) range mid new
@@ -207,7 +207,7 @@ child_by None (Some x) m = refl
 child_by None None None = refl
 child_by None None (Some x) = refl
 
-pub child_made : (parent copy filled child : Changes) (es fs range : Pages) → changes_of copy ≡ changes_of parent
+pub child_made : (parent copy filled child : PageChanges) (es fs range : Pages) → changes_of copy ≡ changes_of parent
     → IsFilled (λ page. Some (page_of_snapshot page)) es copy filled → range ≡ entries_between nat_cmp Unbounded Unbounded fs
     → IsFilled (λ _. None) range filled child → pages_over child (space_of fs) ≡ pages_over parent (space_of es)
 child_made parent copy filled child es fs range same fills is hides = same_table _ _ (λ q.
@@ -221,17 +221,17 @@ child_made parent copy filled child es fs range same fills is hides = same_table
     ∙ child_by (finmap.get (changes_of parent) q) (lookup (is_at (nat_cmp q)) es) (lookup (is_at (nat_cmp q)) fs)
     ∙ ap (under (finmap.get (changes_of parent) q)) (sym (get_space es q)) ∙ sym (get_over parent (space_of es) q))
 
-pub not_mapped : (es : Changes) (fs : Pages) (q : ℕ) → lookup (is_at (nat_cmp q)) es ≡ None → lookup (is_at (nat_cmp q)) fs ≡ None
+pub not_mapped : (es : PageChanges) (fs : Pages) (q : ℕ) → lookup (is_at (nat_cmp q)) es ≡ None → lookup (is_at (nat_cmp q)) fs ≡ None
     → finmap.get (pages_over es (space_of fs)) q ≡ None
 not_mapped es fs q e f = get_through es (space_of fs) q ∙ ap (λ o. under (option_map change_of o) (finmap.get (space_of fs) q)) e ∙ get_space fs q ∙ ap (option_map page_of_snapshot) f
 
-pub page_by : (es : Changes) (fs : Pages) (q : ℕ) (o : Option ℕ) → lookup (is_at (nat_cmp q)) es ≡ None → MatchOption o (lookup (is_at (nat_cmp q)) fs ≡ None) (λ page. page ≡ q)
+pub page_by : (es : PageChanges) (fs : Pages) (q : ℕ) (o : Option ℕ) → lookup (is_at (nat_cmp q)) es ≡ None → MatchOption o (lookup (is_at (nat_cmp q)) fs ≡ None) (λ page. page ≡ q)
     → MatchOption o (finmap.get (pages_over es (space_of fs)) q ≡ None) (λ page. page ≡ q)
 page_by es fs q None e f = not_mapped es fs q e f
 page_by es fs q (Some page) e f = f
 
 -- a page that the changes don't touch, changed below them
-pub over_apart : (left : Changes) (pages : Space) (k : ℕ) (v : Option Page) → lookup (is_at (nat_cmp k)) left ≡ None
+pub over_apart : (left : PageChanges) (pages : Space) (k : ℕ) (v : Option Page) → lookup (is_at (nat_cmp k)) left ≡ None
     → pages_over left (with_page pages k v) ≡ with_page (pages_over left pages) k v
 over_apart left pages k v none = same_table _ _ (λ q. get_through left (with_page pages k v) q
     ∙ ap (under (option_map change_of (lookup (is_at (nat_cmp q)) left))) (get_with pages k v q)

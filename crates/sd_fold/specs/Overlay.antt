@@ -11,11 +11,11 @@ use Rattle.sd_areas.specs.PlainMemory.{Page, Space, PlainMemory}
 use Rattle.sd_pagetable.specs.Nested.{Table, inside}
 
 -- the pages of a space that were touched: with what they have now, or unmapped
-abbrev pub Changes : Type 0
-Changes = List (ℕ × Option SnapshotPage)
+abbrev pub PageChanges : Type 0
+PageChanges = List (ℕ × Option SnapshotPage)
 
 -- the same by page number
-unfoldable pub changes_of : Changes → Table (Option Page)
+unfoldable pub changes_of : PageChanges → Table (Option Page)
 changes_of changes = finmap.from_entries (map (λ change. (change.0, option_map page_of_snapshot change.1)) changes)
 
 -- a page has this, or is unmapped, and every other page is as before
@@ -24,7 +24,7 @@ with_page pages page None = finmap.remove pages page
 with_page pages page (Some found) = finmap.insert pages page found
 
 -- the pages of a space with changes over them
-abbrev pub pages_over : Changes → Space → Space
+abbrev pub pages_over : PageChanges → Space → Space
 pages_over [] pages = pages
 pages_over (change ∷ changes) pages =
     with_page (pages_over changes pages) change.0 (option_map page_of_snapshot change.1)
@@ -35,7 +35,7 @@ or_else None other = other
 or_else (Some x) other = Some x
 
 -- each page that wasn't touched, of those that are given, is touched now: it has what `fill` makes of it
-abbrev pub IsFilled : (SnapshotPage → Option Page) → List (ℕ × SnapshotPage) → Changes → Changes → Type 0
+abbrev pub IsFilled : (SnapshotPage → Option Page) → List (ℕ × SnapshotPage) → PageChanges → PageChanges → Type 0
 IsFilled fill pages old new = (page : ℕ) → finmap.get (changes_of new) page
     ≡ or_else (finmap.get (changes_of old) page) (option_map fill (lookup (is_at (nat_cmp page)) pages))
 

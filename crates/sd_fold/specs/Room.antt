@@ -10,7 +10,7 @@ use Rattle.sd_areas.specs.PlainMemory.{Space, PlainMemory}
 use Rattle.sd_pagetable.specs.Nested.{inside, is_alive}
 use Rattle.sd_fold.specs.declared.added.Added.{Added}
 use Rattle.sd_fold.specs.declared.added.Added.TheVariants as added
-use Rattle.sd_fold.specs.Overlay.{Changes, Layers}
+use Rattle.sd_fold.specs.Overlay.{Layers, PageChanges}
 
 -- the memory without a page of a space; where the space isn't alive there is none
 abbrev pub without_page : PlainMemory → ℕ → ℕ → PlainMemory
@@ -28,7 +28,7 @@ before [] memory = memory
 before (newest ∷ earlier) memory = before earlier (without newest memory)
 
 -- each page that is to be put is there already
-abbrev pub HasPages : Changes → Space → Type 0
+abbrev pub HasPages : PageChanges → Space → Type 0
 HasPages changes pages = (page : ℕ) → (found : SnapshotPage) → lookup (is_at (nat_cmp page)) changes ≡ Some (Some found)
     → IsSome (finmap.get pages page)
 

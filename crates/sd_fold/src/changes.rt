@@ -17,7 +17,7 @@ ghost use Rattle.sd_fold.specs.Overlay.{IsFilled, changes_of, pages_over};
 
 use crate::copying::copy_of_found;
 use sd_areas::{PAGE_SIZE, PageNo, Prot, SnapshotPage};
-use sd_journal::{Pages, copy_of_page, zero_page};
+use sd_journal::{Pages, zero_page};
 use std::alloc::{AllocError, Global};
 use std::collections::BTreeMap;
 use std::collections::btree_map::Range;
@@ -131,7 +131,7 @@ fn copy_all(alloc: Global, changes: &mut Changes, pages: &Pages) -> Result<(), A
 {
     for (page, found) in pages {
         if !changes.contains_key(page) {
-            put(changes, *page, Some(copy_of_page(alloc, found)?))?;
+            put(changes, *page, Some(found.try_clone(alloc)?))?;
         }
     }
     Ok(())

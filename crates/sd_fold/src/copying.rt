@@ -4,7 +4,6 @@ ghost use Rattle.std.specs.Option.{option_copied, option_map};
 ghost use Rattle.sd_areas.specs.Memory.{page_of_snapshot};
 
 use sd_areas::SnapshotPage;
-use sd_journal::copy_of_page;
 use std::alloc::{AllocError, Global};
 
 /// A copy of a page, where there is one.
@@ -16,7 +15,7 @@ pub(crate) fn copy_of_found(
         ≡ option_map page_of_snapshot (option_copied found.entry)) }
 {
     match found {
-        Some(page) => Ok(Some(copy_of_page(alloc, page)?)),
+        Some(page) => Ok(Some(page.try_clone(alloc)?)),
         None => Ok(None),
     }
 }

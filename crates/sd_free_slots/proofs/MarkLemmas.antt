@@ -3,7 +3,7 @@ use Rattle.std.proofs.Common.{◌≡◌, ◌⊎◌, ℕ, zero, suc, ◌<◌, ◌
 use Rattle.std.proofs.lemmas.Option.{same_Some, slice_get_within}
 use Rattle.std.proofs.Math.Nat.{eq-or-lt_of_le}
 use Rattle.sd_chain.specs.Catalog.{Places}
-use Rattle.sd_free_slots.specs.Marks.{IsTaken, Takes, TakesNeeded}
+use Rattle.sd_free_slots.specs.Marks.{IsTaken, TakesNeeded, TakesSlots}
 
 -- ---- one slot
 
@@ -48,8 +48,8 @@ set_keeps (m ∷ marks) (suc at) (suc slot) mark one is = elim (set_keeps marks 
   | inr here ↦ inr (ap suc here)
 ]
 
-pub takes_one : (marks new : List Bool) (at : ℕ) → new ≡ slice_set marks at true → Takes (λ slot. at ≡ slot) marks new
-takes_one marks new at is = subst (Takes (λ slot. at ≡ slot) marks) (sym is) (record {
+pub takes_one : (marks new : List Bool) (at : ℕ) → new ≡ slice_set marks at true → TakesSlots (λ slot. at ≡ slot) marks new
+takes_one marks new at is = subst (TakesSlots (λ slot. at ≡ slot) marks) (sym is) (record {
   count = set_length marks at true;
   exact = λ slot within. (
     (λ taken. elim (set_cases marks at slot true true taken) [
@@ -65,7 +65,7 @@ takes_one marks new at is = subst (Takes (λ slot. at ≡ slot) marks) (sym is) 
 
 -- ---- one after the other
 
-pub takes_as : (P Q : ℕ → Type 0) (old new : List Bool) → ((slot : ℕ) → P slot → Q slot) → ((slot : ℕ) → Q slot → P slot) → Takes P old new → Takes Q old new
+pub takes_as : (P Q : ℕ → Type 0) (old new : List Bool) → ((slot : ℕ) → P slot → Q slot) → ((slot : ℕ) → Q slot → P slot) → TakesSlots P old new → TakesSlots Q old new
 takes_as P Q old new to from t = record {
   count = t.count;
   exact = λ slot within. (
@@ -80,7 +80,7 @@ takes_as P Q old new to from t = record {
   );
 }
 
-pub takes_none : (P : ℕ → Type 0) (marks : List Bool) → ((slot : ℕ) → P slot → ⊥) → Takes P marks marks
+pub takes_none : (P : ℕ → Type 0) (marks : List Bool) → ((slot : ℕ) → P slot → ⊥) → TakesSlots P marks marks
 takes_none P marks none = record {
   count = refl;
   exact = λ slot within. (
@@ -92,7 +92,7 @@ takes_none P marks none = record {
   );
 }
 
-pub takes_more : (P Q : ℕ → Type 0) (old mid new : List Bool) → Takes P old mid → Takes Q mid new → Takes (λ slot. P slot ⊎ Q slot) old new
+pub takes_more : (P Q : ℕ → Type 0) (old mid new : List Bool) → TakesSlots P old mid → TakesSlots Q mid new → TakesSlots (λ slot. P slot ⊎ Q slot) old new
 takes_more P Q old mid new one two = record {
   count = two.count ∙ one.count;
   exact = λ slot within.
@@ -143,11 +143,11 @@ pub record IsAmong {X : Type 0} (slot_in : X → Option ℕ) (list : List X) (co
   pub there : slice_get list place ≡ Some one
   pub has : slot_in one ≡ Some slot
 
-pub among_none : {X : Type 0} (slot_in : X → Option ℕ) (list : List X) (marks : List Bool) → Takes (IsAmong slot_in list 0) marks marks
+pub among_none : {X : Type 0} (slot_in : X → Option ℕ) (list : List X) (marks : List Bool) → TakesSlots (IsAmong slot_in list 0) marks marks
 among_none slot_in list marks = takes_none (IsAmong slot_in list 0) marks (λ slot a. let early = a.early in omega (arith, early))
 
 pub among_more : {X : Type 0} (slot_in : X → Option ℕ) (list : List X) (count next : ℕ) (one : X) (old mid new : List Bool) → next ≡ suc count → slice_get list count ≡ Some one
-    → Takes (IsAmong slot_in list count) old mid → Takes (λ slot. slot_in one ≡ Some slot) mid new → Takes (IsAmong slot_in list next) old new
+    → TakesSlots (IsAmong slot_in list count) old mid → TakesSlots (λ slot. slot_in one ≡ Some slot) mid new → TakesSlots (IsAmong slot_in list next) old new
 among_more slot_in list count next one old mid new more there was step =
     takes_as (λ slot. IsAmong slot_in list count slot ⊎ (slot_in one ≡ Some slot)) (IsAmong slot_in list next) old new to from
     (takes_more (IsAmong slot_in list count) (λ slot. slot_in one ≡ Some slot) old mid new was step)
@@ -164,7 +164,7 @@ among_more slot_in list count next one old mid new more there was step =
 
 -- marking the slot of a place
 pub takes_its : {X : Type 0} (slot_in : X → Option ℕ) (one : X) (marks new : List Bool) (at : ℕ) → slot_in one ≡ Some at → new ≡ slice_set marks at true
-    → Takes (λ slot. slot_in one ≡ Some slot) marks new
+    → TakesSlots (λ slot. slot_in one ≡ Some slot) marks new
 takes_its slot_in one marks new at has is =
     takes_as (λ slot. at ≡ slot) (λ slot. slot_in one ≡ Some slot) marks new (λ slot same. has ∙ ap Some same)
     (λ slot other. same_Some at slot (sym has ∙ other)) (takes_one marks new at is)
@@ -178,7 +178,7 @@ pub record HasOne {X : Type 0} (slot_in : X → Option ℕ) (list : List X) (slo
 
 pub among_all : {X : Type 0} (slot_in : X → Option ℕ) (P : ℕ → Type 0) (list : List X) (count : ℕ) (old new : List Bool) → length list ≤ count
     → ((slot : ℕ) → HasOne slot_in list slot → P slot) → ((slot : ℕ) → P slot → HasOne slot_in list slot)
-    → Takes (IsAmong slot_in list count) old new → Takes P old new
+    → TakesSlots (IsAmong slot_in list count) old new → TakesSlots P old new
 among_all slot_in P list count old new all to from =
     takes_as (IsAmong slot_in list count) P old new (λ slot a. to slot (record { place = a.place; one = a.one; there = a.there; has = a.has }))
     (λ slot p. let h = from slot p in let within = slice_get_within list h.place h.one h.there in

@@ -7,7 +7,7 @@ use Rattle.sd_chain.specs.Catalog.{Names, Opened, Places}
 use Rattle.sd_gate.specs.declared.request_id.RequestId.{RequestId}
 use Rattle.sd_merge.specs.Merger as merger
 use Rattle.sd_rounds.specs.Dumper.{HasSlot, Running, dump_slot, parent_of, pre_dump_slots}
-use Rattle.sd_free_slots.specs.Marks.{IsReachedFrom, IsTaken, IsUnmarked, Takes, TakesNeeded}
+use Rattle.sd_free_slots.specs.Marks.{IsReachedFrom, IsTaken, IsUnmarked, TakesNeeded, TakesSlots}
 use Rattle.sd_free_slots.specs.Taken.{AreFree, AreTaken, FreeSlotsLaw, IsListed, IsNeededAt, IsOutAt, IsParentsSerial, IsReservedBy, IsRoot, IsSourcesSerial, IsTipsSerial, NamesParent}
 use Rattle.sd_free_slots.proofs.FreeLemmas.{free_at, free_rises}
 use Rattle.sd_free_slots.proofs.MarkLemmas.{needed_as, needed_more, takes_as, takes_more}
@@ -66,9 +66,9 @@ has_from (Some running) slot (inl c) = inl c
 has_from (Some running) slot (inr is) = inr (ap Some (sym is))
 
 pub jobs_of : (running : Option Running) (merge : Option merger.Running) (outs : List (Option RequestId)) (old one two three four new : List Bool)
-    → Takes (Contains (pre_dump_slots running)) old one → Takes (λ slot. dump_slot running ≡ Some slot) one two
-    → Takes (λ slot. option_map merger.slot_of merge ≡ Some slot) two three → Takes (IsListed (merger.list_of merge)) three four → Takes (IsOutAt outs) four new
-    → Takes (IsReservedBy running merge outs) old new
+    → TakesSlots (Contains (pre_dump_slots running)) old one → TakesSlots (λ slot. dump_slot running ≡ Some slot) one two
+    → TakesSlots (λ slot. option_map merger.slot_of merge ≡ Some slot) two three → TakesSlots (IsListed (merger.list_of merge)) three four → TakesSlots (IsOutAt outs) four new
+    → TakesSlots (IsReservedBy running merge outs) old new
 jobs_of running merge outs old one two three four new a b c d e =
     takes_as all (IsReservedBy running merge outs) old new to from
     (takes_more (λ slot. ((Contains (pre_dump_slots running) slot ⊎ (dump_slot running ≡ Some slot)) ⊎ (option_map merger.slot_of merge ≡ Some slot)) ⊎ IsListed (merger.list_of merge) slot)
@@ -95,7 +95,7 @@ jobs_of running merge outs old one two three four new a b c d e =
 -- ---- all of it
 
 pub taken_of : (places : Places) (running : Option Running) (merge : Option merger.Running) (outs : List (Option RequestId)) (old one new : List Bool) → IsUnmarked old
-    → TakesNeeded places (IsNeededAt places running merge) old one → Takes (IsReservedBy running merge outs) one new → AreTaken places running merge outs (length old) new
+    → TakesNeeded places (IsNeededAt places running merge) old one → TakesSlots (IsReservedBy running merge outs) one new → AreTaken places running merge outs (length old) new
 taken_of places running merge outs old one new none needed jobs = record {
   count_is = jobs.count ∙ needed.count;
   jobs = λ slot within reserved. (jobs.exact slot (inside slot within)).1 (inr reserved);

@@ -3,9 +3,9 @@ use Rattle.std.proofs.Common.{◌≡◌, ◌⊎◌, ℕ, ◌<◌, Bool, true, Li
 use Rattle.std.specs.Prelude.{IfSome, IsNone}
 use Rattle.std.proofs.lemmas.List.Elements.{All-contains}
 use Rattle.std.proofs.lemmas.Option.{same_Some, slice_get_within}
-use Rattle.sd_chain.specs.Catalog.{IsSound, Names, Opened, Places, images, place_of}
+use Rattle.sd_chain.specs.Catalog.{IsSoundCatalog, Names, Opened, Places, images, place_of}
 use Rattle.sd_chain.specs.Reaches.{ParentsFall, Reaches}
-use Rattle.sd_free_slots.specs.Marks.{IsReachedAt, IsTaken, Takes, TakesNeeded}
+use Rattle.sd_free_slots.specs.Marks.{IsReachedAt, IsTaken, TakesNeeded, TakesSlots}
 use Rattle.sd_free_slots.proofs.MarkLemmas.{takes_one}
 
 -- an image that the next one of the walk reaches, if there is one, stands in the slot
@@ -34,7 +34,7 @@ IsFound places serial found = MatchOption found
 some_of : {X : Type 0} (a b : X) → Some (Some a) ≡ Some (Some b) → a ≡ b
 some_of a b e = cc
 
-pub walk_begins : (places : Places) (serial : ℕ) (marks : List Bool) (next : Option (Bor Opened)) → IsSound places → IsFound places serial next
+pub walk_begins : (places : Places) (serial : ℕ) (marks : List Bool) (next : Option (Bor Opened)) → IsSoundCatalog places → IsFound places serial next
     → IsWalked places serial marks next marks
 walk_begins places serial marks None sound none = record {
   count = refl;
@@ -79,13 +79,13 @@ named_by : (places : Places) (i : Opened) (next : Option (Bor Opened)) (from : B
 named_by places i None from named is = absurd (let no : None ≡ Some from = is in cc)
 named_by places i (Some p) from named is = subst (λ (o : Bor Opened). Names places i.header.parent o.now) (same_Some p from is) named
 
-beyond_next : (places : Places) (i p j : Opened) (next : Option (Bor Opened)) → IsSound places → i.header.parent < i.header.stands_for → IsNext places i next
+beyond_next : (places : Places) (i p j : Opened) (next : Option (Bor Opened)) → IsSoundCatalog places → i.header.parent < i.header.stands_for → IsNext places i next
     → Names places i.header.parent p → Reaches places j p → IsAhead places next j.slot
 beyond_next places i p j None sound falls is named r = absurd (is.all falls refl p named)
 beyond_next places i p j (Some q) sound falls is named r =
     record { from = q; is = refl; image = j; reaches = subst (Reaches places j) (sound.named_once i.header.parent p q.now named is.named) r; at = refl }
 
-reached_more : (places : Places) (i j : Opened) (next : Option (Bor Opened)) → IsSound places → i.header.parent < i.header.stands_for → IsNext places i next
+reached_more : (places : Places) (i j : Opened) (next : Option (Bor Opened)) → IsSoundCatalog places → i.header.parent < i.header.stands_for → IsNext places i next
     → Reaches places j i → (i ≡ j) ⊎ IsAhead places next j.slot
 reached_more places i j next sound falls is r = by i r falls is
   where
@@ -93,7 +93,7 @@ reached_more places i j next sound falls is r = by i r falls is
     by _ Reaches.itself falls is = inl refl
     by _ (Reaches.beyond k p named rest) falls is = inr (beyond_next places k p j next sound falls is named rest)
 
-pub walk_goes_on : (places : Places) (serial : ℕ) (old marks new : List Bool) (i : Bor Opened) (next : Option (Bor Opened)) → IsSound places
+pub walk_goes_on : (places : Places) (serial : ℕ) (old marks new : List Bool) (i : Bor Opened) (next : Option (Bor Opened)) → IsSoundCatalog places
     → IsNext places i.now next → new ≡ slice_set marks i.now.slot true → IsWalked places serial old (Some i) marks → IsWalked places serial old next new
 walk_goes_on places serial old marks new i next sound is set w = record {
   count = t.count ∙ w.count;
@@ -116,7 +116,7 @@ walk_goes_on places serial old marks new i next sound is set w = record {
   ];
 }
   where
-    t : Takes (λ slot. i.now.slot ≡ slot) marks new
+    t : TakesSlots (λ slot. i.now.slot ≡ slot) marks new
     t = takes_one marks new i.now.slot set
 
     inside : (slot : ℕ) → slot < length old → slot < length marks

@@ -26,7 +26,7 @@ pub record IsReachedAt (places : Places) (serial slot : ℕ) : Type 0 where
   pub at : image.slot ≡ slot
 
 -- Slots of these are marked too, and no other.
-pub record Takes (P : ℕ → Type 0) (old new : List Bool) : Type 0 where
+pub record TakesSlots (P : ℕ → Type 0) (old new : List Bool) : Type 0 where
   pub count : length new ≡ length old
   pub exact : (slot : ℕ) → slot < length old → IsTaken new slot ↔ (IsTaken old slot ⊎ P slot)
 

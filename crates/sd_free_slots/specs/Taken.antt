@@ -112,8 +112,8 @@ pub record IsLeftOver (places : Places) (running : Option Running) (merge : Opti
   pub spared : IsReservedBy running merge outs one.slot → ⊥
 
 -- no two images of the catalog stand in one slot
-abbrev pub AreApart : Places → Type 0
-AreApart places = (a b : ℕ) (i j : Opened) → place_of places a ≡ Some (Some i) → place_of places b ≡ Some (Some j)
+abbrev pub SlotsDiffer : Places → Type 0
+SlotsDiffer places = (a b : ℕ) (i j : Opened) → place_of places a ≡ Some (Some i) → place_of places b ≡ Some (Some j)
     → i.slot ≡ j.slot → a ≡ b
 
 -- The list is rising by slot: each such image that nobody needs is on it, and no other. It has no more than were there
@@ -122,7 +122,7 @@ pub record IsListOf (places : Places) (running : Option Running) (merge : Option
     (outs : List (Option RequestId)) (count : ℕ) (list : List Retired) : Type 0 where
   pub each : (one : Retired) → Contains list one → (one.slot < count) × IsLeftOver places running merge outs one
   pub unneeded : ParentsFall places → (one : Retired) → Contains list one → IsNeededAt places running merge one.slot → ⊥
-  pub all : ParentsFall places → AreApart places → (one : Retired) → one.slot < count
+  pub all : ParentsFall places → SlotsDiffer places → (one : Retired) → one.slot < count
       → IsLeftOver places running merge outs one
       → (IsNeededAt places running merge one.slot → ⊥) → Contains list one
   pub rises : (place other : ℕ) (a b : Retired) → place < other → slice_get list place ≡ Some a

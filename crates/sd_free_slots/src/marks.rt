@@ -1,6 +1,6 @@
 //! Marks of slots, one for each.
 ghost use Rattle.std.specs.Prelude.{◌≡◌, true, IfOk, Some, Contains, slice_set};
-ghost use Rattle.sd_free_slots.specs.Marks.{IsReachedAt, IsReachedFrom, Takes, TakesNeeded, free_from};
+ghost use Rattle.sd_free_slots.specs.Marks.{IsReachedAt, IsReachedFrom, TakesNeeded, TakesSlots, free_from};
 
 use sd_chain::Catalog;
 use std::alloc::{AllocError, Global};
@@ -16,7 +16,7 @@ pub(crate) fn take(marks: &mut Vec<bool>, slot: usize)
 
 /// Marks a slot, if there is one.
 pub(crate) fn take_some(marks: &mut Vec<bool>, slot: Option<usize>)
-    ensures { Takes (λ other. slot ≡ Some other) marks.old.items marks.new.items }
+    ensures { TakesSlots (λ other. slot ≡ Some other) marks.old.items marks.new.items }
 {
     if let Some(slot) = slot {
         take(marks, slot);
@@ -25,7 +25,7 @@ pub(crate) fn take_some(marks: &mut Vec<bool>, slot: Option<usize>)
 
 /// Marks these slots.
 pub(crate) fn take_all(marks: &mut Vec<bool>, slots: &[usize])
-    ensures { Takes (Contains slots.now) marks.old.items marks.new.items }
+    ensures { TakesSlots (Contains slots.now) marks.old.items marks.new.items }
 {
     for slot in slots {
         take(marks, *slot);

@@ -1,7 +1,7 @@
 //! Which slots of a store are taken: by images that are needed, and by jobs.
 ghost use Rattle.std.specs.Prelude.{◌≡◌, ◌↔◌, ℕ, IfOk, Some, length};
 ghost use Rattle.std.specs.Option.{option_map};
-ghost use Rattle.sd_free_slots.specs.Marks.{IsUnmarked, Takes, TakesNeeded};
+ghost use Rattle.sd_free_slots.specs.Marks.{IsUnmarked, TakesNeeded, TakesSlots};
 ghost use Rattle.sd_free_slots.specs.Taken.{AreFree, AreTaken, FreeSlotsLaw, IsListed, IsNeededAt, IsOutAt};
 ghost use Rattle.sd_free_slots.specs.Taken.{IsParentsSerial, IsReservedBy, IsSourcesSerial, IsTipsSerial, slot_of_id};
 
@@ -48,7 +48,7 @@ fn take_needed(marks: &mut Vec<bool>, catalog: &Catalog, dumper: &Dumper, merger
 
 /// Marks the slots of a merge's list.
 fn take_listed(marks: &mut Vec<bool>, list: &[Retired])
-    ensures { Takes (IsListed list.now) marks.old.items marks.new.items }
+    ensures { TakesSlots (IsListed list.now) marks.old.items marks.new.items }
 {
     for one in list {
         take(marks, one.slot);
@@ -64,7 +64,7 @@ fn slot_of(out: &Option<RequestId>) -> Option<usize>
 
 /// Marks the slots on which requests are out.
 fn take_outs(marks: &mut Vec<bool>, outs: &[Option<RequestId>])
-    ensures { Takes (IsOutAt outs.now) marks.old.items marks.new.items }
+    ensures { TakesSlots (IsOutAt outs.now) marks.old.items marks.new.items }
 {
     for out in outs {
         take_some(marks, slot_of(out));
@@ -73,7 +73,7 @@ fn take_outs(marks: &mut Vec<bool>, outs: &[Option<RequestId>])
 
 /// Marks the slots of jobs, and those on which requests are out.
 fn take_jobs(marks: &mut Vec<bool>, dumper: &Dumper, merger: &Merger, outs: &[Option<RequestId>])
-    ensures { Takes (IsReservedBy dumper.now.running merger.now outs.now) marks.old.items marks.new.items }
+    ensures { TakesSlots (IsReservedBy dumper.now.running merger.now outs.now) marks.old.items marks.new.items }
 {
     take_all(marks, dumper.pre_dump_slots());
     take_some(marks, dumper.dump_slot());

@@ -9,7 +9,7 @@ use Rattle.sd_image.specs.declared.header.Header.{Header}
 use Rattle.sd_image.specs.declared.header.Version.{Version}
 use Rattle.sd_image.specs.declared.header.Version.TheVariants.{One, Two}
 use Rattle.sd_image.specs.Header.{HasWords, IsDigest, header_front, header_text}
-use Rattle.sd_image.specs.Words.{number_bytes, zeros}
+use Rattle.sd_image.specs.Words.{number_bytes, zero_bytes}
 use Rattle.sd_gate.specs.Laws.{AreWhole, pages_body, page_place}
 use Rattle.sd_gate.specs.Sequences.{table_place}
 
@@ -32,31 +32,31 @@ length_concat : (pages : List (List ℕ)) → AreWhole pages → length (concat 
 length_concat [] whole = refl
 length_concat (page ∷ pages) whole = omega (arith, length-append page (concat pages), length_concat pages whole.1, whole.0)
 
-length-zeros : (n : ℕ) → length (zeros n) ≡ n
-unfolding zeros
+length-zeros : (n : ℕ) → length (zero_bytes n) ≡ n
+unfolding zero_bytes
 length-zeros n = length-replicate {A = ℕ} n 0
 
 -- behind an empty body: the room for the header, and the bytes
-first_written : (at : ℕ) (bytes : List ℕ) → at ≡ 4095 → file_after_write [] at bytes ≡ zeros 4095 ++ bytes
-unfolding zeros
+first_written : (at : ℕ) (bytes : List ℕ) → at ≡ 4095 → file_after_write [] at bytes ≡ zero_bytes 4095 ++ bytes
+unfolding zero_bytes
 first_written at bytes is = ap (λ n. file_after_write [] n bytes) is ∙ written_behind [] 4095 bytes (lit≤ tt)
 
 -- bytes behind the data pages
 behind_pages : (pages : List (List ℕ)) (at : ℕ) (bytes : List ℕ) → AreWhole pages → at ≡ page_place pages
-    → file_after_write (pages_body pages) (at - 1) bytes ≡ zeros 4095 ++ concat pages ++ bytes
-unfolding zeros
+    → file_after_write (pages_body pages) (at - 1) bytes ≡ zero_bytes 4095 ++ concat pages ++ bytes
+unfolding zero_bytes
 behind_pages [] at bytes whole is = first_written (at - 1) bytes (omega (arith, is))
 behind_pages (page ∷ pages) at bytes whole is =
-    let room : length (zeros 4095) ≡ 4095 = length-zeros 4095 in
+    let room : length (zero_bytes 4095) ≡ 4095 = length-zeros 4095 in
     let body : length (concat (page ∷ pages)) ≡ 4096 * length (page ∷ pages) = length_concat (page ∷ pages) whole in
-    let parts : length (zeros 4095 ++ concat (page ∷ pages)) ≡ length (zeros 4095) + length (concat (page ∷ pages)) = length-append (zeros 4095) (concat (page ∷ pages)) in
-    written_at_end (zeros 4095 ++ concat (page ∷ pages)) (at - 1) bytes (omega (arith, is))
+    let parts : length (zero_bytes 4095 ++ concat (page ∷ pages)) ≡ length (zero_bytes 4095) + length (concat (page ∷ pages)) = length-append (zero_bytes 4095) (concat (page ∷ pages)) in
+    written_at_end (zero_bytes 4095 ++ concat (page ∷ pages)) (at - 1) bytes (omega (arith, is))
 
 concat_snoc : (pages : List (List ℕ)) (page : List ℕ) → concat (pages ++ page ∷ []) ≡ concat pages ++ page
 concat_snoc pages page = concat-append pages (page ∷ []) ∙ ap (λ xs. concat pages ++ xs) (append-nil page)
 
 -- a body with a page more
-body_snoc : (pages : List (List ℕ)) (page : List ℕ) → pages_body (pages ++ page ∷ []) ≡ zeros 4095 ++ concat (pages ++ page ∷ [])
+body_snoc : (pages : List (List ℕ)) (page : List ℕ) → pages_body (pages ++ page ∷ []) ≡ zero_bytes 4095 ++ concat (pages ++ page ∷ [])
 body_snoc [] page = refl
 body_snoc (first ∷ pages) page = refl
 
@@ -64,32 +64,32 @@ pub page_filled : (pages : List (List ℕ)) (page : List ℕ) → AreWhole pages
     → file_after_write (pages_body pages) (page_place pages - 1) page ≡ pages_body (pages ++ page ∷ [])
 page_filled pages page whole =
     behind_pages pages (page_place pages) page whole refl
-    ∙ append_assoc (zeros 4095) (concat pages) page
-    ∙ ap (λ xs. zeros 4095 ++ xs) (sym (concat_snoc pages page))
+    ∙ append_assoc (zero_bytes 4095) (concat pages) page
+    ∙ ap (λ xs. zero_bytes 4095 ++ xs) (sym (concat_snoc pages page))
     ∙ sym (body_snoc pages page)
 
 -- the header, in its room
-header_written : (header rest : List ℕ) → length header ≡ 4095 → file_after_write (zeros 4095 ++ rest) 0 header ≡ header ++ rest
+header_written : (header rest : List ℕ) → length header ≡ 4095 → file_after_write (zero_bytes 4095 ++ rest) 0 header ≡ header ++ rest
 header_written header rest whole =
-    let room : length (zeros 4095) ≡ 4095 = length-zeros 4095 in
-    let behind : 0 + length header ≡ length (zeros 4095) = omega arith in
-    ap (λ n. header ++ drop n (zeros 4095 ++ rest)) behind ∙ ap (λ xs. header ++ xs) (drop-append_seam (zeros 4095) rest)
+    let room : length (zero_bytes 4095) ≡ 4095 = length-zeros 4095 in
+    let behind : 0 + length header ≡ length (zero_bytes 4095) = omega arith in
+    ap (λ n. header ++ drop n (zero_bytes 4095 ++ rest)) behind ∙ ap (λ xs. header ++ xs) (drop-append_seam (zero_bytes 4095) rest)
 
 length-digest : (version : Version) (digest : List ℕ) → IsDigest version digest → length digest ≡ 32
-unfolding zeros
+unfolding zero_bytes
 length-digest One digest is = ap length is
 length-digest Two digest is = is
 
 length_header : (header : Header) → HasWords header → length (header_text header) ≡ 4095
-unfolding header_text header_front number_bytes zeros
+unfolding header_text header_front number_bytes zero_bytes
 length_header header words =
-    let parts = length-append header.digest (zeros 4000) in
+    let parts = length-append header.digest (zero_bytes 4000) in
     omega (arith, parts, length-digest header.version header.digest words.digest)
 
 pub image_filled : (pages : List (List ℕ)) (header : Header) (table : List ℕ) → AreWhole pages → header.pages ≡ length pages → HasWords header
     → file_after_write (file_after_write (pages_body pages) (table_place header - 1) table) 0 (header_text header) ≡ header_text header ++ concat pages ++ table
 image_filled pages header table whole count words =
     ap (λ body. file_after_write body 0 (header_text header))
-    (behind_pages pages (table_place header) table whole (ap (λ n. 4096 + 4096 * n) count) ∙ append_assoc (zeros 4095) (concat pages) table)
+    (behind_pages pages (table_place header) table whole (ap (λ n. 4096 + 4096 * n) count) ∙ append_assoc (zero_bytes 4095) (concat pages) table)
     ∙ header_written (header_text header) (concat pages ++ table) (length_header header words)
     ∙ sym (append_assoc (header_text header) (concat pages) table)

@@ -7,11 +7,11 @@ use Rattle.sd_gate.specs.declared.call.Call.{Call}
 use Rattle.sd_gate.specs.declared.call.Call.TheVariants.{Len, Read, Write, WriteHeader, Close, Open, Cut, Sync}
 use Rattle.sd_gate.specs.declared.phase.Phase.{Phase}
 use Rattle.sd_gate.specs.declared.phase.Phase.TheVariants.{Raw, RawClosing, Whole, Closing, Shut, ShutSynced, Bare, Writing, Ready, Opening, Doubt, DoubtSynced}
-use Rattle.sd_gate.specs.Calls.{contents_after, Makes, IsBehindGate, IsLook, IsSound, call_of}
+use Rattle.sd_gate.specs.Calls.{contents_after, Makes, IsBehindGate, IsLook, IsSoundOrder, call_of}
 use Rattle.sd_gate.specs.declared.order.Order.{Order}
 use Rattle.sd_gate.specs.declared.order.Order.TheVariants.{Len as LenOrder, Read as ReadOrder, Write as WriteOrder, WriteHeader as HeaderOrder, Close as CloseOrder, Open as OpenOrder, Cut as CutOrder, Sync as SyncOrder}
 use Rattle.sd_gate.specs.Phases.{may_open, is_ready, after, body_after}
-use Rattle.sd_gate.specs.Fits.{Reads, Leaves, SlotFits}
+use Rattle.sd_gate.specs.Fits.{PhaseReads, PhaseLeaves, SlotFits}
 use Rattle.sd_gate.proofs.PhaseLemmas.{slot_given_up, slot_kept, slot_synced, slot_filled, slot_not_filled, slot_cut, slot_not_cut, slot_closing, slot_not_closing, slot_opening, slot_not_opening}
 
 -- what is known of a call that was made
@@ -25,7 +25,7 @@ pub record IsMade (slot : ℕ) (call : Call) (bytes : List ℕ) (done : Bool) (o
   pub durable : call ≡ Sync → done ≡ true → OnlyAt slot (file_at old slot) now
 
 -- a sound order leaves the gate
-pub behind_gate : (order : Order) → IsSound order → IsBehindGate (call_of order)
+pub behind_gate : (order : Order) → IsSoundOrder order → IsBehindGate (call_of order)
 behind_gate LenOrder sound = tt
 behind_gate (ReadOrder at buffer) sound = tt
 behind_gate (WriteOrder at buffer) sound = sound.0
@@ -108,9 +108,9 @@ pub kept_elsewhere : (call : Call) (bytes : List ℕ) (slot : ℕ) (old new : Li
 kept_elsewhere call bytes slot old new before now torn crash other phase body apart fits =
     let same : file_at new other ≡ file_at old other = makes_elsewhere call bytes slot old new other apart torn in
     record {
-      reads = subst (Reads phase body) (sym same) fits.reads;
+      reads = subst (PhaseReads phase body) (sym same) fits.reads;
       leaves = λ c may. let was = crash c may in
-          subst (Leaves phase body) (sym (makes_elsewhere call bytes slot was.0 c other apart was.2)) (fits.leaves was.0 was.1);
+          subst (PhaseLeaves phase body) (sym (makes_elsewhere call bytes slot was.0 c other apart was.2)) (fits.leaves was.0 was.1);
       as_read = λ synced c may. let was = crash c may in
           makes_elsewhere call bytes slot was.0 c other apart was.2 ∙ fits.as_read synced was.0 was.1 ∙ sym same;
     }

@@ -12,7 +12,7 @@ use Rattle.sd_image.specs.Image.{gate, is_open}
 use Rattle.sd_gate.specs.declared.call.Call.TheVariants.{Write, WriteHeader, Close, Open, Cut, Sync}
 use Rattle.sd_gate.specs.declared.phase.Phase.{Phase}
 use Rattle.sd_gate.specs.declared.phase.Phase.TheVariants.{Raw, RawClosing, Whole, Closing, Shut, ShutSynced, Bare, Writing, Ready, Opening, Doubt, DoubtSynced}
-use Rattle.sd_gate.specs.Fits.{IsClosed, IsBehind, IsShort, Leaves, Reads, SlotFits}
+use Rattle.sd_gate.specs.Fits.{IsClosed, IsBehind, IsShort, PhaseLeaves, PhaseReads, SlotFits}
 use Rattle.sd_gate.specs.Laws.{IsClosedOrWhole, CrashLeaves, found_phase, phase_told, InspectionTells, Leads, no_call, one_call, PlansLead, AllFoundFit}
 use Rattle.sd_gate.specs.Phases.{may_close, may_write, closing, filled, body_after, state_of}
 use Rattle.sd_gate.specs.Sequences.{format_calls, closing_calls, body_calls, table_place}
@@ -30,7 +30,7 @@ behind_whole body file behind = ⊎_elim
     (λ other. inl (closed_not_open file (behind_is_closed body file (record { first = behind.first; shut = other; spelled = behind.spelled }))))
     (cases_eq behind.first gate)
 
-pub leaves_whole_or_closed : (phase : Phase) (body file : List ℕ) → Leaves phase body file → CrashLeaves phase body file
+pub leaves_whole_or_closed : (phase : Phase) (body file : List ℕ) → PhaseLeaves phase body file → CrashLeaves phase body file
 leaves_whole_or_closed Raw body file is = short_not_open file is
 leaves_whole_or_closed RawClosing body file is = short_not_open file is
 leaves_whole_or_closed Whole body file is = is
@@ -146,11 +146,11 @@ module _ (slot : ℕ) (contents : List (List ℕ)) (may_leave : List (List ℕ) 
   abbrev file : List ℕ
   file = file_at contents slot
 
-  found_as : (phase : Phase) → found_phase file ≡ phase → Reads phase (drop 1 file) file → Leaves phase (drop 1 file) file
+  found_as : (phase : Phase) → found_phase file ≡ phase → PhaseReads phase (drop 1 file) file → PhaseLeaves phase (drop 1 file) file
       → SlotFits (found_phase file) (drop 1 file) slot contents may_leave
   found_as phase is reads leaves = subst (λ p. SlotFits p (drop 1 file) slot contents may_leave) (sym is) (record {
     reads = reads;
-    leaves = λ c may. subst (Leaves phase (drop 1 file)) (sym (only c may)) leaves;
+    leaves = λ c may. subst (PhaseLeaves phase (drop 1 file)) (sym (only c may)) leaves;
     as_read = λ sync. only;
   })
 

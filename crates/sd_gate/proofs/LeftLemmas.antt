@@ -4,7 +4,7 @@ use Rattle.sd_image.specs.declared.header.Header.{Header}
 use Rattle.sd_image.specs.declared.reason.Reason.{Reason}
 use Rattle.sd_image.specs.Image.{gate}
 use Rattle.sd_image.specs.Reading.{header_in}
-use Rattle.sd_image.specs.Words.{zeros}
+use Rattle.sd_image.specs.Words.{zero_bytes}
 use Rattle.sd_gate.specs.declared.answer.Answer.{Answer}
 use Rattle.sd_gate.specs.declared.answer.Answer.TheVariants.{Done, Len as LenIs, Failed}
 use Rattle.sd_gate.specs.declared.call.Call.TheVariants.{Read}
@@ -31,7 +31,7 @@ first_few bytes len = either_few ((length bytes == 4096) && (slice_index bytes 0
 
 length_few : (answer : Answer) → Few 2 (after_length answer)
 length_few Done = omega arith
-length_few (LenIs len) = either_few (nat_le 4096 len) 2 ((Read 0, zeros 4096) ∷ [], the_header len) ([], nothing) (omega arith) (omega arith)
+length_few (LenIs len) = either_few (nat_le 4096 len) 2 ((Read 0, zero_bytes 4096) ∷ [], the_header len) ([], nothing) (omega arith) (omega arith)
 length_few Failed = omega arith
 
 following_few : (awaits : Awaits) (answer : Answer) (buffer : Option (List ℕ)) → Few (calls_awaited awaits) (following awaits answer buffer)

@@ -7,15 +7,15 @@ use Rattle.sd_image.specs.declared.header.Header.{Header}
 use Rattle.sd_image.specs.declared.reason.Reason.{Reason}
 use Rattle.sd_image.specs.Image.{gate}
 use Rattle.sd_image.specs.Reading.{header_in}
-use Rattle.sd_image.specs.Words.{zeros}
+use Rattle.sd_image.specs.Words.{zero_bytes}
 use Rattle.sd_gate.specs.declared.answer.Answer.{Answer}
 use Rattle.sd_gate.specs.declared.answer.Answer.TheVariants.{Done, Len as LenIs}
 use Rattle.sd_gate.specs.declared.call.Call.{Call}
 use Rattle.sd_gate.specs.declared.call.Call.TheVariants.{Len, Read, Sync}
 use Rattle.sd_gate.specs.declared.request_id.RequestId.{RequestId}
-use Rattle.sd_gate.specs.Calls.{IsAnswerTo, Tells, buffer_back, is_done}
+use Rattle.sd_gate.specs.Calls.{CallTells, IsAnswerTo, buffer_back, is_done}
 use Rattle.sd_gate.specs.Inspections.{nothing, Following, calls_then}
-use Rattle.sd_gate.specs.Looks.{Look, AtSync, AtLength, AtFirst, AtTable, Short, Shut, Broken, Whole, first_of, table_of, IsLookAt, calls_at, calls_behind, awaits_at, back_at, IsCallAt, rests, asks, LooksAt, IsTold, IsFound, InspectionFinds}
+use Rattle.sd_gate.specs.Looks.{Look, AtSync, AtLength, AtFirst, AtTable, Short, Shut, Broken, Whole, front_of_file, table_of_file, IsLookAt, calls_at, calls_behind, awaits_at, back_at, IsCallAt, rests, asks, LooksAt, IsTold, IsFound, InspectionFinds}
 use Rattle.sd_gate.specs.Plans.{Gives, Planned, found_after, plan_after}
 use Rattle.sd_gate.specs.Requests.{Asked, Made}
 use Rattle.sd_gate.specs.Sequences.{Calls, table_place}
@@ -46,33 +46,33 @@ module _ (slot : ℕ) (file : List ℕ) (id : RequestId) where
   short_after : (bytes : List ℕ) → nat_le 4096 (length file) ≡ false → after_with (asks slot file AtLength id) Len (LenIs (length file)) bytes ≡ rests slot file Short
   short_after bytes is = rw is refl
 
-  table_after : (h : Header) → after_with (asks slot file (AtTable h) id) (Read (table_place h)) Done (table_of h file) ≡ rests slot file (Whole h)
+  table_after : (h : Header) → after_with (asks slot file (AtTable h) id) (Read (table_place h)) Done (table_of_file h file) ≡ rests slot file (Whole h)
   table_after h = refl
 
   -- the header decides
   abbrev open_test : Bool
-  open_test = (length (first_of file) == 4096) && (slice_index (first_of file) 0 == gate)
+  open_test = (length (front_of_file file) == 4096) && (slice_index (front_of_file file) 0 == gate)
 
-  shut_after : open_test ≡ false → after_with (asks slot file AtFirst id) (Read 0) Done (first_of file) ≡ rests slot file Shut
+  shut_after : open_test ≡ false → after_with (asks slot file AtFirst id) (Read 0) Done (front_of_file file) ≡ rests slot file Shut
   shut_after is = rw is refl
 
-  headed_after : (h : Header) → open_test ≡ true → header_in (first_of file) (length file) ≡ Ok h
-      → after_with (asks slot file AtFirst id) (Read 0) Done (first_of file) ≡ rests slot file (AtTable h)
+  headed_after : (h : Header) → open_test ≡ true → header_in (front_of_file file) (length file) ≡ Ok h
+      → after_with (asks slot file AtFirst id) (Read 0) Done (front_of_file file) ≡ rests slot file (AtTable h)
   headed_after h is header = rw (is, header) refl
 
-  broken_after : (why : Reason) → open_test ≡ true → header_in (first_of file) (length file) ≡ Err why
-      → after_with (asks slot file AtFirst id) (Read 0) Done (first_of file) ≡ rests slot file (Broken why)
+  broken_after : (why : Reason) → open_test ≡ true → header_in (front_of_file file) (length file) ≡ Err why
+      → after_with (asks slot file AtFirst id) (Read 0) Done (front_of_file file) ≡ rests slot file (Broken why)
   broken_after why is header = rw (is, header) refl
 
-  open_found : 4096 ≤ length file → slice_index (first_of file) 0 ≡ gate → open_test ≡ true → (r : Result Header Reason) → header_in (first_of file) (length file) ≡ r
-      → LooksAt slot file None (after_with (asks slot file AtFirst id) (Read 0) Done (first_of file))
+  open_found : 4096 ≤ length file → slice_index (front_of_file file) 0 ≡ gate → open_test ≡ true → (r : Result Header Reason) → header_in (front_of_file file) (length file) ≡ r
+      → LooksAt slot file None (after_with (asks slot file AtFirst id) (Read 0) Done (front_of_file file))
   open_found long opens is (Ok h) header = (AtTable h, record { long = long; opens = opens; header = header }, headed_after h is header)
   open_found long opens is (Err why) header = (Broken why, record { long = long; opens = opens; header = header }, broken_after why is header)
 
-  first_found : 4096 ≤ length file → length (first_of file) ≡ 4096 → LooksAt slot file None (after_with (asks slot file AtFirst id) (Read 0) Done (first_of file))
-  first_found long size = elim (cases_eq (slice_index (first_of file) 0) gate) [
-    | inl opens ↦ open_found long opens (test_true (length (first_of file)) (slice_index (first_of file) 0) size opens) (header_in (first_of file) (length file)) refl
-    | inr other ↦ (Shut, (long, other), shut_after (test_false (length (first_of file)) (slice_index (first_of file) 0) other))
+  first_found : 4096 ≤ length file → length (front_of_file file) ≡ 4096 → LooksAt slot file None (after_with (asks slot file AtFirst id) (Read 0) Done (front_of_file file))
+  first_found long size = elim (cases_eq (slice_index (front_of_file file) 0) gate) [
+    | inl opens ↦ open_found long opens (test_true (length (front_of_file file)) (slice_index (front_of_file file) 0) size opens) (header_in (front_of_file file) (length file)) refl
+    | inr other ↦ (Shut, (long, other), shut_after (test_false (length (front_of_file file)) (slice_index (front_of_file file) 0) other))
   ]
 
   length_found : (bytes : List ℕ) → LooksAt slot file None (after_with (asks slot file AtLength id) Len (LenIs (length file)) bytes)
@@ -85,8 +85,8 @@ module _ (slot : ℕ) (file : List ℕ) (made : Made) (told : IsTold file made) 
   answers_as : (call : Call) → made.request.id.call ≡ call → IsAnswerTo call made.answer
   answers_as call is = subst (λ c. IsAnswerTo c made.answer) is told.answers
 
-  tells_as : (call : Call) → made.request.id.call ≡ call → Tells call file made.answer made.request.bytes
-  tells_as call is = subst (λ c. Tells c file made.answer made.request.bytes) is told.tells
+  tells_as : (call : Call) → made.request.id.call ≡ call → CallTells call file made.answer made.request.bytes
+  tells_as call is = subst (λ c. CallTells c file made.answer made.request.bytes) is told.tells
 
   -- a plan that is as it would be by these
   looks_by : (plan next : Planned) → plan ≡ next → LooksAt slot file None next → LooksAt slot file None plan
@@ -100,14 +100,14 @@ module _ (slot : ℕ) (file : List ℕ) (made : Made) (told : IsTold file made) 
       (after_is (asks slot file AtLength id) made Len (LenIs (length file)) made.request.bytes call (tells_as Len call) refl)
       (length_found slot file id made.request.bytes)
   settled_at AtFirst id at call =
-      let bytes : made.request.bytes ≡ first_of file = tells_as (Read 0) call.0 ∙ ap (λ n. slice_range file 0 (0 + n)) call.1 in
-      looks_by (plan_after (asks slot file AtFirst id) made) (after_with (asks slot file AtFirst id) (Read 0) Done (first_of file))
-      (after_is (asks slot file AtFirst id) made (Read 0) Done (first_of file) call.0 (answers_as (Read 0) call.0) bytes)
+      let bytes : made.request.bytes ≡ front_of_file file = tells_as (Read 0) call.0 ∙ ap (λ n. slice_range file 0 (0 + n)) call.1 in
+      looks_by (plan_after (asks slot file AtFirst id) made) (after_with (asks slot file AtFirst id) (Read 0) Done (front_of_file file))
+      (after_is (asks slot file AtFirst id) made (Read 0) Done (front_of_file file) call.0 (answers_as (Read 0) call.0) bytes)
       (first_found slot file id at (sym (ap length bytes) ∙ call.1))
   settled_at (AtTable h) id at call =
       let place : ℕ = table_place h in
-      let bytes : made.request.bytes ≡ table_of h file = tells_as (Read (table_place h)) call.0 ∙ ap (λ n. slice_range file (table_place h) (table_place h + n)) call.1 in
-      (Whole h, at, after_is (asks slot file (AtTable h) id) made (Read (table_place h)) Done (table_of h file) call.0 (answers_as (Read (table_place h)) call.0) bytes ∙ table_after slot file id h)
+      let bytes : made.request.bytes ≡ table_of_file h file = tells_as (Read (table_place h)) call.0 ∙ ap (λ n. slice_range file (table_place h) (table_place h + n)) call.1 in
+      (Whole h, at, after_is (asks slot file (AtTable h) id) made (Read (table_place h)) Done (table_of_file h file) call.0 (answers_as (Read (table_place h)) call.0) bytes ∙ table_after slot file id h)
   settled_at Short id at call = absurd call
   settled_at Shut id at call = absurd call
   settled_at (Broken why) id at call = absurd call
@@ -138,8 +138,8 @@ others_are is = cc
 no_calls : {A : Type 0} {others : Calls} {next : Call} {buffer : List ℕ} → [] ≡ ((next, buffer) ∷ others) → A
 no_calls is = absurd (cc)
 
-length_zeros : (n : ℕ) → length (zeros n) ≡ n
-unfolding zeros
+length_zeros : (n : ℕ) → length (zero_bytes n) ≡ n
+unfolding zero_bytes
 length_zeros n = length-replicate {A = ℕ} n 0
 
 module _ (slot : ℕ) (file : List ℕ) (old new : Planned) (request : Asked) (gives : Gives old new request) where
@@ -199,12 +199,12 @@ found_at file Shut at none = record { len = refl; first = λ long. refl; table =
 found_at file (Broken why) at none = record {
   len = refl;
   first = λ long. refl;
-  table = λ h has. absurd (not_both h why (header_in (first_of file) (length file)) has.header at.header);
+  table = λ h has. absurd (not_both h why (header_in (front_of_file file) (length file)) has.header at.header);
 }
 found_at file (Whole h) at none = record {
   len = refl;
   first = λ long. refl;
-  table = λ other has. ap (λ (k : Header). Some (table_of k file)) (ok_same h other (header_in (first_of file) (length file)) at.header has.header);
+  table = λ other has. ap (λ (k : Header). Some (table_of_file k file)) (ok_same h other (header_in (front_of_file file) (length file)) at.header has.header);
 }
 
 pub inspection_finds : InspectionFinds

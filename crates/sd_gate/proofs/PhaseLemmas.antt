@@ -8,11 +8,11 @@ use Rattle.sd_image.specs.Image.{gate}
 use Rattle.sd_gate.specs.declared.phase.Phase.{Phase}
 use Rattle.sd_gate.specs.declared.phase.Phase.TheVariants.{Raw, RawClosing, Whole, Closing, Shut, ShutSynced, Bare, Writing, Ready, Opening, Doubt, DoubtSynced}
 use Rattle.sd_gate.specs.Phases.{may_close, may_write, given_up, synced, closing, filled}
-use Rattle.sd_gate.specs.Fits.{IsClosed, IsBehindClosed, Reads, Leaves, is_synced, SlotFits}
+use Rattle.sd_gate.specs.Fits.{IsClosed, IsBehindClosed, PhaseReads, PhaseLeaves, is_synced, SlotFits}
 use Rattle.sd_gate.proofs.FitLemmas.{behind_is_closed, closed_is_behind, open_is_behind, torn_closed, cut_closed, torn_behind, torn_short, zeroed_closed, zeroed_behind, opened, filled_behind, cut_bare, written_closed}
 
 -- a slot that may be written behind its gate is closed
-leaves_closed : (phase : Phase) (body file : List ℕ) → may_write phase ≡ true → Leaves phase body file → IsClosed file
+leaves_closed : (phase : Phase) (body file : List ℕ) → may_write phase ≡ true → PhaseLeaves phase body file → IsClosed file
 leaves_closed Raw body file ready is = absurd (false≢true ready)
 leaves_closed RawClosing body file ready is = absurd (false≢true ready)
 leaves_closed Whole body file ready is = absurd (false≢true ready)
@@ -27,8 +27,8 @@ leaves_closed Doubt body file ready is = absurd (false≢true ready)
 leaves_closed DoubtSynced body file ready is = absurd (false≢true ready)
 
 -- what a phase reads and leaves after a write behind the gate
-filled_reads : (phase : Phase) (at : ℕ) (body bytes file : List ℕ) → may_write phase ≡ true → 0 < at → Reads phase body file
-    → Reads (filled phase) (file_after_write body (at - 1) bytes) (file_after_write file at bytes)
+filled_reads : (phase : Phase) (at : ℕ) (body bytes file : List ℕ) → may_write phase ≡ true → 0 < at → PhaseReads phase body file
+    → PhaseReads (filled phase) (file_after_write body (at - 1) bytes) (file_after_write file at bytes)
 filled_reads Raw at body bytes file ready behind is = absurd (false≢true ready)
 filled_reads RawClosing at body bytes file ready behind is = absurd (false≢true ready)
 filled_reads Whole at body bytes file ready behind is = absurd (false≢true ready)
@@ -42,7 +42,7 @@ filled_reads Opening at body bytes file ready behind is = absurd (false≢true r
 filled_reads Doubt at body bytes file ready behind is = absurd (false≢true ready)
 filled_reads DoubtSynced at body bytes file ready behind is = absurd (false≢true ready)
 
-filled_leaves : (phase : Phase) (body file : List ℕ) → may_write phase ≡ true → IsClosed file → Leaves (filled phase) body file
+filled_leaves : (phase : Phase) (body file : List ℕ) → may_write phase ≡ true → IsClosed file → PhaseLeaves (filled phase) body file
 filled_leaves Raw body file ready is = absurd (false≢true ready)
 filled_leaves RawClosing body file ready is = absurd (false≢true ready)
 filled_leaves Whole body file ready is = absurd (false≢true ready)
@@ -71,7 +71,7 @@ filled_unsynced Doubt ready sync = false≢true ready
 filled_unsynced DoubtSynced ready sync = false≢true ready
 
 -- after a 0 over the gate
-closing_reads : (phase : Phase) (body file : List ℕ) → may_close phase ≡ true → Leaves phase body file → Reads (closing phase) body (file_after_write file 0 (0 ∷ []))
+closing_reads : (phase : Phase) (body file : List ℕ) → may_close phase ≡ true → PhaseLeaves phase body file → PhaseReads (closing phase) body (file_after_write file 0 (0 ∷ []))
 closing_reads Raw body file ready is = zeroed_closed file
 closing_reads RawClosing body file ready is = zeroed_closed file
 closing_reads Whole body file ready is = zeroed_behind body file (open_is_behind body file is)
@@ -85,7 +85,7 @@ closing_reads Opening body file ready is = zeroed_behind body file is
 closing_reads Doubt body file ready is = zeroed_behind body file is
 closing_reads DoubtSynced body file ready is = zeroed_behind body file is
 
-closing_leaves : (phase : Phase) (body old new : List ℕ) → may_close phase ≡ true → Leaves phase body old → Torn 0 1 old new → Leaves (closing phase) body new
+closing_leaves : (phase : Phase) (body old new : List ℕ) → may_close phase ≡ true → PhaseLeaves phase body old → Torn 0 1 old new → PhaseLeaves (closing phase) body new
 closing_leaves Raw body old new ready is torn = torn_short old new is torn
 closing_leaves RawClosing body old new ready is torn = torn_short old new is torn
 closing_leaves Whole body old new ready is torn = torn_behind body old new (open_is_behind body old is) torn
@@ -114,7 +114,7 @@ closing_unsynced Doubt ready sync = false≢true sync
 closing_unsynced DoubtSynced ready sync = false≢true sync
 
 -- a failed write over the gate
-failed_closing_leaves : (phase : Phase) (body file : List ℕ) → may_close phase ≡ true → Leaves (closing phase) body file → Leaves (given_up (closing phase)) body file × Reads (given_up (closing phase)) body file
+failed_closing_leaves : (phase : Phase) (body file : List ℕ) → may_close phase ≡ true → PhaseLeaves (closing phase) body file → PhaseLeaves (given_up (closing phase)) body file × PhaseReads (given_up (closing phase)) body file
 failed_closing_leaves Raw body file ready is = (is, is)
 failed_closing_leaves RawClosing body file ready is = (is, is)
 failed_closing_leaves Whole body file ready is = (is, is)
@@ -143,7 +143,7 @@ failed_closing_unsynced Doubt ready sync = false≢true sync
 failed_closing_unsynced DoubtSynced ready sync = false≢true sync
 
 -- after a sync what is read is what a crash leaves
-synced_reads : (phase : Phase) (body file : List ℕ) → Reads phase body file → Reads (synced phase) body file
+synced_reads : (phase : Phase) (body file : List ℕ) → PhaseReads phase body file → PhaseReads (synced phase) body file
 synced_reads Raw body file is = is
 synced_reads RawClosing body file is = is
 synced_reads Whole body file is = is
@@ -157,7 +157,7 @@ synced_reads Opening body file is = is
 synced_reads Doubt body file is = is
 synced_reads DoubtSynced body file is = is
 
-synced_leaves : (phase : Phase) (body file : List ℕ) → Reads (synced phase) body file → Leaves (synced phase) body file
+synced_leaves : (phase : Phase) (body file : List ℕ) → PhaseReads (synced phase) body file → PhaseLeaves (synced phase) body file
 synced_leaves Raw body file is = is
 synced_leaves RawClosing body file is = is
 synced_leaves Whole body file is = is
@@ -172,7 +172,7 @@ synced_leaves Doubt body file is = is
 synced_leaves DoubtSynced body file is = is
 
 -- a job that is given up
-given_up_reads : (phase : Phase) (body file : List ℕ) → Reads phase body file → Leaves phase body file → Reads (given_up phase) body file
+given_up_reads : (phase : Phase) (body file : List ℕ) → PhaseReads phase body file → PhaseLeaves phase body file → PhaseReads (given_up phase) body file
 given_up_reads Raw body file is may = is
 given_up_reads RawClosing body file is may = may
 given_up_reads Whole body file is may = is
@@ -186,7 +186,7 @@ given_up_reads Opening body file is may = may
 given_up_reads Doubt body file is may = is
 given_up_reads DoubtSynced body file is may = is
 
-given_up_leaves : (phase : Phase) (body file : List ℕ) → Leaves phase body file → Leaves (given_up phase) body file
+given_up_leaves : (phase : Phase) (body file : List ℕ) → PhaseLeaves phase body file → PhaseLeaves (given_up phase) body file
 given_up_leaves Raw body file may = may
 given_up_leaves RawClosing body file may = may
 given_up_leaves Whole body file may = may
@@ -216,7 +216,7 @@ given_up_synced DoubtSynced sync = refl
 
 module _ (slot : ℕ) (old : List (List ℕ)) (before : List (List ℕ) → Type 0) (now_read : before old) where
   -- what is read is one outcome of a crash
-  pub may_read : (phase : Phase) (body : List ℕ) → SlotFits phase body slot old before → Leaves phase body (file_at old slot)
+  pub may_read : (phase : Phase) (body : List ℕ) → SlotFits phase body slot old before → PhaseLeaves phase body (file_at old slot)
   may_read phase body fits = fits.leaves old now_read
 
   pub slot_given_up : (phase : Phase) (body : List ℕ) → SlotFits phase body slot old before → SlotFits (given_up phase) body slot old before
@@ -233,18 +233,18 @@ module _ (slot : ℕ) (old : List (List ℕ)) (before : List (List ℕ) → Type
   pub slot_kept : (phase : Phase) (body : List ℕ) (new : List (List ℕ)) (after_it : List (List ℕ) → Type 0) → new ≡ old
       → Follows (λ c d. d ≡ c) before after_it → SlotFits phase body slot old before → SlotFits phase body slot new after_it
   slot_kept phase body new after_it same crash fits = record {
-    reads = subst (λ c. Reads phase body (file_at c slot)) (sym same) fits.reads;
-    leaves = λ c may. let was = crash c may in subst (λ d. Leaves phase body (file_at d slot)) (sym was.2) (fits.leaves was.0 was.1);
+    reads = subst (λ c. PhaseReads phase body (file_at c slot)) (sym same) fits.reads;
+    leaves = λ c may. let was = crash c may in subst (λ d. PhaseLeaves phase body (file_at d slot)) (sym was.2) (fits.leaves was.0 was.1);
     as_read = λ sync c may. let was = crash c may in ap (λ d. file_at d slot) was.2 ∙ fits.as_read sync was.0 was.1 ∙ ap (λ d. file_at d slot) (sym same);
   }
 
   pub slot_synced : (phase : Phase) (body : List ℕ) (new : List (List ℕ)) (after_it : List (List ℕ) → Type 0) → new ≡ old
       → OnlyAt slot (file_at old slot) after_it → SlotFits phase body slot old before → SlotFits (synced phase) body slot new after_it
   slot_synced phase body new after_it same durable fits =
-      let here : Reads (synced phase) body (file_at old slot) = synced_reads phase body (file_at old slot) fits.reads in
+      let here : PhaseReads (synced phase) body (file_at old slot) = synced_reads phase body (file_at old slot) fits.reads in
       record {
-        reads = subst (λ c. Reads (synced phase) body (file_at c slot)) (sym same) here;
-        leaves = λ c may. subst (Leaves (synced phase) body) (sym (durable c may)) (synced_leaves phase body (file_at old slot) here);
+        reads = subst (λ c. PhaseReads (synced phase) body (file_at c slot)) (sym same) here;
+        leaves = λ c may. subst (PhaseLeaves (synced phase) body) (sym (durable c may)) (synced_leaves phase body (file_at old slot) here);
         as_read = λ sync c may. durable c may ∙ ap (λ d. file_at d slot) (sym same);
       }
 
@@ -256,7 +256,7 @@ module _ (slot : ℕ) (old : List (List ℕ)) (before : List (List ℕ) → Type
         → new ≡ slice_set old slot (file_after_write (file_at old slot) at bytes) → Follows (AtSlot slot (Torn at (length bytes))) before after_it
         → SlotFits phase body slot old before → SlotFits (filled phase) (file_after_write body (at - 1) bytes) slot new after_it
     slot_filled phase body bytes at ready behind is crash fits = record {
-      reads = subst (Reads (filled phase) (file_after_write body (at - 1) bytes)) (sym (here (file_after_write (file_at old slot) at bytes) is))
+      reads = subst (PhaseReads (filled phase) (file_after_write body (at - 1) bytes)) (sym (here (file_after_write (file_at old slot) at bytes) is))
           (filled_reads phase at body bytes (file_at old slot) ready behind fits.reads);
       leaves = λ c may. let was = crash c may in
           filled_leaves phase (file_after_write body (at - 1) bytes) (file_at c slot) ready
@@ -298,7 +298,7 @@ module _ (slot : ℕ) (old : List (List ℕ)) (before : List (List ℕ) → Type
         → new ≡ slice_set old slot (file_after_write (file_at old slot) 0 (0 ∷ [])) → Follows (AtSlot slot (Torn 0 1)) before after_it
         → SlotFits phase body slot old before → SlotFits (closing phase) body slot new after_it
     slot_closing phase body ready is crash fits = record {
-      reads = subst (Reads (closing phase) body) (sym (here (file_after_write (file_at old slot) 0 (0 ∷ [])) is))
+      reads = subst (PhaseReads (closing phase) body) (sym (here (file_after_write (file_at old slot) 0 (0 ∷ [])) is))
           (closing_reads phase body (file_at old slot) ready (may_read phase body fits));
       leaves = λ c may. let was = crash c may in
           closing_leaves phase body (file_at was.0 slot) (file_at c slot) ready (fits.leaves was.0 was.1) was.2.here;

@@ -19,7 +19,7 @@ use Rattle.sd_gate.specs.Phases.{after, body_after, is_ready}
 use Rattle.sd_gate.specs.Plans.{Back, Gives, Planned, calls_after, found_after, plan_after, settled}
 use Rattle.sd_gate.specs.Requests.{Asked, Made}
 use Rattle.sd_gate.specs.Sequences.{Calls}
-use Rattle.sd_gate.specs.PlanRuns.{AreChanges, ChangesAlone, FollowsAt, IsChange, IsLeft, LeavesAtMost, Takes, back_after, contents_done}
+use Rattle.sd_gate.specs.PlanRuns.{AreChanges, ChangesAlone, FollowsAt, IsChange, IsLeftByPlan, LeavesAtMost, Takes, back_after, contents_done}
 
 -- a call changes its slot alone
 pub makes_alone : (call : Call) (bytes : List ℕ) (slot : ℕ) (old new : List (List ℕ)) → Makes call bytes slot old new → ChangesAlone slot old new
@@ -38,7 +38,7 @@ follows_itself slot outcomes c has = (c, has, record { count = refl; here = tt; 
 
 -- outcomes of a slot whose phase leaves no image, or this one
 left_so : (slot : ℕ) (image body : List ℕ) (phase : Phase) (contents : List (List ℕ)) (old new : List (List ℕ) → Type 0) → FollowsAt slot old new
-    → LeavesAtMost image phase body → SlotFits phase body slot contents new → Within new (IsLeft slot image old)
+    → LeavesAtMost image phase body → SlotFits phase body slot contents new → Within new (IsLeftByPlan slot image old)
 left_so slot image body phase contents old new follows bound fits c has =
     let before = follows c has in
     record { was = before.0; outcome = before.1; alone = before.2; holds = bound (file_at c slot) (fits.leaves c has) }
@@ -126,7 +126,7 @@ module _ {D : Type 0} (g : Ghosts D) where
     pub body : List ℕ
     pub takes : Takes image phase body calls last final
     pub fits : SlotFits phase body slot (g.contents now) (g.may_leave now)
-    pub left : LeavesOnly g first now (IsLeft slot image (g.may_leave first))
+    pub left : LeavesOnly g first now (IsLeftByPlan slot image (g.may_leave first))
 
   module _ (image : List ℕ) (slot : ℕ) (call : Call) (bytes : List ℕ) (calls : Calls) (last : Phase) (final : List ℕ) (first old new : D) where
     -- a call that was done
@@ -142,18 +142,18 @@ module _ {D : Type 0} (g : Ghosts D) where
           body = body;
           takes = takes;
           fits = fits;
-          left = one_call g first old new (IsLeft slot image (g.may_leave first)) (g.may_leave new) stage.left made.time
+          left = one_call g first old new (IsLeftByPlan slot image (g.may_leave first)) (g.may_leave new) stage.left made.time
               (left_so slot image body next (g.contents new) (g.may_leave first) (g.may_leave new) follows (takes_bound image next body calls last final takes) fits);
         }
 
     -- one that failed
     pub left_failed : FollowsAt slot (g.may_leave first) (g.may_leave new) → WasMade slot call bytes false old new
-        → Stage image slot ((call, bytes) ∷ calls) last final first old → LeavesOnly g first new (IsLeft slot image (g.may_leave first))
+        → Stage image slot ((call, bytes) ∷ calls) last final first old → LeavesOnly g first new (IsLeftByPlan slot image (g.may_leave first))
     left_failed follows made stage =
         let next = after stage.phase call false in
         let body = body_after stage.body call bytes in
         let fits : SlotFits next body slot (g.contents new) (g.may_leave new) = made.fits stage.phase stage.body stage.takes.1 stage.fits in
-        one_call g first old new (IsLeft slot image (g.may_leave first)) (g.may_leave new) stage.left made.time
+        one_call g first old new (IsLeftByPlan slot image (g.may_leave first)) (g.may_leave new) stage.left made.time
         (left_so slot image body next (g.contents new) (g.may_leave first) (g.may_leave new) follows stage.takes.2 fits)
 
   -- no call is left
@@ -193,7 +193,7 @@ module _ {D : Type 0} (g : Ghosts D) where
       body = body;
       takes = takes;
       fits = fits;
-      left = nothing_called g first (IsLeft start.slot image (g.may_leave first)) (g.may_leave first) only_now
+      left = nothing_called g first (IsLeftByPlan start.slot image (g.may_leave first)) (g.may_leave first) only_now
           (left_so start.slot image body phase (g.contents first) (g.may_leave first) (g.may_leave first) (follows_itself start.slot (g.may_leave first))
           (takes_bound image phase body start.calls last final takes) fits);
     };
@@ -228,7 +228,7 @@ module _ {D : Type 0} (g : Ghosts D) where
     -- after a call that failed
     pub fails : WasMade request.id.slot request.id.call request.bytes false old new → (image body final : List ℕ) (phase last : Phase)
         → Takes image phase body start.calls last final → SlotFits phase body start.slot (g.contents first) (g.may_leave first)
-        → LeavesOnly g first new (IsLeft start.slot image (g.may_leave first))
+        → LeavesOnly g first new (IsLeftByPlan start.slot image (g.may_leave first))
     fails made image body final phase last takes fits =
         left_failed image start.slot request.id.call request.bytes given.calls last final first old new (follows false made) (here false made)
         (next_stage image body final phase last takes fits)

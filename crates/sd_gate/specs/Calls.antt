@@ -47,15 +47,15 @@ IsBehindGate Cut = Unit {0}
 IsBehindGate Sync = Unit {0}
 
 -- a write of a buffer has bytes, and leaves the gate
-abbrev pub IsSound : Order → Type 0
-IsSound LenOrder = Unit {0}
-IsSound (ReadOrder at buffer) = Unit {0}
-IsSound (WriteOrder at buffer) = (0 < at) × (0 < length buffer.items)
-IsSound (HeaderOrder header) = Unit {0}
-IsSound CloseOrder = Unit {0}
-IsSound OpenOrder = Unit {0}
-IsSound CutOrder = Unit {0}
-IsSound SyncOrder = Unit {0}
+abbrev pub IsSoundOrder : Order → Type 0
+IsSoundOrder LenOrder = Unit {0}
+IsSoundOrder (ReadOrder at buffer) = Unit {0}
+IsSoundOrder (WriteOrder at buffer) = (0 < at) × (0 < length buffer.items)
+IsSoundOrder (HeaderOrder header) = Unit {0}
+IsSoundOrder CloseOrder = Unit {0}
+IsSoundOrder OpenOrder = Unit {0}
+IsSoundOrder CutOrder = Unit {0}
+IsSoundOrder SyncOrder = Unit {0}
 
 -- a call that only looks: it asks for the length or for bytes, or waits for the device
 abbrev pub IsLook : Call → Type 0
@@ -144,18 +144,18 @@ buffer_back Cut bytes = None
 buffer_back Sync bytes = None
 
 -- what a call tells of a file, where it is done: its length, or its bytes
-abbrev pub Tells : Call → List ℕ → Answer → List ℕ → Type 0
-Tells Len file answer bytes = answer ≡ LenIs (length file)
-Tells (Read at) file answer bytes = bytes ≡ slice_range file at (at + length bytes)
-Tells (Write at) file answer bytes = Unit {0}
-Tells WriteHeader file answer bytes = Unit {0}
-Tells Close file answer bytes = Unit {0}
-Tells Open file answer bytes = Unit {0}
-Tells Cut file answer bytes = Unit {0}
-Tells Sync file answer bytes = Unit {0}
+abbrev pub CallTells : Call → List ℕ → Answer → List ℕ → Type 0
+CallTells Len file answer bytes = answer ≡ LenIs (length file)
+CallTells (Read at) file answer bytes = bytes ≡ slice_range file at (at + length bytes)
+CallTells (Write at) file answer bytes = Unit {0}
+CallTells WriteHeader file answer bytes = Unit {0}
+CallTells Close file answer bytes = Unit {0}
+CallTells Open file answer bytes = Unit {0}
+CallTells Cut file answer bytes = Unit {0}
+CallTells Sync file answer bytes = Unit {0}
 
 -- the count of the device's failures rises in a call that failed, and in no other
-pub record HasCause (before now : ℕ) (answer : Answer) : Type 0 where
+pub record AnswerHasCause (before now : ℕ) (answer : Answer) : Type 0 where
   pub later : before ≤ now
   pub failed : is_done answer ≡ false → before < now
   pub done : is_done answer ≡ true → now ≡ before

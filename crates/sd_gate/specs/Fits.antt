@@ -28,34 +28,34 @@ abbrev pub IsShort : List ℕ → Type 0
 IsShort file = length file < 4096
 
 -- what is read of a slot
-abbrev pub Reads : Phase → List ℕ → List ℕ → Type 0
-Reads Raw body file = IsShort file
-Reads RawClosing body file = IsClosed file
-Reads Whole body file = file ≡ gate ∷ body
-Reads Closing body file = IsBehindClosed body file
-Reads Shut body file = IsClosed file
-Reads ShutSynced body file = IsClosed file
-Reads Bare body file = (body ≡ []) × IsBehindClosed [] file
-Reads Writing body file = IsBehindClosed body file
-Reads Ready body file = IsBehindClosed body file
-Reads Opening body file = file ≡ gate ∷ body
-Reads Doubt body file = IsBehind body file
-Reads DoubtSynced body file = IsBehind body file
+abbrev pub PhaseReads : Phase → List ℕ → List ℕ → Type 0
+PhaseReads Raw body file = IsShort file
+PhaseReads RawClosing body file = IsClosed file
+PhaseReads Whole body file = file ≡ gate ∷ body
+PhaseReads Closing body file = IsBehindClosed body file
+PhaseReads Shut body file = IsClosed file
+PhaseReads ShutSynced body file = IsClosed file
+PhaseReads Bare body file = (body ≡ []) × IsBehindClosed [] file
+PhaseReads Writing body file = IsBehindClosed body file
+PhaseReads Ready body file = IsBehindClosed body file
+PhaseReads Opening body file = file ≡ gate ∷ body
+PhaseReads Doubt body file = IsBehind body file
+PhaseReads DoubtSynced body file = IsBehind body file
 
 -- what a crash may leave of it
-abbrev pub Leaves : Phase → List ℕ → List ℕ → Type 0
-Leaves Raw body file = IsShort file
-Leaves RawClosing body file = IsShort file
-Leaves Whole body file = file ≡ gate ∷ body
-Leaves Closing body file = IsBehind body file
-Leaves Shut body file = IsClosed file
-Leaves ShutSynced body file = IsClosed file
-Leaves Bare body file = IsClosed file
-Leaves Writing body file = IsClosed file
-Leaves Ready body file = IsBehindClosed body file
-Leaves Opening body file = IsBehind body file
-Leaves Doubt body file = IsBehind body file
-Leaves DoubtSynced body file = IsBehind body file
+abbrev pub PhaseLeaves : Phase → List ℕ → List ℕ → Type 0
+PhaseLeaves Raw body file = IsShort file
+PhaseLeaves RawClosing body file = IsShort file
+PhaseLeaves Whole body file = file ≡ gate ∷ body
+PhaseLeaves Closing body file = IsBehind body file
+PhaseLeaves Shut body file = IsClosed file
+PhaseLeaves ShutSynced body file = IsClosed file
+PhaseLeaves Bare body file = IsClosed file
+PhaseLeaves Writing body file = IsClosed file
+PhaseLeaves Ready body file = IsBehindClosed body file
+PhaseLeaves Opening body file = IsBehind body file
+PhaseLeaves Doubt body file = IsBehind body file
+PhaseLeaves DoubtSynced body file = IsBehind body file
 
 -- a crash leaves what is read
 abbrev pub is_synced : Phase → Bool
@@ -75,8 +75,8 @@ is_synced DoubtSynced = true
 -- A slot of a disk with these contents and these outcomes of a crash is in a phase, with this body.
 pub record SlotFits (phase : Phase) (body : List ℕ) (slot : ℕ) (contents : List (List ℕ))
     (may_leave : List (List ℕ) → Type 0) : Type 0 where
-  pub reads : Reads phase body (file_at contents slot)
-  pub leaves : (c : List (List ℕ)) → may_leave c → Leaves phase body (file_at c slot)
+  pub reads : PhaseReads phase body (file_at contents slot)
+  pub leaves : (c : List (List ℕ)) → may_leave c → PhaseLeaves phase body (file_at c slot)
   pub as_read : is_synced phase ≡ true → OnlyAt slot (file_at contents slot) may_leave
 
 -- each slot of a disk is in its phase, with its body
@@ -91,4 +91,4 @@ pub record DiskFits (phases : List Phase) (bodies : List (List ℕ)) (contents :
 pub record DiskLeaves (phases : List Phase) (bodies c : List (List ℕ)) : Type 0 where
   pub count : length c ≡ length phases
   pub each : (slot : ℕ) (phase : Phase) → slice_get phases slot ≡ Some phase
-      → Leaves phase (file_at bodies slot) (file_at c slot)
+      → PhaseLeaves phase (file_at bodies slot) (file_at c slot)

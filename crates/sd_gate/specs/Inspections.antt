@@ -5,7 +5,7 @@ use Rattle.sd_image.specs.declared.header.Header.{Header}
 use Rattle.sd_image.specs.declared.reason.Reason.{Reason}
 use Rattle.sd_image.specs.Image.{gate}
 use Rattle.sd_image.specs.Reading.{header_in}
-use Rattle.sd_image.specs.Words.{zeros}
+use Rattle.sd_image.specs.Words.{zero_bytes}
 use Rattle.sd_gate.specs.declared.answer.Answer.{Answer}
 use Rattle.sd_gate.specs.declared.answer.Answer.TheVariants.{Done as DoneAnswer, Len as LenIs, Failed}
 use Rattle.sd_gate.specs.declared.call.Call.TheVariants.{Len, Read, Write, WriteHeader, Close, Open, Cut, Sync}
@@ -33,9 +33,9 @@ abbrev pub calls_of_stage : InspectionStage → Calls
 calls_of_stage SyncStage = (Sync, []) ∷ (Len, []) ∷ []
 calls_of_stage LenStage = (Len, []) ∷ []
 calls_of_stage AwaitLen = []
-calls_of_stage (First len) = (Read 0, zeros 4096) ∷ []
+calls_of_stage (First len) = (Read 0, zero_bytes 4096) ∷ []
 calls_of_stage (AwaitFirst len) = []
-calls_of_stage (Table at len) = (Read at, zeros len) ∷ []
+calls_of_stage (Table at len) = (Read at, zero_bytes len) ∷ []
 calls_of_stage Done = []
 
 abbrev pub awaits_of : InspectionStage → Awaits
@@ -75,12 +75,12 @@ Following = Calls × Awaits
 -- a file that has a header is read on
 abbrev pub after_length : Answer → Following
 after_length DoneAnswer = ([], nothing)
-after_length (LenIs len) = if nat_le 4096 len then ((Read 0, zeros 4096) ∷ [], the_header len) else ([], nothing)
+after_length (LenIs len) = if nat_le 4096 len then ((Read 0, zero_bytes 4096) ∷ [], the_header len) else ([], nothing)
 after_length Failed = ([], nothing)
 
 -- the table that a header tells of
 abbrev pub table_read : Result Header Reason → Following
-table_read (Ok header) = ((Read (table_place header), zeros header.table_len) ∷ [], nothing)
+table_read (Ok header) = ((Read (table_place header), zero_bytes header.table_len) ∷ [], nothing)
 table_read (Err reason) = ([], nothing)
 
 -- an open image is read on, if its header is one

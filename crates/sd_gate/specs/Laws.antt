@@ -7,13 +7,13 @@ use Rattle.sd_disk.specs.Crash.{OnlyAt}
 use Rattle.sd_image.specs.declared.header.Header.{Header}
 use Rattle.sd_image.specs.Header.{HasWords, header_text}
 use Rattle.sd_image.specs.Image.{gate, is_open}
-use Rattle.sd_image.specs.Words.{zeros}
+use Rattle.sd_image.specs.Words.{zero_bytes}
 use Rattle.sd_gate.specs.declared.call.Call.{Call}
 use Rattle.sd_gate.specs.declared.call.Call.TheVariants.{Write, WriteHeader, Cut}
 use Rattle.sd_gate.specs.declared.phase.Phase.{Phase}
 use Rattle.sd_gate.specs.declared.phase.Phase.TheVariants.{Raw, RawClosing, Whole, Closing, Shut, ShutSynced, Bare}
 use Rattle.sd_gate.specs.declared.phase.Phase.TheVariants.{Writing, Ready, Opening, Doubt, DoubtSynced}
-use Rattle.sd_gate.specs.Fits.{Leaves, SlotFits, DiskFits}
+use Rattle.sd_gate.specs.Fits.{PhaseLeaves, SlotFits, DiskFits}
 use Rattle.sd_gate.specs.Phases.{is_ready, may_close, may_write, filled, given_up, after, body_after, state_of}
 use Rattle.sd_gate.specs.Sequences.{Calls, format_calls, closing_calls, body_calls, data_place, table_place}
 
@@ -38,7 +38,7 @@ CrashLeaves Doubt body file = IsClosedOrWhole body file
 CrashLeaves DoubtSynced body file = IsClosedOrWhole body file
 
 abbrev pub ImageWholeOrClosed : Type 0
-ImageWholeOrClosed = (phase : Phase) (body file : List ℕ) → Leaves phase body file → CrashLeaves phase body file
+ImageWholeOrClosed = (phase : Phase) (body file : List ℕ) → PhaseLeaves phase body file → CrashLeaves phase body file
 
 -- giving up a slot's job changes no disk, and keeps the fit
 abbrev pub GivenUpFits : List (List ℕ) → (List (List ℕ) → Type 0) → Type 0
@@ -102,7 +102,7 @@ AreWhole = AllByRecursion (λ page. length page ≡ 4096)
 -- the body with these data pages behind the room for a header, which is made with the first of them
 abbrev pub pages_body : List (List ℕ) → List ℕ
 pages_body [] = []
-pages_body (page ∷ pages) = zeros 4095 ++ concat (page ∷ pages)
+pages_body (page ∷ pages) = zero_bytes 4095 ++ concat (page ∷ pages)
 
 -- where the next data page goes
 abbrev pub page_place : List (List ℕ) → ℕ

@@ -5,11 +5,11 @@ use Rattle.sd_image.specs.declared.header.Header.{Header}
 use Rattle.sd_image.specs.declared.reason.Reason.{Reason}
 use Rattle.sd_image.specs.Image.{gate}
 use Rattle.sd_image.specs.Reading.{header_in}
-use Rattle.sd_image.specs.Words.{zeros}
+use Rattle.sd_image.specs.Words.{zero_bytes}
 use Rattle.sd_gate.specs.declared.call.Call.{Call}
 use Rattle.sd_gate.specs.declared.call.Call.TheVariants.{Len, Read, Sync}
 use Rattle.sd_gate.specs.declared.request_id.RequestId.{RequestId}
-use Rattle.sd_gate.specs.Calls.{IsAnswerTo, Tells, is_done}
+use Rattle.sd_gate.specs.Calls.{CallTells, IsAnswerTo, is_done}
 use Rattle.sd_gate.specs.Inspections.{Awaits, nothing, the_length, the_header}
 use Rattle.sd_gate.specs.Plans.{Back, Gives, Planned, begun, nothing_back, plan_after}
 use Rattle.sd_gate.specs.Requests.{Asked, Made}
@@ -26,41 +26,41 @@ pub data Look : Type 0 where
   Broken : Reason → Look
   Whole : Header → Look
 
-abbrev pub first_of : List ℕ → List ℕ
-first_of file = slice_range file 0 4096
+abbrev pub front_of_file : List ℕ → List ℕ
+front_of_file file = slice_range file 0 4096
 
-abbrev pub table_of : Header → List ℕ → List ℕ
-table_of h file = slice_range file (table_place h) (table_place h + h.table_len)
+abbrev pub table_of_file : Header → List ℕ → List ℕ
+table_of_file h file = slice_range file (table_place h) (table_place h + h.table_len)
 
 -- a file that begins with an open gate and this header
-pub record HasHeader (file : List ℕ) (h : Header) : Type 0 where
+pub record ReadsHeader (file : List ℕ) (h : Header) : Type 0 where
   pub long : 4096 ≤ length file
-  pub opens : slice_index (first_of file) 0 ≡ gate
-  pub header : header_in (first_of file) (length file) ≡ Ok h
+  pub opens : slice_index (front_of_file file) 0 ≡ gate
+  pub header : header_in (front_of_file file) (length file) ≡ Ok h
 
 -- or with a header that is none, for this reason
 pub record HasNoHeader (file : List ℕ) (why : Reason) : Type 0 where
   pub long : 4096 ≤ length file
-  pub opens : slice_index (first_of file) 0 ≡ gate
-  pub header : header_in (first_of file) (length file) ≡ Err why
+  pub opens : slice_index (front_of_file file) 0 ≡ gate
+  pub header : header_in (front_of_file file) (length file) ≡ Err why
 
 -- the file is such that the inspection comes there
 abbrev pub IsLookAt : List ℕ → Look → Type 0
 IsLookAt file AtSync = Unit {0}
 IsLookAt file AtLength = Unit {0}
 IsLookAt file AtFirst = 4096 ≤ length file
-IsLookAt file (AtTable h) = HasHeader file h
+IsLookAt file (AtTable h) = ReadsHeader file h
 IsLookAt file Short = length file < 4096
-IsLookAt file Shut = (4096 ≤ length file) × (slice_index (first_of file) 0 ≢ gate)
+IsLookAt file Shut = (4096 ≤ length file) × (slice_index (front_of_file file) 0 ≢ gate)
 IsLookAt file (Broken why) = HasNoHeader file why
-IsLookAt file (Whole h) = HasHeader file h
+IsLookAt file (Whole h) = ReadsHeader file h
 
 -- the calls that are known there, and those behind the next
 abbrev pub calls_at : Look → Calls
 calls_at AtSync = first_looks
 calls_at AtLength = (Len, []) ∷ []
-calls_at AtFirst = (Read 0, zeros 4096) ∷ []
-calls_at (AtTable h) = (Read (table_place h), zeros h.table_len) ∷ []
+calls_at AtFirst = (Read 0, zero_bytes 4096) ∷ []
+calls_at (AtTable h) = (Read (table_place h), zero_bytes h.table_len) ∷ []
 calls_at Short = []
 calls_at Shut = []
 calls_at (Broken why) = []
@@ -91,12 +91,12 @@ abbrev pub back_at : List ℕ → Look → Back
 back_at file AtSync = nothing_back
 back_at file AtLength = nothing_back
 back_at file AtFirst = record { len = Some (length file); first = None; second = None }
-back_at file (AtTable h) = record { len = Some (length file); first = Some (first_of file); second = None }
+back_at file (AtTable h) = record { len = Some (length file); first = Some (front_of_file file); second = None }
 back_at file Short = record { len = Some (length file); first = None; second = None }
-back_at file Shut = record { len = Some (length file); first = Some (first_of file); second = None }
-back_at file (Broken why) = record { len = Some (length file); first = Some (first_of file); second = None }
+back_at file Shut = record { len = Some (length file); first = Some (front_of_file file); second = None }
+back_at file (Broken why) = record { len = Some (length file); first = Some (front_of_file file); second = None }
 back_at file (Whole h) =
-    record { len = Some (length file); first = Some (first_of file); second = Some (table_of h file) }
+    record { len = Some (length file); first = Some (front_of_file file); second = Some (table_of_file h file) }
 
 -- the next call there, and how many bytes it brings back
 abbrev pub IsCallAt : Look → Call → ℕ → Type 0
@@ -127,13 +127,13 @@ LooksAt slot file (Some request) plan = (look : Look) × IsLookAt file look × (
 -- what an outcome that is done tells of a file
 pub record IsTold (file : List ℕ) (made : Made) : Type 0 where
   pub answers : IsAnswerTo made.request.id.call made.answer
-  pub tells : Tells made.request.id.call file made.answer made.request.bytes
+  pub tells : CallTells made.request.id.call file made.answer made.request.bytes
 
 -- what an inspection found that came to its end: the file's length, its first 4,096 bytes, and its table
 pub record IsFound (file : List ℕ) (found : Back) : Type 0 where
   pub len : found.len ≡ Some (length file)
-  pub first : 4096 ≤ length file → found.first ≡ Some (first_of file)
-  pub table : (h : Header) → HasHeader file h → found.second ≡ Some (table_of h file)
+  pub first : 4096 ≤ length file → found.first ≡ Some (front_of_file file)
+  pub table : (h : Header) → ReadsHeader file h → found.second ≡ Some (table_of_file h file)
 
 -- Where each outcome told the file as it is, an inspection finds the file.
 pub record InspectionFinds : Type 0 where

@@ -10,7 +10,7 @@ use Rattle.sd_gate.specs.declared.call.Call.TheVariants.{Len, Read, Write, Write
 use Rattle.sd_gate.specs.declared.phase.Phase.{Phase}
 use Rattle.sd_gate.specs.declared.phase.Phase.TheVariants.{Bare, Whole, Writing}
 use Rattle.sd_gate.specs.Calls.{buffer_back, contents_after}
-use Rattle.sd_gate.specs.Fits.{Leaves}
+use Rattle.sd_gate.specs.Fits.{PhaseLeaves}
 use Rattle.sd_gate.specs.Laws.{IsClosedOrWhole}
 use Rattle.sd_gate.specs.Phases.{after, body_after, filled, is_ready, may_close, may_write, state_of}
 use Rattle.sd_gate.specs.Plans.{Back, found_after}
@@ -44,7 +44,7 @@ back_after ((call, bytes) ∷ calls) found = back_after calls (found_after found
 
 -- of a slot in this phase a crash leaves no image, or this one
 abbrev pub LeavesAtMost : List ℕ → Phase → List ℕ → Type 0
-LeavesAtMost image phase body = (file : List ℕ) → Leaves phase body file → IsClosedOrWhole image file
+LeavesAtMost image phase body = (file : List ℕ) → PhaseLeaves phase body file → IsClosedOrWhole image file
 
 -- A slot in the first phase takes these calls and is then in the last, with that body; and all the way, also where a
 -- call fails, a crash leaves no image of it, or this one.
@@ -83,7 +83,7 @@ FollowsAt slot = Follows (ChangesAlone slot)
 
 -- what a crash leaves while an image is written into a slot: what it left before, but for the slot, which holds no
 -- image or that one, whose bytes behind the gate these are
-pub record IsLeft (slot : ℕ) (image : List ℕ) (before : Outcomes) (c : List (List ℕ)) : Type 0 where
+pub record IsLeftByPlan (slot : ℕ) (image : List ℕ) (before : Outcomes) (c : List (List ℕ)) : Type 0 where
   pub was : List (List ℕ)
   pub outcome : before was
   pub alone : ChangesAlone slot was c

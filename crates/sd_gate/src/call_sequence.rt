@@ -1,6 +1,6 @@
 //! Plans whose calls are known from the start.
 ghost use Rattle.std.specs.Prelude.{◌≡◌, ◌↔◌, ◌≤◌, length, [], ◌∷◌, IsTrue, MatchOption};
-ghost use Rattle.sd_gate.specs.Calls.{call_of, bytes_of, IsSound};
+ghost use Rattle.sd_gate.specs.Calls.{call_of, bytes_of, IsSoundOrder};
 ghost use Rattle.sd_gate.specs.Sequences.{calls_of_sequence, AreSound};
 
 use crate::order::Order;
@@ -45,7 +45,7 @@ impl CallSequence {
         requires { AreSound self }
         ensures next { MatchOption result (calls_of_sequence self ≡ [])
             (λ s. calls_of_sequence self ≡ (call_of s.0, bytes_of s.0) ∷ calls_of_sequence s.1) }
-        ensures sound { MatchOption result (Unit {0}) (λ s. IsSound s.0 × AreSound s.1) }
+        ensures sound { MatchOption result (Unit {0}) (λ s. IsSoundOrder s.0 × AreSound s.1) }
     {
         match self {
             Self::Close => Some((Order::Close, Self::SyncClosed)),

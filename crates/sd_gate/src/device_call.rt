@@ -4,10 +4,11 @@ ghost use Rattle.sd_disk.specs.Contents.{file_at};
 ghost use Rattle.sd_disk.specs.Crash.{Follows, OnlyAt};
 ghost use Rattle.sd_disk.specs.OneCall.{IsOneCall};
 ghost use Rattle.sd_disk.specs.Spans.{LeavesOnly};
-ghost use Rattle.sd_gate.specs.Calls.{call_of, bytes_of, is_done, contents_after, Makes, IsInside, IsSound, IsAnswerTo};
-ghost use Rattle.sd_gate.specs.Calls.{IsLook, AreKept, Tells, HasCause};
+ghost use Rattle.sd_gate.specs.Calls.{call_of, bytes_of, is_done, contents_after, Makes, IsInside, IsSoundOrder};
+ghost use Rattle.sd_gate.specs.Calls.{IsAnswerTo};
+ghost use Rattle.sd_gate.specs.Calls.{IsLook, AreKept, CallTells, AnswerHasCause};
 ghost use Rattle.sd_gate.specs.Phases.{is_ready, after, body_after, Waits, phases_after, bodies_after};
-ghost use Rattle.sd_gate.specs.Fits.{Leaves, SlotFits, DiskFits, DiskLeaves};
+ghost use Rattle.sd_gate.specs.Fits.{PhaseLeaves, SlotFits, DiskFits, DiskLeaves};
 ghost use Rattle.sd_gate.specs.declared.call.Call.TheVariants.{Sync};
 ghost use Rattle.sd_gate.specs.declared.phase.Phase.{Phase};
 
@@ -41,15 +42,15 @@ fn length_of(ended: Result<usize, DeviceError>) -> Answer
 /// Makes the call of an order, and no other.
 fn make<D: Disk>(disk: &mut D, slot: usize, order: Order) -> (Order, Answer)
     requires slot { slot < length (D.contents disk.old) }
-    requires sound { IsSound order }
+    requires sound { IsSoundOrder order }
     ensures call { call_of result.0 ≡ call_of order }
-    ensures sound { IsSound result.0 }
+    ensures sound { IsSoundOrder result.0 }
     ensures bytes { AreKept (call_of order) (bytes_of order) (bytes_of result.0) }
     ensures answer { is_done result.1 ≡ true → IsAnswerTo (call_of order) result.1 }
     ensures inside { D.is_honest disk.new → is_done result.1 ≡ true
         → IsInside (call_of order) (bytes_of order) (file_at (D.contents disk.old) slot) }
     ensures tells { D.is_honest disk.new → is_done result.1 ≡ true
-        → Tells (call_of order) (file_at (D.contents disk.old) slot) result.1 (bytes_of result.0) }
+        → CallTells (call_of order) (file_at (D.contents disk.old) slot) result.1 (bytes_of result.0) }
     ensures done { is_done result.1 ≡ true
         → D.contents disk.new
         ≡ contents_after (call_of order) (bytes_of order) slot (D.contents disk.old) }
@@ -60,7 +61,7 @@ fn make<D: Disk>(disk: &mut D, slot: usize, order: Order) -> (Order, Answer)
     ensures durable { call_of order ≡ Sync → is_done result.1 ≡ true
         → OnlyAt slot (file_at (D.contents disk.old) slot) (D.may_leave disk.new) }
     ensures one_call { IsOneCall D.Disk disk.old disk.new }
-    ensures cause { HasCause (D.failed disk.old) (D.failed disk.new) result.1 }
+    ensures cause { AnswerHasCause (D.failed disk.old) (D.failed disk.new) result.1 }
 {
     match order {
         Order::Len => (Order::Len, length_of(disk.len(slot))),
@@ -93,7 +94,7 @@ pub fn perform<D: Disk>(disk: &mut D, request: Request) -> Outcome
     ensures inside { D.is_honest disk.new → is_done result.answer ≡ true
         → IsInside request.id.call request.bytes (file_at (D.contents disk.old) request.id.slot) }
     ensures tells { D.is_honest disk.new → is_done result.answer ≡ true
-        → Tells request.id.call
+        → CallTells request.id.call
         (file_at (D.contents disk.old) request.id.slot) result.answer result.request.bytes }
     ensures done { is_done result.answer ≡ true
         → D.contents disk.new
@@ -107,7 +108,7 @@ pub fn perform<D: Disk>(disk: &mut D, request: Request) -> Outcome
         (D.may_leave disk.new) }
     // One call is made, and no other.
     ensures one_call { IsOneCall D.Disk disk.old disk.new }
-    ensures cause { HasCause (D.failed disk.old) (D.failed disk.new) result.answer }
+    ensures cause { AnswerHasCause (D.failed disk.old) (D.failed disk.new) result.answer }
     // A call that only looks changes nothing, and every other slot keeps its file.
     ensures looks { IsLook request.id.call → D.contents disk.new ≡ D.contents disk.old }
     ensures others { (other : ℕ) → other ≢ request.id.slot
@@ -125,8 +126,8 @@ pub fn perform<D: Disk>(disk: &mut D, request: Request) -> Outcome
     // A crash at any moment of the call leaves what one of the two phases leaves.
     ensures any_moment { (phase : Phase) (body : List ℕ) → is_ready phase request.id.call ≡ true
         → SlotFits phase body request.id.slot (D.contents disk.old) (D.may_leave disk.old)
-        → LeavesOnly D.Disk disk.old disk.new (λ c. Leaves phase body (file_at c request.id.slot)
-        ⊎ Leaves (after phase request.id.call (is_done result.answer))
+        → LeavesOnly D.Disk disk.old disk.new (λ c. PhaseLeaves phase body (file_at c request.id.slot)
+        ⊎ PhaseLeaves (after phase request.id.call (is_done result.answer))
         (body_after body request.id.call request.bytes) (file_at c request.id.slot)) }
     // Of all slots together.
     ensures every_slot { (phases : List Phase) (bodies : List (List ℕ)) (phase : Phase)

@@ -1,8 +1,8 @@
 //! The inspection of a slot, whose calls depend on what is found.
 ghost use Rattle.std.specs.Prelude.{◌≡◌, ◌↔◌, ◌+◌, ◌≤◌, ◌∷◌, [], ℕ, Option, length, IsSome, IsTrue, IfOk, IsErr};
 ghost use Rattle.std.specs.Prelude.{MatchOption};
-ghost use Rattle.sd_image.specs.Words.{zeros};
-ghost use Rattle.sd_gate.specs.Calls.{call_of, bytes_of, IsSound};
+ghost use Rattle.sd_image.specs.Words.{zero_bytes};
+ghost use Rattle.sd_gate.specs.Calls.{call_of, bytes_of, IsSoundOrder};
 ghost use Rattle.sd_gate.specs.Inspections.{KnowsLength, calls_awaited, calls_of_stage, awaits_of, IsReadNext};
 ghost use Rattle.sd_gate.specs.Inspections.{after_length, after_first, calls_then};
 ghost use Rattle.sd_gate.specs.Plans.{length_told};
@@ -23,9 +23,9 @@ pub struct Inspection {
 }
 
 /// A buffer of zeros.
-#[tactic(auto, unfolding(sd_image::specs::Words::zeros))]
+#[tactic(auto, unfolding(sd_image::specs::Words::zero_bytes))]
 fn zeros(alloc: Global, len: usize) -> Result<Vec<u8>, AllocError>
-    ensures { IfOk result (λ buffer. buffer.items ≡ zeros len) }
+    ensures { IfOk result (λ buffer. buffer.items ≡ zero_bytes len) }
 {
     vec![in alloc; 0u8; len]
 }
@@ -67,7 +67,7 @@ impl Inspection {
             ≡ (call_of order, bytes_of order) ∷ calls_of_stage self.new.stage)) }
         ensures none { IfOk result
             (λ taken. MatchOption taken (self.new.stage ≡ self.old.stage)
-            (λ order. IsSound order)) }
+            (λ order. IsSoundOrder order)) }
         ensures awaits { awaits_of self.new.stage ≡ awaits_of self.old.stage }
         ensures refused { IsErr result
             → (self.new.stage ≡ self.old.stage) × IsReadNext (calls_of_stage self.old.stage) }

@@ -2,7 +2,7 @@
 ghost use Rattle.std.specs.Prelude.{◌≡◌, ◌↔◌, ◌+◌, ◌≤◌, ◌∷◌, [], ℕ, Option, length, IsSome, IsTrue, IfOk, IsErr};
 ghost use Rattle.std.specs.Prelude.{MatchOption};
 ghost use Rattle.std.specs.Option.{option_map};
-ghost use Rattle.sd_gate.specs.Calls.{call_of, bytes_of, IsSound};
+ghost use Rattle.sd_gate.specs.Calls.{call_of, bytes_of, IsSoundOrder};
 ghost use Rattle.sd_gate.specs.Inspections.{IsReadNext, calls_awaited, calls_then};
 ghost use Rattle.sd_gate.specs.Plans.{calls_of, awaited_by, length_told, IsSoundJob, KnowsItsLength};
 
@@ -27,7 +27,7 @@ impl Job {
             (calls_of self.old ≡ [])
             (λ order. calls_of self.old ≡ (call_of order, bytes_of order) ∷ calls_of self.new)) }
         ensures none { IfOk result
-            (λ taken. MatchOption taken (calls_of self.new ≡ []) (λ order. IsSound order)) }
+            (λ taken. MatchOption taken (calls_of self.new ≡ []) (λ order. IsSoundOrder order)) }
         ensures sound { IsSoundJob self.new }
         ensures awaits { awaited_by self.new ≡ awaited_by self.old }
         ensures refused { IsErr result

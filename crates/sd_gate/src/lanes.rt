@@ -11,7 +11,7 @@ fn is_this(out: &Option<RequestId>, id: &RequestId) -> bool
     *out == Some(*id)
 }
 
-/// The lane in which the request with this id is out.
+/// The lane in which the request with this id is out. None if it is out in none.
 pub fn lane_of<const N: usize>(outs: &[Option<RequestId>; N], id: &RequestId) -> Option<usize>
     ensures found { MatchOption result (IsInLane outs.now id.now → ⊥)
         (λ lane. slice_get outs.now lane ≡ Some (Some id.now)) }

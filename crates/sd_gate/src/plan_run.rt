@@ -5,7 +5,7 @@ ghost use Rattle.sd_disk.specs.Spans.{LeavesOnly};
 ghost use Rattle.sd_gate.specs.declared.phase.Phase.{Phase};
 ghost use Rattle.sd_gate.specs.Fits.{SlotFits};
 ghost use Rattle.sd_gate.specs.Inspections.{IsReadNext, nothing};
-ghost use Rattle.sd_gate.specs.PlanRuns.{AreChanges, FollowsAt, IsLeft, Takes, back_after, contents_done};
+ghost use Rattle.sd_gate.specs.PlanRuns.{AreChanges, FollowsAt, IsLeftByPlan, Takes, back_after, contents_done};
 ghost use Rattle.sd_gate.specs.Plans.{Gives, begun, found_of};
 
 use crate::device_call::perform;
@@ -48,7 +48,7 @@ pub fn run_plan<D: Disk>(disk: &mut D, mut plan: Plan) -> Result<Found, DeviceEr
     ensures any_moment { (image body final : List ℕ) (phase last : Phase)
         → Takes image phase body plan.calls last final
         → SlotFits phase body plan.slot (D.contents disk.old) (D.may_leave disk.old)
-        → LeavesOnly D.Disk disk.old disk.new (IsLeft plan.slot image (D.may_leave disk.old)) }
+        → LeavesOnly D.Disk disk.old disk.new (IsLeftByPlan plan.slot image (D.may_leave disk.old)) }
     ensures honest { D.is_honest disk.new → D.is_honest disk.old }
     ensures cause { HasCause (D.failed disk.old) (D.failed disk.new) result }
 {

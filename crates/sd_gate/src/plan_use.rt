@@ -9,7 +9,8 @@ use crate::request::Request;
 use crate::settled::Settled;
 use crate::worker::Worker;
 
-/// The next request of a plan that reads nothing, and so takes no memory. None where one is out.
+/// The next request of a plan that reads nothing, and so takes no memory. None where one is out. What the disk answers
+/// to the request goes to [`settle`].
 pub fn next_request(plan: &mut Plan, worker: Worker, ticket: u64) -> Option<Request>
     requires { IsUnderWay plan.old }
     ensures next { MatchOption result ((plan.new ≡ plan.old) × IsSome plan.old.out)
@@ -21,7 +22,7 @@ pub fn next_request(plan: &mut Plan, worker: Worker, ticket: u64) -> Option<Requ
     }
 }
 
-/// The next request of a plan of which none is out.
+/// The next request of a plan of which none is out, as [`next_request`] gives it.
 pub fn ask(plan: &mut Plan, worker: Worker, ticket: u64) -> Request
     requires under_way { IsUnderWay plan.old }
     requires begins { plan.old.out ≡ None }
@@ -34,7 +35,7 @@ pub fn ask(plan: &mut Plan, worker: Worker, ticket: u64) -> Request
     }
 }
 
-/// How many requests and outcomes a plan has before it.
+/// How many calls of [`next_request`] and [`settle`] a plan has before it, if each request succeeds.
 pub fn plan_left(plan: &Plan) -> u128
     requires { IsUnderWay plan.now }
     ensures left { result ≡ plan_left plan.now }
@@ -43,7 +44,8 @@ pub fn plan_left(plan: &Plan) -> u128
     plan.left() as u128
 }
 
-/// Takes the outcome of the request of a plan that is out.
+/// Takes the outcome of the request of a plan that is out. Behind `More` the plan goes on with [`next_request`]; behind
+/// `Finished` each of its calls was done; behind `Failed` the device refused one, and the plan is dropped.
 pub fn settle(plan: &mut Plan, outcome: Outcome) -> Settled
     requires under_way { IsUnderWay plan.old }
     requires out { plan.old.out ≡ Some outcome.request.id }

@@ -21,7 +21,7 @@ pub struct Request {
 
 impl Model for Request {
     ghost use Rattle.sd_gate.specs.Requests.{Asked};
-    ghost use Rattle.sd_gate.specs.Calls.{call_of, bytes_of, IsSound};
+    ghost use Rattle.sd_gate.specs.Calls.{call_of, bytes_of, IsSoundOrder};
 
     ghost Value = { Asked };
 
@@ -30,7 +30,7 @@ impl Model for Request {
       bytes = bytes_of r.order;
     } };
 
-    ghost invariant = { λ r. IsSound r.order };
+    ghost invariant = { λ r. IsSoundOrder r.order };
 }
 
 /// The call that an order is for.

@@ -14,7 +14,7 @@ use Rattle.sd_areas.specs.Areas.{prot_in}
 use Rattle.sd_areas.specs.Pages.{pages_from, is_within}
 use Rattle.sd_areas.specs.PlainMemory.{Page, Space}
 use Rattle.sd_image.specs.declared.run.RunKind.TheVariants.{Data}
-use Rattle.sd_image.specs.Words.{number_bytes, zeros}
+use Rattle.sd_image.specs.Words.{number_bytes, zero_bytes}
 use Rattle.sd_image.specs.Header.{header_front, header_text, IsHeader}
 use Rattle.sd_image.specs.Table.{Listed, table_text, IsSpace, IsTable}
 use Rattle.sd_image.specs.Image.{Image, IsImage, gate, image_text, is_open}
@@ -37,16 +37,16 @@ module _ (n space page : ℕ) (prot : Prot) (bytes : List ℕ) where
   abbrev file : List ℕ
   file = gate ∷ image_text image
 
-  no_digest : replicate 32 0 ≡ zeros 32
-  unfolding zeros
+  no_digest : replicate 32 0 ≡ zero_bytes 32
+  unfolding zero_bytes
   no_digest = refl
 
   header_length : length (header_text image.header) ≡ 4095
-  unfolding header_text header_front number_bytes zeros
+  unfolding header_text header_front number_bytes zero_bytes
   header_length = refl
 
   table_length : length (table_text image.spaces) ≡ 72
-  unfolding table_text number_bytes zeros
+  unfolding table_text number_bytes zero_bytes
   table_length = refl
 
   file_length : length bytes ≡ 4096 → length file ≡ 8264

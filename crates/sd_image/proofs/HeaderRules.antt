@@ -13,7 +13,7 @@ use Rattle.sd_image.specs.declared.header.Kind.{Kind}
 use Rattle.sd_image.specs.declared.header.Kind.TheVariants.{PreDump, Dump, Merged}
 use Rattle.sd_image.specs.declared.reason.Reason.{Reason}
 use Rattle.sd_image.specs.declared.reason.Reason.TheVariants as reason
-use Rattle.sd_image.specs.Words.{kind_number, version_number, number_bytes, zeros}
+use Rattle.sd_image.specs.Words.{kind_number, version_number, number_bytes, zero_bytes}
 use Rattle.sd_image.specs.Header.{magic, header_front, header_text, AreNumbers, HasWords, IsDigest, IsHeader}
 use Rattle.sd_image.specs.Reading.{◌>>=◌, rules_kept, number_at, are_zero, has_no_digest, kind_of, version_of, breaks_bytes, bytes_kept, form_of, form_in, fields_of, stands_rightly, parent_rightly, breaks_fields, fields_kept, header_in}
 use Rattle.sd_image.proofs.Steps.{bind_ok, guard_ok, ok_is, IsBytes, piece}
@@ -72,10 +72,10 @@ kind_back (suc (suc (suc (suc n)))) low high = absurd (omega arith)
 
 -- the bytes spell the fields
 spelled_so : (bytes : List ℕ) → length bytes ≡ 4096 → IsBytes bytes → AreKept bytes → drop 1 bytes ≡ header_text (fields_of (form_of bytes) bytes)
-unfolding header_text header_front fields_of number_bytes zeros
+unfolding header_text header_front fields_of number_bytes zero_bytes
 spelled_so bytes long fits kept =
     let end : drop 4096 bytes ≡ [] = drop_all 4096 bytes (omega arith) in
-    let p96 = piece 96 4000 4096 bytes (zeros 4000) [] refl (zeros_are 4000 (take 4000 (drop 96 bytes)) (length-take-le 4000 (drop 96 bytes) (omega (arith, length-drop 96 bytes))) kept.rest) end in
+    let p96 = piece 96 4000 4096 bytes (zero_bytes 4000) [] refl (zeros_are 4000 (take 4000 (drop 96 bytes)) (length-take-le 4000 (drop 96 bytes) (omega (arith, length-drop 96 bytes))) kept.rest) end in
     let p64 = piece 64 32 96 bytes (take 32 (drop 64 bytes)) _ refl refl p96 in
     let p56 = piece 56 8 64 bytes _ _ refl (bytes_8 56 bytes fits (omega arith)) p64 in
     let p48 = piece 48 8 56 bytes _ _ refl (bytes_8 48 bytes fits (omega arith)) p56 in
@@ -83,7 +83,7 @@ spelled_so bytes long fits kept =
     let p32 = piece 32 8 40 bytes _ _ refl (bytes_8 32 bytes fits (omega arith)) p40 in
     let p24 = piece 24 8 32 bytes _ _ refl (bytes_8 24 bytes fits (omega arith)) p32 in
     let p16 = piece 16 8 24 bytes _ _ refl (bytes_8 16 bytes fits (omega arith)) p24 in
-    let p12 = piece 12 4 16 bytes (zeros 4) _ refl (zeros_are 4 (take 4 (drop 12 bytes)) (length-take-le 4 (drop 12 bytes) (omega (arith, length-drop 12 bytes))) kept.reserved) p16 in
+    let p12 = piece 12 4 16 bytes (zero_bytes 4) _ refl (zeros_are 4 (take 4 (drop 12 bytes)) (length-take-le 4 (drop 12 bytes) (omega (arith, length-drop 12 bytes))) kept.reserved) p16 in
     let kind : number_bytes 2 (kind_number (kind_of (number_at 2 10 bytes))) ≡ take 2 (drop 10 bytes) = ap (number_bytes 2) (kind_back (number_at 2 10 bytes) kept.kind_low kept.kind_high) ∙ bytes_2 10 bytes fits (omega arith) in
     let p10 = piece 10 2 12 bytes _ _ refl kind p12 in
     let version : number_bytes 2 (version_number (version_of (number_at 2 8 bytes))) ≡ take 2 (drop 8 bytes) = ap (number_bytes 2) (version_back (number_at 2 8 bytes) kept.version_low kept.version_high) ∙ bytes_2 8 bytes fits (omega arith) in
@@ -171,7 +171,7 @@ same_header : (g h : Header) → g.version ≡ h.version → g.kind ≡ h.kind �
 same_header g h v a b c d e f i j = rw (v, a, b, c, d, e, f, i, j) refl
 
 length-digest : (version : Version) (digest : List ℕ) → IsDigest version digest → length digest ≡ 32
-unfolding zeros
+unfolding zero_bytes
 length-digest One digest is = ap length is
 length-digest Two digest is = is
 
@@ -184,11 +184,11 @@ unfolding number_at header_text header_front number_bytes
 kind_at b h = little_number-reads_back 2 (kind_number h.kind) (drop 12 (b ∷ header_text h)) (omega (arith, kind_fits h.kind))
 
 digest_at : (b : ℕ) (h : Header) → HasWords h → take 32 (drop 64 (b ∷ header_text h)) ≡ h.digest
-unfolding header_text header_front number_bytes zeros
-digest_at b h words = take_at h.digest (zeros 4000) 32 (length-digest h.version h.digest words.digest)
+unfolding header_text header_front number_bytes zero_bytes
+digest_at b h words = take_at h.digest (zero_bytes 4000) 32 (length-digest h.version h.digest words.digest)
 
 fields_again : (b : ℕ) (h : Header) → HasWords h → fields_of (h.version, h.kind) (b ∷ header_text h) ≡ h
-unfolding fields_of number_at header_text header_front number_bytes zeros
+unfolding fields_of number_at header_text header_front number_bytes zero_bytes
 fields_again b h words =
     let serial : little_number 8 (drop 16 (b ∷ header_text h)) ≡ h.serial = little_number-reads_back 8 h.serial (drop 24 (b ∷ header_text h)) words.serial in
     let stands_for : little_number 8 (drop 24 (b ∷ header_text h)) ≡ h.stands_for = little_number-reads_back 8 h.stands_for (drop 32 (b ∷ header_text h)) words.stands_for in
@@ -199,22 +199,22 @@ fields_again b h words =
     same_header _ h refl refl serial stands_for parent checkpoint pages table_len (digest_at b h words)
 
 magic_again : (b : ℕ) (h : Header) → slice_range (b ∷ header_text h) 1 8 ≡ magic
-unfolding header_text header_front number_bytes zeros
+unfolding header_text header_front number_bytes zero_bytes
 magic_again b h = refl
 
 none_again : (version : Version) (digest : List ℕ) → IsDigest version digest → has_no_digest version digest ≡ true
-unfolding are_zero zeros
+unfolding are_zero zero_bytes
 none_again One digest is = rw is refl
 none_again Two digest is = refl
 
 first_again : (b : ℕ) (h : Header) → are_zero (slice_range (b ∷ header_text h) 12 16) ≡ true
-unfolding are_zero header_text header_front number_bytes zeros
+unfolding are_zero header_text header_front number_bytes zero_bytes
 first_again b h = refl
 
 rest_again : (b : ℕ) (h : Header) → HasWords h → are_zero (slice_range (b ∷ header_text h) 96 4096) ≡ true
-unfolding are_zero header_text header_front number_bytes zeros
+unfolding are_zero header_text header_front number_bytes zero_bytes
 rest_again b h words =
-    ap (λ (rest : List ℕ). are_zero (take 4000 rest)) (drop_at h.digest (zeros 4000) 32 (length-digest h.version h.digest words.digest))
+    ap (λ (rest : List ℕ). are_zero (take 4000 rest)) (drop_at h.digest (zero_bytes 4000) 32 (length-digest h.version h.digest words.digest))
 
 digest_again : (b : ℕ) (h : Header) → HasWords h → has_no_digest (version_of (number_at 2 8 (b ∷ header_text h))) (slice_range (b ∷ header_text h) 64 96) ≡ true
 digest_again b h words =
@@ -276,9 +276,9 @@ header_again bytes len h long e good =
 -- ---- one text has one header
 
 pub text_length : (h : Header) → length h.digest ≡ 32 → length (header_text h) ≡ 4095
-unfolding header_text header_front number_bytes zeros
+unfolding header_text header_front number_bytes zero_bytes
 text_length h long =
-    let parts : length (h.digest ++ zeros 4000) ≡ length h.digest + 4000 = length-append h.digest (zeros 4000) in
+    let parts : length (h.digest ++ zero_bytes 4000) ≡ length h.digest + 4000 = length-append h.digest (zero_bytes 4000) in
     omega (arith, parts, long)
 
 pub header_length : (h : Header) → HasWords h → length (header_text h) ≡ 4095

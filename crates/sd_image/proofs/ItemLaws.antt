@@ -12,7 +12,7 @@ use Rattle.sd_image.specs.declared.reason.Reason.TheVariants as reason
 use Rattle.sd_image.specs.declared.run.Run.{Run}
 use Rattle.sd_image.specs.declared.run.RunKind.{RunKind}
 use Rattle.sd_image.specs.declared.run.RunKind.TheVariants.{Data, Parent, Zero}
-use Rattle.sd_image.specs.Words.{run_kind_number, number_bytes, zeros}
+use Rattle.sd_image.specs.Words.{run_kind_number, number_bytes, zero_bytes}
 use Rattle.sd_image.specs.Table.{area_text, run_text, is_run_after}
 use Rattle.sd_image.specs.Reading.{◌>>=◌, number_at, item_at, item_value, prot_of, area_of, area_holds, area_from, area_at, run_kind_of, run_of, run_holds, run_from, run_at}
 use Rattle.sd_image.proofs.Steps.{IsBytes, IsBytes-take, IsBytes-drop, bind_ok, guard_ok, ok_is, Takes, piece}
@@ -52,10 +52,10 @@ spelled_ok {X} holds rule reserved x y e =
     (not-false _ a.0, eqb-true _ _ (not-false _ b.0), ok_is x y b.1)
 
 -- the last four bytes of an item, where they have to be zero
-pub last_zero : (place next : ℕ) (item : List ℕ) → IsBytes item → next ≡ place + 4 → length item ≡ next → number_at 4 place item ≡ 0 → drop place item ≡ zeros 4 ++ []
+pub last_zero : (place next : ℕ) (item : List ℕ) → IsBytes item → next ≡ place + 4 → length item ≡ next → number_at 4 place item ≡ 0 → drop place item ≡ zero_bytes 4 ++ []
 last_zero place next item fits n long z =
-    let same : zeros 4 ≡ take 4 (drop place item) = sym zero_4 ∙ ap (number_bytes 4) (sym z) ∙ bytes_4 place item fits (omega arith) in
-    piece place 4 next item (zeros 4) [] n same (drop_all next item (omega arith))
+    let same : zero_bytes 4 ≡ take 4 (drop place item) = sym zero_4 ∙ ap (number_bytes 4) (sym z) ∙ bytes_4 place item fits (omega arith) in
+    piece place 4 next item (zero_bytes 4) [] n same (drop_all next item (omega arith))
 
 prot_number : (n : ℕ) → n ≤ 7 → prot_bits (prot_of n) ≡ n
 unfolding prot_of
@@ -137,7 +137,7 @@ same_run : (a b : Run) → a.first ≡ b.first → a.count ≡ b.count → a.kin
 same_run a b f n k = rw (f, n, k) refl
 
 area_fields : (a : Area) → IsRange a.first a.count → (area_of (area_text a) ≡ a) × (number_at 4 16 (area_text a) ≡ prot_bits a.prot) × (number_at 4 20 (area_text a) ≡ 0)
-unfolding area_of number_at number_bytes zeros
+unfolding area_of number_at number_bytes zero_bytes
 area_fields a range =
     let small = prot_small a.prot.read a.prot.write a.prot.execute in
     let first : little_number 8 (drop 0 (area_text a)) ≡ a.first = little_number-reads_back 8 a.first (drop 8 (area_text a)) (omega (arith, range.inside)) in
@@ -147,7 +147,7 @@ area_fields a range =
     (whole, prot, refl)
 
 area_length : (a : Area) → length (area_text a) ≡ 24
-unfolding number_bytes zeros
+unfolding number_bytes zero_bytes
 area_length a = refl
 
 area_holds_again : (before : Option Area) (a : Area) → is_area_after before a ≡ true → area_holds before (area_text a) ≡ true
@@ -177,7 +177,7 @@ kind_small Parent = (omega arith, omega arith)
 kind_small Zero = (omega arith, omega arith)
 
 run_fields : (r : Run) → IsRange r.first r.count → (run_of (run_text r) ≡ r) × (number_at 4 16 (run_text r) ≡ run_kind_number r.kind) × (number_at 4 20 (run_text r) ≡ 0)
-unfolding run_of number_at number_bytes zeros
+unfolding run_of number_at number_bytes zero_bytes
 run_fields r range =
     let small = kind_small r.kind in
     let first : little_number 8 (drop 0 (run_text r)) ≡ r.first = little_number-reads_back 8 r.first (drop 8 (run_text r)) (omega (arith, range.inside)) in
@@ -187,7 +187,7 @@ run_fields r range =
     (whole, kind, refl)
 
 run_length : (r : Run) → length (run_text r) ≡ 24
-unfolding number_bytes zeros
+unfolding number_bytes zero_bytes
 run_length r = refl
 
 run_holds_again : (parent : ℕ) (before : Option Run) (r : Run) → is_run_after parent before r ≡ true → run_holds parent before (run_text r) ≡ true

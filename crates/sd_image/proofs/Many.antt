@@ -5,7 +5,7 @@ use Rattle.std.proofs.lemmas.List.{append-nil}
 use Rattle.sd_image.specs.declared.reason.Reason.{Reason}
 use Rattle.sd_image.specs.declared.table_error.TableError.{TableError}
 use Rattle.sd_image.specs.declared.table_error.TableError.TheVariants as errors
-use Rattle.sd_image.specs.Reading.{◌>>=◌, Fails, many}
+use Rattle.sd_image.specs.Reading.{◌>>=◌, FailsToRead, many}
 
 -- what was read before, and what is still read
 abbrev pub with_front : {X : Type 0} → List X → Result (List X × List ℕ) Reason → Result (List X × List ℕ) Reason
@@ -57,6 +57,6 @@ last_push (y ∷ z ∷ xs) x =
 
 -- one more item, where the caller sees what was read by a view, and memory may run out
 pub ends_fails : {X S : Type 0} (read : S → List ℕ → Result (X × List ℕ) Reason) (after : X → S) (front : List X) (count i : ℕ) (state : S) (bytes : List ℕ) (e : TableError) (total : Result (List X × List ℕ) Reason)
-    → i < count → Fails e (read state bytes) → with_front front (many read after (count - i) state bytes) ≡ total → Fails e total
+    → i < count → FailsToRead e (read state bytes) → with_front front (many read after (count - i) state bytes) ≡ total → FailsToRead e total
 ends_fails read after front count i state bytes errors.OutOfMemory total lt h so_far = tt
 ends_fails read after front count i state bytes (errors.Damaged e) total lt h so_far = ends read after front count i state bytes e total lt h so_far

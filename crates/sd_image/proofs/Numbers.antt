@@ -6,7 +6,7 @@ use Rattle.std.proofs.lemmas.List.{length-take-le, length-drop}
 use Rattle.std.proofs.lemmas.Nat.{le_bytes_2, le_bytes_4, le_bytes_8}
 use Rattle.byteorder.specs.Endian.{little_number}
 use Rattle.byteorder.specs.Numbers.{little_from-take, little_from-lt}
-use Rattle.sd_image.specs.Words.{number_bytes, zeros}
+use Rattle.sd_image.specs.Words.{number_bytes, zero_bytes}
 use Rattle.sd_image.specs.Reading.{number_at, are_zero}
 use Rattle.sd_image.proofs.Steps.{IsBytes, IsBytes-take, IsBytes-drop}
 
@@ -38,8 +38,8 @@ unfolding number_at
 number_fits n place bytes fits = little_from-lt 0 n (drop place bytes) (IsBytes-drop place bytes fits)
 
 -- zeros, and no other bytes, are zero
-pub zeros_are : (n : ℕ) (bytes : List ℕ) → length bytes ≡ n → are_zero bytes ≡ true → zeros n ≡ bytes
-unfolding zeros are_zero
+pub zeros_are : (n : ℕ) (bytes : List ℕ) → length bytes ≡ n → are_zero bytes ≡ true → zero_bytes n ≡ bytes
+unfolding zero_bytes are_zero
 zeros_are zero [] e z = refl
 zeros_are (suc n) [] e z = absurd (omega arith)
 zeros_are zero (b ∷ bytes) e z = absurd (omega arith)

@@ -10,9 +10,9 @@ use Rattle.sd_image.specs.declared.reason.Reason.{Reason}
 use Rattle.sd_image.specs.declared.reason.Reason.TheVariants as reason
 use Rattle.sd_image.specs.declared.table.Table.{Table}
 use Rattle.sd_image.specs.declared.table_error.TableError.{TableError}
-use Rattle.sd_image.specs.Words.{number_bytes, zeros}
+use Rattle.sd_image.specs.Words.{number_bytes, zero_bytes}
 use Rattle.sd_image.specs.Table.{Listed, listing_of, space_text, table_text, IsSpace, data_count, mapped_count, IsTable}
-use Rattle.sd_image.specs.Reading.{◌>>=◌, Gives, number_at, item_at, item_value, many, head_at, space_at, ends_rightly, table_in}
+use Rattle.sd_image.specs.Reading.{◌>>=◌, ReadsTable, number_at, item_at, item_value, many, head_at, space_at, ends_rightly, table_in}
 use Rattle.sd_image.proofs.Steps.{IsBytes, bind_ok, guard_ends, ok_is, Takes, Takes-then, piece}
 use Rattle.sd_image.proofs.Numbers.{bytes_4}
 use Rattle.sd_image.proofs.ManyLaws.{many_take, many_again}
@@ -20,7 +20,7 @@ use Rattle.sd_image.proofs.ItemLaws.{item_takes, item_again, spelled_ok, last_ze
 use Rattle.sd_image.proofs.SpaceLaws.{number_of, space_takes, space_again, to_spaces, from_spaces}
 
 abbrev head_text : ℕ → List ℕ
-head_text n = number_bytes 4 n ++ (zeros 4 ++ [])
+head_text n = number_bytes 4 n ++ (zero_bytes 4 ++ [])
 
 record IsHead (bytes : List ℕ) (n : ℕ) (rest : List ℕ) : Type 0 where
   takes : Takes bytes (head_text n) rest
@@ -43,15 +43,15 @@ abbrev done : List ℕ → List ℕ → Result (List ℕ × List ℕ) Reason
 done item rest = Ok (item, rest)
 
 head_length : (n : ℕ) → length (head_text n) ≡ 8
-unfolding number_bytes zeros
+unfolding number_bytes zero_bytes
 head_length n = refl
 
 head_number : (n : ℕ) → n < 256 ^ 4 → number_at 4 0 (head_text n) ≡ n
-unfolding number_at number_bytes zeros
+unfolding number_at number_bytes zero_bytes
 head_number n lt = little_number-reads_back 4 n (drop 4 (head_text n)) lt
 
 head_zero : (n : ℕ) → number_at 4 4 (head_text n) ≡ 0
-unfolding number_at number_bytes zeros
+unfolding number_at number_bytes zero_bytes
 head_zero n = refl
 
 head_again : (n : ℕ) (rest : List ℕ) → n ≤ 16 → head_at (head_text n ++ rest) ≡ Ok (n, rest)
@@ -75,7 +75,7 @@ ends_again h spaces d m = and_from (true && eqb (data_count spaces) h.pages) (le
 
 -- the parts of a table, one after the other, are its text
 parts_text : (n : ℕ) (spaces : List Listed) → length spaces ≡ n → head_text n ++ flat_map space_text spaces ≡ table_text spaces
-unfolding table_text number_bytes zeros
+unfolding table_text number_bytes zero_bytes
 parts_text n spaces e = rw e (ap (λ (x : List ℕ). head_text n ++ x) (sym (append-nil (flat_map space_text spaces))))
 
 pub table_takes : (h : Header) (bytes : List ℕ) (spaces : List Listed) → IsBytes bytes → table_in h bytes ≡ Ok spaces → (bytes ≡ table_text spaces) × IsTable h spaces
@@ -107,7 +107,7 @@ table_again h spaces good =
     let rest : many (space_at h) number_of (length spaces) 0 body ≡ Ok (spaces, []) = ap (many (space_at h) number_of (length spaces) 0) (sym (append-nil body)) ∙ many_again (space_at h) number_of space_text (IsSpace h) (space_again h) 0 spaces [] (from_spaces h 0 spaces good.each) in
     ap (table_in h) whole ∙ rw (head, rest, ends_again h spaces good.data good.mapped) refl
 
-pub is_found : (h : Header) (bytes : List ℕ) (r : Result Table TableError) → IsBytes bytes → Gives (λ t. map listing_of t.spaces.items) r (table_in h bytes) → IfOk r (λ t. (bytes ≡ table_text (map listing_of t.spaces.items)) × IsTable h (map listing_of t.spaces.items))
+pub is_found : (h : Header) (bytes : List ℕ) (r : Result Table TableError) → IsBytes bytes → ReadsTable (λ t. map listing_of t.spaces.items) r (table_in h bytes) → IfOk r (λ t. (bytes ≡ table_text (map listing_of t.spaces.items)) × IsTable h (map listing_of t.spaces.items))
 is_found h bytes (Ok t) fits given = table_takes h bytes (map listing_of t.spaces.items) fits given
 is_found h bytes (Err e) fits given = tt
 

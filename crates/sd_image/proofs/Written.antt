@@ -2,23 +2,23 @@
 use Rattle.std.proofs.Common.{◌≡◌, ℕ, List, [], ◌∷◌, ◌++◌, refl, sym, ap, ◌∙◌, append_assoc}
 use Rattle.std.specs.List.{concat}
 use Rattle.std.proofs.lemmas.List.{append-nil}
-use Rattle.sd_image.specs.Words.{number_bytes, zeros}
+use Rattle.sd_image.specs.Words.{number_bytes, zero_bytes}
 
 -- one more part in front of those that were joined
 joined : (o x y rest : List ℕ) → (o ++ x) ++ rest ≡ y → o ++ (x ++ rest) ≡ y
 joined o x y rest e = sym (append_assoc o x rest) ∙ e
 
-pub zero_4 : number_bytes 4 0 ≡ zeros 4
-unfolding number_bytes zeros
+pub zero_4 : number_bytes 4 0 ≡ zero_bytes 4
+unfolding number_bytes zero_bytes
 zero_4 = refl
 
 pub two_parts : (o o1 o2 a b : List ℕ) → o1 ≡ o ++ a → o2 ≡ o1 ++ b → o2 ≡ o ++ (a ++ b)
 two_parts o o1 o2 a b p q = q ∙ ap (λ (x : List ℕ). x ++ b) p ∙ append_assoc o a b
 
-pub four_parts : (o o1 o2 o3 o4 a b c : List ℕ) → o1 ≡ o ++ a → o2 ≡ o1 ++ b → o3 ≡ o2 ++ c → o4 ≡ o3 ++ number_bytes 4 0 → o4 ≡ o ++ concat (a ∷ b ∷ c ∷ zeros 4 ∷ [])
+pub four_parts : (o o1 o2 o3 o4 a b c : List ℕ) → o1 ≡ o ++ a → o2 ≡ o1 ++ b → o3 ≡ o2 ++ c → o4 ≡ o3 ++ number_bytes 4 0 → o4 ≡ o ++ concat (a ∷ b ∷ c ∷ zero_bytes 4 ∷ [])
 four_parts o o1 o2 o3 o4 a b c p q r s =
-    let z : zeros 4 ++ [] ≡ zeros 4 = append-nil (zeros 4) in
-    let s' : o4 ≡ o3 ++ (zeros 4 ++ []) = s ∙ ap (λ (x : List ℕ). o3 ++ x) (zero_4 ∙ sym z) in
+    let z : zero_bytes 4 ++ [] ≡ zero_bytes 4 = append-nil (zero_bytes 4) in
+    let s' : o4 ≡ o3 ++ (zero_bytes 4 ++ []) = s ∙ ap (λ (x : List ℕ). o3 ++ x) (zero_4 ∙ sym z) in
     two_parts o o1 o4 a _ p (two_parts o1 o2 o4 b _ q (two_parts o2 o3 o4 c _ r s'))
 
 pub five_parts : (o o1 o2 o3 o4 o5 a b c d e : List ℕ) → o1 ≡ o ++ a → o2 ≡ o1 ++ b → o3 ≡ o2 ++ c → o4 ≡ o3 ++ d → o5 ≡ o4 ++ e → o5 ≡ o ++ concat (a ∷ b ∷ c ∷ d ∷ e ∷ [])

@@ -6,7 +6,7 @@ use Rattle.sd_image.specs.declared.header.Version.{Version}
 use Rattle.sd_image.specs.declared.header.Version.TheVariants.{One, Two}
 use Rattle.sd_image.specs.declared.header.Kind.{Kind}
 use Rattle.sd_image.specs.declared.header.Kind.TheVariants.{PreDump, Dump, Merged}
-use Rattle.sd_image.specs.Words.{number_bytes, zeros, version_number, kind_number}
+use Rattle.sd_image.specs.Words.{number_bytes, zero_bytes, version_number, kind_number}
 
 -- SDCHAIN
 abbrev pub magic : List ℕ
@@ -18,7 +18,7 @@ header_front h = concat (
     magic
     ∷ number_bytes 2 (version_number h.version)
     ∷ number_bytes 2 (kind_number h.kind)
-    ∷ zeros 4
+    ∷ zero_bytes 4
     ∷ number_bytes 8 h.serial
     ∷ number_bytes 8 h.stands_for
     ∷ number_bytes 8 h.parent
@@ -29,7 +29,7 @@ header_front h = concat (
 
 -- bytes 1 to 4,095
 unfoldable pub header_text : Header → List ℕ
-header_text h = header_front h ++ h.digest ++ zeros 4000
+header_text h = header_front h ++ h.digest ++ zero_bytes 4000
 
 -- how an image's number, the number it stands for and its parent go together
 abbrev pub AreNumbers : Kind → ℕ → ℕ → ℕ → Type 0
@@ -39,7 +39,7 @@ AreNumbers Merged serial stands_for parent = (0 < stands_for) × (stands_for < s
 
 -- a digest has 32 bytes; version 1 has zeros in its place
 abbrev pub IsDigest : Version → List ℕ → Type 0
-IsDigest One digest = digest ≡ zeros 32
+IsDigest One digest = digest ≡ zero_bytes 32
 IsDigest Two digest = length digest ≡ 32
 
 -- each number has 8 bytes, and the digest 32

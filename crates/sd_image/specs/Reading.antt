@@ -39,13 +39,13 @@ Reads view (Ok x) read = read ≡ Ok (view x)
 Reads view (Err e) read = read ≡ Err e
 
 -- A table is read as reading says, unless memory ran out.
-abbrev pub Fails : {Y : Type 0} → TableError → Result Y Reason → Type 0
-Fails errors.OutOfMemory read = Unit {0}
-Fails (errors.Damaged e) read = read ≡ Err e
+abbrev pub FailsToRead : {Y : Type 0} → TableError → Result Y Reason → Type 0
+FailsToRead errors.OutOfMemory read = Unit {0}
+FailsToRead (errors.Damaged e) read = read ≡ Err e
 
-abbrev pub Gives : {X Y : Type 0} → (X → Y) → Result X TableError → Result Y Reason → Type 0
-Gives view (Ok x) read = read ≡ Ok (view x)
-Gives view (Err e) read = Fails e read
+abbrev pub ReadsTable : {X Y : Type 0} → (X → Y) → Result X TableError → Result Y Reason → Type 0
+ReadsTable view (Ok x) read = read ≡ Ok (view x)
+ReadsTable view (Err e) read = FailsToRead e read
 
 -- the first of these rules that is broken
 abbrev pub rules_kept : (Reason → Bool) → List Reason → Result (Unit {0}) Reason

@@ -11,7 +11,7 @@ use Rattle.sd_image.specs.declared.header.Kind.{Kind}
 use Rattle.sd_image.specs.declared.header.Kind.TheVariants.{PreDump, Dump, Merged}
 use Rattle.sd_image.specs.declared.run.Run.{Run}
 use Rattle.sd_image.specs.declared.table.SpaceTable.{SpaceTable}
-use Rattle.sd_image.specs.Words.{number_bytes, zeros, run_kind_number}
+use Rattle.sd_image.specs.Words.{number_bytes, zero_bytes, run_kind_number}
 
 -- what a table says of a space, without where it lies in memory
 pub record Listed : Type 0 where
@@ -26,11 +26,12 @@ listing_of t = record { space = t.space; areas = t.areas.items; runs = t.runs.it
 
 abbrev pub area_text : Area → List ℕ
 area_text a =
-    concat (number_bytes 8 a.first ∷ number_bytes 8 a.count ∷ number_bytes 4 (prot_bits a.prot) ∷ zeros 4 ∷ [])
+    concat (number_bytes 8 a.first ∷ number_bytes 8 a.count ∷ number_bytes 4 (prot_bits a.prot) ∷ zero_bytes 4 ∷ [])
 
 abbrev pub run_text : Run → List ℕ
 run_text r =
-    concat (number_bytes 8 r.first ∷ number_bytes 8 r.count ∷ number_bytes 4 (run_kind_number r.kind) ∷ zeros 4 ∷ [])
+    concat (number_bytes 8 r.first ∷ number_bytes 8 r.count ∷ number_bytes 4
+    (run_kind_number r.kind) ∷ zero_bytes 4 ∷ [])
 
 abbrev pub space_text : Listed → List ℕ
 space_text s = concat (
@@ -42,7 +43,7 @@ space_text s = concat (
     ∷ [])
 
 unfoldable pub table_text : List Listed → List ℕ
-table_text spaces = concat (number_bytes 4 (length spaces) ∷ zeros 4 ∷ flat_map space_text spaces ∷ [])
+table_text spaces = concat (number_bytes 4 (length spaces) ∷ zero_bytes 4 ∷ flat_map space_text spaces ∷ [])
 
 -- What it has to be.
 

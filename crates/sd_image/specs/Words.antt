@@ -13,8 +13,8 @@ unfoldable pub number_bytes : ℕ → ℕ → List ℕ
 number_bytes n x = bytes_low_first 0 n x
 
 -- n zeros
-unfoldable pub zeros : ℕ → List ℕ
-zeros n = replicate n 0
+unfoldable pub zero_bytes : ℕ → List ℕ
+zero_bytes n = replicate n 0
 
 abbrev pub version_number : Version → ℕ
 version_number One = 1

@@ -4,7 +4,8 @@ ghost use Rattle.std.specs.Prelude.{◌≡◌, ◌⊎◌, ℕ, ◌+◌, ◌^◌,
 ghost use Rattle.std.specs.Prelude.{true, false, length, map, IsOk, IfOk, MatchOption, option_copied};
 ghost use Rattle.sd_areas.specs.Areas.{begins_after, is_area_after};
 ghost use Rattle.sd_image.specs.declared.header.Header.{Header};
-ghost use Rattle.sd_image.specs.Reading.{Reads, Gives, number_at, prot_of, item_at, many, head_at, area_of, area_holds};
+ghost use Rattle.sd_image.specs.Reading.{Reads, ReadsTable, number_at, prot_of, item_at, many, head_at, area_of};
+ghost use Rattle.sd_image.specs.Reading.{area_holds};
 ghost use Rattle.sd_image.specs.Reading.{area_from, area_at, run_kind_of, run_of, run_holds, run_from, run_at};
 ghost use Rattle.sd_image.specs.Reading.{area_limit, space_head_of, space_head_at, covers, space_at, ends_rightly};
 ghost use Rattle.sd_image.specs.Reading.{table_in};
@@ -130,7 +131,7 @@ fn area_from(before: Option<&Area>, item: &[u8]) -> Result<Area, Reason>
 
 /// So many areas, one behind the other. Memory is taken as they are read, whatever the count says.
 fn areas_of(alloc: Global, count: u32, bytes: &[u8]) -> Result<(Vec<Area>, &[u8]), TableError>
-    ensures { Gives (λ x. (x.0.items, x.1.now)) result (many area_at Some count None bytes.now) }
+    ensures { ReadsTable (λ x. (x.0.items, x.1.now)) result (many area_at Some count None bytes.now) }
 {
     let mut areas = Vec::new(alloc);
     let mut rest = bytes;
@@ -222,7 +223,7 @@ fn runs_of(
     count: u64,
     bytes: &[u8],
 ) -> Result<(Vec<Run>, &[u8]), TableError>
-    ensures { Gives (λ x. (x.0.items, x.1.now)) result
+    ensures { ReadsTable (λ x. (x.0.items, x.1.now)) result
         (many (run_at parent) Some count None bytes.now) }
 {
     let mut runs = Vec::new(alloc);
@@ -285,7 +286,7 @@ fn space_of<'a>(
     before: u64,
     bytes: &'a [u8],
 ) -> Result<(SpaceTable, &'a [u8]), TableError>
-    ensures { Gives (λ x. (listing_of x.0, x.1.now)) result (space_at header.now before bytes.now) }
+    ensures { ReadsTable (λ x. (listing_of x.0, x.1.now)) result (space_at header.now before bytes.now) }
 {
     let (head, rest) = space_head_of(header.kind, before, bytes)?;
     let (areas, rest) = areas_of(alloc, head.areas, rest)?;
@@ -304,7 +305,7 @@ fn spaces_of<'a>(
     count: u32,
     bytes: &'a [u8],
 ) -> Result<(Vec<SpaceTable>, &'a [u8]), TableError>
-    ensures { Gives (λ x. (map listing_of x.0.items, x.1.now)) result
+    ensures { ReadsTable (λ x. (map listing_of x.0.items, x.1.now)) result
         (many (space_at header.now) (λ s. s.space) count 0 bytes.now) }
 {
     let mut spaces = Vec::new(alloc);
@@ -332,7 +333,7 @@ fn ends_rightly(header: &Header, spaces: &[SpaceTable], rest: &[u8]) -> bool
 /// The table that all of the bytes spell: the reading, and nothing else.
 #[tactic(auto, unfolding(crate::specs::Reading::table_in))]
 fn table_of(alloc: Global, header: &Header, bytes: &[u8]) -> Result<Table, TableError>
-    ensures exact { Gives (λ t. map listing_of t.spaces.items) result (table_in header.now bytes.now) }
+    ensures exact { ReadsTable (λ t. map listing_of t.spaces.items) result (table_in header.now bytes.now) }
     ensures tested { result ≡ Err OutOfMemory → IsOk (head_at bytes.now) }
 {
     let (count, rest) = head_of(bytes)?;
@@ -353,9 +354,9 @@ pub fn decode_table(alloc: Global, header: &Header, bytes: &[u8]) -> Result<Tabl
     // What is spelled so is read, unless memory runs out.
     ensures only { (spaces : List Listed) → bytes.now ≡ table_text spaces
         → IsTable header.now spaces
-        → Gives (λ t. map listing_of t.spaces.items) result (Ok spaces) }
+        → ReadsTable (λ t. map listing_of t.spaces.items) result (Ok spaces) }
     // Which reason it is.
-    ensures exact { Gives (λ t. map listing_of t.spaces.items) result
+    ensures exact { ReadsTable (λ t. map listing_of t.spaces.items) result
         (table_in header.now bytes.now) }
     // Memory is taken behind the head.
     ensures tested { result ≡ Err OutOfMemory → IsOk (head_at bytes.now) }

@@ -17,7 +17,7 @@ use Rattle.sd_import.specs.Imported.{HasCore, HasPage, HasSegment, page_count}
 use Rattle.sd_pagetable.specs.Contents.{Contents, page_at, plain_of, AreWhole}
 use Rattle.sd_pagetable.specs.Kept.{prots_of}
 use Rattle.sd_pagetable.specs.Nested.{Table, inside, map_values}
-use Rattle.sd_pagetable.specs.Page.{Page, plain_page}
+use Rattle.sd_pagetable.specs.Page.{PageState, plain_page}
 use Rattle.sd_pagetable.proofs.MemoryLemmas.{plain_at}
 use Rattle.sd_pagetable.proofs.PlainRanges.{plain_inside}
 use Rattle.sd_pagetable.proofs.TableLemmas.{get-map_values, len-map_values}
@@ -26,8 +26,8 @@ part_at : (xs : List ℕ) (n k : ℕ) → n ≤ k → k < n + 512 → slice_inde
 part_at xs n k from to = grind (arith, get_or-take, get_or-drop)
 
 -- a sector of a page that was read
-pub same_sector : (o : Option Page) (start : ℕ) (part bytes : List ℕ) → is_some o ≡ true → IfSome o (λ found. part ≡ slice_range found.bytes start (start + 512))
-    → part ≡ bytes → (found : Page) × (o ≡ Some found) × (slice_range found.bytes start (start + 512) ≡ bytes)
+pub same_sector : (o : Option PageState) (start : ℕ) (part bytes : List ℕ) → is_some o ≡ true → IfSome o (λ found. part ≡ slice_range found.bytes start (start + 512))
+    → part ≡ bytes → (found : PageState) × (o ≡ Some found) × (slice_range found.bytes start (start + 512) ≡ bytes)
 same_sector None start part bytes there read same = absurd (let no : false ≡ true = there in cc)
 same_sector (Some found) start part bytes there read same = (found, refl, sym read ∙ same)
 
@@ -40,21 +40,21 @@ sectors_more xs ys n same before k to = elim (cases_lt k n) [
 ]
 
 -- the permissions of a page, among those of its space
-pub prot_at : (m : Contents) (space page : ℕ) (pages : Table Page) (found : Page) → finmap.get m.spaces space ≡ Some pages → page_at m space page ≡ Some found
+pub prot_at : (m : Contents) (space page : ℕ) (pages : Table PageState) (found : PageState) → finmap.get m.spaces space ≡ Some pages → page_at m space page ≡ Some found
     → finmap.get (prots_of pages) page ≡ Some found.prot
 prot_at m space page pages found alive there =
     let at : finmap.get pages page ≡ Some found = (rw alive at there) in
-    get-map_values (λ (p : Page). p.prot) pages page ∙ ap (option_map (λ (p : Page). p.prot)) at
+    get-map_values (λ (p : PageState). p.prot) pages page ∙ ap (option_map (λ (p : PageState). p.prot)) at
 
 -- a space has as many pages as its permissions
-pub pages_of_prots : (m : Contents) (space : ℕ) (pages : Table Page) → finmap.get m.spaces space ≡ Some pages
+pub pages_of_prots : (m : Contents) (space : ℕ) (pages : Table PageState) → finmap.get m.spaces space ≡ Some pages
     → finmap.len (prots_of pages) ≡ finmap.len (inside (plain_of m) space)
 pages_of_prots m space pages alive =
-    len-map_values (λ (p : Page). p.prot) pages
+    len-map_values (λ (p : PageState). p.prot) pages
     ∙ sym (ap finmap.len (plain_inside m space) ∙ len-map_values plain_page (inside m.spaces space) ∙ ap finmap.len (rw alive))
 
 -- a page is the one that is there
-pub same_page : (o : Option Page) (one other : Page) → o ≡ Some one → o ≡ Some other → one ≡ other
+pub same_page : (o : Option PageState) (one other : PageState) → o ≡ Some one → o ≡ Some other → one ≡ other
 same_page o one other is too = let both : Some one ≡ Some other = sym is ∙ too in cc
 
 -- how many pages a living space has, by its permissions
@@ -62,7 +62,7 @@ pub mapped_some : (m : Contents) (space : ℕ) (prots : PageMap) (count : ℕ) �
     → count ≡ finmap.len prots → count ≡ finmap.len (inside (plain_of m) space)
 mapped_some m space prots count areas counted = by (finmap.get m.spaces space) refl
   where
-    by : (o : Option (Table Page)) → finmap.get m.spaces space ≡ o → count ≡ finmap.len (inside (plain_of m) space)
+    by : (o : Option (Table PageState)) → finmap.get m.spaces space ≡ o → count ≡ finmap.len (inside (plain_of m) space)
     by None is = absurd (let no : Some prots ≡ None = areas ∙ ap (option_map prots_of) is in cc)
     by (Some pages) is =
         let same : Some prots ≡ Some (prots_of pages) = areas ∙ ap (option_map prots_of) is in
@@ -73,16 +73,16 @@ mapped_some m space prots count areas counted = by (finmap.get m.spaces space) r
 pub mapped_none : (m : Contents) (space : ℕ) → option_map prots_of (finmap.get m.spaces space) ≡ None → 0 ≡ finmap.len (inside (plain_of m) space)
 mapped_none m space areas = by (finmap.get m.spaces space) refl
   where
-    by : (o : Option (Table Page)) → finmap.get m.spaces space ≡ o → 0 ≡ finmap.len (inside (plain_of m) space)
-    by None is = sym (ap finmap.len (plain_inside m space) ∙ len-map_values plain_page (inside m.spaces space) ∙ ap (λ o. finmap.len (unwrap_or o finmap.empty)) is ∙ finmap.len-empty nat_cmp Page)
+    by : (o : Option (Table PageState)) → finmap.get m.spaces space ≡ o → 0 ≡ finmap.len (inside (plain_of m) space)
+    by None is = sym (ap finmap.len (plain_inside m space) ∙ len-map_values plain_page (inside m.spaces space) ∙ ap (λ o. finmap.len (unwrap_or o finmap.empty)) is ∙ finmap.len-empty nat_cmp PageState)
     by (Some pages) is = absurd (let no : None ≡ Some (prots_of pages) = sym areas ∙ ap (option_map prots_of) is in cc)
 
 -- the permissions of a page, by those of its space
-pub found_prot : (m : Contents) (space page : ℕ) (prots : PageMap) (prot : Prot) (found : Page) → Some prots ≡ option_map prots_of (finmap.get m.spaces space)
+pub found_prot : (m : Contents) (space page : ℕ) (prots : PageMap) (prot : Prot) (found : PageState) → Some prots ≡ option_map prots_of (finmap.get m.spaces space)
     → Some prot ≡ finmap.get prots page → page_at m space page ≡ Some found → found.prot ≡ prot
 found_prot m space page prots prot found areas permitted there = by (finmap.get m.spaces space) refl
   where
-    by : (o : Option (Table Page)) → finmap.get m.spaces space ≡ o → found.prot ≡ prot
+    by : (o : Option (Table PageState)) → finmap.get m.spaces space ≡ o → found.prot ≡ prot
     by None is = absurd (let no : Some prots ≡ None = areas ∙ ap (option_map prots_of) is in cc)
     by (Some pages) is =
         let same : Some prots ≡ Some (prots_of pages) = areas ∙ ap (option_map prots_of) is in
@@ -91,7 +91,7 @@ found_prot m space page prots prot found areas permitted there = by (finmap.get 
         cc
 
 pub found_prots : (m : Contents) (space page : ℕ) (prots : PageMap) (o : Option Prot) → Some prots ≡ option_map prots_of (finmap.get m.spaces space)
-    → o ≡ finmap.get prots page → IfSome o (λ prot. (found : Page) → page_at m space page ≡ Some found → found.prot ≡ prot)
+    → o ≡ finmap.get prots page → IfSome o (λ prot. (found : PageState) → page_at m space page ≡ Some found → found.prot ≡ prot)
 found_prots m space page prots None areas permitted = tt
 found_prots m space page prots (Some prot) areas permitted = λ found there. found_prot m space page prots prot found areas permitted there
 
@@ -100,8 +100,8 @@ found_prots m space page prots (Some prot) areas permitted = λ found there. fou
 -- a page that is mapped with the segment's permissions, and has the bytes that were read of the file
 pub page_compared : (E : Type 0) (o : Option (List ℕ)) (m : Contents) (s : ProgramHeader) (space number behind page : ℕ) (bytes : List ℕ) (b : Bool)
     → behind ≡ 4096 * number → page ≡ s.p_vaddr / 4096 + number → AreWhole m → length bytes ≡ 4096
-    → ((found : Page) → page_at m space page ≡ Some found → found.prot ≡ prot_of_flags s.p_flags)
-    → (b ≡ true → (found : Page) × (page_at m space page ≡ Some found) × ((k : ℕ) → k < 4096 → slice_index found.bytes k ≡ slice_index bytes k))
+    → ((found : PageState) → page_at m space page ≡ Some found → found.prot ≡ prot_of_flags s.p_flags)
+    → (b ≡ true → (found : PageState) × (page_at m space page ≡ Some found) × ((k : ℕ) → k < 4096 → slice_index found.bytes k ≡ slice_index bytes k))
     → IfSome o (λ held. s.p_offset + s.p_filesz < 2 ^ 64 → (k : ℕ) → k < length bytes → slice_index bytes k ≡ segment_byte held s (behind + k))
     → IfSome o (λ held. s.p_offset + s.p_filesz < 2 ^ 64 → ◌≡◌ {A = Result Bool E} (Ok b) (Ok true) → HasPage held (inside (plain_of m) space) s number)
 page_compared E None m s space number behind page bytes b behind_is page_is whole long permitted compared read = tt

@@ -7,7 +7,7 @@ ghost use Rattle.sd_elf.specs.declared.program_header.ProgramHeader.{ProgramHead
 ghost use Rattle.sd_import.specs.Imported.{HasCore, HasPage, HasSegment, page_count};
 ghost use Rattle.sd_pagetable.specs.Contents.{page_at, plain_of};
 ghost use Rattle.sd_pagetable.specs.Nested.{inside};
-ghost use Rattle.sd_pagetable.specs.Page.{Page};
+ghost use Rattle.sd_pagetable.specs.Page.{PageState};
 
 use sd_areas::{Area, PAGE_BYTES, PAGE_SIZE, PageNo, Prot, SpaceId, count_law};
 use sd_elf::{CoreFile, ProgramHeader, read_page};
@@ -17,7 +17,7 @@ use std::io;
 /// Whether a page of a space is mapped, and one of its sectors has these bytes.
 fn has_sector(memory: &Memory, space: SpaceId, page: PageNo, sector: usize, bytes: &[u8]) -> bool
     requires { sector < 8 }
-    ensures { result ≡ true → (found : Page) × (page_at memory.now space page ≡ Some found)
+    ensures { result ≡ true → (found : PageState) × (page_at memory.now space page ≡ Some found)
         × (slice_range found.bytes (512 * sector) (512 * sector + 512) ≡ bytes.now) }
 {
     let mut part = [0; SECTOR_SIZE];
@@ -27,7 +27,7 @@ fn has_sector(memory: &Memory, space: SpaceId, page: PageNo, sector: usize, byte
 
 /// Whether a page of a space is mapped and has these bytes.
 fn has_bytes(memory: &Memory, space: SpaceId, page: PageNo, bytes: &[u8; PAGE_SIZE]) -> bool
-    ensures { result ≡ true → (found : Page) × (page_at memory.now space page ≡ Some found)
+    ensures { result ≡ true → (found : PageState) × (page_at memory.now space page ≡ Some found)
         × ((k : ℕ) → k < 4096 → slice_index found.bytes k ≡ slice_index bytes.now k) }
 {
     for sector in 0..PAGE_SIZE / SECTOR_SIZE {
@@ -47,7 +47,8 @@ fn has_bytes(memory: &Memory, space: SpaceId, page: PageNo, bytes: &[u8; PAGE_SI
 
 /// The permissions of a page of a space, if it is mapped.
 fn prot_of(memory: &Memory, space: SpaceId, page: PageNo) -> Option<Prot>
-    ensures { IfSome result (λ prot. (found : Page) → page_at memory.now space page ≡ Some found → found.prot ≡ prot) }
+    ensures { IfSome result
+        (λ prot. (found : PageState) → page_at memory.now space page ≡ Some found → found.prot ≡ prot) }
 {
     memory.areas(space)?.prot_of(page)
 }

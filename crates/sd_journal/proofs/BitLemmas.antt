@@ -6,9 +6,9 @@ use Rattle.std.specs.List.{list_any}
 use Rattle.std.specs.Option.{option_map}
 use Rattle.sd_pagetable.specs.Contents.{Contents, IsSound, page_at}
 use Rattle.sd_pagetable.specs.Law.{ClearLaw, IsClearedAt}
-use Rattle.sd_pagetable.specs.Page.{Page, cleared_page}
+use Rattle.sd_pagetable.specs.Page.{PageState, cleared_page}
 use Rattle.sd_pagetable.specs.PageLaw.{PageLaw}
-use Rattle.sd_pagetable.specs.Tracking.{Event, Cleared, Passed, IsBeginning, Step, clears, is_dirty, is_page, is_writable, makes_writable, since, touches, write_protects}
+use Rattle.sd_pagetable.specs.Tracking.{MemoryEvent, Cleared, Passed, IsBeginning, Step, clears, is_dirty, is_page, is_writable, makes_writable, since, touches, write_protects}
 use Rattle.sd_journal.specs.declared.origin.Origin.{Origin}
 use Rattle.sd_journal.specs.declared.origin.Origin.TheVariants.{Opened}
 use Rattle.sd_journal.specs.History.{Base}
@@ -16,12 +16,12 @@ use Rattle.sd_journal.specs.Marked.{HasBits, Item, Marked, events_of, is_due, is
 
 -- ---- histories by one event more
 
-any_by : (stop test : Bool) (rest : List Event) (event : Event) (tests : Event → Bool) → tests event ≡ test
+any_by : (stop test : Bool) (rest : List MemoryEvent) (event : MemoryEvent) (tests : MemoryEvent → Bool) → tests event ≡ test
     → list_any tests (cond (not stop) (event ∷ rest) []) ≡ cond stop false (test || list_any tests rest)
 any_by true test rest event tests e = refl
 any_by false test rest event tests e = ap (λ b. b || list_any tests rest) e
 
-any_since : (tests stops : Event → Bool) (event : Event) (history : List Event)
+any_since : (tests stops : MemoryEvent → Bool) (event : MemoryEvent) (history : List MemoryEvent)
     → list_any tests (since stops (event ∷ history)) ≡ cond (stops event) false (tests event || list_any tests (since stops history))
 any_since tests stops event history =
     ap (list_any tests) (take_while-cons (λ e. not (stops e)) event history)
@@ -32,20 +32,20 @@ dirty_by true touch before any = refl
 dirty_by false true before any = refl
 dirty_by false false before any = refl
 
-dirty_more : (event : Event) (history : List Event) (space page : ℕ)
+dirty_more : (event : MemoryEvent) (history : List MemoryEvent) (space page : ℕ)
     → is_dirty (event ∷ history) space page ≡ cond (clears space page event) false (touches space page event || is_dirty history space page)
 dirty_more event history space page =
     ap (λ b. b || not (list_any (clears space page) (event ∷ history))) (any_since (touches space page) (clears space page) event history)
     ∙ dirty_by (clears space page event) (touches space page event) (list_any (touches space page) (since (clears space page) history)) (list_any (clears space page) history)
 
-pub writable_more : (event : Event) (history : List Event) (space page : ℕ)
+pub writable_more : (event : MemoryEvent) (history : List MemoryEvent) (space page : ℕ)
     → is_writable (event ∷ history) space page ≡ cond (write_protects space page event) false (makes_writable space page event || is_writable history space page)
 writable_more event history space page = any_since (makes_writable space page) (write_protects space page) event history
 
 -- ---- what is due
 
 -- an event clears the page, or touches it, or leaves it as it was
-abbrev pub due_by : Event → ℕ → ℕ → Bool → Bool
+abbrev pub due_by : MemoryEvent → ℕ → ℕ → Bool → Bool
 due_by event space page before = cond (clears space page event) false (touches space page event || before)
 
 pub due_more : (base : Base) (item : Item) (items : Marked) (space page : ℕ) → is_due base (item ∷ items) space page ≡ due_by (item_event item) space page (is_due base items space page)
@@ -105,11 +105,11 @@ bits_step law base item items old new sound step bits = record {
   ];
 }
 
-cleared_from : (o : Option Page) (page : Page) → option_map cleared_page o ≡ Some page → (page.soft_dirty ≡ false) × (page.writable ≡ false)
+cleared_from : (o : Option PageState) (page : PageState) → option_map cleared_page o ≡ Some page → (page.soft_dirty ≡ false) × (page.writable ≡ false)
 cleared_from None page e = absurd (cc)
 cleared_from (Some before) page e =
     let is : cleared_page before ≡ page = cc in
-    (ap (λ (p : Page). p.soft_dirty) (sym is), ap (λ (p : Page). p.writable) (sym is))
+    (ap (λ (p : PageState). p.soft_dirty) (sym is), ap (λ (p : PageState). p.writable) (sym is))
 
 same_space : (s p space page : ℕ) → is_page s p space page ≡ true → s ≡ space
 same_space s p space page e = grind (arith, nat_tests)
@@ -127,7 +127,7 @@ bits_clear law base item items old new s p e step bits = record {
     cleared : IsClearedAt s p old new
     cleared = law old new s p step
 
-    here : (space number : ℕ) (page : Page) → page_at new space number ≡ Some page → is_page s p space number ≡ true → (page.soft_dirty ≡ false) × (page.writable ≡ false)
+    here : (space number : ℕ) (page : PageState) → page_at new space number ≡ Some page → is_page s p space number ≡ true → (page.soft_dirty ≡ false) × (page.writable ≡ false)
     here space number page there same =
         let at : page_at new s p ≡ Some page =
         ap (λ n. page_at new n p) (same_space s p space number same) ∙ ap (page_at new space) (same_number s p space number same) ∙ there in
@@ -141,7 +141,7 @@ bits_clear law base item items old new s p e step bits = record {
         writable_more (item_event item) (events_of items) space number
         ∙ ap (λ event. cond (write_protects space number event) false (makes_writable space number event || is_writable (events_of items) space number)) e
 
-    dirty : (space number : ℕ) (page : Page) → page_at new space number ≡ Some page → (b : Bool) → is_page s p space number ≡ b
+    dirty : (space number : ℕ) (page : PageState) → page_at new space number ≡ Some page → (b : Bool) → is_page s p space number ≡ b
         → page.soft_dirty ≡ is_due base (item ∷ items) space number
     dirty space number page there true same =
         (here space number page there same).0 ∙ sym (due space number ∙ ap (λ b. cond b false (is_due base items space number)) same)
@@ -149,7 +149,7 @@ bits_clear law base item items old new s p e step bits = record {
         bits.soft_dirty space number page (sym (cleared.others space number other) ∙ there)
         ∙ sym (due space number ∙ ap (λ b. cond b false (is_due base items space number)) other)
 
-    writing : (space number : ℕ) (page : Page) → page_at new space number ≡ Some page → (b : Bool) → is_page s p space number ≡ b
+    writing : (space number : ℕ) (page : PageState) → page_at new space number ≡ Some page → (b : Bool) → is_page s p space number ≡ b
         → page.writable ≡ is_writable (events_of (item ∷ items)) space number
     writing space number page there true same =
         (here space number page there same).1 ∙ sym (may_write space number ∙ ap (λ b. cond b false (is_writable (events_of items) space number)) same)

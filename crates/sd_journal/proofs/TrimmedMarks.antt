@@ -6,7 +6,7 @@ use Rattle.std.specs.Option.{option_map}
 use Rattle.sd_pagetable.specs.Contents.{Contents, page_at, plain_of}
 use Rattle.sd_pagetable.specs.Law.{PlainLaw}
 use Rattle.sd_pagetable.specs.Order.{is_above}
-use Rattle.sd_pagetable.specs.Page.{Page, plain_page}
+use Rattle.sd_pagetable.specs.Page.{PageState, plain_page}
 use Rattle.sd_pagetable.specs.Tracking.{clears, is_page, is_writable, makes_writable, touches, write_protects}
 use Rattle.sd_journal.specs.declared.entry.Entry.{Entry}
 use Rattle.sd_journal.specs.declared.entry.Entry.TheVariants.{Applied, Freeze, Acked, Cancelled, Reopened}
@@ -232,7 +232,7 @@ writable_stays base (item ∷ kept) folded n space page visited mapped =
 
 -- ---- the memory
 
-mapped_at : PlainLaw → (base : Base) (items : Marked) (contents : Contents) (space number : ℕ) (page : Page) → plain_of contents ≡ memory_at base items
+mapped_at : PlainLaw → (base : Base) (items : Marked) (contents : Contents) (space number : ℕ) (page : PageState) → plain_of contents ≡ memory_at base items
     → page_at contents space number ≡ Some page → is_mapped (memory_at base items) space number ≡ true
 mapped_at plain base items contents space number page memory there =
     ap (λ m. is_mapped m space number) (sym memory)

@@ -4,7 +4,7 @@ use Rattle.sd_journal.specs.declared.placed_mark.PlacedMark.{PlacedMark}
 use Rattle.sd_journal.specs.History.{History}
 use Rattle.sd_journal.specs.Marked.{Told, Noted, Marked, entries_of}
 
-pub record Kept : Type 0 where
+pub record JournalView : Type 0 where
   -- the number of the first entry
   pub first : ℕ
   -- the entries and marks, the newest first
@@ -17,15 +17,15 @@ pub record Kept : Type 0 where
   pub room : ℕ
   pub mark_room : ℕ
 
-abbrev pub entry_count : Kept → ℕ
+abbrev pub entry_count : JournalView → ℕ
 entry_count journal = length (entries_of journal.items)
 
 -- the number of the next entry
-abbrev pub next_number : Kept → ℕ
+abbrev pub next_number : JournalView → ℕ
 next_number journal = journal.first + entry_count journal
 
 -- only the room has changed, and it didn't become less
-pub record HasGrown (old new : Kept) : Type 0 where
+pub record HasGrown (old new : JournalView) : Type 0 where
   pub first : new.first ≡ old.first
   pub items : new.items ≡ old.items
   pub held : new.held ≡ old.held
@@ -34,7 +34,7 @@ pub record HasGrown (old new : Kept) : Type 0 where
   pub mark_room : old.mark_room ≤ new.mark_room
 
 -- the numbering and the limit are as before
-pub record HasSameNumbers (old new : Kept) : Type 0 where
+pub record HasSameNumbers (old new : JournalView) : Type 0 where
   pub first : new.first ≡ old.first
   pub limit : new.limit ≡ old.limit
 

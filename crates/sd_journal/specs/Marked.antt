@@ -6,8 +6,9 @@ use Rattle.sd_areas.specs.PlainMemory.{PlainMemory}
 use Rattle.sd_pagetable.specs.Contents.{Contents, page_at, plain_of}
 use Rattle.sd_pagetable.specs.Nested.{value_at}
 use Rattle.sd_pagetable.specs.Order.{is_above}
-use Rattle.sd_pagetable.specs.Page.{Page}
-use Rattle.sd_pagetable.specs.Tracking.{Event, Cleared, Passed, clears, is_dirty, is_page, is_writable, since, touches}
+use Rattle.sd_pagetable.specs.Page.{PageState}
+use Rattle.sd_pagetable.specs.Tracking.{MemoryEvent, Cleared, Passed, clears, is_dirty, is_page, is_writable, since}
+use Rattle.sd_pagetable.specs.Tracking.{touches}
 use Rattle.sd_command.specs.Events.{event_of}
 use Rattle.sd_journal.specs.declared.entry.Entry.{Entry}
 use Rattle.sd_journal.specs.declared.entry.Entry.TheVariants.{Applied, Acked, Cancelled, Reopened}
@@ -37,12 +38,12 @@ abbrev pub memory_at : Base → Marked → PlainMemory
 memory_at base items = memory_after base (entries_of items)
 
 -- What an item is to the page table: a command is its event, and a visit clears the page.
-abbrev pub item_event : Item → Event
+abbrev pub item_event : Item → MemoryEvent
 item_event (Told (Applied seat command reply)) = event_of command reply
 item_event (Noted (Visit serial space page)) = Cleared space page
 item_event _ = Passed
 
-abbrev pub events_of : Marked → List Event
+abbrev pub events_of : Marked → List MemoryEvent
 events_of items = map item_event items
 
 -- ---- soft-dirty and writable pages
@@ -60,9 +61,9 @@ is_due base items space page =
 
 -- the soft-dirty and the writable bits of each mapped page are those that commands and visits give
 pub record HasBits (base : Base) (items : Marked) (contents : Contents) : Type 0 where
-  pub soft_dirty : (space number : ℕ) (page : Page) → page_at contents space number ≡ Some page
+  pub soft_dirty : (space number : ℕ) (page : PageState) → page_at contents space number ≡ Some page
       → page.soft_dirty ≡ is_due base items space number
-  pub writable : (space number : ℕ) (page : Page) → page_at contents space number ≡ Some page
+  pub writable : (space number : ℕ) (page : PageState) → page_at contents space number ≡ Some page
       → page.writable ≡ is_writable (events_of items) space number
 
 -- ---- the marks of one image

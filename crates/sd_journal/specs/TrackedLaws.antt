@@ -3,7 +3,7 @@ use Rattle.std.specs.Prelude.{◌≡◌, ℕ, ◌==◌, Bool, true, false, ◌�
 use Rattle.std.specs.List.{list_any}
 use Rattle.sd_pagetable.specs.Contents.{Contents, IsSound, page_at, plain_of}
 use Rattle.sd_pagetable.specs.Order.{IsNextPage}
-use Rattle.sd_pagetable.specs.Page.{Page}
+use Rattle.sd_pagetable.specs.Page.{PageState}
 use Rattle.sd_pagetable.specs.Tracking.{IsBeginning, Step, Cleared, clears}
 use Rattle.sd_command.specs.declared.command.Command.{Command}
 use Rattle.sd_command.specs.declared.refusal.Refusal.TheVariants.{Frozen}
@@ -76,7 +76,7 @@ visited_since (item ∷ earlier) n space page =
 
 pub record DueLaws : Type 0 where
   -- the soft-dirty bit that a visit finds is whether the page is due
-  pub bit : (base : Base) (items : Marked) (contents : Contents) (space number : ℕ) (page : Page)
+  pub bit : (base : Base) (items : Marked) (contents : Contents) (space number : ℕ) (page : PageState)
       → IsTracked base items contents → page_at contents space number ≡ Some page
       → page.soft_dirty ≡ is_due base items space number
   -- what is due at a freeze stays so while that is pending, up to the page's own visit

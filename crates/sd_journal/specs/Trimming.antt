@@ -14,7 +14,7 @@ use Rattle.sd_journal.specs.Allowed.{Shown, IsAllowed, IsLastPair, IsPendingPair
 use Rattle.sd_journal.specs.Marked.{Told, Marked, entries_of, events_of, is_due, is_mapped, is_of, last_visit}
 use Rattle.sd_journal.specs.Marked.{memory_at, starts, visiting, IsMarked, IsTracked}
 use Rattle.sd_journal.specs.TrackedLaws.{visited_since}
-use Rattle.sd_journal.specs.Kept.{Kept}
+use Rattle.sd_journal.specs.Kept.{JournalView}
 
 -- the entry, after those, ended the pending of a checkpoint: its acknowledgement, or the reopening that found it while
 -- it was pending
@@ -132,7 +132,7 @@ pub record MarkedTrimLaws : Type 0 where
 
 -- So many entries were taken from the front, with the marks between them: a mark behind the last of them is kept. The
 -- others keep their numbers.
-pub record TakesFront (many : ℕ) (taken : List Entry) (old new : Kept) : Type 0 where
+pub record TakesFront (many : ℕ) (taken : List Entry) (old new : JournalView) : Type 0 where
   pub gone : Marked
   pub parts : old.items ≡ new.items ++ gone
   pub newest : IsEntryFirst gone

@@ -2,7 +2,7 @@
 ghost use Rattle.std.specs.Prelude.{◌≡◌, ◌↔◌, ◌+◌, ◌-◌, ◌<◌, ◌≤◌, ◌^◌, ◌∷◌, ◌++◌, [], ℕ, length, drop, map, reverse};
 ghost use Rattle.std.specs.Prelude.{take, vec_len, vec_capacity, IfOk, IfSome, IsTrue, MatchOption, OnOk, OnErr};
 ghost use Rattle.std.specs.List.{filter};
-ghost use Rattle.sd_journal.specs.Kept.{HasGrown, HasSameNumbers, Kept, entry_count, is_behind, next_number};
+ghost use Rattle.sd_journal.specs.Kept.{HasGrown, HasSameNumbers, JournalView, entry_count, is_behind, next_number};
 ghost use Rattle.sd_journal.specs.History.{History, pending, unless_it_is};
 ghost use Rattle.sd_journal.specs.Marked.{Told, Noted, entries_of};
 ghost use Rattle.sd_journal.specs.Trimming.{Ends, EndsAt, TakesFront};
@@ -31,9 +31,9 @@ pub struct Journal {
 
 impl Model for Journal {
     ghost use Rattle.std.specs.Prelude.{◌≡◌, ◌+◌, ◌-◌, ◌≤◌, ◌*◌, length, reverse, vec_len, vec_capacity};
-    ghost use Rattle.sd_journal.specs.Kept.{Kept, woven};
+    ghost use Rattle.sd_journal.specs.Kept.{JournalView, woven};
 
-    ghost Value = { Kept };
+    ghost Value = { JournalView };
 
     ghost view = { λ j. record {
       first = j.first;

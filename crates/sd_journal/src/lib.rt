@@ -21,5 +21,5 @@ pub use laws::{
 pub use mark::Mark;
 pub use origin::Origin;
 pub use plain_memory::replay;
-pub use plain_pages::{Pages, copy_of_page, copy_of_pages, zero_page};
+pub use plain_pages::{Pages, copy_of_pages, zero_page};
 pub use receipt::Receipt;

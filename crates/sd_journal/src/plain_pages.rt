@@ -59,31 +59,16 @@ pub(crate) fn page_with(pages: &Pages, number: u64) -> Option<PageNo>
     PageNo::new(number)
 }
 
-/// A page of zeros.
+/// A page of zeros with these permissions, as a page is when it is mapped.
 ///
 /// # Errors
 ///
-/// Out of memory where it finds no room.
+/// Out of memory where its bytes find no room.
 pub fn zero_page(alloc: Global, prot: Prot) -> Result<SnapshotPage, AllocError>
     ensures { IfOk result (λ page. page_of_snapshot page ≡ record { prot = prot; bytes = zeros }) }
 {
     let bytes = Box::new(alloc, [0; PAGE_SIZE])?;
     Ok(SnapshotPage { prot, bytes })
-}
-
-/// A copy of a page.
-///
-/// # Errors
-///
-/// Out of memory where it finds no room.
-pub fn copy_of_page(alloc: Global, page: &SnapshotPage) -> Result<SnapshotPage, AllocError>
-    ensures { IfOk result (λ copy. page_of_snapshot copy ≡ page_of_snapshot page.now) }
-{
-    let bytes = Box::new(alloc, *page.bytes)?;
-    Ok(SnapshotPage {
-        prot: page.prot,
-        bytes,
-    })
 }
 
 /// Maps a run of pages of zeros, whatever was there.
@@ -185,17 +170,17 @@ fn write(page: &mut [u8; PAGE_SIZE], offset: usize, bytes: &[u8])
     page[offset..offset + bytes.len()].copy_from_slice(bytes);
 }
 
-/// A copy of the pages of a space.
+/// A copy of the pages of a space, each with bytes of its own.
 ///
 /// # Errors
 ///
-/// Out of memory where one of them, or their map, finds no room.
+/// Out of memory where one of them, or their map, finds no room; the pages stand as they were.
 pub fn copy_of_pages(alloc: Global, pages: &Pages) -> Result<Pages, AllocError>
     ensures { IfOk result (λ copy. space_of copy.entries ≡ space_of pages.now.entries) }
 {
     let mut copy = BTreeMap::new(alloc);
     for (page, found) in pages {
-        put(&mut copy, *page, copy_of_page(alloc, found)?)?;
+        put(&mut copy, *page, found.try_clone(alloc)?)?;
     }
     Ok(copy)
 }

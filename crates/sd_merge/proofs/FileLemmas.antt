@@ -22,7 +22,7 @@ use Rattle.sd_gate.specs.Sequences.{Calls}
 use Rattle.sd_rounds.specs.Made.{Lists, entries_listed}
 use Rattle.sd_rounds.specs.MakingLaws.{Pages, image_of}
 use Rattle.sd_rounds.specs.Pass as rounds
-use Rattle.sd_rounds.specs.Pass.{Entry, Place, data_pages, pages_by}
+use Rattle.sd_rounds.specs.Pass.{ImageEntry, Place, data_pages, pages_by}
 use Rattle.sd_store_laws.specs.Makers.{HasItself, IsMergedOf, MergedRepeats}
 use Rattle.sd_store_laws.specs.Store.{IsTwin}
 use Rattle.sd_merge.specs.declared.copy_order.CopyOrder.{CopyOrder}
@@ -39,7 +39,7 @@ use Rattle.sd_merge.proofs.OrderLemmas.{In, at_in, contains_in, in_kind, listed_
 
 -- ---- the table is written
 
-filed : TextIsImage → (order : CopyOrder) (source : Image) (entries : List Entry) (pages : Pages) (header : Header) (tables : List Listed)
+filed : TextIsImage → (order : CopyOrder) (source : Image) (entries : List ImageEntry) (pages : Pages) (header : Header) (tables : List Listed)
     → header ≡ header_of order (data_pages entries) (length (table_text tables)) header.digest → HasWords header → AreItsNumbers order → RepeatsTable source.spaces entries header tables
     → length pages ≡ data_pages entries → AllByRecursion (λ page. length page ≡ 4096) pages → HasItsDigest (image_of header pages tables) → IsFiled order source entries pages header tables
 filed law order source entries pages header tables numbers words own table count whole digest = record {
@@ -70,8 +70,8 @@ files : ((l : List Listed) → Lists (entries_listed l) l) → TextIsImage → (
 files lists law ticket places catalog source pages old new request s is restorable own was =
     let w = s.0.writes in
     let over : was.rest ≡ [] = over_of lists places catalog source old was.rest is was.merging.all (s.0.over is.are) in
-    let all : map rounds.place_of old.entries ≡ listed_places source.spaces =
-    sym (append-nil (map rounds.place_of old.entries)) ∙ ap (λ (l : List Place). map rounds.place_of old.entries ++ l) (sym over) ∙ was.merging.all in
+    let all : map rounds.place_of_entry old.entries ≡ listed_places source.spaces =
+    sym (append-nil (map rounds.place_of_entry old.entries)) ∙ ap (λ (l : List Place). map rounds.place_of_entry old.entries ++ l) (sym over) ∙ was.merging.all in
     let same : w.source ≡ is.opened = one_opened w.source is.opened (sym w.there ∙ is.there) in
     let table : IsTableOf source.spaces old.entries w.tables =
     subst (λ (l : List Listed). IsTableOf l old.entries w.tables) (ap (λ (i : Opened). i.spaces) same ∙ sym is.told.spaces) w.table in
@@ -81,13 +81,13 @@ files lists law ticket places catalog source pages old new request s is restorab
     (ap (λ (h : Header). h.kind) w.numbers) (ap (λ (h : Header). h.parent) w.numbers) (ap (λ (h : Header). h.pages) w.numbers))
     was.count was.whole (λ two. w.digest (concat pages) was.digested))
 
-fills : BodiesFill → (order : CopyOrder) (source : Image) (entries : List Entry) (pages : Pages) (header : Header) (tables : List Listed) → IsFiled order source entries pages header tables
+fills : BodiesFill → (order : CopyOrder) (source : Image) (entries : List ImageEntry) (pages : Pages) (header : Header) (tables : List Listed) → IsFiled order source entries pages header tables
     → body_closed (pages_body pages) header (table_text tables) ≡ image_text (image_of header pages tables)
 fills law order source entries pages header tables f = law.image pages header (table_text tables) f.spelled.whole (sym f.spelled.stored) f.spelled.header.words
 
 -- ---- until it is open
 
-filed_asked : (stage : Stage) (plan : Planned) (order : CopyOrder) (source : Image) (entries : List Entry) (pages : Pages) → IsFiledIn stage order source entries pages
+filed_asked : (stage : Stage) (plan : Planned) (order : CopyOrder) (source : Image) (entries : List ImageEntry) (pages : Pages) → IsFiledIn stage order source entries pages
     → IsFiledIn (with_plan stage plan) order source entries pages
 filed_asked (Format old) plan order source entries pages is = tt
 filed_asked PassStage plan order source entries pages is = tt
@@ -95,7 +95,7 @@ filed_asked (PageRead old) plan order source entries pages is = tt
 filed_asked (PageWrite old) plan order source entries pages is = tt
 filed_asked (Close old header tables) plan order source entries pages is = is
 
-filed_after : (stage : Stage) (plan : Planned) (calls : Calls) (order : CopyOrder) (source : Image) (entries : List Entry) (pages : Pages) → IsFiledIn stage order source entries pages
+filed_after : (stage : Stage) (plan : Planned) (calls : Calls) (order : CopyOrder) (source : Image) (entries : List ImageEntry) (pages : Pages) → IsFiledIn stage order source entries pages
     → IsFiledIn (stage_after stage plan calls) order source entries pages
 filed_after stage plan [] order source entries pages is = tt
 filed_after stage plan (call ∷ calls) order source entries pages is = filed_asked stage plan order source entries pages is
@@ -142,8 +142,8 @@ merged lists once catalog source pages old plan header table closing is was own 
     over : was.rest ≡ []
     over = subst (λ (s : Stage). IsOverIn s was.rest) closing was.over
 
-    all : map rounds.place_of old.entries ≡ listed_places source.spaces
-    all = sym (append-nil (map rounds.place_of old.entries)) ∙ ap (λ (l : List Place). map rounds.place_of old.entries ++ l) (sym over) ∙ was.merging.all
+    all : map rounds.place_of_entry old.entries ≡ listed_places source.spaces
+    all = sym (append-nil (map rounds.place_of_entry old.entries)) ∙ ap (λ (l : List Place). map rounds.place_of_entry old.entries ++ l) (sym over) ∙ was.merging.all
 
     to : (space page : ℕ) (bytes : List ℕ) → HasItself (image_of header pages table) space page bytes → Holds catalog space page bytes source
     to space page bytes (inl (place, there, stored)) =
@@ -156,7 +156,7 @@ merged lists once catalog source pages old plan header table closing is was own 
     from : (space page : ℕ) (bytes : List ℕ) → Holds catalog space page bytes source → HasItself (image_of header pages table) space page bytes
     from space page bytes holds = by kind.0 kind.1
       where
-        there : In (map rounds.place_of old.entries) (space, page)
+        there : In (map rounds.place_of_entry old.entries) (space, page)
         there = subst (λ (l : List Place). In l (space, page)) (sym all) (holds_listed lists catalog space page bytes source holds)
 
         kind : (kind : RunKind) × In (pages_by kind old.entries) (space, page)

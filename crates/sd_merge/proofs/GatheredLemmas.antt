@@ -9,11 +9,11 @@ use Rattle.sd_image.specs.declared.table.SpaceTable.{SpaceTable}
 use Rattle.sd_image.specs.Runs.{PageWay, AreRunsOf, IsSourced, end_of, run_ways}
 use Rattle.sd_image.specs.Table.{AreRuns, Listed, listing_of, run_pages}
 use Rattle.sd_chain.specs.Passes.{IsBefore, IsBehind}
-use Rattle.sd_rounds.specs.Pass.{Place, Entry}
+use Rattle.sd_rounds.specs.Pass.{Place, ImageEntry}
 use Rattle.sd_rounds.specs.Made.{entries_listed, run_entries}
 use Rattle.sd_rounds.specs.Rises.{last_of}
 use Rattle.sd_rounds.specs.Tables.{EndsBefore, EndBefore, entries_in, listed}
-use Rattle.sd_merge.specs.Gathered.{AreCopies, AreGathered, EndBehind, IsBegun, IsGathered, IsPut}
+use Rattle.sd_merge.specs.Gathered.{AreCopies, AreGathered, EndBehind, IsGathered, IsPut, SpaceIsBegun}
 
 -- ---- a space more
 
@@ -74,23 +74,23 @@ end_before (Some last) at tables ends behind = end_further (last.0, last.1 + 1) 
 
 -- ---- entries
 
-abbrev entry_of : ℕ → PageWay → Entry
+abbrev entry_of : ℕ → PageWay → ImageEntry
 entry_of space way = record { place = (space, way.0); kind = way.1 }
 
 run_entries_are : (space : ℕ) (kind : RunKind) (pages : List ℕ)
     → map (λ page. record { place = (space, page); kind = kind }) pages ≡ map (entry_of space) (map (λ page. (page, kind)) pages)
 run_entries_are space kind [] = refl
-run_entries_are space kind (page ∷ pages) = ap (λ (l : List Entry). (record { place = (space, page); kind = kind }) ∷ l) (run_entries_are space kind pages)
+run_entries_are space kind (page ∷ pages) = ap (λ (l : List ImageEntry). (record { place = (space, page); kind = kind }) ∷ l) (run_entries_are space kind pages)
 
 -- the entries of a space, by the pages of its runs
 pub entries_are : (space : ℕ) (runs : List Run) → flat_map (run_entries space) runs ≡ map (entry_of space) (flat_map run_ways runs)
 entries_are space [] = refl
 entries_are space (run ∷ runs) =
-    ap (λ (l : List Entry). l ++ flat_map (run_entries space) runs) (run_entries_are space run.kind (run_pages run))
-    ∙ ap (λ (l : List Entry). map (entry_of space) (run_ways run) ++ l) (entries_are space runs)
+    ap (λ (l : List ImageEntry). l ++ flat_map (run_entries space) runs) (run_entries_are space run.kind (run_pages run))
+    ∙ ap (λ (l : List ImageEntry). map (entry_of space) (run_ways run) ++ l) (entries_are space runs)
     ∙ sym (map-append (entry_of space) (run_ways run) (flat_map run_ways runs))
 
-abbrev pub table_entries : Listed → List Entry
+abbrev pub table_entries : Listed → List ImageEntry
 table_entries t = flat_map (run_entries t.space) t.runs
 
 entries_put : (tables : List Listed) (t : Listed) → entries_listed (tables ++ t ∷ []) ≡ entries_listed tables ++ table_entries t
@@ -100,7 +100,7 @@ runs_entries : (space page : ℕ) (kind : RunKind) (old new : List Run) → flat
     → flat_map (run_entries space) new ≡ flat_map (run_entries space) old ++ (record { place = (space, page); kind = kind }) ∷ []
 runs_entries space page kind old new e =
     entries_are space new ∙ ap (map (entry_of space)) e ∙ map-append (entry_of space) (flat_map run_ways old) _
-    ∙ ap (λ (l : List Entry). l ++ (record { place = (space, page); kind = kind }) ∷ []) (sym (entries_are space old))
+    ∙ ap (λ (l : List ImageEntry). l ++ (record { place = (space, page); kind = kind }) ∷ []) (sym (entries_are space old))
 
 no_push : {X : Type 0} (xs : List X) (x : X) → [] ≡ xs ++ x ∷ [] → ⊥
 no_push xs x e = absurd (let f : 0 ≡ length xs + 1 = ap length e ∙ length-append xs (x ∷ []) in omega arith)
@@ -121,9 +121,9 @@ pub longer_space : (front : List SpaceTable) (last new : SpaceTable) (at : Place
     → IsPut (listed (front ++ last ∷ [])) (listed (front ++ new ∷ [])) at kind
 longer_space front last new at kind are ends here same_space runs end = record {
   entries = ap entries_listed (listed_put front new) ∙ entries_put (listed front) (listing_of new)
-      ∙ ap (λ (l : List Entry). entries_listed (listed front) ++ l) more
+      ∙ ap (λ (l : List ImageEntry). entries_listed (listed front) ++ l) more
       ∙ sym (append_assoc (entries_listed (listed front)) (table_entries (listing_of last)) _)
-      ∙ ap (λ (l : List Entry). l ++ (record { place = at; kind = kind }) ∷ []) (sym (ap entries_listed (listed_put front last) ∙ entries_put (listed front) (listing_of last)));
+      ∙ ap (λ (l : List ImageEntry). l ++ (record { place = at; kind = kind }) ∷ []) (sym (ap entries_listed (listed_put front last) ∙ entries_put (listed front) (listing_of last)));
   gathered = subst (AreGathered 0) (sym (listed_put front new)) (gathered_put 0 (listed front) (listing_of new) (gathered_front 0 (listed front) (listing_of last) old)
       (record {
         least = subst (λ n. next_least 0 (listed front) ≤ n) (sym same_space) was.least;
@@ -149,10 +149,10 @@ longer_space front last new at kind are ends here same_space runs end = record {
 
 -- another space begins
 more_spaces : (old new : List SpaceTable) (at : Place) (kind : RunKind) → AreGathered 0 (listed old) → EndBefore at (listed old)
-    → next_least 0 (listed old) ≤ at.0 → IsBegun old new at kind → IsPut (listed old) (listed new) at kind
+    → next_least 0 (listed old) ≤ at.0 → SpaceIsBegun old new at kind → IsPut (listed old) (listed new) at kind
 more_spaces old new at kind are ends above begun = record {
   entries = ap entries_listed now ∙ entries_put (listed old) (listing_of begun.table)
-      ∙ ap (λ (l : List Entry). entries_listed (listed old) ++ l) (entries_are begun.table.space begun.table.runs.items
+      ∙ ap (λ (l : List ImageEntry). entries_listed (listed old) ++ l) (entries_are begun.table.space begun.table.runs.items
       ∙ ap (map (entry_of begun.table.space)) begun.runs.list ∙ ap (λ n. (record { place = (n, at.1); kind = kind }) ∷ []) begun.space);
   gathered = subst (AreGathered 0) (sym now) (gathered_put 0 (listed old) (listing_of begun.table) are (record {
     least = subst (λ n. next_least 0 (listed old) ≤ n) (sym begun.space) above;
@@ -170,12 +170,12 @@ least_put : (least : ℕ) (tables : List Listed) (t : Listed) → next_least lea
 least_put least [] t = refl
 least_put least (s ∷ tables) t = least_put (s.space + 1) tables t
 
-pub first_space : (new : List SpaceTable) (at : Place) (kind : RunKind) → IsBegun [] new at kind → IsPut [] (listed new) at kind
+pub first_space : (new : List SpaceTable) (at : Place) (kind : RunKind) → SpaceIsBegun [] new at kind → IsPut [] (listed new) at kind
 first_space new at kind begun = more_spaces [] new at kind tt tt (omega arith) begun
 
 pub next_space : (front : List SpaceTable) (last : SpaceTable) (new : List SpaceTable) (at : Place) (kind : RunKind)
     → AreGathered 0 (listed (front ++ last ∷ [])) → EndBefore at (listed (front ++ last ∷ [])) → last.space ≢ at.0
-    → IsBegun (front ++ last ∷ []) new at kind → IsPut (listed (front ++ last ∷ [])) (listed new) at kind
+    → SpaceIsBegun (front ++ last ∷ []) new at kind → IsPut (listed (front ++ last ∷ [])) (listed new) at kind
 next_space front last new at kind are ends apart begun =
     more_spaces (front ++ last ∷ []) new at kind are ends
     (subst (λ n. n ≤ at.0) (sym (ap (next_least 0) (listed_put front last) ∙ least_put 0 (listed front) (listing_of last)))
@@ -214,7 +214,7 @@ same_listed front last new space areas runs = listed_put front new ∙ ap (λ (t
 
 -- ---- the last of them
 
-last_put : (before : Option Place) (entries : List Entry) (e : Entry) → last_of before (entries ++ e ∷ []) ≡ Some e.place
+last_put : (before : Option Place) (entries : List ImageEntry) (e : ImageEntry) → last_of before (entries ++ e ∷ []) ≡ Some e.place
 last_put before [] e = refl
 last_put before (x ∷ entries) e = last_put (Some x.place) entries e
 

@@ -18,10 +18,10 @@ use Rattle.sd_merge.specs.declared.merge_step.MergeStep.TheVariants as step
 use Rattle.sd_merge.specs.declared.retired.Retired.{Retired}
 use Rattle.sd_merge.specs.declared.stage.Stage.{Stage}
 use Rattle.sd_merge.specs.declared.stage.Stage.TheVariants.{Format, Pass as PassStage, PageRead, PageWrite, Close}
-use Rattle.sd_merge.specs.Copying.{Copying, GoesOn, IsClosing, Opens, Steps, begun_copy, is_taking, plan_of, stage_after, with_plan}
+use Rattle.sd_merge.specs.Copying.{Copying, IsClosing, Opens, PlanGoesOn, Steps, begun_copy, is_taking, plan_of, stage_after, with_plan}
 use Rattle.sd_merge.specs.Sources.{few_pages}
 use Rattle.sd_merge.specs.Left.{LeftLaws, copy_left, doing_left, left_of, pages_left, retiring_left, running_left, stage_left}
-use Rattle.sd_merge.specs.Merger.{AreRunning, CopiesOn, Doing, EndsOne, GoesOnWith, Hands, HandsAt, HandsClosing, HandsCopying, HandsTo, IsLastOf, IsHanded, IsRunning, IsRunningAt, Retires, Retiring, Running, StaysStrange, Works, WorksAt, awaited_in, copying, due, ends, is_strange, opened, order_of, retiring}
+use Rattle.sd_merge.specs.Merger.{AreRunning, CopiesOn, Doing, EndsOne, GoesOnWith, Hands, HandsAt, HandsClosing, HandsCopying, HandsTo, IsLastOf, IsHanded, IsRunning, IsRunningAt, TakesList, Retiring, Running, StaysStrange, Works, WorksAt, awaited_in, copying, due, ends, is_strange, opened, order_of, retiring}
 
 -- ---- a plan
 
@@ -123,7 +123,7 @@ works serial state ticket places old made new w =
 
 -- ---- an outcome
 
-goes_on_fewer : (old new : Copying) (made : Made) → GoesOn old made new → copy_left new < copy_left old
+goes_on_fewer : (old new : Copying) (made : Made) → PlanGoesOn old made new → copy_left new < copy_left old
 goes_on_fewer old new made g =
     subst (λ (m : Copying). copy_left m < copy_left old) (sym g.is)
     (by (plan_after g.plan made).calls refl)
@@ -254,7 +254,7 @@ hands old made (progress.Merged serial) new h strange are = handed old made (pro
 
 -- ---- the list
 
-retires : (running : Running) (list : List Retired) (done : MergeProgress) (new : Option Running) → Retires (Some running) list done new → is_strange done ≡ false
+retires : (running : Running) (list : List Retired) (done : MergeProgress) (new : Option Running) → TakesList (Some running) list done new → is_strange done ≡ false
     → length list ≤ length running.before → left_of new < left_of (Some running)
 retires running list progress.Strange new h strange few = absurd (both_ways true strange refl)
 retires running list progress.Failed new h strange few = absurd h

@@ -21,7 +21,7 @@ use Rattle.sd_image.specs.Table.{AreSpaces, IsTable, Listed, mapped_count, run_p
 use Rattle.sd_image.proofs.Members.{contains_at, place_in}
 use Rattle.sd_chain.specs.declared.found.Found.{Found}
 use Rattle.sd_chain.specs.declared.found.Found.TheVariants as found
-use Rattle.sd_chain.specs.Catalog.{IsSound, Opened, Places, images}
+use Rattle.sd_chain.specs.Catalog.{IsSoundCatalog, Opened, Places, images}
 use Rattle.sd_chain.specs.Tells.{Agrees, HavePages, IsToldAs}
 use Rattle.sd_chain.specs.Passes.{IsListed, IsNextOf, IsNextPage}
 use Rattle.sd_chain.specs.Ways.{LiesAt, LiesBySerial}
@@ -34,7 +34,7 @@ use Rattle.sd_rounds.specs.Keeps.{Stored}
 use Rattle.sd_rounds.specs.Made.{Lists, entries_listed, listed_pages, run_entries}
 use Rattle.sd_rounds.specs.MakingLaws.{Pages}
 use Rattle.sd_rounds.specs.Pass as rounds
-use Rattle.sd_rounds.specs.Pass.{Entry, Place, data_pages, has_kind, pages_by}
+use Rattle.sd_rounds.specs.Pass.{ImageEntry, Place, data_pages, has_kind, pages_by}
 use Rattle.sd_store_laws.specs.Cut.{CutHoldsTheSame, IsCut, KeepsItsNumber}
 use Rattle.sd_store_laws.specs.Needed.{IsCalled}
 use Rattle.sd_store_laws.specs.Reached.{Reaches}
@@ -60,11 +60,11 @@ no_some x e = cc
 pub one_some : {X : Type 0} (x y : X) → Some x ≡ Some y → x ≡ y
 one_some x y e = cc
 
-abbrev put : List Entry → Place → RunKind → List Entry
+abbrev put : List ImageEntry → Place → RunKind → List ImageEntry
 put entries at kind = entries ++ (record { place = at; kind = kind }) ∷ []
 
-pages_append : (kind : RunKind) (xs ys : List Entry) → pages_by kind (xs ++ ys) ≡ pages_by kind xs ++ pages_by kind ys
-pages_append kind xs ys = ap (map rounds.place_of) (filter-append (has_kind kind) xs ys) ∙ map-append rounds.place_of (filter (has_kind kind) xs) (filter (has_kind kind) ys)
+pages_append : (kind : RunKind) (xs ys : List ImageEntry) → pages_by kind (xs ++ ys) ≡ pages_by kind xs ++ pages_by kind ys
+pages_append kind xs ys = ap (map rounds.place_of_entry) (filter-append (has_kind kind) xs ys) ∙ map-append rounds.place_of_entry (filter (has_kind kind) xs) (filter (has_kind kind) ys)
 
 slice_front : {X : Type 0} (xs ys : List X) (k : ℕ) (x : X) → slice_get xs k ≡ Some x → slice_get (xs ++ ys) k ≡ Some x
 slice_front [] ys k x e = absurd (no_some x e)
@@ -88,14 +88,14 @@ all_put P (y ∷ xs) x all is = (all.0, all_put P xs x all.1 is)
 
 -- ---- one page more
 
-places_put : (entries : List Entry) (at : Place) (kind : RunKind) (rest later all : List Place) → map rounds.place_of entries ++ rest ≡ all → rest ≡ at ∷ later
-    → map rounds.place_of (put entries at kind) ++ later ≡ all
+places_put : (entries : List ImageEntry) (at : Place) (kind : RunKind) (rest later all : List Place) → map rounds.place_of_entry entries ++ rest ≡ all → rest ≡ at ∷ later
+    → map rounds.place_of_entry (put entries at kind) ++ later ≡ all
 places_put entries at kind rest later all e is =
-    ap (λ (l : List Place). l ++ later) (map-append rounds.place_of entries _)
-    ∙ append_assoc (map rounds.place_of entries) (at ∷ []) later
-    ∙ ap (λ (l : List Place). map rounds.place_of entries ++ l) (sym is) ∙ e
+    ap (λ (l : List Place). l ++ later) (map-append rounds.place_of_entry entries _)
+    ∙ append_assoc (map rounds.place_of_entry entries) (at ∷ []) later
+    ∙ ap (λ (l : List Place). map rounds.place_of_entry entries ++ l) (sym is) ∙ e
 
-copy_zero : (catalog : List Image) (source : Image) (stored : Stored) (entries : List Entry) (at : Place) → IsCopy catalog source stored entries
+copy_zero : (catalog : List Image) (source : Image) (stored : Stored) (entries : List ImageEntry) (at : Place) → IsCopy catalog source stored entries
     → Holds catalog at.0 at.1 (replicate 4096 0) source → IsCopy catalog source stored (put entries at Zero)
 copy_zero catalog source stored entries at is holds = record {
   zero = λ p there. (let k = place_in (pages_by Zero (put entries at Zero)) p there in
@@ -107,7 +107,7 @@ copy_zero catalog source stored entries at is holds = record {
   none = pages_append Parent entries _ ∙ append-nil (pages_by Parent entries) ∙ is.none;
 }
 
-copy_data : (catalog : List Image) (source : Image) (pages : Pages) (entries : List Entry) (at : Place) (bytes : List ℕ) → length pages ≡ data_pages entries
+copy_data : (catalog : List Image) (source : Image) (pages : Pages) (entries : List ImageEntry) (at : Place) (bytes : List ℕ) → length pages ≡ data_pages entries
     → IsCopy catalog source (listed_pages pages) entries → Holds catalog at.0 at.1 bytes source → IsCopy catalog source (listed_pages (pages ++ bytes ∷ [])) (put entries at Data)
 copy_data catalog source pages entries at bytes count is holds = record {
   zero = λ p there. is.zero p (subst (λ (l : List Place). Contains l p) (pages_append Zero entries _ ∙ append-nil (pages_by Zero entries)) there);
@@ -123,10 +123,10 @@ copy_data catalog source pages entries at bytes count is holds = record {
   none = pages_append Parent entries _ ∙ append-nil (pages_by Parent entries) ∙ is.none;
 }
 
-counts_zero : (entries : List Entry) (at : Place) → data_pages (put entries at Zero) ≡ data_pages entries
+counts_zero : (entries : List ImageEntry) (at : Place) → data_pages (put entries at Zero) ≡ data_pages entries
 counts_zero entries at = ap (λ (l : List Place). length l) (pages_append Data entries _ ∙ append-nil (pages_by Data entries))
 
-counts_data : (entries : List Entry) (at : Place) → data_pages (put entries at Data) ≡ data_pages entries + 1
+counts_data : (entries : List ImageEntry) (at : Place) → data_pages (put entries at Data) ≡ data_pages entries + 1
 counts_data entries at = ap (λ (l : List Place). length l) (pages_append Data entries _) ∙ length-append (pages_by Data entries) (at ∷ [])
 
 -- ---- what the catalog tells
@@ -138,14 +138,14 @@ source_table places catalog serial source at =
     (All-contains (λ (i : Opened). IsTable i.header i.spaces) (images places) at.opened at.are.tables at.among))
 
 first_of : ((l : List Listed) → Lists (entries_listed l) l) → (places : Places) (catalog : List Image) (source : Image) (old : Copying) (rest : List Place) (at : Place)
-    → IsSourceAt places catalog old.order.source.serial source → map rounds.place_of old.entries ++ rest ≡ listed_places source.spaces
+    → IsSourceAt places catalog old.order.source.serial source → map rounds.place_of_entry old.entries ++ rest ≡ listed_places source.spaces
     → IsNextPage places old.order.source.serial (cursor old) (Some at) → IsFirstOf rest at
 first_of lists places catalog source old rest at is all next =
     next_is_first source.header source.spaces old.entries rest at (source_table places catalog old.order.source.serial source is) (lists source.spaces) all
     (subst (λ (l : List Listed). IsNextOf l (cursor old) at) (sym is.told.spaces) (next.0 is.opened is.there))
 
 pub over_of : ((l : List Listed) → Lists (entries_listed l) l) → (places : Places) (catalog : List Image) (source : Image) (old : Copying) (rest : List Place)
-    → IsSourceAt places catalog old.order.source.serial source → map rounds.place_of old.entries ++ rest ≡ listed_places source.spaces
+    → IsSourceAt places catalog old.order.source.serial source → map rounds.place_of_entry old.entries ++ rest ≡ listed_places source.spaces
     → IsNextPage places old.order.source.serial (cursor old) None → rest ≡ []
 over_of lists places catalog source old rest is all next =
     none_is_over source.header source.spaces old.entries rest (source_table places catalog old.order.source.serial source is) (lists source.spaces) all
@@ -295,7 +295,7 @@ offsets slot offset other number e = cc
 no_zero : (slot offset : ℕ) → found.Data slot offset ≡ found.Zero → ⊥
 no_zero slot offset e = cc
 
-page_of_chain : (places : Places) (catalog : List Image) (page : Place) (slot offset : ℕ) (there : Found) → IsSound places → Agrees places catalog → HavePages catalog → there ≡ found.Data slot offset
+page_of_chain : (places : Places) (catalog : List Image) (page : Place) (slot offset : ℕ) (there : Found) → IsSoundCatalog places → Agrees places catalog → HavePages catalog → there ≡ found.Data slot offset
     → (i : Opened) (image : Image) → Contains (images places) i → Contains catalog image → IsToldAs i image → LiesAt places page there i → IsPageOf places catalog page slot offset image
 page_of_chain places catalog page slot offset there sound agrees pages e _ image among member told (LiesAt.by_data i place has is) =
     let listed = subst (λ (l : List Listed). slice_get (pages_of Data l) place ≡ Some page) (sym told.spaces) has in
@@ -369,7 +369,7 @@ over_after stage plan [] rest is = tt
 over_after stage plan (call ∷ calls) rest is = over_asked stage plan rest is
 
 -- what was read is what the source holds
-read_more : (stage : Stage) (catalog : List Image) (source : Image) (entries : List Entry) (taking : Option Place) (old : Option (List ℕ)) (made : Made)
+read_more : (stage : Stage) (catalog : List Image) (source : Image) (entries : List ImageEntry) (taking : Option Place) (old : Option (List ℕ)) (made : Made)
     → ((at : Place) (bytes : List ℕ) → taking ≡ Some at → old ≡ Some bytes → (length bytes ≡ 4096) × Holds catalog at.0 at.1 bytes source)
     → TellsIn stage catalog source taking made
     → (at : Place) (bytes : List ℕ) → taking ≡ Some at → read_after stage made old ≡ Some bytes → (length bytes ≡ 4096) × Holds catalog at.0 at.1 bytes source
@@ -417,7 +417,7 @@ places_long h before (s ∷ spaces) other are =
     ∙ omega (arith, one, places_long h s.space spaces other are.1)
     ∙ sym (sum_by-cons areas_count s spaces)
   where
-    one : length (map rounds.place_of (flat_map (run_entries s.space) s.runs)) ≡ areas_count s
+    one : length (map rounds.place_of_entry (flat_map (run_entries s.space) s.runs)) ≡ areas_count s
     one = ap (λ (l : List Place). length l) (runs_places s.space s.runs) ∙ length-map (flat_map run_pages s.runs) _
         ∙ ap (λ (l : List ℕ). length l) (covers h.kind s.areas s.runs other are.0.covers) ∙ areas_long s.areas
 
@@ -439,7 +439,7 @@ listed_long (s ∷ spaces) =
     ∙ omega (arith, one, listed_long spaces)
     ∙ sym (sum_by-cons own_count s spaces)
   where
-    one : length (map rounds.place_of (flat_map (run_entries s.space) s.runs)) ≡ own_count s
+    one : length (map rounds.place_of_entry (flat_map (run_entries s.space) s.runs)) ≡ own_count s
     one = ap (λ (l : List Place). length l) (runs_places s.space s.runs) ∙ length-map (flat_map run_pages s.runs) _ ∙ runs_long s.runs
 
 begins : (catalog : List Image) (source : Image) (order : CopyOrder) → IsTable source.header source.spaces → IsRestorable source
@@ -499,7 +499,7 @@ finds lists places catalog source pages copy is held was lost =
 
         listed_at : IsFirstOf was.rest at → Contains (listed_places source.spaces) at
         listed_at first = contains_in (listed_places source.spaces) at
-            (subst (λ (l : List Place). In l at) (ap (λ (l : List Place). map rounds.place_of copy.entries ++ l) (sym first.is) ∙ was.merging.all) (put_in (map rounds.place_of copy.entries) first.later))
+            (subst (λ (l : List Place). In l at) (ap (λ (l : List Place). map rounds.place_of_entry copy.entries ++ l) (sym first.is) ∙ was.merging.all) (put_in (map rounds.place_of_entry copy.entries) first.later))
 
 -- ---- other images
 

@@ -15,7 +15,7 @@ use Rattle.sd_image.specs.Words.{run_kind_number}
 use Rattle.sd_chain.specs.declared.way.Way.TheVariants as way
 use Rattle.sd_chain.specs.Passes.{IsBefore, IsBehind, IsFrom, IsListed, IsNextOf}
 use Rattle.sd_rounds.specs.Made.{Lists, entries_listed}
-use Rattle.sd_rounds.specs.Pass.{Entry, Place, has_kind, pages_by, place_of}
+use Rattle.sd_rounds.specs.Pass.{ImageEntry, Place, has_kind, pages_by, place_of_entry}
 use Rattle.sd_rounds.specs.Rises.{last_of}
 use Rattle.sd_merge.specs.Merging.{IsFirstOf, listed_places}
 use Rattle.sd_merge.proofs.TableLemmas.{in_space, places_cons, runs_places}
@@ -150,11 +150,11 @@ contains_in xs p is = by xs is
     by (x ∷ xs) (inl e) = (0, omega arith, e)
     by (x ∷ xs) (inr is) = let at = by xs is in (suc at.0, (let l : at.0 < length xs = at.1 in omega arith), at.2)
 
-pub in_filter : (f : Entry → Bool) (es : List Entry) (p : Place) → In (map place_of (filter f es)) p → In (map place_of es) p
+pub in_filter : (f : ImageEntry → Bool) (es : List ImageEntry) (p : Place) → In (map place_of_entry (filter f es)) p → In (map place_of_entry es) p
 in_filter f [] p is = absurd is
 in_filter f (e ∷ es) p is = by (f e) (in_filter f es p) is
   where
-    by : (b : Bool) → (In (map place_of (filter f es)) p → In (map place_of es) p) → In (map place_of (if b then e ∷ filter f es else filter f es)) p → In (map place_of (e ∷ es)) p
+    by : (b : Bool) → (In (map place_of_entry (filter f es)) p → In (map place_of_entry es) p) → In (map place_of_entry (if b then e ∷ filter f es else filter f es)) p → In (map place_of_entry (e ∷ es)) p
     by true more (inl same) = inl same
     by true more (inr there) = inr (more there)
     by false more there = inr (more there)
@@ -163,16 +163,16 @@ same_number : (n : ℕ) → nat_eq n n ≡ true
 same_number n = grind (arith, nat_tests)
 
 -- each place has a kind
-pub in_kind : (es : List Entry) (p : Place) → In (map place_of es) p → (kind : RunKind) × In (pages_by kind es) p
+pub in_kind : (es : List ImageEntry) (p : Place) → In (map place_of_entry es) p → (kind : RunKind) × In (pages_by kind es) p
 in_kind [] p is = absurd is
 in_kind (e ∷ es) p (inl same) = (e.kind, by (has_kind e.kind e) (same_number (run_kind_number e.kind)))
   where
-    by : (b : Bool) → b ≡ true → In (map place_of (if b then e ∷ filter (has_kind e.kind) es else filter (has_kind e.kind) es)) p
+    by : (b : Bool) → b ≡ true → In (map place_of_entry (if b then e ∷ filter (has_kind e.kind) es else filter (has_kind e.kind) es)) p
     by true is = inl same
     by false is = absurd (both_ways false refl is)
 in_kind (e ∷ es) p (inr there) = let k = in_kind es p there in (k.0, by k.0 (has_kind k.0 e) k.1)
   where
-    by : (kind : RunKind) (b : Bool) → In (pages_by kind es) p → In (map place_of (if b then e ∷ filter (has_kind kind) es else filter (has_kind kind) es)) p
+    by : (kind : RunKind) (b : Bool) → In (pages_by kind es) p → In (map place_of_entry (if b then e ∷ filter (has_kind kind) es else filter (has_kind kind) es)) p
     by kind true is = inr is
     by kind false is = is
 
@@ -195,7 +195,7 @@ abbrev last_place : Option Place → List Place → Option Place
 last_place before [] = before
 last_place before (p ∷ ps) = last_place (Some p) ps
 
-last_is : (before : Option Place) (entries : List Entry) → last_of before entries ≡ last_place before (map place_of entries)
+last_is : (before : Option Place) (entries : List ImageEntry) → last_of before entries ≡ last_place before (map place_of_entry entries)
 last_is before [] = refl
 last_is before (e ∷ entries) = last_is (Some e.place) entries
 
@@ -243,51 +243,51 @@ split_at_last a (d ∷ done) rest are = record {
   later = later_of a (d ∷ done) rest are;
 }
 
-splits : (h : Header) (spaces : List Listed) (entries : List Entry) (rest : List Place) → IsTable h spaces → map place_of entries ++ rest ≡ listed_places spaces → AreSplit (map place_of entries) rest
-splits h spaces entries rest table all = split_at_last (0 + 1, 0) (map place_of entries) rest (subst (Rising (0 + 1, 0)) (sym all) (spaces_rise h 0 spaces table.each))
+splits : (h : Header) (spaces : List Listed) (entries : List ImageEntry) (rest : List Place) → IsTable h spaces → map place_of_entry entries ++ rest ≡ listed_places spaces → AreSplit (map place_of_entry entries) rest
+splits h spaces entries rest table all = split_at_last (0 + 1, 0) (map place_of_entry entries) rest (subst (Rising (0 + 1, 0)) (sym all) (spaces_rise h 0 spaces table.each))
 
 -- The page that an image lists next behind those that were taken is the first of those to come.
-pub next_is_first : (h : Header) (spaces : List Listed) (entries : List Entry) (rest : List Place) (at : Place) → IsTable h spaces → Lists (entries_listed spaces) spaces
-    → map place_of entries ++ rest ≡ listed_places spaces → IsNextOf spaces (last_of None entries) at → IsFirstOf rest at
+pub next_is_first : (h : Header) (spaces : List Listed) (entries : List ImageEntry) (rest : List Place) (at : Place) → IsTable h spaces → Lists (entries_listed spaces) spaces
+    → map place_of_entry entries ++ rest ≡ listed_places spaces → IsNextOf spaces (last_of None entries) at → IsFirstOf rest at
 next_is_first h spaces entries rest at table lists all next = by rest refl (splits h spaces entries rest table all)
   where
-    cursor : last_of None entries ≡ last_place None (map place_of entries)
+    cursor : last_of None entries ≡ last_place None (map place_of_entry entries)
     cursor = last_is None entries
 
-    behind : IsBehind (last_place None (map place_of entries)) at
+    behind : IsBehind (last_place None (map place_of_entry entries)) at
     behind = subst (λ (o : Option Place). IsBehind o at) cursor next.behind
 
-    there : In (map place_of entries ++ rest) at
+    there : In (map place_of_entry entries ++ rest) at
     there = subst (λ (l : List Place). In l at) (sym all) (listed_in spaces lists at next.listed)
 
-    by : (rs : List Place) → rest ≡ rs → AreSplit (map place_of entries) rs → IsFirstOf rs at
+    by : (rs : List Place) → rest ≡ rs → AreSplit (map place_of_entry entries) rs → IsFirstOf rs at
     by [] e split =
-        elim (in_append (map place_of entries) [] at (subst (λ (l : List Place). In (map place_of entries ++ l) at) e there)) [
-          | inl done ↦ absurd (all_in (λ p. IsBehind (last_place None (map place_of entries)) p → ⊥) (map place_of entries) at split.taken done behind)
+        elim (in_append (map place_of_entry entries) [] at (subst (λ (l : List Place). In (map place_of_entry entries ++ l) at) e there)) [
+          | inl done ↦ absurd (all_in (λ p. IsBehind (last_place None (map place_of_entry entries)) p → ⊥) (map place_of_entry entries) at split.taken done behind)
           | inr none ↦ absurd none
         ]
     by (r ∷ rs) e split =
-        elim (in_append (map place_of entries) (r ∷ rs) at (subst (λ (l : List Place). In (map place_of entries ++ l) at) e there)) [
-          | inl done ↦ absurd (all_in (λ p. IsBehind (last_place None (map place_of entries)) p → ⊥) (map place_of entries) at split.taken done behind)
+        elim (in_append (map place_of_entry entries) (r ∷ rs) at (subst (λ (l : List Place). In (map place_of_entry entries ++ l) at) e there)) [
+          | inl done ↦ absurd (all_in (λ p. IsBehind (last_place None (map place_of_entry entries)) p → ⊥) (map place_of_entry entries) at split.taken done behind)
           | inr (inl same) ↦ record { later = rs; is = ap (λ (p : Place). p ∷ rs) same }
           | inr (inr later) ↦ absurd (next.first r (in_listed spaces lists r first) (subst (λ (o : Option Place). IsBehind o r) (sym cursor) split.behind.0)
               (all_in (IsBefore r) rs at split.later later))
         ]
       where
         first : In (listed_places spaces) r
-        first = subst (λ (l : List Place). In l r) all (put_in (map place_of entries) (subst (λ (l : List Place). In l r) (sym e) (inl refl)))
+        first = subst (λ (l : List Place). In l r) all (put_in (map place_of_entry entries) (subst (λ (l : List Place). In l r) (sym e) (inl refl)))
           where
             put_in : (xs : List Place) → In rest r → In (xs ++ rest) r
             put_in [] is = is
             put_in (x ∷ xs) is = inr (put_in xs is)
 
 -- Where it lists none there, none is to come.
-pub none_is_over : (h : Header) (spaces : List Listed) (entries : List Entry) (rest : List Place) → IsTable h spaces → Lists (entries_listed spaces) spaces
-    → map place_of entries ++ rest ≡ listed_places spaces → ((page : Place) → IsListed spaces page → IsBehind (last_of None entries) page → ⊥) → rest ≡ []
+pub none_is_over : (h : Header) (spaces : List Listed) (entries : List ImageEntry) (rest : List Place) → IsTable h spaces → Lists (entries_listed spaces) spaces
+    → map place_of_entry entries ++ rest ≡ listed_places spaces → ((page : Place) → IsListed spaces page → IsBehind (last_of None entries) page → ⊥) → rest ≡ []
 none_is_over h spaces entries [] table lists all none = refl
 none_is_over h spaces entries (r ∷ rs) table lists all none =
     let split = splits h spaces entries (r ∷ rs) table all in
-    absurd (none r (in_listed spaces lists r (subst (λ (l : List Place). In l r) all (put_in (map place_of entries))))
+    absurd (none r (in_listed spaces lists r (subst (λ (l : List Place). In l r) all (put_in (map place_of_entry entries))))
     (subst (λ (o : Option Place). IsBehind o r) (sym (last_is None entries)) split.behind.0))
   where
     put_in : (xs : List Place) → In (xs ++ r ∷ rs) r

@@ -8,7 +8,7 @@ use Rattle.sd_image.specs.Shows.{pages_of}
 use Rattle.sd_image.specs.Table.{IsTable}
 use Rattle.sd_chain.specs.declared.found.Found.{Found}
 use Rattle.sd_chain.specs.declared.found.Found.TheVariants as found
-use Rattle.sd_chain.specs.Catalog.{IsSound, Opened, Places, images, place_of}
+use Rattle.sd_chain.specs.Catalog.{IsSoundCatalog, Opened, Places, images, place_of}
 use Rattle.sd_chain.specs.Passes.{IsBehind, IsNextPage}
 use Rattle.sd_chain.specs.Ways.{AreImages, LiesAt, LiesBySerial}
 use Rattle.std.proofs.lemmas.Bool.{both_ways}
@@ -51,7 +51,7 @@ numbered_at few places are page slot offset there _ is member (LiesAt.by_zero i 
 numbered_at few places are page slot offset there _ is member (LiesAt.by_parent i parent has names lies) =
     numbered_at few places are page slot offset there parent is names.member lies
 
-numbered : FewPages → (places : Places) → IsSound places → AreImages places → (serial : ℕ) (page : ℕ × ℕ) (slot offset : ℕ) → LiesBySerial places serial page (found.Data slot offset) → HasNumber offset
+numbered : FewPages → (places : Places) → IsSoundCatalog places → AreImages places → (serial : ℕ) (page : ℕ × ℕ) (slot offset : ℕ) → LiesBySerial places serial page (found.Data slot offset) → HasNumber offset
 numbered few places sound are serial page slot offset lies =
     numbered_at few places are page slot offset (found.Data slot offset) lies.0 refl (sound.member serial lies.0 lies.1) lies.2
 
@@ -103,7 +103,7 @@ table_step ticket places old new (TableCall request) over is = (record { writes 
 table_step ticket places old new Zero over is = absurd is
 
 -- where the page lies, by the number of its data page
-pub placed : FewPages → (places : Places) → IsSound places → (old : Copying) (at : Place) (slot offset place : ℕ) → ((number : ℕ) → offset ≡ data_place number → place ≡ number)
+pub placed : FewPages → (places : Places) → IsSoundCatalog places → (old : Copying) (at : Place) (slot offset place : ℕ) → ((number : ℕ) → offset ≡ data_place number → place ≡ number)
     → IsNextPage places old.order.source.serial (cursor old) (Some at) → AreImages places → LiesBySerial places old.order.source.serial at (found.Data slot offset)
     → IsNextAt places old at (found.Data slot (data_place place))
 placed few places sound old at slot offset place own next are lies =
@@ -141,7 +141,7 @@ lost_chain places old at stage free next none = record {
 }
 
 -- a page of the catalog is never beyond the numbers that a data page has
-pub never_beyond : FewPages → (places : Places) → IsSound places → (old : Copying) (at : Place) (slot offset place : ℕ) → old.stage ≡ PassStage → old.taking ≡ None
+pub never_beyond : FewPages → (places : Places) → IsSoundCatalog places → (old : Copying) (at : Place) (slot offset place : ℕ) → old.stage ≡ PassStage → old.taking ≡ None
     → ((number : ℕ) → offset ≡ data_place number → place ≡ number)
     → (AreImages places → LiesBySerial places old.order.source.serial at (found.Data slot offset)) → 2 ^ 39 ≤ place → IsLost places old
 never_beyond few places sound old at slot offset place stage free own lies beyond = record {

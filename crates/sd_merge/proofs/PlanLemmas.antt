@@ -8,11 +8,11 @@ use Rattle.sd_image.specs.Table.{Listed, table_text}
 use Rattle.sd_image.specs.Words.{number_bytes}
 use Rattle.sd_gate.specs.PlanUse.{IsUnderWay}
 use Rattle.sd_gate.proofs.UseLemmas.{body_under_way}
-use Rattle.sd_rounds.specs.Pass.{Entry, Place}
+use Rattle.sd_rounds.specs.Pass.{ImageEntry, Place}
 use Rattle.sd_merge.specs.declared.copy_order.CopyOrder.{CopyOrder}
 use Rattle.sd_merge.specs.declared.stage.Stage.{Stage}
 use Rattle.sd_merge.specs.declared.stage.Stage.TheVariants.{Pass as PassStage}
-use Rattle.sd_merge.specs.Copying.{IsFree, IsFreeOrRead, IsReadyFor, header_of}
+use Rattle.sd_merge.specs.Copying.{IsFreeOrRead, IsReadyFor, TakesNoPage, header_of}
 
 -- a table's text has bytes
 table_is_long : (spaces : List Listed) → 0 < length (table_text spaces)
@@ -31,7 +31,7 @@ pub closes_under_way : (slot : ℕ) (header : Header) (text : List ℕ) (plan : 
 closes_under_way slot header text plan is = subst (λ (p : Planned). IsUnderWay p) (sym is) (body_under_way slot header text)
 
 -- in the pass, where no page is being taken, none was read
-pub free_in_pass : (entries : List Entry) (taking : Option Place) (read : Option (List ℕ)) (stage : Stage) → stage ≡ PassStage → taking ≡ None → IsReadyFor entries taking read stage → IsFree taking read
+pub free_in_pass : (entries : List ImageEntry) (taking : Option Place) (read : Option (List ℕ)) (stage : Stage) → stage ≡ PassStage → taking ≡ None → IsReadyFor entries taking read stage → TakesNoPage taking read
 free_in_pass entries taking read stage pass none ready = record {
   taking = none;
   read = subst (λ (t : Option Place). IsFreeOrRead entries t read) none (subst (λ (s : Stage). IsReadyFor entries taking read s) pass ready);

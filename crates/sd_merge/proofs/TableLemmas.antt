@@ -15,7 +15,7 @@ use Rattle.sd_image.specs.declared.run.RunKind.TheVariants.{Data}
 use Rattle.sd_image.specs.Shows.{pages_of}
 use Rattle.sd_image.specs.Table.{AreRuns, AreSpaces, Covers, IsSpace, Listed, data_count, is_data, is_run_after, mapped_count, run_pages}
 use Rattle.sd_rounds.specs.Made.{Lists, entries_listed, run_entries}
-use Rattle.sd_rounds.specs.Pass.{Entry, Place, place_of}
+use Rattle.sd_rounds.specs.Pass.{ImageEntry, Place, place_of_entry}
 use Rattle.sd_merge.specs.Gathered.{AreGathered, IsGathered, IsTableOf, RepeatsTable, behind_space, front_runs, own_areas, tables_of}
 use Rattle.sd_merge.proofs.GatheredLemmas.{table_entries}
 
@@ -52,23 +52,23 @@ pages_counted (s ∷ spaces) =
 -- ---- the places of a space
 
 abbrev places : List Listed → List Place
-places tables = map place_of (entries_listed tables)
+places tables = map place_of_entry (entries_listed tables)
 
 abbrev table_places : Listed → List Place
-table_places t = map place_of (table_entries t)
+table_places t = map place_of_entry (table_entries t)
 
 pub places_cons : (t : Listed) (tables : List Listed) → places (t ∷ tables) ≡ table_places t ++ places tables
-places_cons t tables = map-append place_of (table_entries t) (entries_listed tables)
+places_cons t tables = map-append place_of_entry (table_entries t) (entries_listed tables)
 
-run_places : (space : ℕ) (kind : _) (pages : List ℕ) → map place_of (map (λ page. record { place = (space, page); kind = kind }) pages) ≡ map (in_space space) pages
+run_places : (space : ℕ) (kind : _) (pages : List ℕ) → map place_of_entry (map (λ page. record { place = (space, page); kind = kind }) pages) ≡ map (in_space space) pages
 run_places space kind [] = refl
 run_places space kind (page ∷ pages) = ap (λ (l : List Place). (space, page) ∷ l) (run_places space kind pages)
 
-pub runs_places : (space : ℕ) (runs : List Run) → map place_of (flat_map (run_entries space) runs) ≡ map (in_space space) (flat_map run_pages runs)
+pub runs_places : (space : ℕ) (runs : List Run) → map place_of_entry (flat_map (run_entries space) runs) ≡ map (in_space space) (flat_map run_pages runs)
 runs_places space [] = refl
 runs_places space (run ∷ runs) =
-    map-append place_of (run_entries space run) (flat_map (run_entries space) runs)
-    ∙ ap (λ (l : List Place). l ++ map place_of (flat_map (run_entries space) runs)) (run_places space run.kind (run_pages run))
+    map-append place_of_entry (run_entries space run) (flat_map (run_entries space) runs)
+    ∙ ap (λ (l : List Place). l ++ map place_of_entry (flat_map (run_entries space) runs)) (run_places space run.kind (run_pages run))
     ∙ ap (λ (l : List Place). map (in_space space) (run_pages run) ++ l) (runs_places space runs)
     ∙ sym (map-append (in_space space) (run_pages run) (flat_map run_pages runs))
 
@@ -183,11 +183,11 @@ other_space old h before s runs other kind parent is are same = record {
   covers = subst (λ k. Covers k s.areas runs) (sym kind) (same ∙ covers old.kind s.areas s.runs other is.covers);
 }
 
-no_entries : (entries : List Entry) → map place_of entries ≡ [] → entries ≡ []
+no_entries : (entries : List ImageEntry) → map place_of_entry entries ≡ [] → entries ≡ []
 no_entries [] e = refl
-no_entries (x ∷ entries) e = absurd (let f : suc (length (map place_of entries)) ≡ 0 = ap (λ (l : List Place). length l) e in omega arith)
+no_entries (x ∷ entries) e = absurd (let f : suc (length (map place_of_entry entries)) ≡ 0 = ap (λ (l : List Place). length l) e in omega arith)
 
-no_pages : (space : ℕ) (runs : List Run) → map place_of (flat_map (run_entries space) runs) ≡ [] → [] ≡ flat_map run_pages runs
+no_pages : (space : ℕ) (runs : List Run) → map place_of_entry (flat_map (run_entries space) runs) ≡ [] → [] ≡ flat_map run_pages runs
 no_pages space runs e = same_pages space [] (flat_map run_pages runs) (sym (sym (runs_places space runs) ∙ e))
 
 none_before : (xs ys : List Place) → xs ++ ys ≡ [] → (xs ≡ []) × (ys ≡ [])
@@ -262,10 +262,10 @@ joined old h before least (s ∷ source) (t ∷ taken) other kind parent are gat
         (above_gathered s.space (t.space + 1) taken gathered.1 (omega arith)) (above_spaces old s.space s.space source are.1 (omega arith)) all in
         let rest = one both.1 in
         let pages : flat_map run_pages t.runs ≡ flat_map run_pages s.runs = same_pages s.space (flat_map run_pages t.runs) (flat_map run_pages s.runs)
-        (sym (runs_places s.space t.runs) ∙ ap (λ n. map place_of (flat_map (run_entries n) t.runs)) (sym here) ∙ both.0 ∙ runs_places s.space s.runs) in
+        (sym (runs_places s.space t.runs) ∙ ap (λ n. map place_of_entry (flat_map (run_entries n) t.runs)) (sym here) ∙ both.0 ∙ runs_places s.space s.runs) in
         record {
           entries = ap (λ n. flat_map (run_entries n) t.runs ++ entries_listed (tables_of source taken)) (sym here)
-              ∙ ap (λ (l : List Entry). table_entries t ++ l) rest.entries;
+              ∙ ap (λ (l : List ImageEntry). table_entries t ++ l) rest.entries;
           spaces = (other_space old h before s t.runs other kind parent are.0 gathered.0.runs pages, rest.spaces);
         }
     by false e one other_one =
@@ -301,7 +301,7 @@ pub table_of : (source taken tables : List Listed) → ((l : List Listed) → Li
 table_of source taken tables law gathered is = λ old header table other same kind parent pages.
     subst (λ (l : List Listed). RepeatsTable source (entries_listed taken) header l) (sym is)
     (let all = joined old header 0 0 source taken other kind parent table.each gathered same in
-    let lists : Lists (entries_listed taken) (tables_of source taken) = subst (λ (e : List Entry). Lists e (tables_of source taken)) all.entries (law (tables_of source taken)) in
+    let lists : Lists (entries_listed taken) (tables_of source taken) = subst (λ (e : List ImageEntry). Lists e (tables_of source taken)) all.entries (law (tables_of source taken)) in
     record {
       table = record {
         lists = lists;

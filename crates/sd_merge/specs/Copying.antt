@@ -25,7 +25,7 @@ use Rattle.sd_gate.specs.PlanUse.{IsAskedBy, IsUnderWay, outcomes_of}
 use Rattle.sd_gate.specs.Requests.{Asked, Made}
 use Rattle.sd_gate.specs.Sequences.{Calls, body_calls, data_place, format_calls}
 use Rattle.sd_rounds.specs.declared.new_image.NewImage.{NewImage}
-use Rattle.sd_rounds.specs.Pass.{Entry, Place, data_pages}
+use Rattle.sd_rounds.specs.Pass.{ImageEntry, Place, data_pages}
 use Rattle.sd_rounds.specs.Rises.{last_of}
 use Rattle.sd_merge.specs.declared.copy_order.CopyOrder.{CopyOrder}
 use Rattle.sd_merge.specs.declared.copy_progress.CopyProgress.{CopyProgress}
@@ -41,7 +41,7 @@ use Rattle.sd_merge.specs.Sources.{few_pages}
 pub record Copying : Type 0 where
   pub order : CopyOrder
   -- the pages that were taken
-  pub entries : List Entry
+  pub entries : List ImageEntry
   -- how many are left, without the one that is being taken
   pub ahead : ℕ
   -- the page that is being taken, and its bytes once they were read
@@ -246,7 +246,7 @@ IsClosing (PageRead plan) = ⊥
 IsClosing (PageWrite plan) = ⊥
 IsClosing (Close plan header tables) = Unit {0}
 
-pub record GoesOn (old : Copying) (made : Made) (new : Copying) : Type 0 where
+pub record PlanGoesOn (old : Copying) (made : Made) (new : Copying) : Type 0 where
   pub plan : Planned
   pub awaited : IsAwaited old made plan
   pub done : is_done made.answer ≡ true
@@ -278,7 +278,7 @@ pub record Opens (old : Copying) (made : Made) (image : NewImage) : Type 0 where
 abbrev pub HandsIn : Copying → Made → CopyProgress → Copying → Type 0
 HandsIn old made progress.Strange new = (out_of old.stage ≢ Some made.request.id) × (new ≡ old)
 HandsIn old made progress.Failed new = Fails old made
-HandsIn old made progress.More new = GoesOn old made new
+HandsIn old made progress.More new = PlanGoesOn old made new
 HandsIn old made (progress.Opened image) new = Opens old made image
 
 -- ---- What holds of every merged image in the making
@@ -294,27 +294,27 @@ pub record IsReading (plan : Planned) : Type 0 where
   pub fresh : plan.found ≡ nothing_back
 
 -- a page that is being taken is behind the others
-abbrev pub IsTaken : List Entry → Option Place → Type 0
+abbrev pub IsTaken : List ImageEntry → Option Place → Type 0
 IsTaken entries None = ⊥
 IsTaken entries (Some at) = IsBehind (last_of None entries) at
 
 -- a page was read, or none is being taken
-abbrev pub IsFreeOrRead : List Entry → Option Place → Option (List ℕ) → Type 0
+abbrev pub IsFreeOrRead : List ImageEntry → Option Place → Option (List ℕ) → Type 0
 IsFreeOrRead entries None read = read ≡ None
 IsFreeOrRead entries (Some at) read = IsBehind (last_of None entries) at × IsSome read
 
 -- no page is being taken
-pub record IsFree (page : Option Place) (bytes : Option (List ℕ)) : Type 0 where
+pub record TakesNoPage (page : Option Place) (bytes : Option (List ℕ)) : Type 0 where
   pub taking : page ≡ None
   pub read : bytes ≡ None
 
-abbrev pub IsReadyFor : List Entry → Option Place → Option (List ℕ) → Stage → Type 0
-IsReadyFor entries taking read (Format plan) = (entries ≡ []) × IsFree taking read × IsUnderWay plan
+abbrev pub IsReadyFor : List ImageEntry → Option Place → Option (List ℕ) → Stage → Type 0
+IsReadyFor entries taking read (Format plan) = (entries ≡ []) × TakesNoPage taking read × IsUnderWay plan
 IsReadyFor entries taking read PassStage = IsFreeOrRead entries taking read
 IsReadyFor entries taking read (PageRead plan) = IsTaken entries taking × (read ≡ None) × IsReading plan
-IsReadyFor entries taking read (PageWrite plan) = IsFree taking read × IsUnderWay plan
+IsReadyFor entries taking read (PageWrite plan) = TakesNoPage taking read × IsUnderWay plan
 IsReadyFor entries taking read (Close plan header tables) =
-    IsFree taking read × (header.pages ≡ data_pages entries) × IsUnderWay plan
+    TakesNoPage taking read × (header.pages ≡ data_pages entries) × IsUnderWay plan
 
 -- a page that is being taken counts
 abbrev pub is_taking : Option Place → ℕ
@@ -330,7 +330,7 @@ IsOwnPlan slot (PageWrite plan) = plan.slot ≡ slot
 IsOwnPlan slot (Close plan header tables) = plan.slot ≡ slot
 
 -- it counts its data pages, and they, the page that is being taken and those that are left are few
-pub record IsCopying (slot : ℕ) (entries : List Entry) (stored ahead : ℕ) (taking : Option Place)
+pub record IsCopying (slot : ℕ) (entries : List ImageEntry) (stored ahead : ℕ) (taking : Option Place)
     (read : Option (List ℕ)) (stage : Stage) : Type 0 where
   pub counted : stored ≡ data_pages entries
   pub few : stored + is_taking taking + ahead ≤ 65536

@@ -12,7 +12,7 @@ use Rattle.sd_gate.specs.Plans.{Planned}
 use Rattle.sd_gate.specs.Requests.{Asked, Made}
 use Rattle.sd_rounds.specs.Files.{file_of}
 use Rattle.sd_rounds.specs.MakingLaws.{Pages, image_of}
-use Rattle.sd_rounds.specs.Pass.{Entry, data_pages}
+use Rattle.sd_rounds.specs.Pass.{ImageEntry, data_pages}
 use Rattle.sd_store_laws.specs.Makers.{IsMergedOf}
 use Rattle.sd_store_laws.specs.Store.{IsTwin}
 use Rattle.sd_merge.specs.declared.copy_order.CopyOrder.{CopyOrder}
@@ -37,13 +37,13 @@ pub record HasItsNumbers (order : CopyOrder) (source : Image) : Type 0 where
 
 -- The file of a merged image whose table is written: it is the image with these data pages, which has the order's
 -- numbers, exactly the pages that were taken, and the areas of its source.
-pub record IsFiled (order : CopyOrder) (source : Image) (entries : List Entry) (pages : Pages) (header : Header)
+pub record IsFiled (order : CopyOrder) (source : Image) (entries : List ImageEntry) (pages : Pages) (header : Header)
     (tables : List Listed) : Type 0 where
   pub spelled : IsImage (file_of (image_of header pages tables)) (image_of header pages tables)
   pub numbers : header ≡ header_of order (data_pages entries) (length (table_text tables)) header.digest
   pub table : RepeatsTable source.spaces entries header tables
 
-abbrev pub IsFiledIn : Stage → CopyOrder → Image → List Entry → Pages → Type 0
+abbrev pub IsFiledIn : Stage → CopyOrder → Image → List ImageEntry → Pages → Type 0
 IsFiledIn (Format plan) order source entries pages = Unit {0}
 IsFiledIn PassStage order source entries pages = Unit {0}
 IsFiledIn (PageRead plan) order source entries pages = Unit {0}
@@ -61,7 +61,7 @@ pub record FileLaws : Type 0 where
       → IsRestorable source → AreItsNumbers old.order
       → KeepsCopy catalog source pages old → FilesCopy source pages new
   -- the calls that wrote the data pages, and those that write the table and the header, spell that file
-  pub fills : (order : CopyOrder) (source : Image) (entries : List Entry) (pages : Pages) (header : Header)
+  pub fills : (order : CopyOrder) (source : Image) (entries : List ImageEntry) (pages : Pages) (header : Header)
       (tables : List Listed) → IsFiled order source entries pages header tables
       → body_closed (pages_body pages) header (table_text tables) ≡ image_text (image_of header pages tables)
   -- it stays so until the image is open

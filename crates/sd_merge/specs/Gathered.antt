@@ -10,7 +10,7 @@ use Rattle.sd_image.specs.Runs.{AreRunsOf, end_of}
 use Rattle.sd_image.specs.Table.{AreRuns, IsTable, Listed}
 use Rattle.sd_rounds.specs.Made.{entries_listed}
 use Rattle.sd_rounds.specs.Making.{TablesEntries}
-use Rattle.sd_rounds.specs.Pass.{Entry, Place, data_pages, place_of}
+use Rattle.sd_rounds.specs.Pass.{ImageEntry, Place, data_pages, place_of_entry}
 use Rattle.sd_rounds.specs.Rises.{last_of}
 use Rattle.sd_rounds.specs.Tables.{EndBefore, entries_in, listed}
 
@@ -43,7 +43,7 @@ pub record IsPut (old new : List Listed) (at : Place) (kind : RunKind) : Type 0 
   pub ends : EndBefore (at.0, at.1 + 1) new
 
 -- a space with one page was put behind the others
-pub record IsBegun (old new : List SpaceTable) (at : Place) (kind : RunKind) : Type 0 where
+pub record SpaceIsBegun (old new : List SpaceTable) (at : Place) (kind : RunKind) : Type 0 where
   pub table : SpaceTable
   pub behind : new ≡ old ++ table ∷ []
   pub space : table.space ≡ at.0
@@ -73,13 +73,13 @@ abbrev pub own_areas : Listed → ℕ × List Area
 own_areas s = (s.space, s.areas)
 
 -- Where these are all pages of a source, in its order, they make a table of a merged image, with the source's areas.
-pub record RepeatsTable (source : List Listed) (entries : List Entry) (header : Header)
+pub record RepeatsTable (source : List Listed) (entries : List ImageEntry) (header : Header)
     (tables : List Listed) : Type 0 where
   pub table : TablesEntries entries header tables
   pub areas : map own_areas tables ≡ map own_areas source
 
-abbrev pub IsTableOf : List Listed → List Entry → List Listed → Type 0
+abbrev pub IsTableOf : List Listed → List ImageEntry → List Listed → Type 0
 IsTableOf source entries tables = (old header : Header) → IsTable old source → old.kind ≢ PreDump
-    → map place_of entries ≡ map place_of (entries_listed source)
+    → map place_of_entry entries ≡ map place_of_entry (entries_listed source)
     → header.kind ≡ Merged → header.parent ≡ 0 → header.pages ≡ data_pages entries
     → RepeatsTable source entries header tables

@@ -11,7 +11,7 @@ use Rattle.sd_merge.specs.declared.stage.Stage.{Stage}
 use Rattle.sd_merge.specs.declared.stage.Stage.TheVariants.{Format, Pass as PassStage, PageRead, PageWrite, Close}
 use Rattle.sd_merge.specs.Copying.{Copying, is_taking}
 use Rattle.sd_merge.specs.Sources.{few_pages}
-use Rattle.sd_merge.specs.Merger.{AreRunning, Doing, Hands, Retires, Retiring, Running, Works, due, copying, opened}
+use Rattle.sd_merge.specs.Merger.{AreRunning, Doing, Hands, TakesList, Retiring, Running, Works, due, copying, opened}
 use Rattle.sd_merge.specs.Merger.{retiring, is_strange}
 
 -- what the pages that are ahead, the one that is being taken, and the five calls that close the body come to: a page is
@@ -58,5 +58,5 @@ pub record LeftLaws : Type 0 where
       → Hands old made done new → is_strange done ≡ false
       → AreRunning old → left_of new < left_of old
   pub retires : (running : Running) (list : List Retired) (done : MergeProgress) (new : Option Running)
-      → Retires (Some running) list done new → is_strange done ≡ false
+      → TakesList (Some running) list done new → is_strange done ≡ false
       → length list ≤ length running.before → left_of new < left_of (Some running)

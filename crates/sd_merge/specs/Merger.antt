@@ -203,13 +203,13 @@ pub record EndsAll (old : Retiring) (serial : ℕ) : Type 0 where
   pub number : serial ≡ old.serial
 
 -- behind the last call on an image
-abbrev pub Ends : Retiring → MergeProgress → Retiring → Type 0
-Ends old progress.Strange new = ⊥
-Ends old progress.Failed new = ⊥
-Ends old progress.More new = EndsOne old new
-Ends old (progress.Opened one) new = ⊥
-Ends old (progress.Closed one) new = ⊥
-Ends old (progress.Merged serial) new = EndsAll old serial
+abbrev pub EndsRetiring : Retiring → MergeProgress → Retiring → Type 0
+EndsRetiring old progress.Strange new = ⊥
+EndsRetiring old progress.Failed new = ⊥
+EndsRetiring old progress.More new = EndsOne old new
+EndsRetiring old (progress.Opened one) new = ⊥
+EndsRetiring old (progress.Closed one) new = ⊥
+EndsRetiring old (progress.Merged serial) new = EndsAll old serial
 
 -- the last call on an image was done
 pub record IsLastOf (old : Retiring) (made : Made) : Type 0 where
@@ -340,13 +340,13 @@ pub record EndsAtOnce (old : Option Running) (list : List Retired) (serial : ℕ
   pub none : list ≡ []
   pub is : new ≡ None
 
-abbrev pub Retires : Option Running → List Retired → MergeProgress → Option Running → Type 0
-Retires old list progress.Strange new = (awaited old ≡ None) × (new ≡ old)
-Retires old list progress.Failed new = ⊥
-Retires old list progress.More new = BeginsList old list new
-Retires old list (progress.Opened one) new = ⊥
-Retires old list (progress.Closed one) new = ⊥
-Retires old list (progress.Merged serial) new = EndsAtOnce old list serial new
+abbrev pub TakesList : Option Running → List Retired → MergeProgress → Option Running → Type 0
+TakesList old list progress.Strange new = (awaited old ≡ None) × (new ≡ old)
+TakesList old list progress.Failed new = ⊥
+TakesList old list progress.More new = BeginsList old list new
+TakesList old list (progress.Opened one) new = ⊥
+TakesList old list (progress.Closed one) new = ⊥
+TakesList old list (progress.Merged serial) new = EndsAtOnce old list serial new
 
 -- the images of the list, also those that are closed by now
 abbrev pub list_in : Doing → List Retired

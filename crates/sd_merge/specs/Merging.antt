@@ -8,7 +8,7 @@ use Rattle.sd_image.specs.Image.{Image}
 use Rattle.sd_image.specs.Laws.{SerialsDiffer}
 use Rattle.sd_image.specs.Shows.{Holds, IsRestorable}
 use Rattle.sd_image.specs.Table.{IsTable, Listed}
-use Rattle.sd_chain.specs.Catalog.{IsSound, Opened, Places, images, place_of}
+use Rattle.sd_chain.specs.Catalog.{IsSoundCatalog, Opened, Places, images, place_of}
 use Rattle.sd_chain.specs.Tells.{Agrees, HavePages, IsToldAs}
 use Rattle.sd_chain.specs.Ways.{AreImages}
 use Rattle.sd_gate.specs.declared.call.Call.TheVariants.{Read}
@@ -18,7 +18,7 @@ use Rattle.sd_rounds.specs.Keeps.{Stored}
 use Rattle.sd_rounds.specs.Made.{entries_listed, listed_pages}
 use Rattle.sd_rounds.specs.MakingLaws.{Pages}
 use Rattle.sd_rounds.specs.Pass as rounds
-use Rattle.sd_rounds.specs.Pass.{Entry, Place, data_pages, pages_by}
+use Rattle.sd_rounds.specs.Pass.{ImageEntry, Place, data_pages, pages_by}
 use Rattle.sd_store_laws.specs.Cut.{IsCut, KeepsItsNumber}
 use Rattle.sd_store_laws.specs.Needed.{IsCalled}
 use Rattle.sd_store_laws.specs.Reached.{Reaches}
@@ -33,20 +33,20 @@ use Rattle.sd_merge.specs.Sources.{few_pages, listed_count}
 
 -- the pages of an image, in its order
 abbrev pub listed_places : List Listed → List Place
-listed_places spaces = map rounds.place_of (entries_listed spaces)
+listed_places spaces = map rounds.place_of_entry (entries_listed spaces)
 
 -- Each entry is zeros that the source holds there, or a data page whose bytes, once its write is done, are those that
 -- the source holds there.
-pub record IsCopy (catalog : List Image) (source : Image) (stored : Stored) (entries : List Entry) : Type 0 where
+pub record IsCopy (catalog : List Image) (source : Image) (stored : Stored) (entries : List ImageEntry) : Type 0 where
   pub zero : (at : Place) → Contains (pages_by Zero entries) at → Holds catalog at.0 at.1 (replicate 4096 0) source
   pub pages : (place : ℕ) (at : Place) → slice_get (pages_by Data entries) place ≡ Some at
       → (bytes : List ℕ) × (stored place ≡ Some bytes) × Holds catalog at.0 at.1 bytes source
   pub none : pages_by Parent entries ≡ []
 
 -- the entries so far are the source's first pages, and the rest are to come
-pub record IsMerging (catalog : List Image) (source : Image) (stored : Stored) (entries : List Entry)
+pub record IsMerging (catalog : List Image) (source : Image) (stored : Stored) (entries : List ImageEntry)
     (rest : List Place) : Type 0 where
-  pub all : map rounds.place_of entries ++ rest ≡ listed_places source.spaces
+  pub all : map rounds.place_of_entry entries ++ rest ≡ listed_places source.spaces
   pub copy : IsCopy catalog source stored entries
 
 -- a page is the first of these
@@ -86,7 +86,7 @@ pages_after step.Zero pages = pages
 
 -- the source is the image of a serial in the catalog, which has these images
 pub record IsSourceAt (places : Places) (catalog : List Image) (serial : ℕ) (source : Image) : Type 0 where
-  pub sound : IsSound places
+  pub sound : IsSoundCatalog places
   pub are : AreImages places
   pub agrees : Agrees places catalog
   pub pages : HavePages catalog

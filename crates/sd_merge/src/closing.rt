@@ -1,7 +1,7 @@
 //! The images of a merge's list are closed, one after the other.
 ghost use Rattle.std.specs.Prelude.{◌≡◌, ◌<◌, length};
 ghost use Rattle.sd_gate.specs.PlanUse.{plan_left, IsUnderWay};
-ghost use Rattle.sd_merge.specs.Merger.{Ends, HandsClosing, retiring_of};
+ghost use Rattle.sd_merge.specs.Merger.{EndsRetiring, HandsClosing, retiring_of};
 ghost use Rattle.sd_merge.specs.Left.{retiring_left};
 
 use crate::merge_progress::MergeProgress;
@@ -53,7 +53,7 @@ impl Closing {
     /// An image is cut to one byte: the next of the list is begun.
     fn end_one(&mut self) -> MergeProgress
         requires some { self.old.ended < length self.old.list.items }
-        ensures { Ends (retiring_of self.old) result (retiring_of self.new) }
+        ensures { EndsRetiring (retiring_of self.old) result (retiring_of self.new) }
     {
         let next = self.ended + 1;
         let Some(image) = self.list.get(next) else {

@@ -23,11 +23,11 @@ pub struct Copies {
 
 impl Model for Copies {
     ghost use Rattle.std.specs.Prelude.{List};
-    ghost use Rattle.sd_rounds.specs.Pass.{Entry};
+    ghost use Rattle.sd_rounds.specs.Pass.{ImageEntry};
     ghost use Rattle.sd_rounds.specs.Tables.{entries_in};
     ghost use Rattle.sd_merge.specs.Gathered.{AreCopies};
 
-    ghost Value = { List Entry };
+    ghost Value = { List ImageEntry };
 
     ghost view = { λ c. entries_in c.spaces.items };
 

@@ -2,7 +2,7 @@
 ghost use Rattle.std.specs.Prelude.{◌≡◌, ◌≢◌, OnOk, OnErr, IfOk};
 ghost use Rattle.sd_image.specs.declared.run.RunKind.TheVariants.{Parent};
 ghost use Rattle.sd_rounds.specs.Tables.{EndBefore, listed};
-ghost use Rattle.sd_merge.specs.Gathered.{AreGathered, IsBegun, IsPut, behind_space, front_runs, tables_of};
+ghost use Rattle.sd_merge.specs.Gathered.{AreGathered, IsPut, SpaceIsBegun, behind_space, front_runs, tables_of};
 
 use sd_areas::{PageNo, SpaceId};
 use sd_image::{Run, RunKind, SpaceTable, Table, push_page};
@@ -47,7 +47,7 @@ fn begin_space(
     kind: RunKind,
 ) -> Result<(), AllocError>
     requires own { kind ≢ Parent }
-    ensures begun { OnOk result (IsBegun spaces.old.items spaces.new.items (space, page) kind) }
+    ensures begun { OnOk result (SpaceIsBegun spaces.old.items spaces.new.items (space, page) kind) }
     ensures err { OnErr result (listed spaces.new.items ≡ listed spaces.old.items) }
 {
     let mut runs = Vec::new(alloc);

@@ -3,7 +3,7 @@ ghost use Rattle.std.specs.Prelude.{◌≡◌, ◌↔◌, Err, None, Some, IsSom
 ghost use Rattle.std.specs.Option.{option_map};
 ghost use Rattle.sd_merge.specs.declared.work_error.WorkError.TheVariants.{Busy, Idle, Lost, OutOfMemory};
 ghost use Rattle.sd_merge.specs.Left.{left_of};
-ghost use Rattle.sd_merge.specs.Merger.{AreRunning, Hands, HasSoundCopy, IsBusy, Loses, Passes, Retires, Works};
+ghost use Rattle.sd_merge.specs.Merger.{AreRunning, Hands, HasSoundCopy, IsBusy, Loses, Passes, TakesList, Works};
 ghost use Rattle.sd_merge.specs.Merger.{before_of, begun_merge, ends, list_of, slot_before, slot_of, source_of};
 
 use crate::closing::Closing;
@@ -188,7 +188,7 @@ impl Merger {
     /// Takes the list of the images to close, rising by slot, once the merged image is open. Where the list is empty
     /// the merge has ended.
     pub fn retire(&mut self, list: Vec<Retired>) -> MergeProgress
-        ensures { Retires self.old list.items result self.new }
+        ensures { TakesList self.old list.items result self.new }
     {
         let Some(merge) = &mut self.merge else {
             return MergeProgress::Strange;

@@ -12,11 +12,11 @@ use Rattle.sd_image.specs.Reading.{header_in}
 use Rattle.sd_gate.specs.declared.phase.Phase.{Phase}
 use Rattle.sd_gate.specs.declared.phase.Phase.TheVariants.{Raw, Whole, Shut}
 use Rattle.sd_gate.specs.Laws.{found_phase, phase_found, phase_told}
-use Rattle.sd_gate.specs.Looks.{HasNoHeader, IsFound, first_of, table_of, HasHeader as LooksHeader}
+use Rattle.sd_gate.specs.Looks.{HasNoHeader, IsFound, front_of_file, table_of_file, ReadsHeader as LooksHeader}
 use Rattle.sd_gate.specs.Plans.{Back}
 use Rattle.sd_restore.specs.Faulty.{IsFaulty}
 use Rattle.sd_restore.specs.Reading.{HasHeader}
-use Rattle.sd_opener.specs.Sees.{HasEnded}
+use Rattle.sd_opener.specs.Sees.{InspectionHasEnded}
 
 -- a file in phase Whole has a header behind an open gate
 pub record IsWhole (file : List ℕ) : Type 0 where
@@ -57,17 +57,17 @@ closed_so file other = elim (cases_lt (length file) 4096) [
     found_whole : (f : List ℕ) → 4096 ≤ length f → slice_index f 0 ≡ gate → found_phase f ≡ Whole
     found_whole f long is = grind (arith, nat_tests)
 
-first_gate : (file : List ℕ) → 4096 ≤ length file → slice_index (first_of file) 0 ≡ slice_index file 0
+first_gate : (file : List ℕ) → 4096 ≤ length file → slice_index (front_of_file file) 0 ≡ slice_index file 0
 first_gate [] long = absurd (omega (arith, long))
 first_gate (x ∷ file) long = refl
 
-first_length : (file : List ℕ) → 4096 ≤ length file → length (first_of file) ≡ 4096
+first_length : (file : List ℕ) → 4096 ≤ length file → length (front_of_file file) ≡ 4096
 first_length file long = length-slice 0 4096 file long
 
 -- what came back of an open file: its length, and its first bytes
 module _ (file : List ℕ) (found : Back) (is : IsFound file found) (whole : IsWhole file) where
-  pub its_first : (first : List ℕ) → found.first ≡ Some first → first ≡ first_of file
-  its_first first told = same_Some first (first_of file) (sym told ∙ is.first whole.long)
+  pub its_first : (first : List ℕ) → found.first ≡ Some first → first ≡ front_of_file file
+  its_first first told = same_Some first (front_of_file file) (sym told ∙ is.first whole.long)
 
   pub first_is_whole : (first : List ℕ) → found.first ≡ Some first → length first ≡ 4096
   first_is_whole first told = ap length (its_first first told) ∙ first_length file whole.long
@@ -75,14 +75,14 @@ module _ (file : List ℕ) (found : Back) (is : IsFound file found) (whole : IsW
   pub its_length : (len : ℕ) → found.len ≡ Some len → len ≡ length file
   its_length len told = same_Some len (length file) (sym told ∙ is.len)
 
-  looks_header : (h : Header) → header_in (first_of file) (length file) ≡ Ok h → LooksHeader file h
+  looks_header : (h : Header) → header_in (front_of_file file) (length file) ≡ Ok h → LooksHeader file h
   looks_header h header = record { long = whole.long; opens = first_gate file whole.long ∙ whole.gate; header = header }
 
-  here : (first : List ℕ) (len : ℕ) → found.first ≡ Some first → found.len ≡ Some len → header_in first len ≡ header_in (first_of file) (length file)
-  here first len told_first told_len = ap (λ bytes. header_in bytes len) (its_first first told_first) ∙ ap (header_in (first_of file)) (its_length len told_len)
+  here : (first : List ℕ) (len : ℕ) → found.first ≡ Some first → found.len ≡ Some len → header_in first len ≡ header_in (front_of_file file) (length file)
+  here first len told_first told_len = ap (λ bytes. header_in bytes len) (its_first first told_first) ∙ ap (header_in (front_of_file file)) (its_length len told_len)
 
   pub its_table : (first : List ℕ) (len : ℕ) (h : Header) → found.first ≡ Some first → found.len ≡ Some len → header_in first len ≡ Ok h
-      → found.second ≡ Some (table_of h file)
+      → found.second ≡ Some (table_of_file h file)
   its_table first len h told_first told_len header = is.table h (looks_header h (sym (here first len told_first told_len) ∙ header))
 
   pub its_header : (first : List ℕ) (len : ℕ) (h : Header) → found.first ≡ Some first → found.len ≡ Some len
@@ -106,16 +106,16 @@ pub phase_is : (file : List ℕ) (found : Back) (phase : Phase) → IsFound file
 phase_is file found phase is told = elim (cases_lt (length file) 4096) [
   | inl short ↦ short_phase found.first (subst (λ len. phase_found len found.first ≡ Some phase) is.len told) short
   | inr long ↦
-      let now : phase_found (Some (length file)) (Some (first_of file)) ≡ Some phase =
+      let now : phase_found (Some (length file)) (Some (front_of_file file)) ≡ Some phase =
       subst (λ first. phase_found (Some (length file)) first ≡ Some phase) (is.first long) (subst (λ len. phase_found len found.first ≡ Some phase) is.len told) in
-      same_Some phase (phase_told (length file) (first_of file)) (sym now) ∙ told_long long
+      same_Some phase (phase_told (length file) (front_of_file file)) (sym now) ∙ told_long long
 ]
   where
     short_phase : (first : Option (List ℕ)) → phase_found (Some (length file)) first ≡ Some phase → length file < 4096 → phase ≡ found_phase file
     short_phase None now short = same_Some phase Raw (sym now ∙ ap (λ b. if b then Some Raw else None) (lt-ltb (length file) 4096 short)) ∙ sym (found_raw file short)
     short_phase (Some bytes) now short = same_Some phase Raw (sym now ∙ ap (λ b. Some (if b then Raw else (if slice_index bytes 0 == gate then Whole else Shut))) (lt-ltb (length file) 4096 short)) ∙ sym (found_raw file short)
 
-    told_long : 4096 ≤ length file → phase_told (length file) (first_of file) ≡ found_phase file
+    told_long : 4096 ≤ length file → phase_told (length file) (front_of_file file) ≡ found_phase file
     told_long long = ap (λ byte. if nat_lt (length file) 4096 then Raw else (if byte == gate then Whole else Shut)) (first_gate file long)
 
 -- a header that is none breaks the file
@@ -160,7 +160,7 @@ never_whole len is = elim (cases_lt len 4096) [
 ]
 
 -- an inspection that came to its end tells a phase
-pub phase_comes : (found : Back) → HasEnded found → phase_found found.len found.first ≢ None
+pub phase_comes : (found : Back) → InspectionHasEnded found → phase_found found.len found.first ≢ None
 phase_comes found ended none = by_first found.first refl
   where
     at_len : phase_found (Some ended.len) found.first ≡ None

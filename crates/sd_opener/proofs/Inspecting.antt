@@ -7,7 +7,7 @@ use Rattle.sd_image.specs.declared.header.Header.{Header}
 use Rattle.sd_image.specs.declared.reason.Reason.{Reason}
 use Rattle.sd_image.specs.Image.{gate}
 use Rattle.sd_image.specs.Reading.{header_in}
-use Rattle.sd_image.specs.Words.{zeros}
+use Rattle.sd_image.specs.Words.{zero_bytes}
 use Rattle.sd_gate.specs.declared.answer.Answer.{Answer}
 use Rattle.sd_gate.specs.declared.answer.Answer.TheVariants.{Done as DoneAnswer, Len as LenIs, Failed as FailedAnswer}
 use Rattle.sd_gate.specs.declared.call.Call.{Call}
@@ -19,7 +19,7 @@ use Rattle.sd_gate.specs.Plans.{Back, Gives, Planned, begun, calls_after, first_
 use Rattle.sd_gate.specs.Requests.{Asked, Made}
 use Rattle.sd_gate.specs.Sequences.{Calls, first_looks, table_place}
 use Rattle.sd_opener.specs.Looking.{HasCome, HasFirst, IsDoneAsAsked, IsInspecting, calls_ahead}
-use Rattle.sd_opener.specs.Sees.{HasEnded}
+use Rattle.sd_opener.specs.Sees.{InspectionHasEnded}
 
 abbrev names : Calls → List Call
 names calls = map (λ call. call.0) calls
@@ -67,12 +67,12 @@ abbrev Comes : Following → Back → Type 0
 Comes after found = after.0 ≢ [] → HasCome after.1 (names after.0) found
 
 abbrev Ends : Following → Back → Type 0
-Ends after found = after.0 ≡ [] → HasEnded found
+Ends after found = after.0 ≡ [] → InspectionHasEnded found
 
 -- the length was asked for
 
 abbrev length_read : Bool → ℕ → Following
-length_read test n = if test then ((Read 0, zeros 4096) ∷ [], the_header n) else ([], nothing)
+length_read test n = if test then ((Read 0, zero_bytes 4096) ∷ [], the_header n) else ([], nothing)
 
 length_came : (found : Back) (answer : Answer) → found.first ≡ None → Comes (after_length answer) (found_after found answer None)
 length_came found DoneAnswer first some = absurd (some refl)
@@ -91,7 +91,7 @@ length_ends found n first none = record {
   len = n;
   told = refl;
   first = λ long.
-      (let some : (Read 0, zeros 4096) ∷ [] ≡ [] = sym (ap (λ b. (length_read b n).0) (le-leb 4096 n long)) ∙ none in absurd cc);
+      (let some : (Read 0, zero_bytes 4096) ∷ [] ≡ [] = sym (ap (λ b. (length_read b n).0) (le-leb 4096 n long)) ∙ none in absurd cc);
   table = λ bytes header came opens is. (let no : None ≡ Some bytes = sym first ∙ came in absurd cc);
 }
 
@@ -136,19 +136,19 @@ header_ends found len bytes told first whole none = record {
     reads header opens is =
         let test : ((length bytes == 4096) && (slice_index bytes 0 == gate)) ≡ true =
         and_from (length bytes == 4096) (slice_index bytes 0 == gate) (eq-eqb (length bytes) 4096 whole) (eq-eqb (slice_index bytes 0) gate opens) in
-        let some : (Read (table_place header), zeros header.table_len) ∷ [] ≡ [] =
+        let some : (Read (table_place header), zero_bytes header.table_len) ∷ [] ≡ [] =
         sym (ap (λ b. (header_read b bytes len).0) test ∙ ap (λ read. (table_read read).0) is) ∙ none in
         absurd cc
 
 -- the table was read
 
-table_ends : (found : Back) (bytes : List ℕ) → IsSome found.len → HasFirst found.first → HasEnded (found_after found DoneAnswer (Some bytes))
+table_ends : (found : Back) (bytes : List ℕ) → IsSome found.len → HasFirst found.first → InspectionHasEnded (found_after found DoneAnswer (Some bytes))
 table_ends found bytes some first = by_len found.len refl some
   where
     first_is : Some (first_back found.first bytes) ≡ Some first.bytes
     first_is = ap (λ f. Some (first_back f bytes)) first.came
 
-    by_len : (len : Option ℕ) → found.len ≡ len → IsSome len → HasEnded (found_after found DoneAnswer (Some bytes))
+    by_len : (len : Option ℕ) → found.len ≡ len → IsSome len → InspectionHasEnded (found_after found DoneAnswer (Some bytes))
     by_len None is none_some = absurd (let wrong : false ≡ true = none_some in cc)
     by_len (Some len) is is_some = record {
       len = len;
@@ -210,8 +210,8 @@ ended nothing calls found call bytes answer is answers header =
     λ none.
     let call_is = head_is call (Read is.0.0) (names calls) [] is.0.1 in
     let done : answer ≡ DoneAnswer = subst (λ k. IsAnswerTo k answer) call_is answers in
-    subst (λ k. HasEnded (back_of found k bytes answer)) (sym call_is)
-    (subst (λ a. HasEnded (found_after found a (Some bytes))) (sym done) (table_ends found bytes is.1 is.2))
+    subst (λ k. InspectionHasEnded (back_of found k bytes answer)) (sym call_is)
+    (subst (λ a. InspectionHasEnded (found_after found a (Some bytes))) (sym done) (table_ends found bytes is.1 is.2))
 
 -- an inspection goes on behind an outcome that is done, or has come to its end where the call was answered as it asks
 module _ (plan new : Planned) (made : Made) (out : plan.out ≡ Some made.request.id) (is : IsInspecting plan) (new_is : new ≡ plan_after plan made) where
@@ -247,9 +247,9 @@ module _ (plan new : Planned) (made : Made) (out : plan.out ≡ Some made.reques
       (subst (λ (f : Following). HasCome f.1 (names f.0) (plan_after plan made).found) (sym (after_is done))
       (came plan.awaits plan.calls plan.found made.request.id.call made.request.bytes made.answer come (some_more after.0 still)))
 
-  pub ends : IsDoneAsAsked made → settled (is_done made.answer) (calls_after plan made).0 ≡ Finished → HasEnded new.found
+  pub ends : IsDoneAsAsked made → settled (is_done made.answer) (calls_after plan made).0 ≡ Finished → InspectionHasEnded new.found
   ends as_asked finished =
       let last : settled true after.0 ≡ Finished =
       ap (λ (f : Following). settled true f.0) (sym (after_is as_asked.done)) ∙ subst (λ b. settled b (calls_after plan made).0 ≡ Finished) as_asked.done finished in
-      subst (λ (p : Planned). HasEnded p.found) (sym new_is)
+      subst (λ (p : Planned). InspectionHasEnded p.found) (sym new_is)
       (ended plan.awaits plan.calls plan.found made.request.id.call made.request.bytes made.answer come as_asked.answers as_asked.header (none_more after.0 last))

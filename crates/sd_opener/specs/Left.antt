@@ -21,12 +21,12 @@ slots_left (suc others) stage = 9 * others + stage_left stage + 1
 abbrev pub looking_left : Looking → ℕ
 looking_left opener = slots_left (opener.slots - length opener.told) opener.stage
 
-abbrev pub Lowers : Looking → Looking → Type 0
-Lowers old new = looking_left new < looking_left old
+abbrev pub LowersLooking : Looking → Looking → Type 0
+LowersLooking old new = looking_left new < looking_left old
 
 -- a step that doesn't end the opener lowers it
 abbrev pub LowersByStep : OpenerStep → Looking → Looking → Type 0
-LowersByStep (Call request) old new = Lowers old new
-LowersByStep Decoded old new = Lowers old new
+LowersByStep (Call request) old new = LowersLooking old new
+LowersByStep Decoded old new = LowersLooking old new
 LowersByStep (Damaged slot reason) old new = Unit {0}
 LowersByStep AllRead old new = Unit {0}

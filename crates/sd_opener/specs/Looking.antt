@@ -76,8 +76,8 @@ pub record IsAtNext (old new : Looking) : Type 0 where
   pub told : length new.told ≡ length old.told + 1
   pub stage : new.stage ≡ Asking (begun (length new.told) first_looks the_length)
 
-abbrev pub MovesOn : Looking → Looking → Type 0
-MovesOn old new = (new.told ≡ old.told) ⊎ IsAtNext old new
+abbrev pub LooksFurther : Looking → Looking → Type 0
+LooksFurther old new = (new.told ≡ old.told) ⊎ IsAtNext old new
 
 -- its plan's next call is asked for, with a ticket, of the slot that it looks at
 pub record IsAskedBy (number : ℕ) (old : Looking) (request : Asked) (new : Looking) : Type 0 where

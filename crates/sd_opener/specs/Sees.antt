@@ -48,7 +48,7 @@ IsOpenStage (Broken reason) = Unit {0}
 
 -- what an inspection that came to its end brought back: the length of a file that is too short for a header, or its
 -- first 4,096 bytes, and the table where these are an open image's
-pub record HasEnded (found : Back) : Type 0 where
+pub record InspectionHasEnded (found : Back) : Type 0 where
   pub len : ℕ
   pub told : found.len ≡ Some len
   pub first : 4096 ≤ len → HasFirst found.first
@@ -57,9 +57,9 @@ pub record HasEnded (found : Back) : Type 0 where
       → IsSome found.second
 
 -- what the inspection of a file ends with
-abbrev pub EndsAs : List ℕ → SlotEnd → Type 0
-EndsAs file (Closed phase) = (is_open file ≡ false) × (phase ≡ found_phase file)
-EndsAs file (Open stage) = (found_phase file ≡ Whole) × ((slot : ℕ) → SeesSlot slot file None stage)
+abbrev pub InspectionEndsAs : List ℕ → SlotEnd → Type 0
+InspectionEndsAs file (Closed phase) = (is_open file ≡ false) × (phase ≡ found_phase file)
+InspectionEndsAs file (Open stage) = (found_phase file ≡ Whole) × ((slot : ℕ) → SeesSlot slot file None stage)
 
 -- files in which not every open slot is an image with a serial of its own
 abbrev pub IsNoStore : List (List ℕ) → Type 0
@@ -87,7 +87,7 @@ pub record IsToldOf (file : List ℕ) (request : Asked) (made : Made) : Type 0 w
   pub told : IsTold file made
 
 -- what was read in the end
-pub record IsOpened (files : List (List ℕ)) (opened : Opened) : Type 0 where
+pub record StoreIsRead (files : List (List ℕ)) (opened : Opened) : Type 0 where
   pub catalog : IsCatalogOf files opened.catalog
   pub phases : opened.phases.items ≡ map found_phase files
   pub images : List Image

@@ -7,15 +7,15 @@ ghost use Rattle.sd_gate.specs.Inspections.{the_length};
 ghost use Rattle.sd_gate.specs.Plans.{Planned, begun, found_of};
 ghost use Rattle.sd_gate.specs.Requests.{Asked};
 ghost use Rattle.sd_gate.specs.Sequences.{first_looks};
-ghost use Rattle.sd_restore.specs.Faulty.{IsDamage, IsFirstFaulty, Names};
+ghost use Rattle.sd_restore.specs.Faulty.{FaultNames, IsDamage, IsFirstFaulty};
 ghost use Rattle.sd_restore.specs.Reading.{AreRightlyDigested};
 ghost use Rattle.sd_opener.specs.declared.open_error.OpenError.TheVariants.{Busy};
 ghost use Rattle.sd_opener.specs.declared.opener_progress.OpenerProgress.TheVariants.{Strange as IsStrange};
 ghost use Rattle.sd_opener.specs.declared.opener_progress.OpenerProgress.TheVariants.{Failed as HasFailed};
 ghost use Rattle.sd_opener.specs.declared.opener_progress.OpenerProgress.TheVariants.{More as GoesOn};
-ghost use Rattle.sd_opener.specs.Left.{Lowers, LowersByStep, looking_left, stage_left};
-ghost use Rattle.sd_opener.specs.Looking.{IsDoneAsAsked, Looking, MovesOn, StepMoves, out_of};
-ghost use Rattle.sd_opener.specs.Sees.{IsNoStore, IsOpened, IsToldOf, Sees, SeesAfter, StepNames};
+ghost use Rattle.sd_opener.specs.Left.{LowersByStep, LowersLooking, looking_left, stage_left};
+ghost use Rattle.sd_opener.specs.Looking.{IsDoneAsAsked, Looking, LooksFurther, StepMoves, out_of};
+ghost use Rattle.sd_opener.specs.Sees.{IsNoStore, IsToldOf, Sees, SeesAfter, StepNames, StoreIsRead};
 
 use crate::open_error::OpenError;
 use crate::opened::Opened;
@@ -180,9 +180,9 @@ impl Opener {
         ensures sees { (files : List (List ℕ)) (request : Asked)
             → IsToldOf (file_at files (length self.old.told)) request outcome
             → Sees files (Some request) self.old → (result ≡ GoesOn) × Sees files None self.new }
-        ensures moves { MovesOn self.old self.new }
+        ensures moves { LooksFurther self.old self.new }
         ensures lowers { out_of self.old.stage ≡ Some outcome.request.id → result ≡ GoesOn
-            → Lowers self.old self.new }
+            → LowersLooking self.old self.new }
         ensures slots { self.new.slots ≡ self.old.slots }
         ensures free { out_of self.old.stage ≡ Some outcome.request.id → out_of self.new.stage ≡ None }
     {
@@ -239,12 +239,12 @@ impl Opener {
     /// `Damaged` names the least slot whose serial stands in an earlier open one.
     pub fn finish(self) -> Result<Opened, Fault>
         ensures opened { (files : List (List ℕ)) → Sees files None self → length self.told ≡ length files
-            → AreRightlyDigested files → IfOk result (IsOpened files) }
+            → AreRightlyDigested files → IfOk result (StoreIsRead files) }
         ensures told { IfOk result (λ opened. opened.phases.items ≡ self.told) }
         ensures damaged { (files : List (List ℕ)) → Sees files None self → length self.told ≡ length files
             → IfErr result (λ _. IsNoStore files) }
         ensures names { (files : List (List ℕ)) → Sees files None self → length self.told ≡ length files
-            → AreRightlyDigested files → IfErr result (Names (IsDamage files)) }
+            → AreRightlyDigested files → IfErr result (FaultNames (IsDamage files)) }
         ensures empty { result ≢ Err Fault.EmptyChain }
         ensures device { result ≢ Err Fault.Device }
         ensures memory { result ≢ Err Fault.OutOfMemory }

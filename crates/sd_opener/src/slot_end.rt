@@ -4,7 +4,7 @@ ghost use Rattle.sd_gate.specs.Looks.{IsFound};
 ghost use Rattle.sd_gate.specs.declared.phase.Phase.TheVariants.{Whole};
 ghost use Rattle.sd_gate.specs.Laws.{found_phase, phase_found};
 ghost use Rattle.sd_gate.specs.Plans.{found_of};
-ghost use Rattle.sd_opener.specs.Sees.{EndsAs, HasEnded, IsOpenStage, SeesSlot};
+ghost use Rattle.sd_opener.specs.Sees.{InspectionEndsAs, InspectionHasEnded, IsOpenStage, SeesSlot};
 
 use crate::stage::Stage;
 use sd_gate::{Found, Phase};
@@ -24,7 +24,7 @@ fn open_stage(found: Found) -> Option<Stage>
     ensures sees { (file : List ℕ) → IsFound file (found_of found) → found_phase file ≡ Whole
         → MatchOption result ⊥ (λ stage. (slot : ℕ) → SeesSlot slot file None stage) }
     ensures open { IfSome result IsOpenStage }
-    ensures ended { HasEnded (found_of found)
+    ensures ended { InspectionHasEnded (found_of found)
         → phase_found (found_of found).len (found_of found).first ≡ Some Whole → IsSome result }
 {
     let Found { len, first, second } = found;
@@ -45,9 +45,9 @@ fn open_stage(found: Found) -> Option<Stage>
 /// What an inspection ended with, by what came back. None where it didn't come to its end.
 pub fn slot_end(found: Found) -> Option<SlotEnd>
     ensures sees { (file : List ℕ) → IsFound file (found_of found)
-        → MatchOption result ⊥ (EndsAs file) }
+        → MatchOption result ⊥ (InspectionEndsAs file) }
     ensures open { IfSome result (λ end. (stage : Stage) → end ≡ SlotEnd.Open stage → IsOpenStage stage) }
-    ensures ended { HasEnded (found_of found) → IsSome result }
+    ensures ended { InspectionHasEnded (found_of found) → IsSome result }
 {
     match found.phase()? {
         Phase::Whole => Some(SlotEnd::Open(open_stage(found)?)),

@@ -21,7 +21,7 @@ use Rattle.sd_pagetable.specs.declared.memory_error.MemoryError.{MemoryError}
 use Rattle.sd_pagetable.specs.declared.memory_error.MemoryError.TheVariants.{Denied as DeniedError, OutOfMemory}
 use Rattle.sd_pagetable.specs.declared.memory_refusal.MemoryRefusal.TheVariants.{NoSuchSpace, Enomem as NoMemory}
 use Rattle.sd_pagetable.specs.Nested.{Table, inside, is_alive, set_within}
-use Rattle.sd_pagetable.specs.Page.{Page, fresh_page}
+use Rattle.sd_pagetable.specs.Page.{PageState, fresh_page}
 use Rattle.sd_pagetable.specs.Contents.{Contents, page_count, plain_of}
 use Rattle.sd_pagetable.specs.Due.{Answers, area_due, in_space, or_else, mmap_due}
 use Rattle.sd_pagetable.specs.AreaErrors.{error_of}
@@ -47,7 +47,7 @@ pub still_kept : (old new : BTreeMap ℕ PageMap) (c : Contents) → HasSame old
 still_kept old new c same kept = λ q. same q ∙ kept q
 
 -- ---- the areas that a look-up found
-seen_table : (own : PageMap) (o : Option (Table Page)) → Some own ≡ option_map prots_of o → (t : Table Page) × (o ≡ Some t) × (own ≡ prots_of t)
+seen_table : (own : PageMap) (o : Option (Table PageState)) → Some own ≡ option_map prots_of o → (t : Table PageState) × (o ≡ Some t) × (own ≡ prots_of t)
 seen_table own None e = absurd (cc)
 seen_table own (Some t) e = (t, refl, let f : own ≡ prots_of t = cc in f)
 
@@ -59,7 +59,7 @@ areas_found areas c s own kept found =
 pub areas_absent : (areas : BTreeMap ℕ PageMap) (c : Contents) (s : ℕ) → HasAreas areas c → None ≡ get nat_cmp areas s → is_alive c.spaces s ≡ false
 areas_absent areas c s kept none = absent (finmap.get c.spaces s) (none ∙ kept s)
   where
-    absent : (o : Option (Table Page)) → None ≡ option_map prots_of o → is_some o ≡ false
+    absent : (o : Option (Table PageState)) → None ≡ option_map prots_of o → is_some o ≡ false
     absent None e = refl
     absent (Some t) e = absurd (cc)
 
@@ -68,7 +68,7 @@ dead_due c s due dead = cond-false _ _ _ dead
 
 -- ---- refusals
 -- what a call on areas was refused
-pub refused_by_areas : (r : Result PageMap Errno) (e : AreaError) (second : Option AccessError) → calls.Answers r e → Refuses (error_of e) (or_else (area_due r) second)
+pub refused_by_areas : (r : Result PageMap Errno) (e : AreaError) (second : Option AccessError) → calls.RefusesAsDue r e → Refuses (error_of e) (or_else (area_due r) second)
 refused_by_areas r (AreaRefused errno) second answers = ap (λ (x : Result PageMap Errno). or_else (area_due x) second) answers
 refused_by_areas r AreaOutOfMemory second answers = tt
 

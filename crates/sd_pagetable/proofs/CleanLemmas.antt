@@ -1,28 +1,28 @@
 -- A page that is clean after an event.
 use Rattle.std.proofs.Common.{◌≡◌, ℕ, Bool, true, false, cond, ◌||◌, List, Option, Some, None, refl, sym, ◌∙◌, ap, inl, inr}
-use Rattle.sd_pagetable.specs.Page.{Page}
+use Rattle.sd_pagetable.specs.Page.{PageState}
 use Rattle.sd_pagetable.specs.Contents.{Contents, page_at}
-use Rattle.sd_pagetable.specs.Tracking.{Event, touches, clears}
+use Rattle.sd_pagetable.specs.Tracking.{MemoryEvent, touches, clears}
 use Rattle.sd_pagetable.specs.PageLaw.{ComesFrom, CleanLaw, clean_at, clean_bytes}
 use Rattle.sd_pagetable.proofs.LawEvents.{page_law}
 
 -- a page with clean bytes
-clean_page : (o : Option Page) (bytes : List ℕ) → clean_bytes o ≡ Some bytes → (page : Page) × (o ≡ Some page) × (page.soft_dirty ≡ false) × (page.bytes ≡ bytes)
+clean_page : (o : Option PageState) (bytes : List ℕ) → clean_bytes o ≡ Some bytes → (page : PageState) × (o ≡ Some page) × (page.soft_dirty ≡ false) × (page.bytes ≡ bytes)
 clean_page None bytes e = absurd (let f : ◌≡◌ {A = Option (List ℕ)} None (Some bytes) = e in cc)
 clean_page (Some page) bytes e = by page.soft_dirty refl
   where
-    by : (b : Bool) → page.soft_dirty ≡ b → (x : Page) × (◌≡◌ {A = Option Page} (Some page) (Some x)) × (x.soft_dirty ≡ false) × (x.bytes ≡ bytes)
+    by : (b : Bool) → page.soft_dirty ≡ b → (x : PageState) × (◌≡◌ {A = Option PageState} (Some page) (Some x)) × (x.soft_dirty ≡ false) × (x.bytes ≡ bytes)
     by true d = absurd (let f : ◌≡◌ {A = Option (List ℕ)} None (Some bytes) = sym (ap (λ b. cond b None (Some page.bytes)) d) ∙ e in cc)
     by false d = (page, refl, d, (let f : Some page.bytes ≡ Some bytes = sym (ap (λ b. cond b None (Some page.bytes)) d) ∙ e in cc))
 
-clean_there : (o : Option Page) (page : Page) (bytes : List ℕ) → o ≡ Some page → page.soft_dirty ≡ false → page.bytes ≡ bytes → clean_bytes o ≡ Some bytes
+clean_there : (o : Option PageState) (page : PageState) (bytes : List ℕ) → o ≡ Some page → page.soft_dirty ≡ false → page.bytes ≡ bytes → clean_bytes o ≡ Some bytes
 clean_there o page bytes there d b = ap clean_bytes there ∙ ap (λ x. cond x None (Some page.bytes)) d ∙ ap Some b
 
 neither : (touch was : Bool) → (touch || was) ≡ false → (touch ≡ false) × (was ≡ false)
 neither true was e = absurd (let f : true ≡ false = e in cc)
 neither false was e = (refl, e)
 
-was_clean : (old : Contents) (event : Event) (space number : ℕ) (bytes : List ℕ) (after : Page) → clears space number event ≡ false → after.soft_dirty ≡ false → after.bytes ≡ bytes
+was_clean : (old : Contents) (event : MemoryEvent) (space number : ℕ) (bytes : List ℕ) (after : PageState) → clears space number event ≡ false → after.soft_dirty ≡ false → after.bytes ≡ bytes
     → ComesFrom old event space number after → clean_at old space number ≡ Some bytes
 was_clean old event space number bytes after c d b (inr made) = absurd (let f : true ≡ false = sym made.soft_dirty ∙ d in cc)
 was_clean old event space number bytes after c d b (inl (before, there, is)) =

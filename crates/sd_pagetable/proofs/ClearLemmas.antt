@@ -4,7 +4,7 @@ use Rattle.std.specs.Option.{option_map}
 use Rattle.std.proofs.lemmas.Bool.{cond-false, cond-true}
 use Rattle.std.proofs.lemmas.Bool.Decides.{nat_tests}
 use Rattle.sd_pagetable.specs.Nested.{is_alive}
-use Rattle.sd_pagetable.specs.Page.{Page, cleared_page}
+use Rattle.sd_pagetable.specs.Page.{PageState, cleared_page}
 use Rattle.sd_pagetable.specs.Contents.{Contents, page_at, put_page}
 use Rattle.sd_pagetable.specs.Tracking.{is_page}
 use Rattle.sd_pagetable.specs.Law.{IsClearedAt, ClearLaw}
@@ -16,7 +16,7 @@ same_pair s p = grind (arith, nat_tests)
 turned : (s p q r : ℕ) → is_page s p q r ≡ false → (nat_eq q s && nat_eq r p) ≡ false
 turned s p q r apart = grind (arith, nat_tests)
 
-cleared_here : (old new : Contents) (space number : ℕ) (page : Page) → page_at old space number ≡ Some page → new ≡ put_page old space number (cleared_page page)
+cleared_here : (old new : Contents) (space number : ℕ) (page : PageState) → page_at old space number ≡ Some page → new ≡ put_page old space number (cleared_page page)
     → IsClearedAt space number old new
 cleared_here old new space number page was is = record {
   pool = ap (λ (m : Contents). m.pool) is;

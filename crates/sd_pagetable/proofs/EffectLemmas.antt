@@ -5,7 +5,7 @@ use Rattle.std.specs.FinMap as finmap
 use Rattle.sd_areas.specs.declared.prot.Prot.{Prot}
 use Rattle.sd_areas.specs.PlainMemory as plain
 use Rattle.sd_pagetable.specs.Nested.{inside, put_at, set_within, remove_within, change_within}
-use Rattle.sd_pagetable.specs.Page.{Page, plain_page, fresh_page, protected_page, cleared_page, stored_page, writable_page, zeros}
+use Rattle.sd_pagetable.specs.Page.{PageState, plain_page, fresh_page, protected_page, cleared_page, stored_page, writable_page, zeros}
 use Rattle.sd_pagetable.specs.Access.{stored_at}
 use Rattle.sd_pagetable.specs.Contents.{Contents, page_at, put_page, plain_of}
 use Rattle.sd_pagetable.specs.Tracking.{Mapped, Unmapped, Protected, Forked, Exited, Faulted, Tried, Stored, Cleared, Passed, with_space}
@@ -32,7 +32,7 @@ plain_changed c s first count prot = plain_with c s _
     ∙ ap (finmap.insert (plain_of c) s) (map_change plain_page (protected_page prot) (λ (page : plain.Page). record page { prot = prot }) (λ _. refl) (inside c.spaces s) first count
     ∙ ap (λ t. change_within (λ (page : plain.Page). record page { prot = prot }) t first count) (sym (plain_inside c s)))
 
-plain_written : (c : Contents) (s p offset : ℕ) (bytes : List ℕ) (x y : Page) → page_at c s p ≡ Some x → plain_page y ≡ record { prot = x.prot; bytes = stored_at x.bytes offset bytes }
+plain_written : (c : Contents) (s p offset : ℕ) (bytes : List ℕ) (x y : PageState) → page_at c s p ≡ Some x → plain_page y ≡ record { prot = x.prot; bytes = stored_at x.bytes offset bytes }
     → plain_of (put_page c s p y) ≡ after_write (plain_of c) s p offset bytes
 plain_written c s p offset bytes x y h e =
     plain_put c s p y ∙ ap (put_at (plain_of c) s p) e

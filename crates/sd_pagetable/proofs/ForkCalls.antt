@@ -12,7 +12,7 @@ use Rattle.sd_areas.specs.Areas.{PageMap}
 use Rattle.sd_areas.specs.PlainMemory as plain
 use Rattle.sd_areas.specs.Pages.{is_within}
 use Rattle.sd_pagetable.specs.Nested.{Table, map_values, inside, is_alive, total}
-use Rattle.sd_pagetable.specs.Page.{Page, plain_page, shared_page, inherited_page}
+use Rattle.sd_pagetable.specs.Page.{PageState, plain_page, shared_page, inherited_page}
 use Rattle.sd_pagetable.specs.Contents.{Contents, plain_of, page_count, IsSound}
 use Rattle.sd_pagetable.specs.Effects.{after_exit, after_fork, IsLeastFree}
 use Rattle.sd_pagetable.specs.declared.access_error.AccessError.TheVariants.{Refused}
@@ -97,15 +97,15 @@ pub plain_len : (c : Contents) → finmap.len (plain_of c) ≡ finmap.len c.spac
 unfolding plain_of
 plain_len c = len-entries (map_values (map_values plain_page) c.spaces) ∙ ap (λ (es : List (ℕ × Table plain.Page)). length es) (entries-map_values (map_values plain_page) c.spaces) ∙ mapped (finmap.entries c.spaces) ∙ sym (len-entries c.spaces)
   where
-    seen : ℕ × Table Page → ℕ × Table plain.Page
+    seen : ℕ × Table PageState → ℕ × Table plain.Page
     seen e = (e.0, map_values plain_page e.1)
 
-    mapped : (es : List (ℕ × Table Page)) → length (map seen es) ≡ length es
+    mapped : (es : List (ℕ × Table PageState)) → length (map seen es) ≡ length es
     mapped [] = refl
     mapped (e ∷ es) = ap suc (mapped es)
 
 -- ---- `exit`
-removed_again : (b : Bool) (o : Option (Table Page)) (t : Table Page) → cond b None (cond b (Some t) o) ≡ cond b None o
+removed_again : (b : Bool) (o : Option (Table PageState)) (t : Table PageState) → cond b None (cond b (Some t) o) ≡ cond b None o
 removed_again true o t = refl
 removed_again false o t = refl
 
@@ -118,7 +118,7 @@ pub plain_ended : (c : Contents) (s : ℕ) → plain_of (record { pool = c.pool;
 unfolding plain_of
 plain_ended c s = map_removed (map_values plain_page) c.spaces s
 
-gone : {Y : Type 0} (b : Bool) (f : Table Page → Y) (o : Option (Table Page)) → cond b None (option_map f o) ≡ option_map f (cond b None o)
+gone : {Y : Type 0} (b : Bool) (f : Table PageState → Y) (o : Option (Table PageState)) → cond b None (option_map f o) ≡ option_map f (cond b None o)
 gone true f o = refl
 gone false f o = refl
 
@@ -130,7 +130,7 @@ areas_ended areas new c s has removed = λ q. removed q ∙ ap (cond (nat_eq q s
 dead_inside : (c : Contents) (s : ℕ) → is_alive c.spaces s ≡ false → inside c.spaces s ≡ finmap.empty
 dead_inside c s dead = none (finmap.get c.spaces s) dead
   where
-    none : (o : Option (Table Page)) → is_some o ≡ false → unwrap_or o finmap.empty ≡ finmap.empty
+    none : (o : Option (Table PageState)) → is_some o ≡ false → unwrap_or o finmap.empty ≡ finmap.empty
     none None e = refl
     none (Some t) e = absurd (let f : true ≡ false = e in cc)
 
@@ -140,12 +140,12 @@ apart_from c s child alive dead same = absurd (let e : true ≡ false = sym aliv
 -- a space without pages more
 pub bare_count : (c : Contents) (child : ℕ) → is_alive c.spaces child ≡ false → page_count (with_space c child finmap.empty).spaces ≡ page_count c.spaces
 bare_count c child dead =
-    let more = total_within-insert (λ (_ : Page). 1) c.spaces child finmap.empty in
-    let none : total (λ (_ : Page). 1) finmap.empty ≡ 0 = total-empty (λ (_ : Page). 1) in
-    let inner : total (λ (_ : Page). 1) (inside c.spaces child) ≡ 0 = ap (total (λ (_ : Page). 1)) (dead_inside c child dead) ∙ none in
+    let more = total_within-insert (λ (_ : PageState). 1) c.spaces child finmap.empty in
+    let none : total (λ (_ : PageState). 1) finmap.empty ≡ 0 = total-empty (λ (_ : PageState). 1) in
+    let inner : total (λ (_ : PageState). 1) (inside c.spaces child) ≡ 0 = ap (total (λ (_ : PageState). 1)) (dead_inside c child dead) ∙ none in
     omega (arith, more, none, inner)
 
-pub copied_parent : (c copied : Contents) (s child : ℕ) (t : Table Page) → (s ≡ child → ⊥) → copied ≡ with_space (with_space c child finmap.empty) child t → inside copied.spaces s ≡ inside c.spaces s
+pub copied_parent : (c copied : Contents) (s child : ℕ) (t : Table PageState) → (s ≡ child → ⊥) → copied ≡ with_space (with_space c child finmap.empty) child t → inside copied.spaces s ≡ inside c.spaces s
 copied_parent c copied s child t apart is = ap (λ (m : Contents). inside m.spaces s) (is ∙ with_twice c child finmap.empty t) ∙ inside_other c child s t apart
 
 pub copied_child : (c copied : Contents) (s child : ℕ) → (s ≡ child → ⊥) → copied ≡ with_space (with_space c child finmap.empty) child (map_values bare_page (inside (with_space c child finmap.empty).spaces s))
@@ -157,10 +157,10 @@ or_true : (b : Bool) → (b || true) ≡ true
 or_true true = refl
 or_true false = refl
 
-pub still_alive : (c : Contents) (s u : ℕ) (t : Table Page) → is_alive c.spaces u ≡ true → is_alive (with_space c s t).spaces u ≡ true
+pub still_alive : (c : Contents) (s u : ℕ) (t : Table PageState) → is_alive c.spaces u ≡ true → is_alive (with_space c s t).spaces u ≡ true
 still_alive c s u t alive = alive-insert c.spaces s t u ∙ ap (λ b. nat_eq u s || b) alive ∙ or_true (nat_eq u s)
 
-pub shared : (c copied new : Contents) (s child : ℕ) (t : Table Page) → (s ≡ child → ⊥) → copied ≡ with_space (with_space c child finmap.empty) child t
+pub shared : (c copied new : Contents) (s child : ℕ) (t : Table PageState) → (s ≡ child → ⊥) → copied ≡ with_space (with_space c child finmap.empty) child t
     → new ≡ with_space (with_space copied s (map_values shared_page (inside copied.spaces s))) child (map_values inherited_page (inside copied.spaces s)) → new ≡ contents_after_fork c s child
 shared c copied new s child t apart is done =
     let own = inside c.spaces s in
@@ -170,11 +170,11 @@ shared c copied new s child t apart is done =
     ∙ with_twice (with_space c s (map_values shared_page own)) child t (map_values inherited_page own)
 
 -- a child that was given up
-given_up : (b : Bool) (o : Option (Table Page)) (t : Table Page) → (b ≡ true → o ≡ None) → cond b None (cond b (Some t) o) ≡ o
+given_up : (b : Bool) (o : Option (Table PageState)) (t : Table PageState) → (b ≡ true → o ≡ None) → cond b None (cond b (Some t) o) ≡ o
 given_up true o t none = sym (none refl)
 given_up false o t none = refl
 
-dead_none : (o : Option (Table Page)) → is_some o ≡ false → o ≡ None
+dead_none : (o : Option (Table PageState)) → is_some o ≡ false → o ≡ None
 dead_none None e = refl
 dead_none (Some t) e = absurd (let f : true ≡ false = e in cc)
 
@@ -202,7 +202,7 @@ plain_forked c s child apart alive =
     put_back true o t is = sym (is refl)
     put_back false o t is = refl
 
-    there : (o : Option (Table Page)) → is_some o ≡ true → option_map (map_values plain_page) o ≡ Some (map_values plain_page (unwrap_or o finmap.empty))
+    there : (o : Option (Table PageState)) → is_some o ≡ true → option_map (map_values plain_page) o ≡ Some (map_values plain_page (unwrap_or o finmap.empty))
     there (Some t) e = refl
     there None e = absurd (let f : false ≡ true = e in cc)
 
@@ -211,7 +211,7 @@ plain_forked c s child apart alive =
         ∙ put_back (nat_eq q s) (finmap.get (plain_of c) q) (map_values plain_page (inside c.spaces s)) (λ here. ap (finmap.get (plain_of c)) (same_of q s here) ∙ plain_space c s ∙ there (finmap.get c.spaces s) alive))
 
 -- the areas after `fork`
-own_areas : (o : Option PageMap) (t : Option (Table Page)) (own : PageMap) → o ≡ option_map prots_of t → o ≡ Some own → own ≡ prots_of (unwrap_or t finmap.empty)
+own_areas : (o : Option PageMap) (t : Option (Table PageState)) (own : PageMap) → o ≡ option_map prots_of t → o ≡ Some own → own ≡ prots_of (unwrap_or t finmap.empty)
 own_areas o None own has is = absurd (let e : None ≡ Some own = sym has ∙ is in cc)
 own_areas o (Some t) own has is = (let e : Some own ≡ Some (prots_of t) = sym is ∙ has in cc)
 
@@ -220,9 +220,9 @@ pub areas_forked : (areas new : BTreeMap ℕ PageMap) (c : Contents) (s child : 
 areas_forked areas new c s child own has is put =
     let are = own_areas (get nat_cmp areas s) (finmap.get c.spaces s) own (has s) is in
     areas_with areas new (with_space c s (map_values shared_page (inside c.spaces s))) child (map_values inherited_page (inside c.spaces s)) own
-    (areas_with areas areas c s (map_values shared_page (inside c.spaces s)) own has (are ∙ sym (composed shared_page (λ (page : Page). page.prot) (λ (page : Page). page.prot) (λ _. refl) (inside c.spaces s)))
+    (areas_with areas areas c s (map_values shared_page (inside c.spaces s)) own has (are ∙ sym (composed shared_page (λ (page : PageState). page.prot) (λ (page : PageState). page.prot) (λ _. refl) (inside c.spaces s)))
     (λ q. sym (put_back (nat_eq q s) (get nat_cmp areas q) own (λ here. ap (get nat_cmp areas) (same_of q s here) ∙ is))))
-    (are ∙ sym (composed inherited_page (λ (page : Page). page.prot) (λ (page : Page). page.prot) (λ _. refl) (inside c.spaces s))) put
+    (are ∙ sym (composed inherited_page (λ (page : PageState). page.prot) (λ (page : PageState). page.prot) (λ _. refl) (inside c.spaces s))) put
   where
     put_back : (b : Bool) (o : Option PageMap) (t : PageMap) → (b ≡ true → o ≡ Some t) → cond b (Some t) o ≡ o
     put_back true o t e = sym (e refl)
@@ -253,8 +253,8 @@ one_alive_more c number alive before q from below = elim (cases_bool (nat_eq q n
 pub is_free : (c : Contents) (number child : ℕ) → child ≡ number → IsSound c → 1 ≤ number → number ≤ 16 → is_alive c.spaces number ≡ false → ((q : ℕ) → 1 ≤ q → q < number → is_alive c.spaces q ≡ true)
     → IsLeastFree (plain_of c) child × (finmap.len c.spaces < 16) × (child ≤ 16)
 is_free c number child is sound from upto free before =
-    let more = total-insert (λ (_ : Table Page). 1) c.spaces number finmap.empty in
-    let none : ◌≡◌ {A = ℕ} (option_map_or (λ (_ : Table Page). 1) (finmap.get c.spaces number) 0) 0 = ap (λ o. option_map_or (λ (_ : Table Page). 1) o 0) (dead_none (finmap.get c.spaces number) free) in
+    let more = total-insert (λ (_ : Table PageState). 1) c.spaces number finmap.empty in
+    let none : ◌≡◌ {A = ℕ} (option_map_or (λ (_ : Table PageState). 1) (finmap.get c.spaces number) 0) 0 = ap (λ o. option_map_or (λ (_ : Table PageState). 1) o 0) (dead_none (finmap.get c.spaces number) free) in
     let few = has_only 16 (finmap.insert c.spaces number finmap.empty) 1 (λ q there. inner q (subst IsSome (get_put c.spaces number finmap.empty q) there)) in
     let len = len_total c.spaces in (
       record {
@@ -314,7 +314,7 @@ copies_as c bare copied s child is done = done ∙ ap (λ (m : Contents). with_s
 
 pub space_pages : (c : Contents) (s : ℕ) → finmap.len (inside c.spaces s) ≤ page_count c.spaces
 space_pages c s =
-    let inner = total_within-remove_space (λ (_ : Page). 1) c.spaces s in
+    let inner = total_within-remove_space (λ (_ : PageState). 1) c.spaces s in
     let len = len_total (inside c.spaces s) in
     omega (arith, inner, len)
 

@@ -11,7 +11,7 @@ use Rattle.std.specs.declared.ops.Bound.TheVariants.{Included, Excluded, Unbound
 use Rattle.std.specs.FinMap as finmap
 use Rattle.std.specs.FinMap.{get-empty, get-retain_keys, len-entries, nat_cmp-IsAntisymmetric}
 use Rattle.sd_pagetable.specs.Nested.{Table, map_entries, map_values, inside, value_at, is_alive, total}
-use Rattle.sd_pagetable.specs.Page.{Page, shared_page, inherited_page}
+use Rattle.sd_pagetable.specs.Page.{PageState, shared_page, inherited_page}
 use Rattle.sd_pagetable.specs.Contents.{Contents, page_at, put_page, page_count}
 use Rattle.sd_tables.specs.Firsts.{is_from, IsFirstFrom}
 use Rattle.sd_pagetable.specs.Ranges.{bare_page}
@@ -40,23 +40,23 @@ agree false true f g = g refl
 agree false false f g = refl
 
 -- behind its first page
-pub from_next : (t : Table Page) (start : Bound ℕ) (page q : ℕ) → IsFirstFrom t start (Some page) → IsSome (finmap.get t q) → nat_eq q page ≡ false → is_from start q ≡ is_from (Excluded page) q
+pub from_next : (t : Table PageState) (start : Bound ℕ) (page q : ℕ) → IsFirstFrom t start (Some page) → IsSome (finmap.get t q) → nat_eq q page ≡ false → is_from start q ≡ is_from (Excluded page) q
 from_next t start page q first there differs = agree (is_from start q) (nat_lt page q)
     (λ from. less_of page q (first.2 q there from) differs) (up_from start page q first.1)
 
 -- each page changed as its place asks: one way from the bound on, and another way before it
-pub parted : {Y : Type 0} → (Page → Y) → (Page → Y) → Bound ℕ → Table Page → Table Y
+pub parted : {Y : Type 0} → (PageState → Y) → (PageState → Y) → Bound ℕ → Table PageState → Table Y
 parted later done start t = map_entries (λ q x. cond (is_from start q) (later x) (done x)) t
 
-pub get-parted : {Y : Type 0} (later done : Page → Y) (start : Bound ℕ) (t : Table Page) (q : ℕ) → finmap.get (parted later done start t) q ≡ option_map (λ x. cond (is_from start q) (later x) (done x)) (finmap.get t q)
+pub get-parted : {Y : Type 0} (later done : PageState → Y) (start : Bound ℕ) (t : Table PageState) (q : ℕ) → finmap.get (parted later done start t) q ≡ option_map (λ x. cond (is_from start q) (later x) (done x)) (finmap.get t q)
 unfolding parted
 get-parted later done start t q = get-map_entries (λ q x. cond (is_from start q) (later x) (done x)) t q
 
-some_value : {Y : Type 0} (f : Page → Y) (o : Option Page) (x : Page) → o ≡ Some x → option_map f o ≡ Some (f x)
+some_value : {Y : Type 0} (f : PageState → Y) (o : Option PageState) (x : PageState) → o ≡ Some x → option_map f o ≡ Some (f x)
 some_value f o x e = ap (option_map f) e
 
-next_at : {Y : Type 0} (later done : Page → Y) (start : Bound ℕ) (t : Table Page) (page : ℕ) (x : Page) → IsFirstFrom t start (Some page) → finmap.get t page ≡ Some x
-    → (q : ℕ) (here : Bool) → nat_eq q page ≡ here → (o : Option Page) → finmap.get t q ≡ o
+next_at : {Y : Type 0} (later done : PageState → Y) (start : Bound ℕ) (t : Table PageState) (page : ℕ) (x : PageState) → IsFirstFrom t start (Some page) → finmap.get t page ≡ Some x
+    → (q : ℕ) (here : Bool) → nat_eq q page ≡ here → (o : Option PageState) → finmap.get t q ≡ o
     → option_map (λ y. cond (is_from (Excluded page) q) (later y) (done y)) o ≡ cond here (Some (done x)) (option_map (λ y. cond (is_from start q) (later y) (done y)) o)
 next_at later done start t page x first is q true e o f =
     ap (option_map (λ y. cond (is_from (Excluded page) q) (later y) (done y))) (sym f ∙ ap (finmap.get t) (same_of q page e) ∙ is)
@@ -65,38 +65,38 @@ next_at later done start t page x first is q false e None f = refl
 next_at later done start t page x first is q false e (Some y) f = ap (λ b. Some (cond b (later y) (done y))) (sym (from_next t start page q first (subst IsSome (sym f) refl) e))
 
 -- the first page is done
-pub parted_next : {Y : Type 0} (later done : Page → Y) (start : Bound ℕ) (t : Table Page) (page : ℕ) (x : Page) → IsFirstFrom t start (Some page) → finmap.get t page ≡ Some x
+pub parted_next : {Y : Type 0} (later done : PageState → Y) (start : Bound ℕ) (t : Table PageState) (page : ℕ) (x : PageState) → IsFirstFrom t start (Some page) → finmap.get t page ≡ Some x
     → finmap.insert (parted later done start t) page (done x) ≡ parted later done (Excluded page) t
 parted_next later done start t page x first is = same_table _ _ (λ q. get_put (parted later done start t) page (done x) q
     ∙ ap (cond (nat_eq q page) (Some (done x))) (get-parted later done start t q)
     ∙ sym (next_at later done start t page x first is q (nat_eq q page) refl (finmap.get t q) refl) ∙ sym (get-parted later done (Excluded page) t q))
 
 -- at first none is done, and at last all are
-none_yet : {Y : Type 0} (later done : Page → Y) (o : Option Page) → option_map (λ x. cond true (later x) (done x)) o ≡ option_map later o
+none_yet : {Y : Type 0} (later done : PageState → Y) (o : Option PageState) → option_map (λ x. cond true (later x) (done x)) o ≡ option_map later o
 none_yet later done None = refl
 none_yet later done (Some x) = refl
 
-pub parted_none : {Y : Type 0} (later done : Page → Y) (t : Table Page) → parted later done Unbounded t ≡ map_values later t
+pub parted_none : {Y : Type 0} (later done : PageState → Y) (t : Table PageState) → parted later done Unbounded t ≡ map_values later t
 parted_none later done t = same_table _ _ (λ q. get-parted later done Unbounded t q ∙ none_yet later done (finmap.get t q) ∙ sym (get-map_values later t q))
 
-all_now : {Y : Type 0} (later done : Page → Y) (start : Bound ℕ) (q : ℕ) (o : Option Page) → (IsSome o → is_from start q ≡ false) → option_map (λ x. cond (is_from start q) (later x) (done x)) o ≡ option_map done o
+all_now : {Y : Type 0} (later done : PageState → Y) (start : Bound ℕ) (q : ℕ) (o : Option PageState) → (IsSome o → is_from start q ≡ false) → option_map (λ x. cond (is_from start q) (later x) (done x)) o ≡ option_map done o
 all_now later done start q None none = refl
 all_now later done start q (Some x) none = ap (λ b. Some (cond b (later x) (done x))) (none refl)
 
-pub parted_all : {Y : Type 0} (later done : Page → Y) (start : Bound ℕ) (t : Table Page) → IsFirstFrom t start None → parted later done start t ≡ map_values done t
+pub parted_all : {Y : Type 0} (later done : PageState → Y) (start : Bound ℕ) (t : Table PageState) → IsFirstFrom t start None → parted later done start t ≡ map_values done t
 parted_all later done start t none = same_table _ _ (λ q. get-parted later done start t q ∙ all_now later done start q (finmap.get t q) (none q) ∙ sym (get-map_values done t q))
 
 -- ---- how many are left
-one : Page → ℕ
+one : PageState → ℕ
 one x = 1
 
-nought : Page → ℕ
+nought : PageState → ℕ
 nought x = 0
 
-pub remaining : Bound ℕ → Table Page → ℕ
+pub remaining : Bound ℕ → Table PageState → ℕ
 remaining start t = total (λ n. n) (parted one nought start t)
 
-pub remaining_next : (start : Bound ℕ) (t : Table Page) (page : ℕ) (x : Page) → IsFirstFrom t start (Some page) → finmap.get t page ≡ Some x → remaining start t ≡ remaining (Excluded page) t + 1
+pub remaining_next : (start : Bound ℕ) (t : Table PageState) (page : ℕ) (x : PageState) → IsFirstFrom t start (Some page) → finmap.get t page ≡ Some x → remaining start t ≡ remaining (Excluded page) t + 1
 unfolding remaining one nought
 remaining_next start t page x first is =
     let was : finmap.get (parted one nought start t) page ≡ Some 1 =
@@ -106,35 +106,35 @@ remaining_next start t page x first is =
     let same : total (λ n. n) (finmap.insert (parted one nought start t) page 0) ≡ total (λ n. n) (parted one nought (Excluded page) t) = ap (total (λ n. n)) (parted_next one nought start t page x first is) in
     omega (arith, weight, sum, same)
 
-all_one : (es : List (ℕ × Page)) → sum_by (λ (e : ℕ × ℕ). e.1) (map (λ (e : ℕ × Page). (e.0, cond true (one e.1) (nought e.1))) es) ≡ length es
+all_one : (es : List (ℕ × PageState)) → sum_by (λ (e : ℕ × ℕ). e.1) (map (λ (e : ℕ × PageState). (e.0, cond true (one e.1) (nought e.1))) es) ≡ length es
 unfolding one nought
 all_one [] = refl
 all_one (e ∷ es) =
-    let front = sum_by-cons (λ (e : ℕ × ℕ). e.1) (e.0, 1) (map (λ (e : ℕ × Page). (e.0, cond true (one e.1) (nought e.1))) es) in
+    let front = sum_by-cons (λ (e : ℕ × ℕ). e.1) (e.0, 1) (map (λ (e : ℕ × PageState). (e.0, cond true (one e.1) (nought e.1))) es) in
     omega (arith, front, all_one es)
 
-pub remaining_all : (t : Table Page) → remaining Unbounded t ≡ finmap.len t
+pub remaining_all : (t : Table PageState) → remaining Unbounded t ≡ finmap.len t
 unfolding remaining parted total
 remaining_all t = ap (sum_by (λ (e : ℕ × ℕ). e.1)) (entries-map_entries (λ q x. cond true (one x) (nought x)) t) ∙ all_one (finmap.entries t) ∙ sym (len-entries t)
 
 -- ---- copying: the child has those of the parent's pages that were done
-pub copied : Bound ℕ → Table Page → Table Page
+pub copied : Bound ℕ → Table PageState → Table PageState
 copied start t = map_values bare_page (finmap.retain_keys t (λ q. not (is_from start q)))
 
-kept : (b : Bool) (o : Option Page) → option_map bare_page (cond (not b) o None) ≡ cond b None (option_map bare_page o)
+kept : (b : Bool) (o : Option PageState) → option_map bare_page (cond (not b) o None) ≡ cond b None (option_map bare_page o)
 kept true o = refl
 kept false o = refl
 
 alike : (start : Bound ℕ) (q x : ℕ) → nat_cmp q x ≡ Equal → not (is_from start x) ≡ not (is_from start q)
 alike start q x e = ap (λ k. not (is_from start k)) (sym (nat_cmp-IsAntisymmetric q x e))
 
-pub get-copied : (start : Bound ℕ) (t : Table Page) (q : ℕ) → finmap.get (copied start t) q ≡ cond (is_from start q) None (option_map bare_page (finmap.get t q))
+pub get-copied : (start : Bound ℕ) (t : Table PageState) (q : ℕ) → finmap.get (copied start t) q ≡ cond (is_from start q) None (option_map bare_page (finmap.get t q))
 unfolding copied
 get-copied start t q = get-map_values bare_page (finmap.retain_keys t (λ q. not (is_from start q))) q
     ∙ ap (option_map bare_page) (get-retain_keys t (λ q. not (is_from start q)) q (λ x e. alike start q x e)) ∙ kept (is_from start q) (finmap.get t q)
 
-copied_at : (start : Bound ℕ) (t : Table Page) (page : ℕ) (x : Page) → IsFirstFrom t start (Some page) → finmap.get t page ≡ Some x
-    → (q : ℕ) (here : Bool) → nat_eq q page ≡ here → (o : Option Page) → finmap.get t q ≡ o
+copied_at : (start : Bound ℕ) (t : Table PageState) (page : ℕ) (x : PageState) → IsFirstFrom t start (Some page) → finmap.get t page ≡ Some x
+    → (q : ℕ) (here : Bool) → nat_eq q page ≡ here → (o : Option PageState) → finmap.get t q ≡ o
     → cond (is_from (Excluded page) q) None (option_map bare_page o) ≡ cond here (Some (bare_page x)) (cond (is_from start q) None (option_map bare_page o))
 copied_at start t page x first is q true e o f =
     ap (λ b. cond b None (option_map bare_page o)) (ap (is_from (Excluded page)) (same_of q page e) ∙ no_longer page) ∙ ap (option_map bare_page) (sym f ∙ ap (finmap.get t) (same_of q page e) ∙ is)
@@ -147,15 +147,15 @@ copied_at start t page x first is q false e None f = nothing (is_from (Excluded 
     nothing false false = refl
 copied_at start t page x first is q false e (Some y) f = ap (λ b. cond b None (Some (bare_page y))) (sym (from_next t start page q first (subst IsSome (sym f) refl) e))
 
-pub copied_next : (start : Bound ℕ) (t : Table Page) (page : ℕ) (x : Page) → IsFirstFrom t start (Some page) → finmap.get t page ≡ Some x
+pub copied_next : (start : Bound ℕ) (t : Table PageState) (page : ℕ) (x : PageState) → IsFirstFrom t start (Some page) → finmap.get t page ≡ Some x
     → finmap.insert (copied start t) page (bare_page x) ≡ copied (Excluded page) t
 copied_next start t page x first is = same_table _ _ (λ q. get_put (copied start t) page (bare_page x) q ∙ ap (cond (nat_eq q page) (Some (bare_page x))) (get-copied start t q)
     ∙ sym (copied_at start t page x first is q (nat_eq q page) refl (finmap.get t q) refl) ∙ sym (get-copied (Excluded page) t q))
 
-pub copied_none : (t : Table Page) → copied Unbounded t ≡ finmap.empty
+pub copied_none : (t : Table PageState) → copied Unbounded t ≡ finmap.empty
 copied_none t = same_table _ _ (λ q. get-copied Unbounded t q ∙ sym (get-empty nat_cmp q))
 
-copied_whole : (start : Bound ℕ) (q : ℕ) (o : Option Page) → (IsSome o → is_from start q ≡ false) → cond (is_from start q) None (option_map bare_page o) ≡ option_map bare_page o
+copied_whole : (start : Bound ℕ) (q : ℕ) (o : Option PageState) → (IsSome o → is_from start q ≡ false) → cond (is_from start q) None (option_map bare_page o) ≡ option_map bare_page o
 copied_whole start q None none = nothing (is_from start q)
   where
     nothing : (a : Bool) → cond a None (option_map bare_page None) ≡ option_map bare_page None
@@ -163,14 +163,14 @@ copied_whole start q None none = nothing (is_from start q)
     nothing false = refl
 copied_whole start q (Some x) none = ap (λ b. cond b None (Some (bare_page x))) (none refl)
 
-pub copied_all : (start : Bound ℕ) (t : Table Page) → IsFirstFrom t start None → copied start t ≡ map_values bare_page t
+pub copied_all : (start : Bound ℕ) (t : Table PageState) → IsFirstFrom t start None → copied start t ≡ map_values bare_page t
 copied_all start t none = same_table _ _ (λ q. get-copied start t q ∙ copied_whole start q (finmap.get t q) (none q) ∙ sym (get-map_values bare_page t q))
 
 -- the page isn't in the child yet
-pub uncopied : (start : Bound ℕ) (t : Table Page) (page : ℕ) → is_from start page ≡ true → finmap.get (copied start t) page ≡ None
+pub uncopied : (start : Bound ℕ) (t : Table PageState) (page : ℕ) → is_from start page ≡ true → finmap.get (copied start t) page ≡ None
 uncopied start t page from = get-copied start t page ∙ ap (λ b. cond b None (option_map bare_page (finmap.get t page))) from
 
-some_of : (o : Option Page) → IsSome o → (x : Page) × (o ≡ Some x)
+some_of : (o : Option PageState) → IsSome o → (x : PageState) × (o ≡ Some x)
 some_of (Some x) e = (x, refl)
 some_of None e = absurd (let f : false ≡ true = e in cc)
 
@@ -186,7 +186,7 @@ copies_none old parent child alive bare = record {
 }
 
 -- the parent's pages are as they were
-pub parent_same : (old now : Contents) (parent child : ℕ) (t : Table Page) → (parent ≡ child → ⊥) → now ≡ with_space old child t → inside now.spaces parent ≡ inside old.spaces parent
+pub parent_same : (old now : Contents) (parent child : ℕ) (t : Table PageState) → (parent ≡ child → ⊥) → now ≡ with_space old child t → inside now.spaces parent ≡ inside old.spaces parent
 parent_same old now parent child t apart done = ap (λ (c : Contents). inside c.spaces parent) done ∙ inside_other old child parent t apart
 
 pub copy_hole : (old now : Contents) (parent child page : ℕ) (start : Bound ℕ) → Copies old now parent child start → is_from start page ≡ true → page_at now child page ≡ None
@@ -198,7 +198,7 @@ copy_room old now parent child page start copies first few =
     let x = some_of (finmap.get (inside old.spaces parent) page) first.0 in
     omega (arith, copies.few, few, remaining_next start (inside old.spaces parent) page x.0 first x.1)
 
-if_there : (P : Page → Type 0) (o : Option Page) (x : Page) → o ≡ Some x → IfSome o P → P x
+if_there : (P : PageState → Type 0) (o : Option PageState) (x : PageState) → o ≡ Some x → IfSome o P → P x
 if_there P o x e given = (let g : IfSome (Some x) P = subst (λ o. IfSome o P) e given in g)
 
 pub copies_next : (old now new : Contents) (parent child page : ℕ) (start : Bound ℕ) → (parent ≡ child → ⊥) → Copies old now parent child start → IsFirstFrom (inside old.spaces parent) start (Some page)
@@ -216,13 +216,13 @@ copies_next old now new parent child page start apart copies first put =
 pub first_of_parent : (old now : Contents) (parent : ℕ) (start : Bound ℕ) (page : Option ℕ) → inside now.spaces parent ≡ inside old.spaces parent → IsFirstFrom (inside now.spaces parent) start page → IsFirstFrom (inside old.spaces parent) start page
 first_of_parent old now parent start page same first = subst (λ t. IsFirstFrom t start page) same first
 
-pub less_remains : (t : Table Page) (start : Bound ℕ) (page : ℕ) → IsFirstFrom t start (Some page) → remaining (Excluded page) t < remaining start t
+pub less_remains : (t : Table PageState) (start : Bound ℕ) (page : ℕ) → IsFirstFrom t start (Some page) → remaining (Excluded page) t < remaining start t
 less_remains t start page first =
     let x = some_of (finmap.get t page) first.0 in
     omega (arith, remaining_next start t page x.0 first x.1)
 
 -- ---- one page more that is shared
-pub with_swap : (c : Contents) (s u : ℕ) (t v : Table Page) → (s ≡ u → ⊥) → with_space (with_space c s t) u v ≡ with_space (with_space c u v) s t
+pub with_swap : (c : Contents) (s u : ℕ) (t v : Table PageState) → (s ≡ u → ⊥) → with_space (with_space c s t) u v ≡ with_space (with_space c u v) s t
 with_swap c s u t v apart = ap (λ spaces. record { pool = c.pool; spaces = spaces }) (same_nested _ _
     (λ q. alive-insert (finmap.insert c.spaces s t) u v q ∙ ap (λ b. nat_eq q u || b) (alive-insert c.spaces s t q) ∙ or_swap (nat_eq q u) (nat_eq q s) (is_alive c.spaces q)
     ∙ sym (alive-insert (finmap.insert c.spaces u v) s t q ∙ ap (λ b. nat_eq q s || b) (alive-insert c.spaces u v q)))
@@ -236,7 +236,7 @@ with_swap c s u t v apart = ap (λ spaces. record { pool = c.pool; spaces = spac
     or_swap false true c = refl
     or_swap false false c = refl
 
-    cond_swap : (a b : Bool) (x y z : Option Page) → (a ≡ true → b ≡ true → ⊥) → cond a x (cond b y z) ≡ cond b y (cond a x z)
+    cond_swap : (a b : Bool) (x y z : Option PageState) → (a ≡ true → b ≡ true → ⊥) → cond a x (cond b y z) ≡ cond b y (cond a x z)
     cond_swap true true x y z never = absurd (never refl refl)
     cond_swap true false x y z never = refl
     cond_swap false true x y z never = refl
@@ -245,10 +245,10 @@ with_swap c s u t v apart = ap (λ spaces. record { pool = c.pool; spaces = spac
 abbrev pub shared_so_far : Contents → ℕ → ℕ → Bound ℕ → Contents
 shared_so_far old parent child start = with_space (with_space old parent (parted (λ page. page) shared_page start (inside old.spaces parent))) child (parted bare_page inherited_page start (inside old.spaces parent))
 
-plain_values : (t : Table Page) → map_values (λ page. page) t ≡ t
+plain_values : (t : Table PageState) → map_values (λ page. page) t ≡ t
 plain_values t = same_table _ _ (λ q. get-map_values (λ page. page) t q ∙ itself (finmap.get t q))
   where
-    itself : (o : Option Page) → option_map (λ (x : Page). x) o ≡ o
+    itself : (o : Option PageState) → option_map (λ (x : PageState). x) o ≡ o
     itself None = refl
     itself (Some x) = refl
 
@@ -271,18 +271,18 @@ child_so_far old now parent child start done = ap (λ (c : Contents). inside c.s
     ∙ inside_with (with_space old parent (parted (λ page. page) shared_page start (inside old.spaces parent))) child _
 
 -- the same pages are in a table whose pages changed
-mapped_some : (o : Option Page) (f : Page → Page) → is_some (option_map f o) ≡ is_some o
+mapped_some : (o : Option PageState) (f : PageState → PageState) → is_some (option_map f o) ≡ is_some o
 mapped_some None f = refl
 mapped_some (Some x) f = refl
 
-part_there : {Y : Type 0} (later done : Page → Y) (start : Bound ℕ) (t : Table Page) (q : ℕ) → is_some (finmap.get (parted later done start t) q) ≡ is_some (finmap.get t q)
+part_there : {Y : Type 0} (later done : PageState → Y) (start : Bound ℕ) (t : Table PageState) (q : ℕ) → is_some (finmap.get (parted later done start t) q) ≡ is_some (finmap.get t q)
 part_there later done start t q = ap is_some (get-parted later done start t q) ∙ still (finmap.get t q)
   where
-    still : (o : Option Page) → is_some (option_map (λ x. cond (is_from start q) (later x) (done x)) o) ≡ is_some o
+    still : (o : Option PageState) → is_some (option_map (λ x. cond (is_from start q) (later x) (done x)) o) ≡ is_some o
     still None = refl
     still (Some x) = refl
 
-pub first_of_part : (later done : Page → Page) (start : Bound ℕ) (t : Table Page) (page : Option ℕ) → IsFirstFrom (parted later done start t) start page → IsFirstFrom t start page
+pub first_of_part : (later done : PageState → PageState) (start : Bound ℕ) (t : Table PageState) (page : Option ℕ) → IsFirstFrom (parted later done start t) start page → IsFirstFrom t start page
 first_of_part later done start t None none = λ q there. none q (part_there later done start t q ∙ there)
 first_of_part later done start t (Some page) first =
     (sym (part_there later done start t page) ∙ first.0, first.1, λ q there from. first.2 q (part_there later done start t q ∙ there) from)
@@ -293,17 +293,17 @@ first_shared old now parent child start page apart done first =
     first_of_part (λ page. page) shared_page start (inside old.spaces parent) page (subst (λ t. IsFirstFrom t start page) (parent_so_far old now parent child start apart done) first)
 
 -- what the first page is in both tables
-pub parent_page : (old now : Contents) (parent child page : ℕ) (start : Bound ℕ) (x : Page) → (parent ≡ child → ⊥) → now ≡ shared_so_far old parent child start → is_from start page ≡ true
+pub parent_page : (old now : Contents) (parent child page : ℕ) (start : Bound ℕ) (x : PageState) → (parent ≡ child → ⊥) → now ≡ shared_so_far old parent child start → is_from start page ≡ true
     → finmap.get (inside old.spaces parent) page ≡ Some x → page_at now parent page ≡ Some x
 parent_page old now parent child page start x apart done from is = ap (λ t. finmap.get t page) (parent_so_far old now parent child start apart done)
     ∙ get-parted (λ page. page) shared_page start (inside old.spaces parent) page ∙ ap (option_map (λ x. cond (is_from start page) x (shared_page x))) is ∙ ap (λ b. Some (cond b x (shared_page x))) from
 
-pub child_page : (old now : Contents) (parent child page : ℕ) (start : Bound ℕ) (x : Page) → now ≡ shared_so_far old parent child start → is_from start page ≡ true
+pub child_page : (old now : Contents) (parent child page : ℕ) (start : Bound ℕ) (x : PageState) → now ≡ shared_so_far old parent child start → is_from start page ≡ true
     → finmap.get (inside old.spaces parent) page ≡ Some x → page_at now child page ≡ Some (bare_page x)
 child_page old now parent child page start x done from is = ap (λ t. finmap.get t page) (child_so_far old now parent child start done)
     ∙ get-parted bare_page inherited_page start (inside old.spaces parent) page ∙ ap (option_map (λ x. cond (is_from start page) (bare_page x) (inherited_page x))) is ∙ ap (λ b. Some (cond b (bare_page x) (inherited_page x))) from
 
-pub page_of_first : (t : Table Page) (start : Bound ℕ) (page : ℕ) → IsFirstFrom t start (Some page) → (x : Page) × (finmap.get t page ≡ Some x)
+pub page_of_first : (t : Table PageState) (start : Bound ℕ) (page : ℕ) → IsFirstFrom t start (Some page) → (x : PageState) × (finmap.get t page ≡ Some x)
 page_of_first t start page first = some_of (finmap.get t page) first.0
 
 pub shares_next : (old now new : Contents) (parent child page : ℕ) (start : Bound ℕ) → (parent ≡ child → ⊥) → now ≡ shared_so_far old parent child start → IsFirstFrom (inside old.spaces parent) start (Some page)

@@ -7,7 +7,7 @@ use Rattle.std.specs.Option.{option_map_or}
 use Rattle.std.specs.FinMap as finmap
 use Rattle.sd_tables.specs.declared.entry.Entry.{Entry}
 use Rattle.sd_pagetable.specs.Nested.{Table, Nested, value_at, put_at, total, total_within}
-use Rattle.sd_pagetable.specs.Page.{Page}
+use Rattle.sd_pagetable.specs.Page.{PageState}
 use Rattle.sd_pagetable.specs.Contents.{Contents, page_at, put_page, members, share_of, page_count}
 use Rattle.sd_frames.specs.Frames.{Pool, Cell, cell_at, count_at, frame_bytes}
 use Rattle.sd_pagetable.specs.View.{page_of_entry, contents_of, IsKept}
@@ -61,16 +61,16 @@ module _ (old new : Pool) (tables : Nested Entry) (n parent child p : ℕ) (e ow
   ]
 
   -- an open page isn't in the class of the parent's
-  apart_shared : (e' : Entry) → e'.frame ≡ e.frame → (q r : ℕ) (y : Page) (k : ℕ) (o : Option ℕ) → e.frame ≡ o → page_at (contents_of old tables) q r ≡ Some y → y.writable ≡ true → y.class ≡ Some k → members (contents_of old tables) k ≡ 1 → share_of k (page_of_entry new e') ≡ 0
+  apart_shared : (e' : Entry) → e'.frame ≡ e.frame → (q r : ℕ) (y : PageState) (k : ℕ) (o : Option ℕ) → e.frame ≡ o → page_at (contents_of old tables) q r ≡ Some y → y.writable ≡ true → y.class ≡ Some k → members (contents_of old tables) k ≡ 1 → share_of k (page_of_entry new e') ≡ 0
   apart_shared e' same q r y k None f hy w c one = ap (λ o. option_map_or (λ j. cond {A = ℕ} (nat_eq j k) 1 0) o 0) (same ∙ f)
   apart_shared e' same q r y k (Some j) f hy w c one = elim (cases_eq j k) [
     | inl here ↦ absurd (elim (cases_Bool (is_at parent p q r)) [
       | inl at_parent ↦
           let s_is : q ≡ parent = grind (arith, nat_tests) in
           let p_is : r ≡ p = grind (arith, nat_tests) in
-          let z : ◌≡◌ {A = Option Page} (Some (page_of_entry old e)) (Some y) = sym (entry_there old tables parent p e there) ∙ ap (λ a. page_at (contents_of old tables) a p) (sym s_is) ∙ ap (page_at (contents_of old tables) q) (sym p_is) ∙ hy in
+          let z : ◌≡◌ {A = Option PageState} (Some (page_of_entry old e)) (Some y) = sym (entry_there old tables parent p e there) ∙ ap (λ a. page_at (contents_of old tables) a p) (sym s_is) ∙ ap (page_at (contents_of old tables) q) (sym p_is) ∙ hy in
           let same_page : page_of_entry old e ≡ y = cc in
-          never e.writable closed (ap (λ (x : Page). x.writable) same_page ∙ w)
+          never e.writable closed (ap (λ (x : PageState). x.writable) same_page ∙ w)
       | inr apart ↦
           let a = alone_apart (contents_of old tables) parent p q r (page_of_entry old e) y k one (entry_there old tables parent p e there) hy c apart in
           let b = one_share k (page_of_entry old e) (f ∙ ap Some here) in

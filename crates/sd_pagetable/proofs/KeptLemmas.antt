@@ -5,7 +5,7 @@ use Rattle.std.proofs.lemmas.Bool.{cases_Bool, cases_eq, cond-false, ne_eqb}
 use Rattle.std.specs.Option.{option_map_or}
 use Rattle.sd_tables.specs.declared.entry.Entry.{Entry}
 use Rattle.sd_pagetable.specs.Nested.{Nested, value_at, is_alive, put_at, total}
-use Rattle.sd_pagetable.specs.Page.{Page, zeros}
+use Rattle.sd_pagetable.specs.Page.{PageState, zeros}
 use Rattle.sd_pagetable.specs.Contents.{Contents, page_at, put_page, members, share_of, page_count, IsWritable, IsSound}
 use Rattle.sd_frames.specs.Frames.{Pool, Cell, cell_at, count_at, SetsCell, frame_bytes}
 use Rattle.sd_pagetable.specs.View.{page_of_entry, contents_of, IsKept}
@@ -14,32 +14,32 @@ use Rattle.sd_pagetable.proofs.TotalLemmas.{total_within-put, total_within_ge}
 use Rattle.sd_pagetable.proofs.ViewLemmas.{view_put, same_pool, SameOthers, is_at, entry_there, alone_apart, alone_in, is_alone_in, sound_put, one_share}
 
 -- no other open page is in the page's class
-abbrev pub IsApart : Contents → ℕ → ℕ → Page → Type 0
-IsApart m s p x = (q r : ℕ) (y : Page) (k : ℕ) → is_at s p q r ≡ false → page_at m q r ≡ Some y → y.writable ≡ true → y.class ≡ Some k → members m k ≡ 1 → share_of k x ≡ 0
+abbrev pub IsApart : Contents → ℕ → ℕ → PageState → Type 0
+IsApart m s p x = (q r : ℕ) (y : PageState) (k : ℕ) → is_at s p q r ≡ false → page_at m q r ≡ Some y → y.writable ≡ true → y.class ≡ Some k → members m k ≡ 1 → share_of k x ≡ 0
 
-pub share_class : (k : ℕ) (x y : Page) → x.class ≡ y.class → share_of k x ≡ share_of k y
+pub share_class : (k : ℕ) (x y : PageState) → x.class ≡ y.class → share_of k x ≡ share_of k y
 share_class k x y e = ap (λ o. option_map_or (λ j. cond (nat_eq j k) 1 0) o 0) e
 
 -- a page that stays in its class
-pub apart_same : (m : Contents) (s p : ℕ) (x old : Page) → page_at m s p ≡ Some old → x.class ≡ old.class → IsApart m s p x
+pub apart_same : (m : Contents) (s p : ℕ) (x old : PageState) → page_at m s p ≡ Some old → x.class ≡ old.class → IsApart m s p x
 apart_same m s p x old h e q r y k apart hy w c one = share_class k x old e ∙ alone_apart m s p q r old y k one h hy c apart
 
 -- a page without a class
-pub apart_none : (m : Contents) (s p : ℕ) (x : Page) → x.class ≡ None → IsApart m s p x
+pub apart_none : (m : Contents) (s p : ℕ) (x : PageState) → x.class ≡ None → IsApart m s p x
 apart_none m s p x e q r y k apart hy w c one = ap (λ o. option_map_or (λ j. cond (nat_eq j k) 1 0) o 0) e
 
 pub other_class : (j k : ℕ) → (j ≡ k → ⊥) → cond {A = ℕ} (nat_eq j k) 1 0 ≡ 0
 other_class j k n = cond-false (nat_eq j k) 1 0 (ne_eqb j k n)
 
 -- a page in a class that had no page
-pub apart_new : (m : Contents) (s p : ℕ) (x : Page) (j : ℕ) → x.class ≡ Some j → members m j ≡ 0 → IsApart m s p x
+pub apart_new : (m : Contents) (s p : ℕ) (x : PageState) (j : ℕ) → x.class ≡ Some j → members m j ≡ 0 → IsApart m s p x
 apart_new m s p x j e none q r y k apart hy w c one = ap (λ o. option_map_or (λ i. cond (nat_eq i k) 1 0) o 0) e
     ∙ other_class j k (λ same. let f : members m j ≡ members m k = ap (members m) same in absurd (omega (arith, f, none, one)))
 
-abbrev pub one_page : Page → ℕ
+abbrev pub one_page : PageState → ℕ
 one_page _ = 1
 
-module _ (old new : Pool) (tables : Nested Entry) (n count : ℕ) (s p : ℕ) (e : Entry) (before : Option Page) (kept : IsKept old tables n) (size : new.size ≡ old.size) (alive : is_alive tables s ≡ true) (others : SameOthers old new tables s p) (there : page_at (contents_of old tables) s p ≡ before) where
+module _ (old new : Pool) (tables : Nested Entry) (n count : ℕ) (s p : ℕ) (e : Entry) (before : Option PageState) (kept : IsKept old tables n) (size : new.size ≡ old.size) (alive : is_alive tables s ≡ true) (others : SameOthers old new tables s p) (there : page_at (contents_of old tables) s p ≡ before) where
   pub kept_put : p < 2 ^ 35 → ((k : ℕ) → count_at new k + option_map_or (share_of k) before 0 ≡ count_at old k + share_of k (page_of_entry new e))
       → ((k : ℕ) (c : Cell) → cell_at new k ≡ Some c → 0 < c.count) → count + option_map_or one_page before 0 ≡ n + 1 → count ≤ 65536 → ((k : ℕ) → e.frame ≡ Some k → k < old.size)
       → (e.writable ≡ true → IsWritable (put_page (contents_of old tables) s p (page_of_entry new e)) (page_of_entry new e))

@@ -8,9 +8,9 @@ use Rattle.std.specs.FinMap.{get-empty}
 use Rattle.sd_areas.specs.declared.prot.Prot.{Prot}
 use Rattle.sd_areas.specs.Pages.{is_within}
 use Rattle.sd_pagetable.specs.Nested.{Table, Nested, map_values, inside, value_at}
-use Rattle.sd_pagetable.specs.Page.{Page, fresh_page, protected_page, shared_page, inherited_page, writable_page}
+use Rattle.sd_pagetable.specs.Page.{PageState, fresh_page, protected_page, shared_page, inherited_page, writable_page}
 use Rattle.sd_pagetable.specs.Contents.{Contents, page_at, put_page}
-use Rattle.sd_pagetable.specs.Tracking.{Event, Mapped, Unmapped, Protected, Forked, Exited, Faulted, Tried, Stored, Cleared, Passed, Step, with_space, touches, clears, makes_writable, write_protects}
+use Rattle.sd_pagetable.specs.Tracking.{MemoryEvent, Mapped, Unmapped, Protected, Forked, Exited, Faulted, Tried, Stored, Cleared, Passed, Step, with_space, touches, clears, makes_writable, write_protects}
 use Rattle.sd_pagetable.specs.PageLaw.{IsChangedBy, ComesFrom, PageLaw}
 use Rattle.sd_pagetable.proofs.TableLemmas.{get_removed, get-map_values, get-set_within, get-remove_within, get-change_within}
 use Rattle.sd_pagetable.proofs.NestedLemmas.{tests, value_at-insert, value_at-put}
@@ -33,28 +33,28 @@ gone : {A : Type 0} (x : A) → None ≡ Some x → {B : Type 0} → B
 gone x e = absurd (let f : None ≡ Some x = e in cc)
 
 -- an event that does nothing to the page
-abbrev IsIdle : Event → ℕ → ℕ → Type 0
+abbrev IsIdle : MemoryEvent → ℕ → ℕ → Type 0
 IsIdle event space number = (touches space number event ≡ false) × (clears space number event ≡ false) × (makes_writable space number event ≡ false) × (write_protects space number event ≡ false)
 
-idle : (event : Event) (space number : ℕ) (page : Page) → IsIdle event space number → IsChangedBy event space number page page
+idle : (event : MemoryEvent) (space number : ℕ) (page : PageState) → IsIdle event space number → IsChangedBy event space number page page
 idle event space number page is = record {
   soft_dirty = sym (ap (λ c. cond c false (touches space number event || page.soft_dirty)) is.1 ∙ ap (λ t. t || page.soft_dirty) is.0);
   writable = sym (ap (λ c. cond c false (makes_writable space number event || page.writable)) is.3 ∙ ap (λ o. o || page.writable) is.2);
   bytes = λ _. refl;
 }
 
-kept : (old : Contents) (event : Event) (space number : ℕ) (after : Page) → page_at old space number ≡ Some after → IsIdle event space number → ComesFrom old event space number after
+kept : (old : Contents) (event : MemoryEvent) (space number : ℕ) (after : PageState) → page_at old space number ≡ Some after → IsIdle event space number → ComesFrom old event space number after
 kept old event space number after there is = inl (after, there, idle event space number after is)
 
 -- what a space that has other pages has at a page
-other : (old : Contents) (s space number : ℕ) (pages : Table Page) → page_at (with_space old s pages) space number ≡ cond (nat_eq s space) (finmap.get pages number) (page_at old space number)
+other : (old : Contents) (s space number : ℕ) (pages : Table PageState) → page_at (with_space old s pages) space number ≡ cond (nat_eq s space) (finmap.get pages number) (page_at old space number)
 other old s space number pages = value_at-insert old.spaces s pages space number ∙ ap (λ b. cond b (finmap.get pages number) (page_at old space number)) (turned space s)
 
-in_other : (s space number : ℕ) (nested : Nested Page) → nat_eq s space ≡ true → finmap.get (inside nested s) number ≡ value_at nested space number
+in_other : (s space number : ℕ) (nested : Nested PageState) → nat_eq s space ≡ true → finmap.get (inside nested s) number ≡ value_at nested space number
 in_other s space number nested e = ap (λ k. finmap.get (inside nested k) number) (tests s space e)
 
 -- `mmap`
-mapped : (old : Contents) (s first count : ℕ) (prot : Prot) (space number : ℕ) (after : Page) (here within : Bool) → nat_eq s space ≡ here → is_within first count number ≡ within
+mapped : (old : Contents) (s first count : ℕ) (prot : Prot) (space number : ℕ) (after : PageState) (here within : Bool) → nat_eq s space ≡ here → is_within first count number ≡ within
     → cond here (cond within (Some (fresh_page prot)) (finmap.get (inside old.spaces s) number)) (page_at old space number) ≡ Some after
     → ComesFrom old (Mapped s first count prot) space number after
 mapped old s first count prot space number after false within e f is = kept old _ space number after is (ap (λ h. h && is_within first count number) e, refl, refl, ap (λ h. h && is_within first count number) e)
@@ -64,12 +64,12 @@ mapped old s first count prot space number after true true e f is = inr (record 
   touched = ap (λ h. h && is_within first count number) e ∙ f;
   uncleared = refl;
   protected = ap (λ h. h && is_within first count number) e ∙ f;
-  soft_dirty = ap (λ (p : Page). p.soft_dirty) (sym (same _ _ is));
-  writable = ap (λ (p : Page). p.writable) (sym (same _ _ is));
+  soft_dirty = ap (λ (p : PageState). p.soft_dirty) (sym (same _ _ is));
+  writable = ap (λ (p : PageState). p.writable) (sym (same _ _ is));
 })
 
 -- `munmap`
-unmapped : (old : Contents) (s first count : ℕ) (space number : ℕ) (after : Page) (here within : Bool) → nat_eq s space ≡ here → is_within first count number ≡ within
+unmapped : (old : Contents) (s first count : ℕ) (space number : ℕ) (after : PageState) (here within : Bool) → nat_eq s space ≡ here → is_within first count number ≡ within
     → cond here (cond within None (finmap.get (inside old.spaces s) number)) (page_at old space number) ≡ Some after
     → ComesFrom old (Unmapped s first count) space number after
 unmapped old s first count space number after false within e f is = kept old _ space number after is (refl, refl, refl, ap (λ h. h && is_within first count number) e)
@@ -82,28 +82,28 @@ pub changed : {A B : Type 0} (f : A → B) (o : Option A) (y : B) → option_map
 changed f None y e = gone y e
 changed f (Some x) y e = (x, refl, sym (same _ _ e))
 
-protected : (old : Contents) (s first count : ℕ) (prot : Prot) (space number : ℕ) (after : Page) (here within : Bool) → nat_eq s space ≡ here → is_within first count number ≡ within
-    → cond here (option_map (λ (p : Page). cond within (protected_page prot p) p) (finmap.get (inside old.spaces s) number)) (page_at old space number) ≡ Some after
+protected : (old : Contents) (s first count : ℕ) (prot : Prot) (space number : ℕ) (after : PageState) (here within : Bool) → nat_eq s space ≡ here → is_within first count number ≡ within
+    → cond here (option_map (λ (p : PageState). cond within (protected_page prot p) p) (finmap.get (inside old.spaces s) number)) (page_at old space number) ≡ Some after
     → ComesFrom old (Protected s first count prot) space number after
 protected old s first count prot space number after false within e f is = kept old _ space number after is (refl, refl, refl, ap (λ h. h && is_within first count number) e)
 protected old s first count prot space number after true false e f is =
-    let was = changed (λ (p : Page). p) _ after is in
+    let was = changed (λ (p : PageState). p) _ after is in
     kept old _ space number after (sym (in_other s space number old.spaces e) ∙ was.1 ∙ ap Some (sym was.2))
     (refl, refl, refl, ap (λ h. h && is_within first count number) e ∙ f)
 protected old s first count prot space number after true true e f is =
-    let was = changed (λ (p : Page). protected_page prot p) _ after is in
+    let was = changed (λ (p : PageState). protected_page prot p) _ after is in
     inl (
       was.0,
       sym (in_other s space number old.spaces e) ∙ was.1,
       record {
-        soft_dirty = ap (λ (p : Page). p.soft_dirty) was.2;
-        writable = ap (λ (p : Page). p.writable) was.2 ∙ sym (ap (λ c. cond c false was.0.writable) (ap (λ h. h && is_within first count number) e ∙ f));
-        bytes = λ _. ap (λ (p : Page). p.bytes) was.2;
+        soft_dirty = ap (λ (p : PageState). p.soft_dirty) was.2;
+        writable = ap (λ (p : PageState). p.writable) was.2 ∙ sym (ap (λ c. cond c false was.0.writable) (ap (λ h. h && is_within first count number) e ∙ f));
+        bytes = λ _. ap (λ (p : PageState). p.bytes) was.2;
       },
     )
 
 -- `fork`
-forked_page : (old : Contents) (parent child : ℕ) (space number : ℕ) (after : Page) (is_child is_parent : Bool) → nat_eq child space ≡ is_child → nat_eq parent space ≡ is_parent
+forked_page : (old : Contents) (parent child : ℕ) (space number : ℕ) (after : PageState) (is_child is_parent : Bool) → nat_eq child space ≡ is_child → nat_eq parent space ≡ is_parent
     → cond is_child (option_map inherited_page (finmap.get (inside old.spaces parent) number))
     (cond is_parent (option_map shared_page (finmap.get (inside old.spaces parent) number)) (page_at old space number)) ≡ Some after
     → ComesFrom old (Forked parent child) space number after
@@ -113,8 +113,8 @@ forked_page old parent child space number after true is_parent e f is =
       touched = e;
       uncleared = refl;
       protected = either (nat_eq parent space) (nat_eq child space) e;
-      soft_dirty = ap (λ (p : Page). p.soft_dirty) was.2;
-      writable = ap (λ (p : Page). p.writable) was.2;
+      soft_dirty = ap (λ (p : PageState). p.soft_dirty) was.2;
+      writable = ap (λ (p : PageState). p.writable) was.2;
     })
   where
     either : (a b : Bool) → b ≡ true → (a || b) ≡ true
@@ -126,21 +126,21 @@ forked_page old parent child space number after false true e f is =
       was.0,
       sym (in_other parent space number old.spaces f) ∙ was.1,
       record {
-        soft_dirty = ap (λ (p : Page). p.soft_dirty) was.2 ∙ sym (ap (λ t. t || was.0.soft_dirty) e);
-        writable = ap (λ (p : Page). p.writable) was.2 ∙ sym (ap (λ c. cond (c || nat_eq child space) false was.0.writable) f);
-        bytes = λ _. ap (λ (p : Page). p.bytes) was.2;
+        soft_dirty = ap (λ (p : PageState). p.soft_dirty) was.2 ∙ sym (ap (λ t. t || was.0.soft_dirty) e);
+        writable = ap (λ (p : PageState). p.writable) was.2 ∙ sym (ap (λ c. cond (c || nat_eq child space) false was.0.writable) f);
+        bytes = λ _. ap (λ (p : PageState). p.bytes) was.2;
       },
     )
 forked_page old parent child space number after false false e f is = kept old _ space number after is (e, refl, refl, ap (λ a. a || nat_eq child space) f ∙ e)
 
 -- `exit`
-exited : (old : Contents) (s : ℕ) (space number : ℕ) (after : Page) (here : Bool) → nat_eq s space ≡ here
+exited : (old : Contents) (s : ℕ) (space number : ℕ) (after : PageState) (here : Bool) → nat_eq s space ≡ here
     → cond here None (page_at old space number) ≡ Some after → ComesFrom old (Exited s) space number after
 exited old s space number after true e is = gone after is
 exited old s space number after false e is = kept old _ space number after is (refl, refl, refl, refl)
 
 -- a fault or a store
-opened : (old : Contents) (s p : ℕ) (event : Event) (bytes : List ℕ) (class : ℕ) (space number : ℕ) (before after : Page) (here : Bool)
+opened : (old : Contents) (s p : ℕ) (event : MemoryEvent) (bytes : List ℕ) (class : ℕ) (space number : ℕ) (before after : PageState) (here : Bool)
     → touches space number event ≡ (nat_eq s space && nat_eq p number) → makes_writable space number event ≡ (nat_eq s space && nat_eq p number)
     → clears space number event ≡ false → write_protects space number event ≡ false
     → page_at old s p ≡ Some before → (nat_eq s space && nat_eq p number) ≡ here
@@ -151,8 +151,8 @@ opened old s p event bytes class space number before after true t o c d there e 
       before,
       at_page s p space number e ∙ there,
       record {
-        soft_dirty = ap (λ (q : Page). q.soft_dirty) (sym (same _ _ is)) ∙ sym (ap (λ b. cond b false (touches space number event || before.soft_dirty)) c ∙ ap (λ b. b || before.soft_dirty) (t ∙ e));
-        writable = ap (λ (q : Page). q.writable) (sym (same _ _ is)) ∙ sym (ap (λ b. cond b false (makes_writable space number event || before.writable)) d ∙ ap (λ b. b || before.writable) (o ∙ e));
+        soft_dirty = ap (λ (q : PageState). q.soft_dirty) (sym (same _ _ is)) ∙ sym (ap (λ b. cond b false (touches space number event || before.soft_dirty)) c ∙ ap (λ b. b || before.soft_dirty) (t ∙ e));
+        writable = ap (λ (q : PageState). q.writable) (sym (same _ _ is)) ∙ sym (ap (λ b. cond b false (makes_writable space number event || before.writable)) d ∙ ap (λ b. b || before.writable) (o ∙ e));
         bytes = λ untouched. absurd (both_tests _ (t ∙ e) untouched);
       },
     )
@@ -171,7 +171,7 @@ opened old s p event bytes class space number before after true t o c d there e 
         ∙ ap (λ k. page_at old s k) (sym (tests p number (right_of (nat_eq s space) (nat_eq p number) e)))
 
 -- a store to a writable page, and a clear
-replaced : (old : Contents) (s p : ℕ) (event : Event) (space number : ℕ) (before page after : Page) (here : Bool)
+replaced : (old : Contents) (s p : ℕ) (event : MemoryEvent) (space number : ℕ) (before page after : PageState) (here : Bool)
     → ((nat_eq s space && nat_eq p number) ≡ true → IsChangedBy event space number before page) → ((nat_eq s space && nat_eq p number) ≡ false → IsIdle event space number)
     → page_at old s p ≡ Some before → (nat_eq s space && nat_eq p number) ≡ here
     → cond here (Some page) (page_at old space number) ≡ Some after → ComesFrom old event space number after
@@ -192,14 +192,14 @@ replaced old s p event space number before page after true k i there e is =
         ap (λ k. page_at old k number) (sym (tests s space (left_of (nat_eq s space) (nat_eq p number) e)))
         ∙ ap (λ k. page_at old s k) (sym (tests p number (right_of (nat_eq s space) (nat_eq p number) e)))
 
-put : (old : Contents) (s p : ℕ) (page : Page) (space number : ℕ) → page_at (put_page old s p page) space number ≡ cond (nat_eq s space && nat_eq p number) (Some page) (page_at old space number)
+put : (old : Contents) (s p : ℕ) (page : PageState) (space number : ℕ) → page_at (put_page old s p page) space number ≡ cond (nat_eq s space && nat_eq p number) (Some page) (page_at old space number)
 put old s p page space number = value_at-put old.spaces s p page space number
     ∙ ap (λ b. cond (b && nat_eq number p) (Some page) (page_at old space number)) (turned space s)
     ∙ ap (λ b. cond (nat_eq s space && b) (Some page) (page_at old space number)) (turned number p)
 
 -- where a page of a memory comes from, by the event that led there; before it, what is writable has to be soft-dirty
-pub comes : (old new : Contents) (event : Event) (space number : ℕ) (after : Page)
-    → ((s p : ℕ) (page : Page) → page_at old s p ≡ Some page → page.writable ≡ true → page.soft_dirty ≡ true)
+pub comes : (old new : Contents) (event : MemoryEvent) (space number : ℕ) (after : PageState)
+    → ((s p : ℕ) (page : PageState) → page_at old s p ≡ Some page → page.writable ≡ true → page.soft_dirty ≡ true)
     → Step old event new → page_at new space number ≡ Some after → ComesFrom old event space number after
 comes old new (Mapped s first count prot) space number after dirty step there =
     mapped old s first count prot space number after _ _ refl refl
@@ -223,7 +223,7 @@ comes old new (Forked parent child) space number after dirty step there =
 comes old new (Exited s) space number after dirty step there =
     exited old s space number after _ refl (sym (removed s space number) ∙ ap (λ c. page_at c space number) (sym step) ∙ there)
   where
-    taken : (number : ℕ) (b : Bool) (o : Option (Table Page)) → finmap.get (unwrap_or (cond b None o) finmap.empty) number ≡ cond b None (finmap.get (unwrap_or o finmap.empty) number)
+    taken : (number : ℕ) (b : Bool) (o : Option (Table PageState)) → finmap.get (unwrap_or (cond b None o) finmap.empty) number ≡ cond b None (finmap.get (unwrap_or o finmap.empty) number)
     taken number true o = get-empty nat_cmp number
     taken number false o = refl
 

@@ -2,9 +2,9 @@
 use Rattle.std.proofs.Common.{◌≡◌, ℕ, Bool, true, false, cond, ◌||◌, List, [], ◌∷◌, Option, Some, None, Ok, refl, sym, ◌∙◌, ap, subst, inl, inr}
 use Rattle.std.specs.Option.{option_map_or}
 use Rattle.sd_areas.specs.Pages.{page_of}
-use Rattle.sd_pagetable.specs.Page.{Page, plain_page}
+use Rattle.sd_pagetable.specs.Page.{PageState, plain_page}
 use Rattle.sd_pagetable.specs.Contents.{Contents, page_at, plain_of}
-use Rattle.sd_pagetable.specs.Tracking.{Event, Step, Tracks, TracksLaw, IsBeginning, BitsLaw, TryLaw, touches, clears, makes_writable, write_protects, is_dirty, is_writable}
+use Rattle.sd_pagetable.specs.Tracking.{MemoryEvent, Step, Tracks, TracksLaw, IsBeginning, BitsLaw, TryLaw, touches, clears, makes_writable, write_protects, is_dirty, is_writable}
 use Rattle.std.specs.Prelude.{Result}
 use Rattle.sd_areas.specs.PlainMemory as plain
 use Rattle.sd_pagetable.specs.declared.access_error.AccessError.{AccessError}
@@ -20,22 +20,22 @@ use Rattle.sd_pagetable.proofs.LawEvents.{comes, changed}
 use Rattle.sd_pagetable.proofs.NestedLemmas.{value_at-map}
 use Rattle.sd_pagetable.proofs.LawTests.{dirty_more, writable_more, writable_is_dirty}
 
-pub tracks_more : (history : List Event) (event : Event) (old new : Contents) → Tracks history old → Step old event new → Tracks (event ∷ history) new
+pub tracks_more : (history : List MemoryEvent) (event : MemoryEvent) (old new : Contents) → Tracks history old → Step old event new → Tracks (event ∷ history) new
 tracks_more history event old new tracks step = record {
   soft_dirty = λ space number page there. dirty_then space number page (comes old new event space number page dirty step there);
   writable = λ space number page there. writable_then space number page (comes old new event space number page dirty step there);
 }
   where
-    dirty : (s p : ℕ) (page : Page) → page_at old s p ≡ Some page → page.writable ≡ true → page.soft_dirty ≡ true
+    dirty : (s p : ℕ) (page : PageState) → page_at old s p ≡ Some page → page.writable ≡ true → page.soft_dirty ≡ true
     dirty s p page there is = tracks.soft_dirty s p page there ∙ writable_is_dirty history s p (sym (tracks.writable s p page there) ∙ is)
 
-    dirty_then : (space number : ℕ) (page : Page) → ComesFrom old event space number page → page.soft_dirty ≡ is_dirty (event ∷ history) space number
+    dirty_then : (space number : ℕ) (page : PageState) → ComesFrom old event space number page → page.soft_dirty ≡ is_dirty (event ∷ history) space number
     dirty_then space number page (inl k) = k.2.soft_dirty
         ∙ ap (λ b. cond (clears space number event) false (touches space number event || b)) (tracks.soft_dirty space number k.0 k.1) ∙ sym (dirty_more event history space number)
     dirty_then space number page (inr m) = m.soft_dirty
         ∙ sym (dirty_more event history space number ∙ ap (λ c. cond c false (touches space number event || is_dirty history space number)) m.uncleared ∙ ap (λ t. t || is_dirty history space number) m.touched)
 
-    writable_then : (space number : ℕ) (page : Page) → ComesFrom old event space number page → page.writable ≡ is_writable (event ∷ history) space number
+    writable_then : (space number : ℕ) (page : PageState) → ComesFrom old event space number page → page.writable ≡ is_writable (event ∷ history) space number
     writable_then space number page (inl k) = k.2.writable
         ∙ ap (λ b. cond (write_protects space number event) false (makes_writable space number event || b)) (tracks.writable space number k.0 k.1) ∙ sym (writable_more event history space number)
     writable_then space number page (inr m) = m.writable
@@ -61,7 +61,7 @@ permitted true true found e = absurd (let f : Some (Refused Einval) ≡ None = e
 permitted true false None e = absurd (let f : page_due Write None ≡ None = e in cc)
 permitted true false (Some page) e = (page, refl)
 
-mapped_there : (contents : Contents) (space address bytes : ℕ) → access_due (plain_of contents) space address bytes Write ≡ None → (page : Page) × (page_at contents space (page_of address) ≡ Some page)
+mapped_there : (contents : Contents) (space address bytes : ℕ) → access_due (plain_of contents) space address bytes Write ≡ None → (page : PageState) × (page_at contents space (page_of address) ≡ Some page)
 unfolding plain_of
 mapped_there contents space address bytes allowed =
     let there = permitted _ _ (value_at (plain_of contents) space (page_of address)) allowed in
@@ -81,6 +81,6 @@ try_law start end history space address bytes beginning run allowed =
     let there = mapped_there end space address bytes allowed in
     let writable = (bits_law start end history beginning run).writable space number there.0 there.1 in
     let reply : try_outcome end space address bytes ≡ replied (is_writable history space number) =
-    ap (λ d. answer d (try_answer (option_map_or (λ (page : Page). page.writable) (page_at end space number) false))) allowed
-    ∙ ap (λ o. replied (option_map_or (λ (page : Page). page.writable) o false)) there.1 ∙ ap replied writable in
+    ap (λ d. answer d (try_answer (option_map_or (λ (page : PageState). page.writable) (page_at end space number) false))) allowed
+    ∙ ap (λ o. replied (option_map_or (λ (page : PageState). page.writable) o false)) there.1 ∙ ap replied writable in
     (λ e. needs_fault (is_writable history space number) (sym reply ∙ e), λ e. reply ∙ ap replied e)

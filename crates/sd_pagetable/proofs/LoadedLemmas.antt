@@ -6,11 +6,11 @@ use Rattle.std.specs.Option.{option_map, option_map_or}
 use Rattle.sd_areas.specs.PlainMemory as plain
 use Rattle.sd_tables.specs.declared.entry.Entry.{Entry}
 use Rattle.sd_pagetable.specs.Nested.{Nested, value_at, put_at}
-use Rattle.sd_pagetable.specs.Page.{Page, zeros, fresh_page, plain_page}
+use Rattle.sd_pagetable.specs.Page.{PageState, zeros, fresh_page, plain_page}
 use Rattle.sd_pagetable.specs.Contents.{Contents, page_at, put_page, plain_of, members, share_of, classes, is_full}
 use Rattle.sd_frames.specs.Frames.{Pool, Cell, cell_at, count_at, SetsCell, HasFree}
 use Rattle.sd_pagetable.specs.View.{page_of_entry, contents_of, IsKept}
-use Rattle.sd_pagetable.specs.Loaded.{is_zero_page, frames_for, nonzero_pages, loaded_page, IsClassFor, Loads, GivesFrame, IsBegun}
+use Rattle.sd_pagetable.specs.Loaded.{is_zero_page, frames_for, nonzero_pages, loaded_page, IsClassFor, Loads, GivesFrame, IsBegunMemory}
 use Rattle.sd_pagetable.proofs.NestedLemmas.{alive_at, value_at-put}
 use Rattle.sd_pagetable.proofs.TotalLemmas.{total_within-put}
 use Rattle.sd_pagetable.proofs.ViewLemmas.{view_put, is_at, SameOthers, entry_there, alone_in, is_alone_in, one_share}
@@ -69,7 +69,7 @@ unfolding zeros
 zero_bytes bytes len h = all_zero bytes h ∙ ap (λ n. replicate n 0) len
 
 -- ---- one page more
-module _ (m : Contents) (s p : ℕ) (x : Page) (hole : page_at m s p ≡ None) where
+module _ (m : Contents) (s p : ℕ) (x : PageState) (hole : page_at m s p ≡ None) where
   added_members : (k : ℕ) → members (put_page m s p x) k ≡ members m k + share_of k x
   added_members k = (let a = total_within-put (share_of k) m.spaces s p x in let b : option_map_or (share_of k) (page_at m s p) 0 ≡ 0 = ap (λ o. option_map_or (share_of k) o 0) hole in omega (arith, a, b))
 
@@ -80,26 +80,26 @@ module _ (m : Contents) (s p : ℕ) (x : Page) (hole : page_at m s p ≡ None) w
       let c = ap nonzero_pages (plain_put m s p x) in
       omega (arith, a, b, c)
 
-  added_at : (q r : ℕ) (y : Page) → page_at (put_page m s p x) q r ≡ Some y → ((is_at s p q r ≡ true) × (x ≡ y)) ⊎ (page_at m q r ≡ Some y)
+  added_at : (q r : ℕ) (y : PageState) → page_at (put_page m s p x) q r ≡ Some y → ((is_at s p q r ≡ true) × (x ≡ y)) ⊎ (page_at m q r ≡ Some y)
   added_at q r y h = elim (cases_Bool (is_at s p q r)) [
-    | inl t ↦ inl (t, (let f : ◌≡◌ {A = Option Page} (Some x) (Some y) = sym (ap (λ b. cond b (Some x) (page_at m q r)) t) ∙ sym (value_at-put m.spaces s p x q r) ∙ h in cc))
+    | inl t ↦ inl (t, (let f : ◌≡◌ {A = Option PageState} (Some x) (Some y) = sym (ap (λ b. cond b (Some x) (page_at m q r)) t) ∙ sym (value_at-put m.spaces s p x q r) ∙ h in cc))
     | inr f ↦ inr (sym (ap (λ b. cond b (Some x) (page_at m q r)) f) ∙ sym (value_at-put m.spaces s p x q r) ∙ h)
   ]
 
-no_share : (k : ℕ) (x : Page) → x.class ≡ None → share_of k x ≡ 0
+no_share : (k : ℕ) (x : PageState) → x.class ≡ None → share_of k x ≡ 0
 no_share k x h = ap (λ o. option_map_or (λ j. cond {A = ℕ} (nat_eq j k) 1 0) o 0) h
 
 -- a page without a class changes no class
-pub same_members : (m : Contents) (s p : ℕ) (x : Page) → page_at m s p ≡ None → x.class ≡ None → (k : ℕ) → members (put_page m s p x) k ≡ members m k
+pub same_members : (m : Contents) (s p : ℕ) (x : PageState) → page_at m s p ≡ None → x.class ≡ None → (k : ℕ) → members (put_page m s p x) k ≡ members m k
 same_members m s p x hole none k = (let a = added_members m s p x hole k in let b = no_share k x none in omega (arith, a, b))
 
-pub same_classes : (m : Contents) (s p : ℕ) (x : Page) → page_at m s p ≡ None → x.class ≡ None → length (classes (put_page m s p x)) ≡ length (classes m)
+pub same_classes : (m : Contents) (s p : ℕ) (x : PageState) → page_at m s p ≡ None → x.class ≡ None → length (classes (put_page m s p x)) ≡ length (classes m)
 same_classes m s p x hole none = same_kept (λ k. nat_lt 0 (members m k)) (λ k. nat_lt 0 (members (put_page m s p x) k)) 0 m.pool (λ k l g. ap (nat_lt 0) (same_members m s p x hole none k))
 
-pub same_full : (m : Contents) (s p : ℕ) (x : Page) → page_at m s p ≡ None → x.class ≡ None → is_full (put_page m s p x) ≡ is_full m
+pub same_full : (m : Contents) (s p : ℕ) (x : PageState) → page_at m s p ≡ None → x.class ≡ None → is_full (put_page m s p x) ≡ is_full m
 same_full m s p x hole none = ap (λ n. nat_eq n m.pool) (same_classes m s p x hole none)
 
-more_classes : (m : Contents) (s p : ℕ) (x : Page) (j : ℕ) → page_at m s p ≡ None → x.class ≡ Some j → members m j ≡ 0 → j < m.pool → length (classes (put_page m s p x)) ≡ length (classes m) + 1
+more_classes : (m : Contents) (s p : ℕ) (x : PageState) (j : ℕ) → page_at m s p ≡ None → x.class ≡ Some j → members m j ≡ 0 → j < m.pool → length (classes (put_page m s p x)) ≡ length (classes m) + 1
 more_classes m s p x j hole class free within = one_kept (λ k. nat_lt 0 (members m k)) (λ k. nat_lt 0 (members (put_page m s p x) k)) 0 m.pool j (omega arith) (omega (arith, within))
     (le-ltb 0 _ (omega (arith, free)))
     (let a = added_members m s p x hole j in let b = one_share j x class in lt-ltb 0 _ (omega (arith, a, b)))
@@ -110,15 +110,15 @@ more_classes m s p x j hole class free within = one_kept (λ k. nat_lt 0 (member
     ap (nat_lt 0) c)
 
 -- the pages so far with one page more
-module _ (m : Contents) (s p : ℕ) (page : plain.Page) (begun : IsBegun m) (hole : page_at m s p ≡ None) where
-  begun_zero : is_zero_page page.bytes ≡ true → IsBegun (put_page m s p (loaded_page page None))
+module _ (m : Contents) (s p : ℕ) (page : plain.Page) (begun : IsBegunMemory m) (hole : page_at m s p ≡ None) where
+  begun_zero : is_zero_page page.bytes ≡ true → IsBegunMemory (put_page m s p (loaded_page page None))
   begun_zero blank =
       let x = loaded_page page None in
       record {
-        begins = λ q r y h. elim (added_at m s p x hole q r y h) [ inl here ↦ (ap (λ (z : Page). z.soft_dirty) (sym here.1), ap (λ (z : Page). z.writable) (sym here.1)) | inr there ↦ begun.begins q r y there ];
-        zeros = λ q r y h z. elim (added_at m s p x hole q r y h) [ inl here ↦ ap (λ (z : Page). z.class) (sym here.1) | inr there ↦ begun.zeros q r y there z ];
+        begins = λ q r y h. elim (added_at m s p x hole q r y h) [ inl here ↦ (ap (λ (z : PageState). z.soft_dirty) (sym here.1), ap (λ (z : PageState). z.writable) (sym here.1)) | inr there ↦ begun.begins q r y there ];
+        zeros = λ q r y h z. elim (added_at m s p x hole q r y h) [ inl here ↦ ap (λ (z : PageState). z.class) (sym here.1) | inr there ↦ begun.zeros q r y there z ];
         alone = λ q r y h z. elim (added_at m s p x hole q r y h) [
-          | inl here ↦ absurd (never (is_zero_page y.bytes) z (ap (λ (z : Page). is_zero_page z.bytes) (sym here.1) ∙ blank))
+          | inl here ↦ absurd (never (is_zero_page y.bytes) z (ap (λ (z : PageState). is_zero_page z.bytes) (sym here.1) ∙ blank))
           | inr there ↦ (
               let a = alone_in m y (begun.alone q r y there z) in
               is_alone_in (put_page m s p x) y a.0 a.1 (same_members m s p x hole refl a.0 ∙ a.2))
@@ -131,20 +131,20 @@ module _ (m : Contents) (s p : ℕ) (page : plain.Page) (begun : IsBegun m) (hol
             omega (arith, a, b, c, d);
       }
 
-  begun_some : (j : ℕ) → is_zero_page page.bytes ≡ false → members m j ≡ 0 → j < m.pool → IsBegun (put_page m s p (loaded_page page (Some j)))
+  begun_some : (j : ℕ) → is_zero_page page.bytes ≡ false → members m j ≡ 0 → j < m.pool → IsBegunMemory (put_page m s p (loaded_page page (Some j)))
   begun_some j some free within =
       let x = loaded_page page (Some j) in
       record {
-        begins = λ q r y h. elim (added_at m s p x hole q r y h) [ inl here ↦ (ap (λ (z : Page). z.soft_dirty) (sym here.1), ap (λ (z : Page). z.writable) (sym here.1)) | inr there ↦ begun.begins q r y there ];
+        begins = λ q r y h. elim (added_at m s p x hole q r y h) [ inl here ↦ (ap (λ (z : PageState). z.soft_dirty) (sym here.1), ap (λ (z : PageState). z.writable) (sym here.1)) | inr there ↦ begun.begins q r y there ];
         zeros = λ q r y h z. elim (added_at m s p x hole q r y h) [
-          | inl here ↦ absurd (never (is_zero_page page.bytes) some (ap (λ (z : Page). is_zero_page z.bytes) here.1 ∙ z))
+          | inl here ↦ absurd (never (is_zero_page page.bytes) some (ap (λ (z : PageState). is_zero_page z.bytes) here.1 ∙ z))
           | inr there ↦ begun.zeros q r y there z
         ];
         alone = λ q r y h z. elim (added_at m s p x hole q r y h) [
           | inl here ↦ (
               let a = added_members m s p x hole j in
               let b = one_share j x refl in
-              is_alone_in (put_page m s p x) y j (ap (λ (z : Page). z.class) (sym here.1)) (omega (arith, a, b, free)))
+              is_alone_in (put_page m s p x) y j (ap (λ (z : PageState). z.class) (sym here.1)) (omega (arith, a, b, free)))
           | inr there ↦ (
               let a = alone_in m y (begun.alone q r y there z) in
               let b = added_members m s p x hole a.0 in
@@ -160,12 +160,12 @@ module _ (m : Contents) (s p : ℕ) (page : plain.Page) (begun : IsBegun m) (hol
             omega (arith, a, b, c, d);
       }
 
-  begun_by : (class : Option ℕ) → IsClassFor m page class → IsBegun (put_page m s p (loaded_page page class))
+  begun_by : (class : Option ℕ) → IsClassFor m page class → IsBegunMemory (put_page m s p (loaded_page page class))
   begun_by None blank = begun_zero blank
   begun_by (Some j) fits = begun_some j fits.0 fits.1 fits.2
 
-  pub begun_next : (new : Contents) → Loads m s p page new → IsBegun new
-  begun_next new loads = subst IsBegun (sym loads.2) (begun_by loads.0 loads.1)
+  pub begun_next : (new : Contents) → Loads m s p page new → IsBegunMemory new
+  begun_next new loads = subst IsBegunMemory (sym loads.2) (begun_by loads.0 loads.1)
 
 -- ---- a frame for a page that has none
 count_none : (pool : Pool) (k : ℕ) → cell_at pool k ≡ None → count_at pool k ≡ 0

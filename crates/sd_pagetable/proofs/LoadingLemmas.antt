@@ -17,10 +17,10 @@ use Rattle.sd_pagetable.specs.declared.access_error.AccessError.{AccessError}
 use Rattle.sd_pagetable.specs.declared.access_error.AccessError.TheVariants.{Refused}
 use Rattle.sd_pagetable.specs.declared.memory_refusal.MemoryRefusal.TheVariants.{NoFrame, Enomem}
 use Rattle.sd_pagetable.specs.Nested.{Table, Nested, map_values, inside, value_at, is_alive, total, total_within}
-use Rattle.sd_pagetable.specs.Page.{Page, plain_page}
+use Rattle.sd_pagetable.specs.Page.{PageState, plain_page}
 use Rattle.sd_pagetable.specs.Contents.{Contents, page_at, plain_of, members, share_of, classes, page_count}
 use Rattle.sd_pagetable.specs.Due.{prots_in}
-use Rattle.sd_pagetable.specs.Loaded.{frames_for, nonzero_pages, is_over_in_space, is_over_limits, snapshot_due, IsBegun, IsLoaded}
+use Rattle.sd_pagetable.specs.Loaded.{frames_for, nonzero_pages, is_over_in_space, is_over_limits, snapshot_due, IsBegunMemory, IsLoaded}
 use Rattle.sd_pagetable.proofs.NestedLemmas.{inside-insert, alive-insert}
 use Rattle.sd_pagetable.proofs.TableLemmas.{same_table, same_test, get_put, get_tree, get-map_values, map_values-empty, map_values-insert, tied}
 use Rattle.sd_pagetable.proofs.TotalLemmas.{total_within-empty}
@@ -64,7 +64,7 @@ module _ (cur new : Contents) (space : ℕ) (dead : is_alive cur.spaces space �
   added_classes : classes new ≡ classes cur
   added_classes = ap classes added ∙ (λ i. filter (λ k. nat_lt 0 (added_total cur.spaces space dead (share_of k) i)) (range_with_len 0 cur.pool))
 
-  pub added_begun : IsBegun cur → IsBegun new
+  pub added_begun : IsBegunMemory cur → IsBegunMemory new
   added_begun begun = record {
     begins = λ q r x h. begun.begins q r x (sym (added_page q r) ∙ h);
     zeros = λ q r x h z. begun.zeros q r x (sym (added_page q r) ∙ h) z;
@@ -81,12 +81,12 @@ module _ (cur new : Contents) (space : ℕ) (dead : is_alive cur.spaces space �
 -- the spaces before the rest are loaded
 pub record IsLoading (frames : ℕ) (saved : PlainMemory) (cur : Contents) (rest : List (ℕ × Pages)) : Type 0 where
   pub pool : cur.pool ≡ frames
-  pub begun : IsBegun cur
+  pub begun : IsBegunMemory cur
   pub fills : filled space_in (plain_of cur) rest ≡ saved
   pub apart : IsApart (plain_of cur) rest
   pub rises : Rises rest
 
-nothing_begun : (m : Contents) → m.spaces ≡ finmap.empty → IsBegun m
+nothing_begun : (m : Contents) → m.spaces ≡ finmap.empty → IsBegunMemory m
 unfolding plain_of
 nothing_begun m bare = record {
   begins = λ q r x h. absurd (hole q r x h);
@@ -94,15 +94,15 @@ nothing_begun m bare = record {
   alone = λ q r x h z. absurd (hole q r x h);
   used =
       let a : length (classes m) ≡ 0 = none_kept (λ k. nat_lt 0 (members m k)) 0 m.pool (λ k. le-ltb 0 _ (let e = ap (total_within (share_of k)) bare ∙ total_within-empty (share_of k) in omega (arith, e))) in
-      let b : nonzero_pages (plain_of m) ≡ 0 = ap (λ (t : Nested Page). nonzero_pages (map_values (map_values plain_page) t)) bare ∙ ap nonzero_pages (map_values-empty (map_values plain_page)) ∙ total_within-empty frames_for in
+      let b : nonzero_pages (plain_of m) ≡ 0 = ap (λ (t : Nested PageState). nonzero_pages (map_values (map_values plain_page) t)) bare ∙ ap nonzero_pages (map_values-empty (map_values plain_page)) ∙ total_within-empty frames_for in
       omega (arith, a, b);
 }
   where
-    hole : (q r : ℕ) (x : Page) → page_at m q r ≡ Some x → ⊥
-    hole q r x h = (let f : ◌≡◌ {A = Option Page} None (Some x) = sym (ap (λ (t : Nested Page). value_at t q r) bare ∙ nowhere q r) ∙ h in cc)
+    hole : (q r : ℕ) (x : PageState) → page_at m q r ≡ Some x → ⊥
+    hole q r x h = (let f : ◌≡◌ {A = Option PageState} None (Some x) = sym (ap (λ (t : Nested PageState). value_at t q r) bare ∙ nowhere q r) ∙ h in cc)
       where
-        nowhere : (q r : ℕ) → value_at {X = Page} finmap.empty q r ≡ None
-        nowhere q r = ap (λ (o : Option (Table Page)). finmap.get (unwrap_or o finmap.empty) r) (get-empty nat_cmp q) ∙ get-empty nat_cmp r
+        nowhere : (q r : ℕ) → value_at {X = PageState} finmap.empty q r ≡ None
+        nowhere q r = ap (λ (o : Option (Table PageState)). finmap.get (unwrap_or o finmap.empty) r) (get-empty nat_cmp q) ∙ get-empty nat_cmp r
 
     none_kept : (p : ℕ → Bool) (a n : ℕ) → ((k : ℕ) → p k ≡ false) → length (filter p (range_with_len a n)) ≡ 0
     none_kept p a zero h = refl
@@ -189,7 +189,7 @@ module _ (pool : ℕ) (saved : PlainMemory) (cur : Contents) (rest later : List 
         let l : nonzero_pages saved ≤ pool = ltb-false pool (nonzero_pages saved) (due_parts pool saved due).0 in
         omega (arith, a, d, p, l)
 
-    pub loading_next : (new : Contents) → IsBegun new → new.pool ≡ bare.pool → plain_of new ≡ finmap.insert (plain_of bare) space (space_in pages) → IsLoading pool saved new later
+    pub loading_next : (new : Contents) → IsBegunMemory new → new.pool ≡ bare.pool → plain_of new ≡ finmap.insert (plain_of bare) space (space_in pages) → IsLoading pool saved new later
     loading_next new begun same seen =
         let table : plain_of new ≡ finmap.insert (plain_of cur) space (space_in pages) = seen ∙ ap (λ (m : PlainMemory). finmap.insert m space (space_in pages)) (added_seen cur bare space loading_fresh added) ∙ inserted_twice (plain_of cur) space finmap.empty (space_in pages) in
         record {
@@ -256,6 +256,6 @@ pub loaded_areas : (areas : BTreeMap ℕ PageMap) (saved : PlainMemory) (m : Con
 unfolding plain_of
 loaded_areas areas saved m h seen space = h space ∙ ap (λ (t : PlainMemory). option_map prots_in (finmap.get t space)) (sym seen) ∙ ap (option_map prots_in) (get-map_values (map_values plain_page) m.spaces space) ∙ twice (finmap.get m.spaces space)
   where
-    twice : (o : Option (Table Page)) → option_map prots_in (option_map (map_values plain_page) o) ≡ option_map prots_of o
+    twice : (o : Option (Table PageState)) → option_map prots_in (option_map (map_values plain_page) o) ≡ option_map prots_of o
     twice None = refl
-    twice (Some t) = ap Some (composed plain_page (λ (page : plain.Page). page.prot) (λ (page : Page). page.prot) (λ _. refl) t)
+    twice (Some t) = ap Some (composed plain_page (λ (page : plain.Page). page.prot) (λ (page : PageState). page.prot) (λ _. refl) t)

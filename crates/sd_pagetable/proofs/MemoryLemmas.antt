@@ -20,7 +20,7 @@ use Rattle.sd_pagetable.specs.declared.access_error.AccessError.TheVariants.{Seg
 use Rattle.sd_pagetable.specs.declared.segv.Segv.TheVariants.{Maperr, Accerr}
 use Rattle.sd_tables.specs.declared.entry.Entry.{Entry}
 use Rattle.sd_pagetable.specs.Nested.{Table, Nested, map_values, inside, value_at, is_alive, put_at}
-use Rattle.sd_pagetable.specs.Page.{Page, plain_page, writable_page, stored_page}
+use Rattle.sd_pagetable.specs.Page.{PageState, plain_page, writable_page, stored_page}
 use Rattle.sd_pagetable.specs.Contents.{Contents, page_at, put_page, plain_of, IsSound}
 use Rattle.sd_pagetable.specs.View.{entry_of, HasEntry}
 use Rattle.sd_pagetable.specs.Access.{allows, stored_at, is_bad_access}
@@ -60,16 +60,16 @@ put_again m s p x h = same_nested _ _ (λ q. alive-put_same m s p x q (alive_at 
       | inr o ↦ ap (λ b. cond b (Some x) (value_at m q r)) o
     ]
 
-pub plain_put : (m : Contents) (s p : ℕ) (x : Page) → plain_of (put_page m s p x) ≡ put_at (plain_of m) s p (plain_page x)
+pub plain_put : (m : Contents) (s p : ℕ) (x : PageState) → plain_of (put_page m s p x) ≡ put_at (plain_of m) s p (plain_page x)
 unfolding plain_of
 plain_put m s p x = map_put plain_page m.spaces s p x
 
 -- the same permissions and bytes
-pub plain_same : (m : Contents) (s p : ℕ) (x y : Page) → page_at m s p ≡ Some x → plain_page y ≡ plain_page x → plain_of (put_page m s p y) ≡ plain_of m
+pub plain_same : (m : Contents) (s p : ℕ) (x y : PageState) → page_at m s p ≡ Some x → plain_page y ≡ plain_page x → plain_of (put_page m s p y) ≡ plain_of m
 plain_same m s p x y h e = plain_put m s p y ∙ ap (put_at (plain_of m) s p) e ∙ put_again (plain_of m) s p (plain_page x) (plain_at m s p ∙ ap (option_map plain_page) h)
 
 -- a page with other bytes
-pub plain_stored : (m : Contents) (s address : ℕ) (bytes : List ℕ) (x y : Page) → page_at m s (page_of address) ≡ Some x → plain_page y ≡ record { prot = x.prot; bytes = stored_at x.bytes (address % 4096) bytes }
+pub plain_stored : (m : Contents) (s address : ℕ) (bytes : List ℕ) (x y : PageState) → page_at m s (page_of address) ≡ Some x → plain_page y ≡ record { prot = x.prot; bytes = stored_at x.bytes (address % 4096) bytes }
     → plain_of (put_page m s (page_of address) y) ≡ after_store (plain_of m) s address bytes
 plain_stored m s address bytes x y h e =
     let there : value_at (plain_of m) s (page_of address) ≡ Some (plain_page x) = plain_at m s (page_of address) ∙ ap (option_map plain_page) h in
@@ -77,16 +77,16 @@ plain_stored m s address bytes x y h e =
     ∙ sym (ap (λ (o : Option plain.Page). option_map_or (λ (page : plain.Page). put_at (plain_of m) s (page_of address) (record page { bytes = stored_at page.bytes (address % 4096) bytes })) o (plain_of m)) there)
 
 -- ---- areas
-inside_alive : (o : Option (Table Page)) → is_some o ≡ true → o ≡ Some (unwrap_or o finmap.empty)
+inside_alive : (o : Option (Table PageState)) → is_some o ≡ true → o ≡ Some (unwrap_or o finmap.empty)
 inside_alive None e = absurd (let f : false ≡ true = e in cc)
 inside_alive (Some t) e = refl
 
-pub areas_put : (areas : BTreeMap ℕ PageMap) (m : Contents) (s p : ℕ) (x y : Page) → HasAreas areas m → page_at m s p ≡ Some x → y.prot ≡ x.prot → HasAreas areas (put_page m s p y)
+pub areas_put : (areas : BTreeMap ℕ PageMap) (m : Contents) (s p : ℕ) (x y : PageState) → HasAreas areas m → page_at m s p ≡ Some x → y.prot ≡ x.prot → HasAreas areas (put_page m s p y)
 unfolding put_at
 areas_put areas m s p x y h there same q =
     let t = inside m.spaces s in
     let alive : finmap.get m.spaces s ≡ Some t = inside_alive (finmap.get m.spaces s) (alive_at m.spaces s p x there) in
-    let f : Page → Prot = λ page. page.prot in
+    let f : PageState → Prot = λ page. page.prot in
     let prots : prots_of (finmap.insert t p y) ≡ prots_of t = map_values-insert f t p y ∙ ap (finmap.insert (map_values f t) p) same ∙ same_again (map_values f t) p x.prot (get-map_values f t p ∙ ap (option_map f) there) in
     h q ∙ sym (ap (option_map prots_of) (get_put m.spaces s (finmap.insert t p y) q) ∙ (elim (cases_Bool (nat_eq q s)) [
       | inl here ↦ ap (λ b. option_map prots_of (cond b (Some (finmap.insert t p y)) (finmap.get m.spaces q))) here ∙ ap Some prots ∙ sym (ap (option_map prots_of) (ap (finmap.get m.spaces) (tests q s here) ∙ alive))
@@ -94,14 +94,14 @@ areas_put areas m s p x y h there same q =
     ]))
 
 -- ---- pages
-seen_page : (o : Option Page) (e : Entry) → option_map entry_of o ≡ Some e → (x : Page) × (o ≡ Some x) × (entry_of x ≡ e)
+seen_page : (o : Option PageState) (e : Entry) → option_map entry_of o ≡ Some e → (x : PageState) × (o ≡ Some x) × (entry_of x ≡ e)
 seen_page None e h = absurd (let f : ◌≡◌ {A = Option Entry} None (Some e) = h in cc)
 seen_page (Some x) e h = (x, refl, (let f : ◌≡◌ {A = Option Entry} (Some (entry_of x)) (Some e) = h in cc))
 
-pub page_of_seen : (m : Contents) (s p : ℕ) (e : Entry) → option_map entry_of (page_at m s p) ≡ Some e → (x : Page) × (page_at m s p ≡ Some x) × (entry_of x ≡ e)
+pub page_of_seen : (m : Contents) (s p : ℕ) (e : Entry) → option_map entry_of (page_at m s p) ≡ Some e → (x : PageState) × (page_at m s p ≡ Some x) × (entry_of x ≡ e)
 page_of_seen m s p e h = seen_page (page_at m s p) e h
 
-none_seen_page : (o : Option Page) → option_map entry_of o ≡ None → o ≡ None
+none_seen_page : (o : Option PageState) → option_map entry_of o ≡ None → o ≡ None
 none_seen_page None h = refl
 none_seen_page (Some x) h = absurd (let f : ◌≡◌ {A = Option Entry} (Some (entry_of x)) None = h in cc)
 
@@ -109,7 +109,7 @@ pub no_page_seen : (m : Contents) (s p : ℕ) → option_map entry_of (page_at m
 no_page_seen m s p h = none_seen_page (page_at m s p) h
 
 -- a writable page is as a fault makes it, and needs no frame
-same_page : (x : Page) (k : ℕ) → x.class ≡ Some k → x.writable ≡ true → x.soft_dirty ≡ true → writable_page x k x.bytes ≡ x
+same_page : (x : PageState) (k : ℕ) → x.class ≡ Some k → x.writable ≡ true → x.soft_dirty ≡ true → writable_page x k x.bytes ≡ x
 same_page x k class writable dirty =
     ap (λ (c : Option ℕ). record { prot = x.prot; bytes = x.bytes; class = c; writable = true; soft_dirty = true }) (sym class)
     ∙ ap (λ (w : Bool). record { prot = x.prot; bytes = x.bytes; class = x.class; writable = w; soft_dirty = true }) (sym writable)
@@ -126,7 +126,7 @@ writable_already m s p e sound h w =
       alone.0,
       x.1,
       inl (is.alone, alone.1),
-      sym (ap (λ (y : Page). put_page m s p y) same ∙ ap (λ (spaces : Nested Page). record { pool = m.pool; spaces = spaces }) (put_again m.spaces s p x.0 x.1)),
+      sym (ap (λ (y : PageState). put_page m s p y) same ∙ ap (λ (spaces : Nested PageState). record { pool = m.pool; spaces = spaces }) (put_again m.spaces s p x.0 x.1)),
     )
 
 pub none_due : (m : Contents) (s p : ℕ) (e : Entry) → IsSound m → HasEntry m s p e → e.writable ≡ true → frame_due m (page_at m s p) ≡ None
@@ -140,22 +140,22 @@ pub due_none : (m : Contents) (s p : ℕ) (need : Access) → page_at m s p ≡ 
 due_none m s p Read h = ap (page_due Read) (plain_at m s p ∙ ap (option_map plain_page) h)
 due_none m s p Write h = ap (page_due Write) (plain_at m s p ∙ ap (option_map plain_page) h)
 
-pub due_some : (m : Contents) (s p : ℕ) (need : Access) (x : Page) → page_at m s p ≡ Some x → page_due need (value_at (plain_of m) s p) ≡ cond (allows need x.prot) None (Some (Stopped Accerr))
+pub due_some : (m : Contents) (s p : ℕ) (need : Access) (x : PageState) → page_at m s p ≡ Some x → page_due need (value_at (plain_of m) s p) ≡ cond (allows need x.prot) None (Some (Stopped Accerr))
 due_some m s p Read x h = ap (page_due Read) (plain_at m s p ∙ ap (option_map plain_page) h)
 due_some m s p Write x h = ap (page_due Write) (plain_at m s p ∙ ap (option_map plain_page) h)
 
 -- a page that may be accessed
-pub permitted_page : (m : Contents) (s p : ℕ) (need : Access) → page_due need (value_at (plain_of m) s p) ≡ None → (x : Page) × (page_at m s p ≡ Some x) × (allows need x.prot ≡ true)
+pub permitted_page : (m : Contents) (s p : ℕ) (need : Access) → page_due need (value_at (plain_of m) s p) ≡ None → (x : PageState) × (page_at m s p ≡ Some x) × (allows need x.prot ≡ true)
 permitted_page m s p need h = by_page (page_at m s p) refl
   where
     stopped : (d : AccessError) → ◌≡◌ {A = Option AccessError} (Some d) None → ⊥
     stopped d e = cc
 
-    by_prot : (x : Page) → page_at m s p ≡ Some x → (b : Bool) → allows need x.prot ≡ b → (y : Page) × (page_at m s p ≡ Some y) × (allows need y.prot ≡ true)
+    by_prot : (x : PageState) → page_at m s p ≡ Some x → (b : Bool) → allows need x.prot ≡ b → (y : PageState) × (page_at m s p ≡ Some y) × (allows need y.prot ≡ true)
     by_prot x e true a = (x, e, a)
     by_prot x e false a = absurd (stopped (Stopped Accerr) (sym (due_some m s p need x e ∙ ap (λ b. cond b None (Some (Stopped Accerr))) a) ∙ h))
 
-    by_page : (o : Option Page) → page_at m s p ≡ o → (x : Page) × (page_at m s p ≡ Some x) × (allows need x.prot ≡ true)
+    by_page : (o : Option PageState) → page_at m s p ≡ o → (x : PageState) × (page_at m s p ≡ Some x) × (allows need x.prot ≡ true)
     by_page None e = absurd (stopped (Stopped Maperr) (sym (due_none m s p need e) ∙ h))
     by_page (Some x) e = by_prot x e (allows need x.prot) refl
 
@@ -176,14 +176,14 @@ access_within address bytes h = let p = or_parts _ _ h in ltb-false 4096 (addres
 same_key : (k : ℕ) → nat_eq k k ≡ true
 same_key k = grind (arith, nat_tests)
 
-pub at_put_here : (m : Contents) (s p : ℕ) (x : Page) → page_at (put_page m s p x) s p ≡ Some x
+pub at_put_here : (m : Contents) (s p : ℕ) (x : PageState) → page_at (put_page m s p x) s p ≡ Some x
 at_put_here m s p x = value_at-put m.spaces s p x s p ∙ cond-true _ _ _ (and_from _ _ (same_key s) (same_key p))
 
 over : {X : Type 0} (b : Bool) (x y o : Option X) → cond b y (cond b x o) ≡ cond b y o
 over true x y o = refl
 over false x y o = refl
 
-pub put_twice : (m : Contents) (s p : ℕ) (x y : Page) → put_page (put_page m s p x) s p y ≡ put_page m s p y
+pub put_twice : (m : Contents) (s p : ℕ) (x y : PageState) → put_page (put_page m s p x) s p y ≡ put_page m s p y
 put_twice m s p x y = λ i. record { pool = m.pool; spaces = twice i }
   where
     twice : put_at (put_at m.spaces s p x) s p y ≡ put_at m.spaces s p y
@@ -212,7 +212,7 @@ pub answers_err : (due : Option AccessError) (d : AccessError) (e : MemoryError)
 answers_err due d e r h is was = subst (λ (x : Result (Unit {0}) MemoryError). Answers due x) (sym (was ∙ ap Err is)) h
 
 -- what a fault needs
-pub write_there : (m n : Contents) (s p q : ℕ) → n ≡ m → q ≡ p → page_due Write (value_at (plain_of m) s p) ≡ None → (x : Page) × (page_at n s q ≡ Some x) × (x.prot.write ≡ true)
+pub write_there : (m n : Contents) (s p q : ℕ) → n ≡ m → q ≡ p → page_due Write (value_at (plain_of m) s p) ≡ None → (x : PageState) × (page_at n s q ≡ Some x) × (x.prot.write ≡ true)
 write_there m n s p q v e h =
     let x = permitted_page m s p Write h in
     (x.0, ap (page_at n s) e ∙ ap (λ (z : Contents). page_at z s p) v ∙ x.1, x.2)
@@ -222,11 +222,11 @@ pub plain_made_writable : (m n : Contents) (s p : ℕ) → MakesWritable m s p (
 plain_made_writable m n s p (x, k, there, own, is) = ap plain_of is ∙ plain_same m s p x (writable_page x k x.bytes) there refl
 
 -- and a store behind it is a store
-pub writable_there : (m n : Contents) (s p : ℕ) → MakesWritable m s p (λ bytes. bytes) n → (x : Page) × (page_at n s p ≡ Some x) × (x.writable ≡ true)
+pub writable_there : (m n : Contents) (s p : ℕ) → MakesWritable m s p (λ bytes. bytes) n → (x : PageState) × (page_at n s p ≡ Some x) × (x.writable ≡ true)
 writable_there m n s p (x, k, there, own, is) = (writable_page x k x.bytes, ap (λ (z : Contents). page_at z s p) is ∙ at_put_here m s p (writable_page x k x.bytes), refl)
 
 pub stored_after : (m n l : Contents) (s address : ℕ) (bytes : List ℕ) → MakesWritable m s (page_of address) (λ b. b) n
-    → IfSome (page_at n s (page_of address)) (λ (before : Page). l ≡ put_page n s (page_of address) (stored_page before (stored_at before.bytes (address % 4096) bytes)))
+    → IfSome (page_at n s (page_of address)) (λ (before : PageState). l ≡ put_page n s (page_of address) (stored_page before (stored_at before.bytes (address % 4096) bytes)))
     → MakesWritable m s (page_of address) (λ before. stored_at before (address % 4096) bytes) l × (plain_of l ≡ after_store (plain_of m) s address bytes)
 stored_after m n l s address bytes (x, k, there, own, is) h =
     let p = page_of address in
@@ -239,12 +239,12 @@ stored_after m n l s address bytes (x, k, there, own, is) h =
 pub areas_made_writable : (areas : BTreeMap ℕ PageMap) (m n : Contents) (s p : ℕ) (f : List ℕ → List ℕ) → HasAreas areas m → MakesWritable m s p f n → HasAreas areas n
 areas_made_writable areas m n s p f h (x, k, there, own, is) = subst (HasAreas areas) (sym is) (areas_put areas m s p x (writable_page x k (f x.bytes)) h there refl)
 
-pub areas_stored : (areas : BTreeMap ℕ PageMap) (m n : Contents) (s p : ℕ) (bytes : List ℕ → List ℕ) → HasAreas areas m → IsSome (page_at m s p) → IfSome (page_at m s p) (λ (before : Page). n ≡ put_page m s p (stored_page before (bytes before.bytes))) → HasAreas areas n
+pub areas_stored : (areas : BTreeMap ℕ PageMap) (m n : Contents) (s p : ℕ) (bytes : List ℕ → List ℕ) → HasAreas areas m → IsSome (page_at m s p) → IfSome (page_at m s p) (λ (before : PageState). n ≡ put_page m s p (stored_page before (bytes before.bytes))) → HasAreas areas n
 areas_stored areas m n s p bytes h some is =
     let x = some_of (page_at m s p) some in
     subst (HasAreas areas) (sym (rw x.1 at is)) (areas_put areas m s p x.0 (stored_page x.0 (bytes x.0.bytes)) h x.1 refl)
 
-pub areas_write_protected : (areas : BTreeMap ℕ PageMap) (m n : Contents) (s p : ℕ) (prot : Prot) (bit : Bool) (x : Page) → HasAreas areas m → page_at m s p ≡ Some x → prot ≡ x.prot → IfSome (page_at m s p) (λ (before : Page). n ≡ put_page m s p (record before { prot = prot; writable = false; soft_dirty = bit })) → HasAreas areas n
+pub areas_write_protected : (areas : BTreeMap ℕ PageMap) (m n : Contents) (s p : ℕ) (prot : Prot) (bit : Bool) (x : PageState) → HasAreas areas m → page_at m s p ≡ Some x → prot ≡ x.prot → IfSome (page_at m s p) (λ (before : PageState). n ≡ put_page m s p (record before { prot = prot; writable = false; soft_dirty = bit })) → HasAreas areas n
 areas_write_protected areas m n s p prot bit x h there same is =
     subst (HasAreas areas) (sym (rw there at is)) (areas_put areas m s p x (record x { prot = prot; writable = false; soft_dirty = bit }) h there same)
 
@@ -253,32 +253,32 @@ pub areas_of_one : (old new : BTreeMap ℕ PageMap) (m : Contents) (s : ℕ) (ma
     → m.spaces ≡ finmap.insert finmap.empty s finmap.empty → HasAreas new m
 areas_of_one old new m s map none e is spaces q =
     is q ∙ ap (λ (es : List (ℕ × PageMap)). cond (is_eq (nat_cmp s q)) (Some map) (lookup (is_at (nat_cmp q)) es)) none
-    ∙ sym (ap (λ (n : Nested Page). option_map prots_of (finmap.get n q)) spaces ∙ ap (option_map prots_of) (get_put finmap.empty s finmap.empty q ∙ ap (cond (nat_eq q s) (Some finmap.empty)) (get-empty nat_cmp q))
-    ∙ turned_in (nat_eq q s) prots_of finmap.empty None ∙ ap (λ (t : PageMap). cond (nat_eq q s) (Some t) None) (map_values-empty (λ (page : Page). page.prot) ∙ sym e) ∙ ap (λ b. cond b (Some map) None) (sym (turned_test s q)))
+    ∙ sym (ap (λ (n : Nested PageState). option_map prots_of (finmap.get n q)) spaces ∙ ap (option_map prots_of) (get_put finmap.empty s finmap.empty q ∙ ap (cond (nat_eq q s) (Some finmap.empty)) (get-empty nat_cmp q))
+    ∙ turned_in (nat_eq q s) prots_of finmap.empty None ∙ ap (λ (t : PageMap). cond (nat_eq q s) (Some t) None) (map_values-empty (λ (page : PageState). page.prot) ∙ sym e) ∙ ap (λ b. cond b (Some map) None) (sym (turned_test s q)))
 
 -- the plain memory of space 1 alone, without a page
 pub plain_of_one : (c one : Contents) (space : ℕ) → one.spaces ≡ finmap.insert c.spaces space finmap.empty → c.spaces ≡ finmap.empty → space ≡ 1
     → plain_of one ≡ finmap.insert finmap.empty 1 finmap.empty
 unfolding plain_of
 plain_of_one c one space more none is =
-    ap (map_values (map_values plain_page)) (more ∙ ap (λ (t : Nested Page). finmap.insert t space finmap.empty) none ∙ ap (λ s. finmap.insert finmap.empty s finmap.empty) is)
+    ap (map_values (map_values plain_page)) (more ∙ ap (λ (t : Nested PageState). finmap.insert t space finmap.empty) none ∙ ap (λ s. finmap.insert finmap.empty s finmap.empty) is)
     ∙ map_values-insert (map_values plain_page) finmap.empty 1 finmap.empty
     ∙ ap (λ (t : plain.PlainMemory). finmap.insert t 1 (map_values plain_page finmap.empty)) (map_values-empty (map_values plain_page))
     ∙ ap (finmap.insert finmap.empty 1) (map_values-empty plain_page)
 
 -- a space without pages begins
 pub alone_begins : (c one : Contents) (space : ℕ) → one.spaces ≡ finmap.insert c.spaces space finmap.empty → c.spaces ≡ finmap.empty → IsBeginning one
-alone_begins c one space more none s p page there = absurd (let f : ◌≡◌ {A = Option Page} None (Some page) = sym (nothing s p) ∙ there in cc)
+alone_begins c one space more none s p page there = absurd (let f : ◌≡◌ {A = Option PageState} None (Some page) = sym (nothing s p) ∙ there in cc)
   where
-    each : (b : Bool) (o : Option Page) → o ≡ None → cond b None o ≡ None
+    each : (b : Bool) (o : Option PageState) → o ≡ None → cond b None o ≡ None
     each true o e = refl
     each false o e = e
 
-    empty_at : (s p : ℕ) → value_at {X = Page} finmap.empty s p ≡ None
-    empty_at s p = ap (λ (o : Option (Table Page)). finmap.get (unwrap_or o finmap.empty) p) (get-empty nat_cmp s) ∙ get-empty nat_cmp p
+    empty_at : (s p : ℕ) → value_at {X = PageState} finmap.empty s p ≡ None
+    empty_at s p = ap (λ (o : Option (Table PageState)). finmap.get (unwrap_or o finmap.empty) p) (get-empty nat_cmp s) ∙ get-empty nat_cmp p
 
     nothing : (s p : ℕ) → page_at one s p ≡ None
-    nothing s p = ap (λ (n : Nested Page). value_at n s p) (more ∙ ap (λ (n : Nested Page). finmap.insert n space finmap.empty) none)
-        ∙ value_at-insert {X = Page} finmap.empty space finmap.empty s p
-        ∙ ap (λ (o : Option Page). cond (nat_eq s space) o (value_at {X = Page} finmap.empty s p)) (get-empty nat_cmp p)
-        ∙ each (nat_eq s space) (value_at {X = Page} finmap.empty s p) (empty_at s p)
+    nothing s p = ap (λ (n : Nested PageState). value_at n s p) (more ∙ ap (λ (n : Nested PageState). finmap.insert n space finmap.empty) none)
+        ∙ value_at-insert {X = PageState} finmap.empty space finmap.empty s p
+        ∙ ap (λ (o : Option PageState). cond (nat_eq s space) o (value_at {X = PageState} finmap.empty s p)) (get-empty nat_cmp p)
+        ∙ each (nat_eq s space) (value_at {X = PageState} finmap.empty s p) (empty_at s p)

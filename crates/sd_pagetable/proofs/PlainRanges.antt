@@ -12,7 +12,7 @@ use Rattle.sd_areas.specs.Areas.{PageMap}
 use Rattle.sd_areas.specs.Pages.{is_within, page_of, pages_for, pages_from}
 use Rattle.sd_areas.specs.PlainMemory as plain
 use Rattle.sd_pagetable.specs.Nested.{Table, map_values, inside, set_within, remove_within, change_within, total, total_within}
-use Rattle.sd_pagetable.specs.Page.{Page, plain_page, fresh_page, protected_page, zeros}
+use Rattle.sd_pagetable.specs.Page.{PageState, plain_page, fresh_page, protected_page, zeros}
 use Rattle.sd_pagetable.specs.Contents.{Contents, plain_of, page_at, page_count}
 use Rattle.sd_pagetable.specs.Due.{prots_in}
 use Rattle.sd_pagetable.specs.Effects.{after_mmap, after_munmap, after_mprotect}
@@ -72,11 +72,11 @@ module _ {X Y : Type 0} (f : X → Y) (change : X → X) (seen : Y → Y) (same 
   map_change t first count = same_table _ _ (λ q. get-map_values f (change_within change t first count) q ∙ ap (option_map f) (get-change_within change t first count q) ∙ changed (is_within first count q) (finmap.get t q)
       ∙ ap (option_map (λ y. cond (is_within first count q) (seen y) y)) (sym (get-map_values f t q)) ∙ sym (get-change_within seen (map_values f t) first count q))
 
-weights : (es : List (ℕ × Table Page)) → sum_by (λ (e : ℕ × Table plain.Page). total (λ _. 1) e.1) (map (λ (e : ℕ × Table Page). (e.0, map_values plain_page e.1)) es) ≡ sum_by (λ (e : ℕ × Table Page). total (λ _. 1) e.1) es
+weights : (es : List (ℕ × Table PageState)) → sum_by (λ (e : ℕ × Table plain.Page). total (λ _. 1) e.1) (map (λ (e : ℕ × Table PageState). (e.0, map_values plain_page e.1)) es) ≡ sum_by (λ (e : ℕ × Table PageState). total (λ _. 1) e.1) es
 weights [] = refl
 weights (e ∷ es) =
-    let a = sum_by-cons (λ (e : ℕ × Table plain.Page). total (λ _. 1) e.1) (e.0, map_values plain_page e.1) (map (λ (e : ℕ × Table Page). (e.0, map_values plain_page e.1)) es) in
-    let b = sum_by-cons (λ (e : ℕ × Table Page). total (λ _. 1) e.1) e es in
+    let a = sum_by-cons (λ (e : ℕ × Table plain.Page). total (λ _. 1) e.1) (e.0, map_values plain_page e.1) (map (λ (e : ℕ × Table PageState). (e.0, map_values plain_page e.1)) es) in
+    let b = sum_by-cons (λ (e : ℕ × Table PageState). total (λ _. 1) e.1) e es in
     omega (arith, a, b, weights es, same_many plain_page e.1)
 
 -- the plain memory has as many pages
@@ -89,7 +89,7 @@ pub plain_inside : (c : Contents) (s : ℕ) → inside (plain_of c) s ≡ map_va
 unfolding plain_of
 plain_inside c s = inside-map plain_page c.spaces s
 
-pub plain_with : (c : Contents) (s : ℕ) (t : Table Page) → plain_of (with_space c s t) ≡ finmap.insert (plain_of c) s (map_values plain_page t)
+pub plain_with : (c : Contents) (s : ℕ) (t : Table PageState) → plain_of (with_space c s t) ≡ finmap.insert (plain_of c) s (map_values plain_page t)
 unfolding plain_of
 plain_with c s t = map_insert (map_values plain_page) c.spaces s t
 
@@ -120,27 +120,27 @@ composed f g h same t = same_table _ _ (λ q. get-map_values g (map_values f t) 
     both (Some x) = ap Some (same x)
 
 pub prots_seen : (c : Contents) (s : ℕ) → prots_in (inside (plain_of c) s) ≡ prots_of (inside c.spaces s)
-prots_seen c s = ap prots_in (plain_inside c s) ∙ composed plain_page (λ (page : plain.Page). page.prot) (λ (page : Page). page.prot) (λ _. refl) (inside c.spaces s)
+prots_seen c s = ap prots_in (plain_inside c s) ∙ composed plain_page (λ (page : plain.Page). page.prot) (λ (page : PageState). page.prot) (λ _. refl) (inside c.spaces s)
 
 -- the areas of a space whose pages changed
-pub areas_with : (areas new : BTreeMap ℕ PageMap) (c : Contents) (s : ℕ) (t : Table Page) (own : PageMap) → HasAreas areas c → own ≡ prots_of t
+pub areas_with : (areas new : BTreeMap ℕ PageMap) (c : Contents) (s : ℕ) (t : Table PageState) (own : PageMap) → HasAreas areas c → own ≡ prots_of t
     → ((q : ℕ) → get nat_cmp new q ≡ cond (nat_eq q s) (Some own) (get nat_cmp areas q)) → HasAreas new (with_space c s t)
 areas_with areas new c s t own has are put = λ q.
     put q ∙ ap (λ o. cond (nat_eq q s) (Some o) (get nat_cmp areas q)) are ∙ ap (cond (nat_eq q s) (Some (prots_of t))) (has q)
     ∙ sym (pushed prots_of (nat_eq q s) t (finmap.get c.spaces q)) ∙ ap (option_map prots_of) (sym (get_put c.spaces s t q))
 
 -- ---- how many pages a run makes
-at_least : (count : ℕ) (t : Table Page) (first : ℕ) → ((q : ℕ) → is_within first count q ≡ true → IsSome (finmap.get t q)) → count ≤ total (λ (_ : Page). 1) t
+at_least : (count : ℕ) (t : Table PageState) (first : ℕ) → ((q : ℕ) → is_within first count q ≡ true → IsSome (finmap.get t q)) → count ≤ total (λ (_ : PageState). 1) t
 at_least zero t first all = omega arith
 at_least (suc count) t first all =
     let last = first + count in
     let there : IsSome (finmap.get t last) = all last (at_end first count) in
-    let less = total-remove (λ (_ : Page). 1) t last in
-    let one : ◌≡◌ {A = ℕ} (option_map_or (λ (_ : Page). 1) (finmap.get t last) 0) 1 = counted (finmap.get t last) there in
+    let less = total-remove (λ (_ : PageState). 1) t last in
+    let one : ◌≡◌ {A = ℕ} (option_map_or (λ (_ : PageState). 1) (finmap.get t last) 0) 1 = counted (finmap.get t last) there in
     let rest = at_least count (finmap.remove t last) first (λ q within. subst IsSome (sym (get_removed t last q ∙ ap (λ b. cond b None (finmap.get t q)) (before first count q within))) (all q (longer first count q within))) in
     omega (arith, less, one, rest)
   where
-    counted : (o : Option Page) → IsSome o → ◌≡◌ {A = ℕ} (option_map_or (λ (_ : Page). 1) o 0) 1
+    counted : (o : Option PageState) → IsSome o → ◌≡◌ {A = ℕ} (option_map_or (λ (_ : PageState). 1) o 0) 1
     counted (Some x) e = refl
     counted None e = absurd (let f : false ≡ true = e in cc)
 
@@ -153,47 +153,47 @@ at_least (suc count) t first all =
     longer : (first count q : ℕ) → is_within first count q ≡ true → is_within first (suc count) q ≡ true
     longer first count q within = grind (arith, nat_tests)
 
-pub run_is_mapped : (c : Contents) (s first count : ℕ) (x : Page) → count ≤ page_count (with_space c s (set_within (inside c.spaces s) first count x)).spaces
+pub run_is_mapped : (c : Contents) (s first count : ℕ) (x : PageState) → count ≤ page_count (with_space c s (set_within (inside c.spaces s) first count x)).spaces
 run_is_mapped c s first count x =
     let t = set_within (inside c.spaces s) first count x in
     let enough = at_least count t first (λ q within. subst IsSome (sym (get-set_within (inside c.spaces s) first count x q ∙ ap (λ b. cond b (Some x) (finmap.get (inside c.spaces s) q)) within)) refl) in
-    let more = total_within-insert (λ (_ : Page). 1) c.spaces s t in
-    let inner = total_within-remove_space (λ (_ : Page). 1) c.spaces s in
+    let more = total_within-insert (λ (_ : PageState). 1) c.spaces s t in
+    let inner = total_within-remove_space (λ (_ : PageState). 1) c.spaces s in
     omega (arith, enough, more, inner)
 
-hole_in : Table Page → ℕ → Bool
+hole_in : Table PageState → ℕ → Bool
 hole_in t q = not (is_some (finmap.get t q))
 
-pub set_counted : (t : Table Page) (first count : ℕ) (x : Page)
-    → total (λ (_ : Page). 1) (set_within t first (first + count - first) x) ≡ total (λ (_ : Page). 1) t + count_by (λ q. not (is_some (finmap.get t q))) (pages_from first (first + count - first))
+pub set_counted : (t : Table PageState) (first count : ℕ) (x : PageState)
+    → total (λ (_ : PageState). 1) (set_within t first (first + count - first) x) ≡ total (λ (_ : PageState). 1) t + count_by (λ q. not (is_some (finmap.get t q))) (pages_from first (first + count - first))
 set_counted t first zero x =
     let start : first + zero - first ≡ first - first = omega arith in
-    let none : total (λ (_ : Page). 1) (set_within t first (first - first) x) ≡ total (λ (_ : Page). 1) t = ap (total (λ (_ : Page). 1)) (set_none t first x) in
-    subst (λ n. total (λ (_ : Page). 1) (set_within t first n x) ≡ total (λ (_ : Page). 1) t + count_by (λ q. not (is_some (finmap.get t q))) (pages_from first n)) (sym start)
+    let none : total (λ (_ : PageState). 1) (set_within t first (first - first) x) ≡ total (λ (_ : PageState). 1) t = ap (total (λ (_ : PageState). 1)) (set_none t first x) in
+    subst (λ n. total (λ (_ : PageState). 1) (set_within t first n x) ≡ total (λ (_ : PageState). 1) t + count_by (λ q. not (is_some (finmap.get t q))) (pages_from first n)) (sym start)
     (let zero_counted = none_counted (λ q. not (is_some (finmap.get t q))) first in omega (arith, none, zero_counted))
 set_counted t first (suc count) x =
     let k = first + count in
     let next : first + suc count - first ≡ k + 1 - first = omega arith in
     let was = set_counted t first count x in
-    let put : total (λ (_ : Page). 1) (finmap.insert (set_within t first (k - first) x) k x) ≡ total (λ (_ : Page). 1) (set_within t first (k + 1 - first) x) = ap (total (λ (_ : Page). 1)) (set_more t first k x (omega arith)) in
-    let sum = total-insert (λ (_ : Page). 1) (set_within t first (k - first) x) k x in
-    let old : ◌≡◌ {A = ℕ} (option_map_or (λ (_ : Page). 1) (finmap.get (set_within t first (k - first) x) k) 0) (option_map_or (λ (_ : Page). 1) (finmap.get t k) 0) = ap (λ o. option_map_or (λ (_ : Page). 1) o 0) (set_outside t first k x) in
+    let put : total (λ (_ : PageState). 1) (finmap.insert (set_within t first (k - first) x) k x) ≡ total (λ (_ : PageState). 1) (set_within t first (k + 1 - first) x) = ap (total (λ (_ : PageState). 1)) (set_more t first k x (omega arith)) in
+    let sum = total-insert (λ (_ : PageState). 1) (set_within t first (k - first) x) k x in
+    let old : ◌≡◌ {A = ℕ} (option_map_or (λ (_ : PageState). 1) (finmap.get (set_within t first (k - first) x) k) 0) (option_map_or (λ (_ : PageState). 1) (finmap.get t k) 0) = ap (λ o. option_map_or (λ (_ : PageState). 1) o 0) (set_outside t first k x) in
     let more = counted_more (λ q. not (is_some (finmap.get t q))) first k (omega arith) in
     let either = hole_or_page (finmap.get t k) in
-    subst (λ n. total (λ (_ : Page). 1) (set_within t first n x) ≡ total (λ (_ : Page). 1) t + count_by (λ q. not (is_some (finmap.get t q))) (pages_from first n)) (sym next)
+    subst (λ n. total (λ (_ : PageState). 1) (set_within t first n x) ≡ total (λ (_ : PageState). 1) t + count_by (λ q. not (is_some (finmap.get t q))) (pages_from first n)) (sym next)
     (omega (arith, was, put, sum, old, more, either))
   where
-    hole_or_page : (o : Option Page) → ◌≡◌ {A = ℕ} (option_map_or (λ (_ : Page). 1) o 0 + cond (not (is_some o)) 1 0) 1
+    hole_or_page : (o : Option PageState) → ◌≡◌ {A = ℕ} (option_map_or (λ (_ : PageState). 1) o 0 + cond (not (is_some o)) 1 0) 1
     hole_or_page None = refl
     hole_or_page (Some x) = refl
 
 -- how many pages there are after `mmap`
-pub mapped_count : (c : Contents) (s first end : ℕ) (x : Page) → first ≤ end
+pub mapped_count : (c : Contents) (s first end : ℕ) (x : PageState) → first ≤ end
     → page_count (with_space c s (set_within (inside c.spaces s) first (end - first) x)).spaces ≡ page_count c.spaces + count_by (λ q. not (is_some (page_at c s q))) (pages_from first (end - first))
 mapped_count c s first end x le =
     let count = end - first in
     let same : first + count - first ≡ end - first = omega (arith, le) in
-    let sum = subst (λ n. total (λ (_ : Page). 1) (set_within (inside c.spaces s) first n x) ≡ total (λ (_ : Page). 1) (inside c.spaces s) + count_by (λ q. not (is_some (finmap.get (inside c.spaces s) q))) (pages_from first n)) same
+    let sum = subst (λ n. total (λ (_ : PageState). 1) (set_within (inside c.spaces s) first n x) ≡ total (λ (_ : PageState). 1) (inside c.spaces s) + count_by (λ q. not (is_some (finmap.get (inside c.spaces s) q))) (pages_from first n)) same
     (set_counted (inside c.spaces s) first count x) in
-    let more = total_within-insert (λ (_ : Page). 1) c.spaces s (set_within (inside c.spaces s) first (end - first) x) in
+    let more = total_within-insert (λ (_ : PageState). 1) c.spaces s (set_within (inside c.spaces s) first (end - first) x) in
     omega (arith, sum, more)

@@ -5,7 +5,7 @@ use Rattle.std.specs.Option.{option_map_or}
 use Rattle.std.proofs.lemmas.List.Sums.{sum_by-cons}
 use Rattle.sd_areas.specs.Pages.{pages_from}
 use Rattle.sd_pagetable.specs.Nested.{value_at}
-use Rattle.sd_pagetable.specs.Page.{Page}
+use Rattle.sd_pagetable.specs.Page.{PageState}
 use Rattle.sd_pagetable.specs.Contents.{Contents, page_at, put_page, remove_page, page_count}
 use Rattle.sd_pagetable.proofs.TotalLemmas.{total_within-put, total_within-remove}
 
@@ -49,18 +49,18 @@ left_to_count p k end less =
     ∙ ap (λ n. one_if (p k) + count_by p (pages_from n (end - (k + 1)))) (let z : suc k ≡ k + 1 = omega arith in z)
 
 -- ---- how many pages there are
-pub one_more : (c : Contents) (s p : ℕ) (x : Page) → page_at c s p ≡ None → page_count (put_page c s p x).spaces ≡ page_count c.spaces + 1
+pub one_more : (c : Contents) (s p : ℕ) (x : PageState) → page_at c s p ≡ None → page_count (put_page c s p x).spaces ≡ page_count c.spaces + 1
 one_more c s p x none =
-    let a = total_within-put (λ (_ : Page). 1) c.spaces s p x in
-    let b : ◌≡◌ {A = ℕ} (option_map_or (λ (_ : Page). 1) (value_at c.spaces s p) 0) 0 = ap (λ o. option_map_or (λ (_ : Page). 1) o 0) none in
+    let a = total_within-put (λ (_ : PageState). 1) c.spaces s p x in
+    let b : ◌≡◌ {A = ℕ} (option_map_or (λ (_ : PageState). 1) (value_at c.spaces s p) 0) 0 = ap (λ o. option_map_or (λ (_ : PageState). 1) o 0) none in
     omega (arith, a, b)
 
 pub one_less : (c : Contents) (s p : ℕ) → IsSome (page_at c s p) → page_count (remove_page c s p).spaces < page_count c.spaces
 one_less c s p there =
-    let a = total_within-remove (λ (_ : Page). 1) c.spaces s p in
-    let b : ◌≡◌ {A = ℕ} (option_map_or (λ (_ : Page). 1) (value_at c.spaces s p) 0) 1 = of_some (page_at c s p) there in
+    let a = total_within-remove (λ (_ : PageState). 1) c.spaces s p in
+    let b : ◌≡◌ {A = ℕ} (option_map_or (λ (_ : PageState). 1) (value_at c.spaces s p) 0) 1 = of_some (page_at c s p) there in
     omega (arith, a, b)
   where
-    of_some : (o : Option Page) → IsSome o → ◌≡◌ {A = ℕ} (option_map_or (λ (_ : Page). 1) o 0) 1
+    of_some : (o : Option PageState) → IsSome o → ◌≡◌ {A = ℕ} (option_map_or (λ (_ : PageState). 1) o 0) 1
     of_some (Some x) e = refl
     of_some None e = absurd (let f : false ≡ true = e in cc)

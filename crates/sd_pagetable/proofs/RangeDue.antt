@@ -17,7 +17,7 @@ use Rattle.sd_pagetable.specs.declared.access_error.AccessError.{AccessError}
 use Rattle.sd_pagetable.specs.declared.access_error.AccessError.TheVariants.{Refused}
 use Rattle.sd_pagetable.specs.declared.memory_refusal.MemoryRefusal.TheVariants.{NoSuchSpace, Einval as BadRange, Enomem as NoMemory}
 use Rattle.sd_pagetable.specs.Nested.{Table, inside, is_alive, set_within, remove_within, change_within, fill_within}
-use Rattle.sd_pagetable.specs.Page.{Page, fresh_page, protected_page}
+use Rattle.sd_pagetable.specs.Page.{PageState, fresh_page, protected_page}
 use Rattle.sd_pagetable.specs.Contents.{Contents, plain_of, page_count}
 use Rattle.sd_pagetable.specs.Due.{answer, area_due, in_space, or_else, mmap_due, munmap_due, mprotect_due}
 use Rattle.sd_pagetable.specs.Effects.{after_mmap}
@@ -67,8 +67,8 @@ mapped_fits c s address bytes prot few = subst (λ n. n ≤ 65536) (sym (mapped_
 
 -- a space without pages has none in its areas
 pub prots_none : (c : Contents) (s : ℕ) → inside c.spaces s ≡ finmap.empty → prots_of (inside c.spaces s) ≡ finmap.empty
-prots_none c s none = same_table _ _ (λ q. get-map_values (λ (page : Page). page.prot) (inside c.spaces s) q ∙ ap (λ (t : Table Page). option_map (λ (page : Page). page.prot) (finmap.get t q)) none
-    ∙ ap (option_map (λ (page : Page). page.prot)) (get-empty nat_cmp q) ∙ sym (get-empty nat_cmp q))
+prots_none c s none = same_table _ _ (λ q. get-map_values (λ (page : PageState). page.prot) (inside c.spaces s) q ∙ ap (λ (t : Table PageState). option_map (λ (page : PageState). page.prot) (finmap.get t q)) none
+    ∙ ap (option_map (λ (page : PageState). page.prot)) (get-empty nat_cmp q) ∙ sym (get-empty nat_cmp q))
 
 -- an accepted call is due nothing
 pub nothing_due : (c : Contents) (s : ℕ) (answer : Result PageMap Errno) (own : PageMap) → is_alive c.spaces s ≡ true → answer ≡ Ok own → in_space c.spaces s (area_due answer) ≡ None
@@ -135,49 +135,49 @@ protected_within pages address bytes prot own is some =
     differs bytes some = grind (arith, nat_tests)
 
 -- ---- the areas afterwards
-set_prot : (b : Bool) (prot : Prot) (o : Option Page) → cond b (Some prot) (option_map (λ (page : Page). page.prot) o) ≡ option_map (λ (page : Page). page.prot) (cond b (Some (fresh_page prot)) o)
+set_prot : (b : Bool) (prot : Prot) (o : Option PageState) → cond b (Some prot) (option_map (λ (page : PageState). page.prot) o) ≡ option_map (λ (page : PageState). page.prot) (cond b (Some (fresh_page prot)) o)
 set_prot true prot o = refl
 set_prot false prot o = refl
 
-pub own_mapped : (t : Table Page) (own : PageMap) (first count : ℕ) (prot : Prot) → ((q : ℕ) → finmap.get own q ≡ cond (is_within first count q) (Some prot) (finmap.get (prots_of t) q)) → own ≡ prots_of (set_within t first count (fresh_page prot))
-own_mapped t own first count prot law = same_table _ _ (λ q. law q ∙ ap (cond (is_within first count q) (Some prot)) (get-map_values (λ (page : Page). page.prot) t q) ∙ set_prot (is_within first count q) prot (finmap.get t q)
-    ∙ ap (option_map (λ (page : Page). page.prot)) (sym (get-set_within t first count (fresh_page prot) q)) ∙ sym (get-map_values (λ (page : Page). page.prot) (set_within t first count (fresh_page prot)) q))
+pub own_mapped : (t : Table PageState) (own : PageMap) (first count : ℕ) (prot : Prot) → ((q : ℕ) → finmap.get own q ≡ cond (is_within first count q) (Some prot) (finmap.get (prots_of t) q)) → own ≡ prots_of (set_within t first count (fresh_page prot))
+own_mapped t own first count prot law = same_table _ _ (λ q. law q ∙ ap (cond (is_within first count q) (Some prot)) (get-map_values (λ (page : PageState). page.prot) t q) ∙ set_prot (is_within first count q) prot (finmap.get t q)
+    ∙ ap (option_map (λ (page : PageState). page.prot)) (sym (get-set_within t first count (fresh_page prot) q)) ∙ sym (get-map_values (λ (page : PageState). page.prot) (set_within t first count (fresh_page prot)) q))
 
-remove_prot : (b : Bool) (o : Option Page) → cond b None (option_map (λ (page : Page). page.prot) o) ≡ option_map (λ (page : Page). page.prot) (cond b None o)
+remove_prot : (b : Bool) (o : Option PageState) → cond b None (option_map (λ (page : PageState). page.prot) o) ≡ option_map (λ (page : PageState). page.prot) (cond b None o)
 remove_prot true o = refl
 remove_prot false o = refl
 
-pub own_unmapped : (t : Table Page) (own : PageMap) (first count : ℕ) → ((q : ℕ) → finmap.get own q ≡ cond (is_within first count q) None (finmap.get (prots_of t) q)) → own ≡ prots_of (remove_within t first count)
-own_unmapped t own first count law = same_table _ _ (λ q. law q ∙ ap (cond (is_within first count q) None) (get-map_values (λ (page : Page). page.prot) t q) ∙ remove_prot (is_within first count q) (finmap.get t q)
-    ∙ ap (option_map (λ (page : Page). page.prot)) (sym (get-remove_within t first count q)) ∙ sym (get-map_values (λ (page : Page). page.prot) (remove_within t first count) q))
+pub own_unmapped : (t : Table PageState) (own : PageMap) (first count : ℕ) → ((q : ℕ) → finmap.get own q ≡ cond (is_within first count q) None (finmap.get (prots_of t) q)) → own ≡ prots_of (remove_within t first count)
+own_unmapped t own first count law = same_table _ _ (λ q. law q ∙ ap (cond (is_within first count q) None) (get-map_values (λ (page : PageState). page.prot) t q) ∙ remove_prot (is_within first count q) (finmap.get t q)
+    ∙ ap (option_map (λ (page : PageState). page.prot)) (sym (get-remove_within t first count q)) ∙ sym (get-map_values (λ (page : PageState). page.prot) (remove_within t first count) q))
 
-change_prot : (b : Bool) (prot : Prot) (o : Option Page) → (b ≡ true → IsSome (option_map (λ (page : Page). page.prot) o))
-    → cond b (Some prot) (option_map (λ (page : Page). page.prot) o) ≡ option_map (λ (page : Page). page.prot) (option_map (λ x. cond b (protected_page prot x) x) o)
+change_prot : (b : Bool) (prot : Prot) (o : Option PageState) → (b ≡ true → IsSome (option_map (λ (page : PageState). page.prot) o))
+    → cond b (Some prot) (option_map (λ (page : PageState). page.prot) o) ≡ option_map (λ (page : PageState). page.prot) (option_map (λ x. cond b (protected_page prot x) x) o)
 change_prot true prot (Some x) there = refl
 change_prot true prot None there = absurd (let f : false ≡ true = there refl in cc)
 change_prot false prot (Some x) there = refl
 change_prot false prot None there = refl
 
-pub own_protected : (t : Table Page) (own : PageMap) (first count : ℕ) (prot : Prot)
+pub own_protected : (t : Table PageState) (own : PageMap) (first count : ℕ) (prot : Prot)
     → ((q : ℕ) → (finmap.get own q ≡ cond (is_within first count q) (Some prot) (finmap.get (prots_of t) q)) × (is_within first count q ≡ true → IsSome (finmap.get (prots_of t) q)))
     → own ≡ prots_of (change_within (protected_page prot) t first count)
-own_protected t own first count prot law = same_table _ _ (λ q. (law q).0 ∙ ap (cond (is_within first count q) (Some prot)) (get-map_values (λ (page : Page). page.prot) t q)
-    ∙ change_prot (is_within first count q) prot (finmap.get t q) (λ within. subst IsSome (get-map_values (λ (page : Page). page.prot) t q) ((law q).1 within))
-    ∙ ap (option_map (λ (page : Page). page.prot)) (sym (get-change_within (protected_page prot) t first count q)) ∙ sym (get-map_values (λ (page : Page). page.prot) (change_within (protected_page prot) t first count) q))
+own_protected t own first count prot law = same_table _ _ (λ q. (law q).0 ∙ ap (cond (is_within first count q) (Some prot)) (get-map_values (λ (page : PageState). page.prot) t q)
+    ∙ change_prot (is_within first count q) prot (finmap.get t q) (λ within. subst IsSome (get-map_values (λ (page : PageState). page.prot) t q) ((law q).1 within))
+    ∙ ap (option_map (λ (page : PageState). page.prot)) (sym (get-change_within (protected_page prot) t first count q)) ∙ sym (get-map_values (λ (page : PageState). page.prot) (change_within (protected_page prot) t first count) q))
 
 -- a living space has areas
-pub has_own : (o : Option PageMap) (t : Option (Table Page)) → o ≡ option_map prots_of t → is_some t ≡ true → IsSome o
+pub has_own : (o : Option PageMap) (t : Option (Table PageState)) → o ≡ option_map prots_of t → is_some t ≡ true → IsSome o
 has_own o None e alive = absurd (let f : false ≡ true = alive in cc)
 has_own o (Some t) e alive = ap is_some e
 
 -- a range of no bytes has no page
-pub no_bytes : (c : Contents) (s address bytes : ℕ) (change : Page → Page) → is_alive c.spaces s ≡ true → bytes ≡ 0 → c ≡ with_space c s (change_within change (inside c.spaces s) (page_of address) (pages_for bytes))
+pub no_bytes : (c : Contents) (s address bytes : ℕ) (change : PageState → PageState) → is_alive c.spaces s ≡ true → bytes ≡ 0 → c ≡ with_space c s (change_within change (inside c.spaces s) (page_of address) (pages_for bytes))
 no_bytes c s address bytes change alive none =
     let count : pages_for bytes ≡ page_of address - page_of address = omega (arith, none) in
     sym (ap (λ n. with_space c s (change_within change (inside c.spaces s) (page_of address) n)) count ∙ ap (with_space c s) (change_none change (inside c.spaces s) (page_of address)) ∙ with_itself c s alive)
 
 -- a hole by the areas is one by the pages
-hole_by_areas : (o : Option Page) → not (is_some (option_map (λ (page : Page). page.prot) o)) ≡ not (is_some o)
+hole_by_areas : (o : Option PageState) → not (is_some (option_map (λ (page : PageState). page.prot) o)) ≡ not (is_some o)
 hole_by_areas None = refl
 hole_by_areas (Some x) = refl
 
@@ -194,14 +194,14 @@ refuses_many error c s answer own pages alive is (inr e) many = subst (λ x. Ref
     (mapped_due c s answer own pages true alive is (many_pages pages (many e)))
 
 -- ---- mapping a run
-or_filled : (within hole : Bool) (o : Option Page) (x : Page) → hole ≡ not (is_some o) → cond (within && hole) None (option_or o (cond within (Some x) None)) ≡ o
+or_filled : (within hole : Bool) (o : Option PageState) (x : PageState) → hole ≡ not (is_some o) → cond (within && hole) None (option_or o (cond within (Some x) None)) ≡ o
 or_filled true hole (Some y) x e = ap (λ b. cond b None (Some y)) e
 or_filled true hole None x e = ap (λ b. cond b None (Some x)) e
 or_filled false hole (Some y) x e = refl
 or_filled false hole None x e = refl
 
 -- what was filled was taken out again
-pub filled_back : (old mid new : Contents) (s first reached : ℕ) (x : Page) (own : PageMap) → is_alive old.spaces s ≡ true → own ≡ prots_of (inside old.spaces s)
+pub filled_back : (old mid new : Contents) (s first reached : ℕ) (x : PageState) (own : PageMap) → is_alive old.spaces s ≡ true → own ≡ prots_of (inside old.spaces s)
     → mid ≡ with_space old s (fill_within (inside old.spaces s) first (reached - first) x) → IsCleared mid new s (λ q. is_within first (reached - first) q && not (is_some (finmap.get own q))) → new ≡ old
 filled_back old mid new s first reached x own alive are filled cleared =
     cleared.others ∙ ap (λ c. with_space c s (inside new.spaces s)) filled ∙ with_twice old s _ (inside new.spaces s) ∙ ap (with_space old s) same ∙ with_itself old s alive
@@ -209,29 +209,29 @@ filled_back old mid new s first reached x own alive are filled cleared =
     at : (q : ℕ) → page_at new s q ≡ page_at old s q
     at q = cleared.pages q ∙ ap (cond (is_within first (reached - first) q && not (is_some (finmap.get own q))) None) (ap (λ c. page_at c s q) filled ∙ at_table old s q _ ∙ get-fill_within (inside old.spaces s) first (reached - first) x q)
         ∙ or_filled (is_within first (reached - first) q) (not (is_some (finmap.get own q))) (page_at old s q) x
-        (ap (λ m. not (is_some (finmap.get m q))) are ∙ ap (λ o. not (is_some o)) (get-map_values (λ (page : Page). page.prot) (inside old.spaces s) q) ∙ hole_by_areas (finmap.get (inside old.spaces s) q))
+        (ap (λ m. not (is_some (finmap.get m q))) are ∙ ap (λ o. not (is_some o)) (get-map_values (λ (page : PageState). page.prot) (inside old.spaces s) q) ∙ hole_by_areas (finmap.get (inside old.spaces s) q))
 
     same : inside new.spaces s ≡ inside old.spaces s
     same = same_table _ _ at
 
-filled_some : (o : Option Page) (x : Page) → IsSome (option_or o (Some x))
+filled_some : (o : Option PageState) (x : PageState) → IsSome (option_or o (Some x))
 filled_some None x = refl
 filled_some (Some y) x = refl
 
 in_the_run : (first end q : ℕ) → first ≤ q → q < end → is_within first (end - first) q ≡ true
 in_the_run first end q from below = grind (arith, nat_tests)
 
-pub filled_there : (old mid : Contents) (s first end q : ℕ) (x : Page) → mid ≡ with_space old s (fill_within (inside old.spaces s) first (end - first) x) → first ≤ q → q < end → IsSome (page_at mid s q)
+pub filled_there : (old mid : Contents) (s first end q : ℕ) (x : PageState) → mid ≡ with_space old s (fill_within (inside old.spaces s) first (end - first) x) → first ≤ q → q < end → IsSome (page_at mid s q)
 filled_there old mid s first end q x filled from below =
     subst IsSome (sym (ap (λ c. page_at c s q) filled ∙ at_table old s q _ ∙ get-fill_within (inside old.spaces s) first (end - first) x q
     ∙ ap (λ b. option_or (finmap.get (inside old.spaces s) q) (cond b (Some x) None)) (in_the_run first end q from below))) (filled_some (finmap.get (inside old.spaces s) q) x)
 
-set_over : (b : Bool) (o : Option Page) (x : Page) → cond b (Some x) (option_or o (cond b (Some x) None)) ≡ cond b (Some x) o
+set_over : (b : Bool) (o : Option PageState) (x : PageState) → cond b (Some x) (option_or o (cond b (Some x) None)) ≡ cond b (Some x) o
 set_over true o x = refl
 set_over false None x = refl
 set_over false (Some y) x = refl
 
-pub renewed_run : (old mid new : Contents) (s first end : ℕ) (x : Page) → mid ≡ with_space old s (fill_within (inside old.spaces s) first (end - first) x)
+pub renewed_run : (old mid new : Contents) (s first end : ℕ) (x : PageState) → mid ≡ with_space old s (fill_within (inside old.spaces s) first (end - first) x)
     → new ≡ with_space mid s (set_within (inside mid.spaces s) first (end - first) x) → new ≡ with_space old s (set_within (inside old.spaces s) first (end - first) x)
 renewed_run old mid new s first end x filled renewed = renewed
     ∙ ap (λ t. with_space mid s (set_within t first (end - first) x)) (ap (λ (c : Contents). inside c.spaces s) filled ∙ inside_with old s _)
@@ -257,7 +257,7 @@ unfolding map_result
 mapped_range pages address bytes prot own is = tested_first _ _ Enomem _ is
 
 -- `mprotect` of no bytes
-still_some : (o : Option (Table Page)) → is_some (option_map prots_of o) ≡ is_some o
+still_some : (o : Option (Table PageState)) → is_some (option_map prots_of o) ≡ is_some o
 still_some None = refl
 still_some (Some t) = refl
 

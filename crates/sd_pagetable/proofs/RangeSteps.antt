@@ -8,7 +8,7 @@ use Rattle.std.specs.FinMap as finmap
 use Rattle.std.specs.FinMap.{get-empty}
 use Rattle.sd_areas.specs.Pages.{pages_from, is_within}
 use Rattle.sd_pagetable.specs.Nested.{Table, inside, is_alive, fill_within, change_within, remove_within}
-use Rattle.sd_pagetable.specs.Page.{Page}
+use Rattle.sd_pagetable.specs.Page.{PageState}
 use Rattle.sd_pagetable.specs.Contents.{Contents, page_at, put_page, remove_page, page_count}
 use Rattle.sd_pagetable.specs.Ranges.{IsCleared}
 use Rattle.sd_pagetable.specs.Tracking.{with_space}
@@ -17,36 +17,36 @@ use Rattle.sd_pagetable.proofs.NestedLemmas.{alive-insert, value_at-remove}
 use Rattle.sd_pagetable.proofs.RangeLemmas.{cases_bool, same_self, not_same, same_of, inside_with, with_twice, with_itself, put_in, remove_in, at_table, fill_none, fill_more, fill_skips, fill_outside, change_none, change_more, change_skips, change_outside}
 use Rattle.sd_pagetable.proofs.RangeCounts.{left_to_count, one_more}
 
-cases_option : (o : Option Page) → (o ≡ None) ⊎ ((x : Page) × (o ≡ Some x))
+cases_option : (o : Option PageState) → (o ≡ None) ⊎ ((x : PageState) × (o ≡ Some x))
 cases_option None = inl refl
 cases_option (Some x) = inr (x, refl)
 
-pub alive_with : (c : Contents) (s : ℕ) (t : Table Page) → is_alive (with_space c s t).spaces s ≡ true
+pub alive_with : (c : Contents) (s : ℕ) (t : Table PageState) → is_alive (with_space c s t).spaces s ≡ true
 alive_with c s t = alive-insert c.spaces s t s ∙ ap (λ b. b || is_alive c.spaces s) (same_self s)
 
 -- ---- filling
-pub none_filled : (c : Contents) (s first : ℕ) (x : Page) → is_alive c.spaces s ≡ true → c ≡ with_space c s (fill_within (inside c.spaces s) first (first - first) x)
+pub none_filled : (c : Contents) (s first : ℕ) (x : PageState) → is_alive c.spaces s ≡ true → c ≡ with_space c s (fill_within (inside c.spaces s) first (first - first) x)
 none_filled c s first x alive = sym (ap (with_space c s) (fill_none (inside c.spaces s) first x) ∙ with_itself c s alive)
 
-unfilled : (old now : Contents) (s first k : ℕ) (x : Page) → now ≡ with_space old s (fill_within (inside old.spaces s) first (k - first) x) → page_at now s k ≡ page_at old s k
+unfilled : (old now : Contents) (s first k : ℕ) (x : PageState) → now ≡ with_space old s (fill_within (inside old.spaces s) first (k - first) x) → page_at now s k ≡ page_at old s k
 unfilled old now s first k x done = ap (λ c. page_at c s k) done ∙ at_table old s k _ ∙ fill_outside (inside old.spaces s) first k x
 
 -- whether a page is a hole
 abbrev pub is_hole : Contents → ℕ → ℕ → Bool
 is_hole c s page = not (is_some (page_at c s page))
 
-pub has_room : (old now : Contents) (s first k end : ℕ) (x : Page) → k < end → now ≡ with_space old s (fill_within (inside old.spaces s) first (k - first) x)
+pub has_room : (old now : Contents) (s first k end : ℕ) (x : PageState) → k < end → now ≡ with_space old s (fill_within (inside old.spaces s) first (k - first) x)
     → page_count now.spaces + count_by (is_hole old s) (pages_from k (end - k)) ≤ 65536 → page_at now s k ≡ None → page_count now.spaces < 65536
 has_room old now s first k end x less done few none =
     let hole : ◌≡◌ {A = ℕ} (cond (is_hole old s k) 1 0) 1 = ap (λ o. cond (not (is_some o)) 1 0) (sym (unfilled old now s first k x done) ∙ none) in
     omega (arith, few, left_to_count (is_hole old s) k end less, hole)
 
 -- the page was there, or is there now
-pub record Fills (old now : Contents) (s first k end : ℕ) (x : Page) : Type 0 where
+pub record Fills (old now : Contents) (s first k end : ℕ) (x : PageState) : Type 0 where
   pub done : now ≡ with_space old s (fill_within (inside old.spaces s) first (k - first) x)
   pub few : page_count now.spaces + count_by (is_hole old s) (pages_from k (end - k)) ≤ 65536
 
-pub filled_more : (old now new : Contents) (s first k end : ℕ) (x : Page) → first ≤ k → k < end → Fills old now s first k end x
+pub filled_more : (old now new : Contents) (s first k end : ℕ) (x : PageState) → first ≤ k → k < end → Fills old now s first k end x
     → (page_at now s k ≡ None → new ≡ put_page now s k x) → (IsSome (page_at now s k) → new ≡ now) → Fills old new s first (k + 1) end x
 filled_more old now new s first k end x le less was added there = elim (cases_option (page_at now s k)) [
   | inl none ↦
@@ -68,16 +68,16 @@ filled_more old now new s first k end x le less was added there = elim (cases_op
 ]
 
 -- ---- protecting
-pub none_changed : (change : Page → Page) (c : Contents) (s first : ℕ) → is_alive c.spaces s ≡ true → c ≡ with_space c s (change_within change (inside c.spaces s) first (first - first))
+pub none_changed : (change : PageState → PageState) (c : Contents) (s first : ℕ) → is_alive c.spaces s ≡ true → c ≡ with_space c s (change_within change (inside c.spaces s) first (first - first))
 none_changed change c s first alive = sym (ap (with_space c s) (change_none change (inside c.spaces s) first) ∙ with_itself c s alive)
 
-unchanged : (change : Page → Page) (old now : Contents) (s first k : ℕ) → now ≡ with_space old s (change_within change (inside old.spaces s) first (k - first)) → page_at now s k ≡ page_at old s k
+unchanged : (change : PageState → PageState) (old now : Contents) (s first k : ℕ) → now ≡ with_space old s (change_within change (inside old.spaces s) first (k - first)) → page_at now s k ≡ page_at old s k
 unchanged change old now s first k done = ap (λ c. page_at c s k) done ∙ at_table old s k _ ∙ change_outside change (inside old.spaces s) first k
 
-if_there : (P : Page → Type 0) (o : Option Page) (x : Page) → o ≡ Some x → IfSome o P → P x
+if_there : (P : PageState → Type 0) (o : Option PageState) (x : PageState) → o ≡ Some x → IfSome o P → P x
 if_there P o x e given = (let g : IfSome (Some x) P = subst (λ o. IfSome o P) e given in g)
 
-pub changed_more : (change : Page → Page) (old now new : Contents) (s first k : ℕ) → first ≤ k → now ≡ with_space old s (change_within change (inside old.spaces s) first (k - first))
+pub changed_more : (change : PageState → PageState) (old now new : Contents) (s first k : ℕ) → first ≤ k → now ≡ with_space old s (change_within change (inside old.spaces s) first (k - first))
     → IfSome (page_at now s k) (λ before. new ≡ put_page now s k (change before)) → (page_at now s k ≡ None → new ≡ now)
     → new ≡ with_space old s (change_within change (inside old.spaces s) first (k + 1 - first))
 changed_more change old now new s first k le done mapped hole = elim (cases_option (page_at now s k)) [
@@ -99,7 +99,7 @@ cleared_same old new s test other cleared same = record {
   others = cleared.others;
 }
 
-cleared_by : (a b : Bool) (o : Option Page) → cond b None (cond a None o) ≡ cond (a || b) None o
+cleared_by : (a b : Bool) (o : Option PageState) → cond b None (cond a None o) ≡ cond (a || b) None o
 cleared_by true true o = refl
 cleared_by true false o = refl
 cleared_by false b o = refl
@@ -110,7 +110,7 @@ cleared_both a b c s first then both one two is = record {
   others = two.others ∙ ap (λ d. with_space d s (inside c.spaces s)) one.others ∙ with_twice a s (inside b.spaces s) (inside c.spaces s);
 }
 
-removed_by : (q p : ℕ) (o : Option Page) → (nat_eq q p ≡ true → o ≡ None) → cond (nat_eq q p) None o ≡ o
+removed_by : (q p : ℕ) (o : Option PageState) → (nat_eq q p ≡ true → o ≡ None) → cond (nat_eq q p) None o ≡ o
 removed_by q p o none = elim (cases_bool (nat_eq q p)) [
   | inl here ↦ ap (λ b. cond b None o) here ∙ sym (none here)
   | inr there ↦ ap (λ b. cond b None o) there
@@ -152,7 +152,7 @@ still_others old now new s p was step =
     step ∙ removed_others now s p alive ∙ ap (λ c. with_space c s (inside (remove_page now s p).spaces s)) was ∙ with_twice old s (inside now.spaces s) _
     ∙ ap (λ (c : Contents). with_space old s (inside c.spaces s)) (sym step)
 
-not_some : (o : Option Page) → (IsSome o → ⊥) → o ≡ None
+not_some : (o : Option PageState) → (IsSome o → ⊥) → o ≡ None
 not_some None never = refl
 not_some (Some x) never = absurd (never refl)
 
@@ -202,14 +202,14 @@ pub unfilled_same : (gone : ℕ → Bool) (a b : Contents) (s first k : ℕ) →
 unfilled_same gone a b s first k le is one = cleared_same a b s _ _ one
     (λ q. ap (λ x. x && gone q) (within_run first k q le) ∙ then_kept (nat_eq q k) (is_within first (k - first) q) (gone q) (λ here. ap gone (same_of q k here) ∙ is))
 
-seen : {B : Type 0} (f : Page → B) (o : Option Page) → is_some (option_map f o) ≡ is_some o
+seen : {B : Type 0} (f : PageState → B) (o : Option PageState) → is_some (option_map f o) ≡ is_some o
 seen f None = refl
 seen f (Some x) = refl
 
-pub seen_there : {B : Type 0} (f : Page → B) (o : Option Page) (entry : Option B) (b : Bool) → entry ≡ option_map f o → b ≡ is_some entry → is_some o ≡ b
+pub seen_there : {B : Type 0} (f : PageState → B) (o : Option PageState) (entry : Option B) (b : Bool) → entry ≡ option_map f o → b ≡ is_some entry → is_some o ≡ b
 seen_there f o entry b e is = sym (is ∙ ap is_some e ∙ seen f o)
 
-none_of : (o : Option Page) → is_some o ≡ false → o ≡ None
+none_of : (o : Option PageState) → is_some o ≡ false → o ≡ None
 none_of None e = refl
 none_of (Some x) e = absurd (let f : true ≡ false = e in cc)
 

@@ -4,7 +4,7 @@ use Rattle.std.proofs.lemmas.Bool.{cases_Bool, cases_eq}
 use Rattle.std.specs.Option.{option_map_or}
 use Rattle.sd_tables.specs.declared.entry.Entry.{Entry}
 use Rattle.sd_pagetable.specs.Nested.{Nested, value_at, put_at, remove_at}
-use Rattle.sd_pagetable.specs.Page.{Page, zeros}
+use Rattle.sd_pagetable.specs.Page.{PageState, zeros}
 use Rattle.sd_pagetable.specs.Contents.{Contents, page_at, put_page, remove_page, members, share_of, page_count, IsSound}
 use Rattle.sd_frames.specs.Frames.{Pool, Cell, cell_at, count_at, bytes_at, frame_bytes}
 use Rattle.sd_pagetable.specs.View.{page_of_entry, contents_of, IsKept}
@@ -75,17 +75,17 @@ module _ (old new : Pool) (tables : Nested Entry) (n s p : ℕ) (e : Entry) (kep
   view_removed = view_remove old new tables s p released.size (alive_at tables s p e h) rest_same
 
 -- ---- a page that is gone
-module _ (m : Contents) (sound : IsSound m) (s p : ℕ) (x : Page) (there : page_at m s p ≡ Some x) where
+module _ (m : Contents) (sound : IsSound m) (s p : ℕ) (x : PageState) (there : page_at m s p ≡ Some x) where
   left_at : (q r : ℕ) → page_at (remove_page m s p) q r ≡ cond (is_at s p q r) None (page_at m q r)
   left_at q r = value_at-remove m.spaces s p q r
 
-  left : (q r : ℕ) (y : Page) → page_at (remove_page m s p) q r ≡ Some y → (is_at s p q r ≡ false) × (page_at m q r ≡ Some y)
+  left : (q r : ℕ) (y : PageState) → page_at (remove_page m s p) q r ≡ Some y → (is_at s p q r ≡ false) × (page_at m q r ≡ Some y)
   left q r y h = elim (cases_Bool (is_at s p q r)) [
-    | inl t ↦ absurd (let f : ◌≡◌ {A = Option Page} None (Some y) = sym (left_at q r ∙ ap (λ b. cond b None (page_at m q r)) t) ∙ h in cc)
+    | inl t ↦ absurd (let f : ◌≡◌ {A = Option PageState} None (Some y) = sym (left_at q r ∙ ap (λ b. cond b None (page_at m q r)) t) ∙ h in cc)
     | inr f ↦ (f, sym (left_at q r ∙ ap (λ b. cond b None (page_at m q r)) f) ∙ h)
   ]
 
-  before_weight : (w : Page → ℕ) → option_map_or w (value_at m.spaces s p) 0 ≡ w x
+  before_weight : (w : PageState → ℕ) → option_map_or w (value_at m.spaces s p) 0 ≡ w x
   before_weight w = ap (λ o. option_map_or w o 0) there
 
   pub sound_removed : IsSound (remove_page m s p)

@@ -9,7 +9,7 @@ use Rattle.sd_tables.specs.declared.entry.Entry.{Entry}
 use Rattle.sd_tables.specs.declared.run_change.RunChange.{RunChange}
 use Rattle.sd_tables.specs.declared.run_change.RunChange.TheVariants.{Renew, Protect}
 use Rattle.sd_pagetable.specs.Nested.{Table, Nested, map_values, inside, value_at, is_alive, put_at, change_within, fill_within}
-use Rattle.sd_pagetable.specs.Page.{Page, changed_page}
+use Rattle.sd_pagetable.specs.Page.{PageState, changed_page}
 use Rattle.sd_pagetable.specs.Contents.{Contents, page_at}
 use Rattle.sd_frames.specs.Frames.{Pool}
 use Rattle.sd_pagetable.specs.Owning.{ReleasesFrame}
@@ -124,7 +124,7 @@ kept_count change pool tables n s first kept alive (suc count) taken =
     (kept_step change pool before n s (first + count) t.0 was there t.2)
 
 -- ---- the contents
-module _ (F : Entry → Page) (f : Entry → Entry) (g : Page → Page) (is : (e : Entry) → F (f e) ≡ g (F e)) (t : Table Entry) (first count : ℕ) where
+module _ (F : Entry → PageState) (f : Entry → Entry) (g : PageState → PageState) (is : (e : Entry) → F (f e) ≡ g (F e)) (t : Table Entry) (first count : ℕ) where
   seen_by : (w : Bool) (o : Option Entry) → option_map F (option_map (λ e. cond w (f e) e) o) ≡ option_map (λ x. cond w (g x) x) (option_map F o)
   seen_by w None = refl
   seen_by true (Some e) = ap Some (is e)
@@ -276,7 +276,7 @@ kept_holes pool tables n s first e kept alive none closed (suc count) number few
     subst (λ k. IsKept pool (finmap.insert tables s (fill_within (inside tables s) first (suc count) e)) k) sum
     (subst (λ (u : Nested Entry). IsKept pool u (n + count + 1)) (put_in_run tables s (first + count) (fill_within (inside tables s) first count e) e ∙ ap (finmap.insert tables s) (fill_next (inside tables s) first e count hole)) next)
 
-module _ (F : Entry → Page) (t : Table Entry) (first count : ℕ) (e : Entry) where
+module _ (F : Entry → PageState) (t : Table Entry) (first count : ℕ) (e : Entry) where
   seen_or : (w : Bool) (o : Option Entry) → option_map F (option_or o (cond w (Some e) None)) ≡ option_or (option_map F o) (cond w (Some (F e)) None)
   seen_or w (Some y) = refl
   seen_or true None = refl
@@ -297,7 +297,7 @@ module _ (entry : Entry) (pool : Pool) (old new : Nested Entry) (n s first to : 
       subst (λ (t : Nested Entry). IsKept pool t (n + (to - first))) (sym filled_are)
       (kept_holes pool old n s first entry kept alive none closed (to - first) (omega arith) few (λ page l m. run.holes page l (omega arith)))
 
-  pub view_filled : (m : Contents) (x : Page) → contents_of pool old ≡ m → page_of_entry pool entry ≡ x → contents_of pool new ≡ with_space m s (fill_within (inside m.spaces s) first (to - first) x)
+  pub view_filled : (m : Contents) (x : PageState) → contents_of pool old ≡ m → page_of_entry pool entry ≡ x → contents_of pool new ≡ with_space m s (fill_within (inside m.spaces s) first (to - first) x)
   view_filled m x v is = ap (contents_of pool) filled_are
       ∙ same_contents (contents_of pool (finmap.insert old s (fill_within (inside old s) first (to - first) entry))) (with_space (contents_of pool old) s (fill_within (inside (contents_of pool old).spaces s) first (to - first) (page_of_entry pool entry))) refl
       (map_values-insert (map_values (page_of_entry pool)) old s (fill_within (inside old s) first (to - first) entry)

@@ -7,7 +7,7 @@ use Rattle.std.specs.Option.{option_map, option_or}
 use Rattle.std.specs.FinMap as finmap
 use Rattle.sd_areas.specs.Pages.{pages_from, is_within}
 use Rattle.sd_pagetable.specs.Nested.{Table, inside, is_alive, set_within, change_within, fill_within}
-use Rattle.sd_pagetable.specs.Page.{Page}
+use Rattle.sd_pagetable.specs.Page.{PageState}
 use Rattle.sd_pagetable.specs.Contents.{Contents, page_at, page_count}
 use Rattle.sd_pagetable.specs.Tracking.{with_space}
 use Rattle.sd_pagetable.proofs.TableLemmas.{same_table, get-set_within, get-change_within, get-fill_within}
@@ -28,7 +28,7 @@ counted_run p b first k (suc count) le are =
     omega arith
 
 -- ---- a space whose table is changed again
-pub again : (old now new : Contents) (s : ℕ) (f : Table Page → Table Page) (t : Table Page) → now ≡ with_space old s t → new ≡ with_space now s (f (inside now.spaces s)) → new ≡ with_space old s (f t)
+pub again : (old now new : Contents) (s : ℕ) (f : Table PageState → Table PageState) (t : Table PageState) → now ≡ with_space old s t → new ≡ with_space now s (f (inside now.spaces s)) → new ≡ with_space old s (f t)
 again old now new s f t was step = step ∙ ap (λ (c : Contents). with_space c s (f (inside c.spaces s))) was
     ∙ ap (λ u. with_space (with_space old s t) s (f u)) (inside_with old s t) ∙ with_twice old s t (f t)
 
@@ -38,32 +38,32 @@ within_both first k to q le more = grind (arith, nat_tests)
 within_one : (first k to q : ℕ) → is_within k (to - k) q ≡ true → is_within first (k - first) q ≡ false
 within_one first k to q here = grind (arith, nat_tests)
 
-set_by : (a b : Bool) (x : Page) (o : Option Page) → cond a (Some x) (cond b (Some x) o) ≡ cond (a || b) (Some x) o
+set_by : (a b : Bool) (x : PageState) (o : Option PageState) → cond a (Some x) (cond b (Some x) o) ≡ cond (a || b) (Some x) o
 set_by true b x o = refl
 set_by false b x o = refl
 
-set_run : (t : Table Page) (first k to : ℕ) (x : Page) → first ≤ k → k ≤ to → set_within (set_within t first (k - first) x) k (to - k) x ≡ set_within t first (to - first) x
+set_run : (t : Table PageState) (first k to : ℕ) (x : PageState) → first ≤ k → k ≤ to → set_within (set_within t first (k - first) x) k (to - k) x ≡ set_within t first (to - first) x
 set_run t first k to x le more = same_table _ _ (λ q. get-set_within (set_within t first (k - first) x) k (to - k) x q ∙ ap (cond (is_within k (to - k) q) (Some x)) (get-set_within t first (k - first) x q)
     ∙ set_by (is_within k (to - k) q) (is_within first (k - first) q) x (finmap.get t q) ∙ ap (λ b. cond b (Some x) (finmap.get t q)) (sym (within_both first k to q le more)) ∙ sym (get-set_within t first (to - first) x q))
 
-pub renewed_run : (old now new : Contents) (s first k to : ℕ) (x : Page) → first ≤ k → k ≤ to → now ≡ with_space old s (set_within (inside old.spaces s) first (k - first) x)
+pub renewed_run : (old now new : Contents) (s first k to : ℕ) (x : PageState) → first ≤ k → k ≤ to → now ≡ with_space old s (set_within (inside old.spaces s) first (k - first) x)
     → new ≡ with_space now s (set_within (inside now.spaces s) k (to - k) x) → new ≡ with_space old s (set_within (inside old.spaces s) first (to - first) x)
 renewed_run old now new s first k to x le more was step =
     again old now new s (λ t. set_within t k (to - k) x) (set_within (inside old.spaces s) first (k - first) x) was step ∙ ap (with_space old s) (set_run (inside old.spaces s) first k to x le more)
 
-change_by : (f : Page → Page) (a b : Bool) (o : Option Page) → (a ≡ true → b ≡ false) → option_map (λ x. cond a (f x) x) (option_map (λ x. cond b (f x) x) o) ≡ option_map (λ x. cond (a || b) (f x) x) o
+change_by : (f : PageState → PageState) (a b : Bool) (o : Option PageState) → (a ≡ true → b ≡ false) → option_map (λ x. cond a (f x) x) (option_map (λ x. cond b (f x) x) o) ≡ option_map (λ x. cond (a || b) (f x) x) o
 change_by f a b None apart = refl
 change_by f true true (Some x) apart = absurd (let g : true ≡ false = apart refl in cc)
 change_by f true false (Some x) apart = refl
 change_by f false b (Some x) apart = refl
 
-change_run : (f : Page → Page) (t : Table Page) (first k to : ℕ) → first ≤ k → k ≤ to → change_within f (change_within f t first (k - first)) k (to - k) ≡ change_within f t first (to - first)
+change_run : (f : PageState → PageState) (t : Table PageState) (first k to : ℕ) → first ≤ k → k ≤ to → change_within f (change_within f t first (k - first)) k (to - k) ≡ change_within f t first (to - first)
 change_run f t first k to le more = same_table _ _ (λ q. get-change_within f (change_within f t first (k - first)) k (to - k) q
     ∙ ap (option_map (λ x. cond (is_within k (to - k) q) (f x) x)) (get-change_within f t first (k - first) q)
     ∙ change_by f (is_within k (to - k) q) (is_within first (k - first) q) (finmap.get t q) (within_one first k to q)
     ∙ ap (λ b. option_map (λ x. cond b (f x) x) (finmap.get t q)) (sym (within_both first k to q le more)) ∙ sym (get-change_within f t first (to - first) q))
 
-pub changed_run : (f : Page → Page) (old now new : Contents) (s first k to : ℕ) → first ≤ k → k ≤ to → now ≡ with_space old s (change_within f (inside old.spaces s) first (k - first))
+pub changed_run : (f : PageState → PageState) (old now new : Contents) (s first k to : ℕ) → first ≤ k → k ≤ to → now ≡ with_space old s (change_within f (inside old.spaces s) first (k - first))
     → new ≡ with_space now s (change_within f (inside now.spaces s) k (to - k)) → new ≡ with_space old s (change_within f (inside old.spaces s) first (to - first))
 changed_run f old now new s first k to le more was step =
     again old now new s (λ t. change_within f t k (to - k)) (change_within f (inside old.spaces s) first (k - first)) was step ∙ ap (with_space old s) (change_run f (inside old.spaces s) first k to le more)
@@ -72,18 +72,18 @@ changed_run f old now new s first k to le more was step =
 from_within : (first to q : ℕ) → is_within first (to - first) q ≡ true → (first ≤ q) × (q < to)
 from_within first to q e = (grind (arith, nat_tests), grind (arith, nat_tests))
 
-set_there : (w : Bool) (x : Page) (o : Option Page) → (w ≡ true → IsSome o) → option_map (λ y. cond w x y) o ≡ cond w (Some x) o
+set_there : (w : Bool) (x : PageState) (o : Option PageState) → (w ≡ true → IsSome o) → option_map (λ y. cond w x y) o ≡ cond w (Some x) o
 set_there true x (Some y) there = refl
 set_there true x None there = absurd (let f : false ≡ true = there refl in cc)
 set_there false x (Some y) there = refl
 set_there false x None there = refl
 
-pub set_mapped : (t : Table Page) (first to : ℕ) (x : Page) → ((page : ℕ) → first ≤ page → page < to → IsSome (finmap.get t page)) → change_within (λ _. x) t first (to - first) ≡ set_within t first (to - first) x
+pub set_mapped : (t : Table PageState) (first to : ℕ) (x : PageState) → ((page : ℕ) → first ≤ page → page < to → IsSome (finmap.get t page)) → change_within (λ _. x) t first (to - first) ≡ set_within t first (to - first) x
 set_mapped t first to x there = same_table _ _ (λ q. get-change_within (λ _. x) t first (to - first) q
     ∙ set_there (is_within first (to - first) q) x (finmap.get t q) (λ e. let l = from_within first to q e in there q l.0 l.1) ∙ sym (get-set_within t first (to - first) x q))
 
 -- ---- pages that are there, where others are filled
-pub filled_run : (old now : Contents) (s first k end : ℕ) (x : Page) → first ≤ k → (count : ℕ) → k + count ≤ end → ((page : ℕ) → k ≤ page → page < k + count → IsSome (page_at now s page))
+pub filled_run : (old now : Contents) (s first k end : ℕ) (x : PageState) → first ≤ k → (count : ℕ) → k + count ≤ end → ((page : ℕ) → k ≤ page → page < k + count → IsSome (page_at now s page))
     → Fills old now s first k end x → Fills old now s first (k + count) end x
 filled_run old now s first k end x le zero within there was = subst (λ n. Fills old now s first n end x) (let z : k ≡ k + 0 = omega arith in z) was
 filled_run old now s first k end x le (suc count) within there was =
@@ -118,7 +118,7 @@ holes_more c s first k mapped to count le more past was none there =
     omega arith
 
 -- a run of no pages
-pub unchanged_run : (f : Page → Page) (old now : Contents) (s first to : ℕ) → is_alive old.spaces s ≡ true → to ≡ first → now ≡ with_space old s (change_within f (inside old.spaces s) first (to - first)) → now ≡ old
+pub unchanged_run : (f : PageState → PageState) (old now : Contents) (s first to : ℕ) → is_alive old.spaces s ≡ true → to ≡ first → now ≡ with_space old s (change_within f (inside old.spaces s) first (to - first)) → now ≡ old
 unchanged_run f old now s first to alive same step =
     step ∙ ap (λ n. with_space old s (change_within f (inside old.spaces s) first (n - first))) same ∙ sym (none_changed f old s first alive)
 
@@ -132,19 +132,19 @@ more_counted p first k (suc count) le =
     omega arith
 
 -- what a page outside of the part that was filled has
-filled_past : (old now : Contents) (s first k page : ℕ) (x : Page) → k ≤ page → now ≡ with_space old s (fill_within (inside old.spaces s) first (k - first) x) → page_at now s page ≡ page_at old s page
+filled_past : (old now : Contents) (s first k page : ℕ) (x : PageState) → k ≤ page → now ≡ with_space old s (fill_within (inside old.spaces s) first (k - first) x) → page_at now s page ≡ page_at old s page
 filled_past old now s first k page x le done = ap (λ c. page_at c s page) done ∙ at_table old s page _
     ∙ get-fill_within (inside old.spaces s) first (k - first) x page ∙ ap (λ b. option_or (finmap.get (inside old.spaces s) page) (cond b (Some x) None)) (beyond first k page le) ∙ or_none (finmap.get (inside old.spaces s) page)
   where
     beyond : (first k page : ℕ) → k ≤ page → is_within first (k - first) page ≡ false
     beyond first k page le = grind (arith, nat_tests)
 
-    or_none : (o : Option Page) → option_or o None ≡ o
+    or_none : (o : Option PageState) → option_or o None ≡ o
     or_none None = refl
     or_none (Some y) = refl
 
 -- a run of holes has room
-pub room_for : (old now : Contents) (s first k end to : ℕ) (x : Page) → Fills old now s first k end x → k ≤ to → to ≤ end → ((page : ℕ) → k ≤ page → page < to → page_at now s page ≡ None)
+pub room_for : (old now : Contents) (s first k end to : ℕ) (x : PageState) → Fills old now s first k end x → k ≤ to → to ≤ end → ((page : ℕ) → k ≤ page → page < to → page_at now s page ≡ None)
     → page_count now.spaces + (to - k) ≤ 65536
 unfolding is_hole
 room_for old now s first k end to x was le within holes =
@@ -158,7 +158,7 @@ room_for old now s first k end to x was le within holes =
     omega arith
 
 -- a run more was filled
-pub filled_all : (old now : Contents) (s first k end : ℕ) (x : Page) → first ≤ k → is_alive now.spaces s ≡ true → Fills old now s first k end x → (count : ℕ) → k + count ≤ end
+pub filled_all : (old now : Contents) (s first k end : ℕ) (x : PageState) → first ≤ k → is_alive now.spaces s ≡ true → Fills old now s first k end x → (count : ℕ) → k + count ≤ end
     → Fills old (with_space now s (fill_within (inside now.spaces s) k (k + count - k) x)) s first (k + count) end x
 filled_all old now s first k end x le alive was zero within =
     let same : now ≡ with_space now s (fill_within (inside now.spaces s) k (k + 0 - k) x) = none_filled now s k x alive ∙ ap (λ n. with_space now s (fill_within (inside now.spaces s) k (n - k) x)) (let z : k ≡ k + 0 = omega arith in z) in
@@ -176,7 +176,7 @@ filled_all old now s first k end x le alive was (suc count) within =
     let ends : k + count + 1 ≡ k + suc count = omega arith in
     subst (λ n. Fills old (with_space now s (fill_within t k (n - k) x)) s first n end x) ends step
 
-pub filled_to : (old now new : Contents) (s first k to end : ℕ) (x : Page) → first ≤ k → k ≤ to → to ≤ end → is_alive now.spaces s ≡ true → Fills old now s first k end x
+pub filled_to : (old now new : Contents) (s first k to end : ℕ) (x : PageState) → first ≤ k → k ≤ to → to ≤ end → is_alive now.spaces s ≡ true → Fills old now s first k end x
     → new ≡ with_space now s (fill_within (inside now.spaces s) k (to - k) x) → Fills old new s first to end x
 filled_to old now new s first k to end x le more within alive was step =
     let ends : k + (to - k) ≡ to = omega arith in
@@ -184,12 +184,12 @@ filled_to old now new s first k to end x le more within alive was step =
     subst (λ c. Fills old c s first to end x) (sym step) (subst (λ n. Fills old (with_space now s (fill_within (inside now.spaces s) k (n - k) x)) s first n end x) ends all)
 
 -- a run of pages that are there isn't filled
-pub passed : (c : Contents) (s first to : ℕ) (x : Page) → is_alive c.spaces s ≡ true → ((page : ℕ) → first ≤ page → page < to → IsSome (page_at c s page))
+pub passed : (c : Contents) (s first to : ℕ) (x : PageState) → is_alive c.spaces s ≡ true → ((page : ℕ) → first ≤ page → page < to → IsSome (page_at c s page))
     → c ≡ with_space c s (fill_within (inside c.spaces s) first (to - first) x)
 passed c s first to x alive there = sym (ap (with_space c s) (same_table _ _ (λ q. get-fill_within (inside c.spaces s) first (to - first) x q
     ∙ kept (is_within first (to - first) q) (page_at c s q) (λ e. let l = from_within first to q e in there q l.0 l.1))) ∙ with_itself c s alive)
   where
-    kept : (w : Bool) (o : Option Page) → (w ≡ true → IsSome o) → option_or o (cond w (Some x) None) ≡ o
+    kept : (w : Bool) (o : Option PageState) → (w ≡ true → IsSome o) → option_or o (cond w (Some x) None) ≡ o
     kept w (Some y) is = refl
     kept true None is = absurd (let f : false ≡ true = is refl in cc)
     kept false None is = refl

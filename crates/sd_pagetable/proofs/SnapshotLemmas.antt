@@ -24,11 +24,11 @@ use Rattle.sd_pagetable.specs.declared.access_error.AccessError.TheVariants.{Ref
 use Rattle.sd_pagetable.specs.declared.memory_refusal.MemoryRefusal.TheVariants.{Enomem}
 use Rattle.sd_pagetable.specs.declared.memory_error.MemoryError.TheVariants.{Denied as DeniedError, OutOfMemory}
 use Rattle.sd_pagetable.specs.Nested.{Table, Nested, map_values, inside, value_at, is_alive, put_at, total, total_within}
-use Rattle.sd_pagetable.specs.Page.{Page, plain_page}
+use Rattle.sd_pagetable.specs.Page.{PageState, plain_page}
 use Rattle.sd_pagetable.specs.Contents.{Contents, page_at, plain_of, is_full, page_count}
 use Rattle.sd_pagetable.specs.AreaErrors.{error_of}
 use Rattle.sd_pagetable.specs.Due.{prots_in}
-use Rattle.sd_pagetable.specs.Loaded.{is_zero_page, frames_for, nonzero_pages, loaded_page, Loads, IsBegun}
+use Rattle.sd_pagetable.specs.Loaded.{is_zero_page, frames_for, nonzero_pages, loaded_page, Loads, IsBegunMemory}
 use Rattle.sd_pagetable.proofs.NestedLemmas.{inside-insert, alive-put_same}
 use Rattle.sd_pagetable.proofs.TableLemmas.{same_table, same_again, get_put, get-map_values, map_values-empty, keys_sorted, sorted_changed}
 use Rattle.sd_pagetable.proofs.TotalLemmas.{total-empty, total_within-insert}
@@ -108,7 +108,7 @@ within_ok pages map h = by_test (nat_lt 1024 (length (areas_of pages))) refl h
     by_test true e g = absurd (let f : ◌≡◌ {A = Result PageMap _} (Err AreaEnomem) (Ok map) = g in cc)
     by_test false e g = (let f : pages ≡ map = cc in sym f, e)
 
-pub within_err : (pages : PageMap) (e : AreaError) → area_calls.Answers (within_areas pages) e → (error_of e ≡ OutOfMemory) ⊎ ((error_of e ≡ DeniedError (Refused Enomem)) × (nat_lt 1024 (length (areas_of pages)) ≡ true))
+pub within_err : (pages : PageMap) (e : AreaError) → area_calls.RefusesAsDue (within_areas pages) e → (error_of e ≡ OutOfMemory) ⊎ ((error_of e ≡ DeniedError (Refused Enomem)) × (nat_lt 1024 (length (areas_of pages)) ≡ true))
 unfolding within_areas
 within_err pages AreaOutOfMemory h = inl refl
 within_err pages (AreaRefused AreaEnomem) h = by_test (nat_lt 1024 (length (areas_of pages))) refl h
@@ -141,7 +141,7 @@ put_inside m n s p x e = ap (λ (k : Nested _). finmap.insert k s (finmap.insert
 no_page : (m : Contents) (s p : ℕ) → value_at (plain_of m) s p ≡ None → page_at m s p ≡ None
 no_page m s p h = none_of (page_at m s p) (sym (plain_at m s p) ∙ h)
   where
-    none_of : (o : Option Page) → option_map plain_page o ≡ None → o ≡ None
+    none_of : (o : Option PageState) → option_map plain_page o ≡ None → o ≡ None
     none_of None e = refl
     none_of (Some x) e = absurd (let f : ◌≡◌ {A = Option plain.Page} (Some (plain_page x)) None = e in cc)
 
@@ -149,13 +149,13 @@ no_page m s p h = none_of (page_at m s p) (sym (plain_at m s p) ∙ h)
 pub record IsFilling (old cur : Contents) (space : ℕ) (all rest : List (ℕ × SnapshotPage)) : Type 0 where
   pub alive : is_alive cur.spaces space ≡ true
   pub pool : cur.pool ≡ old.pool
-  pub begun : IsBegun cur
+  pub begun : IsBegunMemory cur
   pub others : plain_of cur ≡ finmap.insert (plain_of old) space (inside (plain_of cur) space)
   pub fills : filled page_of_snapshot (inside (plain_of cur) space) rest ≡ space_of all
   pub apart : IsApart (inside (plain_of cur) space) rest
   pub rises : Rises rest
 
-pub filling_none : (old : Contents) (space : ℕ) (es : List (ℕ × SnapshotPage)) (rest : List (ℕ × SnapshotPage)) → rest ≡ es → Rises es → IsBegun old → is_alive old.spaces space ≡ true → inside old.spaces space ≡ finmap.empty → IsFilling old old space es rest
+pub filling_none : (old : Contents) (space : ℕ) (es : List (ℕ × SnapshotPage)) (rest : List (ℕ × SnapshotPage)) → rest ≡ es → Rises es → IsBegunMemory old → is_alive old.spaces space ≡ true → inside old.spaces space ≡ finmap.empty → IsFilling old old space es rest
 filling_none old space es rest e rises begun alive bare =
     let none : inside (plain_of old) space ≡ finmap.empty = plain_inside old space ∙ ap (map_values plain_page) bare ∙ map_values-empty plain_page in
     subst (λ (r : List (ℕ × SnapshotPage)). IsFilling old old space es r) (sym e) (record {

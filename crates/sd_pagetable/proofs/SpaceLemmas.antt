@@ -7,7 +7,7 @@ use Rattle.std.specs.FinMap as finmap
 use Rattle.std.specs.FinMap.{get-empty}
 use Rattle.sd_tables.specs.declared.entry.Entry.{Entry}
 use Rattle.sd_pagetable.specs.Nested.{Table, Nested, map_values, inside, value_at, is_alive, total, total_within}
-use Rattle.sd_pagetable.specs.Page.{Page}
+use Rattle.sd_pagetable.specs.Page.{PageState}
 use Rattle.sd_pagetable.specs.Contents.{Contents, page_at, members, share_of, page_count, IsSound}
 use Rattle.sd_frames.specs.Frames.{Pool, Cell, cell_at}
 use Rattle.sd_pagetable.specs.View.{page_of_entry, contents_of, IsKept}
@@ -65,24 +65,24 @@ kept_space pool tables n s kept dead least greatest =
       mapped = kept.mapped ∙ sym (ap (λ (z : Contents). page_count z.spaces) v ∙ added_total m.spaces s dead (λ _. 1));
     }
 
-nothing_at : (spaces : Nested Page) → spaces ≡ finmap.empty → (q r : ℕ) → value_at spaces q r ≡ None
-nothing_at spaces e q r = ap (λ (n : Nested Page). value_at n q r) e ∙ ap (λ (o : Option (Table Page)). finmap.get (unwrap_or o finmap.empty) r) (get-empty nat_cmp q) ∙ get-empty nat_cmp r
+nothing_at : (spaces : Nested PageState) → spaces ≡ finmap.empty → (q r : ℕ) → value_at spaces q r ≡ None
+nothing_at spaces e q r = ap (λ (n : Nested PageState). value_at n q r) e ∙ ap (λ (o : Option (Table PageState)). finmap.get (unwrap_or o finmap.empty) r) (get-empty nat_cmp q) ∙ get-empty nat_cmp r
 
 pub kept_empty : (pool : Pool) (tables : Nested Entry) → pool.cells ≡ [] → tables ≡ finmap.empty → IsKept pool tables 0
 kept_empty pool tables none e =
     let spaces : (contents_of pool tables).spaces ≡ finmap.empty = ap (map_values (map_values (page_of_entry pool))) e ∙ map_values-empty (map_values (page_of_entry pool)) in
     let nothing = nothing_at (contents_of pool tables).spaces spaces in
-    let pages : page_count (contents_of pool tables).spaces ≡ 0 = ap (λ (n : Nested Page). page_count n) spaces ∙ total_within-empty (λ _. 1) in
+    let pages : page_count (contents_of pool tables).spaces ≡ 0 = ap (λ (n : Nested PageState). page_count n) spaces ∙ total_within-empty (λ _. 1) in
     let cell_none : (k : ℕ) → cell_at pool k ≡ None = λ k. ap (λ (cells : List (Option Cell)). cell_at (record { size = pool.size; cells = cells }) k) none in
     record {
       sound = record {
-        writable = λ q r y h w. absurd (let f : ◌≡◌ {A = Option Page} None (Some y) = sym (nothing q r) ∙ h in cc);
-        classes = λ q r y k h c. absurd (let f : ◌≡◌ {A = Option Page} None (Some y) = sym (nothing q r) ∙ h in cc);
-        spaces = λ q h. absurd (let f : false ≡ true = sym (ap (λ (n : Nested Page). is_alive n q) spaces ∙ ap is_some (get-empty nat_cmp q)) ∙ h in cc);
-        numbers = λ q r y h. absurd (let f : ◌≡◌ {A = Option Page} None (Some y) = sym (nothing q r) ∙ h in cc);
+        writable = λ q r y h w. absurd (let f : ◌≡◌ {A = Option PageState} None (Some y) = sym (nothing q r) ∙ h in cc);
+        classes = λ q r y k h c. absurd (let f : ◌≡◌ {A = Option PageState} None (Some y) = sym (nothing q r) ∙ h in cc);
+        spaces = λ q h. absurd (let f : false ≡ true = sym (ap (λ (n : Nested PageState). is_alive n q) spaces ∙ ap is_some (get-empty nat_cmp q)) ∙ h in cc);
+        numbers = λ q r y h. absurd (let f : ◌≡◌ {A = Option PageState} None (Some y) = sym (nothing q r) ∙ h in cc);
         few = subst (λ p. p ≤ 65536) (sym pages) (omega arith);
       };
-      counts = λ k. ap (λ (o : Option Cell). option_map_or (λ (c : Cell). c.count) o 0) (cell_none k) ∙ sym (ap (λ (n : Nested Page). total_within (share_of k) n) spaces ∙ total_within-empty (share_of k));
+      counts = λ k. ap (λ (o : Option Cell). option_map_or (λ (c : Cell). c.count) o 0) (cell_none k) ∙ sym (ap (λ (n : Nested PageState). total_within (share_of k) n) spaces ∙ total_within-empty (share_of k));
       used = λ k c h. absurd (let f : ◌≡◌ {A = Option Cell} None (Some c) = sym (cell_none k) ∙ h in cc);
       mapped = sym pages;
     }

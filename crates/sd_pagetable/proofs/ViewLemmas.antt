@@ -5,7 +5,7 @@ use Rattle.std.proofs.lemmas.Bool.{cases_Bool, cond-true, and_from, eqb-true, eq
 use Rattle.std.specs.Option.{option_map, option_map_or}
 use Rattle.sd_tables.specs.declared.entry.Entry.{Entry}
 use Rattle.sd_pagetable.specs.Nested.{Nested, map_values, value_at, is_alive, put_at, remove_at}
-use Rattle.sd_pagetable.specs.Page.{Page}
+use Rattle.sd_pagetable.specs.Page.{PageState}
 use Rattle.sd_pagetable.specs.Contents.{Contents, page_at, put_page, remove_page, members, share_of, is_alone, page_count, IsWritable, IsSound}
 use Rattle.sd_frames.specs.Frames.{Pool}
 use Rattle.sd_pagetable.specs.View.{page_of_entry, entry_of, contents_of, HasEntry}
@@ -25,12 +25,12 @@ entry_there pool tables s p e h = page_at-view pool tables s p ∙ ap (option_ma
 pub none_there : (pool : Pool) (tables : Nested Entry) (m : Contents) (s p : ℕ) → contents_of pool tables ≡ m → value_at tables s p ≡ None → page_at m s p ≡ None
 none_there pool tables m s p v h = ap (λ (n : Contents). page_at n s p) (sym v) ∙ page_at-view pool tables s p ∙ ap (option_map (page_of_entry pool)) h
 
-seen_entry : (pool : Pool) (o : Option Entry) (x : Page) → option_map (page_of_entry pool) o ≡ Some x → (e : Entry) × (o ≡ Some e) × (page_of_entry pool e ≡ x)
-seen_entry pool None x h = absurd (let f : ◌≡◌ {A = Option Page} None (Some x) = h in cc)
-seen_entry pool (Some e) x h = (e, refl, (let f : ◌≡◌ {A = Option Page} (Some (page_of_entry pool e)) (Some x) = h in cc))
+seen_entry : (pool : Pool) (o : Option Entry) (x : PageState) → option_map (page_of_entry pool) o ≡ Some x → (e : Entry) × (o ≡ Some e) × (page_of_entry pool e ≡ x)
+seen_entry pool None x h = absurd (let f : ◌≡◌ {A = Option PageState} None (Some x) = h in cc)
+seen_entry pool (Some e) x h = (e, refl, (let f : ◌≡◌ {A = Option PageState} (Some (page_of_entry pool e)) (Some x) = h in cc))
 
 -- a page of the contents is that of an entry
-pub page_entry : (pool : Pool) (tables : Nested Entry) (s p : ℕ) (x : Page) → page_at (contents_of pool tables) s p ≡ Some x → (e : Entry) × (value_at tables s p ≡ Some e) × (page_of_entry pool e ≡ x)
+pub page_entry : (pool : Pool) (tables : Nested Entry) (s p : ℕ) (x : PageState) → page_at (contents_of pool tables) s p ≡ Some x → (e : Entry) × (value_at tables s p ≡ Some e) × (page_of_entry pool e ≡ x)
 page_entry pool tables s p x h = seen_entry pool (value_at tables s p) x (sym (page_at-view pool tables s p) ∙ h)
 
 -- a page's entry is the one in the tables
@@ -43,7 +43,7 @@ entry_seen pool tables m s p e v h =
     again (Some x) = refl
 
 -- a space with a page is alive in the tables
-pub alive_at_view : (pool : Pool) (tables : Nested Entry) (m : Contents) (s p : ℕ) (x : Page) → contents_of pool tables ≡ m → page_at m s p ≡ Some x → is_alive tables s ≡ true
+pub alive_at_view : (pool : Pool) (tables : Nested Entry) (m : Contents) (s p : ℕ) (x : PageState) → contents_of pool tables ≡ m → page_at m s p ≡ Some x → is_alive tables s ≡ true
 alive_at_view pool tables m s p x v h =
     let e = page_entry pool tables s p x (ap (λ (n : Contents). page_at n s p) v ∙ h) in
     alive_at tables s p e.0 e.1
@@ -61,14 +61,14 @@ abbrev pub SameOthers : Pool → Pool → Nested Entry → ℕ → ℕ → Type 
 SameOthers old new tables s p = (q r : ℕ) (e : Entry) → is_at s p q r ≡ false → value_at tables q r ≡ Some e → page_of_entry new e ≡ page_of_entry old e
 
 module _ (old new : Pool) (tables : Nested Entry) (s p : ℕ) (size : new.size ≡ old.size) (alive : is_alive tables s ≡ true) (others : SameOthers old new tables s p) where
-  f : Entry → Page
+  f : Entry → PageState
   f = page_of_entry old
 
   same_option : (q r : ℕ) (o : Option Entry) → is_at s p q r ≡ false → value_at tables q r ≡ o → option_map (page_of_entry new) o ≡ option_map (page_of_entry old) o
   same_option q r None a h = refl
   same_option q r (Some e) a h = ap Some (others q r e a h)
 
-  other_side : (b : Bool) (x : Option Page) (u v : Option Page) → (b ≡ false → u ≡ v) → cond b x u ≡ cond b x v
+  other_side : (b : Bool) (x : Option PageState) (u v : Option PageState) → (b ≡ false → u ≡ v) → cond b x u ≡ cond b x v
   other_side true x u v h = refl
   other_side false x u v h = h refl
 
@@ -94,11 +94,11 @@ pub same_pool : (pool : Pool) (tables : Nested Entry) (s p : ℕ) → SameOthers
 same_pool pool tables s p q r e a h = refl
 
 -- ---- classes
-pub one_share : (k : ℕ) (x : Page) → x.class ≡ Some k → share_of k x ≡ 1
+pub one_share : (k : ℕ) (x : PageState) → x.class ≡ Some k → share_of k x ≡ 1
 one_share k x h = ap (λ o. option_map_or (λ j. cond (nat_eq j k) 1 0) o 0) h ∙ ap (λ b. cond b 1 0) (eq-eqb k k refl)
 
 -- a page alone in its class has no other page with it
-pub alone_apart : (m : Contents) (s p q r : ℕ) (x y : Page) (k : ℕ) → members m k ≡ 1 → page_at m s p ≡ Some x → page_at m q r ≡ Some y → y.class ≡ Some k → is_at s p q r ≡ false → share_of k x ≡ 0
+pub alone_apart : (m : Contents) (s p q r : ℕ) (x y : PageState) (k : ℕ) → members m k ≡ 1 → page_at m s p ≡ Some x → page_at m q r ≡ Some y → y.class ≡ Some k → is_at s p q r ≡ false → share_of k x ≡ 0
 alone_apart m s p q r x y k one hx hy class apart =
     let left = total_within-remove (share_of k) m.spaces s p in
     let a : option_map_or (share_of k) (value_at m.spaces s p) 0 ≡ share_of k x = ap (λ o. option_map_or (share_of k) o 0) hx in
@@ -111,25 +111,25 @@ alone_class : (m : Contents) (o : Option ℕ) → option_map_or (λ k. nat_eq (m
 alone_class m None h = absurd (let f : false ≡ true = h in cc)
 alone_class m (Some k) h = (k, refl, eqb-true _ _ h)
 
-pub alone_in : (m : Contents) (x : Page) → is_alone m x ≡ true → (k : ℕ) × (x.class ≡ Some k) × (members m k ≡ 1)
+pub alone_in : (m : Contents) (x : PageState) → is_alone m x ≡ true → (k : ℕ) × (x.class ≡ Some k) × (members m k ≡ 1)
 alone_in m x h = alone_class m x.class h
 
-pub is_alone_in : (m : Contents) (x : Page) (k : ℕ) → x.class ≡ Some k → members m k ≡ 1 → is_alone m x ≡ true
+pub is_alone_in : (m : Contents) (x : PageState) (k : ℕ) → x.class ≡ Some k → members m k ≡ 1 → is_alone m x ≡ true
 is_alone_in m x k c one = ap (λ o. option_map_or (λ j. nat_eq (members m j) 1) o false) c ∙ eq-eqb _ _ one
 
 -- ---- one entry changed: what holds of every memory still does
-module _ (m : Contents) (sound : IsSound m) (s p : ℕ) (x : Page) (alive : is_alive m.spaces s ≡ true) where
+module _ (m : Contents) (sound : IsSound m) (s p : ℕ) (x : PageState) (alive : is_alive m.spaces s ≡ true) where
   at_put : (q r : ℕ) → page_at (put_page m s p x) q r ≡ cond (is_at s p q r) (Some x) (page_at m q r)
   at_put q r = value_at-put m.spaces s p x q r
 
-  either : (q r : ℕ) (y : Page) → page_at (put_page m s p x) q r ≡ Some y → ((is_at s p q r ≡ true) × (x ≡ y)) ⊎ ((is_at s p q r ≡ false) × (page_at m q r ≡ Some y))
+  either : (q r : ℕ) (y : PageState) → page_at (put_page m s p x) q r ≡ Some y → ((is_at s p q r ≡ true) × (x ≡ y)) ⊎ ((is_at s p q r ≡ false) × (page_at m q r ≡ Some y))
   either q r y h = elim (cases_Bool (is_at s p q r)) [
-    | inl t ↦ inl (t, (let f : ◌≡◌ {A = Option Page} (Some x) (Some y) = sym (ap (λ b. cond b (Some x) (page_at m q r)) t) ∙ sym (at_put q r) ∙ h in cc))
+    | inl t ↦ inl (t, (let f : ◌≡◌ {A = Option PageState} (Some x) (Some y) = sym (ap (λ b. cond b (Some x) (page_at m q r)) t) ∙ sym (at_put q r) ∙ h in cc))
     | inr f ↦ inr (f, sym (ap (λ b. cond b (Some x) (page_at m q r)) f) ∙ sym (at_put q r) ∙ h)
   ]
 
   -- what an old page there was leaves the classes of other open pages alone
-  old_share : (q r : ℕ) (y : Page) (k : ℕ) (o : Option Page) → page_at m s p ≡ o → is_at s p q r ≡ false → page_at m q r ≡ Some y → y.class ≡ Some k → members m k ≡ 1 → option_map_or (share_of k) o 0 ≡ 0
+  old_share : (q r : ℕ) (y : PageState) (k : ℕ) (o : Option PageState) → page_at m s p ≡ o → is_at s p q r ≡ false → page_at m q r ≡ Some y → y.class ≡ Some k → members m k ≡ 1 → option_map_or (share_of k) o 0 ≡ 0
   old_share q r y k None h apart hy c one = refl
   old_share q r y k (Some old) h apart hy c one = alone_apart m s p q r old y k one h hy c apart
 
@@ -138,11 +138,11 @@ module _ (m : Contents) (sound : IsSound m) (s p : ℕ) (x : Page) (alive : is_a
 
   pub sound_put : p < 2 ^ 35 → ((k : ℕ) → x.class ≡ Some k → k < m.pool) → page_count (put_at m.spaces s p x) ≤ 65536
       → (x.writable ≡ true → IsWritable (put_page m s p x) x)
-      → ((q r : ℕ) (y : Page) (k : ℕ) → is_at s p q r ≡ false → page_at m q r ≡ Some y → y.writable ≡ true → y.class ≡ Some k → members m k ≡ 1 → share_of k x ≡ 0)
+      → ((q r : ℕ) (y : PageState) (k : ℕ) → is_at s p q r ≡ false → page_at m q r ≡ Some y → y.writable ≡ true → y.class ≡ Some k → members m k ≡ 1 → share_of k x ≡ 0)
       → IsSound (put_page m s p x)
   sound_put number class few opening apart = record {
     writable = λ q r y h w. elim (either q r y h) [
-      | inl here ↦ subst (IsWritable (put_page m s p x)) here.1 (opening (ap (λ (z : Page). z.writable) here.1 ∙ w))
+      | inl here ↦ subst (IsWritable (put_page m s p x)) here.1 (opening (ap (λ (z : PageState). z.writable) here.1 ∙ w))
       | inr there ↦
           let o = sound.writable q r y there.1 w in
           let a = alone_in m y o.alone in
@@ -153,7 +153,7 @@ module _ (m : Contents) (sound : IsSound m) (s p : ℕ) (x : Page) (alive : is_a
           record { soft_dirty = o.soft_dirty; permitted = o.permitted; alone = is_alone_in (put_page m s p x) y a.0 a.1 (omega (arith, b, e, f, g)) }
     ];
     classes = λ q r y k h c. elim (either q r y h) [
-      | inl here ↦ class k (ap (λ (z : Page). z.class) here.1 ∙ c)
+      | inl here ↦ class k (ap (λ (z : PageState). z.class) here.1 ∙ c)
       | inr there ↦ sound.classes q r y k there.1 c
     ];
     spaces = λ q h. sound.spaces q (sym (alive-put_same m.spaces s p x q alive) ∙ h);

@@ -4,7 +4,7 @@ use Rattle.std.proofs.lemmas.List.{length-replicate}
 use Rattle.std.specs.Option.{option_map_or}
 use Rattle.sd_tables.specs.declared.entry.Entry.{Entry}
 use Rattle.sd_pagetable.specs.Nested.{Nested, value_at}
-use Rattle.sd_pagetable.specs.Page.{Page, zeros}
+use Rattle.sd_pagetable.specs.Page.{PageState, zeros}
 use Rattle.sd_pagetable.specs.Contents.{AreWhole}
 use Rattle.sd_frames.specs.Frames.{Cell, Pool, cell_at, bytes_at, HasWholeFrames, frame_bytes}
 use Rattle.sd_pagetable.specs.View.{page_of_entry, contents_of, IsKept}
@@ -34,4 +34,4 @@ frame_whole pool (Some k) whole used = whole_at pool k whole (used k refl)
 pub pages_whole : (pool : Pool) (tables : Nested Entry) (n : ℕ) → IsKept pool tables n → HasWholeFrames pool → AreWhole (contents_of pool tables)
 pages_whole pool tables n kept whole s p page there =
     let e = changed (page_of_entry pool) (value_at tables s p) page (sym (page_at-view pool tables s p) ∙ there) in
-    ap (λ (x : Page). length x.bytes) e.2 ∙ frame_whole pool e.0.frame whole (λ k is. frame_used pool tables n s p e.0 k kept e.1 is)
+    ap (λ (x : PageState). length x.bytes) e.2 ∙ frame_whole pool e.0.frame whole (λ k is. frame_used pool tables n s p e.0 k kept e.1 is)

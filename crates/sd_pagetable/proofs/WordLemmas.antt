@@ -2,7 +2,7 @@
 use Rattle.std.proofs.Common.{◌≡◌, ℕ, ◌+◌, ◌^◌, Bool, false, cond, nat_eq, Option, Some, None, ap, arith}
 use Rattle.std.proofs.lemmas.Bool.{eq-eqb, ne_eqb}
 use Rattle.std.specs.Option.{option_map_or}
-use Rattle.sd_pagetable.specs.Page.{Page}
+use Rattle.sd_pagetable.specs.Page.{PageState}
 use Rattle.sd_pagetable.specs.Contents.{Contents, page_at, members, word_of_page, word_at}
 
 abbrev class_bit : Option ℕ → ℕ
@@ -14,23 +14,23 @@ alone_bit m o = cond (option_map_or (λ k. nat_eq (members m k) 1) o false) (2 ^
 abbrev pub dirty_bit : Bool → ℕ
 dirty_bit b = cond b (2 ^ 55) 0
 
-word_class : (m : Contents) (x : Page) (o : Option ℕ) → x.class ≡ o → word_of_page m x ≡ class_bit o + alone_bit m o + dirty_bit x.soft_dirty
+word_class : (m : Contents) (x : PageState) (o : Option ℕ) → x.class ≡ o → word_of_page m x ≡ class_bit o + alone_bit m o + dirty_bit x.soft_dirty
 word_class m x o e = ap (λ p. class_bit p + alone_bit m p + dirty_bit x.soft_dirty) e
 
-pub word_none : (m : Contents) (s p : ℕ) (x : Page) (n : ℕ) → page_at m s p ≡ Some x → x.class ≡ None → n ≡ dirty_bit x.soft_dirty → n ≡ word_at m s p
+pub word_none : (m : Contents) (s p : ℕ) (x : PageState) (n : ℕ) → page_at m s p ≡ Some x → x.class ≡ None → n ≡ dirty_bit x.soft_dirty → n ≡ word_at m s p
 word_none m s p x n h c e =
     let a : word_at m s p ≡ word_of_page m x = ap (λ o. option_map_or (word_of_page m) o 0) h in
     let b = word_class m x None c in
     omega (arith, a, b, e)
 
-pub word_alone : (m : Contents) (s p : ℕ) (x : Page) (k n : ℕ) → page_at m s p ≡ Some x → x.class ≡ Some k → members m k ≡ 1 → n ≡ dirty_bit x.soft_dirty → 9295429630892703744 + n ≡ word_at m s p
+pub word_alone : (m : Contents) (s p : ℕ) (x : PageState) (k n : ℕ) → page_at m s p ≡ Some x → x.class ≡ Some k → members m k ≡ 1 → n ≡ dirty_bit x.soft_dirty → 9295429630892703744 + n ≡ word_at m s p
 word_alone m s p x k n h c one e =
     let a : word_at m s p ≡ word_of_page m x = ap (λ o. option_map_or (word_of_page m) o 0) h in
     let b = word_class m x (Some k) c in
     let d : cond {A = ℕ} (nat_eq (members m k) 1) (2 ^ 56) 0 ≡ 2 ^ 56 = ap (λ b. cond {A = ℕ} b (2 ^ 56) 0) (eq-eqb _ _ one) in
     omega (arith, a, b, d, e)
 
-pub word_shared : (m : Contents) (s p : ℕ) (x : Page) (k n : ℕ) → page_at m s p ≡ Some x → x.class ≡ Some k → (members m k ≡ 1 → ⊥) → n ≡ dirty_bit x.soft_dirty → 9223372036854775808 + n ≡ word_at m s p
+pub word_shared : (m : Contents) (s p : ℕ) (x : PageState) (k n : ℕ) → page_at m s p ≡ Some x → x.class ≡ Some k → (members m k ≡ 1 → ⊥) → n ≡ dirty_bit x.soft_dirty → 9223372036854775808 + n ≡ word_at m s p
 word_shared m s p x k n h c more e =
     let a : word_at m s p ≡ word_of_page m x = ap (λ o. option_map_or (word_of_page m) o 0) h in
     let b = word_class m x (Some k) c in

@@ -59,12 +59,12 @@ access_due memory space address bytes need = in_space memory space
     else page_due need (value_at memory space (page_of address)))
 
 -- a page that isn't alone in a class needs a frame
-abbrev pub needs_frame : Contents → Option full.Page → Bool
+abbrev pub needs_frame : Contents → Option full.PageState → Bool
 needs_frame contents None = false
 needs_frame contents (Some page) = not (is_alone contents page)
 
 -- and then a frame has to be left
-abbrev pub frame_due : Contents → Option full.Page → Option AccessError
+abbrev pub frame_due : Contents → Option full.PageState → Option AccessError
 frame_due contents None = None
 frame_due contents (Some page) =
     if not (is_alone contents page) && is_full contents then Some (Refused NoFrame) else None
@@ -87,7 +87,8 @@ try_answer false = NeedsFault
 
 abbrev pub try_outcome : Contents → ℕ → ℕ → ℕ → Result StoreOutcome AccessError
 try_outcome contents space address bytes = answer (access_due (plain_of contents) space address bytes Write)
-    (try_answer (option_map_or (λ (page : full.Page). page.writable) (page_at contents space (page_of address)) false))
+    (try_answer (option_map_or (λ (page : full.PageState). page.writable)
+    (page_at contents space (page_of address)) false))
 
 -- the permissions of a space's pages
 abbrev pub prots_in : Space → PageMap

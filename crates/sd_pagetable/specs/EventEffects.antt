@@ -7,7 +7,8 @@ use Rattle.sd_pagetable.specs.Nested.{inside, value_at, put_at, set_within, remo
 use Rattle.sd_pagetable.specs.Page.{zeros}
 use Rattle.sd_pagetable.specs.Access.{stored_at}
 use Rattle.sd_pagetable.specs.Contents.{Contents, plain_of}
-use Rattle.sd_pagetable.specs.Tracking.{Event, Mapped, Unmapped, Protected, Forked, Exited, Faulted, Tried, Stored}
+use Rattle.sd_pagetable.specs.Tracking.{MemoryEvent, Mapped, Unmapped, Protected, Forked, Exited, Faulted, Tried}
+use Rattle.sd_pagetable.specs.Tracking.{Stored}
 use Rattle.sd_pagetable.specs.Tracking.{Cleared, Passed, Step}
 
 -- bytes stand at an offset of a page, if it is mapped
@@ -18,7 +19,7 @@ after_write memory space page offset bytes =
     (value_at memory space page) memory
 
 -- faults and clears leave it
-abbrev pub after_event : Event → PlainMemory → PlainMemory
+abbrev pub after_event : MemoryEvent → PlainMemory → PlainMemory
 after_event (Mapped space first count prot) memory =
     finmap.insert memory space (set_within (inside memory space) first count (record { prot = prot; bytes = zeros }))
 after_event (Unmapped space first count) memory =
@@ -36,4 +37,5 @@ after_event Passed memory = memory
 
 -- a memory's history makes its plain memory
 abbrev pub EffectLaw : Type 0
-EffectLaw = (old new : Contents) (event : Event) → Step old event new → plain_of new ≡ after_event event (plain_of old)
+EffectLaw =
+    (old new : Contents) (event : MemoryEvent) → Step old event new → plain_of new ≡ after_event event (plain_of old)

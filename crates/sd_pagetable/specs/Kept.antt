@@ -6,12 +6,12 @@ use Rattle.std.specs.BTreeMap.{BTreeMap, get}
 use Rattle.std.specs.FinMap as finmap
 use Rattle.sd_areas.specs.Areas.{PageMap}
 use Rattle.sd_pagetable.specs.Nested.{Table, map_values}
-use Rattle.sd_pagetable.specs.Page.{Page}
+use Rattle.sd_pagetable.specs.Page.{PageState}
 use Rattle.sd_pagetable.specs.Contents.{Contents}
 
 -- the permissions of a space's pages
-abbrev pub prots_of : Table Page → PageMap
-prots_of pages = map_values (λ (page : Page). page.prot) pages
+abbrev pub prots_of : Table PageState → PageMap
+prots_of pages = map_values (λ (page : PageState). page.prot) pages
 
 -- each living space has its areas
 abbrev pub HasAreas : BTreeMap ℕ PageMap → Contents → Type 0

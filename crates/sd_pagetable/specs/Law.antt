@@ -3,7 +3,7 @@ use Rattle.std.specs.Prelude.{◌≡◌, ℕ, zero, suc, ◌+◌, ◌≤◌, fal
 use Rattle.std.specs.Option.{option_map}
 use Rattle.std.specs.FinMap as finmap
 use Rattle.sd_pagetable.specs.Nested.{Table, Nested, inside, is_alive, value_at}
-use Rattle.sd_pagetable.specs.Page.{Page, cleared_page, plain_page}
+use Rattle.sd_pagetable.specs.Page.{PageState, cleared_page, plain_page}
 use Rattle.sd_pagetable.specs.Contents.{Contents, page_at, plain_of, IsSound}
 use Rattle.sd_pagetable.specs.Kept.{prots_of}
 use Rattle.sd_pagetable.specs.Tracking.{BitsLaw, TryLaw, Step, Cleared, is_page}
@@ -30,9 +30,9 @@ pub record PlainLaw : Type 0 where
   pub alive : (contents : Contents) (space : ℕ) → is_alive (plain_of contents) space ≡ is_alive contents.spaces space
   pub pages : (contents : Contents) (space page : ℕ)
       → value_at (plain_of contents) space page ≡ option_map plain_page (page_at contents space page)
-  pub prots : (table : Table Page) (page : ℕ)
-      → finmap.get (prots_of table) page ≡ option_map (λ (found : Page). found.prot) (finmap.get table page)
-  pub count : (table : Table Page) → finmap.len (prots_of table) ≡ finmap.len table
+  pub prots : (table : Table PageState) (page : ℕ)
+      → finmap.get (prots_of table) page ≡ option_map (λ (found : PageState). found.prot) (finmap.get table page)
+  pub count : (table : Table PageState) → finmap.len (prots_of table) ≡ finmap.len table
 
 -- how many pages the spaces below a number have
 abbrev pub pages_below : {X : Type 0} → Nested X → ℕ → ℕ

@@ -10,7 +10,7 @@ use Rattle.sd_pagetable.specs.declared.memory_refusal.MemoryRefusal.TheVariants.
 use Rattle.sd_pagetable.specs.declared.access_error.AccessError.{AccessError}
 use Rattle.sd_pagetable.specs.declared.access_error.AccessError.TheVariants.{Refused}
 use Rattle.sd_pagetable.specs.Nested.{total_within}
-use Rattle.sd_pagetable.specs.Page.{Page}
+use Rattle.sd_pagetable.specs.Page.{PageState}
 use Rattle.sd_pagetable.specs.Contents.{Contents, page_at, put_page, plain_of, members, classes, is_alone, page_count}
 use Rattle.sd_pagetable.specs.Due.{prots_in}
 use Rattle.sd_pagetable.specs.Tracking.{IsBeginning}
@@ -45,15 +45,15 @@ pub record IsLoaded (frames : ℕ) (saved : PlainMemory) (contents : Contents) :
   pub pool : contents.pool ≡ frames
   pub memory : plain_of contents ≡ saved
   pub begins : IsBeginning contents
-  pub zeros : (space number : ℕ) (page : Page) → page_at contents space number ≡ Some page
+  pub zeros : (space number : ℕ) (page : PageState) → page_at contents space number ≡ Some page
       → is_zero_page page.bytes ≡ true → page.class ≡ None
-  pub alone : (space number : ℕ) (page : Page) → page_at contents space number ≡ Some page
+  pub alone : (space number : ℕ) (page : PageState) → page_at contents space number ≡ Some page
       → is_zero_page page.bytes ≡ false → is_alone contents page ≡ true
 
 -- ---- one page more
 
 -- a page of a snapshot, in a class or in none
-abbrev pub loaded_page : plain.Page → Option ℕ → Page
+abbrev pub loaded_page : plain.Page → Option ℕ → PageState
 loaded_page page class =
     record { prot = page.prot; bytes = page.bytes; class = class; writable = false; soft_dirty = true }
 
@@ -69,15 +69,15 @@ Loads old space number page new =
     (class : Option ℕ) × IsClassFor old page class × (new ≡ put_page old space number (loaded_page page class))
 
 -- a page without a class gets one that has no page, and these bytes
-abbrev pub GivesFrame : Contents → ℕ → ℕ → Page → List ℕ → Contents → Type 0
+abbrev pub GivesFrame : Contents → ℕ → ℕ → PageState → List ℕ → Contents → Type 0
 GivesFrame old space number before bytes new = (class : ℕ) × (members old class ≡ 0) × (class < old.pool)
     × (new ≡ put_page old space number (record before { bytes = bytes; class = Some class }))
 
 -- so far each page is as it begins, and as many classes have a page as pages aren't all zeros
-pub record IsBegun (contents : Contents) : Type 0 where
+pub record IsBegunMemory (contents : Contents) : Type 0 where
   pub begins : IsBeginning contents
-  pub zeros : (space number : ℕ) (page : Page) → page_at contents space number ≡ Some page
+  pub zeros : (space number : ℕ) (page : PageState) → page_at contents space number ≡ Some page
       → is_zero_page page.bytes ≡ true → page.class ≡ None
-  pub alone : (space number : ℕ) (page : Page) → page_at contents space number ≡ Some page
+  pub alone : (space number : ℕ) (page : PageState) → page_at contents space number ≡ Some page
       → is_zero_page page.bytes ≡ false → is_alone contents page ≡ true
   pub used : length (classes contents) ≡ nonzero_pages (plain_of contents)

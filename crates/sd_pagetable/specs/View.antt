@@ -3,12 +3,12 @@ use Rattle.std.specs.Prelude.{◌≡◌, ℕ, ◌<◌, Some}
 use Rattle.std.specs.Option.{option_map}
 use Rattle.sd_tables.specs.declared.entry.Entry.{Entry}
 use Rattle.sd_pagetable.specs.Nested.{Nested, map_values}
-use Rattle.sd_pagetable.specs.Page.{Page}
+use Rattle.sd_pagetable.specs.Page.{PageState}
 use Rattle.sd_frames.specs.Frames.{Pool, Cell, cell_at, count_at, frame_bytes}
 use Rattle.sd_pagetable.specs.Contents.{Contents, page_at, members, IsSound, page_count}
 
 -- an entry with its frame, as a page; the class is the frame's number
-abbrev pub page_of_entry : Pool → Entry → Page
+abbrev pub page_of_entry : Pool → Entry → PageState
 page_of_entry pool entry = record {
   prot = entry.prot;
   bytes = frame_bytes pool entry.frame;
@@ -18,7 +18,7 @@ page_of_entry pool entry = record {
 }
 
 -- the entry of a page
-abbrev pub entry_of : Page → Entry
+abbrev pub entry_of : PageState → Entry
 entry_of page = record { prot = page.prot; frame = page.class; writable = page.writable; soft_dirty = page.soft_dirty }
 
 -- a page is mapped, with this entry

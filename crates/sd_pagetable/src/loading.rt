@@ -17,7 +17,7 @@ ghost use Rattle.sd_pagetable.specs.Contents.{page_count, plain_of};
 ghost use Rattle.sd_pagetable.specs.Page.{zeros};
 ghost use Rattle.sd_pagetable.specs.Due.{Answers, prots_in};
 ghost use Rattle.sd_pagetable.specs.Loaded.{is_zero_page, frames_for, nonzero_pages, is_over_in_space, snapshot_due};
-ghost use Rattle.sd_pagetable.specs.Loaded.{IsBegun, IsLoaded};
+ghost use Rattle.sd_pagetable.specs.Loaded.{IsBegunMemory, IsLoaded};
 
 use crate::fork_calls::add_areas;
 use crate::memory_error::MemoryError;
@@ -169,11 +169,11 @@ pub(crate) fn areas_of(
 fn load_space(paging: &mut Paging, space: SpaceId, pages: &Pages) -> Result<(), AllocError>
     requires alive { is_alive paging.old.spaces space ≡ true }
     requires bare { inside paging.old.spaces space ≡ finmap.empty }
-    requires begun { IsBegun paging.old }
+    requires begun { IsBegunMemory paging.old }
     requires few { page_count paging.old.spaces + finmap.len (space_of pages.now.entries) ≤ 65536 }
     requires room { nonzero_pages (plain_of paging.old) + total frames_for
         (space_of pages.now.entries) ≤ paging.old.pool }
-    ensures begun { OnOk result (IsBegun paging.new) }
+    ensures begun { OnOk result (IsBegunMemory paging.new) }
     ensures pool { OnOk result (paging.new.pool ≡ paging.old.pool) }
     ensures memory { OnOk result
         (plain_of paging.new

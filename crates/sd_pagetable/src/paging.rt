@@ -5,7 +5,7 @@ ghost use Rattle.sd_areas.specs.Pages.{page_of};
 ghost use Rattle.std.specs.Option.{option_map};
 ghost use Rattle.std.specs.FinMap as finmap;
 ghost use Rattle.sd_pagetable.specs.Nested.{inside, is_alive, put_at, value_at};
-ghost use Rattle.sd_pagetable.specs.Page.{Page};
+ghost use Rattle.sd_pagetable.specs.Page.{PageState};
 ghost use Rattle.sd_pagetable.specs.Contents.{page_at, page_count, word_at, AreWhole, IsSound};
 ghost use Rattle.sd_tables.specs.Firsts.{IsFirstFrom};
 ghost use Rattle.std.specs.Prelude.{◌⊎◌, IfErr};
@@ -125,7 +125,7 @@ impl Paging {
     /// The bytes of a page, if it is mapped. A page without a frame reads as zeros.
     pub(crate) fn bytes(&self, space: SpaceId, page: PageNo) -> Option<&[u8]>
         ensures value { option_map (λ bytes. bytes.now) result
-            ≡ option_map (λ (page : Page). page.bytes) (page_at self.now space page) }
+            ≡ option_map (λ (page : PageState). page.bytes) (page_at self.now space page) }
         ensures length { IfSome result (λ bytes. length bytes.now ≡ 4096) }
     {
         let entry = self.tables.get(space, page)?;
@@ -135,7 +135,7 @@ impl Paging {
     /// The bytes of a page's frame, if it is mapped: none inside where it has no frame, and reads as zeros.
     pub(crate) fn framed(&self, space: SpaceId, page: PageNo) -> Option<Option<&[u8]>>
         ensures value { option_map framed_bytes result
-            ≡ option_map (λ (page : Page). page.bytes) (page_at self.now space page) }
+            ≡ option_map (λ (page : PageState). page.bytes) (page_at self.now space page) }
         ensures length { IfSome result (λ part. length (framed_bytes part) ≡ 4096) }
     {
         let entry = self.tables.get(space, page)?;
@@ -149,7 +149,7 @@ impl Paging {
     pub(crate) fn bytes_of(&self, space: SpaceId, page: PageNo, entry: Entry) -> &[u8]
         requires { HasEntry self.now space page entry }
         ensures value { IfSome (page_at self.now space page)
-            (λ (found : Page). result.now ≡ found.bytes) }
+            (λ (found : PageState). result.now ≡ found.bytes) }
         ensures length { length result.now ≡ 4096 }
     {
         self.frames.bytes_of(entry.frame)

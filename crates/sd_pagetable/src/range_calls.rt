@@ -15,7 +15,7 @@ ghost use Rattle.sd_pagetable.specs.declared.access_error.AccessError.TheVariant
 ghost use Rattle.sd_pagetable.specs.declared.memory_error.MemoryError.TheVariants.{Denied as DeniedError, OutOfMemory};
 ghost use Rattle.sd_pagetable.specs.declared.memory_refusal.MemoryRefusal.TheVariants.{Enomem, NoSuchSpace};
 ghost use Rattle.sd_pagetable.specs.Nested.{inside, is_alive, set_within, change_within, fill_within};
-ghost use Rattle.sd_pagetable.specs.Page.{Page, fresh_page, protected_page};
+ghost use Rattle.sd_pagetable.specs.Page.{PageState, fresh_page, protected_page};
 ghost use Rattle.sd_pagetable.specs.Contents.{Contents, page_at, page_count, plain_of};
 ghost use Rattle.sd_pagetable.specs.Due.{Answers, answer, or_else, area_due, in_space, prots_in, mmap_due, munmap_due};
 ghost use Rattle.sd_pagetable.specs.Due.{mprotect_due};
@@ -123,11 +123,11 @@ fn has_room(paging: &Paging, space: SpaceId, first: u64, end: u64) -> bool
         → page_count paging.now.spaces + count_by
         (λ page. not (is_some (page_at paging.now space page)))
         (pages_from first (end - first)) ≤ 65536 }
-    ensures holds { (page : Page) → result ≡ true
+    ensures holds { (page : PageState) → result ≡ true
         → page_count
         (with_space paging.now space
         (set_within (inside paging.now.spaces space) first (end - first) page)).spaces ≤ 65536 }
-    ensures full { (page : Page) → result ≡ false
+    ensures full { (page : PageState) → result ≡ false
         → 65536 < page_count
         (with_space paging.now space
         (set_within (inside paging.now.spaces space) first (end - first) page)).spaces }

@@ -5,7 +5,7 @@ ghost use Rattle.std.specs.FinMap as finmap;
 ghost use Rattle.sd_areas.specs.Pages.{pages_from, is_within};
 ghost use Rattle.sd_pagetable.specs.Nested.{inside, is_alive, set_within, remove_within, change_within, fill_within};
 ghost use Rattle.sd_pagetable.specs.Nested.{map_values};
-ghost use Rattle.sd_pagetable.specs.Page.{Page, fresh_page, protected_page, shared_page, inherited_page};
+ghost use Rattle.sd_pagetable.specs.Page.{PageState, fresh_page, protected_page, shared_page, inherited_page};
 ghost use Rattle.sd_pagetable.specs.Contents.{page_at, put_page, page_count};
 ghost use Rattle.sd_pagetable.specs.Ranges.{bare_page, IsCleared};
 ghost use Rattle.sd_pagetable.specs.Tracking.{with_space};
@@ -224,7 +224,7 @@ pub(crate) fn unmap(paging: &mut Paging, space: SpaceId, first: PageNo, end: u64
 /// Sets the permissions of a page and write-protects it, where it is mapped.
 fn protect_page(paging: &mut Paging, space: SpaceId, page: PageNo, prot: Prot)
     ensures mapped { IfSome (page_at paging.old space page)
-        (λ (before : Page). paging.new
+        (λ (before : PageState). paging.new
         ≡ put_page paging.old space page (protected_page prot before)) }
     ensures hole { page_at paging.old space page ≡ None → paging.new ≡ paging.old }
 {
@@ -297,7 +297,7 @@ fn copy_page(
     requires few { page_count paging.old.spaces < 65536 }
     ensures ok { OnOk result
         (IfSome (page_at paging.old parent page)
-        (λ (before : Page). paging.new ≡ put_page paging.old child page (bare_page before))) }
+        (λ (before : PageState). paging.new ≡ put_page paging.old child page (bare_page before))) }
     ensures err { OnErr result (paging.new ≡ paging.old) }
 {
     let Some(entry) = paging.entry(parent, page) else {

@@ -4,9 +4,9 @@ use Rattle.std.specs.List.{AllByRecursion}
 use Rattle.std.specs.Option.{option_map}
 use Rattle.std.proofs.lemmas.Bool.{cases_Bool}
 use Rattle.std.proofs.lemmas.Bool.Decides.{nat_tests}
-use Rattle.sd_pagetable.specs.Page.{Page}
+use Rattle.sd_pagetable.specs.Page.{PageState}
 use Rattle.sd_pagetable.specs.Contents.{Contents, page_at}
-use Rattle.sd_pagetable.specs.Tracking.{Event, Step, Cleared, Run}
+use Rattle.sd_pagetable.specs.Tracking.{MemoryEvent, Step, Cleared, Run}
 use Rattle.sd_pagetable.specs.Law.{IsClearedAt}
 use Rattle.sd_procfs.specs.Clears.{AreFalling, IsHistory, HasHistory, IsNextIn, is_among}
 use Rattle.sd_procfs.proofs.ClearSteps.{ClearsBehind, is_behind, between, below_is, above_is, is_below, is_above}
@@ -67,7 +67,7 @@ module _ (space page : ℕ) (old now new : Contents) (next : Option ℕ) (was : 
       unchanged : page_at new space p ≡ page_at old space p
       unchanged = cleared.others space p (grind (arith, nat_tests)) ∙ was.ahead p (is_above p page (omega (arith, above)))
 
-      of : (behind : Bool) (o : Option Page) → is_behind next p ≡ behind → page_at old space p ≡ o → (behind && is_some o) ≡ false
+      of : (behind : Bool) (o : Option PageState) → is_behind next p ≡ behind → page_at old space p ≡ o → (behind && is_some o) ≡ false
       of false o e f = refl
       of true None e f = refl
       of true (Some x) e f = absurd (between next new space page p least above e (ap is_some (unchanged ∙ f)))
@@ -143,16 +143,16 @@ module _ (space page : ℕ) (old now new : Contents) (next : Option ℕ) (was : 
       none_more true y = refl
       none_more false y = refl
 
-  pub longer_history : (result : Option Bool) → result ≡ option_map (λ (p : Page). p.soft_dirty) (page_at now space page)
+  pub longer_history : (result : Option Bool) → result ≡ option_map (λ (p : PageState). p.soft_dirty) (page_at now space page)
       → IfSome result (λ _. Step now (Cleared space page) new) → (result ≡ None → new ≡ now)
       → HasHistoryBehind (Some page) space old now → HasHistoryBehind next space old new
   longer_history (Some bit) bits step none = longer true (ap is_some was_here ∙ some_mapped (page_at now space page) bits) (λ _. step) (λ e. absurd (let f : true ≡ false = e in cc))
     where
-      some_mapped : (o : Option Page) → Some bit ≡ option_map (λ (p : Page). p.soft_dirty) o → is_some o ≡ true
+      some_mapped : (o : Option PageState) → Some bit ≡ option_map (λ (p : PageState). p.soft_dirty) o → is_some o ≡ true
       some_mapped None e = absurd (let f : Some bit ≡ None = e in cc)
       some_mapped (Some x) e = refl
   longer_history None bits step none = longer false (ap is_some was_here ∙ none_mapped (page_at now space page) bits) (λ e. absurd (let f : false ≡ true = e in cc)) (λ _. none refl)
     where
-      none_mapped : (o : Option Page) → None ≡ option_map (λ (p : Page). p.soft_dirty) o → is_some o ≡ false
+      none_mapped : (o : Option PageState) → None ≡ option_map (λ (p : PageState). p.soft_dirty) o → is_some o ≡ false
       none_mapped None e = refl
       none_mapped (Some x) e = absurd (let f : None ≡ Some x.soft_dirty = e in cc)

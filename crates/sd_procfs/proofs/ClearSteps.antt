@@ -5,9 +5,9 @@ use Rattle.std.specs.Option.{option_map}
 use Rattle.std.proofs.lemmas.Bool.{cases_Bool}
 use Rattle.std.proofs.lemmas.Bool.Decides.{nat_tests}
 use Rattle.sd_pagetable.specs.Nested.{is_alive}
-use Rattle.sd_pagetable.specs.Page.{Page, cleared_page}
+use Rattle.sd_pagetable.specs.Page.{PageState, cleared_page}
 use Rattle.sd_pagetable.specs.Contents.{Contents, page_at}
-use Rattle.sd_pagetable.specs.Tracking.{Event, Step, Cleared, Run, is_page}
+use Rattle.sd_pagetable.specs.Tracking.{MemoryEvent, Step, Cleared, Run, is_page}
 use Rattle.sd_pagetable.specs.Law.{IsClearedAt, ClearLaw}
 use Rattle.sd_procfs.specs.Clears.{Clears, IsNextIn}
 
@@ -43,7 +43,7 @@ starts (Some cursor) space memory some zero = record {
 }
 
 -- a test and clear, also of a page that isn't mapped
-pub tested : ClearLaw → (result : Option Bool) (space page : ℕ) (old new : Contents) → result ≡ option_map (λ (p : Page). p.soft_dirty) (page_at old space page)
+pub tested : ClearLaw → (result : Option Bool) (space page : ℕ) (old new : Contents) → result ≡ option_map (λ (p : PageState). p.soft_dirty) (page_at old space page)
     → IfSome result (λ _. Step old (Cleared space page) new) → (result ≡ None → new ≡ old) → IsClearedAt space page old new
 tested law (Some bit) space page old new bits step none = law old new space page step
 tested law None space page old new bits step none = record {
@@ -53,7 +53,7 @@ tested law None space page old new bits step none = record {
   others = λ other p apart. ap (λ (m : Contents). page_at m other p) (none refl);
 }
   where
-    unmapped : (was is : Option Page) → None ≡ option_map (λ (p : Page). p.soft_dirty) was → is ≡ was → is ≡ option_map cleared_page was
+    unmapped : (was is : Option PageState) → None ≡ option_map (λ (p : PageState). p.soft_dirty) was → is ≡ was → is ≡ option_map cleared_page was
     unmapped None is bits same = same
     unmapped (Some p) is bits same = absurd (let f : None ≡ Some p.soft_dirty = bits in cc)
 
@@ -66,7 +66,7 @@ apart_in space page p differs = grind (arith, nat_tests)
 apart_from : (space page other p : ℕ) → other ≢ space → is_page space page other p ≡ false
 apart_from space page other p differs = grind (arith, nat_tests)
 
-pub not_mapped : (o : Option Page) → (IsSome o → ⊥) → o ≡ None
+pub not_mapped : (o : Option PageState) → (IsSome o → ⊥) → o ≡ None
 not_mapped None none = refl
 not_mapped (Some p) none = absurd (none refl)
 

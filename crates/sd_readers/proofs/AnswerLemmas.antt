@@ -11,12 +11,12 @@ use Rattle.sd_exit.proofs.EndingLemmas.{on_writer, printed_at_its_end, whole_but
 use Rattle.sd_readers.specs.declared.steady.Reader.{Reader}
 use Rattle.sd_readers.specs.declared.steady.Reader.TheVariants.{Restore}
 use Rattle.sd_readers.specs.Printed.{Prints}
-use Rattle.sd_readers.specs.Reading.{Answers, ReadsStore}
+use Rattle.sd_readers.specs.Reading.{ReaderEnds, ReadsStore}
 use Rattle.sd_readers.proofs.EndingLemmas.{empty_told, prints_then_nothing, told_empty}
 
 module _ (by : Reader) (honest : Type 0) (contents : List (List ℕ)) (before after : Option (List ℕ)) (refused : Bool) (status : ℕ) where
   pub answers : (ended : Result Unit Stop) (printed : Option (List ℕ)) (was : Bool) → ReadsStore by honest contents ended before printed → OnWriter ended (was ≡ true)
-      → (was ≡ true → refused ≡ true) → Exits printed after refused (end_text ended) (end_status ended) status → Answers by honest contents before after refused status
+      → (was ≡ true → refused ≡ true) → Exits printed after refused (end_text ended) (end_status ended) status → ReaderEnds by honest contents before after refused status
   answers ended printed was reads writer kept exits = record {
     ended = ended;
     printed = printed;
@@ -25,7 +25,7 @@ module _ (by : Reader) (honest : Type 0) (contents : List (List ℕ)) (before af
     exits = exits;
   }
 
-  module _ (is : Answers by honest contents before after refused status) where
+  module _ (is : ReaderEnds by honest contents before after refused status) where
     -- with status 0 the whole text is printed
     pub text_of : honest → status ≡ 0 → Prints by contents before after
     text_of h zero = printed_at_its_end is.printed after refused status (Prints by contents before) (prints_then_nothing by contents before) is.ended is.exits (is.reads.text h) zero

@@ -7,7 +7,7 @@ use Rattle.std.proofs.KnownBytes.{Appends-nil, Appends-trans}
 use Rattle.std.proofs.lemmas.Grind.{flat_map-append}
 use Rattle.sd_exit.specs.declared.stop.Stop.{Stop}
 use Rattle.sd_exit.specs.Ending.{OnFault}
-use Rattle.sd_exit.specs.Texts.{Begins}
+use Rattle.sd_exit.specs.Texts.{PrintsBeginning}
 use Rattle.sd_exit.proofs.EndingLemmas.{on_fault}
 use Rattle.std.specs.Fmt.{decimal}
 use Rattle.std.proofs.lemmas.List.Elements.{filter-append}
@@ -21,19 +21,19 @@ use Rattle.sd_readers.specs.Texts.{part_of_run, placed_lines, placed_memory_text
 use Rattle.sd_readers.proofs.PageLemmas.{first_more}
 
 -- nothing is a beginning
-pub begins_none : (a : Option (List ℕ)) (text : List ℕ) → Begins a a text
+pub begins_none : (a : Option (List ℕ)) (text : List ℕ) → PrintsBeginning a a text
 begins_none a text = record { front = []; rest = text; whole = refl; printed = Appends-nil a }
 
 -- all of it is one
-pub begins_all : (a b : Option (List ℕ)) (text : List ℕ) → Appends a b text → Begins a b text
+pub begins_all : (a b : Option (List ℕ)) (text : List ℕ) → Appends a b text → PrintsBeginning a b text
 begins_all a b text p = record { front = text; rest = []; whole = append-nil text; printed = p }
 
 -- some of it is one
-pub begun : (a b : Option (List ℕ)) (bs rest ds : List ℕ) → bs ++ rest ≡ ds → Appends a b bs → Begins a b ds
+pub begun : (a b : Option (List ℕ)) (bs rest ds : List ℕ) → bs ++ rest ≡ ds → Appends a b bs → PrintsBeginning a b ds
 begun a b bs rest ds e p = record { front = bs; rest = rest; whole = e; printed = p }
 
 -- behind some of it a beginning of what comes next is one of the whole
-pub begins_behind : (a b c : Option (List ℕ)) (bs cs rest ds : List ℕ) → bs ++ cs ++ rest ≡ ds → Appends a b bs → Begins b c cs → Begins a c ds
+pub begins_behind : (a b c : Option (List ℕ)) (bs cs rest ds : List ℕ) → bs ++ cs ++ rest ≡ ds → Appends a b bs → PrintsBeginning b c cs → PrintsBeginning a c ds
 begins_behind a b c bs cs rest ds e p q = record {
   front = bs ++ q.front;
   rest = q.rest ++ rest;
@@ -44,7 +44,7 @@ begins_behind a b c bs cs rest ds e p q = record {
 
 -- where a fault stops what comes next
 pub broken_off : (result : Result Unit Stop) (a b c : Option (List ℕ)) (bs cs rest ds : List ℕ) → bs ++ cs ++ rest ≡ ds → Appends a b bs
-    → OnFault result (Begins b c cs) → OnFault result (Begins a c ds)
+    → OnFault result (PrintsBeginning b c cs) → OnFault result (PrintsBeginning a c ds)
 broken_off result a b c bs cs rest ds e p = on_fault result (begins_behind a b c bs cs rest ds e p)
 
 -- ---- pages of a run
@@ -58,7 +58,7 @@ module _ (contents : List (List ℕ)) (r : PlacedRun) (d n : ℕ) where
       ∙ ap (λ k. flat_map (placed_text contents) (first_pages r k)) is
 
   pub run_broken : (result : Result Unit Stop) (a b c : Option (List ℕ)) → d + n ≤ r.count → Appends a b (flat_map (placed_text contents) (first_pages r d))
-      → OnFault result (Begins b c (part_of_run contents r d n)) → OnFault result (Begins a c (flat_map (placed_text contents) (pages_in r)))
+      → OnFault result (PrintsBeginning b c (part_of_run contents r d n)) → OnFault result (PrintsBeginning a c (flat_map (placed_text contents) (pages_in r)))
   run_broken result a b c fits =
       let m : ℕ = r.count - (d + n) in
       broken_off result a b c (flat_map (placed_text contents) (first_pages r d)) (part_of_run contents r d n) (part_of_run contents r (d + n) m)
@@ -80,7 +80,7 @@ module _ (contents : List (List ℕ)) (space : ℕ) (runs : List PlacedRun) (i :
       ∙ ap (placed_lines contents space) (sym (split_parts pages_in runs i r less is))
 
   pub space_broken : (result : Result Unit Stop) (a b c : Option (List ℕ)) → Appends a b (placed_lines contents space (placed_pages (take i runs)))
-      → OnFault result (Begins b c (placed_lines contents space (pages_in r))) → OnFault result (Begins a c (placed_lines contents space (placed_pages runs)))
+      → OnFault result (PrintsBeginning b c (placed_lines contents space (pages_in r))) → OnFault result (PrintsBeginning a c (placed_lines contents space (placed_pages runs)))
   space_broken result a b c =
       broken_off result a b c (placed_lines contents space (placed_pages (take i runs))) (placed_lines contents space (pages_in r))
       (placed_lines contents space (placed_pages (drop (i + 1) runs))) (placed_lines contents space (placed_pages runs)) space_parts
@@ -108,8 +108,8 @@ module _ (contents : List (List ℕ)) (checkpoint : ℕ) (items : List SpaceTabl
       (ap (λ xs. xs ++ lines_of s ++ flat_map lines_of (drop (i + 1) items)) (listed (take i items)) ∙ sym (split_parts lines_of items i s less is) ∙ sym (listed items))
 
   pub memory_broken : (result : Result Unit Stop) (a b c : Option (List ℕ)) → Appends a b (placed_memory_text contents checkpoint (map listing_of (take i items)) pages)
-      → OnFault result (Begins b c (placed_space_text contents pages (listing_of s)))
-      → OnFault result (Begins a c (placed_memory_text contents checkpoint (map listing_of items) pages))
+      → OnFault result (PrintsBeginning b c (placed_space_text contents pages (listing_of s)))
+      → OnFault result (PrintsBeginning a c (placed_memory_text contents checkpoint (map listing_of items) pages))
   memory_broken result a b c =
       broken_off result a b c (placed_memory_text contents checkpoint (map listing_of (take i items)) pages) (lines_of s) (flat_map lines_of (drop (i + 1) items))
       (placed_memory_text contents checkpoint (map listing_of items) pages) memory_parts

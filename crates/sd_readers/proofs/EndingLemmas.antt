@@ -4,7 +4,7 @@ use Rattle.std.specs.Prelude.{◌⊎◌, if◌then◌else◌, filter}
 use Rattle.std.proofs.KnownBytes.{Appends-kept, Appends-nil, Appends-trans, Keeps-refl}
 use Rattle.std.proofs.lemmas.Bool.{cond-false, cond-true}
 use Rattle.sd_image.specs.Image.{is_open}
-use Rattle.sd_restore.specs.Faulty.{Names}
+use Rattle.sd_restore.specs.Faulty.{FaultNames}
 use Rattle.sd_restore.specs.declared.fault.Fault.{Fault}
 use Rattle.sd_restore.specs.declared.fault.Fault.TheVariants.{EmptyChain, Damaged, Device, OutOfMemory}
 use Rattle.sd_exit.specs.declared.stop.Stop.{Stop}
@@ -73,7 +73,7 @@ prints_then_nothing reader.Verify contents before a b none is = record {
 }
 
 -- a fault of the device or of the memory says nothing against the store
-pub outside : (fault : Fault) → Names (λ _ _. ⊥) fault → fault ≢ EmptyChain → IsOutside (stop.Fault fault)
+pub outside : (fault : Fault) → FaultNames (λ _ _. ⊥) fault → fault ≢ EmptyChain → IsOutside (stop.Fault fault)
 outside EmptyChain named some = absurd (some refl)
 outside (Damaged slot reason) named some = absurd named
 outside Device named some = refl

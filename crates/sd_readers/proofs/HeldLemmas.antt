@@ -8,7 +8,7 @@ use Rattle.sd_exit.specs.declared.stop.Stop.{Stop}
 use Rattle.sd_exit.specs.Ending.{Exits, OnWriter, end_status, end_text}
 use Rattle.sd_exit.proofs.EndingLemmas.{on_writer}
 use Rattle.sd_readers.specs.declared.steady.Reader.{Reader}
-use Rattle.sd_readers.specs.Reading.{Answers, ReadsStore}
+use Rattle.sd_readers.specs.Reading.{ReaderEnds, ReadsStore}
 use Rattle.sd_readers.proofs.SteadyLemmas.{moved_out, never_held}
 
 -- bytes behind the known ones
@@ -34,8 +34,8 @@ module _ (by : Reader) (honest : Type 0) (contents : List (List ℕ)) (before mi
   )
 
   pub held : {E : Type 0} (wrote : Result Unit E) → OnOk wrote (Appends before mid text) → OnErr wrote (was ≡ true) → Keeps mid after → (was ≡ true → refused ≡ true)
-      → answered ≡ (if refused then 1 else status) → Answers by honest contents (Some []) (Some text) false status
-      → Answers by honest contents before after refused answered
+      → answered ≡ (if refused then 1 else status) → ReaderEnds by honest contents (Some []) (Some text) false status
+      → ReaderEnds by honest contents before after refused answered
   held {E} wrote taken failed kept since is answers = by_exit answers.exits
     where
       no_two : {A : Type 0} → false ≡ true → A
@@ -49,7 +49,7 @@ module _ (by : Reader) (honest : Type 0) (contents : List (List ℕ)) (before mi
       written (Err error) taken failed none = no_two (sym none ∙ since failed)
 
       by_refused : (b : Bool) → refused ≡ b → Appends answers.printed (Some text) (end_text answers.ended) → status ≡ end_status answers.ended
-          → Answers by honest contents before after refused answered
+          → ReaderEnds by honest contents before after refused answered
       by_refused true e told due =
           let there = moved answers.ended answers.printed answers.reads told in
           record {
@@ -69,6 +69,6 @@ module _ (by : Reader) (honest : Type 0) (contents : List (List ℕ)) (before mi
             exits = inl (e, there.2 (written wrote taken failed e), is ∙ cond-false _ _ _ e ∙ due);
           }
 
-      by_exit : Exits answers.printed (Some text) false (end_text answers.ended) (end_status answers.ended) status → Answers by honest contents before after refused answered
+      by_exit : Exits answers.printed (Some text) false (end_text answers.ended) (end_status answers.ended) status → ReaderEnds by honest contents before after refused answered
       by_exit (inl e) = by_refused refused refl e.1 e.2
       by_exit (inr e) = no_two e.0

@@ -12,7 +12,7 @@ use Rattle.sd_image.specs.Shows.{Shows}
 use Rattle.sd_image.specs.Table.{Listed}
 use Rattle.sd_procfs.specs.Listing.{area_line}
 use Rattle.sd_restore.specs.Fits.{prots_in}
-use Rattle.sd_restore.specs.Placed.{Entry, IsLaidOut, PlacedPage, memory_at, page_at, placed_entries}
+use Rattle.sd_restore.specs.Placed.{IsLaidOut, PlacedPage, SpaceEntry, placed_entries, placed_memory, placed_page}
 use Rattle.sd_readers.specs.Printed.{PrintsMemory}
 use Rattle.sd_readers.specs.Texts.{memory_text, page_text, placed_memory_text, placed_space_text}
 
@@ -27,20 +27,20 @@ same_texts f g (x ∷ xs) same = ap (λ zs. zs ++ flat_map f xs) (same x) ∙ ap
 abbrev page_lines : ℕ × Page → List ℕ
 page_lines e = page_text (4096 * e.0) e.1.bytes
 
-abbrev entry_text : Entry → List ℕ
+abbrev entry_text : SpaceEntry → List ℕ
 entry_text e = codes "space " ++ decimal e.0 ++ 10 ∷ [] ++ flat_map area_line e.1.0 ++ flat_map page_lines e.1.1
 
-abbrev seen : ℕ × Space → Entry
+abbrev seen : ℕ × Space → SpaceEntry
 seen e = (e.0, (areas_of (prots_in e.1), finmap.entries e.1))
 
 module _ (contents : List (List ℕ)) (checkpoint : ℕ) (spaces : List Listed) (pages : List PlacedPage) (memory : PlainMemory) (laid : IsLaidOut contents spaces pages memory) where
-  abbrev said : Listed → Entry
+  abbrev said : Listed → SpaceEntry
   said s = (s.space, (s.areas, placed_entries contents s.space pages))
 
   of_space : (s : Listed) → entry_text (said s) ≡ placed_space_text contents pages s
   of_space s =
       ap (λ xs. codes "space " ++ decimal s.space ++ 10 ∷ [] ++ flat_map area_line s.areas ++ xs)
-      (of_map page_lines (λ (p : PlacedPage). (p.page, page_at contents p)) (filter (λ (p : PlacedPage). nat_eq p.space s.space) pages))
+      (of_map page_lines (λ (p : PlacedPage). (p.page, placed_page contents p)) (filter (λ (p : PlacedPage). nat_eq p.space s.space) pages))
 
   pub laid_text : placed_memory_text contents checkpoint spaces pages ≡ memory_text (checkpoint, memory)
   laid_text = ap (λ xs. codes "checkpoint " ++ decimal checkpoint ++ 10 ∷ [] ++ xs)
@@ -50,12 +50,12 @@ module _ (contents : List (List ℕ)) (checkpoint : ℕ) (spaces : List Listed) 
 
 -- the memory that is printed is the one that is shown
 pub prints_memory : (contents : List (List ℕ)) (before after : Option (List ℕ)) (checkpoint : ℕ) (spaces : List Listed) (pages : List PlacedPage)
-    → Shows contents (Some (checkpoint, memory_at contents spaces pages)) → IsLaidOut contents spaces pages (memory_at contents spaces pages)
+    → Shows contents (Some (checkpoint, placed_memory contents spaces pages)) → IsLaidOut contents spaces pages (placed_memory contents spaces pages)
     → Appends before after (placed_memory_text contents checkpoint spaces pages) → PrintsMemory contents before after
 prints_memory contents before after checkpoint spaces pages shows laid printed = record {
-  moment = (checkpoint, memory_at contents spaces pages);
+  moment = (checkpoint, placed_memory contents spaces pages);
   shows = shows;
-  printed = subst (Appends before after) (laid_text contents checkpoint spaces pages (memory_at contents spaces pages) laid) printed;
+  printed = subst (Appends before after) (laid_text contents checkpoint spaces pages (placed_memory contents spaces pages) laid) printed;
 }
 
 -- contents show one memory, so it is the one that was printed

@@ -6,7 +6,7 @@ use Rattle.sd_image.specs.Image.{is_open}
 use Rattle.sd_image.specs.Shows.{Shows}
 use Rattle.sd_chain.specs.Catalog.{Places, AreInOrder, IsHeld}
 use Rattle.sd_chain.specs.Store.{IsCatalogOf}
-use Rattle.sd_exit.specs.Texts.{Begins}
+use Rattle.sd_exit.specs.Texts.{PrintsBeginning}
 use Rattle.sd_readers.specs.declared.steady.Reader.{Reader}
 use Rattle.sd_readers.specs.declared.steady.Reader.TheVariants as reader
 use Rattle.sd_readers.specs.Listing.{IsListing}
@@ -43,4 +43,5 @@ Prints reader.Verify = PrintsVerdict
 -- nothing yet, or a beginning of the text of the contents: the text that a program prints of them where none was before
 abbrev pub BeginsToPrint : Reader → List (List ℕ) → Option (List ℕ) → Option (List ℕ) → Type 0
 BeginsToPrint reader contents before after =
-    Keeps before after ⊎ ((text : List ℕ) × Prints reader contents (Some []) (Some text) × Begins before after text)
+    Keeps before after ⊎ ((text : List ℕ) × Prints reader contents (Some []) (Some text)
+    × PrintsBeginning before after text)

@@ -22,7 +22,7 @@ pub record ReadsStore (reader : Reader) (IsHonest : Type 0) (contents : List (Li
 
 -- The same to its exit: what was printed, and behind it why it was stopped, if it was; and the status. A writer's
 -- failure stops it only where the output refused something.
-pub record Answers (reader : Reader) (IsHonest : Type 0) (contents : List (List ℕ)) (before after : Option (List ℕ))
+pub record ReaderEnds (reader : Reader) (IsHonest : Type 0) (contents : List (List ℕ)) (before after : Option (List ℕ))
     (refused : Bool) (status : ℕ) : Type 0 where
   pub ended : Result Unit Stop
   pub printed : Option (List ℕ)

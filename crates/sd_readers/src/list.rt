@@ -6,7 +6,7 @@ ghost use Rattle.sd_exit.specs.Ending.{OnFault, OnWriter};
 ghost use Rattle.sd_readers.specs.declared.steady.Reader.TheVariants as reader;
 ghost use Rattle.sd_readers.specs.Ending.{EndsWithOne, IsReadable, StandsAlone};
 ghost use Rattle.sd_readers.specs.Printed.{PrintsImages};
-ghost use Rattle.sd_readers.specs.Reading.{Answers};
+ghost use Rattle.sd_readers.specs.Reading.{ReaderEnds};
 
 use crate::listing::list_text;
 use crate::steady::{Reader, print_steady};
@@ -28,7 +28,7 @@ pub fn list_to<D: Disk, W: Write>(alloc: Global, disk: &mut D, out: &mut Output<
     // Nothing was refused, but where the status is 1.
     ensures whole { result ≢ 1 → out.new.refused ≡ false }
     // However it ends: the text or a beginning of it, the last line, and the status that comes with it.
-    ensures answers { Answers reader.List (D.is_honest disk.new) (D.contents disk.old)
+    ensures answers { ReaderEnds reader.List (D.is_honest disk.new) (D.contents disk.old)
         (W.contents out.old.writer) (W.contents out.new.writer) out.new.refused result }
     ensures reads { OnlyReads D.Disk disk.old disk.new }
 {

@@ -11,11 +11,11 @@ ghost use Rattle.sd_restore.specs.Placed.{IsInSlots, IsWithin, pages_in, placed_
 ghost use Rattle.sd_image.specs.Table.{listing_of};
 ghost use Rattle.sd_exit.specs.declared.stop.Stop.TheVariants as stop;
 ghost use Rattle.sd_exit.specs.Ending.{OnFault, OnWriter};
-ghost use Rattle.sd_exit.specs.Texts.{Begins, fault_line};
+ghost use Rattle.sd_exit.specs.Texts.{PrintsBeginning, fault_line};
 ghost use Rattle.sd_readers.specs.declared.steady.Reader.TheVariants as reader;
 ghost use Rattle.sd_readers.specs.Ending.{IsOutside, ShowsMemory, StandsAlone};
 ghost use Rattle.sd_readers.specs.Printed.{BeginsToPrint, PrintsMemory};
-ghost use Rattle.sd_readers.specs.Reading.{Answers};
+ghost use Rattle.sd_readers.specs.Reading.{ReaderEnds};
 ghost use Rattle.sd_areas.specs.PlainMemory.{PlainMemory};
 ghost use Rattle.sd_readers.specs.Texts.{memory_text, pages_text, part_of_run, placed_lines, placed_memory_text};
 ghost use Rattle.sd_readers.specs.Texts.{placed_space_text, placed_text};
@@ -55,7 +55,7 @@ pub fn restore_to<D: Disk, W: Write>(alloc: Global, disk: &mut D, out: &mut Outp
     // Nothing was refused, but where the status is 1.
     ensures whole { result ≢ 1 → out.new.refused ≡ false }
     // However it ends: the text or a beginning of it, the last line, and the status that comes with it.
-    ensures answers { Answers reader.Restore (D.is_honest disk.new) (D.contents disk.old)
+    ensures answers { ReaderEnds reader.Restore (D.is_honest disk.new) (D.contents disk.old)
         (W.contents out.old.writer) (W.contents out.new.writer) out.new.refused result }
     ensures reads { OnlyReads D.Disk disk.old disk.new }
 {
@@ -105,7 +105,7 @@ fn print_placed<D: Disk, W: Write>(
         (placed_memory_text (D.contents disk.old) placed.now.checkpoint
         (map listing_of placed.now.spaces.now) (placed_pages placed.now.runs.items))) }
     ensures begins { D.is_honest disk.new → OnFault result
-        (Begins (W.contents out.old.writer) (W.contents out.new.writer)
+        (PrintsBeginning (W.contents out.old.writer) (W.contents out.new.writer)
         (placed_memory_text (D.contents disk.old) placed.now.checkpoint
         (map listing_of placed.now.spaces.now) (placed_pages placed.now.runs.items))) }
     ensures reads { OnlyReads D.Disk disk.old disk.new }
@@ -147,7 +147,7 @@ fn print_space<D: Disk, W: Write>(
         (Appends (W.contents out.old.writer) (W.contents out.new.writer)
         (placed_space_text (D.contents disk.old) (placed_pages runs.now) (listing_of space.now))) }
     ensures begins { D.is_honest disk.new → OnFault result
-        (Begins (W.contents out.old.writer) (W.contents out.new.writer)
+        (PrintsBeginning (W.contents out.old.writer) (W.contents out.new.writer)
         (placed_space_text (D.contents disk.old) (placed_pages runs.now) (listing_of space.now))) }
     ensures reads { OnlyReads D.Disk disk.old disk.new }
     ensures empty { result ≢ Err (stop.Fault fault.EmptyChain) }
@@ -174,7 +174,7 @@ fn print_pages<D: Disk, W: Write>(
         (Appends (W.contents out.old.writer) (W.contents out.new.writer)
         (placed_lines (D.contents disk.old) space (placed_pages runs.now))) }
     ensures begins { D.is_honest disk.new → OnFault result
-        (Begins (W.contents out.old.writer) (W.contents out.new.writer)
+        (PrintsBeginning (W.contents out.old.writer) (W.contents out.new.writer)
         (placed_lines (D.contents disk.old) space (placed_pages runs.now))) }
     ensures reads { OnlyReads D.Disk disk.old disk.new }
     ensures empty { result ≢ Err (stop.Fault fault.EmptyChain) }
@@ -202,7 +202,7 @@ fn print_in_space<D: Disk, W: Write>(
         (Appends (W.contents out.old.writer) (W.contents out.new.writer)
         (placed_lines (D.contents disk.old) space (pages_in run.now))) }
     ensures begins { D.is_honest disk.new → OnFault result
-        (Begins (W.contents out.old.writer) (W.contents out.new.writer)
+        (PrintsBeginning (W.contents out.old.writer) (W.contents out.new.writer)
         (placed_lines (D.contents disk.old) space (pages_in run.now))) }
     ensures reads { OnlyReads D.Disk disk.old disk.new }
     ensures empty { result ≢ Err (stop.Fault fault.EmptyChain) }
@@ -232,7 +232,7 @@ fn print_run<D: Disk, W: Write>(
         (Appends (W.contents out.old.writer) (W.contents out.new.writer)
         (flat_map (placed_text (D.contents disk.old)) (pages_in run.now))) }
     ensures begins { D.is_honest disk.new → OnFault result
-        (Begins (W.contents out.old.writer) (W.contents out.new.writer)
+        (PrintsBeginning (W.contents out.old.writer) (W.contents out.new.writer)
         (flat_map (placed_text (D.contents disk.old)) (pages_in run.now))) }
     ensures reads { OnlyReads D.Disk disk.old disk.new }
     ensures empty { result ≢ Err (stop.Fault fault.EmptyChain) }
@@ -274,7 +274,7 @@ fn print_some<D: Disk, W: Write>(
         (Appends (W.contents out.old.writer) (W.contents out.new.writer)
         (part_of_run (D.contents disk.old) run.now behind count)) }
     ensures begins { D.is_honest disk.new → OnFault result
-        (Begins (W.contents out.old.writer) (W.contents out.new.writer)
+        (PrintsBeginning (W.contents out.old.writer) (W.contents out.new.writer)
         (part_of_run (D.contents disk.old) run.now behind count)) }
     ensures reads { OnlyReads D.Disk disk.old disk.new }
     ensures empty { result ≢ Err (stop.Fault fault.EmptyChain) }

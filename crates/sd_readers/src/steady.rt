@@ -2,7 +2,7 @@
 ghost use Rattle.std.specs.Prelude.{◌≡◌, ◌≢◌, ◌<◌, true, length, IfErr, OnOk};
 ghost use Rattle.sd_disk.specs.Reads.{OnlyReads};
 ghost use Rattle.sd_restore.specs.declared.fault.Fault.TheVariants as fault;
-ghost use Rattle.sd_restore.specs.Faulty.{Names};
+ghost use Rattle.sd_restore.specs.Faulty.{FaultNames};
 ghost use Rattle.sd_exit.specs.Ending.{OnWriter};
 ghost use Rattle.sd_readers.specs.declared.steady.Reader.TheVariants.{Restore, List};
 ghost use Rattle.sd_readers.specs.Ending.{EndsWithOne, IsReadable, writer_failed};
@@ -84,7 +84,7 @@ fn front_of<D: Disk>(disk: &mut D, slot: usize) -> Result<Front, DeviceError>
 
 /// The fronts of all slots' files. As long as they stay the same, so do the images.
 fn fronts<D: Disk>(alloc: Global, disk: &mut D) -> Result<Vec<Front>, Fault>
-    ensures unnamed { IfErr result (Names (λ _ _. ⊥)) }
+    ensures unnamed { IfErr result (FaultNames (λ _ _. ⊥)) }
     ensures empty { result ≢ Err fault.EmptyChain }
     ensures reads { OnlyReads D.Disk disk.old disk.new }
 {

@@ -14,7 +14,7 @@ abbrev pub put_into : Front → List ℕ
 put_into front = (hand_of front).put
 
 -- it is on the same channel, with the same parts, and took nothing
-abbrev pub Stays : Front → Front → Type 0
-Stays before after = (sends_on after.sender ≡ sends_on before.sender)
+abbrev pub StaysOnChannel : Front → Front → Type 0
+StaysOnChannel before after = (sends_on after.sender ≡ sends_on before.sender)
     × ((hand_of after).parts ≡ (hand_of before).parts)
     × ((hand_of after).taken ≡ (hand_of before).taken)

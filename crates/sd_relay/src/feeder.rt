@@ -1,5 +1,5 @@
 ghost use Rattle.std.specs.Prelude.{◌≡◌, ℕ, ⊤, List, []};
-ghost use Rattle.sd_relay.specs.Fronts.{put_into, Stays};
+ghost use Rattle.sd_relay.specs.Fronts.{put_into, StaysOnChannel};
 
 use crate::front::Front;
 
@@ -13,7 +13,7 @@ pub trait Feeder {
 
     /// Puts its errands into the front.
     fn feed(&mut self, front: &mut Front)
-        ensures stays { Stays front.old front.new }
+        ensures stays { StaysOnChannel front.old front.new }
         ensures fed { fed self.old self.new }
         ensures put { put_into front.old ≡ [] → has_put self.new (put_into front.new) };
 }

@@ -3,7 +3,7 @@ ghost use Rattle.std.specs.Prelude.{◌≡◌, ◌+◌, ◌-◌, ◌<◌, ◌++�
 ghost use Rattle.std.specs.List.{All};
 ghost use Rattle.crossbeam_channel.specs.Claims.{view, IsSeatAt};
 ghost use Rattle.crossbeam_channel.specs.Ends.{sends_on};
-ghost use Rattle.sd_relay.specs.Fronts.{hand_of, put_into, Stays};
+ghost use Rattle.sd_relay.specs.Fronts.{hand_of, put_into, StaysOnChannel};
 ghost use Rattle.sd_relay.specs.Hands.{all_parts, hand, IsWriters};
 ghost use Rattle.sd_relay.specs.Relays.{IsSettled};
 ghost use Rattle.sd_relay.specs.Results.{put_in, taken_in};
@@ -45,7 +45,7 @@ impl Front {
     /// Puts an errand for the writers. Handed back where no writer is there, the queue is full, or its ticket isn't
     /// above all that were put before.
     pub fn put<R: Wait>(&mut self, rt: &R, errand: Errand) -> Result<(), Errand>
-        ensures stays { Stays self.old self.new }
+        ensures stays { StaysOnChannel self.old self.new }
         ensures put { MatchResult result
             (λ _. put_into self.new ≡ put_into self.old ++ errand.request.id.ticket ∷ [])
             (λ back. (back ≡ errand) × (put_into self.new ≡ put_into self.old)) }
@@ -71,7 +71,7 @@ impl Front {
 
     /// Tells one writer that nothing more comes.
     fn end_one<R: Wait>(&mut self, rt: &R)
-        ensures stays { Stays self.old self.new }
+        ensures stays { StaysOnChannel self.old self.new }
         ensures put { put_into self.new ≡ put_into self.old }
     {
         let _ = self
@@ -81,7 +81,7 @@ impl Front {
 
     /// Tells so many writers that nothing more comes.
     pub(crate) fn end<R: Wait>(&mut self, rt: &R, writers: usize)
-        ensures stays { Stays self.old self.new }
+        ensures stays { StaysOnChannel self.old self.new }
         ensures put { put_into self.new ≡ put_into self.old }
     {
         for _ in 0..writers {

@@ -17,7 +17,7 @@ use Rattle.sd_image.specs.Header.{header_front, header_text}
 use Rattle.sd_image.specs.Reading.{◌>>=◌, breaks_digest, digest_of_file, header_in, table_in}
 use Rattle.sd_image.specs.ReasonLaws.{GoodFileHasNoReason, GoodHeaderHasNoReason}
 use Rattle.sd_image.specs.Table.{Listed}
-use Rattle.sd_image.specs.Words.{number_bytes, version_number, zeros}
+use Rattle.sd_image.specs.Words.{number_bytes, version_number, zero_bytes}
 use Rattle.sd_restore.specs.Digested.{ClosedIsRightlyDigested, ImageIsRightlyDigested, StoreIsRightlyDigested}
 use Rattle.sd_restore.specs.Faulty.{IsFaulty}
 use Rattle.sd_restore.specs.Reading.{HasDigestOf, HasHeader, table_bytes}
@@ -59,7 +59,7 @@ pages_more file done count len long =
 
 -- bytes 1 to 63 of a file are the front of its header
 front_of_text : (h : Header) → take 63 (header_text h) ≡ header_front h
-unfolding header_text header_front number_bytes zeros
+unfolding header_text header_front number_bytes zero_bytes
 front_of_text h = refl
 
 front_in_file : (file : List ℕ) → take 63 (drop 1 (take 4096 file)) ≡ take 63 (drop 1 file)

@@ -25,7 +25,7 @@ use Rattle.sd_image.specs.Shows.{IsMemory, page_in}
 use Rattle.sd_image.specs.Table.{AreSpaces, Listed}
 use Rattle.sd_restore.specs.Fits.{prots_in}
 use Rattle.sd_restore.specs.Mapped.{Mapped, mapped_with, area_mapped, space_mapped, mapped_pages}
-use Rattle.sd_restore.specs.Placed.{IsLaidOut, PlacedPage, mapped_of, memory_at, page_at, placed_entries, with_spaces, with_pages}
+use Rattle.sd_restore.specs.Placed.{IsLaidOut, PlacedPage, mapped_of, placed_memory, placed_page, placed_entries, with_spaces, with_pages}
 use Rattle.sd_restore.proofs.FitsLemmas.{get_prots, in_space, same_prot}
 use Rattle.sd_restore.proofs.MappedLemmas.{space_of}
 use Rattle.std.specs.Borrow.{Bor}
@@ -231,7 +231,7 @@ rising_mapped h before q (s ∷ spaces) are = elim (cases_eq s.space q) [
 
 module _ (contents : List (List ℕ)) (q : ℕ) where
   abbrev entry_of : PlacedPage → ℕ × Page
-  entry_of p = (p.page, page_at contents p)
+  entry_of p = (p.page, placed_page contents p)
 
   keys_placed : (pages : List PlacedPage) → keys (placed_entries contents q pages) ≡ numbers (filter (in_it q) (map mapped_of pages))
   keys_placed [] = refl
@@ -274,9 +274,9 @@ module _ (contents : List (List ℕ)) (q : ℕ) where
 -- ---- the memory
 
 module _ (areas_law : AreasLaw) (one_list : OneListLaw) (contents : List (List ℕ)) (images : List Image) (i : Image) (h : Header) (spaces : List Listed) (pages : List PlacedPage)
-    (are : AreSpaces h 0 spaces) (same : i.spaces ≡ spaces) (listed : map mapped_of pages ≡ mapped_pages spaces) (is : IsMemory images i (memory_at contents spaces pages)) where
+    (are : AreSpaces h 0 spaces) (same : i.spaces ≡ spaces) (listed : map mapped_of pages ≡ mapped_pages spaces) (is : IsMemory images i (placed_memory contents spaces pages)) where
   abbrev memory : PlainMemory
-  memory = memory_at contents spaces pages
+  memory = placed_memory contents spaces pages
 
   abbrev Seen : Type 0
   Seen = List Area × List (ℕ × Page)
@@ -296,7 +296,7 @@ module _ (areas_law : AreasLaw) (one_list : OneListLaw) (contents : List (List �
   found_there s page (Some found) (inr put) =
       let p = put.one in
       subst (λ n. find nat_cmp n (placed_entries contents s.space pages) ≡ Some found) put.page_is
-      (find_in (placed_entries contents s.space pages) (p.page, page_at contents p) (sorted_placed contents s.space h spaces pages are listed) (among_placed contents s.space pages p put.among put.space_is)
+      (find_in (placed_entries contents s.space pages) (p.page, placed_page contents p) (sorted_placed contents s.space h spaces pages are listed) (among_placed contents s.space pages p put.among put.space_is)
       ∙ ap Some (sym put.is))
 
   entries_are : (s : Listed) (space : Space) → finmap.get memory s.space ≡ Some space → finmap.entries space ≡ placed_entries contents s.space pages
@@ -350,7 +350,7 @@ module _ (areas_law : AreasLaw) (one_list : OneListLaw) (contents : List (List �
 
 -- that of the newest image
 pub laid_tip : AreasLaw → OneListLaw → (contents : List (List ℕ)) (places : Places) (tip : Bor Opened) (pages : List PlacedPage) → IsCatalogOf contents places → FindsTip contents (Some tip)
-    → ArePlaced places tip.now.header.serial (mapped_pages tip.now.spaces) pages → IsLaidOut contents tip.now.spaces pages (memory_at contents tip.now.spaces pages)
+    → ArePlaced places tip.now.header.serial (mapped_pages tip.now.spaces) pages → IsLaidOut contents tip.now.spaces pages (placed_memory contents tip.now.spaces pages)
 laid_tip areas_law one_list contents places tip pages catalog finds placed =
     let image = finds.newest in
     laid_out areas_law one_list contents finds.images image.0 image.0.header tip.now.spaces pages

@@ -14,7 +14,7 @@ use Rattle.sd_areas.specs.PlainMemory.{Page, Space, PlainMemory}
 use Rattle.sd_image.specs.Table.{Listed}
 use Rattle.sd_image.specs.Shows.{page_in}
 use Rattle.sd_image.proofs.Members.{contains_cases, contains_none}
-use Rattle.sd_restore.specs.Placed.{PlacedPage, page_at, with_spaces, with_pages}
+use Rattle.sd_restore.specs.Placed.{PlacedPage, placed_page, with_spaces, with_pages}
 
 tied : (q k : ℕ) → q ≡ k → eq_by_cmp nat_cmp q k ≡ true
 tied q k e = grind (arith, nat_tests)
@@ -111,9 +111,9 @@ empty_dead memory space bare = ap (λ m. is_some (finmap.get m space)) bare ∙ 
 -- ---- pages
 
 pub pages_more : (contents : List (List ℕ)) (memory : PlainMemory) (pages : List PlacedPage) (p : PlacedPage)
-    → with_pages contents memory (pages ++ p ∷ []) ≡ put_page (with_pages contents memory pages) p.space p.page (page_at contents p)
+    → with_pages contents memory (pages ++ p ∷ []) ≡ put_page (with_pages contents memory pages) p.space p.page (placed_page contents p)
 pages_more contents memory [] p = refl
-pages_more contents memory (q ∷ pages) p = pages_more contents (put_page memory q.space q.page (page_at contents q)) pages p
+pages_more contents memory (q ∷ pages) p = pages_more contents (put_page memory q.space q.page (placed_page contents q)) pages p
 
 -- the space of each page is alive
 abbrev pub AreAlive : PlainMemory → List PlacedPage → Type 0
@@ -133,9 +133,9 @@ pub pages_alive : (contents : List (List ℕ)) (memory : PlainMemory) (pages : L
 pages_alive contents memory [] space alive = refl
 pages_alive contents memory (p ∷ pages) space alive =
     let here = all_front (λ (p : PlacedPage). IsTrue (finmap.contains_key memory p.space)) p pages alive in
-    pages_alive contents (put_page memory p.space p.page (page_at contents p)) pages space
-    (put_alive memory p.space p.page (page_at contents p) pages here (all_later (λ (p : PlacedPage). IsTrue (finmap.contains_key memory p.space)) p pages alive))
-    ∙ put_keeps memory p.space p.page space (page_at contents p) here
+    pages_alive contents (put_page memory p.space p.page (placed_page contents p)) pages space
+    (put_alive memory p.space p.page (placed_page contents p) pages here (all_later (λ (p : PlacedPage). IsTrue (finmap.contains_key memory p.space)) p pages alive))
+    ∙ put_keeps memory p.space p.page space (placed_page contents p) here
 
 -- one of these pages is there, with these permissions and bytes
 pub record IsPut (contents : List (List ℕ)) (pages : List PlacedPage) (space page : ℕ) (found : Page) : Type 0 where
@@ -143,7 +143,7 @@ pub record IsPut (contents : List (List ℕ)) (pages : List PlacedPage) (space p
   pub among : Contains pages one
   pub space_is : one.space ≡ space
   pub page_is : one.page ≡ page
-  pub is : found ≡ page_at contents one
+  pub is : found ≡ placed_page contents one
 
 -- what a page is after these were put
 abbrev pub After : List (List ℕ) → PlainMemory → List PlacedPage → ℕ → ℕ → Option Page → Type 0
@@ -174,12 +174,12 @@ pages_are contents memory [] space page = at (page_in memory space page)
     at None = (refl, λ p c both. contains_none p c)
     at (Some found) = inl refl
 pages_are contents memory (p ∷ pages) space page =
-    by (page_in (with_pages contents memory (p ∷ pages)) space page) (pages_are contents (put_page memory p.space p.page (page_at contents p)) pages space page)
+    by (page_in (with_pages contents memory (p ∷ pages)) space page) (pages_are contents (put_page memory p.space p.page (placed_page contents p)) pages space page)
   where
-    here : (p.space ≡ space) × (p.page ≡ page) → page_in (put_page memory p.space p.page (page_at contents p)) space page ≡ Some (page_at contents p)
+    here : (p.space ≡ space) × (p.page ≡ page) → page_in (put_page memory p.space p.page (placed_page contents p)) space page ≡ Some (placed_page contents p)
     here both =
-        subst (λ n. page_in (put_page memory p.space p.page (page_at contents p)) n page ≡ Some (page_at contents p)) both.0
-        (subst (λ n. page_in (put_page memory p.space p.page (page_at contents p)) p.space n ≡ Some (page_at contents p)) both.1 (put_here memory p.space p.page (page_at contents p)))
+        subst (λ n. page_in (put_page memory p.space p.page (placed_page contents p)) n page ≡ Some (placed_page contents p)) both.0
+        (subst (λ n. page_in (put_page memory p.space p.page (placed_page contents p)) p.space n ≡ Some (placed_page contents p)) both.1 (put_here memory p.space p.page (placed_page contents p)))
 
     clash : {X : Type 0} {x : X} → None ≡ Some x → ⊥
     clash {x = x} e = absurd (let f : None ≡ Some x = e in cc)
@@ -187,11 +187,11 @@ pages_are contents memory (p ∷ pages) space page =
     same : (a b : Page) → Some a ≡ Some b → a ≡ b
     same a b e = ap (λ o. unwrap_or o a) e
 
-    by : (o : Option Page) → After contents (put_page memory p.space p.page (page_at contents p)) pages space page o → After contents memory (p ∷ pages) space page o
+    by : (o : Option Page) → After contents (put_page memory p.space p.page (placed_page contents p)) pages space page o → After contents memory (p ∷ pages) space page o
     by None none = (
       elim (either_place p space page) [
         | inl both ↦ absurd (clash (sym none.0 ∙ here both))
-        | inr apart ↦ sym (put_elsewhere memory p.space p.page space page (page_at contents p) apart) ∙ none.0
+        | inr apart ↦ sym (put_elsewhere memory p.space p.page space page (placed_page contents p) apart) ∙ none.0
       ],
       λ q c both. elim (contains_cases p q pages c) [
         | inl e ↦ clash (sym none.0 ∙ here (subst (λ (q : PlacedPage). (q.space ≡ space) × (q.page ≡ page)) e both))
@@ -205,7 +205,7 @@ pages_are contents memory (p ∷ pages) space page =
         among = (0, omega arith, refl);
         space_is = both.0;
         page_is = both.1;
-        is = same found (page_at contents p) (sym was ∙ here both);
+        is = same found (placed_page contents p) (sym was ∙ here both);
       })
-      | inr apart ↦ inl (sym (put_elsewhere memory p.space p.page space page (page_at contents p) apart) ∙ was)
+      | inr apart ↦ inl (sym (put_elsewhere memory p.space p.page space page (placed_page contents p) apart) ∙ was)
     ]

@@ -12,7 +12,7 @@ use Rattle.sd_chain.specs.declared.found.Found.{Found}
 use Rattle.sd_chain.specs.Catalog.{Opened, Places, images, place_of}
 use Rattle.sd_chain.specs.Ways.{LiesAt, by_data, by_zero, by_parent, LiesBySerial, BreaksBySerial}
 use Rattle.sd_restore.specs.declared.fault.Fault.{Fault}
-use Rattle.sd_restore.specs.Faulty.{Names}
+use Rattle.sd_restore.specs.Faulty.{FaultNames}
 use Rattle.sd_restore.specs.Mapped.{Mapped, mapped_with, area_mapped}
 use Rattle.sd_restore.specs.Placed.{PlacedPage, mapped_of, IsPlaced, ArePlaced, IsInSlots, IsUnheld, MeetsBreak}
 use Rattle.sd_restore.proofs.MappedLemmas.{no_pages, mapped_more, mapped_split}
@@ -93,7 +93,7 @@ breaks_before places serial pages more slot reason met = record {
 
 -- where the parts before it and a part have it, the whole has it
 pub part_breaks : (places : Places) (serial : ℕ) (done before part rest whole : List Mapped) (fault : Fault) → whole ≡ (before ++ part) ++ rest
-    → Names (MeetsBreak places serial ((done ++ before) ++ part)) fault → Names (MeetsBreak places serial (done ++ whole)) fault
+    → FaultNames (MeetsBreak places serial ((done ++ before) ++ part)) fault → FaultNames (MeetsBreak places serial (done ++ whole)) fault
 part_breaks places serial done before part rest whole fault split = names_more _ _ fault (λ slot reason met.
     subst (λ ms. MeetsBreak places serial ms slot reason)
     (append_assoc (done ++ before) part rest ∙ append_assoc done before (part ++ rest) ∙ ap (λ ms. done ++ ms) (sym (append_assoc before part rest) ∙ sym split))

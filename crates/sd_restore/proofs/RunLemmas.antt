@@ -16,7 +16,7 @@ use Rattle.sd_chain.specs.Catalog.{Places}
 use Rattle.sd_chain.specs.Chains.{found_on}
 use Rattle.sd_restore.specs.declared.placed_run.PlacedRun.{PlacedRun}
 use Rattle.sd_restore.specs.Mapped.{Mapped, mapped_with}
-use Rattle.sd_restore.specs.Placed.{PlacedPage, ArePlaced, IsFoundAt, IsInSlots, IsWithin, page_at, page_behind, pages_in, placed_pages, with_pages}
+use Rattle.sd_restore.specs.Placed.{PlacedPage, ArePlaced, IsFoundAt, IsInSlots, IsWithin, placed_page, page_behind, pages_in, placed_pages, with_pages}
 use Rattle.sd_restore.proofs.MappedLemmas.{contains-pages_from, grown, no_pages}
 use Rattle.sd_restore.proofs.MemoryLemmas.{AreAlive, pages_more}
 use Rattle.sd_restore.proofs.PlacedLemmas.{area_more}
@@ -90,11 +90,11 @@ runs_alive memory runs within alive k d less =
 -- ---- their bytes are put
 
 pub with_more : (contents : List (List ℕ)) (memory : PlainMemory) (r : PlacedRun) (k : ℕ)
-    → with_pages contents memory (first_pages r (k + 1)) ≡ put_page (with_pages contents memory (first_pages r k)) r.space (r.first + k) (page_at contents (page_behind r k))
+    → with_pages contents memory (first_pages r (k + 1)) ≡ put_page (with_pages contents memory (first_pages r k)) r.space (r.first + k) (placed_page contents (page_behind r k))
 with_more contents memory r k =
     ap (λ n. with_pages contents memory (first_pages r n)) (let e : k + 1 ≡ suc k = omega arith in e)
     ∙ ap (with_pages contents memory) (one_more r k) ∙ pages_more contents memory (first_pages r k) (page_behind r k)
 
 pub with_both : (contents : List (List ℕ)) (memory : PlainMemory) (xs ys : List PlacedPage) → with_pages contents memory (xs ++ ys) ≡ with_pages contents (with_pages contents memory xs) ys
 with_both contents memory [] ys = refl
-with_both contents memory (p ∷ xs) ys = with_both contents (put_page memory p.space p.page (page_at contents p)) xs ys
+with_both contents memory (p ∷ xs) ys = with_both contents (put_page memory p.space p.page (placed_page contents p)) xs ys

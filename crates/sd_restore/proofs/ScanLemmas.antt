@@ -23,7 +23,7 @@ use Rattle.sd_image.specs.declared.reason.Reason.{Reason}
 use Rattle.sd_image.specs.declared.reason.Reason.TheVariants.{DoubleSerial}
 use Rattle.sd_restore.specs.declared.fault.Fault.{Fault}
 use Rattle.sd_restore.specs.declared.fault.Fault.TheVariants.{EmptyChain, Damaged, Device, OutOfMemory}
-use Rattle.sd_restore.specs.Faulty.{Names, AreReadable, IsFaulty, IsFirstFaulty, IsFirstDouble, IsDamage}
+use Rattle.sd_restore.specs.Faulty.{FaultNames, AreReadable, IsFaulty, IsFirstFaulty, IsFirstDouble, IsDamage}
 use Rattle.sd_restore.specs.declared.scanned.Scanned.{Scanned}
 use Rattle.sd_restore.specs.Scanned.{has_image, AreRead, IsScan, IsScanned}
 use Rattle.sd_restore.proofs.TakeLemmas.{taken_at, taken_all}
@@ -233,14 +233,14 @@ double_again contents slot scanned new image none is_none has less opens is was 
 
 -- A fault at a slot, and what was found in the slots before it.
 
-pub names_more : (P Q : ℕ → Reason → Type 0) (fault : Fault) → ((slot : ℕ) (reason : Reason) → P slot reason → Q slot reason) → Names P fault → Names Q fault
+pub names_more : (P Q : ℕ → Reason → Type 0) (fault : Fault) → ((slot : ℕ) (reason : Reason) → P slot reason → Q slot reason) → FaultNames P fault → FaultNames Q fault
 names_more P Q EmptyChain more names = tt
 names_more P Q (Damaged slot reason) more names = more slot reason names
 names_more P Q Device more names = tt
 names_more P Q OutOfMemory more names = tt
 
 pub first_faulty : (contents : List (List ℕ)) (slot : ℕ) (fault : Fault) → AreReadable (take slot contents)
-    → Names (λ s reason. (s ≡ slot) × IsFaulty (file_at contents slot) reason) fault → Names (IsFirstFaulty contents) fault
+    → FaultNames (λ s reason. (s ≡ slot) × IsFaulty (file_at contents slot) reason) fault → FaultNames (IsFirstFaulty contents) fault
 first_faulty contents slot fault before = names_more _ _ fault (λ s reason is.
     subst (λ k. IsFirstFaulty contents k reason) (sym is.0) (record { faulty = is.1; before = before }))
 

@@ -21,7 +21,7 @@ use Rattle.sd_chain.specs.Catalog.{Opened, Places, AreInOrder, place_of, images,
 use Rattle.sd_chain.specs.Store.{IsCatalogOf, IsInFile, FindsTip, bytes_at}
 use Rattle.sd_restore.specs.Faulty.{IsBrokenChain}
 use Rattle.sd_restore.specs.Mapped.{Mapped, mapped_pages}
-use Rattle.sd_restore.specs.Placed.{PlacedPage, mapped_of, IsPlaced, ArePlaced, IsInSlots, MeetsBreak, with_spaces, memory_at}
+use Rattle.sd_restore.specs.Placed.{PlacedPage, mapped_of, IsPlaced, ArePlaced, IsInSlots, MeetsBreak, with_spaces, placed_memory}
 use Rattle.sd_restore.proofs.MappedLemmas.{into_mapped, from_mapped, space_once}
 use Rattle.sd_restore.proofs.MemoryLemmas.{AreAlive, After, spaces_alive, spaces_bare, empty_bare, empty_dead, pages_alive, pages_are}
 use Rattle.sd_restore.proofs.PlacedLemmas.{placed_in_slots}
@@ -94,11 +94,11 @@ holds_there contents all places tip image pages p catalog slots member header pl
 
 pub is_memory : (contents : List (List ℕ)) (all : List Image) (places : Places) (tip : Opened) (image : Image) (pages : List PlacedPage)
     → IsCatalogOf contents places → OpenImages contents all → Contains all image → IsTable image.header image.spaces → image.header ≡ tip.header → image.spaces ≡ tip.spaces
-    → PlacedOf places tip pages → IsMemory all image (memory_at contents tip.spaces pages)
+    → PlacedOf places tip pages → IsMemory all image (placed_memory contents tip.spaces pages)
 is_memory contents all places tip image pages catalog slots member table header spaces placed = record {
   alive = λ space. pages_alive contents (with_spaces finmap.empty tip.spaces) pages space (pages_live image.header places tip pages are placed)
       ∙ alive_in tip.spaces space ∙ ap (list_any (λ (s : Listed). nat_eq s.space space)) (sym spaces);
-  pages = λ s c page. at s (subst (λ xs. Contains xs s) spaces c) page (page_in (memory_at contents tip.spaces pages) s.space page)
+  pages = λ s c page. at s (subst (λ xs. Contains xs s) spaces c) page (page_in (placed_memory contents tip.spaces pages) s.space page)
       (pages_are contents (with_spaces finmap.empty tip.spaces) pages s.space page);
 }
   where
@@ -133,7 +133,7 @@ is_memory contents all places tip image pages catalog slots member table header 
 -- ---- what contents show
 
 pub shows_tip : (contents : List (List ℕ)) (places : Places) (tip : Bor Opened) (pages : List PlacedPage) → IsCatalogOf contents places → FindsTip contents (Some tip)
-    → PlacedOf places tip.now pages → Shows contents (Some (tip.now.header.checkpoint, memory_at contents tip.now.spaces pages))
+    → PlacedOf places tip.now pages → Shows contents (Some (tip.now.header.checkpoint, placed_memory contents tip.now.spaces pages))
 shows_tip contents places tip pages catalog finds placed =
     let image = finds.newest in record {
       images = finds.images;

@@ -7,7 +7,7 @@ use Rattle.sd_disk.specs.Contents.{file_at}
 use Rattle.sd_image.specs.declared.header.Header.{Header}
 use Rattle.sd_image.specs.Header.{header_text, IsHeader}
 use Rattle.sd_image.specs.Image.{Image, IsImage, is_open}
-use Rattle.sd_chain.specs.Catalog.{IsSound, IsTip, Opened, Places}
+use Rattle.sd_chain.specs.Catalog.{IsSoundCatalog, IsTip, Opened, Places}
 use Rattle.sd_chain.specs.Store.{IsCatalogOf, IsOpenedAs}
 use Rattle.sd_restore.specs.Wants.{WantsMemory}
 use Rattle.sd_restore.proofs.FileLemmas.{read_header}
@@ -26,7 +26,7 @@ image_opens file image is =
     ap (λ b. b && nat_eq (slice_index file 0) 165) (le-leb 4096 (length file) long) ∙ ap (λ (xs : List ℕ). nat_eq (slice_index xs 0) 165) is.spelled
 
 -- the newest image of a catalog stands in an open slot
-pub tip_opens : (contents : List (List ℕ)) (places : Places) (tip : Opened) → IsCatalogOf contents places → IsSound places → IsTip places tip
+pub tip_opens : (contents : List (List ℕ)) (places : Places) (tip : Opened) → IsCatalogOf contents places → IsSoundCatalog places → IsTip places tip
     → (slot : ℕ) × (is_open (file_at contents slot) ≡ true)
 tip_opens contents places tip catalog sound is =
     let here : (image : Image) × IsOpenedAs contents tip image = catalog.sound tip.header.serial tip (sound.own tip is.member) in

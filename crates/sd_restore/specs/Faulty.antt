@@ -16,11 +16,11 @@ use Rattle.sd_restore.specs.declared.fault.Fault.TheVariants.{EmptyChain, Damage
 use Rattle.sd_restore.specs.Mapped.{Mapped, mapped_pages}
 
 -- what a fault says of the slot and the reason that it names
-abbrev pub Names : (ℕ → Reason → Type 0) → Fault → Type 0
-Names P EmptyChain = Unit {0}
-Names P (Damaged slot reason) = P slot reason
-Names P Device = Unit {0}
-Names P OutOfMemory = Unit {0}
+abbrev pub FaultNames : (ℕ → Reason → Type 0) → Fault → Type 0
+FaultNames P EmptyChain = Unit {0}
+FaultNames P (Damaged slot reason) = P slot reason
+FaultNames P Device = Unit {0}
+FaultNames P OutOfMemory = Unit {0}
 
 -- the number of a fault
 abbrev pub fault_number : Fault → ℕ

@@ -81,8 +81,8 @@ IsInSlots count (found.Data slot offset) = slot < count
 
 -- The memory of living spaces with these pages.
 
-abbrev pub page_at : List (List ℕ) → PlacedPage → Page
-page_at contents p = record { prot = p.prot; bytes = bytes_at contents p.there }
+abbrev pub placed_page : List (List ℕ) → PlacedPage → Page
+placed_page contents p = record { prot = p.prot; bytes = bytes_at contents p.there }
 
 -- spaces without pages are added
 abbrev pub with_spaces : PlainMemory → List Listed → PlainMemory
@@ -92,24 +92,26 @@ with_spaces memory (s ∷ spaces) = with_spaces (finmap.insert memory s.space fi
 -- pages are put
 abbrev pub with_pages : List (List ℕ) → PlainMemory → List PlacedPage → PlainMemory
 with_pages contents memory [] = memory
-with_pages contents memory (p ∷ pages) = with_pages contents (put_page memory p.space p.page (page_at contents p)) pages
+with_pages contents memory (p ∷ pages) =
+    with_pages contents (put_page memory p.space p.page (placed_page contents p)) pages
 
-abbrev pub memory_at : List (List ℕ) → List Listed → List PlacedPage → PlainMemory
-memory_at contents spaces = with_pages contents (with_spaces finmap.empty spaces)
+abbrev pub placed_memory : List (List ℕ) → List Listed → List PlacedPage → PlainMemory
+placed_memory contents spaces = with_pages contents (with_spaces finmap.empty spaces)
 
 -- The entries of that memory.
 
 -- the pages of one space, among others
 abbrev pub placed_entries : List (List ℕ) → ℕ → List PlacedPage → List (ℕ × Page)
 placed_entries contents space pages =
-    map (λ (p : PlacedPage). (p.page, page_at contents p)) (filter (λ (p : PlacedPage). p.space == space) pages)
+    map (λ (p : PlacedPage). (p.page, placed_page contents p)) (filter (λ (p : PlacedPage). p.space == space) pages)
 
 -- a space's number, its areas and its pages
-abbrev pub Entry : Type 0
-Entry = ℕ × (List Area × List (ℕ × Page))
+abbrev pub SpaceEntry : Type 0
+SpaceEntry = ℕ × (List Area × List (ℕ × Page))
 
 -- a memory has these spaces with their areas, rising, and in each space these pages, rising
 abbrev pub IsLaidOut : List (List ℕ) → List Listed → List PlacedPage → PlainMemory → Type 0
 IsLaidOut contents spaces pages memory =
-    map {B = Entry} (λ (e : ℕ × Space). (e.0, (areas_of (prots_in e.1), finmap.entries e.1))) (finmap.entries memory)
-    ≡ map {B = Entry} (λ (s : Listed). (s.space, (s.areas, placed_entries contents s.space pages))) spaces
+    map {B = SpaceEntry} (λ (e : ℕ × Space). (e.0, (areas_of (prots_in e.1), finmap.entries e.1)))
+    (finmap.entries memory)
+    ≡ map {B = SpaceEntry} (λ (s : Listed). (s.space, (s.areas, placed_entries contents s.space pages))) spaces

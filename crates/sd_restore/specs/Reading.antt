@@ -45,6 +45,6 @@ abbrev pub IsReading : List ℕ → Option Decoded → Type 0
 IsReading file opened = MatchOption opened (is_open file ≡ false) (IsDecodedAs file)
 
 -- its table is a table, and its parent number is below the number that it stands for
-pub record IsSound (decoded : Decoded) : Type 0 where
+pub record IsSoundTable (decoded : Decoded) : Type 0 where
   pub table : IsTable decoded.header (map listing_of decoded.table.spaces.items)
   pub falls : decoded.header.parent < decoded.header.stands_for

@@ -7,7 +7,7 @@ ghost use Rattle.sd_chain.specs.Catalog.{place_of, IsTip};
 ghost use Rattle.sd_chain.specs.Chains.{AreBelowLimit, IsChainOf, found_on};
 ghost use Rattle.sd_chain.specs.Ways.{AreImages, BreaksBySerial, IsAbsent};
 ghost use Rattle.sd_restore.specs.Mapped.{Mapped, area_mapped, space_mapped, mapped_pages};
-ghost use Rattle.sd_restore.specs.Faulty.{Names};
+ghost use Rattle.sd_restore.specs.Faulty.{FaultNames};
 ghost use Rattle.sd_restore.specs.Placed.{ArePlaced, IsFoundAt, IsUnheld, IsWithin, MeetsBreak, placed_pages};
 
 use crate::fault::Fault;
@@ -46,7 +46,7 @@ fn find_pages(
         → IsFoundAt catalog.now serial (space, page + k) (found_on found.there k)) }
     ensures below { IfOk result (λ found. AreBelowLimit found.there found.count) }
     ensures broken { IfErr result
-        (Names (λ slot reason. (reason ≡ Reason.Chain)
+        (FaultNames (λ slot reason. (reason ≡ Reason.Chain)
         × BreaksBySerial catalog.now serial (space, page) slot
         × IsUnheld catalog.now serial (space, page))) }
     ensures chain { chain.new ≡ chain.old }
@@ -89,7 +89,7 @@ fn place_area(
         (placed_pages runs.new.items)) }
     ensures broken { (done : List Mapped)
         → ArePlaced catalog.now serial done (placed_pages runs.old.items)
-        → IfErr result (Names
+        → IfErr result (FaultNames
         (MeetsBreak catalog.now serial (done ++ area_mapped space area.now))) }
     ensures within { OnOk result (All IsWithin runs.old.items → All IsWithin runs.new.items) }
     ensures chain { chain.new ≡ chain.old }
@@ -131,7 +131,7 @@ fn place_space(
         (done ++ space_mapped (listing_of space.now)) (placed_pages runs.new.items)) }
     ensures broken { (done : List Mapped)
         → ArePlaced catalog.now serial done (placed_pages runs.old.items)
-        → IfErr result (Names
+        → IfErr result (FaultNames
         (MeetsBreak catalog.now serial (done ++ space_mapped (listing_of space.now)))) }
     ensures within { OnOk result (All IsWithin runs.old.items → All IsWithin runs.new.items) }
     ensures chain { chain.new ≡ chain.old }
@@ -164,7 +164,7 @@ pub fn place_pages(
         (mapped_pages tip.now.spaces) (placed_pages runs.items)) }
     ensures within { IfOk result (λ runs. All IsWithin runs.items) }
     ensures broken { IfErr result
-        (Names (MeetsBreak catalog.now tip.now.header.serial (mapped_pages tip.now.spaces))) }
+        (FaultNames (MeetsBreak catalog.now tip.now.header.serial (mapped_pages tip.now.spaces))) }
     ensures empty { result ≢ Err Fault.EmptyChain }
     ensures device { result ≢ Err Fault.Device }
 {

@@ -3,8 +3,8 @@ ghost use Rattle.std.specs.Prelude.{◌≡◌, ◌≢◌, List, ℕ, Ok, map, If
 ghost use Rattle.sd_image.specs.Header.{IsHeader};
 ghost use Rattle.sd_image.specs.Reading.{head_at, table_in};
 ghost use Rattle.sd_image.specs.Table.{listing_of};
-ghost use Rattle.sd_restore.specs.Faulty.{Names, IsFaulty};
-ghost use Rattle.sd_restore.specs.Reading.{HasDigestOf, HasHeader, IsDecodedAs, IsSound, table_bytes};
+ghost use Rattle.sd_restore.specs.Faulty.{FaultNames, IsFaulty};
+ghost use Rattle.sd_restore.specs.Reading.{HasDigestOf, HasHeader, IsDecodedAs, IsSoundTable, table_bytes};
 
 use crate::fault::Fault;
 use sd_image::{Header, Table, TableError, decode_table, file_is_image, good_header_has_no_reason};
@@ -35,11 +35,11 @@ pub fn decode_slot(
     ensures decoded { (file : List ℕ) → HasHeader file header → table.now ≡ table_bytes header file
         → HasDigestOf file header → IfOk result (IsDecodedAs file) }
     ensures faulty { (file : List ℕ) → HasHeader file header → table.now ≡ table_bytes header file
-        → IfErr result (Names (λ s reason. (s ≡ slot) × IsFaulty file reason)) }
+        → IfErr result (FaultNames (λ s reason. (s ≡ slot) × IsFaulty file reason)) }
     // What is read is what the bytes spell, also of a device that lies.
     ensures read { IfOk result
         (λ decoded. table_in header table.now ≡ Ok (map listing_of decoded.table.spaces.items)) }
-    ensures sound { (len : ℕ) → IsHeader header len → IfOk result IsSound }
+    ensures sound { (len : ℕ) → IsHeader header len → IfOk result IsSoundTable }
     ensures empty { result ≢ Err Fault.EmptyChain }
     ensures device { result ≢ Err Fault.Device }
     // Memory is taken behind the table's head.

@@ -8,7 +8,7 @@ ghost use Rattle.sd_image.specs.Digests.{HasFed};
 ghost use Rattle.sd_image.specs.Reading.{digest_of_file, table_in};
 ghost use Rattle.sd_image.specs.Table.{Listed};
 ghost use Rattle.sd_restore.specs.Calls.{pages_digested};
-ghost use Rattle.sd_restore.specs.Faulty.{IsFaulty, Names};
+ghost use Rattle.sd_restore.specs.Faulty.{FaultNames, IsFaulty};
 ghost use Rattle.sd_restore.specs.Reading.{HasDigestOf, HasHeader, table_bytes};
 
 use crate::device::read_file;
@@ -97,7 +97,7 @@ fn digest_of<D: Disk>(
         → HasHeader (file_at (D.contents disk.old) slot) header.now
         → table.now ≡ table_bytes header.now (file_at (D.contents disk.old) slot)
         → IfOk result (λ digest. digest ≡ digest_of_file (file_at (D.contents disk.old) slot)) }
-    ensures unnamed { IfErr result (Names (λ _ _. ⊥)) }
+    ensures unnamed { IfErr result (FaultNames (λ _ _. ⊥)) }
     ensures reads { OnlyReads D.Disk disk.old disk.new }
     ensures device { IsErrOf result Fault.Device → D.failed disk.old < D.failed disk.new }
     ensures stops { D.failed disk.old < D.failed disk.new → IsErrOf result Fault.Device }
@@ -136,7 +136,7 @@ pub fn check_digest<D: Disk>(
         → HasHeader (file_at (D.contents disk.old) slot) header.now
         → table.now ≡ table_bytes header.now (file_at (D.contents disk.old) slot)
         → (spaces : List Listed) → table_in header.now table.now ≡ Ok spaces
-        → IfErr result (Names
+        → IfErr result (FaultNames
         (λ s reason. (s ≡ slot) × IsFaulty (file_at (D.contents disk.old) slot) reason)) }
     ensures reads { OnlyReads D.Disk disk.old disk.new }
     ensures device { IsErrOf result Fault.Device → D.failed disk.old < D.failed disk.new }

@@ -4,7 +4,7 @@ ghost use Rattle.std.specs.FinMap as finmap;
 ghost use Rattle.sd_areas.specs.Memory.{memory_of};
 ghost use Rattle.sd_disk.specs.Reads.{OnlyReads};
 ghost use Rattle.sd_chain.specs.Store.{bytes_at};
-ghost use Rattle.sd_restore.specs.Faulty.{Names};
+ghost use Rattle.sd_restore.specs.Faulty.{FaultNames};
 ghost use Rattle.sd_restore.specs.Placed.{IsInSlots, IsWithin, pages_in, placed_pages, with_spaces, with_pages};
 
 use crate::device::read_file;
@@ -37,7 +37,7 @@ fn read_page<D: Disk>(
     requires { IsInSlots (length (D.contents disk.old)) there }
     ensures bytes { D.is_honest disk.new
         → IfOk result (λ bytes. bytes.value ≡ bytes_at (D.contents disk.old) there) }
-    ensures unnamed { IfErr result (Names (λ _ _. ⊥)) }
+    ensures unnamed { IfErr result (FaultNames (λ _ _. ⊥)) }
     ensures reads { OnlyReads D.Disk disk.old disk.new }
     ensures device { IsErrOf result Fault.Device → D.failed disk.old < D.failed disk.new }
     ensures stops { D.failed disk.old < D.failed disk.new → IsErrOf result Fault.Device }
@@ -67,7 +67,7 @@ fn read_run<D: Disk>(
     ensures spaces { (space : ℕ) → finmap.contains_key (memory_of snapshot.new) space
         ≡ finmap.contains_key (memory_of snapshot.old) space }
     ensures checkpoint { snapshot.new.checkpoint ≡ snapshot.old.checkpoint }
-    ensures unnamed { IfErr result (Names (λ _ _. ⊥)) }
+    ensures unnamed { IfErr result (FaultNames (λ _ _. ⊥)) }
     ensures reads { OnlyReads D.Disk disk.old disk.new }
     ensures device { IsErrOf result Fault.Device → D.failed disk.old < D.failed disk.new }
     ensures stops { D.failed disk.old < D.failed disk.new → IsErrOf result Fault.Device }
@@ -97,7 +97,7 @@ pub fn read_pages<D: Disk>(
         → OnOk result (memory_of snapshot.new
         ≡ with_pages (D.contents disk.old) (memory_of snapshot.old) (placed_pages runs.now)) }
     ensures checkpoint { snapshot.new.checkpoint ≡ snapshot.old.checkpoint }
-    ensures unnamed { IfErr result (Names (λ _ _. ⊥)) }
+    ensures unnamed { IfErr result (FaultNames (λ _ _. ⊥)) }
     ensures reads { OnlyReads D.Disk disk.old disk.new }
     ensures device { IsErrOf result Fault.Device → D.failed disk.old < D.failed disk.new }
     ensures stops { D.failed disk.old < D.failed disk.new → IsErrOf result Fault.Device }

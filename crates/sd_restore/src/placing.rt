@@ -10,8 +10,8 @@ ghost use Rattle.sd_chain.specs.Catalog.{IsTip, Opened, images};
 ghost use Rattle.sd_chain.specs.Chains.{found_on};
 ghost use Rattle.sd_chain.specs.Store.{IsCatalogOf, bytes_at};
 ghost use Rattle.sd_chain.specs.Ways.{AreImages};
-ghost use Rattle.sd_restore.specs.Faulty.{Names, IsBrokenChain};
-ghost use Rattle.sd_restore.specs.Placed.{IsInSlots, IsLaidOut, IsWithin, memory_at, placed_pages};
+ghost use Rattle.sd_restore.specs.Faulty.{FaultNames, IsBrokenChain};
+ghost use Rattle.sd_restore.specs.Placed.{IsInSlots, IsLaidOut, IsWithin, placed_memory, placed_pages};
 
 use crate::chain::place_pages;
 use crate::device::read_file;
@@ -46,17 +46,17 @@ pub fn place_newest<'a>(alloc: Global, catalog: &'a Catalog) -> Result<PlacedMem
         → IfOk result (λ placed. Shows contents
         (Some (
           placed.checkpoint,
-          memory_at contents (map listing_of placed.spaces.now) (placed_pages placed.runs.items),
+          placed_memory contents (map listing_of placed.spaces.now) (placed_pages placed.runs.items),
         ))) }
     // That memory has these spaces and areas, and these pages in them, all rising.
     ensures laid { (contents : List (List ℕ)) → IsCatalogOf contents catalog.now
         → IfOk result (λ placed. IsLaidOut contents (map listing_of placed.spaces.now)
         (placed_pages placed.runs.items)
-        (memory_at contents (map listing_of placed.spaces.now) (placed_pages placed.runs.items))) }
+        (placed_memory contents (map listing_of placed.spaces.now) (placed_pages placed.runs.items))) }
     ensures empty { (contents : List (List ℕ)) → IsCatalogOf contents catalog.now
         → IsErrOf result Fault.EmptyChain → Shows contents None }
     ensures broken { (contents : List (List ℕ)) → IsCatalogOf contents catalog.now
-        → IfErr result (Names (IsBrokenChain contents)) }
+        → IfErr result (FaultNames (IsBrokenChain contents)) }
     ensures slots { (count : ℕ) → All (λ i. i.slot < count) (images catalog.now)
         → IfOk result (λ placed. All (λ r. IsInSlots count r.there) placed.runs.items) }
     ensures within { IfOk result (λ placed. All IsWithin placed.runs.items) }
@@ -94,7 +94,7 @@ pub fn read_placed<D: Disk>(
     requires { IsInSlots (length (D.contents disk.old)) there }
     ensures bytes { D.is_honest disk.new
         → OnOk result (bytes.new ≡ bytes_at (D.contents disk.old) there) }
-    ensures unnamed { IfErr result (Names (λ _ _. ⊥)) }
+    ensures unnamed { IfErr result (FaultNames (λ _ _. ⊥)) }
     ensures reads { OnlyReads D.Disk disk.old disk.new }
     ensures device { IsErrOf result Fault.Device → D.failed disk.old < D.failed disk.new }
     ensures empty { result ≢ Err Fault.EmptyChain }
@@ -120,7 +120,7 @@ pub fn read_placed_pages<D: Disk>(disk: &mut D, there: Found, bytes: &mut [u8]) 
         → 4096 * k + 4096 ≤ length bytes.old
         → slice_range bytes.new (4096 * k) (4096 * k + 4096)
         ≡ bytes_at (D.contents disk.old) (found_on there k)) }
-    ensures unnamed { IfErr result (Names (λ _ _. ⊥)) }
+    ensures unnamed { IfErr result (FaultNames (λ _ _. ⊥)) }
     ensures reads { OnlyReads D.Disk disk.old disk.new }
     ensures device { IsErrOf result Fault.Device → D.failed disk.old < D.failed disk.new }
     ensures calls { D.calls disk.new ≤ D.calls disk.old + 1 }

@@ -11,7 +11,7 @@ ghost use Rattle.sd_chain.specs.Catalog.{IsTip, Opened, images};
 ghost use Rattle.sd_chain.specs.Store.{IsCatalogOf};
 ghost use Rattle.sd_chain.specs.Ways.{AreImages};
 ghost use Rattle.sd_restore.specs.Calls.{HasPagesWithin, scan_calls};
-ghost use Rattle.sd_restore.specs.Faulty.{Names, IsDamage, IsBrokenChain};
+ghost use Rattle.sd_restore.specs.Faulty.{FaultNames, IsDamage, IsBrokenChain};
 
 use crate::chain::place_pages;
 use crate::fault::Fault;
@@ -45,11 +45,11 @@ pub fn restore_from<D: Disk>(
     ensures empty { IsCatalogOf (D.contents disk.old) catalog.now → IsErrOf result Fault.EmptyChain
         → Shows (D.contents disk.old) None }
     ensures broken { IsCatalogOf (D.contents disk.old) catalog.now
-        → IfErr result (Names (IsBrokenChain (D.contents disk.old))) }
+        → IfErr result (FaultNames (IsBrokenChain (D.contents disk.old))) }
     // Contents that show something are never called damaged, and those that show a memory are never called empty.
     ensures good { (shown : Option (ℕ × PlainMemory))
         → IsCatalogOf (D.contents disk.old) catalog.now
-        → Shows (D.contents disk.old) shown → IfErr result (Names (λ _ _. ⊥)) }
+        → Shows (D.contents disk.old) shown → IfErr result (FaultNames (λ _ _. ⊥)) }
     ensures saved { (moment : ℕ × PlainMemory) → IsCatalogOf (D.contents disk.old) catalog.now
         → Shows (D.contents disk.old) (Some moment) → result ≢ Err Fault.EmptyChain }
     ensures reads { OnlyReads D.Disk disk.old disk.new }
@@ -93,12 +93,12 @@ pub fn restore<D: Disk>(alloc: Global, disk: &mut D) -> Result<Snapshot, Fault>
     ensures empty { D.is_honest disk.new → IsErrOf result Fault.EmptyChain
         → Shows (D.contents disk.old) None }
     ensures damaged { D.is_honest disk.new
-        → IfErr result (Names
+        → IfErr result (FaultNames
         (λ slot reason. IsDamage (D.contents disk.old) slot reason
         ⊎ IsBrokenChain (D.contents disk.old) slot reason)) }
     // A store that shows something is never called damaged, and one that shows a memory is never called empty.
     ensures good { D.is_honest disk.new → (shown : Option (ℕ × PlainMemory))
-        → Shows (D.contents disk.old) shown → IfErr result (Names (λ _ _. ⊥)) }
+        → Shows (D.contents disk.old) shown → IfErr result (FaultNames (λ _ _. ⊥)) }
     ensures saved { D.is_honest disk.new → (moment : ℕ × PlainMemory)
         → Shows (D.contents disk.old) (Some moment) → result ≢ Err Fault.EmptyChain }
     // It only reads: the contents stay, and no crash, afterwards or within it, leaves more than one before it.

@@ -6,8 +6,8 @@ ghost use Rattle.sd_image.specs.Image.{Image, IsImage, is_open};
 ghost use Rattle.sd_image.specs.Table.{listing_of};
 ghost use Rattle.sd_image.specs.Shows.{IsStore};
 ghost use Rattle.sd_chain.specs.Store.{IsCatalogOf};
-ghost use Rattle.sd_restore.specs.Faulty.{IsDamage, Names};
-ghost use Rattle.sd_restore.specs.Reading.{IsReading, IsSound};
+ghost use Rattle.sd_restore.specs.Faulty.{FaultNames, IsDamage};
+ghost use Rattle.sd_restore.specs.Reading.{IsReading, IsSoundTable};
 ghost use Rattle.sd_restore.specs.Scanned.{IsScanned, AreRead};
 
 use crate::decoded::Decoded;
@@ -57,7 +57,7 @@ impl Scanned {
             → image.header ≡ decoded.header
             → image.spaces ≡ map listing_of decoded.table.spaces.items
             → IsScanned contents slot self.old → IsScanned contents (slot + 1) self.new) }
-        ensures read { (count : ℕ) → slot < count → IsSound decoded → AreRead count self.old.catalog
+        ensures read { (count : ℕ) → slot < count → IsSoundTable decoded → AreRead count self.old.catalog
             → OnOk result (AreRead count self.new.catalog) }
         ensures counted { OnOk result (self.new.images ≡ self.old.images + 1) }
         ensures err { OnErr result (self.new ≡ self.old) }
@@ -98,7 +98,7 @@ impl Scanned {
             → IsReading (file_at contents slot) opened
             → IsScanned contents slot self.old → IsScanned contents (slot + 1) self.new) }
         // Also of a device that lied.
-        ensures read { (count : ℕ) → slot < count → IfSome opened IsSound
+        ensures read { (count : ℕ) → slot < count → IfSome opened IsSoundTable
             → AreRead count self.old.catalog
             → OnOk result (AreRead count self.new.catalog) }
         ensures counted { OnOk result (self.new.images ≤ self.old.images + 1) }
@@ -126,10 +126,10 @@ impl Scanned {
         ensures store { (contents : List (List ℕ)) → IsScanned contents (length contents) self.now
             → IfOk result (λ _. (images : List Image) × IsStore contents images) }
         ensures damaged { (contents : List (List ℕ)) → IsScanned contents (length contents) self.now
-            → IfErr result (Names (IsDamage contents)) }
+            → IfErr result (FaultNames (IsDamage contents)) }
         ensures good { (contents : List (List ℕ)) (images : List Image)
             → IsScanned contents (length contents) self.now
-            → IsStore contents images → IfErr result (Names (λ _ _. ⊥)) }
+            → IsStore contents images → IfErr result (FaultNames (λ _ _. ⊥)) }
         ensures empty { result ≢ Err Fault.EmptyChain }
         ensures device { result ≢ Err Fault.Device }
         ensures memory { result ≢ Err Fault.OutOfMemory }

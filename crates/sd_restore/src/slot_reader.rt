@@ -7,8 +7,8 @@ ghost use Rattle.sd_disk.specs.Failures.{HasCause};
 ghost use Rattle.sd_image.specs.Header.{header_text, IsHeader};
 ghost use Rattle.sd_image.specs.Reading.{header_in};
 ghost use Rattle.sd_restore.specs.Calls.{calls_for};
-ghost use Rattle.sd_restore.specs.Faulty.{Names, IsFaulty};
-ghost use Rattle.sd_restore.specs.Reading.{IsReading, IsSound, table_bytes};
+ghost use Rattle.sd_restore.specs.Faulty.{FaultNames, IsFaulty};
+ghost use Rattle.sd_restore.specs.Reading.{IsReading, IsSoundTable, table_bytes};
 ghost use Rattle.sd_restore.specs.Wants.{WantsMemory};
 
 use crate::decoded::{Decoded, decode_slot};
@@ -39,7 +39,7 @@ fn header_of(slot: usize, bytes: &[u8], len: usize) -> Result<Header, Fault>
     requires { length bytes.now ≡ 4096 }
     ensures exact { IfOk result (λ header. header_in bytes.now len ≡ Ok header) }
     ensures faulty { IfErr result
-        (Names (λ s reason. (s ≡ slot) × (header_in bytes.now len ≡ Err reason))) }
+        (FaultNames (λ s reason. (s ≡ slot) × (header_in bytes.now len ≡ Err reason))) }
     ensures found { IfOk result
         (λ header. (drop 1 bytes.now ≡ header_text header) × IsHeader header len) }
     ensures empty { result ≢ Err Fault.EmptyChain }
@@ -61,7 +61,7 @@ fn read_table<D: Disk>(
     ensures bytes { D.is_honest disk.new
         → IfOk result (λ bytes. bytes.items
         ≡ table_bytes header.now (file_at (D.contents disk.old) slot)) }
-    ensures unnamed { IfErr result (Names (λ _ _. ⊥)) }
+    ensures unnamed { IfErr result (FaultNames (λ _ _. ⊥)) }
     ensures reads { OnlyReads D.Disk disk.old disk.new }
     ensures device { IsErrOf result Fault.Device → D.failed disk.old < D.failed disk.new }
     ensures stops { D.failed disk.old < D.failed disk.new → IsErrOf result Fault.Device }
@@ -83,9 +83,9 @@ pub fn read_slot<D: Disk>(
     requires { slot < length (D.contents disk.old) }
     ensures reading { D.is_honest disk.new
         → IfOk result (IsReading (file_at (D.contents disk.old) slot)) }
-    ensures sound { IfOk result (λ opened. IfSome opened IsSound) }
+    ensures sound { IfOk result (λ opened. IfSome opened IsSoundTable) }
     ensures faulty { D.is_honest disk.new
-        → IfErr result (Names
+        → IfErr result (FaultNames
         (λ s reason. (s ≡ slot) × IsFaulty (file_at (D.contents disk.old) slot) reason)) }
     ensures reads { OnlyReads D.Disk disk.old disk.new }
     ensures device { IsErrOf result Fault.Device → D.failed disk.old < D.failed disk.new }

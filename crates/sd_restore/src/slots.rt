@@ -9,7 +9,7 @@ ghost use Rattle.sd_chain.specs.Catalog.{IsHeld, images};
 ghost use Rattle.sd_chain.specs.Store.{IsCatalogOf};
 ghost use Rattle.sd_chain.specs.Ways.{AreImages};
 ghost use Rattle.sd_restore.specs.Calls.{calls_for, scan_calls};
-ghost use Rattle.sd_restore.specs.Faulty.{Names, IsFaulty, IsFirstFaulty, IsDamage};
+ghost use Rattle.sd_restore.specs.Faulty.{FaultNames, IsFaulty, IsFirstFaulty, IsDamage};
 ghost use Rattle.sd_restore.specs.Scanned.{AreRead, IsScanned};
 ghost use Rattle.sd_restore.specs.Wants.{StoreWants, WantsMemory};
 
@@ -38,7 +38,7 @@ fn scan_slot<D: Disk>(
         → OnOk result (AreRead (length (D.contents disk.old)) scanned.new.catalog) }
     ensures room { OnOk result (scanned.new.images ≤ slot + 1) }
     ensures faulty { D.is_honest disk.new
-        → IfErr result (Names
+        → IfErr result (FaultNames
         (λ s reason. (s ≡ slot) × IsFaulty (file_at (D.contents disk.old) slot) reason)) }
     ensures reads { OnlyReads D.Disk disk.old disk.new }
     ensures device { IsErrOf result Fault.Device → D.failed disk.old < D.failed disk.new }
@@ -60,7 +60,7 @@ fn scan_slots<D: Disk>(alloc: Global, disk: &mut D) -> Result<Scanned, Fault>
         → IfOk result (IsScanned (D.contents disk.old) (length (D.contents disk.old))) }
     ensures read { IfOk result (λ scanned. AreRead (length (D.contents disk.old)) scanned.catalog) }
     ensures faulty { D.is_honest disk.new
-        → IfErr result (Names (IsFirstFaulty (D.contents disk.old))) }
+        → IfErr result (FaultNames (IsFirstFaulty (D.contents disk.old))) }
     ensures reads { OnlyReads D.Disk disk.old disk.new }
     ensures device { IsErrOf result Fault.Device → D.failed disk.old < D.failed disk.new }
     ensures stops { D.failed disk.old < D.failed disk.new → IsErrOf result Fault.Device }
@@ -84,11 +84,11 @@ pub fn scan_store<D: Disk>(alloc: Global, disk: &mut D) -> Result<Scanned, Fault
     ensures counted { D.is_honest disk.new
         → IfOk result (λ scanned. scanned.images ≡ length (filter is_open (D.contents disk.old))) }
     ensures read { IfOk result (λ scanned. AreRead (length (D.contents disk.old)) scanned.catalog) }
-    ensures damaged { D.is_honest disk.new → IfErr result (Names (IsDamage (D.contents disk.old))) }
+    ensures damaged { D.is_honest disk.new → IfErr result (FaultNames (IsDamage (D.contents disk.old))) }
     ensures store { D.is_honest disk.new
         → IfOk result (λ _. (images : List Image) × IsStore (D.contents disk.old) images) }
     ensures good { D.is_honest disk.new → (images : List Image)
-        → IsStore (D.contents disk.old) images → IfErr result (Names (λ _ _. ⊥)) }
+        → IsStore (D.contents disk.old) images → IfErr result (FaultNames (λ _ _. ⊥)) }
     ensures reads { OnlyReads D.Disk disk.old disk.new }
     ensures device { IsErrOf result Fault.Device → D.failed disk.old < D.failed disk.new }
     ensures stops { D.failed disk.old < D.failed disk.new → IsErrOf result Fault.Device }
@@ -115,13 +115,13 @@ pub fn scan_store<D: Disk>(alloc: Global, disk: &mut D) -> Result<Scanned, Fault
 /// whose serial stands in an earlier open one. `Device` and `OutOfMemory` end the scan at once.
 pub fn scan<D: Disk>(alloc: Global, disk: &mut D) -> Result<Catalog, Fault>
     ensures catalog { D.is_honest disk.new → IfOk result (IsCatalogOf (D.contents disk.old)) }
-    ensures damaged { D.is_honest disk.new → IfErr result (Names (IsDamage (D.contents disk.old))) }
+    ensures damaged { D.is_honest disk.new → IfErr result (FaultNames (IsDamage (D.contents disk.old))) }
     // Each open slot is then an image with a serial of its own.
     ensures store { D.is_honest disk.new
         → IfOk result (λ _. (images : List Image) × IsStore (D.contents disk.old) images) }
     // A store in which that is so is never called damaged.
     ensures good { D.is_honest disk.new → (images : List Image)
-        → IsStore (D.contents disk.old) images → IfErr result (Names (λ _ _. ⊥)) }
+        → IsStore (D.contents disk.old) images → IfErr result (FaultNames (λ _ _. ⊥)) }
     // Also of a device that lies: the images are in its slots, their tables are tables, and their parents fall.
     ensures slots { IfOk result
         (λ catalog. All (λ i. i.slot < length (D.contents disk.old)) (images catalog)) }

@@ -11,7 +11,7 @@ ghost use Rattle.sd_chain.specs.Catalog.{IsTip, Opened};
 ghost use Rattle.sd_chain.specs.Store.{IsCatalogOf};
 ghost use Rattle.sd_chain.specs.Ways.{AreImages};
 ghost use Rattle.sd_restore.specs.Calls.{scan_calls};
-ghost use Rattle.sd_restore.specs.Faulty.{Names, IsDamage, IsBrokenChain};
+ghost use Rattle.sd_restore.specs.Faulty.{FaultNames, IsDamage, IsBrokenChain};
 
 use crate::chain::place_pages;
 use crate::fault::Fault;
@@ -30,10 +30,10 @@ fn shown_checkpoint(alloc: Global, catalog: &Catalog) -> Result<Option<u64>, Fau
         → IfOk result (λ checkpoint. (shown : Option (ℕ × PlainMemory)) × Shows contents shown
         × (checkpoint ≡ option_map (λ moment. moment.0) shown)) }
     ensures broken { (contents : List (List ℕ)) → IsCatalogOf contents catalog.now
-        → IfErr result (Names (IsBrokenChain contents)) }
+        → IfErr result (FaultNames (IsBrokenChain contents)) }
     ensures good { (contents : List (List ℕ)) (shown : Option (ℕ × PlainMemory))
         → IsCatalogOf contents catalog.now → Shows contents shown
-        → IfErr result (Names (λ _ _. ⊥)) }
+        → IfErr result (FaultNames (λ _ _. ⊥)) }
     ensures empty { result ≢ Err Fault.EmptyChain }
     ensures device { result ≢ Err Fault.Device }
     // An empty chain takes no memory.
@@ -81,12 +81,12 @@ pub fn verify<D: Disk>(alloc: Global, disk: &mut D) -> Result<Report, Fault>
     ensures images { D.is_honest disk.new
         → IfOk result (λ report. report.images ≡ length (filter is_open (D.contents disk.old))) }
     ensures damaged { D.is_honest disk.new
-        → IfErr result (Names
+        → IfErr result (FaultNames
         (λ slot reason. IsDamage (D.contents disk.old) slot reason
         ⊎ IsBrokenChain (D.contents disk.old) slot reason)) }
     // A store that shows something is never called damaged.
     ensures good { D.is_honest disk.new → (shown : Option (ℕ × PlainMemory))
-        → Shows (D.contents disk.old) shown → IfErr result (Names (λ _ _. ⊥)) }
+        → Shows (D.contents disk.old) shown → IfErr result (FaultNames (λ _ _. ⊥)) }
     ensures never_empty { result ≢ Err Fault.EmptyChain }
     // It only reads: the contents stay, and no crash, afterwards or within it, leaves more than one before it.
     ensures reads { OnlyReads D.Disk disk.old disk.new }

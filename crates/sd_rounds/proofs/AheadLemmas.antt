@@ -12,7 +12,7 @@ use Rattle.std.proofs.lemmas.List.Folds.{list_any-append}
 use Rattle.std.proofs.lemmas.List.Sums.{sum_by-cons}
 use Rattle.sd_areas.specs.PlainMemory.{PlainMemory, Space}
 use Rattle.sd_pagetable.specs.Nested.{value_at}
-use Rattle.sd_pagetable.specs.Page.{Page, plain_page}
+use Rattle.sd_pagetable.specs.Page.{PageState, plain_page}
 use Rattle.sd_pagetable.specs.Contents.{Contents, IsSound, page_at, plain_of}
 use Rattle.sd_pagetable.specs.Law.{PlainLaw}
 use Rattle.sd_pagetable.specs.Order.{IsNextPage, is_above}
@@ -264,7 +264,7 @@ has_mapped memory at =
 
 -- ---- over a memory
 
-some_plain : (o : Option Page) → is_some (option_map plain_page o) ≡ is_some o
+some_plain : (o : Option PageState) → is_some (option_map plain_page o) ≡ is_some o
 some_plain None = refl
 some_plain (Some page) = refl
 
@@ -314,9 +314,9 @@ few_ahead law contents sound after =
     let some = few_counted after (mapped_pages (plain_of contents)) in
     omega (arith, most, some)
   where
-    living : (at : Place) (page : Page) → page_at contents at.0 at.1 ≡ Some page → at.0 ≤ 16
+    living : (at : Place) (page : PageState) → page_at contents at.0 at.1 ≡ Some page → at.0 ≤ 16
     living at page e = (sound.spaces at.0 (alive_at contents.spaces at.0 at.1 (ap is_some e))).1
 
-    within : (at : Place) (o : Option Page) → page_at contents at.0 at.1 ≡ o → is_some o ≡ true → InSpaces at
+    within : (at : Place) (o : Option PageState) → page_at contents at.0 at.1 ≡ o → is_some o ≡ true → InSpaces at
     within at None e some = absurd (both_ways false refl some)
     within at (Some page) e some = (living at page e, sound.numbers at.0 at.1 page e)

@@ -10,7 +10,7 @@ use Rattle.std.specs.FinMap.{same_map, get-insert, get-empty, nat_cmp-IsAntisymm
 use Rattle.std.proofs.lemmas.Bool.{both_ways, cases_eq, cases_Bool, cond-true, cond-false}
 use Rattle.std.proofs.lemmas.Bool.Decides.{nat_tests}
 use Rattle.sd_pagetable.specs.Nested.{Nested, Table, inside, put_at, value_at}
-use Rattle.sd_pagetable.specs.Page.{Page, cleared_page}
+use Rattle.sd_pagetable.specs.Page.{PageState, cleared_page}
 use Rattle.sd_pagetable.specs.Contents.{Contents, IsSound, page_at, put_page}
 use Rattle.sd_pagetable.specs.Tracking.{Cleared, Step}
 use Rattle.sd_rounds.proofs.Clean.{no_some}
@@ -43,11 +43,11 @@ put_there nested space page x there =
     ∙ put_again nested space (inside nested space) (inside_is (finmap.get nested space) page x there)
 
 -- a clean page that is write-protected, cleared
-cleared_again : (page : Page) → page.soft_dirty ≡ false → page.writable ≡ false → cleared_page page ≡ page
+cleared_again : (page : PageState) → page.soft_dirty ≡ false → page.writable ≡ false → cleared_page page ≡ page
 cleared_again page clean protected =
     ap (λ b. record page { writable = false; soft_dirty = b }) (sym clean) ∙ ap (λ b. record page { writable = b }) (sym protected)
 
-protected : (memory : Contents) (space number : ℕ) (page : Page) → IsSound memory → page_at memory space number ≡ Some page → page.soft_dirty ≡ false → page.writable ≡ false
+protected : (memory : Contents) (space number : ℕ) (page : PageState) → IsSound memory → page_at memory space number ≡ Some page → page.soft_dirty ≡ false → page.writable ≡ false
 protected memory space number page sound there clean = by page.writable refl
   where
     by : (b : Bool) → page.writable ≡ b → b ≡ false
@@ -55,10 +55,10 @@ protected memory space number page sound there clean = by page.writable refl
     by false e = refl
 
 pub clear_of_clean : (memory : Contents) (space number : ℕ) → IsSound memory → IsSome (page_at memory space number)
-    → ((page : Page) → page_at memory space number ≡ Some page → false ≡ page.soft_dirty) → Step memory (Cleared space number) memory
+    → ((page : PageState) → page_at memory space number ≡ Some page → false ≡ page.soft_dirty) → Step memory (Cleared space number) memory
 clear_of_clean memory space number sound there bit = by (page_at memory space number) refl there
   where
-    by : (o : Option Page) → page_at memory space number ≡ o → IsSome o → Step memory (Cleared space number) memory
+    by : (o : Option PageState) → page_at memory space number ≡ o → IsSome o → Step memory (Cleared space number) memory
     by None e some = absurd (both_ways false refl some)
     by (Some page) e some =
         let clean : page.soft_dirty ≡ false = sym (bit page e) in

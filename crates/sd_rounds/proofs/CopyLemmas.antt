@@ -6,7 +6,7 @@ use Rattle.std.proofs.lemmas.Bool.{both_ways, and_parts, eqb-true}
 use Rattle.std.proofs.lemmas.List.{length-append}
 use Rattle.sd_image.specs.declared.run.RunKind.TheVariants.{Data, Parent, Zero}
 use Rattle.sd_image.specs.declared.table.SpaceTable.{SpaceTable}
-use Rattle.sd_pagetable.specs.Page.{Page, zeros}
+use Rattle.sd_pagetable.specs.Page.{PageState, zeros}
 use Rattle.sd_pagetable.specs.Contents.{Contents, page_at}
 use Rattle.sd_rounds.specs.Pass.{Place, Pass, Taking, copied_more, sector_of, with_entry}
 use Rattle.sd_rounds.specs.Rounds.{CopiesMore, CopiesZeros, IsCopied, IsCopying, IsNextSector, IsRound, TakesPage, is_page_of_zeros, pass_of, taking_of}
@@ -16,19 +16,19 @@ use Rattle.sd_rounds.proofs.Clean.{one_some}
 
 -- a sector of a page was read
 pub record WasRead (memory : Contents) (at : Place) (sector : ℕ) (bytes : List ℕ) : Type 0 where
-  pub page : Page
+  pub page : PageState
   pub there : page_at memory at.0 at.1 ≡ Some page
   pub whole : length page.bytes ≡ 4096
   pub same : bytes ≡ sector_of page.bytes sector
 
 pub was_read : (memory : Contents) (at : Place) (sector : ℕ) (bytes : List ℕ) → is_some (page_at memory at.0 at.1) ≡ true
-    → IfSome (page_at memory at.0 at.1) (λ (p : Page). length p.bytes ≡ 4096)
-    → IfSome (page_at memory at.0 at.1) (λ (p : Page). bytes ≡ slice_range p.bytes (512 * sector) (512 * sector + 512))
+    → IfSome (page_at memory at.0 at.1) (λ (p : PageState). length p.bytes ≡ 4096)
+    → IfSome (page_at memory at.0 at.1) (λ (p : PageState). bytes ≡ slice_range p.bytes (512 * sector) (512 * sector + 512))
     → WasRead memory at sector bytes
 was_read memory at sector bytes = by (page_at memory at.0 at.1) refl
   where
-    by : (o : Option Page) → page_at memory at.0 at.1 ≡ o → is_some o ≡ true → IfSome o (λ (p : Page). length p.bytes ≡ 4096)
-        → IfSome o (λ (p : Page). bytes ≡ slice_range p.bytes (512 * sector) (512 * sector + 512)) → WasRead memory at sector bytes
+    by : (o : Option PageState) → page_at memory at.0 at.1 ≡ o → is_some o ≡ true → IfSome o (λ (p : PageState). length p.bytes ≡ 4096)
+        → IfSome o (λ (p : PageState). bytes ≡ slice_range p.bytes (512 * sector) (512 * sector + 512)) → WasRead memory at sector bytes
     by None e some whole same = absurd (both_ways false refl some)
     by (Some page) e some whole same = record { page = page; there = e; whole = whole; same = same }
 

@@ -6,7 +6,7 @@ use Rattle.std.proofs.lemmas.Bool.{cases_Bool, both_ways}
 use Rattle.sd_areas.specs.PlainMemory as plain
 use Rattle.sd_image.specs.declared.run.RunKind.TheVariants.{Data, Parent, Zero}
 use Rattle.sd_pagetable.specs.Nested.{value_at}
-use Rattle.sd_pagetable.specs.Page.{Page, zeros, cleared_page, plain_page}
+use Rattle.sd_pagetable.specs.Page.{PageState, zeros, cleared_page, plain_page}
 use Rattle.sd_pagetable.specs.Contents.{Contents, page_at, plain_of}
 use Rattle.sd_pagetable.specs.Law.{ClearLaw, IsClearedAt, PlainLaw}
 use Rattle.sd_pagetable.specs.Order.{IsNextPage}
@@ -15,7 +15,7 @@ use Rattle.sd_pagetable.specs.Tracking.{Step, Cleared}
 use Rattle.sd_rounds.specs.Pass.{Place, Taking, Pass, has_passed, opened, visited, begun_to_take, left_to_parent, with_entry, copied_more, taken_as_zero}
 use Rattle.sd_rounds.specs.Keeps.{Stored, Chain, Keeps}
 use Rattle.sd_rounds.specs.Rises.{IsRising, kind_at}
-use Rattle.sd_rounds.specs.Dump.{kind_of_bytes, due, WasDue, IsDumping, IsDumped, DumpLaws}
+use Rattle.sd_rounds.specs.Dump.{kind_of_bytes, kind_due, WasDue, IsDumping, IsDumped, DumpLaws}
 use Rattle.sd_rounds.proofs.Clean.{no_some, one_some, clean_there}
 use Rattle.sd_rounds.proofs.KeepsLemmas.{none_taken, is_at, long_zeros}
 use Rattle.sd_rounds.proofs.Lists.{put_behind}
@@ -38,11 +38,11 @@ plain_at law memory cut same at =
     sym (law.pages memory at.0 at.1) ∙ ap (λ p. value_at p at.0 at.1) same ∙ law.pages cut at.0 at.1
 
 -- a page of one is a page of the other, with the same bytes
-pub other_page : PlainLaw → (memory cut : Contents) → plain_of memory ≡ plain_of cut → (at : Place) (page : Page) → page_at cut at.0 at.1 ≡ Some page
-    → (found : Page) × (page_at memory at.0 at.1 ≡ Some found) × (found.bytes ≡ page.bytes)
+pub other_page : PlainLaw → (memory cut : Contents) → plain_of memory ≡ plain_of cut → (at : Place) (page : PageState) → page_at cut at.0 at.1 ≡ Some page
+    → (found : PageState) × (page_at memory at.0 at.1 ≡ Some found) × (found.bytes ≡ page.bytes)
 other_page law memory cut same at page there = by (page_at memory at.0 at.1) (plain_at law memory cut same at ∙ ap (option_map plain_page) there)
   where
-    by : (o : Option Page) → option_map plain_page o ≡ Some (plain_page page) → (found : Page) × (o ≡ Some found) × (found.bytes ≡ page.bytes)
+    by : (o : Option PageState) → option_map plain_page o ≡ Some (plain_page page) → (found : PageState) × (o ≡ Some found) × (found.bytes ≡ page.bytes)
     by None e = absurd (no_some (plain_page page) refl e)
     by (Some found) e = (found, refl, ap (λ (p : plain.Page). p.bytes) (one_some (plain_page found) (plain_page page) refl e))
 
@@ -60,19 +60,19 @@ freezes takes_all memory = record {
 -- ---- a visit
 
 -- the page that is visited is that of the freeze
-at_freeze : (cut : Contents) (pass : Pass) (old : Contents) (at : Place) (page : Page) → IsNextPage old.spaces pass.after (Some at)
+at_freeze : (cut : Contents) (pass : Pass) (old : Contents) (at : Place) (page : PageState) → IsNextPage old.spaces pass.after (Some at)
     → page_at old at.0 at.1 ≡ Some page → IsDumping cut pass old → page_at cut at.0 at.1 ≡ Some page
 at_freeze cut pass old at page next there dumping = sym (dumping.ahead at (above_not_passed pass.after at next.1)) ∙ there
 
 -- a page that the cursor passes without visiting it isn't mapped, and has no entry
 kind_before : (cut : Contents) (pass : Pass) (old : Contents) (at q : Place) → pass.taking ≡ None → IsRising pass
     → IsNextPage old.spaces pass.after (Some at) → IsDumping cut pass old → has_passed (Some at) q ≡ true → (at ≡ q → ⊥)
-    → kind_at pass.entries q ≡ due pass.takes_all (page_at cut q.0 q.1)
+    → kind_at pass.entries q ≡ kind_due pass.takes_all (page_at cut q.0 q.1)
 kind_before cut pass old at q none rising next dumping passed apart = elim (cases_Bool (has_passed pass.after q)) [
   | inl before ↦ dumping.kinds q before (none_taken pass q none)
   | inr ahead ↦ elim (some_or_none (page_at old q.0 q.1)) [
     | inl gone ↦ missing pass.entries q rising.rises (rising.ahead q ahead)
-        ∙ ap (due pass.takes_all) (sym gone ∙ dumping.ahead q ahead)
+        ∙ ap (kind_due pass.takes_all) (sym gone ∙ dumping.ahead q ahead)
     | inr found ↦ elim (passed_next old.spaces pass.after at q next (is_some_at (page_at old q.0 q.1) found.0 found.1) passed) [
       | inl e ↦ absurd (apart e)
       | inr before ↦ absurd (both_ways (has_passed pass.after q) ahead before)
@@ -81,7 +81,7 @@ kind_before cut pass old at q none rising next dumping passed apart = elim (case
 ]
 
 -- what a visit does to the memory
-pub record Visits (cut old new : Contents) (pass : Pass) (at : Place) (page : Page) : Type 0 where
+pub record Visits (cut old new : Contents) (pass : Pass) (at : Place) (page : PageState) : Type 0 where
   pub none : pass.taking ≡ None
   pub rising : IsRising pass
   pub next : IsNextPage old.spaces pass.after (Some at)
@@ -90,19 +90,19 @@ pub record Visits (cut old new : Contents) (pass : Pass) (at : Place) (page : Pa
   pub same : plain_of new ≡ plain_of old
   pub dumping : IsDumping cut pass old
 
-ahead_visited : (cut old new : Contents) (pass : Pass) (at : Place) (page : Page) → Visits cut old new pass at page → (q : Place) → has_passed (Some at) q ≡ false
+ahead_visited : (cut old new : Contents) (pass : Pass) (at : Place) (page : PageState) → Visits cut old new pass at page → (q : Place) → has_passed (Some at) q ≡ false
     → page_at new q.0 q.1 ≡ page_at cut q.0 q.1
 ahead_visited cut old new pass at page v q ahead =
     let apart : at ≡ q → ⊥ = λ e. both_ways (has_passed (Some at) q) ahead (subst (λ (p : Place). has_passed (Some at) p ≡ true) e (passed_here at)) in
     v.cleared.others q.0 q.1 (apart_page at q apart) ∙ v.dumping.ahead q (ahead_more pass.after at q v.next.1 ahead)
 
-behind_visited : (cut old new : Contents) (pass : Pass) (at : Place) (page : Page) → Visits cut old new pass at page → (q : Place) (found : Page) → has_passed (Some at) q ≡ true
+behind_visited : (cut old new : Contents) (pass : Pass) (at : Place) (page : PageState) → Visits cut old new pass at page → (q : Place) (found : PageState) → has_passed (Some at) q ≡ true
     → page_at new q.0 q.1 ≡ Some found → found.soft_dirty ≡ false
 behind_visited cut old new pass at page v q found passed there = elim (same_or_apart at q) [
   | inl e ↦
       let now : page_at new q.0 q.1 ≡ Some (cleared_page page) =
       subst (λ (p : Place). page_at new p.0 p.1 ≡ Some (cleared_page page)) e (v.cleared.here ∙ ap (option_map cleared_page) v.there) in
-      ap (λ (p : Page). p.soft_dirty) (one_some found (cleared_page page) there now)
+      ap (λ (p : PageState). p.soft_dirty) (one_some found (cleared_page page) there now)
   | inr apart ↦
       let before : page_at old q.0 q.1 ≡ Some found = sym (v.cleared.others q.0 q.1 (apart_page at q apart)) ∙ there in
       elim (passed_next old.spaces pass.after at q v.next (is_some_at (page_at old q.0 q.1) found before) passed) [
@@ -111,7 +111,7 @@ behind_visited cut old new pass at page v q found passed there = elim (same_or_a
       ]
 ]
 
-visit_takes : (cut old new : Contents) (pass : Pass) (at : Place) (page : Page) → Visits cut old new pass at page → (pass.takes_all || page.soft_dirty) ≡ true
+visit_takes : (cut old new : Contents) (pass : Pass) (at : Place) (page : PageState) → Visits cut old new pass at page → (pass.takes_all || page.soft_dirty) ≡ true
     → IsDumping cut (begun_to_take pass at) new
 visit_takes cut old new pass at page v takes = record {
   plain = v.same ∙ v.dumping.plain;
@@ -125,23 +125,23 @@ visit_takes cut old new pass at page v takes = record {
       (record { page = page; there = at_freeze cut pass old at page v.next v.there v.dumping; is = takes });
 }
 
-visit_leaves : (cut old new : Contents) (pass : Pass) (at : Place) (page : Page) → Visits cut old new pass at page → (pass.takes_all || page.soft_dirty) ≡ false
+visit_leaves : (cut old new : Contents) (pass : Pass) (at : Place) (page : PageState) → Visits cut old new pass at page → (pass.takes_all || page.soft_dirty) ≡ false
     → IsDumping cut (left_to_parent pass at) new
 visit_leaves cut old new pass at page v leaves = record {
   plain = v.same ∙ v.dumping.plain;
   ahead = ahead_visited cut old new pass at page v;
   behind = behind_visited cut old new pass at page v;
   kinds = λ q passed untaken. elim (same_or_apart at q) [
-    | inl e ↦ subst (λ (p : Place). kind_at (put_behind pass.entries at Parent) p ≡ due pass.takes_all (page_at cut p.0 p.1)) e
+    | inl e ↦ subst (λ (p : Place). kind_at (put_behind pass.entries at Parent) p ≡ kind_due pass.takes_all (page_at cut p.0 p.1)) e
         (kind_put_here pass.entries at Parent (missing pass.entries at v.rising.rises (v.rising.ahead at (above_not_passed pass.after at v.next.1)))
-        ∙ sym (ap (due pass.takes_all) (at_freeze cut pass old at page v.next v.there v.dumping)
+        ∙ sym (ap (kind_due pass.takes_all) (at_freeze cut pass old at page v.next v.there v.dumping)
         ∙ ap (λ b. Some (cond b (kind_of_bytes page.bytes) Parent)) leaves))
     | inr apart ↦ kind_put_other pass.entries at q Parent apart ∙ kind_before cut pass old at q v.none v.rising v.next v.dumping passed apart
   ];
   taken = λ taking is. absurd (no_some taking refl is);
 }
 
-visits : ClearLaw → (cut : Contents) (pass : Pass) (old new : Contents) (at : Place) (page : Page) → pass.taking ≡ None → IsRising pass
+visits : ClearLaw → (cut : Contents) (pass : Pass) (old new : Contents) (at : Place) (page : PageState) → pass.taking ≡ None → IsRising pass
     → IsNextPage old.spaces pass.after (Some at) → page_at old at.0 at.1 ≡ Some page → Step old (Cleared at.0 at.1) new → plain_of new ≡ plain_of old
     → IsDumping cut pass old → IsDumping cut (visited pass at page.soft_dirty) new
 visits law cut pass old new at page none rising next there step same dumping = by (pass.takes_all || page.soft_dirty) refl
@@ -196,7 +196,7 @@ enters_same cut pass memory taking is rising dumping was same = record {
   ahead = dumping.ahead;
   behind = dumping.behind;
   kinds = λ q passed _. elim (same_or_apart taking.place q) [
-    | inl e ↦ subst (λ (p : Place). kind_at (put_behind pass.entries taking.place (kind_of_bytes taking.copied)) p ≡ due pass.takes_all (page_at cut p.0 p.1)) e
+    | inl e ↦ subst (λ (p : Place). kind_at (put_behind pass.entries taking.place (kind_of_bytes taking.copied)) p ≡ kind_due pass.takes_all (page_at cut p.0 p.1)) e
         (kind_put_here pass.entries taking.place (kind_of_bytes taking.copied) (missing pass.entries taking.place rising.rises (rising.taken taking is).1) ∙ sym is_due)
     | inr apart ↦ kind_put_other pass.entries taking.place q (kind_of_bytes taking.copied) apart
         ∙ dumping.kinds q passed (λ other taken. apart (is_at pass q taking other is taken))
@@ -204,8 +204,8 @@ enters_same cut pass memory taking is rising dumping was same = record {
   taken = λ other t. absurd (no_some other refl t);
 }
   where
-    is_due : due pass.takes_all (page_at cut taking.place.0 taking.place.1) ≡ Some (kind_of_bytes taking.copied)
-    is_due = ap (due pass.takes_all) was.there ∙ ap (λ b. Some (cond b (kind_of_bytes was.page.bytes) Parent)) was.is
+    is_due : kind_due pass.takes_all (page_at cut taking.place.0 taking.place.1) ≡ Some (kind_of_bytes taking.copied)
+    is_due = ap (kind_due pass.takes_all) was.there ∙ ap (λ b. Some (cond b (kind_of_bytes was.page.bytes) Parent)) was.is
         ∙ ap (λ (b : List ℕ). Some (kind_of_bytes b)) (sym same)
 
 enters : PlainLaw → (stored : Stored) (chain : Chain) (cut : Contents) (pass : Pass) (memory : Contents) (taking : Taking) → pass.taking ≡ Some taking → IsRising pass
@@ -232,11 +232,11 @@ enters_zero law stored chain cut pass memory taking is rising zeroed keeps dumpi
 -- ---- the end
 
 pub ends_ways : (cut : Contents) (pass : Pass) (memory : Contents) → pass.taking ≡ None → IsRising pass
-    → IsNextPage memory.spaces pass.after None → IsDumping cut pass memory → (at : Place) → kind_at pass.entries at ≡ due pass.takes_all (page_at cut at.0 at.1)
+    → IsNextPage memory.spaces pass.after None → IsDumping cut pass memory → (at : Place) → kind_at pass.entries at ≡ kind_due pass.takes_all (page_at cut at.0 at.1)
 ends_ways cut pass memory none rising next dumping at = elim (cases_Bool (has_passed pass.after at)) [
   | inl passed ↦ dumping.kinds at passed (none_taken pass at none)
   | inr ahead ↦ elim (some_or_none (page_at memory at.0 at.1)) [
-    | inl gone ↦ missing pass.entries at rising.rises (rising.ahead at ahead) ∙ ap (due pass.takes_all) (sym gone ∙ dumping.ahead at ahead)
+    | inl gone ↦ missing pass.entries at rising.rises (rising.ahead at ahead) ∙ ap (kind_due pass.takes_all) (sym gone ∙ dumping.ahead at ahead)
     | inr found ↦ absurd (both_ways (has_passed pass.after at) ahead (passed_all memory.spaces pass.after at next (is_some_at (page_at memory at.0 at.1) found.0 found.1)))
   ]
 ]

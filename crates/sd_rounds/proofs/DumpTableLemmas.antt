@@ -14,7 +14,7 @@ use Rattle.sd_image.specs.declared.run.RunKind.{RunKind}
 use Rattle.sd_image.specs.Shows.{page_in}
 use Rattle.sd_image.specs.Table.{AreRuns, Listed, is_run_after, run_pages}
 use Rattle.sd_pagetable.specs.Tracking.{is_page}
-use Rattle.sd_rounds.specs.Pass.{Place, Entry}
+use Rattle.sd_rounds.specs.Pass.{Place, ImageEntry}
 use Rattle.sd_rounds.specs.Made.{entries_listed, run_entries}
 use Rattle.sd_rounds.specs.Rises.{kind_at}
 use Rattle.sd_rounds.specs.SpaceTables.{IsSpaceOf, Rise, runs_in}
@@ -23,7 +23,7 @@ use Rattle.sd_rounds.proofs.RisingNumbers.{Between, between_append, between_low,
 
 -- ---- Which pages entries have
 
-pub kind_append : (one other : List Entry) (at : Place) → is_some (kind_at (one ++ other) at) ≡ (is_some (kind_at one at) || is_some (kind_at other at))
+pub kind_append : (one other : List ImageEntry) (at : Place) → is_some (kind_at (one ++ other) at) ≡ (is_some (kind_at one at) || is_some (kind_at other at))
 kind_append [] other at = refl
 kind_append (e ∷ one) other at = by (is_page e.place.0 e.place.1 at.0 at.1) (kind_append one other at)
   where
@@ -238,7 +238,7 @@ all_listed parent before (t ∷ source) (s ∷ tables) are rise have among = eli
         ap (λ (r : List Run). flat_map (run_entries s.space) r ++ entries_listed tables)
         (have.0 ∙ ap (λ b. if b then t.runs else runs_in source s.space) (ap (nat_eq t.space) e ∙ same_number t.space))
         ∙ ap (λ n. flat_map (run_entries n) t.runs ++ entries_listed tables) e
-        ∙ ap (λ (l : List Entry). flat_map (run_entries t.space) t.runs ++ l) tail
+        ∙ ap (λ (l : List ImageEntry). flat_map (run_entries t.space) t.runs ++ l) tail
       where
         same_number : (a : ℕ) → nat_eq a a ≡ true
         same_number a = grind (arith, nat_tests)

@@ -23,7 +23,7 @@ use Rattle.std.specs.declared.alloc.AllocError.{AllocError}
 use Rattle.sd_rounds.specs.declared.stage.Stage.TheVariants.{Format, Freeze, Pass as PassStage, Close}
 use Rattle.sd_rounds.specs.Dumper.{AreRunning, AreCounted, Dumping, Hands, HandsTo, IsHanded, HasCounted, IsCounted, IsItsImage, IsRunning, Running, WorksOn, counted, ends, freezes, image_from, is_frozen_image, is_strange, order_of, running_of}
 use Rattle.sd_gate.specs.PlanUse.{outcomes_of}
-use Rattle.sd_rounds.specs.Making.{GoesOn, IsWritten, Making, Steps, closing, is_frozen, is_past_freeze, outcomes_left, plan_of, stage_after, stage_behind, with_plan}
+use Rattle.sd_rounds.specs.Making.{IsWritten, Making, PlanGoesOn, Steps, closing_outcomes, is_frozen_dump, is_past_freeze, outcomes_left, plan_of, stage_after, stage_behind, with_plan}
 use Rattle.sd_rounds.specs.Pass.{data_pages}
 use Rattle.sd_rounds.specs.PlanSteps.{is_freeze, is_to_freeze}
 use Rattle.sd_rounds.specs.Writes.{writes_out}
@@ -35,13 +35,13 @@ use Rattle.sd_rounds.proofs.WriteLemmas.{none_count, put_count, take_count}
 
 -- an image that counts, where the memory is frozen
 Counts : ℕ → Making → Type 0
-Counts since image = is_frozen image ≡ true → IsCounted since image
+Counts since image = is_frozen_dump image ≡ true → IsCounted since image
 
-from_counts : (since : ℕ) (running : Running) (serial : ℕ) (state : SlotState) → IsRunning since running → is_frozen (image_from running serial state running.image) ≡ true
+from_counts : (since : ℕ) (running : Running) (serial : ℕ) (state : SlotState) → IsRunning since running → is_frozen_dump (image_from running serial state running.image) ≡ true
     → IsCounted since (image_from running serial state running.image)
 from_counts since running serial state is = by running.image is.counts
   where
-    by : (image : Option Making) → AreCounted since image → is_frozen (image_from running serial state image) ≡ true → IsCounted since (image_from running serial state image)
+    by : (image : Option Making) → AreCounted since image → is_frozen_dump (image_from running serial state image) ≡ true → IsCounted since (image_from running serial state image)
     by None counts frozen = absurd (both_ways false refl (sym (never (nat_eq (kind_number (order_of running serial state).kind) 2)) ∙ frozen))
       where
         never : (b : Bool) → (b && false) ≡ false
@@ -68,7 +68,7 @@ past_with Freeze plan = refl
 past_with PassStage plan = refl
 past_with (Close old header tables) plan = refl
 
-closing_with : (stage : Stage) (plan : Planned) → closing (with_plan stage plan) ≡ closing stage
+closing_with : (stage : Stage) (plan : Planned) → closing_outcomes (with_plan stage plan) ≡ closing_outcomes stage
 closing_with (Format old) plan = refl
 closing_with Freeze plan = refl
 closing_with PassStage plan = refl
@@ -90,12 +90,12 @@ left_with (Close o header tables) old plan e = refl
 pass_count : (since : ℕ) (image : Making) → image.stage ≡ PassStage → IsCounted since image → since + writes_out image.writes ≡ data_pages image.pass.entries
 pass_count since image stage is =
     let left : outcomes_left image.stage ≡ 0 = ap outcomes_left stage in
-    let none : closing image.stage ≡ 0 = ap closing stage in
-    let all : since + outcomes_left image.stage + writes_out image.writes ≡ data_pages image.pass.entries + closing image.stage = is.count in
+    let none : closing_outcomes image.stage ≡ 0 = ap closing_outcomes stage in
+    let all : since + outcomes_left image.stage + writes_out image.writes ≡ data_pages image.pass.entries + closing_outcomes image.stage = is.count in
     omega arith
 
 frozen_pass : (image : Making) (order : ImageOrder) (stage : Stage) → image.stage ≡ PassStage → image.order ≡ order → is_past_freeze stage ≡ true
-    → ((nat_eq (kind_number order.kind) 2) && is_past_freeze stage) ≡ true → is_frozen image ≡ true
+    → ((nat_eq (kind_number order.kind) 2) && is_past_freeze stage) ≡ true → is_frozen_dump image ≡ true
 frozen_pass image order stage is same past frozen =
     ap (λ (o : ImageOrder). nat_eq (kind_number o.kind) 2 && is_past_freeze image.stage) same
     ∙ ap (λ b. nat_eq (kind_number order.kind) 2 && b) (ap is_past_freeze is ∙ sym past) ∙ frozen
@@ -103,20 +103,20 @@ frozen_pass image order stage is same past frozen =
 -- what a step leaves of the order and the counts
 pub record Leaves (since : ℕ) (old : Making) (step : ImageStep) (new : Making) : Type 0 where
   pub order : new.order ≡ old.order
-  pub counts : is_frozen new ≡ true → IsCounted (if freezes step then 0 else since) new
+  pub counts : is_frozen_dump new ≡ true → IsCounted (if freezes step then 0 else since) new
 
 step_leaves : (since ticket : ℕ) (old new : Making) (before after : Contents) (step : ImageStep) → Steps ticket old before step new after
-    → (is_frozen old ≡ true → IsCounted since old) → Leaves since old step new
+    → (is_frozen_dump old ≡ true → IsCounted since old) → Leaves since old step new
 step_leaves since ticket old new before after (Call request) s was = record {
   order = ap (λ (m : Making). m.order) s.0.is;
   counts = λ frozen. subst (λ (m : Making). IsCounted since m) (sym s.0.is) (record {
     count =
-        let w = was (sym (ap (λ b. nat_eq (kind_number old.order.kind) 2 && b) (past_with old.stage s.0.next)) ∙ ap is_frozen (sym s.0.is) ∙ frozen) in
-        let all : since + outcomes_left old.stage + writes_out old.writes ≡ data_pages old.pass.entries + closing old.stage = w.count in
+        let w = was (sym (ap (λ b. nat_eq (kind_number old.order.kind) 2 && b) (past_with old.stage s.0.next)) ∙ ap is_frozen_dump (sym s.0.is) ∙ frozen) in
+        let all : since + outcomes_left old.stage + writes_out old.writes ≡ data_pages old.pass.entries + closing_outcomes old.stage = w.count in
         let left : outcomes_left old.stage ≡ outcomes_of s.0.plan = left_of old.stage s.0.plan s.0.was in
         let now : outcomes_left (with_plan old.stage s.0.next) ≡ outcomes_of s.0.next = left_with old.stage s.0.plan s.0.next s.0.was in
         let same : outcomes_of s.0.next ≡ outcomes_of s.0.plan = gives_same s.0.plan s.0.next request s.0.gives in
-        let close : closing (with_plan old.stage s.0.next) ≡ closing old.stage = closing_with old.stage s.0.next in
+        let close : closing_outcomes (with_plan old.stage s.0.next) ≡ closing_outcomes old.stage = closing_with old.stage s.0.next in
         omega arith;
   });
 }
@@ -127,7 +127,7 @@ step_leaves since ticket old new before after (PageCall lane request) s was = re
         let w = was (frozen_pass old new.order new.stage s.0.stage (sym s.0.order) (ap is_past_freeze s.0.still) frozen) in
         let all : since + writes_out old.writes ≡ data_pages old.pass.entries = pass_count since old s.0.stage w in
         let left : outcomes_left new.stage ≡ 0 = ap outcomes_left s.0.still in
-        let none : closing new.stage ≡ 0 = ap closing s.0.still in
+        let none : closing_outcomes new.stage ≡ 0 = ap closing_outcomes s.0.still in
         let out : writes_out new.writes ≡ writes_out old.writes + 1 = ap writes_out s.0.writes ∙ put_count old.writes lane request.id s.0.free in
         let more : data_pages new.pass.entries ≡ data_pages old.pass.entries + 1 = take_counts old.pass request.bytes new.pass s.0.taken in
         omega arith;
@@ -137,7 +137,7 @@ step_leaves since ticket old new before after (TableCall request) s was = record
   order = ap (λ (m : Making). m.order) s.0.is;
   counts = λ frozen. subst (λ (m : Making). IsCounted since m) (sym s.0.is) (record {
     count =
-        let w = was (frozen_pass old old.order (Close s.0.next s.0.header s.0.tables) s.0.stage refl refl (ap is_frozen (sym s.0.is) ∙ frozen)) in
+        let w = was (frozen_pass old old.order (Close s.0.next s.0.header s.0.tables) s.0.stage refl refl (ap is_frozen_dump (sym s.0.is) ∙ frozen)) in
         let all : since + writes_out old.writes ≡ data_pages old.pass.entries = pass_count since old s.0.stage w in
         let five : outcomes_of s.0.next ≡ 5 = gives_same _ s.0.next request s.0.gives in
         omega arith;
@@ -161,7 +161,7 @@ step_leaves since ticket old new before after (Visited visit) s was = record {
         let all : since + writes_out old.writes ≡ data_pages old.pass.entries = pass_count since old s.passes.0 w in
         let out : writes_out new.writes ≡ writes_out old.writes = ap (λ (m : Making). writes_out m.writes) s.passes.1 in
         let left : outcomes_left new.stage ≡ 0 = ap outcomes_left stage in
-        let none : closing new.stage ≡ 0 = ap closing stage in
+        let none : closing_outcomes new.stage ≡ 0 = ap closing_outcomes stage in
         let same : data_pages new.pass.entries ≡ data_pages old.pass.entries = visit_counts old.pass before visit new.pass after s.tests in
         omega arith;
   };
@@ -175,7 +175,7 @@ step_leaves since ticket old new before after (Copied c) s was = record {
         let all : since + writes_out old.writes ≡ data_pages old.pass.entries = pass_count since old s.0.passes.0 w in
         let out : writes_out new.writes ≡ writes_out old.writes = ap (λ (m : Making). writes_out m.writes) s.0.passes.1 in
         let left : outcomes_left new.stage ≡ 0 = ap outcomes_left stage in
-        let none : closing new.stage ≡ 0 = ap closing stage in
+        let none : closing_outcomes new.stage ≡ 0 = ap closing_outcomes stage in
         let same : data_pages new.pass.entries ≡ data_pages old.pass.entries = copy_counts old.pass before c new.pass s.0.copies in
         omega arith;
   };
@@ -194,11 +194,11 @@ works_running since serial state ticket old new before after step is works =
 -- ---- an outcome
 
 -- a dump is frozen behind its format
-hands_leaves : (since : ℕ) (old new : Making) (made : Made) → GoesOn old made new → (is_frozen old ≡ true → IsCounted since old)
-    → is_frozen new ≡ true → IsCounted (if is_frozen old then since + 1 else since) new
+hands_leaves : (since : ℕ) (old new : Making) (made : Made) → PlanGoesOn old made new → (is_frozen_dump old ≡ true → IsCounted since old)
+    → is_frozen_dump new ≡ true → IsCounted (if is_frozen_dump old then since + 1 else since) new
 hands_leaves since old new made g was frozen =
-    subst (λ (m : Making). IsCounted (if is_frozen old then since + 1 else since) m) (sym g.is)
-    (by old.stage refl (plan_after g.plan made).calls refl (ap is_frozen (sym g.is) ∙ frozen))
+    subst (λ (m : Making). IsCounted (if is_frozen_dump old then since + 1 else since) m) (sym g.is)
+    (by old.stage refl (plan_after g.plan made).calls refl (ap is_frozen_dump (sym g.is) ∙ frozen))
   where
     never : (b : Bool) → (b && false) ≡ true → ⊥
     never true e = both_ways false refl e
@@ -208,26 +208,26 @@ hands_leaves since old new made g was frozen =
     one = g.one
 
     counted_more : (stage : Stage) → old.stage ≡ stage → is_past_freeze stage ≡ true → nat_eq (kind_number old.order.kind) 2 ≡ true
-        → (since + outcomes_left stage + writes_out old.writes ≡ data_pages old.pass.entries + closing stage) × (◌≡◌ {A = ℕ} (if is_frozen old then since + 1 else since) (since + 1))
+        → (since + outcomes_left stage + writes_out old.writes ≡ data_pages old.pass.entries + closing_outcomes stage) × (◌≡◌ {A = ℕ} (if is_frozen_dump old then since + 1 else since) (since + 1))
     counted_more stage e past kind =
-        let is : is_frozen old ≡ true = ap (λ b. b && is_past_freeze old.stage) kind ∙ ap is_past_freeze e ∙ past in (
-          subst (λ (s : Stage). since + outcomes_left s + writes_out old.writes ≡ data_pages old.pass.entries + closing s) e (was is).count,
+        let is : is_frozen_dump old ≡ true = ap (λ b. b && is_past_freeze old.stage) kind ∙ ap is_past_freeze e ∙ past in (
+          subst (λ (s : Stage). since + outcomes_left s + writes_out old.writes ≡ data_pages old.pass.entries + closing_outcomes s) e (was is).count,
           ap (λ b. if b then since + 1 else since) is,
         )
 
     by : (stage : Stage) → old.stage ≡ stage → (calls : Calls) → (plan_after g.plan made).calls ≡ calls
-        → is_frozen (record old { stage = stage_after old.order.kind old.stage (plan_after g.plan made) (plan_after g.plan made).calls }) ≡ true
-        → IsCounted (if is_frozen old then since + 1 else since) (record old { stage = stage_after old.order.kind old.stage (plan_after g.plan made) (plan_after g.plan made).calls })
+        → is_frozen_dump (record old { stage = stage_after old.order.kind old.stage (plan_after g.plan made) (plan_after g.plan made).calls }) ≡ true
+        → IsCounted (if is_frozen_dump old then since + 1 else since) (record old { stage = stage_after old.order.kind old.stage (plan_after g.plan made) (plan_after g.plan made).calls })
     by stage e calls f frozen =
-        subst (λ (s : Stage). IsCounted (if is_frozen old then since + 1 else since) (record old { stage = stage_after old.order.kind s (plan_after g.plan made) (plan_after g.plan made).calls })) (sym e)
-        (subst (λ (c : Calls). IsCounted (if is_frozen old then since + 1 else since) (record old { stage = stage_after old.order.kind stage (plan_after g.plan made) c })) (sym f)
+        subst (λ (s : Stage). IsCounted (if is_frozen_dump old then since + 1 else since) (record old { stage = stage_after old.order.kind s (plan_after g.plan made) (plan_after g.plan made).calls })) (sym e)
+        (subst (λ (c : Calls). IsCounted (if is_frozen_dump old then since + 1 else since) (record old { stage = stage_after old.order.kind stage (plan_after g.plan made) c })) (sym f)
         (cases stage e calls f
-        (sym (ap (λ (s : Stage). is_frozen (record old { stage = stage_after old.order.kind s (plan_after g.plan made) (plan_after g.plan made).calls })) e
-        ∙ ap (λ (c : Calls). is_frozen (record old { stage = stage_after old.order.kind stage (plan_after g.plan made) c })) f) ∙ frozen)))
+        (sym (ap (λ (s : Stage). is_frozen_dump (record old { stage = stage_after old.order.kind s (plan_after g.plan made) (plan_after g.plan made).calls })) e
+        ∙ ap (λ (c : Calls). is_frozen_dump (record old { stage = stage_after old.order.kind stage (plan_after g.plan made) c })) f) ∙ frozen)))
       where
         cases : (stage : Stage) → old.stage ≡ stage → (calls : Calls) → (plan_after g.plan made).calls ≡ calls
-            → is_frozen (record old { stage = stage_after old.order.kind stage (plan_after g.plan made) calls }) ≡ true
-            → IsCounted (if is_frozen old then since + 1 else since) (record old { stage = stage_after old.order.kind stage (plan_after g.plan made) calls })
+            → is_frozen_dump (record old { stage = stage_after old.order.kind stage (plan_after g.plan made) calls }) ≡ true
+            → IsCounted (if is_frozen_dump old then since + 1 else since) (record old { stage = stage_after old.order.kind stage (plan_after g.plan made) calls })
         cases (Format plan) e [] f frozen = absurd (behind old.order.kind frozen)
           where
             behind : (kind : Kind) → (nat_eq (kind_number kind) 2 && is_past_freeze (stage_behind kind (Format plan))) ≡ true → ⊥
@@ -237,43 +237,43 @@ hands_leaves since old new made g was frozen =
         cases (Format plan) e (call ∷ calls) f frozen = absurd (never (nat_eq (kind_number old.order.kind) 2) frozen)
         cases Freeze e calls f frozen = absurd (let n : None ≡ Some g.plan = ap plan_of (sym e) ∙ g.awaited.was in cc)
         cases PassStage e calls f frozen = absurd (let n : None ≡ Some g.plan = ap plan_of (sym e) ∙ g.awaited.was in cc)
-        cases (Close plan header tables) e [] f frozen = absurd (g.closes (λ z. (let y : closing old.stage ≡ 5 = ap closing e in omega (arith, z, y))) f)
+        cases (Close plan header tables) e [] f frozen = absurd (g.closes (λ z. (let y : closing_outcomes old.stage ≡ 5 = ap closing_outcomes e in omega (arith, z, y))) f)
         cases (Close plan header tables) e (call ∷ calls) f frozen =
             let w = counted_more (Close plan header tables) e refl (and_parts (nat_eq (kind_number old.order.kind) 2) true frozen).0 in
             let left : outcomes_of plan ≡ outcomes_of g.plan = left_of (Close plan header tables) g.plan (ap plan_of (sym e) ∙ g.awaited.was) in
             let all : since + outcomes_of plan + writes_out old.writes ≡ data_pages old.pass.entries + 5 = w.0 in
-            let now : (if is_frozen old then since + 1 else since) ≡ since + 1 = w.1 in
+            let now : (if is_frozen_dump old then since + 1 else since) ≡ since + 1 = w.1 in
             record { count = omega arith }
 
 -- the write of a data page is counted too
-written_leaves : (since : ℕ) (old new : Making) (made : Made) → IsWritten old made new → (is_frozen old ≡ true → IsCounted since old)
-    → is_frozen new ≡ true → IsCounted (if is_frozen old then since + 1 else since) new
+written_leaves : (since : ℕ) (old new : Making) (made : Made) → IsWritten old made new → (is_frozen_dump old ≡ true → IsCounted since old)
+    → is_frozen_dump new ≡ true → IsCounted (if is_frozen_dump old then since + 1 else since) new
 written_leaves since old new made w was frozen =
-    subst (λ (m : Making). IsCounted (if is_frozen old then since + 1 else since) m) (sym w.is) (record {
+    subst (λ (m : Making). IsCounted (if is_frozen_dump old then since + 1 else since) m) (sym w.is) (record {
       count =
-          let is : is_frozen old ≡ true = ap is_frozen (sym w.is) ∙ frozen in
-          let all : since + outcomes_left old.stage + writes_out old.writes ≡ data_pages old.pass.entries + closing old.stage = (was is).count in
-          let now : (if is_frozen old then since + 1 else since) ≡ since + 1 = ap (λ b. if b then since + 1 else since) is in
+          let is : is_frozen_dump old ≡ true = ap is_frozen_dump (sym w.is) ∙ frozen in
+          let all : since + outcomes_left old.stage + writes_out old.writes ≡ data_pages old.pass.entries + closing_outcomes old.stage = (was is).count in
+          let now : (if is_frozen_dump old then since + 1 else since) ≡ since + 1 = ap (λ b. if b then since + 1 else since) is in
           let out : writes_out (slice_set old.writes w.lane None) + 1 ≡ writes_out old.writes = take_count old.writes w.lane made.request.id w.out in
           omega arith;
     })
 
-more_leaves : (since : ℕ) (old new : Making) (made : Made) → GoesOn old made new ⊎ IsWritten old made new → (is_frozen old ≡ true → IsCounted since old)
-    → is_frozen new ≡ true → IsCounted (if is_frozen old then since + 1 else since) new
+more_leaves : (since : ℕ) (old new : Making) (made : Made) → PlanGoesOn old made new ⊎ IsWritten old made new → (is_frozen_dump old ≡ true → IsCounted since old)
+    → is_frozen_dump new ≡ true → IsCounted (if is_frozen_dump old then since + 1 else since) new
 more_leaves since old new made (inl g) was frozen = hands_leaves since old new made g was frozen
 more_leaves since old new made (inr w) was frozen = written_leaves since old new made w was frozen
 
-more_order : (old new : Making) (made : Made) → GoesOn old made new ⊎ IsWritten old made new → new.order ≡ old.order
+more_order : (old new : Making) (made : Made) → PlanGoesOn old made new ⊎ IsWritten old made new → new.order ≡ old.order
 more_order old new made (inl g) = ap (λ (m : Making). m.order) g.is
 more_order old new made (inr w) = ap (λ (m : Making). m.order) w.is
 
-image_counts : (since : ℕ) (running : Running) (image : Making) → running.image ≡ Some image → IsRunning since running → is_frozen image ≡ true → IsCounted since image
+image_counts : (since : ℕ) (running : Running) (image : Making) → running.image ≡ Some image → IsRunning since running → is_frozen_dump image ≡ true → IsCounted since image
 image_counts since running image e is = subst (AreCounted since) e is.counts
 
 image_own : (since : ℕ) (running : Running) (image : Making) → running.image ≡ Some image → IsRunning since running → image.order ≡ order_of running image.order.serial image.order.state
 image_own since running image e is = subst (IsItsImage running) e is.own
 
-counted_is : (since : ℕ) (running : Running) (image : Making) → running.image ≡ Some image → counted running since ≡ (if is_frozen image then since + 1 else since)
+counted_is : (since : ℕ) (running : Running) (image : Making) → running.image ≡ Some image → counted running since ≡ (if is_frozen_dump image then since + 1 else since)
 counted_is since running image e = ap (λ (o : Option Making). if is_frozen_image o then since + 1 else since) e
 
 -- a checkpoint that goes on
@@ -312,13 +312,13 @@ hands_counted since old new made (DumpOpen opened) is hands =
     let kind : nat_eq (kind_number image.order.kind) 2 ≡ true =
     ap (λ (r : ImageOrder). nat_eq (kind_number r.kind) 2) (image_own since old image hands.0.was is)
     ∙ ap (λ b. nat_eq (kind_number (if b then Dump else PreDump)) 2) hands.1 in
-    let frozen : is_frozen image ≡ true = ap (λ b. b && is_past_freeze image.stage) kind ∙ ap is_past_freeze o.was in
+    let frozen : is_frozen_dump image ≡ true = ap (λ b. b && is_past_freeze image.stage) kind ∙ ap is_past_freeze o.was in
     let w : IsCounted since image = image_counts since old image hands.0.was is frozen in
     let left : outcomes_left image.stage ≡ outcomes_of o.plan = ap outcomes_left o.was in
-    let five : closing image.stage ≡ 5 = ap closing o.was in
+    let five : closing_outcomes image.stage ≡ 5 = ap closing_outcomes o.was in
     let none : outcomes_of (plan_after o.plan made) ≡ 0 = ap (λ (c : Calls). length c + 0) o.last in
     let one : outcomes_of (plan_after o.plan made) + 1 ≡ outcomes_of o.plan = o.one in
-    let all : since + outcomes_left image.stage + writes_out image.writes ≡ data_pages image.pass.entries + closing image.stage = w.count in
+    let all : since + outcomes_left image.stage + writes_out image.writes ≡ data_pages image.pass.entries + closing_outcomes image.stage = w.count in
     let out : writes_out image.writes ≡ 0 = none_count image.writes o.rests in
     let pages : opened.header.pages ≡ data_pages image.pass.entries = o.pages in
     let now : counted old since ≡ since + 1 = counted_is since old image hands.0.was ∙ ap (λ b. if b then since + 1 else since) frozen in

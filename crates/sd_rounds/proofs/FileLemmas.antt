@@ -19,18 +19,18 @@ use Rattle.sd_gate.specs.Sequences.{Calls}
 use Rattle.sd_pagetable.specs.Contents.{Contents, page_at, plain_of}
 use Rattle.sd_pagetable.specs.Law.{PlainLaw}
 use Rattle.sd_pagetable.specs.Nested.{value_at}
-use Rattle.sd_pagetable.specs.Page.{Page, plain_page}
+use Rattle.sd_pagetable.specs.Page.{PageState, plain_page}
 use Rattle.sd_rounds.specs.declared.image_order.ImageOrder.{ImageOrder}
 use Rattle.sd_rounds.specs.declared.image_progress.ImageProgress.TheVariants.{More}
 use Rattle.sd_rounds.specs.declared.image_step.ImageStep.TheVariants.{Call, TableCall}
 use Rattle.sd_rounds.specs.declared.new_image.NewImage.{NewImage}
 use Rattle.sd_rounds.specs.declared.stage.Stage.{Stage}
 use Rattle.sd_rounds.specs.declared.stage.Stage.TheVariants.{Format, Freeze, Pass as PassStage, Close}
-use Rattle.sd_rounds.specs.Dump.{IsDumped, due}
+use Rattle.sd_rounds.specs.Dump.{IsDumped, kind_due}
 use Rattle.sd_rounds.specs.Files.{FileLaws, FilesImage, HasAreas, HasAreasIn, IsFiled, IsFiledIn}
-use Rattle.sd_rounds.specs.Keeps.{Chain, Rests, Stored, Within}
+use Rattle.sd_rounds.specs.Keeps.{Chain, ChainWithin, Rests, Stored}
 use Rattle.sd_rounds.specs.Made.{HasTheAreas, IsImageOf, MadeLaws, listed_pages}
-use Rattle.sd_rounds.specs.Making.{AreThePages, GoesOn, HandsIn, HasTable, Making, Opens, Steps, TablesEntries, TablesMemory, WritesTable, is_past_freeze, stage_after, stage_behind, with_plan}
+use Rattle.sd_rounds.specs.Making.{AreThePages, HandsIn, HasTable, Making, Opens, PlanGoesOn, Steps, TablesEntries, TablesMemory, WritesTable, is_past_freeze, stage_after, stage_behind, with_plan}
 use Rattle.sd_rounds.specs.MakingLaws.{AreItsNumbers, DumpsImage, IsDumpedIn, IsKeptIn, KeepsImage, MakingLaws, Pages, image_of}
 use Rattle.sd_rounds.specs.Pass.{Pass, Place, pages_by}
 use Rattle.sd_rounds.specs.Rises.{IsRising, kind_at}
@@ -38,15 +38,15 @@ use Rattle.sd_rounds.proofs.WayLemmas.{way}
 
 -- ---- the entries of a dump
 
-some_due : (takes_all : Bool) (o : Option Page) → is_some (due takes_all o) ≡ is_some o
+some_due : (takes_all : Bool) (o : Option PageState) → is_some (kind_due takes_all o) ≡ is_some o
 some_due takes_all None = refl
 some_due takes_all (Some page) = refl
 
-some_plain : (o : Option Page) → is_some (option_map plain_page o) ≡ is_some o
+some_plain : (o : Option PageState) → is_some (option_map plain_page o) ≡ is_some o
 some_plain None = refl
 some_plain (Some page) = refl
 
-pub are_the_pages : PlainLaw → (cut memory : Contents) (pass : Pass) → ((at : Place) → kind_at pass.entries at ≡ due pass.takes_all (page_at cut at.0 at.1))
+pub are_the_pages : PlainLaw → (cut memory : Contents) (pass : Pass) → ((at : Place) → kind_at pass.entries at ≡ kind_due pass.takes_all (page_at cut at.0 at.1))
     → plain_of memory ≡ plain_of cut → AreThePages pass.entries memory
 are_the_pages law cut memory pass ways same space page =
     ap is_some (ways (space, page)) ∙ some_due pass.takes_all (page_at cut space page)
@@ -166,7 +166,7 @@ behind_areas kind Freeze cut = tt
 behind_areas kind PassStage cut = tt
 behind_areas kind (Close plan header tables) cut = tt
 
-goes_on : (cut : Contents) (pages : Pages) (old new : Making) (made : Made) → GoesOn old made new
+goes_on : (cut : Contents) (pages : Pages) (old new : Making) (made : Made) → PlanGoesOn old made new
     → FilesImage pages old × HasAreas cut old → FilesImage pages new × HasAreas cut new
 goes_on cut pages old new made h was =
     subst (λ (m : Making). FilesImage pages m × HasAreas cut m) (sym h.is) (by (plan_after h.plan made).calls)
@@ -215,7 +215,7 @@ shows law cut pages chain old made opened memory o number files areas dumps =
 
 ways : (cut : Contents) (pages : Pages) (chain : Chain) (old : Making) (made : Made) (opened : NewImage) (memory : Contents) → Opens old made opened
     → FilesImage pages old → IsRising old.pass → DumpsImage cut pages chain old memory
-    → (kind : RunKind) (at : Place) → Contains (pages_of kind opened.table) at ↔ due old.pass.takes_all (page_at cut at.0 at.1) ≡ Some kind
+    → (kind : RunKind) (at : Place) → Contains (pages_of kind opened.table) at ↔ kind_due old.pass.takes_all (page_at cut at.0 at.1) ≡ Some kind
 ways cut pages chain old made opened memory o files rising dumps kind at = (
   λ c. sym (is.kinds at) ∙ listed.0 (subst (λ (l : List Place). Contains l at) lists c),
   λ e. subst (λ (l : List Place). Contains l at) (sym lists) (listed.1 (is.kinds at ∙ e)),
@@ -231,7 +231,7 @@ ways cut pages chain old made opened memory o files rising dumps kind at = (
     listed = way kind old.pass.entries at rising.rises
 
 commits : MadeLaws → (pages : Pages) (before after : Chain) (old : Making) (made : Made) (opened : NewImage) (memory : Contents) → Opens old made opened → after.number ≡ old.order.parent
-    → FilesImage pages old → IsNamed after.images old.order.serial (image_of opened.header pages opened.table) → Within before after → KeepsImage pages before old memory
+    → FilesImage pages old → IsNamed after.images old.order.serial (image_of opened.header pages opened.table) → ChainWithin before after → KeepsImage pages before old memory
     → Rests (record { images = after.images; number = old.order.serial }) memory
 commits law pages before after old made opened memory o number files named within kept =
     let is = filed_at pages old made opened o files in

@@ -23,13 +23,13 @@ use Rattle.sd_image.specs.Table.{AreRuns, AreSpaces, Covers, Listed, data_count,
 use Rattle.sd_image.specs.Words.{number_bytes}
 use Rattle.sd_pagetable.specs.Contents.{Contents, page_at, plain_of}
 use Rattle.sd_pagetable.specs.Law.{PlainLaw}
-use Rattle.sd_pagetable.specs.Page.{Page, plain_page}
+use Rattle.sd_pagetable.specs.Page.{PageState, plain_page}
 use Rattle.sd_rounds.specs.Made.{Lists, entries_listed, run_entries}
 use Rattle.sd_rounds.specs.declared.image_order.ImageOrder.{ImageOrder}
 use Rattle.sd_rounds.specs.Making.{AreThePages, HasTable, TablesEntries, TablesMemory}
-use Rattle.sd_rounds.specs.Pass.{Entry, Pass, Place, data_pages}
+use Rattle.sd_rounds.specs.Pass.{ImageEntry, Pass, Place, data_pages}
 use Rattle.sd_rounds.specs.Rises.{kind_at}
-use Rattle.sd_rounds.specs.Rounds.{source}
+use Rattle.sd_rounds.specs.Rounds.{entry_parent}
 use Rattle.sd_rounds.specs.SpaceTables.{AreAllSpaces, IsSpaceOf, Rise, without_areas}
 use Rattle.sd_rounds.specs.Tables.{AreTables}
 use Rattle.sd_rounds.proofs.DumpTableLemmas.{Among, HaveRunsOf, all_listed, covers, kind_append, runs_have, runs_of_space}
@@ -47,9 +47,9 @@ sourced_runs n before [] some are = tt
 sourced_runs n before (run ∷ runs) some are = (sourced n before run some are.0, sourced_runs n (Some run) runs some are.1)
 
 -- where the pass takes all pages exactly where the image has no parent, its runs fit the image
-pub own_runs : (parent : ℕ) (takes_all : Bool) (runs : List Run) → takes_all ≡ nat_eq parent 0 → AreRuns (source takes_all) None runs → AreRuns parent None runs
-own_runs zero takes_all runs e are = subst (λ b. AreRuns (source b) None runs) e are
-own_runs (suc n) takes_all runs e are = sourced_runs (suc n) None runs (omega arith) (subst (λ b. AreRuns (source b) None runs) (e ∙ above n) are)
+pub own_runs : (parent : ℕ) (takes_all : Bool) (runs : List Run) → takes_all ≡ nat_eq parent 0 → AreRuns (entry_parent takes_all) None runs → AreRuns parent None runs
+own_runs zero takes_all runs e are = subst (λ b. AreRuns (entry_parent b) None runs) e are
+own_runs (suc n) takes_all runs e are = sourced_runs (suc n) None runs (omega arith) (subst (λ b. AreRuns (entry_parent b) None runs) (e ∙ above n) are)
   where
     above : (n : ℕ) → nat_eq (suc n) 0 ≡ false
     above n = grind (arith, nat_tests)
@@ -115,7 +115,7 @@ none_mapped parent before (t ∷ tables) are =
     ∙ (let none : sum_by (λ (a : Area). a.count) [] ≡ 0 = refl in let rest : mapped_count tables ≡ 0 = none_mapped parent t.space tables are.1 in omega arith)
 
 pre_dump_spaces : (takes_all : Bool) (h : Header) (before : ℕ) (tables : List Listed) → h.kind ≡ PreDump → takes_all ≡ nat_eq h.parent 0
-    → AreTables (source takes_all) before tables → AreSpaces h before tables
+    → AreTables (entry_parent takes_all) before tables → AreSpaces h before tables
 pre_dump_spaces takes_all h before [] kind takes are = tt
 pre_dump_spaces takes_all h before (t ∷ tables) kind takes are = (
   record {
@@ -129,26 +129,26 @@ pre_dump_spaces takes_all h before (t ∷ tables) kind takes are = (
   pre_dump_spaces takes_all h t.space tables kind takes are.1,
 )
 
-data_listed : (entries : List Entry) (spaces : List Listed) → Lists entries spaces → data_count spaces ≡ data_pages entries
+data_listed : (entries : List ImageEntry) (spaces : List Listed) → Lists entries spaces → data_count spaces ≡ data_pages entries
 data_listed entries spaces lists = sym (pages_counted spaces) ∙ ap (λ (l : List Place). length l) (lists Data)
 
 -- the entries as they are kept are the table of a pre-dump
-pub pre_dump : (takes_all : Bool) (h : Header) (entries : List Entry) (kept spaces : List Listed) → ((l : List Listed) → Lists (entries_listed l) l)
+pub pre_dump : (takes_all : Bool) (h : Header) (entries : List ImageEntry) (kept spaces : List Listed) → ((l : List Listed) → Lists (entries_listed l) l)
     → h.kind ≡ PreDump → takes_all ≡ nat_eq h.parent 0 → h.pages ≡ data_pages entries
-    → AreTables (source takes_all) 0 kept → entries_listed kept ≡ entries → spaces ≡ map without_areas kept → TablesEntries entries h spaces
+    → AreTables (entry_parent takes_all) 0 kept → entries_listed kept ≡ entries → spaces ≡ map without_areas kept → TablesEntries entries h spaces
 pre_dump takes_all h entries kept spaces law kind takes pages are same made =
-    subst (λ (l : List Listed). TablesEntries entries h l) (sym (made ∙ same_without (source takes_all) 0 kept are)) (record {
+    subst (λ (l : List Listed). TablesEntries entries h l) (sym (made ∙ same_without (entry_parent takes_all) 0 kept are)) (record {
       lists = lists;
       is = record {
-        few = let rise = rise_of (source takes_all) 0 kept are in let f : length kept + 0 ≤ 16 = few_rising 0 kept rise.0 rise.1 (omega arith) in omega arith;
+        few = let rise = rise_of (entry_parent takes_all) 0 kept are in let f : length kept + 0 ≤ 16 = few_rising 0 kept rise.0 rise.1 (omega arith) in omega arith;
         each = pre_dump_spaces takes_all h 0 kept kind takes are;
         «data» = data_listed entries kept lists ∙ sym pages;
-        mapped = subst (λ n. n ≤ 65536) (sym (none_mapped (source takes_all) 0 kept are)) (omega arith);
+        mapped = subst (λ n. n ≤ 65536) (sym (none_mapped (entry_parent takes_all) 0 kept are)) (omega arith);
       };
     })
   where
     lists : Lists entries kept
-    lists = subst (λ (e : List Entry). Lists e kept) same (law kept)
+    lists = subst (λ (e : List ImageEntry). Lists e kept) same (law kept)
 
 -- ---- a dump
 
@@ -161,7 +161,7 @@ runs_of memory kept [] each = tt
 runs_of memory kept (s ∷ spaces) each = (each.0.runs, runs_of memory kept spaces each.1)
 
 -- the entries are the pages of a plain memory
-abbrev AreItsPages : PlainMemory → List Entry → Type 0
+abbrev AreItsPages : PlainMemory → List ImageEntry → Type 0
 AreItsPages memory entries = (space page : ℕ) → is_some (kind_at entries (space, page)) ≡ is_some (page_in memory space page)
 
 is_covered : (kind : Kind) (areas : List Area) (runs : List Run) → kind ≢ PreDump → flat_map run_pages runs ≡ flat_map area_pages areas → Covers kind areas runs
@@ -170,7 +170,7 @@ is_covered Dump areas runs other e = e
 is_covered Merged areas runs other e = e
 
 dump_spaces : (takes_all : Bool) (h : Header) (memory : PlainMemory) (before : ℕ) (kept spaces : List Listed) → h.kind ≢ PreDump → takes_all ≡ nat_eq h.parent 0
-    → AreTables (source takes_all) 0 kept → AreItsPages memory (entries_listed kept) → Rise before spaces → AllByRecursion (IsSpaceOf memory kept) spaces → AreSpaces h before spaces
+    → AreTables (entry_parent takes_all) 0 kept → AreItsPages memory (entries_listed kept) → Rise before spaces → AllByRecursion (IsSpaceOf memory kept) spaces → AreSpaces h before spaces
 dump_spaces takes_all h memory before kept [] kind takes are pages rise each = tt
 dump_spaces takes_all h memory before kept (s ∷ spaces) kind takes are pages rise each = (
   record {
@@ -178,8 +178,8 @@ dump_spaces takes_all h memory before kept (s ∷ spaces) kind takes are pages r
     within = each.0.within;
     few_areas = each.0.few;
     areas = each.0.maximal;
-    runs = own_runs h.parent takes_all s.runs takes (subst (AreRuns (source takes_all) None) (sym each.0.runs) (runs_of_space (source takes_all) 0 kept s.space are));
-    covers = is_covered h.kind s.areas s.runs kind (covers (source takes_all) memory kept s are each.0 pages);
+    runs = own_runs h.parent takes_all s.runs takes (subst (AreRuns (entry_parent takes_all) None) (sym each.0.runs) (runs_of_space (entry_parent takes_all) 0 kept s.space are));
+    covers = is_covered h.kind s.areas s.runs kind (covers (entry_parent takes_all) memory kept s are each.0 pages);
   },
   dump_spaces takes_all h memory s.space kept spaces kind takes are pages rise.1 each.1,
 )
@@ -241,9 +241,9 @@ living memory kept spaces space are = elim (cases_lt space 17) [
         differ a b less = grind (arith, nat_tests)
 
 -- the table of a dump, where the entries are the pages of the memory
-pub dump : PlainLaw → (takes_all : Bool) (h : Header) (memory : Contents) (entries : List Entry) (kept spaces : List Listed) → ((l : List Listed) → Lists (entries_listed l) l)
+pub dump : PlainLaw → (takes_all : Bool) (h : Header) (memory : Contents) (entries : List ImageEntry) (kept spaces : List Listed) → ((l : List Listed) → Lists (entries_listed l) l)
     → h.kind ≢ PreDump → takes_all ≡ nat_eq h.parent 0 → h.pages ≡ data_pages entries
-    → AreTables (source takes_all) 0 kept → entries_listed kept ≡ entries → AreAllSpaces (plain_of memory) kept spaces → AreThePages entries memory → TablesMemory memory entries h spaces
+    → AreTables (entry_parent takes_all) 0 kept → entries_listed kept ≡ entries → AreAllSpaces (plain_of memory) kept spaces → AreThePages entries memory → TablesMemory memory entries h spaces
 dump plain takes_all h memory entries kept spaces law kind takes pages are same all these = record {
   table = record {
     lists = lists;
@@ -262,20 +262,20 @@ dump plain takes_all h memory entries kept spaces law kind takes pages are same 
   where
     own : AreItsPages (plain_of memory) (entries_listed kept)
     own space page =
-        ap (λ (e : List Entry). is_some (kind_at e (space, page))) same ∙ these space page
+        ap (λ (e : List ImageEntry). is_some (kind_at e (space, page))) same ∙ these space page
         ∙ sym (some_plain (page_at memory space page)) ∙ ap (λ o. is_some o) (sym (page_in_plain plain memory space page))
       where
-        some_plain : (o : Option Page) → is_some (option_map plain_page o) ≡ is_some o
+        some_plain : (o : Option PageState) → is_some (option_map plain_page o) ≡ is_some o
         some_plain None = refl
         some_plain (Some page) = refl
 
     whole : entries_listed spaces ≡ entries_listed kept
-    whole = all_listed (source takes_all) 0 kept spaces are all.all.rise (runs_of (plain_of memory) kept spaces all.all.each)
-        (among (source takes_all) 0 spaces kept are
+    whole = all_listed (entry_parent takes_all) 0 kept spaces are all.all.rise (runs_of (plain_of memory) kept spaces all.all.each)
+        (among (entry_parent takes_all) 0 spaces kept are
         (λ space page e. sym (living (plain_of memory) kept spaces space all) ∙ alive_there (plain_of memory) space page (sym (own space page) ∙ e)))
 
     lists : Lists entries spaces
-    lists = subst (λ (e : List Entry). Lists e spaces) (whole ∙ same) (law spaces)
+    lists = subst (λ (e : List ImageEntry). Lists e spaces) (whole ∙ same) (law spaces)
 
 -- a table's text has bytes
 pub table_is_long : (spaces : List Listed) → 0 < length (table_text spaces)
@@ -286,13 +286,13 @@ table_is_long spaces = omega arith
 
 pub pre_dump_for : (order : ImageOrder) (pass : Pass) (memory : Contents) (h : Header) (kept spaces : List Listed) → ((l : List Listed) → Lists (entries_listed l) l)
     → order.kind ≡ PreDump → h.kind ≡ order.kind → h.parent ≡ order.parent → h.pages ≡ data_pages pass.entries → pass.takes_all ≡ nat_eq order.parent 0
-    → AreTables (source pass.takes_all) 0 kept → entries_listed kept ≡ pass.entries → spaces ≡ map without_areas kept
+    → AreTables (entry_parent pass.takes_all) 0 kept → entries_listed kept ≡ pass.entries → spaces ≡ map without_areas kept
     → HasTable order.kind memory pass.entries h spaces
 pre_dump_for order pass memory h kept spaces law is kind parent pages takes are same made =
     subst (λ k. HasTable k memory pass.entries h spaces) (sym is)
     (pre_dump pass.takes_all h pass.entries kept spaces law (kind ∙ is) (takes ∙ ap (λ n. nat_eq n 0) (sym parent)) pages are same made)
 
-other_kind : (kind : Kind) → kind ≢ PreDump → (memory : Contents) (entries : List Entry) (h : Header) (spaces : List Listed)
+other_kind : (kind : Kind) → kind ≢ PreDump → (memory : Contents) (entries : List ImageEntry) (h : Header) (spaces : List Listed)
     → (AreThePages entries memory → TablesMemory memory entries h spaces) → HasTable kind memory entries h spaces
 other_kind PreDump other memory entries h spaces has = absurd (other refl)
 other_kind Dump other memory entries h spaces has = has
@@ -300,7 +300,7 @@ other_kind Merged other memory entries h spaces has = has
 
 pub dump_for : PlainLaw → (order : ImageOrder) (pass : Pass) (memory : Contents) (h : Header) (kept spaces : List Listed) → ((l : List Listed) → Lists (entries_listed l) l)
     → order.kind ≢ PreDump → h.kind ≡ order.kind → h.parent ≡ order.parent → h.pages ≡ data_pages pass.entries → pass.takes_all ≡ nat_eq order.parent 0
-    → AreTables (source pass.takes_all) 0 kept → entries_listed kept ≡ pass.entries → AreAllSpaces (plain_of memory) kept spaces
+    → AreTables (entry_parent pass.takes_all) 0 kept → entries_listed kept ≡ pass.entries → AreAllSpaces (plain_of memory) kept spaces
     → HasTable order.kind memory pass.entries h spaces
 dump_for plain order pass memory h kept spaces law is kind parent pages takes are same made =
     other_kind order.kind is memory pass.entries h spaces

@@ -8,14 +8,14 @@ use Rattle.std.proofs.lemmas.List.Elements.{Contains-append_left, Contains-push}
 use Rattle.std.proofs.lemmas.Option.{slice_get_within}
 use Rattle.sd_image.specs.declared.run.RunKind.{RunKind}
 use Rattle.sd_image.specs.declared.run.RunKind.TheVariants.{Data, Parent, Zero}
-use Rattle.sd_pagetable.specs.Page.{Page, zeros, cleared_page}
+use Rattle.sd_pagetable.specs.Page.{PageState, zeros, cleared_page}
 use Rattle.sd_pagetable.specs.Contents.{Contents, IsSound, page_at}
 use Rattle.sd_pagetable.specs.Law.{ClearLaw, IsClearedAt}
 use Rattle.sd_pagetable.specs.Order.{IsNextPage}
 use Rattle.sd_pagetable.specs.PageLaw.{CleanLaw, clean_at, clean_bytes}
-use Rattle.sd_pagetable.specs.Tracking.{Event, Step, Cleared}
-use Rattle.sd_rounds.specs.Pass.{Place, Entry, Taking, Pass, IsTaken, pages_by, data_pages, has_passed, opened, visited, begun_to_take, left_to_parent, with_entry, sector_of, copied_more, dropped, taken_as_zero, taken_as_data}
-use Rattle.sd_rounds.specs.Keeps.{Stored, Chain, Gives, Gave, IsHeld, Keeps, Rests, AgreeAt, Within, IsCall, KeepsLaws, below_of}
+use Rattle.sd_pagetable.specs.Tracking.{MemoryEvent, Step, Cleared}
+use Rattle.sd_rounds.specs.Pass.{Place, ImageEntry, Taking, Pass, IsTaken, pages_by, data_pages, has_passed, opened, visited, begun_to_take, left_to_parent, with_entry, sector_of, copied_more, dropped, taken_as_zero, taken_as_data}
+use Rattle.sd_rounds.specs.Keeps.{Stored, Chain, EntriesGive, Gave, PageIsHeld, Keeps, Rests, AgreeAt, ChainWithin, IsCall, KeepsLaws, below_of}
 use Rattle.sd_rounds.specs.Keeps.Gives.{by_data, by_zero, by_parent}
 use Rattle.sd_rounds.proofs.Clean.{no_some, one_some, clean_mapped, clean_is, clean_there, no_clean}
 use Rattle.sd_rounds.proofs.Lists.{put_behind, pages_append, slice_get_front, slice_get_back, front_more}
@@ -23,15 +23,15 @@ use Rattle.sd_rounds.proofs.Orders.{apart_page, same_or_apart, passed_here, ahea
 
 -- ---- what entries give
 
-pub gives_agrees : (old new : Stored) (one other : Chain) (entries : List Entry) (q : Place) (bytes : List ℕ) → AgreeAt entries old new → Within one other
-    → Gives old one entries q bytes → Gives new other entries q bytes
+pub gives_agrees : (old new : Stored) (one other : Chain) (entries : List ImageEntry) (q : Place) (bytes : List ℕ) → AgreeAt entries old new → ChainWithin one other
+    → EntriesGive old one entries q bytes → EntriesGive new other entries q bytes
 gives_agrees old new one other entries q bytes agree within (by_data place listed there) =
     by_data place listed (agree place (slice_get_within (pages_by Data entries) place q listed) ∙ there)
 gives_agrees old new one other entries q bytes agree within (by_zero listed is) = by_zero listed is
 gives_agrees old new one other entries q bytes agree within (by_parent listed below) = by_parent listed (within q bytes below)
 
-pub gives_more : (stored : Stored) (chain : Chain) (entries : List Entry) (at : Place) (kind : RunKind) (q : Place) (bytes : List ℕ)
-    → Gives stored chain entries q bytes → Gives stored chain (put_behind entries at kind) q bytes
+pub gives_more : (stored : Stored) (chain : Chain) (entries : List ImageEntry) (at : Place) (kind : RunKind) (q : Place) (bytes : List ℕ)
+    → EntriesGive stored chain entries q bytes → EntriesGive stored chain (put_behind entries at kind) q bytes
 gives_more stored chain entries at kind q bytes (by_data place listed there) =
     by_data place (subst (λ l. slice_get l place ≡ Some q) (sym (pages_append Data entries _)) (slice_get_front (pages_by Data entries) _ place q listed)) there
 gives_more stored chain entries at kind q bytes (by_zero listed is) =
@@ -39,18 +39,18 @@ gives_more stored chain entries at kind q bytes (by_zero listed is) =
 gives_more stored chain entries at kind q bytes (by_parent listed below) =
     by_parent (subst (λ l. Contains l q) (sym (pages_append Parent entries _)) (Contains-append_left (pages_by Parent entries) _ q listed)) below
 
-gives_data : (stored : Stored) (chain : Chain) (entries : List Entry) (at : Place) (bytes : List ℕ) → stored (data_pages entries) ≡ Some bytes
-    → Gives stored chain (put_behind entries at Data) at bytes
+gives_data : (stored : Stored) (chain : Chain) (entries : List ImageEntry) (at : Place) (bytes : List ℕ) → stored (data_pages entries) ≡ Some bytes
+    → EntriesGive stored chain (put_behind entries at Data) at bytes
 gives_data stored chain entries at bytes there =
     by_data (data_pages entries) (subst (λ l. slice_get l (data_pages entries) ≡ Some at) (sym (pages_append Data entries _)) (slice_get_back (pages_by Data entries) at)) there
 
-gives_zero : (stored : Stored) (chain : Chain) (entries : List Entry) (at : Place) (bytes : List ℕ) → bytes ≡ zeros
-    → Gives stored chain (put_behind entries at Zero) at bytes
+gives_zero : (stored : Stored) (chain : Chain) (entries : List ImageEntry) (at : Place) (bytes : List ℕ) → bytes ≡ zeros
+    → EntriesGive stored chain (put_behind entries at Zero) at bytes
 gives_zero stored chain entries at bytes is =
     by_zero (subst (λ l. Contains l at) (sym (pages_append Zero entries _)) (Contains-push (pages_by Zero entries) at)) is
 
-gives_parent : (stored : Stored) (chain : Chain) (entries : List Entry) (at : Place) (bytes : List ℕ) → below_of chain at bytes
-    → Gives stored chain (put_behind entries at Parent) at bytes
+gives_parent : (stored : Stored) (chain : Chain) (entries : List ImageEntry) (at : Place) (bytes : List ℕ) → below_of chain at bytes
+    → EntriesGive stored chain (put_behind entries at Parent) at bytes
 gives_parent stored chain entries at bytes below =
     by_parent (subst (λ l. Contains l at) (sym (pages_append Parent entries _)) (Contains-push (pages_by Parent entries) at)) below
 
@@ -64,7 +64,7 @@ is_at pass q taking other is taken = ap (λ (t : Taking). t.place) (one_some tak
 
 -- ---- the steps
 
-calls : CleanLaw → (stored : Stored) (chain : Chain) (pass : Pass) (old new : Contents) (event : Event) → IsSound old → Step old event new → IsCall event
+calls : CleanLaw → (stored : Stored) (chain : Chain) (pass : Pass) (old new : Contents) (event : MemoryEvent) → IsSound old → Step old event new → IsCall event
     → Keeps stored chain pass old → Keeps stored chain pass new
 calls law stored chain pass old new event sound step call keeps = λ space number bytes clean due.
     keeps space number bytes (law old new event space number bytes sound step (call space number) clean) due
@@ -88,7 +88,7 @@ was_clean old new at q bytes cleared clean apart = ap clean_bytes (sym (cleared.
 -- what is held of another page before the visit
 held_before : (stored : Stored) (chain : Chain) (pass : Pass) (old new : Contents) (at q : Place) (bytes : List ℕ)
     → IsNextPage old.spaces pass.after (Some at) → IsClearedAt at.0 at.1 old new → Keeps stored chain pass old → (at ≡ q → ⊥)
-    → clean_at new q.0 q.1 ≡ Some bytes → (pass.takes_all ≡ true → has_passed (Some at) q ≡ true) → IsHeld stored chain pass q bytes
+    → clean_at new q.0 q.1 ≡ Some bytes → (pass.takes_all ≡ true → has_passed (Some at) q ≡ true) → PageIsHeld stored chain pass q bytes
 held_before stored chain pass old new at q bytes next cleared keeps apart clean due =
     let before = was_clean old new at q bytes cleared clean apart in
     keeps q.0 q.1 bytes before (λ all. elim (passed_next old.spaces pass.after at q next (clean_mapped (page_at old q.0 q.1) bytes before) (due all)) [
@@ -99,8 +99,8 @@ held_before stored chain pass old new at q bytes next cleared keeps apart clean 
 -- the cursor moves on to the next page, and another page stays held
 moved_on : (stored : Stored) (chain : Chain) (pass moved : Pass) (old : Contents) (at q : Place) (bytes : List ℕ)
     → IsNextPage old.spaces pass.after (Some at) → pass.taking ≡ None → (at ≡ q → ⊥) → clean_at old q.0 q.1 ≡ Some bytes
-    → moved.after ≡ Some at → ((taking : Taking) → IsTaken moved q taking → ⊥) → (Gives stored chain pass.entries q bytes → Gives stored chain moved.entries q bytes)
-    → IsHeld stored chain pass q bytes → IsHeld stored chain moved q bytes
+    → moved.after ≡ Some at → ((taking : Taking) → IsTaken moved q taking → ⊥) → (EntriesGive stored chain pass.entries q bytes → EntriesGive stored chain moved.entries q bytes)
+    → PageIsHeld stored chain pass q bytes → PageIsHeld stored chain moved q bytes
 moved_on stored chain pass moved old at q bytes next none apart clean after untaken more held = record {
   copied = λ taking taken. absurd (untaken taking taken);
   full = λ taking taken. absurd (untaken taking taken);
@@ -120,7 +120,7 @@ visit_takes stored chain pass old new at none next cleared keeps = λ space numb
     began : Taking
     began = record { place = at; copied = [] }
 
-    here : (q : Place) (bytes : List ℕ) → at ≡ q → IsHeld stored chain (begun_to_take pass at) q bytes
+    here : (q : Place) (bytes : List ℕ) → at ≡ q → PageIsHeld stored chain (begun_to_take pass at) q bytes
     here q bytes e = record {
       copied = λ taking taken. ap (λ (t : Taking). t.copied) (sym (one_some began taking refl taken.is))
           ∙ ap (λ (t : Taking). take (length t.copied) bytes) (one_some began taking refl taken.is);
@@ -130,14 +130,14 @@ visit_takes stored chain pass old new at none next cleared keeps = λ space numb
     }
 
     by : (q : Place) (bytes : List ℕ) → clean_at new q.0 q.1 ≡ Some bytes → (pass.takes_all ≡ true → has_passed (Some at) q ≡ true)
-        → (at ≡ q) ⊎ (at ≡ q → ⊥) → IsHeld stored chain (begun_to_take pass at) q bytes
+        → (at ≡ q) ⊎ (at ≡ q → ⊥) → PageIsHeld stored chain (begun_to_take pass at) q bytes
     by q bytes clean due (inl e) = here q bytes e
     by q bytes clean due (inr apart) =
         moved_on stored chain pass (begun_to_take pass at) old at q bytes next none apart (was_clean old new at q bytes cleared clean apart) refl
         (λ taking taken. apart (ap (λ (t : Taking). t.place) (one_some began taking refl taken.is) ∙ taken.here)) (λ gives. gives)
         (held_before stored chain pass old new at q bytes next cleared keeps apart clean due)
 
-visit_leaves : (stored : Stored) (chain : Chain) (pass : Pass) (old new : Contents) (at : Place) (page : Page) → pass.taking ≡ None
+visit_leaves : (stored : Stored) (chain : Chain) (pass : Pass) (old new : Contents) (at : Place) (page : PageState) → pass.taking ≡ None
     → IsNextPage old.spaces pass.after (Some at) → page_at old at.0 at.1 ≡ Some page → page.soft_dirty ≡ false → pass.takes_all ≡ false
     → IsClearedAt at.0 at.1 old new → Keeps stored chain pass old → Keeps stored chain (left_to_parent pass at) new
 visit_leaves stored chain pass old new at page none next there clean_page part cleared keeps =
@@ -151,24 +151,24 @@ visit_leaves stored chain pass old new at page none next there clean_page part c
         (keeps at.0 at.1 bytes (clean_there (page_at old at.0 at.1) page bytes there clean_page (same_bytes bytes clean))
         (λ all. absurd (both_ways pass.takes_all part all))).ahead (above_not_passed pass.after at next.1)
 
-    here : (q : Place) (bytes : List ℕ) → clean_at new q.0 q.1 ≡ Some bytes → at ≡ q → IsHeld stored chain (left_to_parent pass at) q bytes
+    here : (q : Place) (bytes : List ℕ) → clean_at new q.0 q.1 ≡ Some bytes → at ≡ q → PageIsHeld stored chain (left_to_parent pass at) q bytes
     here q bytes clean e = record {
       copied = λ taking taken. absurd (none_taken (left_to_parent pass at) q refl taking taken);
       full = λ taking taken. absurd (none_taken (left_to_parent pass at) q refl taking taken);
-      behind = λ _ _. subst (λ (p : Place). Gives stored chain (put_behind pass.entries at Parent) p bytes) e
+      behind = λ _ _. subst (λ (p : Place). EntriesGive stored chain (put_behind pass.entries at Parent) p bytes) e
           (gives_parent stored chain pass.entries at bytes (below bytes (subst (λ (p : Place). clean_at new p.0 p.1 ≡ Some bytes) (sym e) clean)));
       ahead = λ ahead. absurd (both_ways (has_passed (Some at) q) ahead (subst (λ (p : Place). has_passed (Some at) p ≡ true) e (passed_here at)));
     }
 
     by : (q : Place) (bytes : List ℕ) → clean_at new q.0 q.1 ≡ Some bytes → (pass.takes_all ≡ true → has_passed (Some at) q ≡ true)
-        → (at ≡ q) ⊎ (at ≡ q → ⊥) → IsHeld stored chain (left_to_parent pass at) q bytes
+        → (at ≡ q) ⊎ (at ≡ q → ⊥) → PageIsHeld stored chain (left_to_parent pass at) q bytes
     by q bytes clean due (inl e) = here q bytes clean e
     by q bytes clean due (inr apart) =
         moved_on stored chain pass (left_to_parent pass at) old at q bytes next none apart (was_clean old new at q bytes cleared clean apart) refl
         (none_taken (left_to_parent pass at) q refl) (gives_more stored chain pass.entries at Parent q bytes)
         (held_before stored chain pass old new at q bytes next cleared keeps apart clean due)
 
-visits : ClearLaw → (stored : Stored) (chain : Chain) (pass : Pass) (old new : Contents) (at : Place) (page : Page) → pass.taking ≡ None
+visits : ClearLaw → (stored : Stored) (chain : Chain) (pass : Pass) (old new : Contents) (at : Place) (page : PageState) → pass.taking ≡ None
     → IsNextPage old.spaces pass.after (Some at) → page_at old at.0 at.1 ≡ Some page → Step old (Cleared at.0 at.1) new
     → Keeps stored chain pass old → Keeps stored chain (visited pass at page.soft_dirty) new
 visits law stored chain pass old new at page none next there step keeps = by (pass.takes_all || page.soft_dirty) refl
@@ -179,7 +179,7 @@ visits law stored chain pass old new at page none next there step keeps = by (pa
         let parts = or_parts pass.takes_all page.soft_dirty e in
         visit_leaves stored chain pass old new at page none next there parts.1 parts.0 (law old new at.0 at.1 step) keeps
 
-copies : (stored : Stored) (chain : Chain) (pass : Pass) (memory : Contents) (taking : Taking) (page : Page) (sector : ℕ) → pass.taking ≡ Some taking
+copies : (stored : Stored) (chain : Chain) (pass : Pass) (memory : Contents) (taking : Taking) (page : PageState) (sector : ℕ) → pass.taking ≡ Some taking
     → page_at memory taking.place.0 taking.place.1 ≡ Some page → length page.bytes ≡ 4096 → sector < 8 → length taking.copied ≡ 512 * sector
     → Keeps stored chain pass memory → Keeps stored chain (copied_more pass taking (sector_of page.bytes sector)) memory
 copies stored chain pass memory taking page sector is there whole within at_sector keeps = λ space number bytes clean due.
@@ -195,14 +195,14 @@ copies stored chain pass memory taking page sector is there whole within at_sect
     same_bytes q bytes clean e =
         (clean_is (page_at memory q.0 q.1) page bytes (subst (λ (p : Place). page_at memory p.0 p.1 ≡ Some page) e there) clean).1
 
-    front : (q : Place) (bytes : List ℕ) → clean_at memory q.0 q.1 ≡ Some bytes → IsHeld stored chain pass q bytes → taking.place ≡ q
+    front : (q : Place) (bytes : List ℕ) → clean_at memory q.0 q.1 ≡ Some bytes → PageIsHeld stored chain pass q bytes → taking.place ≡ q
         → more.copied ≡ take (length more.copied) bytes
     front q bytes clean held e =
         let same = same_bytes q bytes clean e in
         subst (λ (b : List ℕ). taking.copied ++ sector_of b sector ≡ take (length (taking.copied ++ sector_of b sector)) bytes) (sym same)
         (front_more taking.copied bytes sector (ap (λ (b : List ℕ). length b) (sym same) ∙ whole) within at_sector (held.copied taking (record { is = is; here = e })))
 
-    still : (q : Place) (bytes : List ℕ) → clean_at memory q.0 q.1 ≡ Some bytes → IsHeld stored chain pass q bytes → IsHeld stored chain now q bytes
+    still : (q : Place) (bytes : List ℕ) → clean_at memory q.0 q.1 ≡ Some bytes → PageIsHeld stored chain pass q bytes → PageIsHeld stored chain now q bytes
     still q bytes clean held = record {
       copied = λ other taken.
           let e = one_some more other refl taken.is in
@@ -221,7 +221,7 @@ drops : (stored : Stored) (chain : Chain) (pass : Pass) (memory : Contents) (tak
     → page_at memory taking.place.0 taking.place.1 ≡ None → Keeps stored chain pass memory → Keeps stored chain (dropped pass) memory
 drops stored chain pass memory taking is gone keeps = λ space number bytes clean due. still (space, number) bytes clean (keeps space number bytes clean due)
   where
-    still : (q : Place) (bytes : List ℕ) → clean_at memory q.0 q.1 ≡ Some bytes → IsHeld stored chain pass q bytes → IsHeld stored chain (dropped pass) q bytes
+    still : (q : Place) (bytes : List ℕ) → clean_at memory q.0 q.1 ≡ Some bytes → PageIsHeld stored chain pass q bytes → PageIsHeld stored chain (dropped pass) q bytes
     still q bytes clean held = record {
       copied = λ other taken. absurd (none_taken (dropped pass) q refl other taken);
       full = λ other taken. absurd (none_taken (dropped pass) q refl other taken);
@@ -233,16 +233,16 @@ drops stored chain pass memory taking is gone keeps = λ space number bytes clea
 -- the page that was being taken gets its entry
 enters : (old new : Stored) (chain : Chain) (pass : Pass) (memory : Contents) (taking : Taking) (kind : RunKind) → pass.taking ≡ Some taking
     → length taking.copied ≡ 4096 → AgreeAt pass.entries old new
-    → ((bytes : List ℕ) → taking.copied ≡ bytes → Gives new chain (put_behind pass.entries taking.place kind) taking.place bytes)
+    → ((bytes : List ℕ) → taking.copied ≡ bytes → EntriesGive new chain (put_behind pass.entries taking.place kind) taking.place bytes)
     → Keeps old chain pass memory → Keeps new chain (with_entry pass taking.place kind) memory
 enters old new chain pass memory taking kind is long agree gives keeps = λ space number bytes clean due.
     still (space, number) bytes (keeps space number bytes clean due) (same_or_apart taking.place (space, number))
   where
-    still : (q : Place) (bytes : List ℕ) → IsHeld old chain pass q bytes → (taking.place ≡ q) ⊎ (taking.place ≡ q → ⊥) → IsHeld new chain (with_entry pass taking.place kind) q bytes
+    still : (q : Place) (bytes : List ℕ) → PageIsHeld old chain pass q bytes → (taking.place ≡ q) ⊎ (taking.place ≡ q → ⊥) → PageIsHeld new chain (with_entry pass taking.place kind) q bytes
     still q bytes held (inl e) = record {
       copied = λ other taken. absurd (none_taken (with_entry pass taking.place kind) q refl other taken);
       full = λ other taken. absurd (none_taken (with_entry pass taking.place kind) q refl other taken);
-      behind = λ _ _. subst (λ (p : Place). Gives new chain (put_behind pass.entries taking.place kind) p bytes) e
+      behind = λ _ _. subst (λ (p : Place). EntriesGive new chain (put_behind pass.entries taking.place kind) p bytes) e
           (gives bytes (held.full taking (record { is = is; here = e }) long));
       ahead = held.ahead;
     }
@@ -272,11 +272,11 @@ writes old new chain pass memory taking is long agree there =
     enters old new chain pass memory taking Data is long agree
     (λ bytes same. gives_data new chain pass.entries taking.place bytes (there ∙ ap (λ (b : List ℕ). Some b) same))
 
-agrees : (old new : Stored) (one other : Chain) (pass : Pass) (memory : Contents) → AgreeAt pass.entries old new → Within one other
+agrees : (old new : Stored) (one other : Chain) (pass : Pass) (memory : Contents) → AgreeAt pass.entries old new → ChainWithin one other
     → Keeps old one pass memory → Keeps new other pass memory
 agrees old new one other pass memory agree within keeps = λ space number bytes clean due. still (space, number) bytes (keeps space number bytes clean due)
   where
-    still : (q : Place) (bytes : List ℕ) → IsHeld old one pass q bytes → IsHeld new other pass q bytes
+    still : (q : Place) (bytes : List ℕ) → PageIsHeld old one pass q bytes → PageIsHeld new other pass q bytes
     still q bytes held = record {
       copied = held.copied;
       full = held.full;
@@ -290,14 +290,14 @@ ends stored chain pass memory none next keeps = λ space number bytes clean.
     let passed = passed_all memory.spaces pass.after (space, number) next (clean_mapped (page_at memory space number) bytes clean) in
     (keeps space number bytes clean (λ _. passed)).behind passed (none_taken pass (space, number) none)
 
-still_gave : CleanLaw → (old new : Stored) (one other : Chain) (entries : List Entry) (before after : Contents) (event : Event) → IsSound before → Step before event after → IsCall event
-    → AgreeAt entries old new → Within one other → Gave old one entries before → Gave new other entries after
+still_gave : CleanLaw → (old new : Stored) (one other : Chain) (entries : List ImageEntry) (before after : Contents) (event : MemoryEvent) → IsSound before → Step before event after → IsCall event
+    → AgreeAt entries old new → ChainWithin one other → Gave old one entries before → Gave new other entries after
 still_gave law old new one other entries before after event sound step call agree within gave = λ space number bytes clean.
     gives_agrees old new one other entries (space, number) bytes agree within
     (gave space number bytes (law before after event space number bytes sound step (call space number) clean))
 
-still_rests : CleanLaw → (one other : Chain) (before after : Contents) (event : Event) → IsSound before → Step before event after → IsCall event
-    → Within one other → Rests one before → Rests other after
+still_rests : CleanLaw → (one other : Chain) (before after : Contents) (event : MemoryEvent) → IsSound before → Step before event after → IsCall event
+    → ChainWithin one other → Rests one before → Rests other after
 still_rests law one other before after event sound step call within rests = λ space number bytes clean.
     within (space, number) bytes (rests space number bytes (law before after event space number bytes sound step (call space number) clean))
 

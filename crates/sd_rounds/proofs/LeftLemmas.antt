@@ -26,7 +26,7 @@ use Rattle.sd_rounds.specs.declared.visit.Visit.{Visit}
 use Rattle.sd_rounds.specs.Dumper.{Dumping, Hands, HandsTo, IsHanded, Running, Works, WorksOn, ends, image_from, is_strange}
 use Rattle.sd_gate.specs.PlanUse.{plan_left}
 use Rattle.sd_rounds.specs.Left.{LeftLaws, image_left, left_of, making_left, next_left, pages_ahead, pass_left, running_left, stage_left, taking_left}
-use Rattle.sd_rounds.specs.Making.{GoesOn, IsWritten, Making, Opens, Steps, closing, is_passing, plan_of, stage_after, stage_behind, with_plan}
+use Rattle.sd_rounds.specs.Making.{IsWritten, Making, Opens, PlanGoesOn, Steps, closing_outcomes, is_passing, plan_of, stage_after, stage_behind, with_plan}
 use Rattle.sd_rounds.specs.Pass.{Pass, begun_to_take, left_to_parent, opened, sector_of, visited}
 use Rattle.sd_rounds.specs.Rounds.{Copies, Tests}
 use Rattle.sd_rounds.specs.Writes.{writes_out}
@@ -172,7 +172,7 @@ works_fewer law serial state ticket old new before after step w =
 
 -- ---- an outcome
 
-goes_on_fewer : (old new : Making) (made : Made) (memory : PlainMemory) → GoesOn old made new → image_left new memory < image_left old memory
+goes_on_fewer : (old new : Making) (made : Made) (memory : PlainMemory) → PlanGoesOn old made new → image_left new memory < image_left old memory
 goes_on_fewer old new made memory g =
     subst (λ (m : Making). image_left m memory < image_left old memory) (sym g.is)
     (by (plan_after g.plan made).calls refl)
@@ -180,7 +180,7 @@ goes_on_fewer old new made memory g =
     fewer : plan_left (plan_after g.plan made) + 1 ≡ plan_left g.plan
     fewer = settled_fewer g.plan made g.awaited.out g.one
 
-    ended : (kind : Kind) (stage : Stage) → plan_of stage ≡ Some g.plan → (closing stage ≢ 0 → ⊥) → stage_left (stage_behind kind stage) (pass_left old.pass memory + writes_out old.writes) < stage_left stage (pass_left old.pass memory + writes_out old.writes)
+    ended : (kind : Kind) (stage : Stage) → plan_of stage ≡ Some g.plan → (closing_outcomes stage ≢ 0 → ⊥) → stage_left (stage_behind kind stage) (pass_left old.pass memory + writes_out old.writes) < stage_left stage (pass_left old.pass memory + writes_out old.writes)
     ended Dump (Format plan) is closes = (let same : plan_left plan ≡ plan_left g.plan = ap plan_left (one_plan plan g.plan is) in omega (arith, fewer))
     ended PreDump (Format plan) is closes = omega arith
     ended Merged (Format plan) is closes = omega arith
@@ -204,7 +204,7 @@ written_fewer old new made memory passing w =
     by PassStage is = omega (arith, take_count old.writes w.lane made.request.id w.out)
     by (Close plan header tables) is = absurd (both_ways false refl is)
 
-more_fewer : (old new : Making) (made : Made) (memory : PlainMemory) → GoesOn old made new ⊎ IsWritten old made new → image_left new memory < image_left old memory
+more_fewer : (old new : Making) (made : Made) (memory : PlainMemory) → PlanGoesOn old made new ⊎ IsWritten old made new → image_left new memory < image_left old memory
 more_fewer old new made memory (inl g) = goes_on_fewer old new made memory g
 more_fewer old new made memory (inr w) = written_fewer old new made memory w.passing w
 

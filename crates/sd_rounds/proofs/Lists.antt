@@ -5,16 +5,16 @@ use Rattle.std.proofs.lemmas.List.{map-append, length-append, length-take-le, le
 use Rattle.std.proofs.Math.Seq.{take-add}
 use Rattle.std.proofs.lemmas.List.Elements.{filter-append}
 use Rattle.sd_image.specs.declared.run.RunKind.{RunKind}
-use Rattle.sd_rounds.specs.Pass.{Place, Entry, pages_by, has_kind, place_of, sector_of}
+use Rattle.sd_rounds.specs.Pass.{Place, ImageEntry, pages_by, has_kind, place_of_entry, sector_of}
 
 -- one entry at the end
-abbrev pub put_behind : List Entry → Place → RunKind → List Entry
+abbrev pub put_behind : List ImageEntry → Place → RunKind → List ImageEntry
 put_behind entries at kind = entries ++ (record { place = at; kind = kind }) ∷ []
 
-pub pages_append : (kind : RunKind) (xs ys : List Entry) → pages_by kind (xs ++ ys) ≡ pages_by kind xs ++ pages_by kind ys
+pub pages_append : (kind : RunKind) (xs ys : List ImageEntry) → pages_by kind (xs ++ ys) ≡ pages_by kind xs ++ pages_by kind ys
 pages_append kind xs ys =
-    ap (map place_of) (filter-append (has_kind kind) xs ys)
-    ∙ map-append place_of (filter (has_kind kind) xs) (filter (has_kind kind) ys)
+    ap (map place_of_entry) (filter-append (has_kind kind) xs ys)
+    ∙ map-append place_of_entry (filter (has_kind kind) xs) (filter (has_kind kind) ys)
 
 pub slice_get_front : {X : Type 0} (xs ys : List X) (k : ℕ) (x : X) → slice_get xs k ≡ Some x → slice_get (xs ++ ys) k ≡ Some x
 slice_get_front {X} [] ys k x e = absurd (let f : ◌≡◌ {A = Option X} None (Some x) = e in cc)

@@ -12,7 +12,7 @@ use Rattle.sd_gate.specs.Requests.{Asked, Made}
 use Rattle.sd_gate.specs.Sequences.{Calls}
 use Rattle.sd_pagetable.specs.Contents.{Contents, page_at, plain_of}
 use Rattle.sd_pagetable.specs.Law.{PlainLaw}
-use Rattle.sd_pagetable.specs.Page.{Page}
+use Rattle.sd_pagetable.specs.Page.{PageState}
 use Rattle.sd_rounds.specs.declared.copied.Copied as copied
 use Rattle.sd_rounds.specs.declared.copied.Copied.TheVariants.{More as MoreSectors, Zero as ZeroPage, Gone}
 use Rattle.sd_rounds.specs.declared.visit.Visit as visit
@@ -23,12 +23,12 @@ use Rattle.sd_rounds.specs.declared.image_step.ImageStep.TheVariants.{Call, Page
 use Rattle.sd_rounds.specs.declared.new_image.NewImage.{NewImage}
 use Rattle.sd_rounds.specs.declared.stage.Stage.{Stage}
 use Rattle.sd_rounds.specs.declared.stage.Stage.TheVariants.{Format, Freeze, Pass as PassStage, Close}
-use Rattle.sd_rounds.specs.Dump.{DumpLaws, IsDumping, WasDue, due, kind_of_bytes}
+use Rattle.sd_rounds.specs.Dump.{DumpLaws, IsDumping, WasDue, kind_due, kind_of_bytes}
 use Rattle.sd_rounds.specs.ImageVisits.{visits_after}
 use Rattle.sd_rounds.specs.LittleWork.{HasWays, IsFrontOf, IsTaking, ListsIn, LittleLaws, TakesDue, TakesDueIn, TakesVisited, TookVisited}
 use Rattle.sd_rounds.specs.Made.{Lists}
-use Rattle.sd_rounds.specs.Making.{GoesOn, HandsIn, HasTable, Making, Opens, Steps, WritesTable, begun_image, closing, is_past_freeze, stage_after, stage_behind, with_plan}
-use Rattle.sd_rounds.specs.Pass.{Entry, Pass, Place, Taking, begun_to_take, copied_more, left_to_parent, opened, pages_by, sector_of, taken_as_zero, with_entry}
+use Rattle.sd_rounds.specs.Making.{HandsIn, HasTable, Making, Opens, PlanGoesOn, Steps, WritesTable, begun_image, closing_outcomes, is_past_freeze, stage_after, stage_behind, with_plan}
+use Rattle.sd_rounds.specs.Pass.{ImageEntry, Pass, Place, Taking, begun_to_take, copied_more, left_to_parent, opened, pages_by, sector_of, taken_as_zero, with_entry}
 use Rattle.sd_rounds.specs.Rises.{IsRising, RisesLaws, kind_at}
 use Rattle.sd_rounds.specs.Rounds.{Copies, IsNextSector, TakesPage, Tests}
 use Rattle.sd_rounds.specs.Steps.{StepLaws}
@@ -46,14 +46,14 @@ use Rattle.sd_rounds.proofs.WayLemmas.{way}
 -- ---- the page that is being taken
 
 -- nothing was copied yet
-none_copied : (page : Page) → IsFrontOf page []
+none_copied : (page : PageState) → IsFrontOf page []
 none_copied page = record { front = refl; full = λ long. absurd (omega (arith, long)) }
 
 -- no page is being taken
 none_taking : (cut : Contents) (pass : Pass) (memory : Contents) → pass.taking ≡ None → IsDumping cut pass memory → IsTaking cut pass memory
 none_taking cut pass memory none dumping = record { dumping = dumping; copied = λ taking page is there. absurd (no_some taking none is) }
 
-more_front : (page : Page) (copied bytes : List ℕ) (sector : ℕ) → bytes ≡ page.bytes → length bytes ≡ 4096 → sector < 8 → length copied ≡ 512 * sector
+more_front : (page : PageState) (copied bytes : List ℕ) (sector : ℕ) → bytes ≡ page.bytes → length bytes ≡ 4096 → sector < 8 → length copied ≡ 512 * sector
     → IsFrontOf page copied → IsFrontOf page (copied ++ sector_of bytes sector)
 more_front page copied bytes sector same whole within at_sector was =
     let f : copied ++ sector_of bytes sector ≡ take (length (copied ++ sector_of bytes sector)) page.bytes =
@@ -66,13 +66,13 @@ more_front page copied bytes sector same whole within at_sector was =
     }
 
 -- the page at the freeze has the bytes of the one that is copied
-same_page : PlainLaw → (cut memory : Contents) → plain_of memory ≡ plain_of cut → (at : Place) (page now : Page) → page_at cut at.0 at.1 ≡ Some page
+same_page : PlainLaw → (cut memory : Contents) → plain_of memory ≡ plain_of cut → (at : Place) (page now : PageState) → page_at cut at.0 at.1 ≡ Some page
     → page_at memory at.0 at.1 ≡ Some now → now.bytes ≡ page.bytes
 same_page law cut memory same at page now there is =
     let found = other_page law memory cut same at page there in
-    ap (λ (p : Page). p.bytes) (one_some now found.0 is found.1) ∙ found.2
+    ap (λ (p : PageState). p.bytes) (one_some now found.0 is found.1) ∙ found.2
 
-taking_more : PlainLaw → DumpLaws → (cut : Contents) (pass : Pass) (memory : Contents) (taking : Taking) (page : Page) (sector : ℕ)
+taking_more : PlainLaw → DumpLaws → (cut : Contents) (pass : Pass) (memory : Contents) (taking : Taking) (page : PageState) (sector : ℕ)
     → IsNextSector pass memory taking page sector → IsTaking cut pass memory → IsTaking cut (copied_more pass taking (sector_of page.bytes sector)) memory
 taking_more law dumps cut pass memory taking page sector next was = record {
   dumping = dumps.copies cut pass memory taking (sector_of page.bytes sector) next.is was.dumping;
@@ -96,14 +96,14 @@ visit_taking : StepLaws → (cut : Contents) (old new : Pass) (before after : Co
     → IsTaking cut old before → IsTaking cut new after
 visit_taking laws cut old new before after visit t free rising was = record {
   dumping = laws.visit_dumps cut old new before after visit t free rising was.dumping;
-  copied = subst (λ (p : Pass). (taking : Taking) (page : Page) → p.taking ≡ Some taking → page_at cut taking.place.0 taking.place.1 ≡ Some page → IsFrontOf page taking.copied)
+  copied = subst (λ (p : Pass). (taking : Taking) (page : PageState) → p.taking ≡ Some taking → page_at cut taking.place.0 taking.place.1 ≡ Some page → IsFrontOf page taking.copied)
       (sym t.is) (by (old.takes_all || t.page.soft_dirty));
 }
   where
     at : Place
     at = (visit.space, visit.page)
 
-    by : (b : Bool) → (taking : Taking) (page : Page) → (cond b (begun_to_take old at) (left_to_parent old at)).taking ≡ Some taking
+    by : (b : Bool) → (taking : Taking) (page : PageState) → (cond b (begun_to_take old at) (left_to_parent old at)).taking ≡ Some taking
         → page_at cut taking.place.0 taking.place.1 ≡ Some page → IsFrontOf page taking.copied
     by true taking page is there = subst (λ (t : Taking). IsFrontOf page t.copied) (one_some (record { place = at; copied = [] }) taking refl is) (none_copied page)
     by false taking page is there = absurd (no_some taking refl is)
@@ -193,19 +193,19 @@ steps law rises dumps laws ticket cut old new before after (Copied c) s past ris
     (subst (λ (g : Stage). TakesDueIn g cut new.pass before) (sym s.0.passes.0)
     (copy_taking law rises dumps cut old.pass new.pass before c s.0.copies rising (pass_taking old.stage cut old.pass before s.0.passes.0 was))))
 
-behind_due : (kind : Kind) (stage : Stage) (cut : Contents) (pass : Pass) (memory : Contents) → closing stage ≡ 0 → is_past_freeze stage ≡ true
+behind_due : (kind : Kind) (stage : Stage) (cut : Contents) (pass : Pass) (memory : Contents) → closing_outcomes stage ≡ 0 → is_past_freeze stage ≡ true
     → TakesDueIn stage cut pass memory → TakesDueIn (stage_behind kind stage) cut pass memory
 behind_due kind (Format plan) cut pass memory none past is = absurd (both_ways false refl past)
 behind_due kind Freeze cut pass memory none past is = absurd (both_ways false refl past)
 behind_due kind PassStage cut pass memory none past is = is
 behind_due kind (Close plan header tables) cut pass memory none past is = absurd (omega arith)
 
-image_goes_on : (cut : Contents) (old new : Making) (memory : Contents) (made : Made) → GoesOn old made new
+image_goes_on : (cut : Contents) (old new : Making) (memory : Contents) (made : Made) → PlanGoesOn old made new
     → is_past_freeze old.stage ≡ true → TakesDue cut old memory → TakesDue cut new memory
 image_goes_on cut old new memory made h past was =
     subst (λ (m : Making). TakesDue cut m memory) (sym h.is) (by (plan_after h.plan made).calls (none_closing old.stage (plan_after h.plan made).calls h.closes))
   where
-    by : (calls : Calls) → (calls ≡ [] → closing old.stage ≡ 0) → TakesDueIn (stage_after old.order.kind old.stage (plan_after h.plan made) calls) cut old.pass memory
+    by : (calls : Calls) → (calls ≡ [] → closing_outcomes old.stage ≡ 0) → TakesDueIn (stage_after old.order.kind old.stage (plan_after h.plan made) calls) cut old.pass memory
     by [] none = behind_due old.order.kind old.stage cut old.pass memory (none refl) past was
     by (call ∷ calls) none = asked_due old.stage (plan_after h.plan made) cut old.pass memory was
 
@@ -215,7 +215,7 @@ hands cut old new memory made (inl g) past was = image_goes_on cut old new memor
 hands cut old new memory made (inr w) past was = subst (λ (m : Making). TakesDue cut m memory) (sym w.is) was
 
 opens : (cut : Contents) (old : Making) (made : Made) (opened : NewImage) (memory : Contents) → Opens old made opened → IsRising old.pass
-    → TakesDue cut old memory → (kind : RunKind) (at : Place) → Contains (pages_of kind opened.table) at ↔ due old.pass.takes_all (page_at cut at.0 at.1) ≡ Some kind
+    → TakesDue cut old memory → (kind : RunKind) (at : Place) → Contains (pages_of kind opened.table) at ↔ kind_due old.pass.takes_all (page_at cut at.0 at.1) ≡ Some kind
 opens cut old made opened memory o rising was kind at = (
   λ c. sym (is.0 at) ∙ listed.0 (subst (λ (l : List Place). Contains l at) (is.1 kind) c),
   λ e. subst (λ (l : List Place). Contains l at) (sym (is.1 kind)) (listed.1 (is.0 at ∙ e)),
@@ -232,13 +232,13 @@ opens cut old made opened memory o rising was kind at = (
 begins : VisitLaws → (order : ImageOrder) → TakesVisited [] (begun_image order)
 begins laws order = record { pass = laws.opens (nat_eq order.parent 0); lists = tt }
 
-asked_lists : (stage : Stage) (plan : Planned) (entries : List Entry) → ListsIn stage entries → ListsIn (with_plan stage plan) entries
+asked_lists : (stage : Stage) (plan : Planned) (entries : List ImageEntry) → ListsIn stage entries → ListsIn (with_plan stage plan) entries
 asked_lists (Format old) plan entries is = is
 asked_lists Freeze plan entries is = is
 asked_lists PassStage plan entries is = is
 asked_lists (Close old header tables) plan entries is = is
 
-behind_lists : (kind : Kind) (stage : Stage) (entries : List Entry) → ListsIn (stage_behind kind stage) entries
+behind_lists : (kind : Kind) (stage : Stage) (entries : List ImageEntry) → ListsIn (stage_behind kind stage) entries
 behind_lists Dump (Format plan) entries = tt
 behind_lists PreDump (Format plan) entries = tt
 behind_lists Merged (Format plan) entries = tt
@@ -281,7 +281,7 @@ visits_step laws ticket visits old new before after (Copied c) s kind was =
     at_pass visits new PassStage (ap (λ (m : Making). m.stage) s.0.passes.1 ∙ s.0.passes.0) tt
     (copies laws never visits old.pass new.pass before c s.0.copies was.pass (none_swept visits old.pass)).is
 
-visits_go_on : (visits : List Visit) (old new : Making) (made : Made) → GoesOn old made new → TakesVisited visits old → TakesVisited visits new
+visits_go_on : (visits : List Visit) (old new : Making) (made : Made) → PlanGoesOn old made new → TakesVisited visits old → TakesVisited visits new
 visits_go_on visits old new made h was = subst (λ (m : Making). TakesVisited visits m) (sym h.is) (record { pass = was.pass; lists = by (plan_after h.plan made).calls })
   where
     by : (calls : Calls) → ListsIn (stage_after old.order.kind old.stage (plan_after h.plan made) calls) old.pass.entries

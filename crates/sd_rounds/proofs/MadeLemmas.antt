@@ -19,11 +19,11 @@ use Rattle.sd_image.specs.Shows.Holds.{by_data as holds_data, by_zero as holds_z
 use Rattle.sd_image.specs.Table.{Listed, run_pages}
 use Rattle.sd_image.specs.Words.{run_kind_number}
 use Rattle.sd_pagetable.specs.Nested.{value_at}
-use Rattle.sd_pagetable.specs.Page.{Page, zeros, plain_page}
+use Rattle.sd_pagetable.specs.Page.{PageState, zeros, plain_page}
 use Rattle.sd_pagetable.specs.Contents.{Contents, page_at, plain_of}
 use Rattle.sd_pagetable.specs.Law.{PlainLaw}
-use Rattle.sd_rounds.specs.Pass.{Place, Entry, Taking, Pass, pages_by, data_pages, has_kind, place_of, taken_as_data}
-use Rattle.sd_rounds.specs.Keeps.{Stored, Chain, Gives, Gave, Keeps, Rests, Within}
+use Rattle.sd_rounds.specs.Pass.{Place, ImageEntry, Taking, Pass, pages_by, data_pages, has_kind, place_of_entry, taken_as_data}
+use Rattle.sd_rounds.specs.Keeps.{Stored, Chain, EntriesGive, Gave, Keeps, Rests, ChainWithin}
 use Rattle.sd_rounds.specs.Keeps.Gives.{by_data, by_zero, by_parent}
 use Rattle.sd_rounds.specs.Dump.{IsDumped}
 use Rattle.sd_rounds.specs.Made.{run_entries, entries_listed, Lists, IsImageOf, listed_pages, HasTheAreas, MadeLaws}
@@ -37,8 +37,8 @@ none_by : (b : Bool) → ◌≡◌ {A = List Place} (cond b [] []) []
 none_by true = refl
 none_by false = refl
 
-one_by : (b : Bool) (entry : Entry) (pages : List Place) (entries : List Entry) → cond b pages [] ≡ map place_of entries
-    → cond b (entry.place ∷ pages) [] ≡ map place_of (cond b (entry ∷ entries) entries)
+one_by : (b : Bool) (entry : ImageEntry) (pages : List Place) (entries : List ImageEntry) → cond b pages [] ≡ map place_of_entry entries
+    → cond b (entry.place ∷ pages) [] ≡ map place_of_entry (cond b (entry ∷ entries) entries)
 one_by true entry pages entries e = ap (λ (l : List Place). entry.place ∷ l) e
 one_by false entry pages entries e = e
 
@@ -74,8 +74,8 @@ zero_pages : (bytes : List ℕ) → bytes ≡ zeros → bytes ≡ replicate 4096
 unfolding zeros
 zero_pages bytes e = e
 
-holds : (stored : Stored) (chain : Chain) (entries : List Entry) (i : Image) (at : Place) (bytes : List ℕ) → IsImageOf stored chain entries i
-    → Gives stored chain entries at bytes → Holds chain.images at.0 at.1 bytes i
+holds : (stored : Stored) (chain : Chain) (entries : List ImageEntry) (i : Image) (at : Place) (bytes : List ℕ) → IsImageOf stored chain entries i
+    → EntriesGive stored chain entries at bytes → Holds chain.images at.0 at.1 bytes i
 holds stored chain entries i at bytes is (by_data place listed there) =
     holds_data i place (subst (λ (l : List Place). slice_get l place ≡ Some at) (sym (is.lists Data)) listed)
     (is.pages place (slice_get_within (pages_by Data entries) place at listed) ∙ there)
@@ -100,7 +100,7 @@ dumps law stored chain cut pass i is has dumped = record {
       (page_in_is (plain_of cut) s.space page ∙ law.pages cut s.space page);
 }
   where
-    found : (s : Listed) (page : ℕ) (p : plain.Page) (o : Option Page) → page_at cut s.space page ≡ o → Some p ≡ option_map plain_page o
+    found : (s : Listed) (page : ℕ) (p : plain.Page) (o : Option PageState) → page_at cut s.space page ≡ o → Some p ≡ option_map plain_page o
         → Holds chain.images s.space page p.bytes i
     found s page p None there e = absurd (no_some p refl (sym e))
     found s page p (Some x) there e =
@@ -128,8 +128,8 @@ takes_up pages chain pass memory taking is long count =
     (λ place within. front_same pages (taking.copied ∷ []) place (subst (λ n. place < n) (sym count) within))
     (subst (λ n. slice_get (pages ++ taking.copied ∷ []) n ≡ Some taking.copied) count (slice_get_back pages taking.copied))
 
-commits : (stored : Stored) (before after : Chain) (entries : List Entry) (memory : Contents) (i : Image) → IsImageOf stored after entries i
-    → IsNamed after.images i.header.stands_for i → Within before after
+commits : (stored : Stored) (before after : Chain) (entries : List ImageEntry) (memory : Contents) (i : Image) → IsImageOf stored after entries i
+    → IsNamed after.images i.header.stands_for i → ChainWithin before after
     → Gave stored before entries memory → Rests (record { images = after.images; number = i.header.stands_for }) memory
 commits stored before after entries memory i is named within gave = λ space number bytes clean. (
   i,

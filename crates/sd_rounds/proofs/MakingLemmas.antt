@@ -15,7 +15,7 @@ use Rattle.sd_gate.specs.Plans.{Planned, plan_after}
 use Rattle.sd_gate.specs.Requests.{Made}
 use Rattle.sd_gate.specs.Sequences.{Calls}
 use Rattle.sd_pagetable.specs.Contents.{Contents, IsSound}
-use Rattle.sd_pagetable.specs.Tracking.{Event, Step}
+use Rattle.sd_pagetable.specs.Tracking.{MemoryEvent, Step}
 use Rattle.sd_rounds.specs.declared.copied.Copied as copied
 use Rattle.sd_rounds.specs.declared.copied.Copied.TheVariants.{More as MoreSectors, Zero as ZeroPage, Gone}
 use Rattle.sd_rounds.specs.declared.visit.Visit as visit
@@ -26,9 +26,9 @@ use Rattle.sd_rounds.specs.declared.image_step.ImageStep.TheVariants.{Call, Page
 use Rattle.sd_rounds.specs.declared.stage.Stage.{Stage}
 use Rattle.sd_rounds.specs.declared.stage.Stage.TheVariants.{Format, Freeze, Pass as PassStage, Close}
 use Rattle.sd_rounds.specs.Dump.{DumpLaws, IsDumping}
-use Rattle.sd_rounds.specs.Keeps.{Chain, IsCall, Keeps, KeepsLaws, Rests, Within}
+use Rattle.sd_rounds.specs.Keeps.{Chain, ChainWithin, IsCall, Keeps, KeepsLaws, Rests}
 use Rattle.sd_rounds.specs.Made.{listed_pages}
-use Rattle.sd_rounds.specs.Making.{GoesOn, HandsIn, Making, Steps, WritesTable, begun_image, closing, is_past_freeze, stage_after, stage_behind, with_plan}
+use Rattle.sd_rounds.specs.Making.{HandsIn, Making, PlanGoesOn, Steps, WritesTable, begun_image, closing_outcomes, is_past_freeze, stage_after, stage_behind, with_plan}
 use Rattle.sd_rounds.specs.MakingLaws.{DumpsImage, IsDumpedIn, IsKeptIn, KeepsImage, MakingLaws, Pages, pages_after}
 use Rattle.sd_rounds.specs.Pass.{Pass, Place, begun_to_take, data_pages, left_to_parent, opened, pages_by, with_entry}
 use Rattle.sd_rounds.specs.Rises.{IsRising}
@@ -146,7 +146,7 @@ steps keeps laws ticket pages chain old new before after (Copied c) s was =
     (laws.copy_keeps (listed_pages pages) chain old.pass new.pass before c s.0.copies (pass_kept old.stage pages chain old.pass before s.0.passes.0 was.kept))))
 
 -- behind a plan whose calls are done
-behind_keeps : (kind : Kind) (stage : Stage) (pages : Pages) (chain : Chain) (pass : Pass) (memory : Contents) → closing stage ≡ 0 → IsKeptIn stage pages chain pass memory
+behind_keeps : (kind : Kind) (stage : Stage) (pages : Pages) (chain : Chain) (pass : Pass) (memory : Contents) → closing_outcomes stage ≡ 0 → IsKeptIn stage pages chain pass memory
     → IsKeptIn (stage_behind kind stage) pages chain pass memory
 behind_keeps Dump (Format plan) pages chain pass memory none kept = kept
 behind_keeps PreDump (Format plan) pages chain pass memory none kept = kept
@@ -155,19 +155,19 @@ behind_keeps kind Freeze pages chain pass memory none kept = kept
 behind_keeps kind PassStage pages chain pass memory none kept = kept
 behind_keeps kind (Close plan header tables) pages chain pass memory none kept = absurd (omega arith)
 
-pub none_closing : (stage : Stage) (calls : Calls) → (closing stage ≢ 0 → calls ≢ []) → calls ≡ [] → closing stage ≡ 0
+pub none_closing : (stage : Stage) (calls : Calls) → (closing_outcomes stage ≢ 0 → calls ≢ []) → calls ≡ [] → closing_outcomes stage ≡ 0
 none_closing (Format plan) calls closes none = refl
 none_closing Freeze calls closes none = refl
 none_closing PassStage calls closes none = refl
 none_closing (Close plan header tables) calls closes none = absurd (closes (λ e. omega (arith, e)) none)
 
-goes_on : (pages : Pages) (chain : Chain) (old new : Making) (memory : Contents) (made : Made) → GoesOn old made new
+goes_on : (pages : Pages) (chain : Chain) (old new : Making) (memory : Contents) (made : Made) → PlanGoesOn old made new
     → KeepsImage pages chain old memory → KeepsImage pages chain new memory
 goes_on pages chain old new memory made h was =
     moved pages pages chain new (stage_after old.order.kind old.stage (plan_after h.plan made) (plan_after h.plan made).calls) old.pass old.order old.writes old.digester memory h.is was.count was.whole was.digested
     (by (plan_after h.plan made).calls (none_closing old.stage (plan_after h.plan made).calls h.closes))
   where
-    by : (calls : Calls) → (calls ≡ [] → closing old.stage ≡ 0) → IsKeptIn (stage_after old.order.kind old.stage (plan_after h.plan made) calls) pages chain old.pass memory
+    by : (calls : Calls) → (calls ≡ [] → closing_outcomes old.stage ≡ 0) → IsKeptIn (stage_after old.order.kind old.stage (plan_after h.plan made) calls) pages chain old.pass memory
     by [] none = behind_keeps old.order.kind old.stage pages chain old.pass memory (none refl) was.kept
     by (call ∷ calls) none = asked_keeps old.stage (plan_after h.plan made) pages chain old.pass memory was.kept
 
@@ -177,7 +177,7 @@ hands pages chain old new memory made (inl g) was = goes_on pages chain old new 
 hands pages chain old new memory made (inr w) was =
     moved pages pages chain new old.stage old.pass old.order (slice_set old.writes w.lane None) old.digester memory w.is was.count was.whole was.digested was.kept
 
-calls : KeepsLaws → (pages : Pages) (one other : Chain) (making : Making) (old new : Contents) (event : Event) → IsSound old → Step old event new → IsCall event → Within one other
+calls : KeepsLaws → (pages : Pages) (one other : Chain) (making : Making) (old new : Contents) (event : MemoryEvent) → IsSound old → Step old event new → IsCall event → ChainWithin one other
     → KeepsImage pages one making old → KeepsImage pages other making new
 calls laws pages one other making old new event sound step call within was = record {
   count = was.count;
@@ -197,7 +197,7 @@ calls laws pages one other making old new event sound step call within was = rec
     by (Close plan header tables) kept =
         laws.still_gave (listed_pages pages) (listed_pages pages) one other making.pass.entries old new event sound step call (λ place few. refl) within kept
 
-agrees : KeepsLaws → (pages : Pages) (one other : Chain) (making : Making) (memory : Contents) → Within one other
+agrees : KeepsLaws → (pages : Pages) (one other : Chain) (making : Making) (memory : Contents) → ChainWithin one other
     → KeepsImage pages one making memory → KeepsImage pages other making memory
 agrees laws pages one other making memory within was = record {
   count = was.count;
@@ -216,7 +216,7 @@ agrees laws pages one other making memory within was = record {
     by (Close plan header tables) kept = λ space number bytes clean.
         gives_agrees (listed_pages pages) (listed_pages pages) one other making.pass.entries (space, number) bytes (λ place few. refl) within (kept space number bytes clean)
 
-agrees_dump : (cut : Contents) (pages : Pages) (one other : Chain) (making : Making) (memory : Contents) → Within one other
+agrees_dump : (cut : Contents) (pages : Pages) (one other : Chain) (making : Making) (memory : Contents) → ChainWithin one other
     → DumpsImage cut pages one making memory → DumpsImage cut pages other making memory
 agrees_dump cut pages one other making memory within was = by making.stage was
   where
@@ -266,20 +266,20 @@ dumps dump laws ticket cut pages chain old new before after (Copied c) s past ri
     (laws.copy_dumps (listed_pages pages) chain cut old.pass new.pass before c s.0.copies rising
     (pass_kept old.stage pages chain old.pass before s.0.passes.0 keeps.kept) (pass_dumped old.stage cut pages chain old.pass before s.0.passes.0 was))))
 
-behind_dumps : (kind : Kind) (stage : Stage) (cut : Contents) (pages : Pages) (chain : Chain) (pass : Pass) (memory : Contents) → closing stage ≡ 0 → is_past_freeze stage ≡ true
+behind_dumps : (kind : Kind) (stage : Stage) (cut : Contents) (pages : Pages) (chain : Chain) (pass : Pass) (memory : Contents) → closing_outcomes stage ≡ 0 → is_past_freeze stage ≡ true
     → IsDumpedIn stage cut pages chain pass memory → IsDumpedIn (stage_behind kind stage) cut pages chain pass memory
 behind_dumps kind (Format plan) cut pages chain pass memory none past dumped = absurd (both_ways false refl past)
 behind_dumps kind Freeze cut pages chain pass memory none past dumped = absurd (both_ways false refl past)
 behind_dumps kind PassStage cut pages chain pass memory none past dumped = dumped
 behind_dumps kind (Close plan header tables) cut pages chain pass memory none past dumped = absurd (omega arith)
 
-goes_on_dump : (cut : Contents) (pages : Pages) (chain : Chain) (old new : Making) (memory : Contents) (made : Made) → GoesOn old made new
+goes_on_dump : (cut : Contents) (pages : Pages) (chain : Chain) (old new : Making) (memory : Contents) (made : Made) → PlanGoesOn old made new
     → is_past_freeze old.stage ≡ true → DumpsImage cut pages chain old memory → DumpsImage cut pages chain new memory
 goes_on_dump cut pages chain old new memory made h past was =
     subst (λ (m : Making). DumpsImage cut pages chain m memory) (sym h.is)
     (by (plan_after h.plan made).calls (none_closing old.stage (plan_after h.plan made).calls h.closes))
   where
-    by : (calls : Calls) → (calls ≡ [] → closing old.stage ≡ 0)
+    by : (calls : Calls) → (calls ≡ [] → closing_outcomes old.stage ≡ 0)
         → IsDumpedIn (stage_after old.order.kind old.stage (plan_after h.plan made) calls) cut pages chain old.pass memory
     by [] none = behind_dumps old.order.kind old.stage cut pages chain old.pass memory (none refl) past was
     by (call ∷ calls) none = asked_dumps old.stage (plan_after h.plan made) cut pages chain old.pass memory was

@@ -5,7 +5,7 @@ use Rattle.sd_image.specs.declared.run.RunKind.{RunKind}
 use Rattle.sd_image.specs.declared.run.RunKind.TheVariants.{Parent}
 use Rattle.sd_pagetable.specs.Order.{is_above}
 use Rattle.sd_pagetable.specs.Tracking.{is_page}
-use Rattle.sd_rounds.specs.Pass.{Place, Entry, Taking, Pass, has_passed, opened, visited, begun_to_take, left_to_parent, copied_more, dropped, with_entry}
+use Rattle.sd_rounds.specs.Pass.{Place, ImageEntry, Taking, Pass, has_passed, opened, visited, begun_to_take, left_to_parent, copied_more, dropped, with_entry}
 use Rattle.sd_rounds.specs.Rises.{AreRising, last_of, IsRising, kind_at, RisesLaws}
 use Rattle.sd_rounds.proofs.Clean.{no_some, one_some}
 use Rattle.sd_rounds.proofs.Lists.{put_behind}
@@ -13,21 +13,21 @@ use Rattle.sd_rounds.proofs.Orders.{page_here, apart_page, above_more, ahead_mor
 
 -- ---- one entry more
 
-last_put : (before : Option Place) (entries : List Entry) (at : Place) (kind : RunKind) → last_of before (put_behind entries at kind) ≡ Some at
+last_put : (before : Option Place) (entries : List ImageEntry) (at : Place) (kind : RunKind) → last_of before (put_behind entries at kind) ≡ Some at
 last_put before [] at kind = refl
 last_put before (entry ∷ entries) at kind = last_put (Some entry.place) entries at kind
 
-rising_put : (before : Option Place) (entries : List Entry) (at : Place) (kind : RunKind) → AreRising before entries
+rising_put : (before : Option Place) (entries : List ImageEntry) (at : Place) (kind : RunKind) → AreRising before entries
     → is_above (last_of before entries) at.0 at.1 ≡ true → AreRising before (put_behind entries at kind)
 rising_put before [] at kind rising above = (above, tt)
 rising_put before (entry ∷ entries) at kind rising above = (rising.0, rising_put (Some entry.place) entries at kind rising.1 above)
 
-pub kind_put_other : (entries : List Entry) (at q : Place) (kind : RunKind) → (at ≡ q → ⊥) → kind_at (put_behind entries at kind) q ≡ kind_at entries q
+pub kind_put_other : (entries : List ImageEntry) (at q : Place) (kind : RunKind) → (at ≡ q → ⊥) → kind_at (put_behind entries at kind) q ≡ kind_at entries q
 kind_put_other [] at q kind apart = ap (λ b. cond b (Some kind) None) (apart_page at q apart)
 kind_put_other (entry ∷ entries) at q kind apart =
     ap (λ rest. cond (is_page entry.place.0 entry.place.1 q.0 q.1) (Some entry.kind) rest) (kind_put_other entries at q kind apart)
 
-pub kind_put_here : (entries : List Entry) (at : Place) (kind : RunKind) → kind_at entries at ≡ None → kind_at (put_behind entries at kind) at ≡ Some kind
+pub kind_put_here : (entries : List ImageEntry) (at : Place) (kind : RunKind) → kind_at entries at ≡ None → kind_at (put_behind entries at kind) at ≡ Some kind
 kind_put_here [] at kind none = ap (λ b. cond b (Some kind) None) (page_here at)
 kind_put_here (entry ∷ entries) at kind none = by (is_page entry.place.0 entry.place.1 at.0 at.1) refl (kind_put_here entries at kind)
   where
@@ -38,7 +38,7 @@ kind_put_here (entry ∷ entries) at kind none = by (is_page entry.place.0 entry
 
 -- ---- a page above the entries
 
-above_last : (before : Option Place) (entries : List Entry) (at : Place) → AreRising before entries → is_above (last_of before entries) at.0 at.1 ≡ true
+above_last : (before : Option Place) (entries : List ImageEntry) (at : Place) → AreRising before entries → is_above (last_of before entries) at.0 at.1 ≡ true
     → is_above before at.0 at.1 ≡ true
 above_last before [] at rising above = above
 above_last before (entry ∷ entries) at rising above = above_more before entry.place at rising.0 (above_last (Some entry.place) entries at rising.1 above)
@@ -48,14 +48,14 @@ pub above_apart : (a b : Place) → is_above (Some a) b.0 b.1 ≡ true → a ≡
 above_apart a b above e =
     both_ways (has_passed (Some a) b) (above_not_passed (Some a) b above) (subst (λ (q : Place). has_passed (Some a) q ≡ true) e (passed_here a))
 
-missing_from : (before : Option Place) (entries : List Entry) (at : Place) → AreRising before entries → is_above (last_of before entries) at.0 at.1 ≡ true
+missing_from : (before : Option Place) (entries : List ImageEntry) (at : Place) → AreRising before entries → is_above (last_of before entries) at.0 at.1 ≡ true
     → kind_at entries at ≡ None
 missing_from before [] at rising above = refl
 missing_from before (entry ∷ entries) at rising above =
     ap (λ b. cond b (Some entry.kind) (kind_at entries at)) (apart_page entry.place at (above_apart entry.place at (above_last (Some entry.place) entries at rising.1 above)))
     ∙ missing_from (Some entry.place) entries at rising.1 above
 
-pub missing : (entries : List Entry) (at : Place) → AreRising None entries → is_above (last_of None entries) at.0 at.1 ≡ true → kind_at entries at ≡ None
+pub missing : (entries : List ImageEntry) (at : Place) → AreRising None entries → is_above (last_of None entries) at.0 at.1 ≡ true → kind_at entries at ≡ None
 missing = missing_from None
 
 -- ---- the steps

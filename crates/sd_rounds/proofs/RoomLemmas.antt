@@ -8,7 +8,7 @@ use Rattle.sd_image.specs.declared.run.Run.{Run}
 use Rattle.sd_image.specs.declared.run.RunKind.TheVariants.{Data}
 use Rattle.sd_image.specs.Runs.{end_of}
 use Rattle.sd_image.specs.Table.{AreRuns, Listed, is_run_after}
-use Rattle.sd_rounds.specs.Pass.{Place, Entry, data_pages, has_kind, place_of}
+use Rattle.sd_rounds.specs.Pass.{Place, ImageEntry, data_pages, has_kind, place_of_entry}
 use Rattle.sd_rounds.specs.Made.{entries_listed, run_entries}
 use Rattle.sd_rounds.specs.Tables.{AreTables, EndBefore, EndsBefore, IsTableAfter}
 
@@ -48,7 +48,7 @@ runs_fit parent space before run (next ∷ runs) are =
     let g : end_before before ≤ run.first = begins parent before run are.0 in
     (omega arith, rest.1)
 
-abbrev table_entries : Listed → List Entry
+abbrev table_entries : Listed → List ImageEntry
 table_entries t = flat_map (run_entries t.space) t.runs
 
 table_fits : (parent before : ℕ) (t : Listed) → IsTableAfter parent before t → (length (table_entries t) ≤ end_of t.runs) × (end_of t.runs ≤ 2 ^ 35)
@@ -109,5 +109,5 @@ pub has_room : (parent : ℕ) (tables : List Listed) (at : Place) → AreTables 
 has_room parent tables at are ends least within page =
     let all : length (entries_listed tables) ≤ 2 ^ 35 * (at.0 - 0 - 1) + at.1 = entries_fit parent 0 tables at are ends (omega arith) in
     let some : length (filter (has_kind Data) (entries_listed tables)) ≤ length (entries_listed tables) = filter_short (has_kind Data) (entries_listed tables) in
-    let long : data_pages (entries_listed tables) ≡ length (filter (has_kind Data) (entries_listed tables)) = length-map (filter (has_kind Data) (entries_listed tables)) place_of in
+    let long : data_pages (entries_listed tables) ≡ length (filter (has_kind Data) (entries_listed tables)) = length-map (filter (has_kind Data) (entries_listed tables)) place_of_entry in
     omega arith

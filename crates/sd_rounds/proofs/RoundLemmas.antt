@@ -12,9 +12,9 @@ use Rattle.sd_image.specs.Runs.{IsSourced}
 use Rattle.sd_pagetable.specs.Nested.{Nested, Table, is_alive, value_at}
 use Rattle.sd_image.specs.declared.run.RunKind.{RunKind}
 use Rattle.std.proofs.lemmas.List.{length-append}
-use Rattle.sd_rounds.specs.Pass.{Place, Entry, Pass, Taking, begun_to_take, copied_more, left_to_parent, with_entry}
+use Rattle.sd_rounds.specs.Pass.{Place, ImageEntry, Pass, Taking, begun_to_take, copied_more, left_to_parent, with_entry}
 use Rattle.sd_rounds.specs.Rises.{IsRising}
-use Rattle.sd_rounds.specs.Rounds.{IsCopying, IsRound, is_page_of_zeros, limit, pass_of, source, taking_of}
+use Rattle.sd_rounds.specs.Rounds.{IsCopying, IsRound, entry_parent, is_page_of_zeros, limit, pass_of, taking_of}
 use Rattle.sd_rounds.specs.Tables.{EndBefore, IsPushed, listed, entries_in}
 use Rattle.sd_rounds.proofs.Clean.{no_some, one_some}
 use Rattle.sd_rounds.proofs.RisesLemmas.{takes_rising, leaves_rising, copies, drops, enters}
@@ -61,24 +61,24 @@ pub left_view : (takes_all : Bool) (old new : List SpaceTable) (after taking : O
     → option_map (taking_of buffer) taking ≡ None → IsPushed parent (listed old) (listed new) at Parent
     → pass_of takes_all new (Some at) taking buffer ≡ left_to_parent (pass_of takes_all old after taking buffer) at
 left_view takes_all old new after taking buffer at parent free pushed =
-    ap (λ (e : List Entry). record { takes_all = takes_all; entries = e; after = Some at; taking = option_map (taking_of buffer) taking }) pushed.entries
+    ap (λ (e : List ImageEntry). record { takes_all = takes_all; entries = e; after = Some at; taking = option_map (taking_of buffer) taking }) pushed.entries
     ∙ ap (λ t. record { takes_all = takes_all; entries = entries_in old ++ (record { place = at; kind = Parent }) ∷ []; after = Some at; taking = t }) free
 
 pub left_round : (takes_all : Bool) (old new : List SpaceTable) (after taking : Option Place) (buffer : List ℕ) (at : Place) → IsRound takes_all old after taking buffer
     → option_map (taking_of buffer) taking ≡ None → is_above after at.0 at.1 ≡ true → 1 ≤ at.0 → at.0 ≤ 16
-    → IsPushed (source takes_all) (listed old) (listed new) at Parent → IsRound takes_all new (Some at) taking buffer
+    → IsPushed (entry_parent takes_all) (listed old) (listed new) at Parent → IsRound takes_all new (Some at) taking buffer
 left_round takes_all old new after taking buffer at round free above least within pushed = record {
   are = pushed.tables;
   ends = subst (λ (t : Option Place). EndBefore (limit (Some at) t) (listed new)) (sym (none_back (taking_of buffer) taking free)) pushed.ends;
-  rising = subst (λ (p : Pass). IsRising p) (sym (left_view takes_all old new after taking buffer at (source takes_all) free pushed))
+  rising = subst (λ (p : Pass). IsRising p) (sym (left_view takes_all old new after taking buffer at (entry_parent takes_all) free pushed))
       (leaves_rising (pass_of takes_all old after taking buffer) at above round.rising);
   spaces = λ q e. subst (λ (p : Place). (1 ≤ p.0) × (p.0 ≤ 16)) (one_some at q refl e) (least, within);
   sectors = λ q e. absurd (no_some q (none_back (taking_of buffer) taking free) e);
   some = λ q e. absurd (no_some q (none_back (taking_of buffer) taking free) e);
 }
 
-pub has_source : (takes_all : Bool) → takes_all ≡ false → IsSourced (source takes_all) Parent
-has_source takes_all e = λ _. subst (λ n. 0 < n) (sym (ap source e)) (omega arith)
+pub has_source : (takes_all : Bool) → takes_all ≡ false → IsSourced (entry_parent takes_all) Parent
+has_source takes_all e = λ _. subst (λ n. 0 < n) (sym (ap entry_parent e)) (omega arith)
 
 -- a space with a page is alive
 pub alive_at : {X : Type 0} (spaces : Nested X) (space page : ℕ) → IsSome (value_at spaces space page) → is_alive spaces space ≡ true
@@ -132,15 +132,15 @@ pub entered_view : (takes_all : Bool) (old new : List SpaceTable) (after taking 
     → IsPushed parent (listed old) (listed new) at kind
     → pass_of takes_all new after None buffer ≡ with_entry (pass_of takes_all old after taking buffer) at kind
 entered_view takes_all old new after taking buffer at kind parent pushed =
-    ap (λ (e : List Entry). record { takes_all = takes_all; entries = e; after = after; taking = None }) pushed.entries
+    ap (λ (e : List ImageEntry). record { takes_all = takes_all; entries = e; after = after; taking = None }) pushed.entries
 
 pub entered_round : (takes_all : Bool) (old new : List SpaceTable) (after taking : Option Place) (buffer : List ℕ) (at : Place) (kind : RunKind)
     → IsRound takes_all old after taking buffer → taking ≡ Some at
-    → IsPushed (source takes_all) (listed old) (listed new) at kind → IsRound takes_all new after None buffer
+    → IsPushed (entry_parent takes_all) (listed old) (listed new) at kind → IsRound takes_all new after None buffer
 entered_round takes_all old new after taking buffer at kind round is pushed = record {
   are = pushed.tables;
   ends = subst (λ (a : Option Place). EndBefore (limit a None) (listed new)) (sym (at_cursor takes_all old after taking buffer at round is)) pushed.ends;
-  rising = subst (λ (p : Pass). IsRising p) (sym (entered_view takes_all old new after taking buffer at kind (source takes_all) pushed))
+  rising = subst (λ (p : Pass). IsRising p) (sym (entered_view takes_all old new after taking buffer at kind (entry_parent takes_all) pushed))
       (enters (pass_of takes_all old after taking buffer) (taking_of buffer at) kind (ap (option_map (taking_of buffer)) is) round.rising);
   spaces = round.spaces;
   sectors = λ q e. absurd (no_some q refl e);

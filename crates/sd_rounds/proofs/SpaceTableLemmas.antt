@@ -17,7 +17,7 @@ use Rattle.sd_areas.specs.PlainMemory.{PlainMemory}
 use Rattle.sd_image.specs.Table.{Listed, mapped_count}
 use Rattle.sd_image.specs.Shows.{page_in}
 use Rattle.sd_pagetable.specs.Nested.{Table, inside, is_alive}
-use Rattle.sd_pagetable.specs.Page.{Page, plain_page}
+use Rattle.sd_pagetable.specs.Page.{PageState, plain_page}
 use Rattle.sd_pagetable.specs.Contents.{Contents, page_at, plain_of, IsSound}
 use Rattle.sd_pagetable.specs.Kept.{prots_of}
 use Rattle.sd_pagetable.specs.Law.{PlainLaw, pages_below}
@@ -30,25 +30,25 @@ page_in_plain law memory space page = page_in_is (plain_of memory) space page �
 
 -- the areas that a memory has of a space are those of its table
 pub record HasOwnTable (memory : Contents) (space : ℕ) (found : PageMap) : Type 0 where
-  pub table : Table Page
+  pub table : Table PageState
   pub is : finmap.get memory.spaces space ≡ Some table
   pub prots : found ≡ prots_of table
 
 pub has_table : (memory : Contents) (space : ℕ) (found : PageMap) → Some found ≡ option_map prots_of (finmap.get memory.spaces space) → HasOwnTable memory space found
 has_table memory space found is = by (finmap.get memory.spaces space) refl is
   where
-    by : (o : Option (Table Page)) → finmap.get memory.spaces space ≡ o → Some found ≡ option_map prots_of o → HasOwnTable memory space found
+    by : (o : Option (Table PageState)) → finmap.get memory.spaces space ≡ o → Some found ≡ option_map prots_of o → HasOwnTable memory space found
     by None e is = absurd (let f : Some found ≡ None = is in cc)
     by (Some table) e is = record { table = table; is = e; prots = (let f : Some found ≡ Some (prots_of table) = is in cc) }
 
 pub no_table : (memory : Contents) (space : ℕ) → None ≡ option_map prots_of (finmap.get memory.spaces space) → finmap.get memory.spaces space ≡ None
 no_table memory space is = by (finmap.get memory.spaces space) refl is
   where
-    by : (o : Option (Table Page)) → finmap.get memory.spaces space ≡ o → None ≡ option_map prots_of o → finmap.get memory.spaces space ≡ None
+    by : (o : Option (Table PageState)) → finmap.get memory.spaces space ≡ o → None ≡ option_map prots_of o → finmap.get memory.spaces space ≡ None
     by None e is = e
     by (Some table) e is = absurd (let f : None ≡ Some (prots_of table) = is in cc)
 
-prot_seen : (o : Option Page) → option_map (λ (found : Page). found.prot) o ≡ option_map (λ (found : plain.Page). found.prot) (option_map plain_page o)
+prot_seen : (o : Option PageState) → option_map (λ (found : PageState). found.prot) o ≡ option_map (λ (found : plain.Page). found.prot) (option_map plain_page o)
 prot_seen None = refl
 prot_seen (Some page) = refl
 
@@ -57,7 +57,7 @@ pub same_prot : PlainLaw → (memory : Contents) (space : ℕ) (found : PageMap)
     → finmap.get found page ≡ option_map (λ (page : plain.Page). page.prot) (page_in (plain_of memory) space page)
 same_prot law memory space found has page =
     ap (λ (m : PageMap). finmap.get m page) has.prots ∙ law.prots has.table page
-    ∙ ap (λ o. option_map (λ (found : Page). found.prot) (finmap.get (unwrap_or o finmap.empty) page)) (sym has.is)
+    ∙ ap (λ o. option_map (λ (found : PageState). found.prot) (finmap.get (unwrap_or o finmap.empty) page)) (sym has.is)
     ∙ prot_seen (page_at memory space page)
     ∙ ap (option_map (λ (found : plain.Page). found.prot)) (sym (page_in_plain law memory space page))
 
@@ -131,7 +131,7 @@ one_table_more memory source tables table least living was is = record {
 -- how many pages there are
 pub count_of_none : (memory : Contents) (space : ℕ) → finmap.get memory.spaces space ≡ None → pages_below memory.spaces (space + 1) ≡ pages_below memory.spaces space
 count_of_none memory space none =
-    let empty : finmap.len (inside memory.spaces space) ≡ 0 = ap (λ o. finmap.len (unwrap_or o finmap.empty)) none ∙ len-empty nat_cmp Page in
+    let empty : finmap.len (inside memory.spaces space) ≡ 0 = ap (λ o. finmap.len (unwrap_or o finmap.empty)) none ∙ len-empty nat_cmp PageState in
     ap (pages_below memory.spaces) (let e : space + 1 ≡ suc space = omega arith in e) ∙ omega (arith, empty)
 
 pub count_of_table : PlainLaw → areas.CountLaw → (memory : Contents) (tables : List Listed) (table : Listed) (found : PageMap) → HasOwnTable memory table.space found → AreAreasOf found table.areas
@@ -172,6 +172,6 @@ pub none_counted : (memory : Contents) → IsSound memory → (tables : List Lis
 none_counted memory sound tables no_tables =
     ap mapped_count no_tables ∙ sym (count_of_none memory 0 (no_space (finmap.get memory.spaces 0) (dead_zero memory sound)))
   where
-    no_space : (o : Option (Table Page)) → (is_some o ≡ true → ⊥) → o ≡ None
+    no_space : (o : Option (Table PageState)) → (is_some o ≡ true → ⊥) → o ≡ None
     no_space None dies = refl
     no_space (Some table) dies = absurd (dies refl)

@@ -9,9 +9,9 @@ use Rattle.sd_image.specs.declared.run.RunKind.{RunKind}
 use Rattle.sd_image.specs.declared.table.SpaceTable.{SpaceTable}
 use Rattle.sd_image.specs.Runs.{PageWay, AreRunsOf, IsSourced, end_of, run_ways}
 use Rattle.sd_image.specs.Table.{AreRuns, Listed, listing_of, run_pages}
-use Rattle.sd_rounds.specs.Pass.{Place, Entry}
+use Rattle.sd_rounds.specs.Pass.{Place, ImageEntry}
 use Rattle.sd_rounds.specs.Made.{entries_listed, run_entries}
-use Rattle.sd_rounds.specs.Tables.{IsTableAfter, AreTables, EndsBefore, EndBefore, IsPushed, IsBegun, listed}
+use Rattle.sd_rounds.specs.Tables.{IsTableAfter, AreTables, EndsBefore, EndBefore, IsPushed, SpaceIsBegun, listed}
 
 -- ---- a table more
 
@@ -63,23 +63,23 @@ one_further at = inr (refl, omega arith)
 
 -- ---- entries
 
-abbrev pub entry_of : ℕ → PageWay → Entry
+abbrev pub entry_of : ℕ → PageWay → ImageEntry
 entry_of space way = record { place = (space, way.0); kind = way.1 }
 
 run_entries_are : (space : ℕ) (kind : RunKind) (pages : List ℕ)
     → map (λ page. record { place = (space, page); kind = kind }) pages ≡ map (entry_of space) (map (λ page. (page, kind)) pages)
 run_entries_are space kind [] = refl
-run_entries_are space kind (page ∷ pages) = ap (λ (l : List Entry). (record { place = (space, page); kind = kind }) ∷ l) (run_entries_are space kind pages)
+run_entries_are space kind (page ∷ pages) = ap (λ (l : List ImageEntry). (record { place = (space, page); kind = kind }) ∷ l) (run_entries_are space kind pages)
 
 -- the entries of a space, by the pages of its runs
 entries_are : (space : ℕ) (runs : List Run) → flat_map (run_entries space) runs ≡ map (entry_of space) (flat_map run_ways runs)
 entries_are space [] = refl
 entries_are space (run ∷ runs) =
-    ap (λ (l : List Entry). l ++ flat_map (run_entries space) runs) (run_entries_are space run.kind (run_pages run))
-    ∙ ap (λ (l : List Entry). map (entry_of space) (run_ways run) ++ l) (entries_are space runs)
+    ap (λ (l : List ImageEntry). l ++ flat_map (run_entries space) runs) (run_entries_are space run.kind (run_pages run))
+    ∙ ap (λ (l : List ImageEntry). map (entry_of space) (run_ways run) ++ l) (entries_are space runs)
     ∙ sym (map-append (entry_of space) (run_ways run) (flat_map run_ways runs))
 
-abbrev table_entries : Listed → List Entry
+abbrev table_entries : Listed → List ImageEntry
 table_entries t = flat_map (run_entries t.space) t.runs
 
 entries_put : (tables : List Listed) (t : Listed) → entries_listed (tables ++ t ∷ []) ≡ entries_listed tables ++ table_entries t
@@ -90,7 +90,7 @@ runs_entries : (space page : ℕ) (kind : RunKind) (old new : List Run) → flat
     → flat_map (run_entries space) new ≡ flat_map (run_entries space) old ++ (record { place = (space, page); kind = kind }) ∷ []
 runs_entries space page kind old new e =
     entries_are space new ∙ ap (map (entry_of space)) e ∙ map-append (entry_of space) (flat_map run_ways old) _
-    ∙ ap (λ (l : List Entry). l ++ (record { place = (space, page); kind = kind }) ∷ []) (sym (entries_are space old))
+    ∙ ap (λ (l : List ImageEntry). l ++ (record { place = (space, page); kind = kind }) ∷ []) (sym (entries_are space old))
 
 no_push : {X : Type 0} (xs : List X) (x : X) → [] ≡ xs ++ x ∷ [] → ⊥
 no_push xs x e = absurd (let f : 0 ≡ length xs + 1 = ap length e ∙ length-append xs (x ∷ []) in omega arith)
@@ -108,9 +108,9 @@ pub longer_table : (parent : ℕ) (front : List SpaceTable) (last new : SpaceTab
     → IsPushed parent (listed (front ++ last ∷ [])) (listed (front ++ new ∷ [])) at kind
 longer_table parent front last new at kind are ends here same_space same_areas runs end = record {
   entries = ap entries_listed (listed_put front new) ∙ entries_put (listed front) (listing_of new)
-      ∙ ap (λ (l : List Entry). entries_listed (listed front) ++ l) more
+      ∙ ap (λ (l : List ImageEntry). entries_listed (listed front) ++ l) more
       ∙ sym (append_assoc (entries_listed (listed front)) (table_entries (listing_of last)) _)
-      ∙ ap (λ (l : List Entry). l ++ (record { place = at; kind = kind }) ∷ []) (sym (ap entries_listed (listed_put front last) ∙ entries_put (listed front) (listing_of last)));
+      ∙ ap (λ (l : List ImageEntry). l ++ (record { place = at; kind = kind }) ∷ []) (sym (ap entries_listed (listed_put front last) ∙ entries_put (listed front) (listing_of last)));
   tables = subst (AreTables parent 0) (sym (listed_put front new)) (tables_put parent 0 (listed front) (listing_of new) (tables_front parent 0 (listed front) (listing_of last) old)
       (record {
         above = subst (λ n. last_space 0 (listed front) < n) (sym same_space) was.above;
@@ -138,10 +138,10 @@ longer_table parent front last new at kind are ends here same_space same_areas r
 
 -- another space begins
 pub more_tables : (parent : ℕ) (old new : List SpaceTable) (at : Place) (kind : RunKind) → AreTables parent 0 (listed old) → EndBefore at (listed old)
-    → last_space 0 (listed old) < at.0 → at.0 ≤ 16 → IsSourced parent kind → IsBegun old new at kind → IsPushed parent (listed old) (listed new) at kind
+    → last_space 0 (listed old) < at.0 → at.0 ≤ 16 → IsSourced parent kind → SpaceIsBegun old new at kind → IsPushed parent (listed old) (listed new) at kind
 more_tables parent old new at kind are ends above within sourced begun = record {
   entries = ap entries_listed now ∙ entries_put (listed old) (listing_of begun.table)
-      ∙ ap (λ (l : List Entry). entries_listed (listed old) ++ l) (entries_are begun.table.space begun.table.runs.items
+      ∙ ap (λ (l : List ImageEntry). entries_listed (listed old) ++ l) (entries_are begun.table.space begun.table.runs.items
       ∙ ap (map (entry_of begun.table.space)) runs.list ∙ ap (λ n. (record { place = (n, at.1); kind = kind }) ∷ []) begun.space);
   tables = subst (AreTables parent 0) (sym now) (tables_put parent 0 (listed old) (listing_of begun.table) are (record {
     above = subst (λ n. last_space 0 (listed old) < n) (sym begun.space) above;
@@ -165,12 +165,12 @@ last_put before [] t = refl
 last_put before (s ∷ tables) t = last_put s.space tables t
 
 pub first_table : (parent : ℕ) (new : List SpaceTable) (at : Place) (kind : RunKind) → 1 ≤ at.0 → at.0 ≤ 16 → IsSourced parent kind
-    → IsBegun [] new at kind → IsPushed parent [] (listed new) at kind
+    → SpaceIsBegun [] new at kind → IsPushed parent [] (listed new) at kind
 first_table parent new at kind least within sourced begun = more_tables parent [] new at kind tt tt least within sourced begun
 
 pub next_table : (parent : ℕ) (front : List SpaceTable) (last : SpaceTable) (new : List SpaceTable) (at : Place) (kind : RunKind)
     → AreTables parent 0 (listed (front ++ last ∷ [])) → EndBefore at (listed (front ++ last ∷ [])) → last.space ≢ at.0
-    → at.0 ≤ 16 → IsSourced parent kind → IsBegun (front ++ last ∷ []) new at kind → IsPushed parent (listed (front ++ last ∷ [])) (listed new) at kind
+    → at.0 ≤ 16 → IsSourced parent kind → SpaceIsBegun (front ++ last ∷ []) new at kind → IsPushed parent (listed (front ++ last ∷ [])) (listed new) at kind
 next_table parent front last new at kind are ends apart within sourced begun =
     more_tables parent (front ++ last ∷ []) new at kind are ends
     (subst (λ n. n < at.0) (sym (ap (last_space 0) (listed_put front last) ∙ last_put 0 (listed front) (listing_of last)))
@@ -264,7 +264,7 @@ last_is (t ∷ tables) space place last at there read =
 
 -- a space that isn't the last begins
 pub begun_table : (parent : ℕ) (old new : List SpaceTable) (at : Place) (kind : RunKind) → AreTables parent 0 (listed old) → EndBefore at (listed old)
-    → end_in old at.0 ≡ false → 1 ≤ at.0 → at.0 ≤ 16 → IsSourced parent kind → IsBegun old new at kind → IsPushed parent (listed old) (listed new) at kind
+    → end_in old at.0 ≡ false → 1 ≤ at.0 → at.0 ≤ 16 → IsSourced parent kind → SpaceIsBegun old new at kind → IsPushed parent (listed old) (listed new) at kind
 begun_table parent [] new at kind are ends other least within sourced begun = first_table parent new at kind least within sourced begun
 begun_table parent (t ∷ tables) new at kind are ends other least within sourced begun =
     let last : SpaceTable = get_or (t ∷ tables) (length tables) t in
@@ -275,4 +275,4 @@ begun_table parent (t ∷ tables) new at kind are ends other least within source
     (subst (λ (l : List SpaceTable). EndBefore at (listed l)) end.is ends)
     (λ same. both_ways (nat_eq last.space at.0) (sym (in_last t tables at.0 t) ∙ other) (eq-eqb last.space at.0 same))
     within sourced
-    (subst (λ (l : List SpaceTable). IsBegun l new at kind) end.is begun))
+    (subst (λ (l : List SpaceTable). SpaceIsBegun l new at kind) end.is begun))

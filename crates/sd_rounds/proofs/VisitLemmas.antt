@@ -7,7 +7,7 @@ use Rattle.sd_image.specs.declared.run.RunKind.TheVariants.{Data, Parent, Zero}
 use Rattle.sd_pagetable.specs.Contents.{Contents}
 use Rattle.sd_pagetable.specs.Order.{IsNextPage}
 use Rattle.sd_image.proofs.Members.{contains_none}
-use Rattle.sd_rounds.specs.Pass.{Place, Entry, Taking, Pass, pages_by, has_passed, opened, visited, begun_to_take, left_to_parent, copied_more, dropped, with_entry}
+use Rattle.sd_rounds.specs.Pass.{Place, ImageEntry, Taking, Pass, pages_by, has_passed, opened, visited, begun_to_take, left_to_parent, copied_more, dropped, with_entry}
 use Rattle.sd_rounds.specs.Visits.{Visit, visited_page, is_taken, taken_pages, left_pages, IsPassOf, IsSwept, AreMapped, VisitLaws}
 use Rattle.sd_rounds.proofs.Clean.{no_some, one_some}
 use Rattle.sd_rounds.proofs.Lists.{put_behind, pages_append}
@@ -39,10 +39,10 @@ left_more takes_all visits at soft_dirty =
     by false = refl
 
 -- the pages of a kind, with an entry of another kind more
-still_data : (entries : List Entry) (at : Place) → pages_by Data (put_behind entries at Parent) ≡ pages_by Data entries
+still_data : (entries : List ImageEntry) (at : Place) → pages_by Data (put_behind entries at Parent) ≡ pages_by Data entries
 still_data entries at = pages_append Data entries _ ∙ append-nil (pages_by Data entries)
 
-still_zero : (entries : List Entry) (at : Place) → pages_by Zero (put_behind entries at Parent) ≡ pages_by Zero entries
+still_zero : (entries : List ImageEntry) (at : Place) → pages_by Zero (put_behind entries at Parent) ≡ pages_by Zero entries
 still_zero entries at = pages_append Zero entries _ ∙ append-nil (pages_by Zero entries)
 
 opens : (takes_all : Bool) → IsPassOf [] (opened takes_all)

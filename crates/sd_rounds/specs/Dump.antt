@@ -3,13 +3,13 @@ use Rattle.std.specs.Prelude.{◌≡◌, ℕ, Bool, true, false, ◌||◌, ◌==
 use Rattle.std.specs.List.{list_all}
 use Rattle.sd_image.specs.declared.run.RunKind.{RunKind}
 use Rattle.sd_image.specs.declared.run.RunKind.TheVariants.{Data, Parent, Zero}
-use Rattle.sd_pagetable.specs.Page.{Page, zeros}
+use Rattle.sd_pagetable.specs.Page.{PageState, zeros}
 use Rattle.sd_pagetable.specs.Contents.{Contents, page_at, plain_of}
 use Rattle.sd_pagetable.specs.Order.{IsNextPage}
 use Rattle.sd_pagetable.specs.Tracking.{Step, Cleared}
 use Rattle.sd_rounds.specs.Pass.{Place, Taking, Pass, IsTaken, has_passed, opened, visited, copied_more, with_entry}
 use Rattle.sd_rounds.specs.Pass.{taken_as_zero}
-use Rattle.sd_rounds.specs.Keeps.{Stored, Chain, Gives, Keeps}
+use Rattle.sd_rounds.specs.Keeps.{Stored, Chain, EntriesGive, Keeps}
 use Rattle.sd_rounds.specs.Rises.{IsRising, kind_at}
 
 -- how the bytes of a page are taken
@@ -18,13 +18,13 @@ kind_of_bytes bytes = if list_all (λ byte. byte == 0) bytes then Zero else Data
 
 -- How the image is to have a page of the memory at the freeze: as zeros or data where the whole memory is taken or the
 -- page was soft-dirty, and else in its parent.
-abbrev pub due : Bool → Option Page → Option RunKind
-due takes_all None = None
-due takes_all (Some page) = Some (if takes_all || page.soft_dirty then kind_of_bytes page.bytes else Parent)
+abbrev pub kind_due : Bool → Option PageState → Option RunKind
+kind_due takes_all None = None
+kind_due takes_all (Some page) = Some (if takes_all || page.soft_dirty then kind_of_bytes page.bytes else Parent)
 
 -- a page that is being taken was to be taken
 pub record WasDue (cut : Contents) (pass : Pass) (taking : Taking) : Type 0 where
-  pub page : Page
+  pub page : PageState
   pub there : page_at cut taking.place.0 taking.place.1 ≡ Some page
   pub is : (pass.takes_all || page.soft_dirty) ≡ true
 
@@ -33,21 +33,21 @@ pub record WasDue (cut : Contents) (pass : Pass) (taking : Taking) : Type 0 wher
 pub record IsDumping (cut : Contents) (pass : Pass) (memory : Contents) : Type 0 where
   pub plain : plain_of memory ≡ plain_of cut
   pub ahead : (at : Place) → has_passed pass.after at ≡ false → page_at memory at.0 at.1 ≡ page_at cut at.0 at.1
-  pub behind : (at : Place) (page : Page) → has_passed pass.after at ≡ true → page_at memory at.0 at.1 ≡ Some page
+  pub behind : (at : Place) (page : PageState) → has_passed pass.after at ≡ true → page_at memory at.0 at.1 ≡ Some page
       → page.soft_dirty ≡ false
   pub kinds : (at : Place) → has_passed pass.after at ≡ true → ((taking : Taking) → IsTaken pass at taking → ⊥)
-      → kind_at pass.entries at ≡ due pass.takes_all (page_at cut at.0 at.1)
+      → kind_at pass.entries at ≡ kind_due pass.takes_all (page_at cut at.0 at.1)
   pub taken : (taking : Taking) → pass.taking ≡ Some taking → WasDue cut pass taking
 
 -- The entries are exactly the pages of the memory at the freeze, each in the way that is due, and they give its bytes.
 pub record IsDumped (stored : Stored) (chain : Chain) (cut : Contents) (pass : Pass) : Type 0 where
-  pub kinds : (at : Place) → kind_at pass.entries at ≡ due pass.takes_all (page_at cut at.0 at.1)
-  pub bytes : (at : Place) (page : Page) → page_at cut at.0 at.1 ≡ Some page
-      → Gives stored chain pass.entries at page.bytes
+  pub kinds : (at : Place) → kind_at pass.entries at ≡ kind_due pass.takes_all (page_at cut at.0 at.1)
+  pub bytes : (at : Place) (page : PageState) → page_at cut at.0 at.1 ≡ Some page
+      → EntriesGive stored chain pass.entries at page.bytes
 
 pub record DumpLaws : Type 0 where
   pub freezes : (takes_all : Bool) (memory : Contents) → IsDumping memory (opened takes_all) memory
-  pub visits : (cut : Contents) (pass : Pass) (old new : Contents) (at : Place) (page : Page) → pass.taking ≡ None
+  pub visits : (cut : Contents) (pass : Pass) (old new : Contents) (at : Place) (page : PageState) → pass.taking ≡ None
       → IsRising pass
       → IsNextPage old.spaces pass.after (Some at) → page_at old at.0 at.1 ≡ Some page
       → Step old (Cleared at.0 at.1) new → plain_of new ≡ plain_of old

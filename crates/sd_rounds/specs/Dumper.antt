@@ -18,7 +18,8 @@ use Rattle.sd_rounds.specs.declared.new_image.NewImage.{NewImage}
 use Rattle.sd_rounds.specs.declared.progress.Progress.{Progress}
 use Rattle.sd_rounds.specs.declared.progress.Progress.TheVariants.{Strange, Failed as HasFailed, More as GoesOn}
 use Rattle.sd_rounds.specs.declared.progress.Progress.TheVariants.{PreDump as PreDumpOpen, Dump as DumpOpen}
-use Rattle.sd_rounds.specs.Making.{HandsIn, IsOutOf, Making, Steps, begun_image, closing, is_frozen, out_of}
+use Rattle.sd_rounds.specs.Making.{HandsIn, IsOutOf, Making, Steps, begun_image, closing_outcomes, is_frozen_dump}
+use Rattle.sd_rounds.specs.Making.{out_of}
 use Rattle.sd_rounds.specs.Making.{outcomes_left}
 use Rattle.sd_rounds.specs.Pass.{data_pages}
 use Rattle.sd_rounds.specs.Writes.{no_writes, writes_out}
@@ -245,7 +246,7 @@ is_strange (DumpOpen image) = false
 
 abbrev pub is_frozen_image : Option Making → Bool
 is_frozen_image None = false
-is_frozen_image (Some image) = is_frozen image
+is_frozen_image (Some image) = is_frozen_dump image
 
 -- one outcome more, where the memory was frozen
 abbrev pub counted : Running → ℕ → ℕ
@@ -304,11 +305,11 @@ pages_of (Some running) = pages_of_image running.image
 -- that close it
 pub record IsCounted (since : ℕ) (image : Making) : Type 0 where
   pub count : since + outcomes_left image.stage + writes_out image.writes
-      ≡ data_pages image.pass.entries + closing image.stage
+      ≡ data_pages image.pass.entries + closing_outcomes image.stage
 
 abbrev pub AreCounted : ℕ → Option Making → Type 0
 AreCounted since None = Unit {0}
-AreCounted since (Some image) = is_frozen image ≡ true → IsCounted since image
+AreCounted since (Some image) = is_frozen_dump image ≡ true → IsCounted since image
 
 -- what holds of every checkpoint that runs
 pub record IsRunning (since : ℕ) (running : Running) : Type 0 where

@@ -16,8 +16,8 @@ use Rattle.sd_rounds.specs.declared.image_step.ImageStep.TheVariants.{Call, Tabl
 use Rattle.sd_rounds.specs.declared.new_image.NewImage.{NewImage}
 use Rattle.sd_rounds.specs.declared.stage.Stage.{Stage}
 use Rattle.sd_rounds.specs.declared.stage.Stage.TheVariants.{Format, Freeze, Pass as PassStage, Close}
-use Rattle.sd_rounds.specs.Dump.{IsDumped, due}
-use Rattle.sd_rounds.specs.Keeps.{Chain, Rests, Stored, Within}
+use Rattle.sd_rounds.specs.Dump.{IsDumped, kind_due}
+use Rattle.sd_rounds.specs.Keeps.{Chain, ChainWithin, Rests, Stored}
 use Rattle.sd_rounds.specs.Made.{HasTheAreas, IsImageOf, Lists, listed_pages}
 use Rattle.sd_rounds.specs.Making.{AreThePages, HandsIn, Making, Opens, Steps, header_of}
 use Rattle.sd_rounds.specs.MakingLaws.{AreItsNumbers, DumpsImage, KeepsImage, Pages, image_of}
@@ -94,10 +94,10 @@ pub record FileLaws : Type 0 where
       (memory : Contents) → Opens old made opened
       → FilesImage pages old → IsRising old.pass → DumpsImage cut pages chain old memory
       → (kind : RunKind) (at : Place)
-      → Contains (pages_of kind opened.table) at ↔ due old.pass.takes_all (page_at cut at.0 at.1) ≡ Some kind
+      → Contains (pages_of kind opened.table) at ↔ kind_due old.pass.takes_all (page_at cut at.0 at.1) ≡ Some kind
   -- once it is among the images its number gives each clean page, and the next image may name it
   pub commits : (pages : Pages) (before after : Chain) (old : Making) (made : Made) (opened : NewImage)
       (memory : Contents) → Opens old made opened → after.number ≡ old.order.parent
       → FilesImage pages old → IsNamed after.images old.order.serial (image_of opened.header pages opened.table)
-      → Within before after → KeepsImage pages before old memory
+      → ChainWithin before after → KeepsImage pages before old memory
       → Rests (record { images = after.images; number = old.order.serial }) memory

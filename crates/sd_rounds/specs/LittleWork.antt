@@ -7,7 +7,7 @@ use Rattle.sd_image.specs.Shows.{pages_of}
 use Rattle.sd_image.specs.Table.{Listed}
 use Rattle.sd_gate.specs.Requests.{Made}
 use Rattle.sd_pagetable.specs.Contents.{Contents, page_at}
-use Rattle.sd_pagetable.specs.Page.{Page}
+use Rattle.sd_pagetable.specs.Page.{PageState}
 use Rattle.sd_rounds.specs.declared.image_order.ImageOrder.{ImageOrder}
 use Rattle.sd_rounds.specs.declared.image_progress.ImageProgress.TheVariants.{More}
 use Rattle.sd_rounds.specs.declared.image_step.ImageStep.{ImageStep}
@@ -15,18 +15,18 @@ use Rattle.sd_rounds.specs.declared.image_step.ImageStep.TheVariants.{Frozen}
 use Rattle.sd_rounds.specs.declared.new_image.NewImage.{NewImage}
 use Rattle.sd_rounds.specs.declared.stage.Stage.{Stage}
 use Rattle.sd_rounds.specs.declared.stage.Stage.TheVariants.{Format, Freeze, Pass as PassStage, Close}
-use Rattle.sd_rounds.specs.Dump.{IsDumping, due}
+use Rattle.sd_rounds.specs.Dump.{IsDumping, kind_due}
 use Rattle.sd_rounds.specs.ImageVisits.{visits_after}
 use Rattle.sd_rounds.specs.Made.{Lists}
 use Rattle.sd_rounds.specs.Making.{HandsIn, Making, Opens, Steps, begun_image, is_past_freeze}
-use Rattle.sd_rounds.specs.Pass.{Entry, Pass, Place, Taking}
+use Rattle.sd_rounds.specs.Pass.{ImageEntry, Pass, Place, Taking}
 use Rattle.sd_rounds.specs.Rises.{IsRising, kind_at}
 use Rattle.sd_rounds.specs.Visits.{IsPassOf, Visit, left_pages, taken_pages}
 
 -- ---- the dump of a frozen memory
 
 -- what was copied of a page is the front of its bytes at the freeze
-pub record IsFrontOf (page : Page) (copied : List ℕ) : Type 0 where
+pub record IsFrontOf (page : PageState) (copied : List ℕ) : Type 0 where
   pub front : copied ≡ take (length copied) page.bytes
   pub full : length copied ≡ 4096 → copied ≡ page.bytes
 
@@ -34,13 +34,13 @@ pub record IsFrontOf (page : Page) (copied : List ℕ) : Type 0 where
 -- copied.
 pub record IsTaking (cut : Contents) (pass : Pass) (memory : Contents) : Type 0 where
   pub dumping : IsDumping cut pass memory
-  pub copied : (taking : Taking) (page : Page) → pass.taking ≡ Some taking
+  pub copied : (taking : Taking) (page : PageState) → pass.taking ≡ Some taking
       → page_at cut taking.place.0 taking.place.1 ≡ Some page
       → IsFrontOf page taking.copied
 
 -- the entries are exactly the pages of the memory at the freeze, each in the way that is due
 abbrev pub HasWays : Contents → Pass → Type 0
-HasWays cut pass = (at : Place) → kind_at pass.entries at ≡ due pass.takes_all (page_at cut at.0 at.1)
+HasWays cut pass = (at : Place) → kind_at pass.entries at ≡ kind_due pass.takes_all (page_at cut at.0 at.1)
 
 abbrev pub TakesDueIn : Stage → Contents → Pass → Contents → Type 0
 TakesDueIn (Format plan) cut pass memory = Unit {0}
@@ -54,7 +54,7 @@ TakesDue cut image memory = TakesDueIn image.stage cut image.pass memory
 
 -- ---- a pre-dump, by its visits
 
-abbrev pub ListsIn : Stage → List Entry → Type 0
+abbrev pub ListsIn : Stage → List ImageEntry → Type 0
 ListsIn (Format plan) entries = Unit {0}
 ListsIn Freeze entries = Unit {0}
 ListsIn PassStage entries = Unit {0}
@@ -86,7 +86,7 @@ pub record LittleLaws : Type 0 where
   pub opens : (cut : Contents) (old : Making) (made : Made) (opened : NewImage) (memory : Contents)
       → Opens old made opened → IsRising old.pass
       → TakesDue cut old memory → (kind : RunKind) (at : Place)
-      → Contains (pages_of kind opened.table) at ↔ due old.pass.takes_all (page_at cut at.0 at.1) ≡ Some kind
+      → Contains (pages_of kind opened.table) at ↔ kind_due old.pass.takes_all (page_at cut at.0 at.1) ≡ Some kind
   pub begins : (order : ImageOrder) → TakesVisited [] (begun_image order)
   pub visits : (ticket : ℕ) (visits : List Visit) (old new : Making) (before after : Contents) (step : ImageStep)
       → Steps ticket old before step new after

@@ -12,24 +12,24 @@ use Rattle.sd_image.specs.Image.{Image}
 use Rattle.sd_image.specs.Shows.{Holds, IsMemory, IsNamed, page_in, pages_of}
 use Rattle.sd_image.specs.Table.{Listed, run_pages}
 use Rattle.sd_pagetable.specs.Contents.{Contents, plain_of}
-use Rattle.sd_rounds.specs.Pass.{Place, Entry, Taking, Pass, pages_by, data_pages, taken_as_data}
-use Rattle.sd_rounds.specs.Keeps.{Stored, Chain, Gives, Gave, Keeps, Rests, Within}
+use Rattle.sd_rounds.specs.Pass.{Place, ImageEntry, Taking, Pass, pages_by, data_pages, taken_as_data}
+use Rattle.sd_rounds.specs.Keeps.{Stored, Chain, EntriesGive, Gave, Keeps, Rests, ChainWithin}
 use Rattle.sd_rounds.specs.Dump.{IsDumped}
 
 -- the entries of a run of a space
-abbrev pub run_entries : ℕ → Run → List Entry
+abbrev pub run_entries : ℕ → Run → List ImageEntry
 run_entries space run = map (λ page. record { place = (space, page); kind = run.kind }) (run_pages run)
 
 -- the entries of a table
-abbrev pub entries_listed : List Listed → List Entry
+abbrev pub entries_listed : List Listed → List ImageEntry
 entries_listed = flat_map (λ (s : Listed). flat_map (run_entries s.space) s.runs)
 
 -- a table has the pages of the entries, in their order, each in its way
-abbrev pub Lists : List Entry → List Listed → Type 0
+abbrev pub Lists : List ImageEntry → List Listed → Type 0
 Lists entries spaces = (kind : RunKind) → pages_of kind spaces ≡ pages_by kind entries
 
 -- the image of these entries, above what its parent number names
-pub record IsImageOf (stored : Stored) (chain : Chain) (entries : List Entry) (i : Image) : Type 0 where
+pub record IsImageOf (stored : Stored) (chain : Chain) (entries : List ImageEntry) (i : Image) : Type 0 where
   pub parent : i.header.parent ≡ chain.number
   pub lists : Lists entries i.spaces
   pub pages : (place : ℕ) → place < data_pages entries → slice_get i.pages place ≡ stored place
@@ -46,9 +46,9 @@ pub record HasTheAreas (memory : PlainMemory) (spaces : List Listed) : Type 0 wh
 
 pub record MadeLaws : Type 0 where
   pub lists : (spaces : List Listed) → Lists (entries_listed spaces) spaces
-  pub holds : (stored : Stored) (chain : Chain) (entries : List Entry) (i : Image) (at : Place) (bytes : List ℕ)
+  pub holds : (stored : Stored) (chain : Chain) (entries : List ImageEntry) (i : Image) (at : Place) (bytes : List ℕ)
       → IsImageOf stored chain entries i
-      → Gives stored chain entries at bytes → Holds chain.images at.0 at.1 bytes i
+      → EntriesGive stored chain entries at bytes → Holds chain.images at.0 at.1 bytes i
   -- the dump has the memory at the freeze
   pub dumps : (stored : Stored) (chain : Chain) (cut : Contents) (pass : Pass) (i : Image)
       → IsImageOf stored chain pass.entries i → HasTheAreas (plain_of cut) i.spaces
@@ -59,8 +59,8 @@ pub record MadeLaws : Type 0 where
       → length pages ≡ data_pages pass.entries → Keeps (listed_pages pages) chain pass memory
       → Keeps (listed_pages (pages ++ taking.copied ∷ [])) chain (taken_as_data pass taking) memory
   -- the image enters the catalog: from then on the chain ends at it
-  pub commits : (stored : Stored) (before after : Chain) (entries : List Entry) (memory : Contents) (i : Image)
+  pub commits : (stored : Stored) (before after : Chain) (entries : List ImageEntry) (memory : Contents) (i : Image)
       → IsImageOf stored after entries i
-      → IsNamed after.images i.header.stands_for i → Within before after
+      → IsNamed after.images i.header.stands_for i → ChainWithin before after
       → Gave stored before entries memory
       → Rests (record { images = after.images; number = i.header.stands_for }) memory

@@ -34,7 +34,7 @@ use Rattle.sd_rounds.specs.declared.new_image.NewImage.{NewImage}
 use Rattle.sd_rounds.specs.declared.stage.Stage.{Stage}
 use Rattle.sd_rounds.specs.declared.stage.Stage.TheVariants.{Format, Freeze, Pass as PassStage, Close}
 use Rattle.sd_rounds.specs.Made.{HasTheAreas, Lists}
-use Rattle.sd_rounds.specs.Pass.{Entry, Pass, data_pages, opened}
+use Rattle.sd_rounds.specs.Pass.{ImageEntry, Pass, data_pages, opened}
 use Rattle.sd_rounds.specs.Rises.{kind_at}
 use Rattle.sd_rounds.specs.Rounds.{Copies, TakesPage, Tests}
 use Rattle.sd_gate.specs.Lanes.{IsInLane}
@@ -74,8 +74,8 @@ is_past_freeze PassStage = true
 is_past_freeze (Close plan header tables) = true
 
 -- the dump of a memory that is frozen
-abbrev pub is_frozen : Making → Bool
-is_frozen making = (kind_number making.order.kind == 2) && is_past_freeze making.stage
+abbrev pub is_frozen_dump : Making → Bool
+is_frozen_dump making = (kind_number making.order.kind == 2) && is_past_freeze making.stage
 
 -- how many outcomes of its plan are still to be handed in
 abbrev pub outcomes_left : Stage → ℕ
@@ -85,11 +85,11 @@ outcomes_left PassStage = 0
 outcomes_left (Close plan header tables) = outcomes_of plan
 
 -- how many outcomes close the body, where that has begun
-abbrev pub closing : Stage → ℕ
-closing (Format plan) = 0
-closing Freeze = 0
-closing PassStage = 0
-closing (Close plan header tables) = 5
+abbrev pub closing_outcomes : Stage → ℕ
+closing_outcomes (Format plan) = 0
+closing_outcomes Freeze = 0
+closing_outcomes PassStage = 0
+closing_outcomes (Close plan header tables) = 5
 
 -- what holds of an image's pass in each stage: none was made before it is due
 abbrev pub IsReadyFor : ImageOrder → Pass → Stage → Type 0
@@ -178,23 +178,23 @@ header_of order pages table_len digest = record {
 }
 
 -- entries are exactly the mapped pages of a memory
-abbrev pub AreThePages : List Entry → Contents → Type 0
+abbrev pub AreThePages : List ImageEntry → Contents → Type 0
 AreThePages entries memory =
     (space page : ℕ) → is_some (kind_at entries (space, page)) ≡ is_some (page_at memory space page)
 
 -- a table with these entries
-pub record TablesEntries (entries : List Entry) (header : Header) (tables : List Listed) : Type 0 where
+pub record TablesEntries (entries : List ImageEntry) (header : Header) (tables : List Listed) : Type 0 where
   pub lists : Lists entries tables
   pub is : IsTable header tables
 
 -- a table with these entries, and the areas of a memory
-pub record TablesMemory (memory : Contents) (entries : List Entry) (header : Header)
+pub record TablesMemory (memory : Contents) (entries : List ImageEntry) (header : Header)
     (tables : List Listed) : Type 0 where
   pub table : TablesEntries entries header tables
   pub areas : HasTheAreas (plain_of memory) tables
 
 -- a pre-dump lists its entries; a dump the areas of the memory too, whose pages its entries are
-abbrev pub HasTable : Kind → Contents → List Entry → Header → List Listed → Type 0
+abbrev pub HasTable : Kind → Contents → List ImageEntry → Header → List Listed → Type 0
 HasTable PreDump memory entries header tables = TablesEntries entries header tables
 HasTable Dump memory entries header tables = AreThePages entries memory → TablesMemory memory entries header tables
 HasTable Merged memory entries header tables = AreThePages entries memory → TablesMemory memory entries header tables
@@ -230,7 +230,7 @@ pub record CopiesSector (old : Making) (memory : Contents) (copied : copied.Copi
   pub copies : Copies old.pass memory copied new.pass
   pub passes : Passes old new.pass new
 
-pub record Freezes (old new : Making) : Type 0 where
+pub record MakerFreezes (old new : Making) : Type 0 where
   pub stage : old.stage ≡ Freeze
   pub fresh : old.pass ≡ opened (old.order.parent == 0)
   pub rests : old.writes ≡ no_writes
@@ -244,7 +244,7 @@ Steps ticket old before (PageCall lane request) new after =
     WritesPage old lane request new × IsAskedBy Dumper ticket request × (after ≡ before)
 Steps ticket old before (TableCall request) new after =
     WritesTable old before request new × IsAskedBy Dumper ticket request × (after ≡ before)
-Steps ticket old before Frozen new after = Freezes old new × (after ≡ before)
+Steps ticket old before Frozen new after = MakerFreezes old new × (after ≡ before)
 Steps ticket old before (Visited visit) new after = Visits old before visit new after
 Steps ticket old before (Copied copied) new after = CopiesSector old before copied new × (after ≡ before)
 
@@ -260,14 +260,14 @@ abbrev pub stage_after : Kind → Stage → Planned → Calls → Stage
 stage_after kind stage plan [] = stage_behind kind stage
 stage_after kind stage plan (call ∷ calls) = with_plan stage plan
 
-pub record GoesOn (old : Making) (made : Made) (new : Making) : Type 0 where
+pub record PlanGoesOn (old : Making) (made : Made) (new : Making) : Type 0 where
   pub plan : Planned
   pub awaited : IsAwaited old made plan
   pub done : is_done made.answer ≡ true
   -- one outcome less is left
   pub one : outcomes_of (plan_after plan made) + 1 ≡ outcomes_of plan
   -- a body that is being closed has a call left
-  pub closes : closing old.stage ≢ 0 → (plan_after plan made).calls ≢ []
+  pub closes : closing_outcomes old.stage ≢ 0 → (plan_after plan made).calls ≢ []
   pub is : new ≡ record old
       { stage = stage_after old.order.kind old.stage (plan_after plan made) (plan_after plan made).calls }
 
@@ -300,5 +300,5 @@ pub record Opens (old : Making) (made : Made) (image : NewImage) : Type 0 where
 abbrev pub HandsIn : Making → Made → ImageProgress → Making → Type 0
 HandsIn old made Strange new = (IsOutOf old made.request.id → ⊥) × (new ≡ old)
 HandsIn old made Failed new = Fails old made new
-HandsIn old made More new = GoesOn old made new ⊎ IsWritten old made new
+HandsIn old made More new = PlanGoesOn old made new ⊎ IsWritten old made new
 HandsIn old made (Opened image) new = Opens old made image

@@ -7,7 +7,7 @@ use Rattle.sd_image.specs.Image.{Image}
 use Rattle.sd_image.specs.Table.{Listed}
 use Rattle.sd_gate.specs.Requests.{Made}
 use Rattle.sd_pagetable.specs.Contents.{Contents, IsSound}
-use Rattle.sd_pagetable.specs.Tracking.{Event, Step}
+use Rattle.sd_pagetable.specs.Tracking.{MemoryEvent, Step}
 use Rattle.sd_rounds.specs.declared.image_order.ImageOrder.{ImageOrder}
 use Rattle.sd_rounds.specs.declared.image_progress.ImageProgress.TheVariants.{More}
 use Rattle.sd_rounds.specs.declared.image_step.ImageStep.{ImageStep}
@@ -16,7 +16,7 @@ use Rattle.sd_rounds.specs.declared.image_step.ImageStep.TheVariants.{Copied}
 use Rattle.sd_rounds.specs.declared.stage.Stage.{Stage}
 use Rattle.sd_rounds.specs.declared.stage.Stage.TheVariants.{Format, Freeze, Pass as PassStage, Close}
 use Rattle.sd_rounds.specs.Dump.{IsDumped, IsDumping}
-use Rattle.sd_rounds.specs.Keeps.{Chain, Gave, IsCall, Keeps, Rests, Within}
+use Rattle.sd_rounds.specs.Keeps.{Chain, ChainWithin, Gave, IsCall, Keeps, Rests}
 use Rattle.sd_rounds.specs.Made.{listed_pages}
 use Rattle.sd_rounds.specs.Making.{HandsIn, Making, Steps, begun_image, is_past_freeze}
 use Rattle.sd_rounds.specs.Pass.{Pass, data_pages}
@@ -78,14 +78,15 @@ pub record MakingLaws : Type 0 where
       → HandsIn old made More new
       → KeepsImage pages chain old memory → KeepsImage pages chain new memory
   -- whatever is called on the memory, and while images below are merged or closed
-  pub calls : (pages : Pages) (one other : Chain) (making : Making) (old new : Contents) (event : Event) → IsSound old
-      → Step old event new → IsCall event → Within one other
+  pub calls : (pages : Pages) (one other : Chain) (making : Making) (old new : Contents) (event : MemoryEvent)
+      → IsSound old
+      → Step old event new → IsCall event → ChainWithin one other
       → KeepsImage pages one making old → KeepsImage pages other making new
   -- images below are merged or closed while the memory stays
-  pub agrees : (pages : Pages) (one other : Chain) (making : Making) (memory : Contents) → Within one other
+  pub agrees : (pages : Pages) (one other : Chain) (making : Making) (memory : Contents) → ChainWithin one other
       → KeepsImage pages one making memory → KeepsImage pages other making memory
   pub agrees_dump : (cut : Contents) (pages : Pages) (one other : Chain) (making : Making) (memory : Contents)
-      → Within one other
+      → ChainWithin one other
       → DumpsImage cut pages one making memory → DumpsImage cut pages other making memory
   pub freezes : (ticket : ℕ) (pages : Pages) (chain : Chain) (old new : Making) (before after : Contents)
       → Steps ticket old before Frozen new after

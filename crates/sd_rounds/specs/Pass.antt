@@ -12,22 +12,22 @@ abbrev pub Place : Type 0
 Place = ℕ × ℕ
 
 -- a page that an image has, and in which way
-pub record Entry : Type 0 where
+pub record ImageEntry : Type 0 where
   pub place : Place
   pub kind : RunKind
 
-abbrev pub place_of : Entry → Place
-place_of entry = entry.place
+abbrev pub place_of_entry : ImageEntry → Place
+place_of_entry entry = entry.place
 
-abbrev pub has_kind : RunKind → Entry → Bool
+abbrev pub has_kind : RunKind → ImageEntry → Bool
 has_kind kind entry = run_kind_number entry.kind == run_kind_number kind
 
 -- the pages that entries have in one way, in their order
-abbrev pub pages_by : RunKind → List Entry → List Place
-pages_by kind entries = map place_of (filter (has_kind kind) entries)
+abbrev pub pages_by : RunKind → List ImageEntry → List Place
+pages_by kind entries = map place_of_entry (filter (has_kind kind) entries)
 
 -- how many data pages stand in the file
-abbrev pub data_pages : List Entry → ℕ
+abbrev pub data_pages : List ImageEntry → ℕ
 data_pages entries = length (pages_by Data entries)
 
 -- the page that is being taken, and what was copied of it so far
@@ -39,7 +39,7 @@ pub record Taking : Type 0 where
 -- that is being taken
 pub record Pass : Type 0 where
   pub takes_all : Bool
-  pub entries : List Entry
+  pub entries : List ImageEntry
   pub after : Option Place
   pub taking : Option Taking
 

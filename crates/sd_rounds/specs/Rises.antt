@@ -3,17 +3,17 @@ use Rattle.std.specs.Prelude.{◌≡◌, ℕ, Bool, true, false, if◌then◌els
 use Rattle.sd_image.specs.declared.run.RunKind.{RunKind}
 use Rattle.sd_pagetable.specs.Order.{is_above}
 use Rattle.sd_pagetable.specs.Tracking.{is_page}
-use Rattle.sd_rounds.specs.Pass.{Place, Entry, Taking, Pass, has_passed, opened, visited, copied_more, dropped}
+use Rattle.sd_rounds.specs.Pass.{Place, ImageEntry, Taking, Pass, has_passed, opened, visited, copied_more, dropped}
 use Rattle.sd_rounds.specs.Pass.{with_entry}
 
 -- each above the one before
-abbrev pub AreRising : Option Place → List Entry → Type 0
+abbrev pub AreRising : Option Place → List ImageEntry → Type 0
 AreRising before [] = Unit {0}
 AreRising before (entry ∷ entries) =
     (is_above before entry.place.0 entry.place.1 ≡ true) × AreRising (Some entry.place) entries
 
 -- the last page that has an entry
-abbrev pub last_of : Option Place → List Entry → Option Place
+abbrev pub last_of : Option Place → List ImageEntry → Option Place
 last_of before [] = before
 last_of before (entry ∷ entries) = last_of (Some entry.place) entries
 
@@ -26,7 +26,7 @@ pub record IsRising (pass : Pass) : Type 0 where
       → (pass.after ≡ Some taking.place) × (is_above (last_of None pass.entries) taking.place.0 taking.place.1 ≡ true)
 
 -- in which way entries have a page
-abbrev pub kind_at : List Entry → Place → Option RunKind
+abbrev pub kind_at : List ImageEntry → Place → Option RunKind
 kind_at [] at = None
 kind_at (entry ∷ entries) at =
     if is_page entry.place.0 entry.place.1 at.0 at.1 then Some entry.kind else kind_at entries at
@@ -41,5 +41,5 @@ pub record RisesLaws : Type 0 where
   pub enters : (pass : Pass) (taking : Taking) (kind : RunKind) → pass.taking ≡ Some taking → IsRising pass
       → IsRising (with_entry pass taking.place kind)
   -- a page above the entries has none
-  pub missing : (entries : List Entry) (at : Place) → AreRising None entries
+  pub missing : (entries : List ImageEntry) (at : Place) → AreRising None entries
       → is_above (last_of None entries) at.0 at.1 ≡ true → kind_at entries at ≡ None

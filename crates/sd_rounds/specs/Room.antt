@@ -1,6 +1,6 @@
 -- Where a step may want memory.
 use Rattle.std.specs.Prelude.{◌≡◌, ◌⊎◌, ◌||◌, false, length, Option, Some, None, IsSome}
-use Rattle.sd_pagetable.specs.Page.{Page}
+use Rattle.sd_pagetable.specs.Page.{PageState}
 use Rattle.sd_pagetable.specs.Contents.{Contents, page_at}
 use Rattle.sd_pagetable.specs.Order.{IsNextPage}
 use Rattle.sd_rounds.specs.declared.stage.Stage.TheVariants.{Pass as PassStage}
@@ -11,7 +11,7 @@ use Rattle.sd_rounds.specs.Pass.{Pass, Place, Taking}
 -- the next page is clean, and is left to the parent: it gets its entry
 pub record LeavesNext (pass : Pass) (memory : Contents) : Type 0 where
   pub at : Place
-  pub page : Page
+  pub page : PageState
   pub next : IsNextPage memory.spaces pass.after (Some at)
   pub there : page_at memory at.0 at.1 ≡ Some page
   pub clean : (pass.takes_all || page.soft_dirty) ≡ false

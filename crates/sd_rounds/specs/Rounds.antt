@@ -4,7 +4,7 @@ use Rattle.std.specs.Prelude.{Option, Some, None}
 use Rattle.std.specs.List.{list_all}
 use Rattle.std.specs.Option.{option_map}
 use Rattle.sd_image.specs.declared.table.SpaceTable.{SpaceTable}
-use Rattle.sd_pagetable.specs.Page.{Page, zeros}
+use Rattle.sd_pagetable.specs.Page.{PageState, zeros}
 use Rattle.sd_pagetable.specs.Contents.{Contents, page_at, plain_of}
 use Rattle.sd_pagetable.specs.Order.{IsNextPage}
 use Rattle.sd_pagetable.specs.Tracking.{Step, Cleared}
@@ -32,8 +32,8 @@ pass_of takes_all tables after taking buffer =
     }
 
 -- a parent number that the entries may name: none where every page is taken
-abbrev pub source : Bool → ℕ
-source takes_all = if takes_all then 0 else 1
+abbrev pub entry_parent : Bool → ℕ
+entry_parent takes_all = if takes_all then 0 else 1
 
 -- the entries end before the page that is being taken, or behind the cursor
 abbrev pub limit : Option Place → Option Place → Place
@@ -54,7 +54,7 @@ is_page_of_zeros bytes = length bytes == 4096 && list_all (λ byte. byte == 0) b
 -- what holds of every pass
 pub record IsRound (takes_all : Bool) (tables : List SpaceTable) (after taking : Option Place)
     (buffer : List ℕ) : Type 0 where
-  pub are : AreTables (source takes_all) 0 (listed tables)
+  pub are : AreTables (entry_parent takes_all) 0 (listed tables)
   pub ends : EndBefore (limit after taking) (listed tables)
   pub rising : IsRising (pass_of takes_all tables after taking buffer)
   pub spaces : (at : Place) → after ≡ Some at → (1 ≤ at.0) × (at.0 ≤ 16)
@@ -64,7 +64,7 @@ pub record IsRound (takes_all : Bool) (tables : List SpaceTable) (after taking :
 -- the next mapped page is tested and cleared
 pub record Tests (old : Pass) (before : Contents) (visit : Visit) (new : Pass) (after : Contents) : Type 0 where
   pub next : IsNextPage before.spaces old.after (Some (visit.space, visit.page))
-  pub page : Page
+  pub page : PageState
   pub there : page_at before visit.space visit.page ≡ Some page
   pub bit : visit.soft_dirty ≡ page.soft_dirty
   pub cleared : Step before (Cleared visit.space visit.page) after
@@ -78,7 +78,8 @@ pub record IsOver (old : Pass) (before : Contents) (new : Pass) (after : Content
   pub left : after ≡ before
 
 -- the page that is being taken, and its next sector
-pub record IsNextSector (old : Pass) (memory : Contents) (taking : Taking) (page : Page) (sector : ℕ) : Type 0 where
+pub record IsNextSector (old : Pass) (memory : Contents) (taking : Taking) (page : PageState)
+    (sector : ℕ) : Type 0 where
   pub is : old.taking ≡ Some taking
   pub there : page_at memory taking.place.0 taking.place.1 ≡ Some page
   pub whole : length page.bytes ≡ 4096
@@ -88,7 +89,7 @@ pub record IsNextSector (old : Pass) (memory : Contents) (taking : Taking) (page
 -- the sector stands behind those before it; a whole page isn't all zeros
 pub record CopiesMore (old : Pass) (memory : Contents) (new : Pass) : Type 0 where
   pub taking : Taking
-  pub page : Page
+  pub page : PageState
   pub sector : ℕ
   pub next : IsNextSector old memory taking page sector
   pub some : is_page_of_zeros (taking.copied ++ sector_of page.bytes sector) ≡ false
@@ -97,7 +98,7 @@ pub record CopiesMore (old : Pass) (memory : Contents) (new : Pass) : Type 0 whe
 -- with its eighth sector the page is all zeros, and gets its entry
 pub record CopiesZeros (old : Pass) (memory : Contents) (new : Pass) : Type 0 where
   pub taking : Taking
-  pub page : Page
+  pub page : PageState
   pub next : IsNextSector old memory taking page 7
   pub zeroed : taking.copied ++ sector_of page.bytes 7 ≡ zeros
   pub is : new ≡ taken_as_zero old taking
@@ -106,6 +107,7 @@ pub record CopiesZeros (old : Pass) (memory : Contents) (new : Pass) : Type 0 wh
 pub record FindsNone (old : Pass) (memory : Contents) (new : Pass) : Type 0 where
   pub taking : Taking
   pub was : old.taking ≡ Some taking
+  pub short : length taking.copied < 4096
   pub gone : page_at memory taking.place.0 taking.place.1 ≡ None
   pub is : new ≡ dropped old
 

@@ -5,7 +5,7 @@ use Rattle.sd_image.specs.declared.run.RunKind.{RunKind}
 use Rattle.sd_image.specs.declared.table.SpaceTable.{SpaceTable}
 use Rattle.sd_image.specs.Runs.{AreRunsOf, IsSourced, end_of}
 use Rattle.sd_image.specs.Table.{AreRuns, Listed, listing_of}
-use Rattle.sd_rounds.specs.Pass.{Place, Entry}
+use Rattle.sd_rounds.specs.Pass.{Place, ImageEntry}
 use Rattle.sd_rounds.specs.Made.{entries_listed}
 
 -- the entries of a space, behind those of the space before: maximal runs, where the image's parent has this number
@@ -32,7 +32,7 @@ EndBefore limit = AllByRecursion (EndsBefore limit)
 abbrev pub listed : List SpaceTable → List Listed
 listed = map listing_of
 
-abbrev pub entries_in : List SpaceTable → List Entry
+abbrev pub entries_in : List SpaceTable → List ImageEntry
 entries_in tables = entries_listed (listed tables)
 
 -- a page was put behind the entries
@@ -42,7 +42,7 @@ pub record IsPushed (parent : ℕ) (old new : List Listed) (at : Place) (kind : 
   pub ends : EndBefore (at.0, at.1 + 1) new
 
 -- a space with one page was put behind the others
-pub record IsBegun (old new : List SpaceTable) (at : Place) (kind : RunKind) : Type 0 where
+pub record SpaceIsBegun (old new : List SpaceTable) (at : Place) (kind : RunKind) : Type 0 where
   pub table : SpaceTable
   pub behind : new ≡ old ++ table ∷ []
   pub space : table.space ≡ at.0

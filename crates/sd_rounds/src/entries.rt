@@ -3,7 +3,7 @@ ghost use Rattle.std.specs.Prelude.{◌≡◌, ◌-◌, ◌==◌, ℕ, ◌≤◌
 ghost use Rattle.std.specs.Option.{option_map_or};
 ghost use Rattle.sd_image.specs.declared.table.SpaceTable.{SpaceTable};
 ghost use Rattle.sd_image.specs.Runs.{IsSourced};
-ghost use Rattle.sd_rounds.specs.Tables.{AreTables, EndBefore, IsBegun, IsPushed, listed};
+ghost use Rattle.sd_rounds.specs.Tables.{AreTables, EndBefore, IsPushed, SpaceIsBegun, listed};
 
 use sd_areas::{PageNo, SpaceId};
 use sd_image::{RunKind, SpaceTable, push_page};
@@ -58,7 +58,7 @@ fn push_space(
     page: PageNo,
     kind: RunKind,
 ) -> Result<(), AllocError>
-    ensures begun { OnOk result (IsBegun tables.old.items tables.new.items (space, page) kind) }
+    ensures begun { OnOk result (SpaceIsBegun tables.old.items tables.new.items (space, page) kind) }
     ensures err { OnErr result (listed tables.new.items ≡ listed tables.old.items) }
 {
     let mut runs = Vec::new(alloc);

@@ -10,7 +10,7 @@ ghost use Rattle.sd_rounds.specs.declared.stage.Stage.TheVariants.{Format, Pass 
 ghost use Rattle.sd_pagetable.specs.Contents.{Contents, plain_of};
 ghost use Rattle.sd_gate.specs.PlanUse.{IsAskedBy};
 ghost use Rattle.sd_rounds.specs.Left.{image_left};
-ghost use Rattle.sd_rounds.specs.Making.{Steps, WritesPage, begun_image, header_of, is_frozen};
+ghost use Rattle.sd_rounds.specs.Making.{Steps, WritesPage, begun_image, header_of, is_frozen_dump};
 ghost use Rattle.sd_rounds.specs.Making.{out_of, stage_behind};
 ghost use Rattle.sd_rounds.specs.PlanSteps.{HasNoPage, IsPageCallOf, image_step, is_freeze};
 ghost use Rattle.sd_rounds.specs.Pass.{data_pages};
@@ -289,7 +289,7 @@ impl ImageMaker {
 
     /// Whether it is the dump of a memory that is frozen.
     pub(crate) fn is_frozen(&self) -> bool
-        ensures frozen { result ≡ is_frozen self.now }
+        ensures frozen { result ≡ is_frozen_dump self.now }
         ensures few { data_pages self.now.pass.entries ≤ 2 ^ 39 }
     {
         let is_past = match self.stage {

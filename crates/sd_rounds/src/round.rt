@@ -4,7 +4,7 @@ ghost use Rattle.std.specs.Prelude.{IfOk, OnOk, OnErr, MatchOption, ◌++◌};
 ghost use Rattle.sd_image.specs.declared.run.RunKind.TheVariants.{Parent};
 ghost use Rattle.sd_pagetable.specs.Contents.{page_at, plain_of};
 ghost use Rattle.sd_pagetable.specs.Order.{is_above};
-ghost use Rattle.sd_pagetable.specs.Page.{Page};
+ghost use Rattle.sd_pagetable.specs.Page.{PageState};
 ghost use Rattle.sd_pagetable.specs.Sectors.{sector_bytes};
 ghost use Rattle.sd_pagetable.specs.Tracking.{Cleared, Step};
 ghost use Rattle.sd_rounds.specs.Left.{pass_left};
@@ -13,7 +13,7 @@ ghost use Rattle.sd_rounds.specs.Pass.{place_taken, visited, with_entry};
 ghost use Rattle.sd_rounds.specs.Rises.{IsRising};
 ghost use Rattle.sd_rounds.specs.Room.{LeavesNext};
 ghost use Rattle.sd_rounds.specs.Rounds.{Copies, IsCopied, IsCopying, IsOver, Stands, TakesPage, Tests};
-ghost use Rattle.sd_rounds.specs.Rounds.{is_page_of_zeros, source};
+ghost use Rattle.sd_rounds.specs.Rounds.{entry_parent, is_page_of_zeros};
 ghost use Rattle.sd_rounds.specs.Tables.{AreTables, entries_in, listed};
 ghost use Rattle.sd_rounds.specs.Waits.{is_over};
 
@@ -84,7 +84,7 @@ impl Round {
 
     /// Its entries, as the runs of each space that has any.
     pub(crate) fn tables(&self) -> &[SpaceTable]
-        ensures are { AreTables (source self.now.takes_all) 0 (listed result.now) }
+        ensures are { AreTables (entry_parent self.now.takes_all) 0 (listed result.now) }
         ensures entries { entries_in result.now ≡ self.now.entries }
     {
         &self.tables
@@ -319,7 +319,7 @@ impl Round {
 /// Whether a page is soft-dirty.
 #[inline]
 fn is_soft_dirty(memory: &Memory, space: SpaceId, page: PageNo) -> bool
-    ensures { (found : Page) → page_at memory.now space page ≡ Some found
+    ensures { (found : PageState) → page_at memory.now space page ≡ Some found
         → result ≡ found.soft_dirty }
 {
     memory.word(space, page) & SOFT_DIRTY != 0
@@ -329,7 +329,7 @@ fn is_soft_dirty(memory: &Memory, space: SpaceId, page: PageNo) -> bool
 #[inline]
 fn clear(memory: &mut Memory, space: SpaceId, page: PageNo, soft_dirty: bool)
     requires there { IsSome (page_at memory.old space page) }
-    requires bit { (found : Page) → page_at memory.old space page ≡ Some found
+    requires bit { (found : PageState) → page_at memory.old space page ≡ Some found
         → soft_dirty ≡ found.soft_dirty }
     ensures cleared { Step memory.old (Cleared space page) memory.new }
     ensures plain { plain_of memory.new ≡ plain_of memory.old }

@@ -13,7 +13,7 @@ use Rattle.sd_script.specs.declared.line.Line.{Line}
 use Rattle.sd_script.specs.Texts.{answer_line, reply_line}
 use Rattle.sd_world.specs.View.{WorldView}
 use Rattle.sd_exit.specs.declared.stop.Stop.{Stop}
-use Rattle.sd_exit.specs.Texts.{Begins}
+use Rattle.sd_exit.specs.Texts.{PrintsBeginning}
 use Rattle.sd_run.specs.Lines.{AnswersLine, AnswersLines}
 use Rattle.sd_run.specs.Merging.{IsWholeMerge}
 use Rattle.sd_run.specs.Promise.{Promise}
@@ -53,7 +53,7 @@ printed_more before mid now answers given so_far one = subst (Appends before now
 pub stays : (a : Option (List ℕ)) → Keeps a a
 stays a = Keeps-refl a
 
-pub begins_still : (a b c : Option (List ℕ)) (text : List ℕ) → Begins a b text → Keeps b c → Begins a c text
+pub begins_still : (a b c : Option (List ℕ)) (text : List ℕ) → PrintsBeginning a b text → Keeps b c → PrintsBeginning a c text
 begins_still a b c text begins kept = record {
   front = begins.front;
   rest = begins.rest;
@@ -90,7 +90,7 @@ always_on_err (Err error) p = p
 
 -- the last answer's line is broken off
 pub broken_off : (before mid now : Option (List ℕ)) (told : List Answer) (last : Answer) → Appends before mid (flat_map answer_line told)
-    → Begins mid now (answer_line last) → BreaksOff (told ++ last ∷ []) before now
+    → PrintsBeginning mid now (answer_line last) → BreaksOff (told ++ last ∷ []) before now
 broken_off before mid now told last so_far begins = record {
   told = told;
   last = last;

@@ -21,7 +21,7 @@ use Rattle.sd_world.specs.Jobs.{Drives, IsJob, is_end}
 use Rattle.sd_world.proofs.PointLemmas.{drives_honest, drives_reach}
 use Rattle.sd_run.specs.Lines.{AnswersLine, AnswersLines, script_seat}
 use Rattle.sd_run.specs.Promise.{AreOf, EndsJob, GoesByLine, GoesByLines, IsAnswer, Promise, PromiseSoFar, RunsLine, Starts, Tells, begins_with, worker_of}
-use Rattle.sd_run.specs.Whole.{AreTold, IsOpened, IsPartOfRun, IsWholeRun}
+use Rattle.sd_run.specs.Whole.{AreTold, IsPartOfRun, IsWholeRun, RunIsOpened}
 
 module _ {D : Type 0} (g : Ghosts D) (follow : PointsFollow g) where
   -- a world goes on to another, and from each point at which it may stand there is one at which the other stands
@@ -222,7 +222,7 @@ module _ {D : Type 0} (g : Ghosts D) (follow : PointsFollow g) where
     begun = λ n is. sym (ap running_number idle) ∙ is;
   }
 
-  first_starts : (old : D) (opened : WorldView D) → IsOpened g old opened → g.is_honest opened.disk → Starts g old (first_point opened)
+  first_starts : (old : D) (opened : WorldView D) → RunIsOpened g old opened → g.is_honest opened.disk → Starts g old (first_point opened)
   first_starts old opened opening honest = record {
     reads = opening.reads;
     entries = refl;

@@ -59,7 +59,7 @@ pub record TellsSome {D : Type 0} (g : Ghosts D) (first : WorldView D) (lines : 
 
 -- A run's first state: the disk was only read, no entry stands in the journal, no checkpoint runs, and the contents, as
 -- every outcome of a crash then, show what the run starts from, or nothing saved.
-pub record IsOpened {D : Type 0} (g : Ghosts D) (old : D) (opened : WorldView D) : Type 0 where
+pub record RunIsOpened {D : Type 0} (g : Ghosts D) (old : D) (opened : WorldView D) : Type 0 where
   pub reads : OnlyReads g old opened.disk
   pub journal : opened.core.items ≡ []
   pub idle : opened.core.dumper.running ≡ None
@@ -74,7 +74,7 @@ pub record IsOpened {D : Type 0} (g : Ghosts D) (old : D) (opened : WorldView D)
 -- journal of that moment allows; at its end so does every outcome of a crash, and so do the contents. The memory at its
 -- end is the one that the journal makes.
 pub record IsRun {D : Type 0} (g : Ghosts D) (old : D) (opened last : WorldView D) (new : D) : Type 0 where
-  pub opening : IsOpened g old opened
+  pub opening : RunIsOpened g old opened
   pub goes_on : GoesOn g opened last
   pub disk : new ≡ last.disk
   pub at_end : g.is_honest last.disk
@@ -98,6 +98,6 @@ pub record IsPartOfRun {D : Type 0} (g : Ghosts D) (lines : List Line) (old new 
   pub answers : AnswersSome g opened lines last
 
 -- what becomes of a disk: it was only read, or the first of these lines were answered over it
-pub data IsLeft {D : Type 0} (g : Ghosts D) (lines : List Line) (old new : D) : Type 0 where
-  only_read : OnlyReads g old new → IsLeft g lines old new
-  run : IsPartOfRun g lines old new → IsLeft g lines old new
+pub data IsLeftByRun {D : Type 0} (g : Ghosts D) (lines : List Line) (old new : D) : Type 0 where
+  only_read : OnlyReads g old new → IsLeftByRun g lines old new
+  run : IsPartOfRun g lines old new → IsLeftByRun g lines old new

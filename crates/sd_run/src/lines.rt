@@ -2,7 +2,7 @@
 ghost use Rattle.std.specs.Prelude.{◌≡◌, ◌∷◌, true, IfErr, IfOk, OnErr, OnOk};
 ghost use Rattle.std.specs.Io.KnownBytes.{Appends, Keeps};
 ghost use Rattle.sd_exit.specs.Ending.{OnWriter};
-ghost use Rattle.sd_exit.specs.Texts.{Begins};
+ghost use Rattle.sd_exit.specs.Texts.{PrintsBeginning};
 ghost use Rattle.sd_script.specs.declared.line.Line.TheVariants as asked;
 ghost use Rattle.sd_script.specs.Texts.{answer_line};
 ghost use Rattle.sd_world.specs.Points.{StandsAt};
@@ -104,7 +104,7 @@ fn answer_one<D: Disk, W: Write, S: Watch>(
     // Its answer is printed, or a beginning of that.
     ensures printed { (given : Answer) × AnswersLine D.Disk line world.old given world.new
         × OnOk result (Appends (W.contents out.old.writer) (W.contents out.new.writer) (answer_line given))
-        × Begins (W.contents out.old.writer) (W.contents out.new.writer) (answer_line given) }
+        × PrintsBeginning (W.contents out.old.writer) (W.contents out.new.writer) (answer_line given) }
     ensures goes_on { GoesOn D.Disk world.old world.new }
     ensures stops { IfErr result IsUnprinted }
     ensures writer { OnWriter result (out.new.refused ≡ true) }

@@ -2,7 +2,7 @@
 ghost use Rattle.std.specs.Prelude.{◌≡◌, true, IfErr, OnOk};
 ghost use Rattle.std.specs.Io.KnownBytes.{Appends};
 ghost use Rattle.sd_exit.specs.Ending.{OnWriter};
-ghost use Rattle.sd_exit.specs.Texts.{Begins};
+ghost use Rattle.sd_exit.specs.Texts.{PrintsBeginning};
 ghost use Rattle.sd_script.specs.Texts.{answer_line};
 ghost use Rattle.sd_run.specs.Ending.{IsUnprinted};
 
@@ -27,7 +27,7 @@ pub(crate) fn print_line<W: Write>(
 ) -> Result<(), Stop>
     ensures printed { OnOk result
         (Appends (W.contents out.old.writer) (W.contents out.new.writer) (answer_line given.now)) }
-    ensures begins { Begins (W.contents out.old.writer) (W.contents out.new.writer) (answer_line given.now) }
+    ensures begins { PrintsBeginning (W.contents out.old.writer) (W.contents out.new.writer) (answer_line given.now) }
     ensures stops { IfErr result IsUnprinted }
     ensures writer { OnWriter result (out.new.refused ≡ true) }
 {

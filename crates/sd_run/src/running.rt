@@ -7,7 +7,7 @@ ghost use Rattle.sd_script.specs.declared.line.Line.TheVariants as asked;
 ghost use Rattle.sd_world.specs.Opens.{IsFaultOf};
 ghost use Rattle.sd_run.specs.Ending.{fault_line, unopened};
 ghost use Rattle.sd_run.specs.Promise.{Promise, PromiseAnyway, PromiseToExit};
-ghost use Rattle.sd_run.specs.Whole.{IsLeft, IsWholeRun};
+ghost use Rattle.sd_run.specs.Whole.{IsLeftByRun, IsWholeRun};
 
 use crate::ending::{unfit, unopened};
 use crate::lines::answer_all;
@@ -45,7 +45,7 @@ pub fn run_script<D: Disk, W: Write>(
     ensures whole { result.1 ≡ 0 → IsWholeRun D.Disk (asked.Reopen ∷ requests_of script.now) disk result.0
         (W.contents out.old.writer) (W.contents out.new.writer) }
     // However it ends: the disk was only read, or the first lines were answered so, up to any place.
-    ensures left { IsLeft D.Disk (asked.Reopen ∷ requests_of script.now) disk result.0 }
+    ensures left { IsLeftByRun D.Disk (asked.Reopen ∷ requests_of script.now) disk result.0 }
     // Both again, of the lines, their answers, what is printed and the disk alone: `docs/PROMISE.md`.
     ensures promise { result.1 ≡ 0 → D.is_honest result.0
         → Promise D.Disk (asked.Reopen ∷ requests_of script.now) disk result.0
@@ -78,7 +78,7 @@ pub fn run_lines<D: Disk, W: Write, S: Watch>(
 ) -> (D, Result<(), Stop>)
     ensures whole { OnOk result.1 (IsWholeRun D.Disk (asked.Reopen ∷ script.lines.items) disk result.0
         (W.contents out.old.writer) (W.contents out.new.writer)) }
-    ensures left { IsLeft D.Disk (asked.Reopen ∷ script.lines.items) disk result.0 }
+    ensures left { IsLeftByRun D.Disk (asked.Reopen ∷ script.lines.items) disk result.0 }
     // Both again, of the lines, their answers, what is printed and the disk alone: `docs/PROMISE.md`.
     ensures promise { OnOk result.1 (D.is_honest result.0
         → Promise D.Disk (asked.Reopen ∷ script.lines.items) disk result.0

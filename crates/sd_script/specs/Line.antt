@@ -161,8 +161,8 @@ words_of (space ∷ address ∷ count ∷ []) = do
 words_of _ = None
 
 -- the worker of this name
-abbrev pub worker_of : List ℕ → Option Worker
-worker_of name =
+abbrev pub worker_by_name : List ℕ → Option Worker
+worker_by_name name =
     if bytes_eq name (codes "dumper") then Some Dumper
     else if bytes_eq name (codes "merger") then Some Merger
     else if bytes_eq name (codes "opener") then Some Opener
@@ -188,21 +188,21 @@ cancel_of (_ ∷ _) = None
 -- `work WORKER`, behind the word
 abbrev pub work_of : List (List ℕ) → Option Line
 work_of (name ∷ []) = do
-  w ← worker_of name
+  w ← worker_by_name name
   Some (Work w)
 work_of _ = None
 
 -- `perform WORKER`, behind the word
 abbrev pub perform_of : List (List ℕ) → Option Line
 perform_of (name ∷ []) = do
-  w ← worker_of name
+  w ← worker_by_name name
   Some (Perform w)
 perform_of _ = None
 
 -- `perform-at WORKER PLACE`, behind the word
 abbrev pub perform_at_of : List (List ℕ) → Option Line
 perform_at_of (name ∷ place ∷ []) = do
-  w ← worker_of name
+  w ← worker_by_name name
   k ← number_of place
   Some (PerformAt w k)
 perform_at_of _ = None
@@ -210,7 +210,7 @@ perform_at_of _ = None
 -- `step WORKER COUNT`, behind the word: one event at least
 abbrev pub step_of : List (List ℕ) → Option Line
 step_of (name ∷ count ∷ []) = do
-  w ← worker_of name
+  w ← worker_by_name name
   c ← number_of count
   n ← at_least_one c
   Some (Step w n)
@@ -219,7 +219,7 @@ step_of _ = None
 -- `finish WORKER`, behind the word
 abbrev pub finish_of : List (List ℕ) → Option Line
 finish_of (name ∷ []) = do
-  w ← worker_of name
+  w ← worker_by_name name
   Some (Finish w)
 finish_of _ = None
 
@@ -282,15 +282,15 @@ abbrev pub asked_by : List ℕ → Option Line
 asked_by line = asked_by_fields (slice_split (λ byte. byte == 32) line)
 
 -- a result is what is wanted: its value, seen so, or `Unfit` for none; out of memory says nothing
-abbrev pub Answers : {A B : Type 0} → (A → B) → Result A LineError → Option B → Type 0
-Answers seen (Ok value) wanted = wanted ≡ Some (seen value)
-Answers seen (Err Unfit) wanted = wanted ≡ None
-Answers seen (Err OutOfMemory) wanted = ⊤
+abbrev pub ParsesAs : {A B : Type 0} → (A → B) → Result A LineError → Option B → Type 0
+ParsesAs seen (Ok value) wanted = wanted ≡ Some (seen value)
+ParsesAs seen (Err Unfit) wanted = wanted ≡ None
+ParsesAs seen (Err OutOfMemory) wanted = ⊤
 
 -- a line is the one that is wanted, if memory sufficed
-abbrev pub Gives : Result Line LineError → Option Line → Type 0
-Gives result wanted = Answers (λ line. line) result wanted
+abbrev pub ParsesLine : Result Line LineError → Option Line → Type 0
+ParsesLine result wanted = ParsesAs (λ line. line) result wanted
 
 -- bytes are those that are wanted, if memory sufficed
 abbrev pub GivesBytes : Result (Vec ℕ) LineError → Option (List ℕ) → Type 0
-GivesBytes result wanted = Answers (λ (bytes : Vec ℕ). bytes.items) result wanted
+GivesBytes result wanted = ParsesAs (λ (bytes : Vec ℕ). bytes.items) result wanted

@@ -1,6 +1,6 @@
 //! What the fields of a line say: workers, numbers, permissions, bytes.
 ghost use Rattle.std.specs.Prelude.{◌≡◌, ◌≤◌};
-ghost use Rattle.sd_script.specs.Line.{GivesBytes, hex_of, number_of, numeral_of, prot_of, worker_of};
+ghost use Rattle.sd_script.specs.Line.{GivesBytes, hex_of, number_of, numeral_of, prot_of, worker_by_name};
 
 use crate::digits::{decode_into, digit};
 use crate::line_error::LineError;
@@ -10,7 +10,7 @@ use std::alloc::Global;
 
 /// The worker of this name.
 pub(crate) fn worker_named(name: &str) -> Option<Worker>
-    ensures { result ≡ worker_of name.now }
+    ensures { result ≡ worker_by_name name.now }
 {
     match name {
         "dumper" => Some(Worker::Dumper),

@@ -1,7 +1,7 @@
 //! One line of a script.
 ghost use Rattle.std.specs.Prelude.{◌≡◌, ◌==◌, map, OnOk};
 ghost use Rattle.std.specs.List.{slice_split};
-ghost use Rattle.sd_script.specs.Line.{Gives, asked_by, asked_by_word, at_least_one, begin_of, begin_merge_of};
+ghost use Rattle.sd_script.specs.Line.{ParsesLine, asked_by, asked_by_word, at_least_one, begin_of, begin_merge_of};
 ghost use Rattle.sd_script.specs.Line.{cancel_of, checkpoint_of, exit_of, fault_of, finish_of, fork_of, load_of};
 ghost use Rattle.sd_script.specs.Line.{merge_of, mmap_of, mprotect_of, munmap_of, perform_at_of, perform_of, reopen_of};
 ghost use Rattle.sd_script.specs.Line.{step_of, store_of, trim_of, try_of, words_of, work_of};
@@ -57,7 +57,7 @@ pub enum Line {
 
 /// What a line asks for. Its fields, separated by single spaces, take the place of those in the list.
 pub fn parse<'a>(alloc: Global, fields: &mut Vec<&'a str>, line: &'a str) -> Result<Line, LineError>
-    ensures { Gives result (asked_by line.now) }
+    ensures { ParsesLine result (asked_by line.now) }
 {
     split_into(fields, line)?;
     match fields.as_slice() {
@@ -86,7 +86,7 @@ fn split_into<'a>(fields: &mut Vec<&'a str>, line: &'a str) -> Result<(), AllocE
 }
 
 fn request(alloc: Global, word: &str, arguments: &[&str]) -> Result<Line, LineError>
-    ensures { Gives result (asked_by_word word.now (map (λ field. field.now) arguments.now)) }
+    ensures { ParsesLine result (asked_by_word word.now (map (λ field. field.now) arguments.now)) }
 {
     match word {
         "mmap" => mmap(arguments).ok_or(LineError::Unfit),
@@ -190,7 +190,7 @@ fn load(arguments: &[&str]) -> Option<Line>
 }
 
 fn try_store(alloc: Global, arguments: &[&str]) -> Result<Line, LineError>
-    ensures { Gives result (try_of (map (λ field. field.now) arguments.now)) }
+    ensures { ParsesLine result (try_of (map (λ field. field.now) arguments.now)) }
 {
     let [space, address, bytes] = arguments else {
         return Err(LineError::Unfit);
@@ -215,7 +215,7 @@ fn fault(arguments: &[&str]) -> Option<Line>
 }
 
 fn store(alloc: Global, arguments: &[&str]) -> Result<Line, LineError>
-    ensures { Gives result (store_of (map (λ field. field.now) arguments.now)) }
+    ensures { ParsesLine result (store_of (map (λ field. field.now) arguments.now)) }
 {
     let [space, address, bytes] = arguments else {
         return Err(LineError::Unfit);

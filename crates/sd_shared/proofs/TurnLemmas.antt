@@ -9,10 +9,10 @@ use Rattle.sd_gate.specs.declared.worker.Worker.{Worker}
 use Rattle.sd_gate.specs.declared.worker.Worker.TheVariants.{Dumper}
 use Rattle.sd_core.specs.declared.taken.Taken.{Taken}
 use Rattle.sd_shared.specs.declared.jobs.Jobs.{Jobs}
-use Rattle.sd_shared.specs.Turns.{counted, job_of, HandsIn, IsCalled, IsLastOf, IsTold, IsToldBy, MakesJob, Orders, RelaysJob, Resumes, ResumesJob, WasRefused}
+use Rattle.sd_shared.specs.Turns.{counted, job_number, WasHandedIn, IsCalled, IsLastOf, WorkerIsTold, IsToldBy, MakesJob, Orders, RelaysJob, Resumes, ResumesJob, WasRefused}
 
-pub called_of : {D : Type 0} (contents : D → List (List ℕ)) (id own : RequestId) (answer : Reply) → own ≡ id → HandsIn own answer → IsCalled contents id answer
-called_of contents id own answer same hands = inr (subst (λ (one : RequestId). HandsIn one answer) same hands)
+pub called_of : {D : Type 0} (contents : D → List (List ℕ)) (id own : RequestId) (answer : Reply) → own ≡ id → WasHandedIn own answer → IsCalled contents id answer
+called_of contents id own answer same hands = inr (subst (λ (one : RequestId). WasHandedIn one answer) same hands)
 
 -- why an answer refuses
 abbrev why_of : Reply → Refusal
@@ -23,7 +23,7 @@ why_of _ = refusal.Device
 pub refused_of : {D : Type 0} (contents : D → List (List ℕ)) (id : RequestId) (answer : Reply) → IsCalled contents id answer
     → (why : Refusal) → answer ≡ reply.Refused why → WasRefused why
 refused_of contents id answer (inl other) why is = ∣ inl (ap why_of (sym is ∙ other.0)) ∣₁
-refused_of contents id answer (inr hands) why is = ∣ inr (id, subst (λ (one : Reply). HandsIn id one) is hands) ∣₁
+refused_of contents id answer (inr hands) why is = ∣ inr (id, subst (λ (one : Reply). WasHandedIn id one) is hands) ∣₁
 
 -- of a checkpoint with writers, which was ordered
 pub relays_job : {D : Type 0} (contents : D → List (List ℕ)) (rounds own : ℕ) (last told answer : Reply) → own ≡ rounds → told ≡ last
@@ -32,23 +32,23 @@ relays_job contents rounds own last told answer same is makes behind =
     inr (inr (last, subst (λ (n : ℕ). MakesJob contents Dumper n last) same makes, subst (λ (one : Reply). IsLastOf one answer) is behind))
 
 -- the number of a job that was begun
-pub number_of : (old new : Jobs) (worker : Worker) (number : ℕ) → new ≡ counted worker old → number ≡ job_of new worker → number ≡ job_of (counted worker old) worker
-number_of old new worker number one is = is ∙ ap (λ (jobs : Jobs). job_of jobs worker) one
+pub number_of : (old new : Jobs) (worker : Worker) (number : ℕ) → new ≡ counted worker old → number ≡ job_number new worker → number ≡ job_number (counted worker old) worker
+number_of old new worker number one is = is ∙ ap (λ (jobs : Jobs). job_number jobs worker) one
 
 -- of a job that stood, and was told of its first step
 pub resumes_job : {D : Type 0} (contents : D → List (List ℕ)) (worker : Worker) (number : ℕ) (first : Taken) (was last answer : Reply)
-    → Resumes worker number first → IsToldBy contents first was → answer ≡ last → (last ≡ was) ⊎ IsTold contents worker number last
+    → Resumes worker number first → IsToldBy contents first was → answer ≡ last → (last ≡ was) ⊎ WorkerIsTold contents worker number last
     → ResumesJob contents worker answer
 resumes_job contents worker number first was last answer resumed told behind (inl last_is) =
     (number, first, resumed, inl (subst (IsToldBy contents first) (sym (behind ∙ last_is)) told))
 resumes_job contents worker number first was last answer resumed told behind (inr later) =
-    (number, first, resumed, inr (subst (IsTold contents worker number) (sym behind) later))
+    (number, first, resumed, inr (subst (WorkerIsTold contents worker number) (sym behind) later))
 
 -- of a job that was ordered
 pub job_of_told : {D : Type 0} (contents : D → List (List ℕ)) (worker : Worker) (rounds number : ℕ) (first was last answer : Reply)
-    → Orders worker rounds first number → was ≡ first → answer ≡ last → (last ≡ was) ⊎ IsTold contents worker number last
+    → Orders worker rounds first number → was ≡ first → answer ≡ last → (last ≡ was) ⊎ WorkerIsTold contents worker number last
     → MakesJob contents worker rounds answer
 job_of_told contents worker rounds number first was last answer ordered before behind (inl last_is) =
     (first, number, ordered, inl (behind ∙ (last_is ∙ before)))
 job_of_told contents worker rounds number first was last answer ordered before behind (inr told) =
-    (first, number, ordered, inr (subst (IsTold contents worker number) (sym behind) told))
+    (first, number, ordered, inr (subst (WorkerIsTold contents worker number) (sym behind) told))

@@ -12,7 +12,7 @@ use Rattle.sd_gate.specs.declared.request_id.RequestId.{RequestId}
 use Rattle.sd_gate.specs.Requests.{Asked, Made}
 use Rattle.sd_journal.specs.History.{last, pending}
 use Rattle.sd_journal.specs.declared.receipt.Receipt.{Receipt}
-use Rattle.sd_crash_safety.specs.Calls.{GoesOn}
+use Rattle.sd_crash_safety.specs.Calls.{StaysBelieved}
 use Rattle.sd_crash_safety.specs.View.{CoreView, history_of}
 use Rattle.sd_core.specs.declared.taken.Taken.{Taken}
 use Rattle.sd_core.specs.declared.taken.Taken.TheVariants as taken
@@ -78,15 +78,15 @@ pub record IsTrimmed (result : Result Folded Refusal) (old new : CoreView) : Typ
       → (result ≡ Err refusal.Idle) × (new ≡ old)
   pub trims : (n : ℕ) → unfolded (last old.base (history_of old)) old.base.number ≡ Some n → Trims n old result new
   pub flags : KeepsFlags old new
-  pub goes_on : (asked : List (Option Asked)) → GoesOn old asked new asked
+  pub goes_on : (asked : List (Option Asked)) → StaysBelieved old asked new asked
 
 -- ---- the jobs of the workers
 
 -- how many jobs of a worker were begun, modulo 2^64: the number of the one that runs
-abbrev pub job_of : Jobs → Worker → ℕ
-job_of jobs Dumper = jobs.dumper
-job_of jobs Merger = jobs.merger
-job_of jobs Opener = jobs.opener
+abbrev pub job_number : Jobs → Worker → ℕ
+job_number jobs Dumper = jobs.dumper
+job_number jobs Merger = jobs.merger
+job_number jobs Opener = jobs.opener
 
 -- one more was
 abbrev pub counted : Worker → Jobs → Jobs
@@ -97,8 +97,8 @@ counted Opener jobs = record { dumper = jobs.dumper; merger = jobs.merger; opene
 -- ---- what is known outside of the lock: there was a turn that did this, of some core
 
 -- a wait for the thaw ended so
-abbrev pub Awaits : Thaw → Type 0
-Awaits ended = (booked : Booked) × (holds_waits booked ≡ false) × (ended ≡ thaw_of booked.core)
+abbrev pub AwaitsThaw : Thaw → Type 0
+AwaitsThaw ended = (booked : Booked) × (holds_waits booked ≡ false) × (ended ≡ thaw_of booked.core)
 
 -- a command of a seat was made, or was refused without an entry
 abbrev pub Makes : ℕ → Command → Result Receipt Refusal → Type 0
@@ -113,7 +113,8 @@ MakesThawed seat command result =
 abbrev pub Orders : Worker → ℕ → Reply → ℕ → Type 0
 Orders worker rounds answer number =
     (old : CoreView) × (new : CoreView) × (jobs : Jobs)
-    × IsOrder worker rounds answer old new × (ends_job answer ≡ false → number ≡ job_of (counted worker jobs) worker)
+    × IsOrder worker rounds answer old new
+    × (ends_job answer ≡ false → number ≡ job_number (counted worker jobs) worker)
 
 abbrev pub Cancels : Reply → Type 0
 Cancels answer = (old : CoreView) × (new : CoreView) × IsCancelOrder answer old new
@@ -122,20 +123,20 @@ abbrev pub TrimsOnce : Result Folded Refusal → Type 0
 TrimsOnce result = (old : CoreView) × (new : CoreView) × IsTrimmed result old new
 
 -- a step of the job with this number was taken up; or another one was begun since, and it has ended
-abbrev pub Takes : Worker → ℕ → Taken → Type 0
-Takes worker number made =
+abbrev pub TakesStep : Worker → ℕ → Taken → Type 0
+TakesStep worker number made =
     (old : Booked) × (new : Booked)
-    × (((number ≢ job_of old.jobs worker) × (made ≡ taken.Step (reply.Refused refusal.Idle)))
-    ⊎ ((number ≡ job_of old.jobs worker) × IsTakenUp worker old.core made new.core))
+    × (((number ≢ job_number old.jobs worker) × (made ≡ taken.Step (reply.Refused refusal.Idle)))
+    ⊎ ((number ≡ job_number old.jobs worker) × IsTakenUp worker old.core made new.core))
 
 -- a step was taken up of the job that was begun last, which has this number
 abbrev pub Resumes : Worker → ℕ → Taken → Type 0
 Resumes worker number made =
-    (old : Booked) × (new : Booked) × (number ≡ job_of old.jobs worker) × IsTakenUp worker old.core made new.core
+    (old : Booked) × (new : Booked) × (number ≡ job_number old.jobs worker) × IsTakenUp worker old.core made new.core
 
 -- the outcome of a request was handed in
-abbrev pub HandsIn : RequestId → Reply → Type 0
-HandsIn id answer =
+abbrev pub WasHandedIn : RequestId → Reply → Type 0
+WasHandedIn id answer =
     (made : Made) × (made.request.id ≡ id) × (old : CoreView) × (new : CoreView) × IsHandedIn made answer old new
 
 -- a disk hasn't the slot
@@ -144,7 +145,8 @@ LacksSlot {D} contents slot = (disk : D) × (length (contents disk) ≤ slot)
 
 -- Or its slot isn't one of the disk's, which is answered as a failed device.
 abbrev pub IsCalled : {D : Type 0} → (D → List (List ℕ)) → RequestId → Reply → Type 0
-IsCalled contents id answer = ((answer ≡ reply.Refused refusal.Device) × LacksSlot contents id.slot) ⊎ HandsIn id answer
+IsCalled contents id answer =
+    ((answer ≡ reply.Refused refusal.Device) × LacksSlot contents id.slot) ⊎ WasHandedIn id answer
 
 -- what a step that was taken up tells: its answer, or that of the call that it asks for
 abbrev pub IsToldBy : {D : Type 0} → (D → List (List ℕ)) → Taken → Reply → Type 0
@@ -152,26 +154,27 @@ IsToldBy contents (taken.Step own) answer = answer ≡ own
 IsToldBy contents (taken.Call request) answer = IsCalled contents request.id answer
 
 -- a worker was told so by a step of the job with this number, or of a call that one asked for
-abbrev pub IsTold : {D : Type 0} → (D → List (List ℕ)) → Worker → ℕ → Reply → Type 0
-IsTold contents worker number answer = (made : Taken) × Takes worker number made × IsToldBy contents made answer
+abbrev pub WorkerIsTold : {D : Type 0} → (D → List (List ℕ)) → Worker → ℕ → Reply → Type 0
+WorkerIsTold contents worker number answer =
+    (made : Taken) × TakesStep worker number made × IsToldBy contents made answer
 
 -- A job was ordered, of so many rounds. This is what was answered then, or to a later step of that job, or of its
 -- calls.
 abbrev pub MakesJob : {D : Type 0} → (D → List (List ℕ)) → Worker → ℕ → Reply → Type 0
 MakesJob contents worker rounds answer =
     (first : Reply) × (number : ℕ) × Orders worker rounds first number
-    × ((answer ≡ first) ⊎ IsTold contents worker number answer)
+    × ((answer ≡ first) ⊎ WorkerIsTold contents worker number answer)
 
 -- A step of the job that stood was taken up, and this is what it told, or what a later step of that job did, or one of
 -- its calls.
 abbrev pub ResumesJob : {D : Type 0} → (D → List (List ℕ)) → Worker → Reply → Type 0
 ResumesJob contents worker answer =
     (number : ℕ) × (first : Taken) × Resumes worker number first
-    × (IsToldBy contents first answer ⊎ IsTold contents worker number answer)
+    × (IsToldBy contents first answer ⊎ WorkerIsTold contents worker number answer)
 
 -- an outcome was refused so that a writer handed in
 abbrev pub WasRefused : Refusal → Type 0
-WasRefused why = ∥ (why ≡ refusal.Device) ⊎ ((id : RequestId) × HandsIn id (reply.Refused why)) ∥₁
+WasRefused why = ∥ (why ≡ refusal.Device) ⊎ ((id : RequestId) × WasHandedIn id (reply.Refused why)) ∥₁
 
 -- the last reply of a checkpoint with writers, or such a refusal
 abbrev pub IsLastOf : Reply → Reply → Type 0

@@ -10,7 +10,7 @@ ghost use Rattle.sd_shared.specs.declared.next.Next.TheVariants as next;
 ghost use Rattle.sd_core.specs.Called.{IsApplied, IsCancelOrder, IsHandedIn, IsTakenUp};
 ghost use Rattle.sd_settling.specs.Told.{told};
 ghost use Rattle.sd_shared.specs.Told.{ends_job};
-ghost use Rattle.sd_shared.specs.Turns.{IsOrder, IsSorted, IsTrimmed, counted, ends_waits, holds_waits, job_of};
+ghost use Rattle.sd_shared.specs.Turns.{IsOrder, IsSorted, IsTrimmed, counted, ends_waits, holds_waits, job_number};
 ghost use Rattle.sd_shared.specs.Turns.{ordered, taken_of, thaw_of, turned};
 
 use crate::driving::ends_job;
@@ -128,7 +128,7 @@ impl Booked {
         ensures once { count.new ≡ ordered count.old }
         ensures turn { IsOrder worker rounds result.0 self.old.core self.new.core }
         ensures number { ends_job result.0 ≡ false
-            → (self.new.jobs ≡ counted worker self.old.jobs) × (result.1 ≡ job_of self.new.jobs worker) }
+            → (self.new.jobs ≡ counted worker self.old.jobs) × (result.1 ≡ job_number self.new.jobs worker) }
         ensures refused { ends_job result.0 ≡ true → self.new.jobs ≡ self.old.jobs }
         ensures ended { self.new.ended ≡ self.old.ended }
     {
@@ -147,12 +147,12 @@ impl Booked {
     /// `Idle` where the job with this number isn't the one that was begun last, which has ended then. Else as
     /// `Core::take_up`.
     pub(crate) fn take_up(&mut self, worker: Worker, job: u64) -> (Taken, Waking)
-        ensures other { job ≢ job_of self.old.jobs worker
+        ensures other { job ≢ job_number self.old.jobs worker
             → (result.0 ≡ taken.Step (reply.Refused Idle)) × (self.new ≡ self.old) }
-        ensures turn { job ≡ job_of self.old.jobs worker
+        ensures turn { job ≡ job_number self.old.jobs worker
             → IsTakenUp worker self.old.core result.0 self.new.core }
-        ensures either { ((job ≢ job_of self.old.jobs worker) × (result.0 ≡ taken.Step (reply.Refused Idle)))
-            ⊎ ((job ≡ job_of self.old.jobs worker) × IsTakenUp worker self.old.core result.0 self.new.core) }
+        ensures either { ((job ≢ job_number self.old.jobs worker) × (result.0 ≡ taken.Step (reply.Refused Idle)))
+            ⊎ ((job ≡ job_number self.old.jobs worker) × IsTakenUp worker self.old.core result.0 self.new.core) }
         ensures jobs { self.new.jobs ≡ self.old.jobs }
         ensures ended { self.new.ended ≡ self.old.ended }
         ensures wakes { result.1.go_on ≡ ends_waits self.old self.new }
@@ -170,7 +170,7 @@ impl Booked {
 
     /// Takes up the job of a worker that was begun last, as `take_up`. Returns its number too.
     pub(crate) fn resume(&mut self, worker: Worker) -> (u64, Taken, Waking)
-        ensures number { result.0 ≡ job_of self.old.jobs worker }
+        ensures number { result.0 ≡ job_number self.old.jobs worker }
         ensures turn { IsTakenUp worker self.old.core result.1 self.new.core }
         ensures jobs { self.new.jobs ≡ self.old.jobs }
         ensures ended { self.new.ended ≡ self.old.ended }

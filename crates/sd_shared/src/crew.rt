@@ -24,7 +24,7 @@ pub(crate) struct Crew<'a, R, D: Drop, H> {
 impl<'a, R: Wait, D: Disk + Drop, H: Hold> Crew<'a, R, D, H> {
     ghost use Rattle.sd_gate.specs.declared.worker.Worker.TheVariants as its;
     ghost use Rattle.std.specs.Prelude.{◌≡◌, IfSome};
-    ghost use Rattle.sd_shared.specs.Turns.{IsCalled, Orders, Takes, WasRefused, ordered, taken_of};
+    ghost use Rattle.sd_shared.specs.Turns.{IsCalled, Orders, TakesStep, WasRefused, ordered, taken_of};
 
     /// Writers who have nothing to tell yet.
     pub(crate) fn new(rt: &'a R, shared: &'a Shared<D>, hold: &'a H) -> Self {
@@ -52,7 +52,7 @@ impl<'a, R: Wait, D: Disk + Drop, H: Hold> Crew<'a, R, D, H> {
 
     /// What is next of the checkpoint with this number.
     pub(crate) fn take_up(&self, job: u64) -> Next
-        ensures { Takes its.Dumper job (taken_of result) }
+        ensures { TakesStep its.Dumper job (taken_of result) }
     {
         self.shared.take_up_dumper(self.rt, job)
     }

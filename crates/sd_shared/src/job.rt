@@ -78,9 +78,9 @@ impl<'a, R: Wait, D: Disk + Drop, H: Hold> Job<'a, R, D, H> {
 }
 
 impl<R: Wait, D: Disk + Drop, H: Hold> Hands for Job<'_, R, D, H> {
-    ghost use Rattle.sd_shared.specs.Turns.{IsTold};
+    ghost use Rattle.sd_shared.specs.Turns.{WorkerIsTold};
 
-    ghost is_told = { λ job reply. IsTold D.contents job.worker job.number reply };
+    ghost is_told = { λ job reply. WorkerIsTold D.contents job.worker job.number reply };
 
     ghost last = { λ job. job.last };
 

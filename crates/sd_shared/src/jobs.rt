@@ -1,5 +1,5 @@
 ghost use Rattle.std.specs.Prelude.{◌≡◌};
-ghost use Rattle.sd_shared.specs.Turns.{counted, job_of};
+ghost use Rattle.sd_shared.specs.Turns.{counted, job_number};
 
 use sd_gate::Worker;
 
@@ -23,7 +23,7 @@ impl Jobs {
 
     /// The number of a worker's job that was begun last.
     pub(crate) fn of(&self, worker: Worker) -> u64
-        ensures { result ≡ job_of self.now worker }
+        ensures { result ≡ job_number self.now worker }
     {
         match worker {
             Worker::Dumper => self.dumper,

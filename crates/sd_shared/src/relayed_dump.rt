@@ -1,9 +1,10 @@
 //! A checkpoint whose writes of data pages are relayed to writers.
 ghost use Rattle.std.specs.Prelude.{◌≡◌, ◌⊎◌, true, IfSome};
 ghost use Rattle.sd_gate.specs.declared.worker.Worker.TheVariants as its;
-ghost use Rattle.sd_relay.specs.Fronts.{Stays};
+ghost use Rattle.sd_relay.specs.Fronts.{StaysOnChannel};
 ghost use Rattle.sd_shared.specs.Told.{ends_job};
-ghost use Rattle.sd_shared.specs.Turns.{IsCalled, IsLastOf, IsTold, IsToldBy, MakesJob, WasRefused, ordered, taken_of};
+ghost use Rattle.sd_shared.specs.Turns.{IsCalled, IsLastOf, IsToldBy, MakesJob, WasRefused, WorkerIsTold, ordered};
+ghost use Rattle.sd_shared.specs.Turns.{taken_of};
 
 use crate::crew::Crew;
 use crate::driving::ends_job;
@@ -98,7 +99,7 @@ impl<'a, R: Wait, D: Disk + Drop, H: Hold> RelayedDump<'a, R, D, H> {
 
     /// Puts the write of a data page for the writers. One that is handed back is made here.
     fn put(&mut self, front: &mut Front, request: Request) -> Reply
-        ensures stays { Stays front.old front.new }
+        ensures stays { StaysOnChannel front.old front.new }
         ensures same { (self.new.number ≡ self.old.number) × (self.new.count ≡ self.old.count) }
         ensures called { ends_job result ≡ true → IsCalled D.contents request.id result }
     {
@@ -129,7 +130,7 @@ impl<'a, R: Wait, D: Disk + Drop, H: Hold> RelayedDump<'a, R, D, H> {
 
     /// What the checkpoint is told of its next step, or of its next device call, which is made, or put for the writers.
     fn told(&mut self, front: &mut Front, next: Next, made: u64) -> Reply
-        ensures stays { Stays front.old front.new }
+        ensures stays { StaysOnChannel front.old front.new }
         ensures same { (self.new.number ≡ self.old.number) × (self.new.count ≡ self.old.count) }
         ensures told { ends_job result ≡ true → IsToldBy D.contents (taken_of next) result }
     {
@@ -145,9 +146,10 @@ impl<'a, R: Wait, D: Disk + Drop, H: Hold> RelayedDump<'a, R, D, H> {
 
     /// Makes the next step, or the next device call, or puts it for the writers.
     fn go_on(&mut self, front: &mut Front)
-        ensures stays { Stays front.old front.new }
+        ensures stays { StaysOnChannel front.old front.new }
         ensures same { (self.new.number ≡ self.old.number) × (self.new.count ≡ self.old.count) }
-        ensures told { ends_job self.new.last ≡ true → IsTold D.contents its.Dumper self.old.number self.new.last }
+        ensures told { ends_job self.new.last ≡ true
+            → WorkerIsTold D.contents its.Dumper self.old.number self.new.last }
     {
         let made = self.crew.made();
         let next = self.crew.take_up(self.number);
@@ -156,11 +158,11 @@ impl<'a, R: Wait, D: Disk + Drop, H: Hold> RelayedDump<'a, R, D, H> {
 
     /// Goes on to the end of the checkpoint, or until it is refused.
     fn go_on_to_the_end(&mut self, front: &mut Front)
-        ensures stays { Stays front.old front.new }
+        ensures stays { StaysOnChannel front.old front.new }
         ensures count { self.new.count ≡ self.old.count }
         ensures over { ends_job self.new.last ≡ true }
         ensures told { (self.new.last ≡ self.old.last)
-            ⊎ IsTold D.contents its.Dumper self.old.number self.new.last }
+            ⊎ WorkerIsTold D.contents its.Dumper self.old.number self.new.last }
     {
         for _ in self.crew.rt().forever() {
             if ends_job(&self.last) {

@@ -4,8 +4,9 @@ ghost use Rattle.sd_command.specs.declared.refusal.Refusal.TheVariants.{LockBusy
 ghost use Rattle.sd_crash_safety.specs.Calls.{IsUnjournaled};
 ghost use Rattle.sd_gate.specs.declared.worker.Worker.TheVariants as its;
 ghost use Rattle.sd_shared.specs.Told.{IsRefusedAtOnce};
-ghost use Rattle.sd_shared.specs.Turns.{Awaits, Cancels, HandsIn, IsCalled, LacksSlot, Makes, MakesThawed, Orders};
-ghost use Rattle.sd_shared.specs.Turns.{Resumes, Takes, TrimsOnce, ordered, taken_of, turned};
+ghost use Rattle.sd_shared.specs.Turns.{AwaitsThaw, Cancels, IsCalled, LacksSlot, Makes, MakesThawed, Orders};
+ghost use Rattle.sd_shared.specs.Turns.{WasHandedIn};
+ghost use Rattle.sd_shared.specs.Turns.{Resumes, TakesStep, TrimsOnce, ordered, taken_of, turned};
 
 use crate::booked::Booked;
 use crate::hold::Hold;
@@ -119,7 +120,7 @@ impl<D: Disk + Drop> Shared<D> {
 
     /// Waits until nothing is frozen, or the store is down, or waits are ended, and tells which.
     pub fn wait_thaw(&self, rt: &impl Wait) -> Thaw
-        ensures waits { Awaits result }
+        ensures waits { AwaitsThaw result }
     {
         let core = self
             .thawed
@@ -193,7 +194,7 @@ impl<D: Disk + Drop> Shared<D> {
 
     /// The next step of a worker's job. One that ends the job may end a freeze.
     pub(crate) fn take_up(&self, rt: &impl Wait, worker: Worker, job: u64) -> Taken
-        ensures turn { Takes worker job result }
+        ensures turn { TakesStep worker job result }
     {
         let (taken, waking) = self.core.lock(rt).take_up(worker, job);
         waking.wake(&self.thawed);
@@ -202,7 +203,7 @@ impl<D: Disk + Drop> Shared<D> {
 
     /// What is next of the checkpoint with this number among the jobs of the dumper.
     pub(crate) fn take_up_dumper(&self, rt: &impl Wait, job: u64) -> Next
-        ensures turn { Takes its.Dumper job (taken_of result) }
+        ensures turn { TakesStep its.Dumper job (taken_of result) }
     {
         let (next, waking) = self.core.lock(rt).take_up_dumper(job);
         waking.wake(&self.thawed);
@@ -242,7 +243,7 @@ impl<D: Disk + Drop> Shared<D> {
 
     /// Hands an outcome in. It may end a freeze, or put the store down.
     fn hand_in(&self, rt: &impl Wait, outcome: Outcome) -> Reply
-        ensures turn { HandsIn outcome.request.id result }
+        ensures turn { WasHandedIn outcome.request.id result }
     {
         let (reply, waking) = self.core.lock(rt).hand_in(outcome);
         waking.wake(&self.thawed);

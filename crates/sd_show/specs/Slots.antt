@@ -62,7 +62,7 @@ abbrev pub table_bytes : List ℕ → List ℕ
 table_bytes file = bytes_from (table_at (slice_range file 0 4096) (length file)) file
 
 -- what is read of an open slot
-pub record IsOpened (file : List ℕ) (opened : Opened) : Type 0 where
+pub record OpenSlotIsRead (file : List ℕ) (opened : Opened) : Type 0 where
   pub front : opened.front ≡ slice_range file 0 4096
   pub table : opened.table.items ≡ table_bytes file
   pub digest : opened.digest ≡ digest_of_file file
@@ -71,4 +71,5 @@ pub record IsOpened (file : List ℕ) (opened : Opened) : Type 0 where
 -- what is read of a slot
 pub record IsSeen (file : List ℕ) (seen : Seen) : Type 0 where
   pub state : seen.state ≡ state_in file
-  pub opened : MatchOption seen.opened (is_open file ≡ false) (λ opened. (is_open file ≡ true) × IsOpened file opened)
+  pub opened : MatchOption seen.opened (is_open file ≡ false)
+      (λ opened. (is_open file ≡ true) × OpenSlotIsRead file opened)

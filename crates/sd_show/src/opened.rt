@@ -4,7 +4,7 @@ ghost use Rattle.sd_disk.specs.Contents.{file_at};
 ghost use Rattle.sd_disk.specs.Failures.{HasCause};
 ghost use Rattle.sd_disk.specs.Reads.{OnlyReads};
 ghost use Rattle.sd_image.specs.Reading.{breaks_digest, digest_of_file, file_in, table_in};
-ghost use Rattle.sd_show.specs.Slots.{IsOpened, or_digest, reason_of, table_at, table_bytes};
+ghost use Rattle.sd_show.specs.Slots.{OpenSlotIsRead, or_digest, reason_of, table_at, table_bytes};
 ghost use Rattle.sd_show.specs.declared.stop.Stop.TheVariants as stop;
 
 use crate::device::read_file;
@@ -145,7 +145,7 @@ pub(crate) fn read_opened<D: Disk>(
     requires slot { slot < length (D.contents disk.old) }
     requires long { 4096 ≤ len }
     ensures opened { D.is_honest disk.new → len ≡ length (file_at (D.contents disk.old) slot)
-        → IfOk result (IsOpened (file_at (D.contents disk.old) slot)) }
+        → IfOk result (OpenSlotIsRead (file_at (D.contents disk.old) slot)) }
     ensures reads { OnlyReads D.Disk disk.old disk.new }
     ensures device { IsErrOf result stop.Device → D.failed disk.old < D.failed disk.new }
     ensures stops { D.failed disk.old < D.failed disk.new → IsErrOf result stop.Device }

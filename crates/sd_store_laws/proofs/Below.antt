@@ -6,7 +6,7 @@ use Rattle.sd_image.specs.Shows.{Holds, IsNamed, IsTip}
 use Rattle.sd_image.proofs.Members.{contains_cases, contains_front, contains_none}
 use Rattle.sd_store_laws.specs.Needed.{IsCalled, by_tip, by_job, by_parent}
 use Rattle.sd_store_laws.specs.Cut.{KeepsItsNumber}
-use Rattle.sd_store_laws.specs.Store.{IsSound, Store, jobs}
+use Rattle.sd_store_laws.specs.Store.{IsSoundStore, Store, jobs}
 use Rattle.sd_store_laws.specs.Steps.{Adds}
 use Rattle.sd_store_laws.specs.Below.{BelowStays, GivesByNumber, GivesStill, OwnIsNeeded, StepsGive}
 use Rattle.sd_store_laws.proofs.Choose.{one_named}
@@ -53,7 +53,7 @@ below_stays_lem catalog adding images jobs number differ cut keeps called space 
 -- ---- steps
 
 -- one image more that keeps what its number names
-one_more : (s : Store) (one : Image) (new : List Image) → IsSound s → KeepsItsNumber s.catalog (jobs s) one → Adds s.catalog one new → GivesStill s new
+one_more : (s : Store) (one : Image) (new : List Image) → IsSoundStore s → KeepsItsNumber s.catalog (jobs s) one → Adds s.catalog one new → GivesStill s new
 one_more s one new sound keeps adds number space page bytes called = below_stays_lem s.catalog (one ∷ []) new (jobs s) number sound.serials
     (record {
       needed = λ j n. (adds j).1 (inr (needed_in s.catalog (jobs s) j n));

@@ -7,8 +7,8 @@ use Rattle.sd_image.specs.declared.run.RunKind.TheVariants.{Data, Parent}
 use Rattle.sd_image.specs.Image.{Image}
 use Rattle.sd_image.specs.Shows.{IsNamed, IsNotAfter, IsRestorable, IsTip, ImagesShow}
 use Rattle.sd_image.proofs.Members.{contains_cases, contains_front, contains_later, contains_none}
-use Rattle.sd_store_laws.specs.Store.{IsNextDump, IsSound, IsTwin, Store, jobs}
-use Rattle.sd_store_laws.specs.Steps.{Adds, begun, committed, merging, opened}
+use Rattle.sd_store_laws.specs.Store.{IsNextDump, IsSoundStore, IsTwin, Store, jobs}
+use Rattle.sd_store_laws.specs.Steps.{Adds, checkpoint_begun, committed, found_store, merging}
 use Rattle.sd_store_laws.specs.Beliefs.{AreSlotsOf, Belief, Kept, Closing, Opening, IsAdded, image_at}
 use Rattle.sd_store_laws.specs.Worked.{MergeBesideRound, busy, busy_slots, memory_of, merged, unchanged, whole}
 use Rattle.sd_store_laws.proofs.Cuts.{needed_in}
@@ -33,7 +33,7 @@ module _ (bytes : List ℕ) where
 
   -- the steps that lead there
   abbrev pub started : Store
-  started = begun (opened []) 0
+  started = checkpoint_begun (found_store []) 0
 
   first_dump : IsNextDump started a
   first_dump = record {
@@ -66,16 +66,16 @@ module _ (bytes : List ℕ) where
     greatest = λ j c restorable. each_of_one (λ k. IsNotAfter k a) a (inr (refl, omega arith)) j c;
   }
 
-  empty_sound : IsSound (opened [])
+  empty_sound : IsSoundStore (found_store [])
   empty_sound = steps_keep_lem.opens [] (λ i j c e. absurd (contains_none i c)) (λ i c. absurd (contains_none i c))
 
-  pub saved_sound : IsSound (committed started (a ∷ []))
-  saved_sound = steps_keep_lem.commits started a (a ∷ []) (steps_keep_lem.begins_whole (opened []) empty_sound) first_dump a_more
+  pub saved_sound : IsSoundStore (committed started (a ∷ []))
+  saved_sound = steps_keep_lem.commits started a (a ∷ []) (steps_keep_lem.begins_whole (found_store []) empty_sound) first_dump a_more
 
-  merging_sound : IsSound (merging (committed started (a ∷ [])) a)
+  merging_sound : IsSoundStore (merging (committed started (a ∷ [])) a)
   merging_sound = steps_keep_lem.merges (committed started (a ∷ [])) a saved_sound a_tip
 
-  pub busy_sound : IsSound (busy bytes)
+  pub busy_sound : IsSoundStore (busy bytes)
   busy_sound = steps_keep_lem.begins (merging (committed started (a ∷ [])) a) a merging_sound refl a_tip
 
   -- what is being opened

@@ -1,7 +1,7 @@
 -- The worked images have files.
 use Rattle.std.proofs.Common.{◌≡◌, ◌+◌, ℕ, List, [], ◌∷◌, ◌++◌, length, refl, sym, ◌∙◌, ap, arith, length-append}
 use Rattle.std.proofs.lemmas.List.{append-nil}
-use Rattle.sd_image.specs.Words.{number_bytes, zeros}
+use Rattle.sd_image.specs.Words.{number_bytes, zero_bytes}
 use Rattle.sd_image.specs.Header.{header_front, header_text}
 use Rattle.sd_image.specs.Table.{table_text}
 use Rattle.sd_image.specs.Image.{Image, IsImage}
@@ -23,15 +23,15 @@ module _ (bytes : List ℕ) (long : length bytes ≡ 4096) where
   m = merged 3 1 1 bytes
 
   a_head : length (header_text a.header) ≡ 4095
-  unfolding header_text header_front number_bytes zeros
+  unfolding header_text header_front number_bytes zero_bytes
   a_head = refl
 
   m_head : length (header_text m.header) ≡ 4095
-  unfolding header_text header_front number_bytes zeros
+  unfolding header_text header_front number_bytes zero_bytes
   m_head = refl
 
   a_table : length (table_text a.spaces) ≡ 72
-  unfolding table_text number_bytes zeros
+  unfolding table_text number_bytes zero_bytes
   a_table = refl
 
   stored_length : length (bytes ++ []) ≡ 4096
@@ -83,11 +83,11 @@ abbrev b : Image
 b = unchanged 2 1 2
 
 b_head : length (header_text b.header) ≡ 4095
-unfolding header_text header_front number_bytes zeros
+unfolding header_text header_front number_bytes zero_bytes
 b_head = refl
 
 b_table : length (table_text b.spaces) ≡ 72
-unfolding table_text number_bytes zeros
+unfolding table_text number_bytes zero_bytes
 b_table = refl
 
 pub b_file : IsImage (file_of b) b

@@ -4,7 +4,7 @@ use Rattle.std.specs.List.{AllZip, IsDistinct}
 use Rattle.std.proofs.lemmas.Option.{none-some, same_Some}
 use Rattle.sd_image.specs.Image.{Image, IsImage, OpenImages}
 use Rattle.sd_image.proofs.Members.{contains_cases, contains_front, contains_later, contains_none}
-use Rattle.sd_store_laws.specs.Steps.{opened}
+use Rattle.sd_store_laws.specs.Steps.{found_store}
 use Rattle.sd_store_laws.specs.Beliefs.{Belief, Closed, Kept, Closing, Opening, image_at}
 use Rattle.sd_store_laws.specs.SlotSteps.{IsFoundAs, SlotsAreFound}
 use Rattle.sd_store_laws.specs.Store.{jobs}
@@ -106,7 +106,7 @@ slots_are_found_lem contents images store =
       all.files,
       record {
         catalog = λ i. (λ c. inl (all.kept i c), λ c. elim c [ inl kept ↦ all.was i kept | inr closing ↦ absurd (all.unclosing i closing) ]);
-        needed = λ i n. all.kept i (needed_in images (jobs (opened images)) i n);
+        needed = λ i n. all.kept i (needed_in images (jobs (found_store images)) i n);
         opening = λ i c. absurd (all.unopening i c);
         dump = tt;
         serials = all.apart store.serials;

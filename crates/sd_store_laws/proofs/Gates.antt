@@ -6,7 +6,7 @@ use Rattle.sd_disk.specs.Contents.{file_at}
 use Rattle.sd_image.specs.Image.{Image, IsImage, gate, is_open}
 use Rattle.sd_gate.specs.declared.phase.Phase.{Phase}
 use Rattle.sd_gate.specs.declared.phase.Phase.TheVariants.{Raw, RawClosing, Whole, Closing as ClosingPhase, Shut, ShutSynced, Bare, Writing, Ready, Opening as OpeningPhase, Doubt, DoubtSynced}
-use Rattle.sd_gate.specs.Fits.{Leaves}
+use Rattle.sd_gate.specs.Fits.{PhaseLeaves}
 use Rattle.sd_gate.specs.Laws.{ImageWholeOrClosed, IsClosedOrWhole}
 use Rattle.sd_store_laws.specs.Beliefs.{Belief, Closed, FitsBelief}
 use Rattle.sd_store_laws.specs.Gates.{IsBelievedAs, IsInDoubt, LeftAsBelieved, MayBelieve}
@@ -24,7 +24,7 @@ doubt_fits body file belief doubt left = elim doubt.1 [
   | inr is ↦ subst (λ b. FitsBelief b file) (sym is) (whole_or_closed body file doubt.0 doubt.2 left)
 ]
 
-fits : ImageWholeOrClosed → (phase : Phase) (body file : List ℕ) (belief : Belief) → IsBelievedAs phase body belief → Leaves phase body file → FitsBelief belief file
+fits : ImageWholeOrClosed → (phase : Phase) (body file : List ℕ) (belief : Belief) → IsBelievedAs phase body belief → PhaseLeaves phase body file → FitsBelief belief file
 fits law Raw body file belief is left = closed_fits belief file is (law Raw body file left)
 fits law RawClosing body file belief is left = closed_fits belief file is (law RawClosing body file left)
 fits law Whole body file belief is left =
@@ -69,7 +69,7 @@ is_file [] k file e = absurd cc
 is_file (f ∷ files) zero file e = same_Some f file e
 is_file (f ∷ files) (suc k) file e = is_file files k file e
 
-believed_fits : ImageWholeOrClosed → (phase : Phase) (body file : List ℕ) (belief : Belief) → MayBelieve phase body belief → Leaves phase body file → FitsBelief belief file
+believed_fits : ImageWholeOrClosed → (phase : Phase) (body file : List ℕ) (belief : Belief) → MayBelieve phase body belief → PhaseLeaves phase body file → FitsBelief belief file
 believed_fits law phase body file belief may left = may.weaker file (fits law phase body file may.strong may.is left)
 
 pub left_as_believed : ImageWholeOrClosed → LeftAsBelieved

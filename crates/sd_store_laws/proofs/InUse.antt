@@ -8,14 +8,14 @@ use Rattle.sd_image.specs.Image.{Image, IsImage}
 use Rattle.sd_image.specs.Laws.{OneImage}
 use Rattle.sd_image.specs.Shows.{IsNamed}
 use Rattle.sd_image.proofs.Members.{contains_at, place_in}
-use Rattle.sd_chain.specs.Catalog.{Changes, IsSound as IsSoundCatalog, Names, Opened, Places, images, place_of, without_slot}
+use Rattle.sd_chain.specs.Catalog.{Changes, IsSoundCatalog, Names, Opened, Places, images, place_of, without_slot}
 use Rattle.sd_chain.specs.Reaches.{ReachesSerial}
 use Rattle.sd_chain.specs.Reaches as catalog
-use Rattle.sd_chain.specs.Tells.{Agrees, IsToldAs, Tells}
+use Rattle.sd_chain.specs.Tells.{Agrees, CatalogLists, IsToldAs}
 use Rattle.sd_store_laws.specs.Reached.{Reaches, ReachesBySerial, itself, beyond}
 use Rattle.sd_store_laws.specs.Beliefs.{Belief, Closed, Kept, Closing, Opening}
 use Rattle.sd_store_laws.specs.SlotSteps.{IsFoundAs, with_belief}
-use Rattle.sd_store_laws.specs.InUse.{CatalogFollows, CatalogInUseTells, CatalogIsFound, HasImage, IsCatalogInUse, ToldReachesSo}
+use Rattle.sd_store_laws.specs.InUse.{CatalogFollows, CatalogInUseTells, CatalogIsFound, IsCatalogInUse, SlotHasImage, ToldReachesSo}
 use Rattle.sd_store_laws.proofs.Slots.{image_opens}
 use Rattle.sd_store_laws.proofs.SlotSteps.{set_other, set_same}
 
@@ -35,7 +35,7 @@ tells_lem places sound s pending beliefs are held = record {
   ];
 }
   where
-    has : (slot : ℕ) (i : Image) → HasImage beliefs slot i → Contains beliefs (Kept i) ⊎ Contains beliefs (Closing i)
+    has : (slot : ℕ) (i : Image) → SlotHasImage beliefs slot i → Contains beliefs (Kept i) ⊎ Contains beliefs (Closing i)
     has slot i (inl e) = inl (contains_at beliefs slot (Kept i) e)
     has slot i (inr e) = inr (contains_at beliefs slot (Closing i) e)
 
@@ -45,7 +45,7 @@ tells_lem places sound s pending beliefs are held = record {
 
 -- ---- what it reaches
 
-module _ (places : Places) (all : List Image) (tells : Tells places all) (agrees : Agrees places all) where
+module _ (places : Places) (all : List Image) (tells : CatalogLists places all) (agrees : Agrees places all) where
   reached_image : (j i : Opened) (a : Image) → Contains (images places) i → Contains all a → IsToldAs i a → catalog.Reaches places j i
       → (b : Image) × IsToldAs j b × Reaches all b a
   reached_image j i a ci ca told (catalog.itself) = (a, told, itself)
@@ -78,7 +78,7 @@ module _ (places : Places) (all : List Image) (tells : Tells places all) (agrees
       let j = reached_opened r.1 i.0 r.0 i.1 r.2 i.2 r.4 in
       (i.0, j.0, i.1, sym (serials i.0 r.0 i.2) ∙ r.3, j.2, sym (serials j.0 r.1 j.1) ∙ r.5)
 
-pub told_reaches_so_lem : (places : Places) → ((all : List Image) → Tells places all → Agrees places all) → ToldReachesSo places
+pub told_reaches_so_lem : (places : Places) → ((all : List Image) → CatalogLists places all → Agrees places all) → ToldReachesSo places
 told_reaches_so_lem places law all tells serial reached =
     (reaches_on places all tells (law all tells) serial reached, reaches_back places all tells (law all tells) serial reached)
 
@@ -137,16 +137,16 @@ catalog_is_found_lem one places contents beliefs order of all = record {
 -- ---- it follows the slots
 
 -- an image of another slot, in both lists
-move_on : (beliefs : List Belief) (slot k : ℕ) (b : Belief) (i : Image) → k ≢ slot → HasImage beliefs k i → HasImage (with_belief beliefs slot b) k i
+move_on : (beliefs : List Belief) (slot k : ℕ) (b : Belief) (i : Image) → k ≢ slot → SlotHasImage beliefs k i → SlotHasImage (with_belief beliefs slot b) k i
 move_on beliefs slot k b i other (inl e) = inl (set_other beliefs slot k b other ∙ e)
 move_on beliefs slot k b i other (inr e) = inr (set_other beliefs slot k b other ∙ e)
 
-move_back : (beliefs : List Belief) (slot k : ℕ) (b : Belief) (i : Image) → k ≢ slot → HasImage (with_belief beliefs slot b) k i → HasImage beliefs k i
+move_back : (beliefs : List Belief) (slot k : ℕ) (b : Belief) (i : Image) → k ≢ slot → SlotHasImage (with_belief beliefs slot b) k i → SlotHasImage beliefs k i
 move_back beliefs slot k b i other (inl e) = inl (sym (set_other beliefs slot k b other) ∙ e)
 move_back beliefs slot k b i other (inr e) = inr (sym (set_other beliefs slot k b other) ∙ e)
 
 -- the image of a slot with this belief
-image_of : (beliefs : List Belief) (slot : ℕ) (b : Belief) (i : Image) → slice_get beliefs slot ≡ Some b → HasImage beliefs slot i → (b ≡ Kept i) ⊎ (b ≡ Closing i)
+image_of : (beliefs : List Belief) (slot : ℕ) (b : Belief) (i : Image) → slice_get beliefs slot ≡ Some b → SlotHasImage beliefs slot i → (b ≡ Kept i) ⊎ (b ≡ Closing i)
 image_of beliefs slot b i there (inl e) = inl (same_Some b (Kept i) (sym there ∙ e))
 image_of beliefs slot b i there (inr e) = inr (same_Some b (Closing i) (sym there ∙ e))
 
@@ -171,7 +171,7 @@ module _ (old new : Places) (beliefs : List Belief) (o : Opened) (i : Image) (he
   own_slot = set_same beliefs o.slot (Opening i) (Kept i) there
 
   abbrev IsThere : Opened → Type 0
-  IsThere p = (j : Image) × IsToldAs p j × HasImage now p.slot j
+  IsThere p = (j : Image) × IsToldAs p j × SlotHasImage now p.slot j
 
   image_there : (serial : ℕ) (p : Opened) (b : Bool) → cond b (Some (Some o)) (place_of old serial) ≡ Some (Some p) → IsThere p
   image_there serial p true e =
@@ -179,18 +179,18 @@ module _ (old new : Places) (beliefs : List Belief) (o : Opened) (i : Image) (he
       subst IsThere is (i, told, inl own_slot)
   image_there serial p false e =
       let was = held.image serial p e in
-      (was.0, was.1, move_on beliefs o.slot p.slot (Kept i) was.0 (λ same. elsewhere was.0 (subst (λ k. HasImage beliefs k was.0) same was.2)) was.2)
+      (was.0, was.1, move_on beliefs o.slot p.slot (Kept i) was.0 (λ same. elsewhere was.0 (subst (λ k. SlotHasImage beliefs k was.0) same was.2)) was.2)
     where
-      elsewhere : (j : Image) → HasImage beliefs o.slot j → ⊥
+      elsewhere : (j : Image) → SlotHasImage beliefs o.slot j → ⊥
       elsewhere j has = not_opening i j (image_of beliefs o.slot (Opening i) j there has)
 
   abbrev IsPlaced : ℕ → Image → Type 0
   IsPlaced slot j = (p : Opened) × (place_of new j.header.serial ≡ Some (Some p)) × IsToldAs p j × (p.slot ≡ slot)
 
-  opened_there : (slot : ℕ) (j : Image) → HasImage now slot j → IsPlaced slot j
+  opened_there : (slot : ℕ) (j : Image) → SlotHasImage now slot j → IsPlaced slot j
   opened_there slot j has = elim (cases_eq slot o.slot) [
     | inl same ↦
-        let mine : i ≡ j = is_kept i j (image_of now o.slot (Kept i) j own_slot (subst (λ k. HasImage now k j) same has)) in
+        let mine : i ≡ j = is_kept i j (image_of now o.slot (Kept i) j own_slot (subst (λ k. SlotHasImage now k j) same has)) in
         subst (IsPlaced slot) mine (
           o,
           changes i.header.serial ∙ ap (λ b. cond b (Some (Some o)) (place_of old i.header.serial)) (eq-eqb o.header.serial i.header.serial (sym (serials o i told))),
@@ -240,7 +240,7 @@ removes_it old new beliefs slot i held there changes = record {
       (found.0, found.1, move_on beliefs slot p.slot Closed found.0 was.1 found.2);
   opened = λ k j has. elim (cases_eq k slot) [
     | inl same ↦ absurd (not_closed j (image_of (with_belief beliefs slot Closed) slot Closed j (set_same beliefs slot (Closing i) Closed there)
-        (subst (λ n. HasImage (with_belief beliefs slot Closed) n j) same has)))
+        (subst (λ n. SlotHasImage (with_belief beliefs slot Closed) n j) same has)))
     | inr other ↦
         let was = held.opened k j (move_back beliefs slot k Closed j other has) in
         (was.0, changes j.header.serial ∙ ap (without_slot slot) was.1 ∙ stays_place slot was.0 (λ same. other (sym was.3 ∙ same)), was.2, was.3)

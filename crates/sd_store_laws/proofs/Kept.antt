@@ -7,12 +7,12 @@ use Rattle.sd_image.proofs.Members.{contains_cases, contains_none}
 use Rattle.sd_store_laws.specs.Needed.{IsReached}
 use Rattle.sd_store_laws.specs.Needs.{IsNeededIn}
 use Rattle.sd_store_laws.specs.Reached.{Reaches, itself, beyond}
-use Rattle.sd_store_laws.specs.Store.{IsSound, Store, jobs}
+use Rattle.sd_store_laws.specs.Store.{IsSoundStore, Store, jobs}
 use Rattle.sd_store_laws.specs.Kept.{HasItsWork, InUseIsNeeded, IsInUse, RetiresUnneeded, WorkStays}
 use Rattle.sd_store_laws.proofs.Stays.{source_reaches_needed_lem}
 use Rattle.sd_store_laws.proofs.Walks.{needed_is_reached_lem}
 
-needed_so : (s : Store) (i : Image) → IsSound s → IsInUse s i → IsNeededIn s i ⊎ (s.source ≡ Some i)
+needed_so : (s : Store) (i : Image) → IsSoundStore s → IsInUse s i → IsNeededIn s i ⊎ (s.source ≡ Some i)
 needed_so s i sound (inl tip) = inl ((needed_is_reached_lem s.catalog (jobs s) i).1 (inl tip))
 needed_so s i sound (inr (inl last)) =
     inl ((needed_is_reached_lem s.catalog (jobs s) i).1 (inr (last.1.0, last.0, Contains-append_left s.chain s.work last.1.0 last.1.1, last.1.2, last.2)))

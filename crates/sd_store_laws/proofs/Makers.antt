@@ -7,7 +7,7 @@ use Rattle.sd_image.specs.Image.{Image}
 use Rattle.sd_image.specs.Shows.{Holds, by_data, by_zero, by_parent, page_in}
 use Rattle.sd_image.proofs.Members.{contains_none}
 use Rattle.sd_store_laws.specs.Needed.{by_job}
-use Rattle.sd_store_laws.specs.Store.{IsNextDump, IsSound, Store}
+use Rattle.sd_store_laws.specs.Store.{IsNextDump, IsSoundStore, Store}
 use Rattle.sd_store_laws.specs.Makers.{AboveIsFresh, DumpShows, HasItself, HasOver, IsMergedOf, MergedRepeats}
 use Rattle.sd_store_laws.proofs.Below.{steps_give_lem}
 use Rattle.sd_store_laws.proofs.Growth.{new_tip}
@@ -39,7 +39,7 @@ merged_repeats_lem images source one is = record {
 
 -- ---- a dump
 
-module _ (s : Store) (dump : Image) (sound : IsSound s) (next : IsNextDump s dump) where
+module _ (s : Store) (dump : Image) (sound : IsSoundStore s) (next : IsNextDump s dump) where
   over_holds : (space page : ℕ) (bytes : List ℕ) → HasOver s.catalog dump space page bytes → Holds (dump ∷ s.catalog) space page bytes dump
   over_holds space page bytes (inl has) = itself_holds (dump ∷ s.catalog) dump space page bytes has
   over_holds space page bytes (inr below) =

@@ -3,17 +3,17 @@ use Rattle.std.proofs.Common.{◌≡◌, ◌⊎◌, true, List, sym, ◌∙◌, 
 use Rattle.sd_image.specs.Image.{Image}
 use Rattle.sd_image.specs.Shows.{IsNamed, IsTip}
 use Rattle.sd_store_laws.specs.Needed.{IsNeeded}
-use Rattle.sd_store_laws.specs.Store.{IsNextDump, IsNextPreDump, IsSound, IsTwin, Store, jobs}
-use Rattle.sd_store_laws.specs.Steps.{Adds, Retires, added, begun, cancelled, committed, merging, replaced, retired}
+use Rattle.sd_store_laws.specs.Store.{IsNextDump, IsNextPreDump, IsSoundStore, IsTwin, Store, jobs}
+use Rattle.sd_store_laws.specs.Steps.{Adds, Retires, added, cancelled, checkpoint_begun, committed, merging, replaced, retired}
 use Rattle.sd_store_laws.proofs.Choose.{one_named}
 use Rattle.sd_store_laws.proofs.Growth.{fewer_named, fewer_tip}
 use Rattle.sd_store_laws.proofs.StepLemmas.{added_called, begun_called, cancelled_called, committed_called, merging_called, name_back, nothing_at_0, old_tip, replaced_called, retired_called, tip_back, whole_called}
 
-module _ (s : Store) (sound : IsSound s) where
+module _ (s : Store) (sound : IsSoundStore s) where
   abbrev Before : Image → Type 0
   Before j = IsNeeded s.catalog (jobs s) j
 
-  pub begun_needs : (tip j : Image) → s.grows ≡ true → IsTip s.catalog tip → IsNeeded s.catalog (jobs (begun s tip.header.stands_for)) j → Before j
+  pub begun_needs : (tip j : Image) → s.grows ≡ true → IsTip s.catalog tip → IsNeeded s.catalog (jobs (checkpoint_begun s tip.header.stands_for)) j → Before j
   begun_needs tip j grows is (inl top) = inl top
   begun_needs tip j grows is (inr n) = elim (begun_called s sound tip grows is n.0 n.1) [
     | inl was ↦ inr (n.0, was, n.2)
@@ -22,7 +22,7 @@ module _ (s : Store) (sound : IsSound s) where
         inl (subst (IsTip s.catalog) (sym mine) is)
   ]
 
-  pub whole_needs : (j : Image) → IsNeeded s.catalog (jobs (begun s 0)) j → Before j
+  pub whole_needs : (j : Image) → IsNeeded s.catalog (jobs (checkpoint_begun s 0)) j → Before j
   whole_needs j (inl top) = inl top
   whole_needs j (inr n) = elim (whole_called s sound n.0 n.1) [
     | inl was ↦ inr (n.0, was, n.2)

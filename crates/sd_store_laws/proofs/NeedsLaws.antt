@@ -5,15 +5,15 @@ use Rattle.sd_image.proofs.Members.{contains_none}
 use Rattle.sd_store_laws.specs.Needed.{IsCalled, by_tip, by_parent}
 use Rattle.sd_store_laws.specs.Needs.{IsNeededIn, IsUnneeded, NeedsNoMore, UnneededStays}
 use Rattle.sd_store_laws.specs.Store.{Store, jobs}
-use Rattle.sd_store_laws.specs.Steps.{Adds, added, committed, opened, replaced}
+use Rattle.sd_store_laws.specs.Steps.{Adds, added, committed, found_store, replaced}
 use Rattle.sd_store_laws.proofs.Growth.{called_all}
 use Rattle.sd_store_laws.proofs.Needs.{added_needs, begun_needs, cancelled_needs, committed_needs, merging_needs, replaced_needs, retired_needs, whole_needs}
 
-opened_needs : (s : Store) (i : Image) → IsNeededIn (opened s.catalog) i → IsNeededIn s i
+opened_needs : (s : Store) (i : Image) → IsNeededIn (found_store s.catalog) i → IsNeededIn s i
 opened_needs s i (inl top) = inl top
 opened_needs s i (inr n) = inr (
   n.0,
-  called_all s.catalog (jobs (opened s.catalog)) (λ number. IsCalled s.catalog (jobs s) number)
+  called_all s.catalog (jobs (found_store s.catalog)) (λ number. IsCalled s.catalog (jobs s) number)
       (λ t is. by_tip t.header.parent t is refl)
       (λ number c. absurd (contains_none number c))
       (λ number j was named. by_parent j.header.parent number j was named refl) n.0 n.1,

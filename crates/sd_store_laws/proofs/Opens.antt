@@ -13,7 +13,7 @@ use Rattle.sd_image.specs.Shows.{Holds, by_data, by_zero, by_parent, IsNamed, Is
 use Rattle.sd_image.specs.Laws.{SerialsDiffer}
 use Rattle.sd_image.proofs.Members.{contains_cases, contains_front, contains_later, contains_none}
 use Rattle.sd_store_laws.specs.Cut.{IsHarmless}
-use Rattle.sd_store_laws.specs.Store.{IsMerged, IsSound, IsTwin, Store, jobs}
+use Rattle.sd_store_laws.specs.Store.{IsMergeSource, IsSoundStore, IsTwin, Store, jobs}
 use Rattle.sd_store_laws.specs.Steps.{Adds}
 use Rattle.sd_store_laws.specs.Opens.{OpenedIsSound, OrderIsFree, StepsShow}
 use Rattle.sd_store_laws.proofs.Cuts.{cut_shows_the_same_lem, needed_in}
@@ -120,9 +120,9 @@ more_shows catalog new asked i shown differ harmless adds was =
       | inr none ↦ absurd (contains_none j none)
     ]) was
 
-pub twin_harmless : (s : Store) (i : Image) → IsSound s → IsTwin s.catalog s.source i → IsHarmless s.catalog (jobs s) i
+pub twin_harmless : (s : Store) (i : Image) → IsSoundStore s → IsTwin s.catalog s.source i → IsHarmless s.catalog (jobs s) i
 twin_harmless s i sound twin =
-    let merged : IsMerged s twin.source = subst (λ (o : Option Image). IfSome o (IsMerged s)) twin.running sound.merged in
+    let merged : IsMergeSource s twin.source = subst (λ (o : Option Image). IfSome o (IsMergeSource s)) twin.running sound.merged in
     twin_is_harmless_lem s.catalog (jobs s) twin.source i merged.is twin.repeats
 
 pub steps_show_lem : StepsShow

@@ -5,7 +5,7 @@ use Rattle.sd_image.specs.Image.{Image}
 use Rattle.sd_image.specs.Shows.{ImagesShow}
 use Rattle.sd_image.proofs.Members.{contains_cases, contains_front, contains_later}
 use Rattle.sd_store_laws.specs.Pending.{PendingShows}
-use Rattle.sd_store_laws.specs.Store.{IsNextDump, IsSound, IsTwin, Store}
+use Rattle.sd_store_laws.specs.Store.{IsNextDump, IsSoundStore, IsTwin, Store}
 use Rattle.sd_store_laws.specs.Steps.{Adds, Retires, committed}
 use Rattle.sd_store_laws.proofs.Needs.{committed_needs}
 use Rattle.sd_store_laws.proofs.Opens.{steps_show_lem}
@@ -40,12 +40,12 @@ adds_behind first one old new adds j = (
   ],
 )
 
-module _ (s : Store) (dump : Image) (sound : IsSound s) (next : IsNextDump s dump) where
+module _ (s : Store) (dump : Image) (sound : IsSoundStore s) (next : IsNextDump s dump) where
   -- the store once the dump is committed
   abbrev after : Store
   after = committed s (dump ∷ s.catalog)
 
-  after_sound : IsSound after
+  after_sound : IsSoundStore after
   after_sound = steps_keep_lem.commits s dump (dump ∷ s.catalog) sound next (adds_front s.catalog dump)
 
   replaces : (one : Image) (new : List Image) (shown : Option (ℕ × PlainMemory)) → IsTwin s.catalog s.source one → dump.header.serial ≢ one.header.serial

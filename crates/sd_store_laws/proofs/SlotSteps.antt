@@ -6,8 +6,8 @@ use Rattle.std.proofs.lemmas.Option.{none-some, same_Some}
 use Rattle.sd_image.specs.Image.{Image}
 use Rattle.sd_image.proofs.Members.{contains_at, contains_cases, contains_front, contains_later, contains_none, place_in}
 use Rattle.sd_store_laws.specs.Needed.{IsNeeded}
-use Rattle.sd_store_laws.specs.Store.{IsFresh, IsNextDump, IsSound, IsTwin, Store, jobs, IsNextPreDump}
-use Rattle.sd_store_laws.specs.Steps.{Retires, begun, cancelled, merging, retired, Adds, added, committed, replaced}
+use Rattle.sd_store_laws.specs.Store.{IsFresh, IsNextDump, IsSoundStore, IsTwin, Store, jobs, IsNextPreDump}
+use Rattle.sd_store_laws.specs.Steps.{Retires, checkpoint_begun, cancelled, merging, retired, Adds, added, committed, replaced}
 use Rattle.sd_store_laws.specs.Beliefs.{AreSlotsOf, Belief, Closed, Kept, Closing, Opening, IsAdded, image_at, image_in}
 use Rattle.sd_store_laws.specs.SlotSteps.{ClosingRetires, Lacks, SlotsDrop, SlotsFollowCalls, SlotsFollowImages, SlotsFollowJobs, with_belief}
 use Rattle.sd_store_laws.proofs.Needs.{begun_needs, cancelled_needs, merging_needs, retired_needs, whole_needs, added_needs, committed_needs, replaced_needs}
@@ -202,7 +202,7 @@ same_dump : (s t : Store) (pending : Option Image) → ((i : Image) → IsNextDu
 same_dump s t None keeps was = tt
 same_dump s t (Some i) keeps was = keeps i was
 
-closed : (s : Store) (pending : Option Image) (beliefs : List Belief) (slot : ℕ) (i : Image) (new : List Image) → IsSound s → AreSlotsOf s pending beliefs
+closed : (s : Store) (pending : Option Image) (beliefs : List Belief) (slot : ℕ) (i : Image) (new : List Image) → IsSoundStore s → AreSlotsOf s pending beliefs
     → slice_get beliefs slot ≡ Some (Closing i) → Lacks s.catalog i new
     → AreSlotsOf (retired s new) pending (with_belief beliefs slot Closed)
 closed s pending beliefs slot i new sound are there lacks = record {
@@ -379,10 +379,10 @@ same_slots s t pending beliefs same needs adding dump are = record {
 pub slots_follow_jobs_lem : SlotsFollowJobs
 slots_follow_jobs_lem = record {
   begins = λ s tip beliefs sound grows is are.
-      same_slots s (begun s tip.header.stands_for) None beliefs refl (λ j. begun_needs s sound tip j grows is)
-      (λ j. same_added s (begun s tip.header.stands_for) None j (fresh_stays_lem.begins s tip j is) (λ twin. twin)) tt are;
+      same_slots s (checkpoint_begun s tip.header.stands_for) None beliefs refl (λ j. begun_needs s sound tip j grows is)
+      (λ j. same_added s (checkpoint_begun s tip.header.stands_for) None j (fresh_stays_lem.begins s tip j is) (λ twin. twin)) tt are;
   begins_whole = λ s beliefs sound are.
-      same_slots s (begun s 0) None beliefs refl (whole_needs s sound) (λ j. same_added s (begun s 0) None j (fresh_stays_lem.begins_whole s j) (λ twin. twin)) tt are;
+      same_slots s (checkpoint_begun s 0) None beliefs refl (whole_needs s sound) (λ j. same_added s (checkpoint_begun s 0) None j (fresh_stays_lem.begins_whole s j) (λ twin. twin)) tt are;
   cancels = λ s beliefs sound are.
       same_slots s (cancelled s) None beliefs refl (cancelled_needs s sound) (λ j. same_added s (cancelled s) None j (fresh_stays_lem.cancels s j) (λ twin. twin)) tt are;
   merges = λ s tip pending beliefs sound is none are.
@@ -445,7 +445,7 @@ module _ (s : Store) (pending : Option Image) (beliefs : List Belief) (slot : �
     serials = still_apart beliefs slot (Opening i) (Kept i) there are.serials (λ j e. inl e);
   }
 
-adds_enters : (s : Store) (beliefs : List Belief) (slot : ℕ) (i : Image) (new : List Image) → IsSound s → AreSlotsOf s None beliefs
+adds_enters : (s : Store) (beliefs : List Belief) (slot : ℕ) (i : Image) (new : List Image) → IsSoundStore s → AreSlotsOf s None beliefs
     → slice_get beliefs slot ≡ Some (Opening i) → IsNextPreDump s i → Adds s.catalog i new
     → AreSlotsOf (added s new i.header.stands_for) None (with_belief beliefs slot (Kept i))
 adds_enters s beliefs slot i new sound are there is more =
@@ -455,7 +455,7 @@ adds_enters s beliefs slot i new sound are there is more =
     (twin_stays_lem.adds s i j new sound is.next more (other_serial s None beliefs slot i new are there more j e)))
     tt
 
-commits_enters : (s : Store) (beliefs : List Belief) (slot : ℕ) (i : Image) (new : List Image) → IsSound s → AreSlotsOf s (Some i) beliefs
+commits_enters : (s : Store) (beliefs : List Belief) (slot : ℕ) (i : Image) (new : List Image) → IsSoundStore s → AreSlotsOf s (Some i) beliefs
     → slice_get beliefs slot ≡ Some (Opening i) → Adds s.catalog i new
     → AreSlotsOf (committed s new) None (with_belief beliefs slot (Kept i))
 commits_enters s beliefs slot i new sound are there more =
@@ -466,7 +466,7 @@ commits_enters s beliefs slot i new sound are there more =
     adding j e (inr (inl twin)) = inr (inl (twin_stays_lem.adds s i j new sound are.dump.next more (other_serial s (Some i) beliefs slot i new are there more j e) twin))
     adding j e (inr (inr is)) = absurd (not_elsewhere s (Some i) beliefs slot i new are there more j (sym (same_Some i j is)) e)
 
-replaces_enters : (s : Store) (pending : Option Image) (beliefs : List Belief) (slot : ℕ) (i : Image) (new : List Image) → IsSound s → AreSlotsOf s pending beliefs
+replaces_enters : (s : Store) (pending : Option Image) (beliefs : List Belief) (slot : ℕ) (i : Image) (new : List Image) → IsSoundStore s → AreSlotsOf s pending beliefs
     → slice_get beliefs slot ≡ Some (Opening i) → IsTwin s.catalog s.source i → Adds s.catalog i new
     → ((j : Image) → Contains beliefs (Opening j) → IsTwin s.catalog s.source j → j ≡ i)
     → IfSome pending (λ dump. i.header.serial ≢ dump.header.serial)

@@ -9,7 +9,7 @@ use Rattle.sd_image.specs.Image.{Image, IsImage, OpenImages, is_open}
 use Rattle.sd_image.specs.Shows.{Shows, ImagesShow}
 use Rattle.sd_image.proofs.Members.{contains_cases, contains_front, contains_later, contains_none}
 use Rattle.sd_store_laws.specs.Cut.{IsHarmless, IsPending}
-use Rattle.sd_store_laws.specs.Store.{IsMerged, IsNextDump, IsSound, Store, jobs}
+use Rattle.sd_store_laws.specs.Store.{IsMergeSource, IsNextDump, IsSoundStore, Store, jobs}
 use Rattle.sd_store_laws.specs.Beliefs.{AreSlotsOf, Belief, Closed, Kept, Closing, Opening, ContentsShow, FitsBelief, IsAdded, IsLeft, LeftImagesShow, image_in, image_at}
 use Rattle.sd_store_laws.proofs.Cuts.{cut_shows_the_same_lem, cut_shows_last_or_pending_lem}
 use Rattle.sd_store_laws.proofs.Harmless.{dump_is_pending_lem, pre_dump_is_harmless_lem, twin_is_harmless_lem}
@@ -47,15 +47,15 @@ was_opening (Opening j ∷ beliefs) i c = elim (contains_cases j i (openings bel
 ]
 
 -- what is being opened, beside the pending dump, is harmless
-harmless_or_pending : (s : Store) (pending : Option Image) (i : Image) → IsSound s → IsAdded s pending i → IsHarmless s.catalog (jobs s) i ⊎ (pending ≡ Some i)
+harmless_or_pending : (s : Store) (pending : Option Image) (i : Image) → IsSoundStore s → IsAdded s pending i → IsHarmless s.catalog (jobs s) i ⊎ (pending ≡ Some i)
 harmless_or_pending s pending i sound (inl pre) = inl (pre_dump_is_harmless_lem s.catalog (jobs s) i pre.0 pre.1.number)
 harmless_or_pending s pending i sound (inr (inl twin)) =
-    let merged : IsMerged s twin.source = subst (λ (o : Option Image). IfSome o (IsMerged s)) twin.running sound.merged in
+    let merged : IsMergeSource s twin.source = subst (λ (o : Option Image). IfSome o (IsMergeSource s)) twin.running sound.merged in
     inl (twin_is_harmless_lem s.catalog (jobs s) twin.source i merged.is twin.repeats)
 harmless_or_pending s pending i sound (inr (inr is)) = inr is
 
 left_last : (s : Store) (beliefs : List Belief) (images : List Image) (shown : Option (ℕ × PlainMemory))
-    → IsSound s → AreSlotsOf s None beliefs → IsLeft beliefs images → ImagesShow s.catalog shown → ImagesShow images shown
+    → IsSoundStore s → AreSlotsOf s None beliefs → IsLeft beliefs images → ImagesShow s.catalog shown → ImagesShow images shown
 left_last s beliefs images shown sound slots left was =
     cut_shows_the_same_lem s.catalog (openings beliefs) images (jobs s) shown sound.serials
     (record {
@@ -111,7 +111,7 @@ is_pending s dump is =
     dump_is_pending_lem s.catalog (jobs s) dump is.restorable is.next.fresh.number (Contains-append_left s.chain s.work dump.header.parent is.next.parent) is.newest
 
 left_pending : (s : Store) (dump : Image) (beliefs : List Belief) (images : List Image) (last next : Option (ℕ × PlainMemory))
-    → IsSound s → AreSlotsOf s (Some dump) beliefs → IsLeft beliefs images
+    → IsSoundStore s → AreSlotsOf s (Some dump) beliefs → IsLeft beliefs images
     → ImagesShow s.catalog last → ImagesShow (dump ∷ s.catalog) next → ImagesShow images last ⊎ ImagesShow images next
 left_pending s dump beliefs images last next sound slots left was follows =
     let parts = sorted s dump (openings beliefs) (λ i c. harmless_or_pending s (Some dump) i sound (slots.opening i (was_opening beliefs i c))) in

@@ -8,8 +8,8 @@ use Rattle.sd_image.proofs.Members.{contains_cases, contains_front, contains_non
 use Rattle.sd_store_laws.specs.Needed.{IsCalled, by_job, by_parent}
 use Rattle.sd_store_laws.specs.Reached.{itself, beyond}
 use Rattle.sd_store_laws.specs.Cut.{KeepsItsNumber, Repeats}
-use Rattle.sd_store_laws.specs.Store.{IsFresh, IsMerged, IsNext, IsNextDump, IsSound, IsTwin, Store, jobs}
-use Rattle.sd_store_laws.specs.Steps.{Adds, Retires, added, begun, cancelled, committed, merging, replaced, retired}
+use Rattle.sd_store_laws.specs.Store.{IsFresh, IsMergeSource, IsNext, IsNextDump, IsSoundStore, IsTwin, Store, jobs}
+use Rattle.sd_store_laws.specs.Steps.{Adds, Retires, added, cancelled, checkpoint_begun, committed, merging, replaced, retired}
 use Rattle.sd_store_laws.specs.Stays.{DumpStays, FreshStays, SourceReachesNeeded, TwinStays}
 use Rattle.sd_store_laws.proofs.Cuts.{cut_holds_the_same_lem, needed_in}
 use Rattle.sd_store_laws.proofs.Harmless.{unused_is_uncalled_lem}
@@ -42,7 +42,7 @@ module _ (s : Store) (i : Image) (fresh : IsFresh s i) where
   some : 0 ≢ number
   some e = let falls = fresh.falls in absurd (omega (arith, falls, e))
 
-  begins : (tip : Image) → IsTip s.catalog tip → IsFresh (begun s tip.header.stands_for) i
+  begins : (tip : Image) → IsTip s.catalog tip → IsFresh (checkpoint_begun s tip.header.stands_for) i
   begins tip is = record {
     itself = fresh.itself;
     serial = fresh.serial;
@@ -55,7 +55,7 @@ module _ (s : Store) (i : Image) (fresh : IsFresh s i) where
     falls = fresh.falls;
   }
 
-  begins_whole : IsFresh (begun s 0) i
+  begins_whole : IsFresh (checkpoint_begun s 0) i
   begins_whole = record {
     itself = fresh.itself;
     serial = fresh.serial;
@@ -204,9 +204,9 @@ dump_stays_lem = record {
 -- ---- a merged image
 
 -- what the source holds stays
-source_asked : (s : Store) (source : Image) → IsSound s → s.source ≡ Some source → IsCalled s.catalog (jobs s) source.header.parent
+source_asked : (s : Store) (source : Image) → IsSoundStore s → s.source ≡ Some source → IsCalled s.catalog (jobs s) source.header.parent
 source_asked s source sound running =
-    let merged : IsMerged s source = subst (λ (o : Option Image). IfSome o (IsMerged s)) running sound.merged in
+    let merged : IsMergeSource s source = subst (λ (o : Option Image). IfSome o (IsMergeSource s)) running sound.merged in
     by_job source.header.parent (Contains-append_right s.chain s.work source.header.parent merged.asked)
 
 still_repeats : (old new : List Image) (source twin : Image) → ((space page : ℕ) (bytes : List ℕ) → Holds old space page bytes source ↔ Holds new space page bytes source)
@@ -221,7 +221,7 @@ still_repeats old new source twin same was = record {
   );
 }
 
-twin_adds : (s : Store) (one twin : Image) (new : List Image) → IsSound s → IsNext s one → Adds s.catalog one new → one.header.serial ≢ twin.header.serial
+twin_adds : (s : Store) (one twin : Image) (new : List Image) → IsSoundStore s → IsNext s one → Adds s.catalog one new → one.header.serial ≢ twin.header.serial
     → IsTwin s.catalog s.source twin → IsTwin new s.source twin
 twin_adds s one twin new sound next is serial was =
     let apart : was.source.header.stands_for ≢ one.header.stands_for =
@@ -254,7 +254,7 @@ twin_adds s one twin new sound next is serial was =
         ])
         (source_asked s was.source sound was.running)
 
-twin_retires : (s : Store) (twin : Image) (new : List Image) → IsSound s → Retires s new → IsTwin s.catalog s.source twin → IsTwin new s.source twin
+twin_retires : (s : Store) (twin : Image) (new : List Image) → IsSoundStore s → Retires s new → IsTwin s.catalog s.source twin → IsTwin new s.source twin
 twin_retires s twin new sound is was = record {
   source = was.source;
   running = was.running;

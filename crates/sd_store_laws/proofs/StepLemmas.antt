@@ -8,8 +8,8 @@ use Rattle.sd_store_laws.specs.Needed.{IsCalled, by_tip, by_job, by_parent}
 use Rattle.sd_image.specs.Laws.{SerialsDiffer}
 use Rattle.sd_image.proofs.Members.{contains_cases, contains_front, contains_none}
 use Rattle.sd_store_laws.specs.Harmless.{IsSource}
-use Rattle.sd_store_laws.specs.Store.{IsMerged, IsNextDump, IsNextPreDump, IsSound, IsTwin, Store, jobs}
-use Rattle.sd_store_laws.specs.Steps.{Adds, Retires, StepsKeep, added, begun, cancelled, committed, merging, opened, replaced, retired}
+use Rattle.sd_store_laws.specs.Store.{IsMergeSource, IsNextDump, IsNextPreDump, IsSoundStore, IsTwin, Store, jobs}
+use Rattle.sd_store_laws.specs.Steps.{Adds, Retires, StepsKeep, added, cancelled, checkpoint_begun, committed, found_store, merging, replaced, retired}
 use Rattle.sd_store_laws.proofs.Choose.{one_named, one_tip, some_named, some_tip, tip_is}
 use Rattle.sd_store_laws.proofs.Growth.{called_all, falls_more, fewer_named, fewer_tip, more_named, more_tip, new_named, new_tip, serials_more}
 
@@ -53,17 +53,17 @@ same_source s asked source still is = record {
   or_below = is.or_below;
 }
 
-same_merged : (s t : Store) (o : Option Image) → IfSome o (IsMerged s) → ((source : Image) → IsMerged s source → IsMerged t source) → IfSome o (IsMerged t)
+same_merged : (s t : Store) (o : Option Image) → IfSome o (IsMergeSource s) → ((source : Image) → IsMergeSource s source → IsMergeSource t source) → IfSome o (IsMergeSource t)
 same_merged s t None was keeps = tt
 same_merged s t (Some source) was keeps = keeps source was
 
 -- ---- a checkpoint begins
 
-module _ (s : Store) (sound : IsSound s) where
+module _ (s : Store) (sound : IsSoundStore s) where
   -- the parent is the tip's own number
   pub begun_called : (tip : Image) → s.grows ≡ true → IsTip s.catalog tip → (number : ℕ)
-      → IsCalled s.catalog (jobs (begun s tip.header.stands_for)) number → WasOr s tip.header.stands_for number
-  begun_called tip grows is = called_all s.catalog (jobs (begun s tip.header.stands_for)) (WasOr s tip.header.stands_for)
+      → IsCalled s.catalog (jobs (checkpoint_begun s tip.header.stands_for)) number → WasOr s tip.header.stands_for number
+  begun_called tip grows is = called_all s.catalog (jobs (checkpoint_begun s tip.header.stands_for)) (WasOr s tip.header.stands_for)
       (λ t is. inl (of_tip s t is)) (one_more s tip.header.stands_for)
       (λ number i was named. elim was [
         | inl called ↦ inl (of_named s number i called named)
@@ -74,7 +74,7 @@ module _ (s : Store) (sound : IsSound s) where
       ])
 
   begun_source : (tip source : Image) → s.grows ≡ true → IsTip s.catalog tip → IsSource s.catalog (jobs s) source
-      → IsSource s.catalog (jobs (begun s tip.header.stands_for)) source
+      → IsSource s.catalog (jobs (checkpoint_begun s tip.header.stands_for)) source
   begun_source tip source grows is was = record {
     named = λ called. elim (begun_called tip grows is source.header.stands_for called) [
       | inl before ↦ was.named before
@@ -91,12 +91,12 @@ module _ (s : Store) (sound : IsSound s) where
     or_below = was.or_below;
   }
 
-  begins : (tip : Image) → s.grows ≡ true → IsTip s.catalog tip → IsSound (begun s tip.header.stands_for)
+  begins : (tip : Image) → s.grows ≡ true → IsTip s.catalog tip → IsSoundStore (checkpoint_begun s tip.header.stands_for)
   begins tip grows is = record {
     serials = sound.serials;
     fall = sound.fall;
     tip = λ t t_is. begun_source tip t grows is (sound.tip t t_is);
-    merged = same_merged s (begun s tip.header.stands_for) s.source sound.merged (λ source was. record { is = begun_source tip source grows is was.is; asked = was.asked; falls = was.falls });
+    merged = same_merged s (checkpoint_begun s tip.header.stands_for) s.source sound.merged (λ source was. record { is = begun_source tip source grows is was.is; asked = was.asked; falls = was.falls });
     own = sound.own;
   }
 
@@ -104,26 +104,26 @@ module _ (s : Store) (sound : IsSound s) where
   pub nothing_at_0 : (i : Image) → Contains s.catalog i → i.header.stands_for ≡ 0 → ⊥
   nothing_at_0 i c is = let falls = sound.fall i c in absurd (omega (arith, falls, is))
 
-  pub whole_called : (number : ℕ) → IsCalled s.catalog (jobs (begun s 0)) number → WasOr s 0 number
-  whole_called = called_all s.catalog (jobs (begun s 0)) (WasOr s 0)
+  pub whole_called : (number : ℕ) → IsCalled s.catalog (jobs (checkpoint_begun s 0)) number → WasOr s 0 number
+  whole_called = called_all s.catalog (jobs (checkpoint_begun s 0)) (WasOr s 0)
       (λ t is. inl (of_tip s t is)) (one_more s 0)
       (λ number i was named. elim was [
         | inl called ↦ inl (of_named s number i called named)
         | inr same ↦ absurd (nothing_at_0 i named.member (named.stands ∙ same))
       ])
 
-  whole_source : (source : Image) → (source.header.stands_for ≡ 0 → ⊥) → IsSource s.catalog (jobs s) source → IsSource s.catalog (jobs (begun s 0)) source
-  whole_source source some was = same_source s (jobs (begun s 0)) source (λ called. elim (whole_called source.header.stands_for called) [
+  whole_source : (source : Image) → (source.header.stands_for ≡ 0 → ⊥) → IsSource s.catalog (jobs s) source → IsSource s.catalog (jobs (checkpoint_begun s 0)) source
+  whole_source source some was = same_source s (jobs (checkpoint_begun s 0)) source (λ called. elim (whole_called source.header.stands_for called) [
     | inl before ↦ before
     | inr none ↦ absurd (some none)
   ]) was
 
-  begins_whole : IsSound (begun s 0)
+  begins_whole : IsSoundStore (checkpoint_begun s 0)
   begins_whole = record {
     serials = sound.serials;
     fall = sound.fall;
     tip = λ t is. whole_source t (nothing_at_0 t is.member) (sound.tip t is);
-    merged = same_merged s (begun s 0) s.source sound.merged
+    merged = same_merged s (checkpoint_begun s 0) s.source sound.merged
         (λ source was. record { is = whole_source source (λ e. let falls = was.falls in absurd (omega (arith, falls, e))) was.is; asked = was.asked; falls = was.falls });
     own = sound.own;
   }
@@ -133,7 +133,7 @@ module _ (s : Store) (sound : IsSound s) where
   pub cancelled_called : (number : ℕ) → IsCalled s.catalog (jobs (cancelled s)) number → Was s number
   cancelled_called = called_all s.catalog (jobs (cancelled s)) (Was s) (of_tip s) (of_work s) (of_named s)
 
-  cancels : IsSound (cancelled s)
+  cancels : IsSoundStore (cancelled s)
   cancels = record {
     serials = sound.serials;
     fall = sound.fall;
@@ -159,7 +159,7 @@ module _ (s : Store) (sound : IsSound s) where
     merging_source : (source : Image) → IsTip s.catalog source → IsSource s.catalog (jobs (merging s top)) source
     merging_source source is = same_source s (jobs (merging s top)) source (merging_called source.header.stands_for) (sound.tip source is)
 
-    merges : IsSound (merging s top)
+    merges : IsSoundStore (merging s top)
     merges = record {
       serials = sound.serials;
       fall = sound.fall;
@@ -203,12 +203,12 @@ module _ (s : Store) (sound : IsSound s) where
       or_below = was.or_below;
     }
 
-    added_merged : (o : Option Image) → IfSome o (IsMerged s) → IfSome o (λ source. source.header.stands_for ≢ i.header.stands_for)
-        → IfSome o (IsMerged (record { catalog = new; chain = i.header.stands_for ∷ []; work = s.work; source = s.source; grows = s.grows }))
+    added_merged : (o : Option Image) → IfSome o (IsMergeSource s) → IfSome o (λ source. source.header.stands_for ≢ i.header.stands_for)
+        → IfSome o (IsMergeSource (record { catalog = new; chain = i.header.stands_for ∷ []; work = s.work; source = s.source; grows = s.grows }))
     added_merged None was apart = tt
     added_merged (Some source) was apart = record { is = added_source source apart was.is; asked = was.asked; falls = was.falls }
 
-    adds_keeps : IsSound (added s new i.header.stands_for)
+    adds_keeps : IsSoundStore (added s new i.header.stands_for)
     adds_keeps = record {
       serials = serials_more s.catalog new i adds is.next.fresh.serial sound.serials;
       fall = falls_more s.catalog new i adds is.next.fresh.falls sound.fall;
@@ -247,8 +247,8 @@ module _ (s : Store) (sound : IsSound s) where
     is_dump : (t : Image) → IsTip new t → i ≡ t
     is_dump t tip = one_tip new i t committed_serials dump_tip tip
 
-    committed_merged : (o : Option Image) → IfSome o (IsMerged s) → IfSome o (λ source. source.header.stands_for ≢ i.header.stands_for)
-        → IfSome o (λ source. source.header.checkpoint < i.header.checkpoint) → IfSome o (IsMerged (committed s new))
+    committed_merged : (o : Option Image) → IfSome o (IsMergeSource s) → IfSome o (λ source. source.header.stands_for ≢ i.header.stands_for)
+        → IfSome o (λ source. source.header.checkpoint < i.header.checkpoint) → IfSome o (IsMergeSource (committed s new))
     committed_merged None was apart above = tt
     committed_merged (Some source) was apart above = record {
       is = record {
@@ -262,7 +262,7 @@ module _ (s : Store) (sound : IsSound s) where
       falls = was.falls;
     }
 
-    commits : IsSound (committed s new)
+    commits : IsSoundStore (committed s new)
     commits = record {
       serials = committed_serials;
       fall = falls_more s.catalog new i adds is.next.fresh.falls sound.fall;
@@ -274,8 +274,8 @@ module _ (s : Store) (sound : IsSound s) where
   -- ---- the merged image replaces its source
 
   module _ (twin : Image) (new : List Image) (is : IsTwin s.catalog s.source twin) (adds : Adds s.catalog twin new) where
-    source_was : IsMerged s is.source
-    source_was = subst (λ (o : Option Image). IfSome o (IsMerged s)) is.running sound.merged
+    source_was : IsMergeSource s is.source
+    source_was = subst (λ (o : Option Image). IfSome o (IsMergeSource s)) is.running sound.merged
 
     pub replaced_called : (number : ℕ) → IsCalled new (jobs (replaced s new)) number → WasOr s 0 number
     replaced_called = called_all new (jobs (replaced s new)) (WasOr s 0)
@@ -327,7 +327,7 @@ module _ (s : Store) (sound : IsSound s) where
       | inr none ↦ absurd (nothing_at_0 t was.member none)
     ]
 
-    replaces : IsSound (replaced s new)
+    replaces : IsSoundStore (replaced s new)
     replaces = record {
       serials = serials_more s.catalog new twin adds is.serial sound.serials;
       fall = falls_more s.catalog new twin adds (let none = is.alone in let some = is.falls in omega (arith, none, some)) sound.fall;
@@ -384,7 +384,7 @@ module _ (s : Store) (sound : IsSound s) where
       or_below = was.or_below;
     }
 
-    retires : IsSound (retired s new)
+    retires : IsSoundStore (retired s new)
     retires = record {
       serials = λ a b c d. sound.serials a b (is.within a c) (is.within b d);
       fall = λ j c. sound.fall j (is.within j c);
@@ -400,8 +400,8 @@ module _ (images : List Image) (differ : SerialsDiffer images) (fall : (i : Imag
   abbrev IsBelow : ℕ → Type 0
   IsBelow number = (t : Image) → IsTip images t → number < t.header.stands_for
 
-  opened_called : (number : ℕ) → IsCalled images (jobs (opened images)) number → IsBelow number
-  opened_called = called_all images (jobs (opened images)) IsBelow
+  opened_called : (number : ℕ) → IsCalled images (jobs (found_store images)) number → IsBelow number
+  opened_called = called_all images (jobs (found_store images)) IsBelow
       (λ t is other other_is. subst (λ (k : Image). t.header.parent < k.header.stands_for) (one_tip images t other differ is other_is) (fall t is.member))
       (λ number none. absurd (contains_none number none))
       (λ number j below named t is.
@@ -410,7 +410,7 @@ module _ (images : List Image) (differ : SerialsDiffer images) (fall : (i : Imag
       let stands = named.stands in
       omega (arith, less, falls, stands))
 
-  opens : IsSound (opened images)
+  opens : IsSoundStore (found_store images)
   opens = record {
     serials = differ;
     fall = fall;

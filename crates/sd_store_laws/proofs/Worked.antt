@@ -15,8 +15,8 @@ use Rattle.sd_store_laws.specs.Needed.{by_job}
 use Rattle.sd_image.specs.Laws.{SerialsDiffer}
 use Rattle.sd_image.proofs.Members.{contains_cases, contains_front, contains_later, contains_none}
 use Rattle.sd_store_laws.specs.Cut.{HoldsAlike, Repeats}
-use Rattle.sd_store_laws.specs.Store.{IsSound}
-use Rattle.sd_store_laws.specs.Steps.{begun, opened}
+use Rattle.sd_store_laws.specs.Store.{IsSoundStore}
+use Rattle.sd_store_laws.specs.Steps.{checkpoint_begun, found_store}
 use Rattle.sd_store_laws.specs.Worked.{ChainRows, WhyItGrows, found, memory_of, merged, one_page, unchanged, whole, file_of}
 use Rattle.sd_store_laws.proofs.Choose.{one_named}
 use Rattle.sd_store_laws.proofs.OnePage.{page_memory}
@@ -292,7 +292,7 @@ module _ (bytes other : List ℕ) where
   twin : Repeats (found bytes other) t w
   twin = record { checkpoint = refl; stands = refl; areas = refl; bytes = alike_pages (found bytes other) Dump Merged 5 8 5 2 bytes }
 
-  unsound : IsSound (begun (opened (found bytes other)) 5) → ⊥
+  unsound : IsSoundStore (checkpoint_begun (found_store (found bytes other)) 5) → ⊥
   unsound sound =
       let named = (sound.tip t found_tip).named (by_job 5 (contains_front 5 [])) in
       let less = named.greatest n n_named.member refl in

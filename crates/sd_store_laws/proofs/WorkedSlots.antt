@@ -5,7 +5,7 @@ use Rattle.sd_image.specs.Image.{Image}
 use Rattle.sd_image.specs.Shows.{IsNamed, IsNotAfter, IsRestorable, IsTip}
 use Rattle.sd_image.proofs.Members.{contains_cases, contains_front, contains_later, contains_none}
 use Rattle.sd_store_laws.specs.Needed.{IsCalled}
-use Rattle.sd_store_laws.specs.Store.{IsFresh, IsNextDump, IsSound, IsTwin, jobs}
+use Rattle.sd_store_laws.specs.Store.{IsFresh, IsNextDump, IsSoundStore, IsTwin, jobs}
 use Rattle.sd_store_laws.specs.Steps.{cancelled, committed}
 use Rattle.sd_store_laws.specs.Beliefs.{AreSlotsOf, Belief, Closed, Kept, Closing, Opening, image_at}
 use Rattle.sd_store_laws.specs.Worked.{busy, busy_slots, memory_of, merged, unchanged, whole}
@@ -30,7 +30,7 @@ module _ (bytes : List ℕ) where
   abbrev m : Image
   m = merged 2 1 1 bytes
 
-  round_sound : IsSound (in_round bytes)
+  round_sound : IsSoundStore (in_round bytes)
   round_sound = steps_keep_lem.begins (committed (started bytes) (a ∷ [])) a (saved_sound bytes) refl (a_tip bytes)
 
   -- the slots before a gate is opened
@@ -165,7 +165,7 @@ module _ (bytes : List ℕ) where
 
   -- ---- a merge behind the tip
 
-  outrun_sound : IsSound (outrun bytes)
+  outrun_sound : IsSoundStore (outrun bytes)
   outrun_sound = steps_keep_lem.commits (busy bytes) d (d ∷ a ∷ []) (busy_sound bytes) (second_dump bytes) (adds_front (a ∷ []) d)
 
   still_twin : IsTwin (outrun bytes).catalog (outrun bytes).source m

@@ -7,7 +7,7 @@ use Rattle.sd_image.specs.declared.header.Kind.TheVariants.{PreDump}
 use Rattle.sd_image.specs.Image.{Image, IsImage, is_open}
 use Rattle.sd_image.specs.Shows.{Shows, ImagesShow}
 use Rattle.sd_store_laws.specs.Needed.{IsNeeded}
-use Rattle.sd_store_laws.specs.Store.{IsFresh, IsNextDump, IsSound, IsTwin, Store, jobs}
+use Rattle.sd_store_laws.specs.Store.{IsFresh, IsNextDump, IsSoundStore, IsTwin, Store, jobs}
 
 -- a slot is closed, or keeps its image, or is being closed or opened: it is closed or has the image
 pub data Belief : Type 0 where
@@ -55,19 +55,19 @@ FitsBelief (Opening i) file = (is_open file ≡ false) ⊎ IsImage file i
 -- Whatever a crash leaves shows what the store shows, or the pending checkpoint and its memory.
 pub record LeftImagesShow : Type 0 where
   pub last : (s : Store) (beliefs : List Belief) (images : List Image) (shown : Option (ℕ × PlainMemory))
-      → IsSound s → AreSlotsOf s None beliefs → IsLeft beliefs images → ImagesShow s.catalog shown
+      → IsSoundStore s → AreSlotsOf s None beliefs → IsLeft beliefs images → ImagesShow s.catalog shown
       → ImagesShow images shown
   pub pending : (s : Store) (dump : Image) (beliefs : List Belief) (images : List Image)
       (last next : Option (ℕ × PlainMemory))
-      → IsSound s → AreSlotsOf s (Some dump) beliefs → IsLeft beliefs images
+      → IsSoundStore s → AreSlotsOf s (Some dump) beliefs → IsLeft beliefs images
       → ImagesShow s.catalog last → ImagesShow (dump ∷ s.catalog) next → ImagesShow images last ⊎ ImagesShow images next
 
 -- The same of contents, slot by slot as believed.
 pub record ContentsShow : Type 0 where
   pub last : (s : Store) (beliefs : List Belief) (contents : List (List ℕ)) (shown : Option (ℕ × PlainMemory))
-      → IsSound s → AreSlotsOf s None beliefs → AllZip FitsBelief beliefs contents → ImagesShow s.catalog shown
+      → IsSoundStore s → AreSlotsOf s None beliefs → AllZip FitsBelief beliefs contents → ImagesShow s.catalog shown
       → Shows contents shown
   pub pending : (s : Store) (dump : Image) (beliefs : List Belief) (contents : List (List ℕ))
       (last next : Option (ℕ × PlainMemory))
-      → IsSound s → AreSlotsOf s (Some dump) beliefs → AllZip FitsBelief beliefs contents
+      → IsSoundStore s → AreSlotsOf s (Some dump) beliefs → AllZip FitsBelief beliefs contents
       → ImagesShow s.catalog last → ImagesShow (dump ∷ s.catalog) next → Shows contents last ⊎ Shows contents next

@@ -5,7 +5,7 @@ use Rattle.sd_image.specs.Laws.{SerialsDiffer}
 use Rattle.sd_image.specs.Shows.{Holds, IsNamed, IsTip}
 use Rattle.sd_store_laws.specs.Needed.{IsCalled, IsNeeded}
 use Rattle.sd_store_laws.specs.Cut.{IsCut, KeepsItsNumber}
-use Rattle.sd_store_laws.specs.Store.{IsNext, IsSound, IsTwin, Store, jobs}
+use Rattle.sd_store_laws.specs.Store.{IsNext, IsSoundStore, IsTwin, Store, jobs}
 use Rattle.sd_store_laws.specs.Steps.{Adds, Retires}
 
 -- the image that a number names holds these bytes at a page
@@ -29,11 +29,11 @@ GivesStill s images = (number space page : ℕ) (bytes : List ℕ) → IsCalled 
 -- So it stays through the steps that change the catalog: an image of the running checkpoint enters, the merged image
 -- enters, images are closed.
 pub record StepsGive : Type 0 where
-  pub adds : (s : Store) (one : Image) (new : List Image) → IsSound s → IsNext s one → Adds s.catalog one new
+  pub adds : (s : Store) (one : Image) (new : List Image) → IsSoundStore s → IsNext s one → Adds s.catalog one new
       → GivesStill s new
-  pub replaces : (s : Store) (one : Image) (new : List Image) → IsSound s → IsTwin s.catalog s.source one
+  pub replaces : (s : Store) (one : Image) (new : List Image) → IsSoundStore s → IsTwin s.catalog s.source one
       → Adds s.catalog one new → GivesStill s new
-  pub retires : (s : Store) (new : List Image) → IsSound s → Retires s new → GivesStill s new
+  pub retires : (s : Store) (new : List Image) → IsSoundStore s → Retires s new → GivesStill s new
 
 -- Where the tip's number names the tip, nothing more is needed if a job asks for that number.
 abbrev pub OwnIsNeeded : Type 0

@@ -5,32 +5,32 @@ use Rattle.sd_image.specs.Image.{Image}
 use Rattle.sd_chain.specs.Catalog.{AreInOrder, Changes, Opened, Places, place_of, without_slot}
 use Rattle.sd_chain.specs.Reaches.{ReachesSerial}
 use Rattle.sd_chain.specs.Store.{IsCatalogOf}
-use Rattle.sd_chain.specs.Tells.{IsToldAs, Tells}
+use Rattle.sd_chain.specs.Tells.{CatalogLists, IsToldAs}
 use Rattle.sd_store_laws.specs.Reached.{ReachesBySerial}
 use Rattle.sd_store_laws.specs.Store.{Store}
 use Rattle.sd_store_laws.specs.Beliefs.{AreSlotsOf, Belief, Closed, Kept, Closing, Opening}
 use Rattle.sd_store_laws.specs.SlotSteps.{IsFoundAs, with_belief}
 
 -- a slot keeps an image, or is closing it
-abbrev pub HasImage : List Belief → ℕ → Image → Type 0
-HasImage beliefs slot i = (slice_get beliefs slot ≡ Some (Kept i)) ⊎ (slice_get beliefs slot ≡ Some (Closing i))
+abbrev pub SlotHasImage : List Belief → ℕ → Image → Type 0
+SlotHasImage beliefs slot i = (slice_get beliefs slot ≡ Some (Kept i)) ⊎ (slice_get beliefs slot ≡ Some (Closing i))
 
 -- each image of the catalog is the one that its slot has, and each image that a slot has stands in the catalog at its
 -- serial
 pub record IsCatalogInUse (places : Places) (beliefs : List Belief) : Type 0 where
   pub image : (serial : ℕ) (o : Opened) → place_of places serial ≡ Some (Some o)
-      → (i : Image) × IsToldAs o i × HasImage beliefs o.slot i
-  pub opened : (slot : ℕ) (i : Image) → HasImage beliefs slot i
+      → (i : Image) × IsToldAs o i × SlotHasImage beliefs o.slot i
+  pub opened : (slot : ℕ) (i : Image) → SlotHasImage beliefs slot i
       → (o : Opened) × (place_of places i.header.serial ≡ Some (Some o)) × IsToldAs o i × (o.slot ≡ slot)
 
 -- Such a catalog tells the store: so the tip, what numbers name and where pages lie are the store's.
 abbrev pub CatalogInUseTells : Places → Type 0
 CatalogInUseTells places = (s : Store) (pending : Option Image) (beliefs : List Belief)
-    → AreSlotsOf s pending beliefs → IsCatalogInUse places beliefs → Tells places s.catalog
+    → AreSlotsOf s pending beliefs → IsCatalogInUse places beliefs → CatalogLists places s.catalog
 
 -- What an image of a catalog reaches, by serial, is what the image reaches that it tells.
 abbrev pub ToldReachesSo : Places → Type 0
-ToldReachesSo places = (all : List Image) → Tells places all → (serial reached : ℕ)
+ToldReachesSo places = (all : List Image) → CatalogLists places all → (serial reached : ℕ)
     → ReachesSerial places serial reached ↔ ReachesBySerial all serial reached
 
 -- The catalog of contents is that of the slots as they are found.
@@ -43,7 +43,7 @@ CatalogIsFound = (places : Places) (contents : List (List ℕ)) (beliefs : List 
 -- that was being opened is added; that of a slot that was closed is removed.
 pub record CatalogFollows : Type 0 where
   pub stays : (places : Places) (beliefs new : List Belief)
-      → ((slot : ℕ) (i : Image) → HasImage beliefs slot i ↔ HasImage new slot i)
+      → ((slot : ℕ) (i : Image) → SlotHasImage beliefs slot i ↔ SlotHasImage new slot i)
       → IsCatalogInUse places beliefs → IsCatalogInUse places new
   pub adds : (old new : Places) (beliefs : List Belief) (o : Opened) (i : Image) → IsCatalogInUse old beliefs
       → slice_get beliefs o.slot ≡ Some (Opening i) → IsToldAs o i

@@ -4,8 +4,9 @@ use Rattle.sd_image.specs.Image.{Image}
 use Rattle.sd_image.specs.Shows.{IsNamed, IsTip}
 use Rattle.sd_store_laws.specs.Reached.{Reaches}
 use Rattle.sd_store_laws.specs.Needs.{IsNeededIn, IsUnneeded}
-use Rattle.sd_store_laws.specs.Store.{IsSound, Store}
-use Rattle.sd_store_laws.specs.Steps.{added, begun, cancelled, committed, merging, opened, replaced, retired}
+use Rattle.sd_store_laws.specs.Store.{IsSoundStore, Store}
+use Rattle.sd_store_laws.specs.Steps.{added, cancelled, checkpoint_begun, committed, found_store, merging, replaced}
+use Rattle.sd_store_laws.specs.Steps.{retired}
 use Rattle.sd_store_laws.specs.Beliefs.{Belief, image_at}
 
 -- the image that the running checkpoint's next parent number names: the last one that it made, or the tip that it began
@@ -27,7 +28,7 @@ HasItsWork s = MatchOption s.source (s.work ≡ []) (λ source. s.work ≡ sourc
 -- That is what is needed, and the source.
 abbrev pub InUseIsNeeded : Type 0
 InUseIsNeeded =
-    (s : Store) (i : Image) → IsSound s → HasItsWork s → IsInUse s i ↔ (IsNeededIn s i ⊎ (s.source ≡ Some i))
+    (s : Store) (i : Image) → IsSoundStore s → HasItsWork s → IsInUse s i ↔ (IsNeededIn s i ⊎ (s.source ≡ Some i))
 
 -- A slot is free where no image that is in use stands in it, no job reserves it, and no merge is to close it.
 pub record IsFreeSlot (s : Store) (beliefs : List Belief) (reserved listed : List ℕ) (slot : ℕ) : Type 0 where
@@ -47,20 +48,21 @@ pub record IsToRetire (before : List Image) (s : Store) (beliefs : List Belief) 
 
 -- They are images of the catalog that may be closed; and no image that is needed stands in a free slot.
 pub record RetiresUnneeded : Type 0 where
-  pub unneeded : (before : List Image) (s : Store) (beliefs : List Belief) (reserved : List ℕ) (i : Image) → IsSound s
+  pub unneeded : (before : List Image) (s : Store) (beliefs : List Belief) (reserved : List ℕ) (i : Image)
+      → IsSoundStore s
       → HasItsWork s
       → IsToRetire before s beliefs reserved i → IsUnneeded s i
-  pub free : (s : Store) (beliefs : List Belief) (reserved listed : List ℕ) (slot : ℕ) (i : Image) → IsSound s
+  pub free : (s : Store) (beliefs : List Belief) (reserved listed : List ℕ) (slot : ℕ) (i : Image) → IsSoundStore s
       → HasItsWork s
       → IsFreeSlot s beliefs reserved listed slot → image_at beliefs slot ≡ Some i → IsNeededIn s i → ⊥
 
 -- Each step keeps the work that of the running merge.
 pub record WorkStays : Type 0 where
-  pub begins : (s : Store) (number : ℕ) → HasItsWork s → HasItsWork (begun s number)
+  pub begins : (s : Store) (number : ℕ) → HasItsWork s → HasItsWork (checkpoint_begun s number)
   pub adds : (s : Store) (new : List Image) (number : ℕ) → HasItsWork s → HasItsWork (added s new number)
   pub commits : (s : Store) (new : List Image) → HasItsWork s → HasItsWork (committed s new)
   pub cancels : (s : Store) → HasItsWork s → HasItsWork (cancelled s)
   pub merges : (s : Store) (tip : Image) → HasItsWork (merging s tip)
   pub replaces : (s : Store) (new : List Image) → HasItsWork (replaced s new)
   pub retires : (s : Store) (new : List Image) → HasItsWork s → HasItsWork (retired s new)
-  pub opens : (images : List Image) → HasItsWork (opened images)
+  pub opens : (images : List Image) → HasItsWork (found_store images)

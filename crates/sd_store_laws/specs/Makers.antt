@@ -11,7 +11,7 @@ use Rattle.sd_image.specs.Shows.{Holds, ImagesShow, page_in, pages_of}
 use Rattle.sd_image.specs.Table.{Listed}
 use Rattle.sd_store_laws.specs.Below.{GivesByNumber}
 use Rattle.sd_store_laws.specs.Cut.{Repeats, areas_of}
-use Rattle.sd_store_laws.specs.Store.{IsFresh, IsNextDump, IsSound, Store, jobs}
+use Rattle.sd_store_laws.specs.Store.{IsFresh, IsNextDump, IsSoundStore, Store, jobs}
 
 -- an image has these bytes at a page: among its data pages, or as zeros
 abbrev pub HasItself : Image → ℕ → ℕ → List ℕ → Type 0
@@ -49,11 +49,12 @@ pub record HasMemory (images : List Image) (i : Image) (memory : PlainMemory) : 
 -- and that memory.
 abbrev pub DumpShows : Type 0
 DumpShows =
-    (s : Store) (dump : Image) (memory : PlainMemory) → IsSound s → IsNextDump s dump → HasMemory s.catalog dump memory
+    (s : Store) (dump : Image) (memory : PlainMemory) → IsSoundStore s → IsNextDump s dump
+    → HasMemory s.catalog dump memory
     → ImagesShow (dump ∷ s.catalog) (Some (dump.header.checkpoint, memory))
 
 -- a number above all serials, numbers and parents of a store's images, its jobs' numbers and its source's number
-pub record IsAbove (s : Store) (number : ℕ) : Type 0 where
+pub record IsAboveStore (s : Store) (number : ℕ) : Type 0 where
   pub serials : (i : Image) → Contains s.catalog i → i.header.serial < number
   pub stands : (i : Image) → Contains s.catalog i → i.header.stands_for < number
   pub parents : (i : Image) → Contains s.catalog i → i.header.parent < number
@@ -63,4 +64,4 @@ pub record IsAbove (s : Store) (number : ℕ) : Type 0 where
 -- An image with such a number is fresh.
 abbrev pub AboveIsFresh : Type 0
 AboveIsFresh = (s : Store) (i : Image) → i.header.stands_for ≡ i.header.serial → i.header.parent < i.header.stands_for
-    → IsAbove s i.header.serial → IsFresh s i
+    → IsAboveStore s i.header.serial → IsFresh s i

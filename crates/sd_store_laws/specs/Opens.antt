@@ -3,12 +3,13 @@ use Rattle.std.specs.Prelude.{◌↔◌, ℕ, List, ◌∷◌, Option, Contains}
 use Rattle.sd_areas.specs.PlainMemory.{PlainMemory}
 use Rattle.sd_image.specs.Image.{Image}
 use Rattle.sd_image.specs.Shows.{IsStore, ImagesShow}
-use Rattle.sd_store_laws.specs.Store.{IsNextPreDump, IsSound, IsTwin, Store}
-use Rattle.sd_store_laws.specs.Steps.{Adds, Retires, opened}
+use Rattle.sd_store_laws.specs.Store.{IsNextPreDump, IsSoundStore, IsTwin, Store}
+use Rattle.sd_store_laws.specs.Steps.{Adds, Retires, found_store}
 
 -- A store that is read without a fault is sound as it is opened.
 abbrev pub OpenedIsSound : Type 0
-OpenedIsSound = (contents : List (List ℕ)) (images : List Image) → IsStore contents images → IsSound (opened images)
+OpenedIsSound =
+    (contents : List (List ℕ)) (images : List Image) → IsStore contents images → IsSoundStore (found_store images)
 
 -- What is shown depends on which images there are, and not on their order.
 abbrev pub OrderIsFree : Type 0
@@ -19,11 +20,11 @@ OrderIsFree =
 -- Only a commit changes what a store shows: to the dump's checkpoint and its memory.
 pub record StepsShow : Type 0 where
   pub adds : (s : Store) (i : Image) (new : List Image) (shown : Option (ℕ × PlainMemory))
-      → IsSound s → IsNextPreDump s i → Adds s.catalog i new → ImagesShow s.catalog shown → ImagesShow new shown
+      → IsSoundStore s → IsNextPreDump s i → Adds s.catalog i new → ImagesShow s.catalog shown → ImagesShow new shown
   pub commits : (s : Store) (i : Image) (new : List Image) (shown : Option (ℕ × PlainMemory))
       → Adds s.catalog i new → ImagesShow (i ∷ s.catalog) shown → ImagesShow new shown
   pub replaces : (s : Store) (i : Image) (new : List Image) (shown : Option (ℕ × PlainMemory))
-      → IsSound s → IsTwin s.catalog s.source i → Adds s.catalog i new → ImagesShow s.catalog shown
+      → IsSoundStore s → IsTwin s.catalog s.source i → Adds s.catalog i new → ImagesShow s.catalog shown
       → ImagesShow new shown
   pub retires : (s : Store) (new : List Image) (shown : Option (ℕ × PlainMemory))
-      → IsSound s → Retires s new → ImagesShow s.catalog shown → ImagesShow new shown
+      → IsSoundStore s → Retires s new → ImagesShow s.catalog shown → ImagesShow new shown

@@ -5,9 +5,10 @@ use Rattle.std.specs.Prelude.{false}
 use Rattle.sd_image.specs.Image.{Image, IsImage, is_open}
 use Rattle.sd_image.specs.Shows.{IsTip, IsStore}
 use Rattle.sd_store_laws.specs.Needed.{IsNeeded}
-use Rattle.sd_store_laws.specs.Store.{IsNextDump, IsNextPreDump, IsSound, IsTwin, Store, jobs}
-use Rattle.sd_store_laws.specs.Steps.{Adds, Retires, added, begun, cancelled, committed, merging, replaced, retired}
-use Rattle.sd_store_laws.specs.Steps.{opened}
+use Rattle.sd_store_laws.specs.Store.{IsNextDump, IsNextPreDump, IsSoundStore, IsTwin, Store, jobs}
+use Rattle.sd_store_laws.specs.Steps.{Adds, Retires, added, cancelled, checkpoint_begun, committed, merging, replaced}
+use Rattle.sd_store_laws.specs.Steps.{retired}
+use Rattle.sd_store_laws.specs.Steps.{found_store}
 use Rattle.sd_store_laws.specs.Beliefs.{AreSlotsOf, Belief, Closed, Kept, Closing, Opening, IsAdded, image_at}
 
 -- a list lacks one image
@@ -33,7 +34,7 @@ pub record SlotsFollowCalls : Type 0 where
       → slice_get beliefs slot ≡ Some (Kept i) → (IsNeeded s.catalog (jobs s) i → ⊥)
       → AreSlotsOf s pending (with_belief beliefs slot (Closing i))
   pub closed : (s : Store) (pending : Option Image) (beliefs : List Belief) (slot : ℕ) (i : Image) (new : List Image)
-      → IsSound s → AreSlotsOf s pending beliefs
+      → IsSoundStore s → AreSlotsOf s pending beliefs
       → slice_get beliefs slot ≡ Some (Closing i) → Lacks s.catalog i new
       → AreSlotsOf (retired s new) pending (with_belief beliefs slot Closed)
 
@@ -47,36 +48,37 @@ SlotsDrop =
 -- Closing retires: a catalog without an image is a list, and where the image is one that is being closed, all that is
 -- needed is in it.
 pub record ClosingRetires : Type 0 where
-  pub lacks : (s : Store) (i : Image) → IsSound s → Contains s.catalog i → (new : List Image) × Lacks s.catalog i new
+  pub lacks : (s : Store) (i : Image) → IsSoundStore s → Contains s.catalog i
+      → (new : List Image) × Lacks s.catalog i new
   pub retires : (s : Store) (pending : Option Image) (beliefs : List Belief) (slot : ℕ) (i : Image) (new : List Image)
       → AreSlotsOf s pending beliefs
       → slice_get beliefs slot ≡ Some (Closing i) → Lacks s.catalog i new → Retires s new
 
 -- Steps that leave the catalog leave the beliefs.
 pub record SlotsFollowJobs : Type 0 where
-  pub begins : (s : Store) (tip : Image) (beliefs : List Belief) → IsSound s → s.grows ≡ true → IsTip s.catalog tip
-      → AreSlotsOf s None beliefs → AreSlotsOf (begun s tip.header.stands_for) None beliefs
-  pub begins_whole : (s : Store) (beliefs : List Belief) → IsSound s → AreSlotsOf s None beliefs
-      → AreSlotsOf (begun s 0) None beliefs
-  pub cancels : (s : Store) (beliefs : List Belief) → IsSound s → AreSlotsOf s None beliefs
+  pub begins : (s : Store) (tip : Image) (beliefs : List Belief) → IsSoundStore s → s.grows ≡ true → IsTip s.catalog tip
+      → AreSlotsOf s None beliefs → AreSlotsOf (checkpoint_begun s tip.header.stands_for) None beliefs
+  pub begins_whole : (s : Store) (beliefs : List Belief) → IsSoundStore s → AreSlotsOf s None beliefs
+      → AreSlotsOf (checkpoint_begun s 0) None beliefs
+  pub cancels : (s : Store) (beliefs : List Belief) → IsSoundStore s → AreSlotsOf s None beliefs
       → AreSlotsOf (cancelled s) None beliefs
-  pub merges : (s : Store) (tip : Image) (pending : Option Image) (beliefs : List Belief) → IsSound s
+  pub merges : (s : Store) (tip : Image) (pending : Option Image) (beliefs : List Belief) → IsSoundStore s
       → IsTip s.catalog tip → s.source ≡ None
       → AreSlotsOf s pending beliefs → AreSlotsOf (merging s tip) pending beliefs
 
 -- The image of a slot that is being opened enters the catalog: a pre-dump, the pending dump, or the image of the
 -- running merge.
 pub record SlotsFollowImages : Type 0 where
-  pub adds : (s : Store) (beliefs : List Belief) (slot : ℕ) (i : Image) (new : List Image) → IsSound s
+  pub adds : (s : Store) (beliefs : List Belief) (slot : ℕ) (i : Image) (new : List Image) → IsSoundStore s
       → AreSlotsOf s None beliefs
       → slice_get beliefs slot ≡ Some (Opening i) → IsNextPreDump s i → Adds s.catalog i new
       → AreSlotsOf (added s new i.header.stands_for) None (with_belief beliefs slot (Kept i))
-  pub commits : (s : Store) (beliefs : List Belief) (slot : ℕ) (i : Image) (new : List Image) → IsSound s
+  pub commits : (s : Store) (beliefs : List Belief) (slot : ℕ) (i : Image) (new : List Image) → IsSoundStore s
       → AreSlotsOf s (Some i) beliefs
       → slice_get beliefs slot ≡ Some (Opening i) → Adds s.catalog i new
       → AreSlotsOf (committed s new) None (with_belief beliefs slot (Kept i))
   pub replaces : (s : Store) (pending : Option Image) (beliefs : List Belief) (slot : ℕ) (i : Image) (new : List Image)
-      → IsSound s → AreSlotsOf s pending beliefs
+      → IsSoundStore s → AreSlotsOf s pending beliefs
       → slice_get beliefs slot ≡ Some (Opening i) → IsTwin s.catalog s.source i → Adds s.catalog i new
       → ((j : Image) → Contains beliefs (Opening j) → IsTwin s.catalog s.source j → j ≡ i)
       → IfSome pending (λ dump. i.header.serial ≢ dump.header.serial)
@@ -92,4 +94,4 @@ IsFoundAs (Opening i) file = ⊥
 -- The slots of a store that is read without a fault are those of the store as it is opened.
 abbrev pub SlotsAreFound : Type 0
 SlotsAreFound = (contents : List (List ℕ)) (images : List Image) → IsStore contents images
-    → (beliefs : List Belief) × AllZip IsFoundAs beliefs contents × AreSlotsOf (opened images) None beliefs
+    → (beliefs : List Belief) × AllZip IsFoundAs beliefs contents × AreSlotsOf (found_store images) None beliefs

@@ -4,14 +4,15 @@ use Rattle.sd_image.specs.Image.{Image}
 use Rattle.sd_image.specs.Shows.{IsTip}
 use Rattle.sd_store_laws.specs.Needed.{IsNeeded}
 use Rattle.sd_store_laws.specs.Reached.{Reaches}
-use Rattle.sd_store_laws.specs.Store.{IsFresh, IsNext, IsNextDump, IsSound, IsTwin, Store, jobs}
-use Rattle.sd_store_laws.specs.Steps.{Adds, Retires, added, begun, cancelled, committed, merging, replaced, retired}
+use Rattle.sd_store_laws.specs.Store.{IsFresh, IsNext, IsNextDump, IsSoundStore, IsTwin, Store, jobs}
+use Rattle.sd_store_laws.specs.Steps.{Adds, Retires, added, cancelled, checkpoint_begun, committed, merging, replaced}
+use Rattle.sd_store_laws.specs.Steps.{retired}
 
 -- Its serial and its number stay new.
 pub record FreshStays : Type 0 where
   pub begins : (s : Store) (tip i : Image) → IsTip s.catalog tip → IsFresh s i
-      → IsFresh (begun s tip.header.stands_for) i
-  pub begins_whole : (s : Store) (i : Image) → IsFresh s i → IsFresh (begun s 0) i
+      → IsFresh (checkpoint_begun s tip.header.stands_for) i
+  pub begins_whole : (s : Store) (i : Image) → IsFresh s i → IsFresh (checkpoint_begun s 0) i
   pub adds : (s : Store) (one i : Image) (new : List Image) → IsNext s one → Adds s.catalog one new
       → one.header.serial ≢ i.header.serial → IsFresh s i → IsFresh (added s new one.header.stands_for) i
   pub commits : (s : Store) (one i : Image) (new : List Image) → IsNext s one → Adds s.catalog one new
@@ -26,7 +27,7 @@ pub record FreshStays : Type 0 where
 -- A dump of the running checkpoint stays its next image while a merge begins, ends, and closes images.
 pub record DumpStays : Type 0 where
   pub merges : (s : Store) (tip i : Image) → IsTip s.catalog tip → IsNextDump s i → IsNextDump (merging s tip) i
-  pub replaces : (s : Store) (one i : Image) (new : List Image) → IsSound s → IsTwin s.catalog s.source one
+  pub replaces : (s : Store) (one i : Image) (new : List Image) → IsSoundStore s → IsTwin s.catalog s.source one
       → Adds s.catalog one new → one.header.serial ≢ i.header.serial
       → IsNextDump s i → IsNextDump (replaced s new) i
   pub retires : (s : Store) (i : Image) (new : List Image) → Retires s new → IsNextDump s i
@@ -35,13 +36,14 @@ pub record DumpStays : Type 0 where
 -- The merged image goes on repeating its source while images of the running checkpoint enter the catalog, and others
 -- are closed.
 pub record TwinStays : Type 0 where
-  pub adds : (s : Store) (one twin : Image) (new : List Image) → IsSound s → IsNext s one → Adds s.catalog one new
+  pub adds : (s : Store) (one twin : Image) (new : List Image) → IsSoundStore s → IsNext s one → Adds s.catalog one new
       → one.header.serial ≢ twin.header.serial
       → IsTwin s.catalog s.source twin → IsTwin new s.source twin
-  pub retires : (s : Store) (twin : Image) (new : List Image) → IsSound s → Retires s new
+  pub retires : (s : Store) (twin : Image) (new : List Image) → IsSoundStore s → Retires s new
       → IsTwin s.catalog s.source twin → IsTwin new s.source twin
 
 -- What the source of a running merge reaches is needed, itself aside.
 abbrev pub SourceReachesNeeded : Type 0
-SourceReachesNeeded = (s : Store) (source i : Image) → IsSound s → s.source ≡ Some source → Reaches s.catalog i source
+SourceReachesNeeded =
+    (s : Store) (source i : Image) → IsSoundStore s → s.source ≡ Some source → Reaches s.catalog i source
     → (i ≡ source) ⊎ IsNeeded s.catalog (jobs s) i

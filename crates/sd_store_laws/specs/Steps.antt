@@ -4,7 +4,7 @@ use Rattle.sd_image.specs.Image.{Image}
 use Rattle.sd_image.specs.Shows.{IsTip}
 use Rattle.sd_store_laws.specs.Needed.{IsNeeded}
 use Rattle.sd_image.specs.Laws.{SerialsDiffer}
-use Rattle.sd_store_laws.specs.Store.{IsNextDump, IsNextPreDump, IsSound, IsTwin, Store, jobs}
+use Rattle.sd_store_laws.specs.Store.{IsNextDump, IsNextPreDump, IsSoundStore, IsTwin, Store, jobs}
 
 -- a list has one image more
 abbrev pub Adds : List Image → Image → List Image → Type 0
@@ -16,8 +16,9 @@ pub record Retires (s : Store) (new : List Image) : Type 0 where
   pub within : (i : Image) → Contains new i → Contains s.catalog i
 
 -- a checkpoint begins, whose first image has this parent
-abbrev pub begun : Store → ℕ → Store
-begun s number = record { catalog = s.catalog; chain = number ∷ []; work = s.work; source = s.source; grows = s.grows }
+abbrev pub checkpoint_begun : Store → ℕ → Store
+checkpoint_begun s number =
+    record { catalog = s.catalog; chain = number ∷ []; work = s.work; source = s.source; grows = s.grows }
 
 -- a pre-dump with this number is in the catalog
 abbrev pub added : Store → List Image → ℕ → Store
@@ -44,22 +45,22 @@ abbrev pub retired : Store → List Image → Store
 retired s new = record { catalog = new; chain = s.chain; work = s.work; source = s.source; grows = s.grows }
 
 -- a store as it is found
-abbrev pub opened : List Image → Store
-opened images = record { catalog = images; chain = []; work = []; source = None; grows = false }
+abbrev pub found_store : List Image → Store
+found_store images = record { catalog = images; chain = []; work = []; source = None; grows = false }
 
 -- Each step keeps a store sound.
 pub record StepsKeep : Type 0 where
-  pub begins : (s : Store) (tip : Image) → IsSound s → s.grows ≡ true → IsTip s.catalog tip
-      → IsSound (begun s tip.header.stands_for)
-  pub begins_whole : (s : Store) → IsSound s → IsSound (begun s 0)
-  pub adds : (s : Store) (i : Image) (new : List Image) → IsSound s → IsNextPreDump s i → Adds s.catalog i new
-      → IsSound (added s new i.header.stands_for)
-  pub commits : (s : Store) (i : Image) (new : List Image) → IsSound s → IsNextDump s i → Adds s.catalog i new
-      → IsSound (committed s new)
-  pub cancels : (s : Store) → IsSound s → IsSound (cancelled s)
-  pub merges : (s : Store) (tip : Image) → IsSound s → IsTip s.catalog tip → IsSound (merging s tip)
-  pub replaces : (s : Store) (i : Image) (new : List Image) → IsSound s → IsTwin s.catalog s.source i
-      → Adds s.catalog i new → IsSound (replaced s new)
-  pub retires : (s : Store) (new : List Image) → IsSound s → Retires s new → IsSound (retired s new)
+  pub begins : (s : Store) (tip : Image) → IsSoundStore s → s.grows ≡ true → IsTip s.catalog tip
+      → IsSoundStore (checkpoint_begun s tip.header.stands_for)
+  pub begins_whole : (s : Store) → IsSoundStore s → IsSoundStore (checkpoint_begun s 0)
+  pub adds : (s : Store) (i : Image) (new : List Image) → IsSoundStore s → IsNextPreDump s i → Adds s.catalog i new
+      → IsSoundStore (added s new i.header.stands_for)
+  pub commits : (s : Store) (i : Image) (new : List Image) → IsSoundStore s → IsNextDump s i → Adds s.catalog i new
+      → IsSoundStore (committed s new)
+  pub cancels : (s : Store) → IsSoundStore s → IsSoundStore (cancelled s)
+  pub merges : (s : Store) (tip : Image) → IsSoundStore s → IsTip s.catalog tip → IsSoundStore (merging s tip)
+  pub replaces : (s : Store) (i : Image) (new : List Image) → IsSoundStore s → IsTwin s.catalog s.source i
+      → Adds s.catalog i new → IsSoundStore (replaced s new)
+  pub retires : (s : Store) (new : List Image) → IsSoundStore s → Retires s new → IsSoundStore (retired s new)
   pub opens : (images : List Image) → SerialsDiffer images
-      → ((i : Image) → Contains images i → i.header.parent < i.header.stands_for) → IsSound (opened images)
+      → ((i : Image) → Contains images i → i.header.parent < i.header.stands_for) → IsSoundStore (found_store images)

@@ -19,17 +19,17 @@ abbrev pub jobs : Store → List ℕ
 jobs s = s.chain ++ s.work
 
 -- the source of a running merge may be repeated, and what it is made of is asked for
-pub record IsMerged (s : Store) (source : Image) : Type 0 where
+pub record IsMergeSource (s : Store) (source : Image) : Type 0 where
   pub is : IsSource s.catalog (jobs s) source
   pub asked : Contains s.work source.header.parent
   pub falls : source.header.parent < source.header.stands_for
 
 -- What every step of a store keeps.
-pub record IsSound (s : Store) : Type 0 where
+pub record IsSoundStore (s : Store) : Type 0 where
   pub serials : SerialsDiffer s.catalog
   pub fall : (i : Image) → Contains s.catalog i → i.header.parent < i.header.stands_for
   pub tip : (tip : Image) → IsTip s.catalog tip → IsSource s.catalog (jobs s) tip
-  pub merged : IfSome s.source (IsMerged s)
+  pub merged : IfSome s.source (IsMergeSource s)
   pub own : s.grows ≡ true → (tip : Image) → IsTip s.catalog tip → IsNamed s.catalog tip.header.stands_for tip
 
 -- an image to come: it stands for its own serial, which is new

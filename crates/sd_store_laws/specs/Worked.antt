@@ -7,14 +7,14 @@ use Rattle.sd_image.specs.declared.header.Kind.TheVariants.{Dump, Merged}
 use Rattle.sd_image.specs.declared.run.RunKind.{RunKind}
 use Rattle.sd_image.specs.declared.run.RunKind.TheVariants.{Data, Parent}
 use Rattle.sd_image.specs.declared.header.Version.TheVariants.{One}
-use Rattle.sd_image.specs.Words.{zeros}
+use Rattle.sd_image.specs.Words.{zero_bytes}
 use Rattle.sd_image.specs.Image.{Image, gate, image_text}
 use Rattle.sd_image.specs.Laws.{first_memory}
 use Rattle.sd_image.specs.Shows.{IsNamed, IsTip, Shows, ImagesShow}
 use Rattle.sd_store_laws.specs.Reached.{Reaches}
 use Rattle.sd_store_laws.specs.Cut.{Repeats}
-use Rattle.sd_store_laws.specs.Store.{IsSound, Store}
-use Rattle.sd_store_laws.specs.Steps.{begun, opened}
+use Rattle.sd_store_laws.specs.Store.{IsSoundStore, Store}
+use Rattle.sd_store_laws.specs.Steps.{checkpoint_begun, found_store}
 use Rattle.sd_store_laws.specs.Beliefs.{AreSlotsOf, Belief, Kept, Opening, IsLeft}
 
 abbrev pub prot : Prot
@@ -34,7 +34,7 @@ one_page kind serial stands_for parent checkpoint way pages = record {
     checkpoint = checkpoint;
     pages = length pages;
     table_len = 72;
-    digest = zeros 32;
+    digest = zero_bytes 32;
   };
   pages = pages;
   spaces = record {
@@ -87,7 +87,7 @@ busy_slots bytes = Kept (whole 1 1 bytes) ∷ Opening (merged 2 1 1 bytes) ∷ O
 
 -- Merge beside a round: each of the four sets that a crash may leave shows the first checkpoint or the second.
 pub record MergeBesideRound (bytes : List ℕ) : Type 0 where
-  pub sound : IsSound (busy bytes)
+  pub sound : IsSoundStore (busy bytes)
   pub slots : AreSlotsOf (busy bytes) (Some (unchanged 3 1 2)) (busy_slots bytes)
   pub shows : (images : List Image) → IsLeft (busy_slots bytes) images
       → ImagesShow images (Some (1, memory_of bytes)) ⊎ ImagesShow images (Some (2, memory_of bytes))
@@ -100,11 +100,11 @@ found bytes other = whole 5 2 bytes ∷ merged 6 5 1 other ∷ []
 -- merged image of the tip is there: so it may begin only where a checkpoint was acknowledged since the store was
 -- opened.
 pub record WhyItGrows (bytes other : List ℕ) : Type 0 where
-  pub sound : IsSound (opened (found bytes other))
+  pub sound : IsSoundStore (found_store (found bytes other))
   pub tip : IsTip (found bytes other) (whole 5 2 bytes)
   pub shows : ImagesShow (found bytes other) (Some (2, memory_of bytes))
   pub misnamed : IsNamed (found bytes other) 5 (merged 6 5 1 other)
   pub changed : ImagesShow (unchanged 7 5 3 ∷ found bytes other) (Some (3, memory_of other))
   pub twin : Repeats (found bytes other) (whole 5 2 bytes) (merged 8 5 2 bytes)
   pub otherwise : ImagesShow (unchanged 7 5 3 ∷ merged 8 5 2 bytes ∷ found bytes other) (Some (3, memory_of bytes))
-  pub unsound : IsSound (begun (opened (found bytes other)) 5) → ⊥
+  pub unsound : IsSoundStore (checkpoint_begun (found_store (found bytes other)) 5) → ⊥

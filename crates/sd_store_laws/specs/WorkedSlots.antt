@@ -3,12 +3,12 @@ use Rattle.std.specs.Prelude.{◌⊎◌, ℕ, true, List, [], ◌∷◌, Some, N
 use Rattle.sd_image.specs.declared.header.Kind.TheVariants.{PreDump}
 use Rattle.sd_image.specs.declared.run.RunKind.TheVariants.{Data}
 use Rattle.sd_image.specs.declared.header.Version.TheVariants.{One}
-use Rattle.sd_image.specs.Words.{zeros}
+use Rattle.sd_image.specs.Words.{zero_bytes}
 use Rattle.sd_image.specs.Image.{Image}
 use Rattle.sd_image.specs.Shows.{ImagesShow, IsTip}
 use Rattle.sd_store_laws.specs.Needs.{IsUnneeded}
-use Rattle.sd_store_laws.specs.Store.{IsSound, IsTwin, Store}
-use Rattle.sd_store_laws.specs.Steps.{cancelled, opened, replaced}
+use Rattle.sd_store_laws.specs.Store.{IsSoundStore, IsTwin, Store}
+use Rattle.sd_store_laws.specs.Steps.{cancelled, found_store, replaced}
 use Rattle.sd_store_laws.specs.Beliefs.{AreSlotsOf, Closed, Kept, Opening, IsLeft}
 use Rattle.sd_store_laws.specs.Worked.{memory_of, merged, unchanged, whole}
 
@@ -28,7 +28,7 @@ pre_dump serial parent checkpoint bytes = record {
     checkpoint = checkpoint;
     pages = 1;
     table_len = 48;
-    digest = zeros 32;
+    digest = zero_bytes 32;
   };
   pages = bytes ∷ [];
   spaces = record { space = 1; areas = []; runs = record { first = 16; count = 1; kind = Data } ∷ [] } ∷ [];
@@ -47,14 +47,14 @@ pub record PreDumpGivenUp (bytes other : List ℕ) : Type 0 where
 -- A store that goes down while its second dump's gate is being opened shows the first dump or the second; it is opened
 -- without the second, or with it.
 pub record DumpInDoubt (bytes : List ℕ) : Type 0 where
-  pub sound : IsSound (in_round bytes)
+  pub sound : IsSoundStore (in_round bytes)
   pub slots : AreSlotsOf (in_round bytes) (Some (unchanged 3 1 2))
       (Kept (whole 1 1 bytes) ∷ Opening (unchanged 3 1 2) ∷ [])
   pub shows : (images : List Image) → IsLeft (Kept (whole 1 1 bytes) ∷ Opening (unchanged 3 1 2) ∷ []) images
       → ImagesShow images (Some (1, memory_of bytes)) ⊎ ImagesShow images (Some (2, memory_of bytes))
-  pub without_it : IsSound (opened (whole 1 1 bytes ∷ []))
+  pub without_it : IsSoundStore (found_store (whole 1 1 bytes ∷ []))
       × ImagesShow (whole 1 1 bytes ∷ []) (Some (1, memory_of bytes))
-  pub with_it : IsSound (opened (unchanged 3 1 2 ∷ whole 1 1 bytes ∷ []))
+  pub with_it : IsSoundStore (found_store (unchanged 3 1 2 ∷ whole 1 1 bytes ∷ []))
       × ImagesShow (unchanged 3 1 2 ∷ whole 1 1 bytes ∷ []) (Some (2, memory_of bytes))
 
 -- a merge of the first dump runs, and the second is the tip
@@ -69,7 +69,7 @@ outrun bytes = record {
 
 -- The merged image still repeats its source and may enter; then nobody needs the source.
 pub record MergeBehindTip (bytes : List ℕ) : Type 0 where
-  pub sound : IsSound (outrun bytes)
+  pub sound : IsSoundStore (outrun bytes)
   pub tip : IsTip (outrun bytes).catalog (unchanged 3 1 2)
   pub twin : IsTwin (outrun bytes).catalog (outrun bytes).source (merged 2 1 1 bytes)
   pub slots : AreSlotsOf (outrun bytes) None
@@ -77,6 +77,6 @@ pub record MergeBehindTip (bytes : List ℕ) : Type 0 where
   pub shows : (images : List Image)
       → IsLeft (Kept (whole 1 1 bytes) ∷ Opening (merged 2 1 1 bytes) ∷ Kept (unchanged 3 1 2) ∷ []) images
       → ImagesShow images (Some (2, memory_of bytes))
-  pub entered : IsSound (replaced (outrun bytes) (merged 2 1 1 bytes ∷ unchanged 3 1 2 ∷ whole 1 1 bytes ∷ []))
+  pub entered : IsSoundStore (replaced (outrun bytes) (merged 2 1 1 bytes ∷ unchanged 3 1 2 ∷ whole 1 1 bytes ∷ []))
   pub unneeded : IsUnneeded (replaced (outrun bytes) (merged 2 1 1 bytes ∷ unchanged 3 1 2 ∷ whole 1 1 bytes ∷ []))
       (whole 1 1 bytes)

@@ -18,9 +18,9 @@ use Rattle.sd_crash_safety.specs.View.{CoreView, history_of}
 use Rattle.sd_world.specs.declared.event.Event.{Event}
 use Rattle.sd_world.specs.declared.event.Event.TheVariants.{Command, Begin, Work, TakeUp, HandInAt, Perform, PerformAt, Merge, Cancel, Reopen, Trim}
 use Rattle.sd_world.specs.declared.kept.Kept.TheVariants.{Outcome}
-use Rattle.sd_world.specs.Adds.{Adds, AddsByCommand, AddsByPerform, AddsByTrim, AddsByWork}
+use Rattle.sd_world.specs.Adds.{AddsByCommand, AddsByPerform, AddsByTrim, AddsByWork, AddsToJournal}
 use Rattle.sd_world.specs.Consistent.{IsWorld}
-use Rattle.sd_world.specs.Steps.{Does, HandsInAt, HandsInIfAny, IsCommand, Performs, TakesUp, Works, answer_of, reply_of}
+use Rattle.sd_world.specs.Steps.{Does, HandsInAt, HandsInIfAny, IsCommand, Performs, TakesUp, Works, answer_of, reply_of_answer}
 use Rattle.sd_world.specs.View.{WorldView, id_of}
 use Rattle.sd_world.specs.Trims.{TrimsJournal}
 use Rattle.sd_world.proofs.KeptLemmas.{whose}
@@ -59,7 +59,7 @@ adds_by_outcome worker core (reply.Trimmed count) old new adds = absurd adds
 adds_by_outcome worker core (reply.Reopened m) old new adds = absurd adds
 adds_by_outcome worker core (reply.Refused why) old new adds = adds
 
-adds_by_perform : (answer : Answer) (old new : History) → new ≡ old → AddsByPerform (reply_of answer) old new
+adds_by_perform : (answer : Answer) (old new : History) → new ≡ old → AddsByPerform (reply_of_answer answer) old new
 adds_by_perform Done old new same = same
 adds_by_perform (Len len) old new same = same
 adds_by_perform Failed old new same = same
@@ -127,7 +127,7 @@ module _ {D : Type 0} (g : Ghosts D) (old new : WorldView D) (world : IsWorld g 
   command_adds seat command answer does = subst (λ a. AddsByCommand seat command a (history_of old.core) (history_of new.core)) (sym does.answered)
       (told_adds seat command does.told old.core new.core does.applied.applies)
 
-  pub step_adds : (event : Event) (answer : Reply) → Does g event old answer new → Adds event answer old.core new.core
+  pub step_adds : (event : Event) (answer : Reply) → Does g event old answer new → AddsToJournal event answer old.core new.core
   step_adds (Command seat command) answer does = command_adds seat command answer does
   step_adds (Begin rounds) answer does = does.1.adds
   step_adds (Work worker) answer does = work_adds worker answer does.works

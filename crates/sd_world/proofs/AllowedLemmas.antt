@@ -11,14 +11,14 @@ use Rattle.sd_gate.specs.declared.phase.Phase.{Phase}
 use Rattle.sd_gate.specs.declared.phase.Phase.TheVariants.{Raw}
 use Rattle.sd_gate.specs.declared.phase.Phase.TheVariants as ph
 use Rattle.sd_gate.specs.Calls.{is_done}
-use Rattle.sd_gate.specs.Fits.{Leaves}
+use Rattle.sd_gate.specs.Fits.{PhaseLeaves}
 use Rattle.sd_gate.specs.Laws.{WritesCommute}
 use Rattle.sd_gate.specs.Phases.{after as phase_after, body_after, is_ready, may_write}
 use Rattle.sd_gate.specs.Requests.{Made}
 use Rattle.sd_journal.specs.History.{Base, History}
 use Rattle.sd_store_laws.specs.Beliefs.{AreSlotsOf, Belief, Closed, ContentsShow, FitsBelief}
 use Rattle.sd_store_laws.specs.Gates.{IsBelievedAs, IsWeaker, LeftAsBelieved, MayBelieve}
-use Rattle.sd_store_laws.specs.Store.{IsSound, Store}
+use Rattle.sd_store_laws.specs.Store.{IsSoundStore, Store}
 use Rattle.sd_crash_safety.specs.Believes.{IsCovered, ShowsLast, ShowsPending}
 use Rattle.sd_crash_safety.specs.Shown.{ShowsAllowed}
 use Rattle.sd_crash_safety.specs.View.{history_of}
@@ -31,7 +31,7 @@ use Rattle.sd_world.proofs.Lists.{get_map}
 use Rattle.sd_world.proofs.Worlds.{slot_as}
 
 -- one file, as it is believed
-fits_one : LeftAsBelieved → (phase : Phase) (body file : List ℕ) (belief : Belief) → MayBelieve phase body belief → Leaves phase body file
+fits_one : LeftAsBelieved → (phase : Phase) (body file : List ℕ) (belief : Belief) → MayBelieve phase body belief → PhaseLeaves phase body file
     → FitsBelief belief file
 fits_one left phase body file belief may leaves = all.0
   where
@@ -46,8 +46,8 @@ fits_one left phase body file belief may leaves = all.0
     believed zero p b is has = subst (λ q. MayBelieve q body b) (same_Some phase p is) (subst (MayBelieve phase body) (same_Some belief b has) may)
     believed (suc slot) p b is has = absurd cc
 
-    lies : (slot : ℕ) (p : Phase) → slice_get phases slot ≡ Some p → Leaves p (file_at bodies slot) (file_at (file ∷ []) slot)
-    lies zero p is = subst (λ q. Leaves q body file) (same_Some phase p is) leaves
+    lies : (slot : ℕ) (p : Phase) → slice_get phases slot ≡ Some p → PhaseLeaves p (file_at bodies slot) (file_at (file ∷ []) slot)
+    lies zero p is = subst (λ q. PhaseLeaves q body file) (same_Some phase p is) leaves
     lies (suc slot) p is = absurd cc
 
     all : AllZip FitsBelief (belief ∷ []) (file ∷ [])
@@ -66,7 +66,7 @@ all_zipped R (x ∷ xs) (y ∷ ys) same each =
 
 -- by what the store shows, and would show with the dump that is being opened
 shows_allowed : ContentsShow → (base : Base) (history : History) (store : Store) (dump : Option Image) (beliefs : List Belief) (c : List (List ℕ))
-    → IsSound store → AreSlotsOf store dump beliefs → AllZip FitsBelief beliefs c → ShowsLast base history store.catalog
+    → IsSoundStore store → AreSlotsOf store dump beliefs → AllZip FitsBelief beliefs c → ShowsLast base history store.catalog
     → IfSome dump (λ image. ShowsPending base history (image ∷ store.catalog)) → ShowsAllowed base history c
 shows_allowed show base history store None beliefs c sound slots fits last next =
     record { shown = last.shown; allowed = inl last.is; shows = show.last store beliefs c last.shown sound slots fits last.shows }
@@ -195,9 +195,9 @@ module _ {D : Type 0} (g : Ghosts D) (world : WorldView D) (left : LeftAsBelieve
       let phase = slice_index_or world.core.phases slot Raw in
       let there = slice_get-get_or world.core.phases slot Raw within in
       let now : SlotNow = slot_now world.kept slot (slot_as phase (file_at was.bodies slot)) in
-      let lies : Leaves now.phase now.body (file_at c slot) = (was.stands slot phase there).leaves c may in
+      let lies : PhaseLeaves now.phase now.body (file_at c slot) = (was.stands slot phase there).leaves c may in
       fits_one left now.phase now.body file belief (believed_now slot phase belief there has (first_on world.kept slot))
-      (subst (Leaves now.phase now.body) (get_or_from_slice_get c slot file [] at) lies)
+      (subst (PhaseLeaves now.phase now.body) (get_or_from_slice_get c slot file [] at) lies)
 
 pub world_allows : {D : Type 0} (g : Ghosts D) (world : WorldView D) → LeftAsBelieved → ContentsShow → WritesCommute
     → ((c : List (List ℕ)) → g.may_leave world.disk c → length c ≡ length (g.contents world.disk))

@@ -3,7 +3,7 @@ use Rattle.std.proofs.Common.{◌≡◌, ℕ, List, length, refl, sym, ap, subst
 use Rattle.sd_gate.specs.declared.answer.Answer.{Answer}
 use Rattle.sd_gate.specs.declared.call.Call.{Call}
 use Rattle.sd_gate.specs.declared.call.Call.TheVariants.{Len, Read, Write, WriteHeader, Close, Open, Cut, Sync}
-use Rattle.sd_gate.specs.Calls.{AreKept, IsLook, Makes, Tells}
+use Rattle.sd_gate.specs.Calls.{AreKept, CallTells, IsLook, Makes}
 use Rattle.sd_gate.specs.Phases.{body_after}
 
 pub makes_count : (call : Call) (bytes : List ℕ) (slot : ℕ) (old new : List (List ℕ)) → Makes call bytes slot old new → length new ≡ length old
@@ -28,10 +28,10 @@ same_body body Cut old new kept = refl
 same_body body Sync old new kept = refl
 
 -- what a call told of a file, it tells of the file afterwards
-pub tells_now : (call : Call) (old new : List ℕ) (answer : Answer) (bytes : List ℕ) → (IsLook call → new ≡ old) → Tells call old answer bytes
-    → Tells call new answer bytes
-tells_now Len old new answer bytes same tells = subst (λ file. Tells Len file answer bytes) (sym (same tt)) tells
-tells_now (Read at) old new answer bytes same tells = subst (λ file. Tells (Read at) file answer bytes) (sym (same tt)) tells
+pub tells_now : (call : Call) (old new : List ℕ) (answer : Answer) (bytes : List ℕ) → (IsLook call → new ≡ old) → CallTells call old answer bytes
+    → CallTells call new answer bytes
+tells_now Len old new answer bytes same tells = subst (λ file. CallTells Len file answer bytes) (sym (same tt)) tells
+tells_now (Read at) old new answer bytes same tells = subst (λ file. CallTells (Read at) file answer bytes) (sym (same tt)) tells
 tells_now (Write at) old new answer bytes same tells = tt
 tells_now WriteHeader old new answer bytes same tells = tt
 tells_now Close old new answer bytes same tells = tt

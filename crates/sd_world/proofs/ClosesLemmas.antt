@@ -39,9 +39,9 @@ use Rattle.sd_core.specs.Refusals.{is_idle, must_wait, work_refusal}
 use Rattle.sd_core.specs.Working.{LeavesByOutcome}
 use Rattle.sd_world.specs.declared.event.Event.{Event}
 use Rattle.sd_world.specs.declared.event.Event.TheVariants.{Command, Begin, Work, TakeUp, HandInAt, Perform, PerformAt, Merge, Cancel, Reopen, Trim}
-use Rattle.sd_world.specs.Closing.{ClosesBehind, ComesToClose, EndsBehind, EndsIn, EntersIn, IsClosing}
+use Rattle.sd_world.specs.Closing.{ClosesBehind, ComesToClose, EndsBehind, EndsIn, EntersIn, MergeCloses}
 use Rattle.sd_world.specs.Merges.{DoesMerge, MergesThere}
-use Rattle.sd_world.specs.Steps.{Does, HandsInAt, HandsInIfAny, IsCommand, Performs, TakesUp, Works, answer_of, reply_of}
+use Rattle.sd_world.specs.Steps.{Does, HandsInAt, HandsInIfAny, IsCommand, Performs, TakesUp, Works, answer_of, reply_of_answer}
 use Rattle.sd_world.specs.Consistent.{IsWorld}
 use Rattle.sd_world.specs.Trims.{TrimsJournal}
 use Rattle.sd_world.specs.View.{WorldView}
@@ -51,10 +51,10 @@ use Rattle.sd_world.proofs.TrimLemmas.{trim_cases}
 
 -- ---- the merger of one core and the next
 
-closing_same : (old new : CoreView) (slot serial : ℕ) → new.merger ≡ old.merger → IsClosing new slot serial → IsClosing old slot serial
+closing_same : (old new : CoreView) (slot serial : ℕ) → new.merger ≡ old.merger → MergeCloses new slot serial → MergeCloses old slot serial
 closing_same old new slot serial same c = record { merge = c.merge; r = c.r; runs = sym same ∙ c.runs; doing = c.doing; in_slot = c.in_slot; own = c.own }
 
-none_idle : (new : CoreView) (slot serial : ℕ) → IsClosing new slot serial → is_idle new Merger ≡ true → ⊥
+none_idle : (new : CoreView) (slot serial : ℕ) → MergeCloses new slot serial → is_idle new Merger ≡ true → ⊥
 none_idle new slot serial c idle = let no : false ≡ true = sym (ap is_none c.runs) ∙ idle in cc
 
 retiring_in : (doing : Doing) (serial : ℕ) (list : List Retired) → fixed_in doing ≡ Some (serial, list) → (r : Retiring) × (doing ≡ retiring r) × (r.serial ≡ serial)
@@ -73,7 +73,7 @@ idle_refused false = (Idle, refl)
 -- ---- a step, or a call that is taken up
 
 module _ (old new : CoreView) (made : Taken) where
-  merger_taken : IsTakenUp Merger old made new → (before : Option merger.Running) → old.merger ≡ before → (slot serial : ℕ) → IsClosing new slot serial → IsClosing old slot serial
+  merger_taken : IsTakenUp Merger old made new → (before : Option merger.Running) → old.merger ≡ before → (slot serial : ℕ) → MergeCloses new slot serial → MergeCloses old slot serial
   merger_taken taken None none slot serial c =
       let idle = idle_refused (must_wait old Merger) in
       let refused : work_refusal old Merger ≡ Some idle.0 = ap (λ o. first_of ((must_wait old Merger, Busy) ∷ (is_none o, Idle) ∷ [])) none ∙ idle.1 in
@@ -90,7 +90,7 @@ module _ (old new : CoreView) (made : Taken) where
         own = r.2 ∙ c.own;
       }
 
-  taken_closing : (worker : Worker) → IsTakenUp worker old made new → (slot serial : ℕ) → IsClosing new slot serial → IsClosing old slot serial
+  taken_closing : (worker : Worker) → IsTakenUp worker old made new → (slot serial : ℕ) → MergeCloses new slot serial → MergeCloses old slot serial
   taken_closing Dumper taken slot serial c = closing_same old new slot serial taken.beside.others.0 c
   taken_closing Merger taken slot serial c = merger_taken taken old.merger refl slot serial c
   taken_closing Opener taken slot serial c = closing_same old new slot serial taken.beside.others.1 c
@@ -124,7 +124,7 @@ none_answered : (frozen : Bool) (asked : CommandOf) (serial : ℕ) (old new : Co
 none_answered true asked serial old new is = (let no : reply.Merged serial ≡ reply.Refused Frozen = is.0 in cc)
 none_answered false asked serial old new is = none_legal (plain_of old) asked serial (denial_in (plain_of old) asked) is.legal
 
-none_replied : (answer : Answer) (serial : ℕ) → reply_of answer ≡ reply.Merged serial → ⊥
+none_replied : (answer : Answer) (serial : ℕ) → reply_of_answer answer ≡ reply.Merged serial → ⊥
 none_replied Done serial is = (let no = is in cc)
 none_replied (Len len) serial is = (let no = is in cc)
 none_replied Failed serial is = (let no = is in cc)
@@ -152,7 +152,7 @@ module _ {D : Type 0} (g : Ghosts D) (old new : WorldView D) (world : IsWorld g 
     own : hands.made.request.id.worker ≡ worker
     own = whose old.kept worker place hands.lane hands.made hands.at hands.is
 
-    none_down : (slot serial : ℕ) → IsClosing new.core slot serial → answer ≡ reply.Refused StoreDown → ⊥
+    none_down : (slot serial : ℕ) → MergeCloses new.core slot serial → answer ≡ reply.Refused StoreDown → ⊥
     none_down slot serial c down =
         none_idle new.core slot serial c ((subst (λ a. LeavesByOutcome old.core hands.made.request.id.worker a new.core) down (it.leaves out)).idle Merger)
 
@@ -162,7 +162,7 @@ module _ {D : Type 0} (g : Ghosts D) (old new : WorldView D) (world : IsWorld g 
     source_gone : (o : Option merger.Running) (merge : merger.Running) (r : Retiring) → o ≡ Some merge → merge.doing ≡ retiring r → source_of o ≡ None
     source_gone o merge r is doing = ap source_of is ∙ ap (source_in merge) doing
 
-    closes_from : worker ≡ Merger → (merge : merger.Running) → old.core.merger ≡ Some merge → (doing : Doing) → merge.doing ≡ doing → (slot serial : ℕ) → (c : IsClosing new.core slot serial)
+    closes_from : worker ≡ Merger → (merge : merger.Running) → old.core.merger ≡ Some merge → (doing : Doing) → merge.doing ≡ doing → (slot serial : ℕ) → (c : MergeCloses new.core slot serial)
         → merge.slot ≡ slot → IsSerialOf doing serial → ComesToClose g old new slot serial
     closes_from is merge was due doing slot serial c at own_serial = absurd own_serial
     closes_from is merge was (copying copy) doing slot serial c at own_serial =
@@ -171,21 +171,21 @@ module _ {D : Type 0} (g : Ghosts D) (old new : WorldView D) (world : IsWorld g 
     closes_from is merge was (opened number) doing slot serial c at own_serial = absurd own_serial
     closes_from is merge was (retiring r) doing slot serial c at own_serial = inl (record { merge = merge; r = r; runs = was; doing = doing; in_slot = at; own = sym own_serial })
 
-    merger_handed : worker ≡ Merger → (before : Option merger.Running) → old.core.merger ≡ before → (slot serial : ℕ) → IsClosing new.core slot serial → ComesToClose g old new slot serial
+    merger_handed : worker ≡ Merger → (before : Option merger.Running) → old.core.merger ≡ before → (slot serial : ℕ) → MergeCloses new.core slot serial → ComesToClose g old new slot serial
     merger_handed is None none slot serial c = absurd (none_down slot serial c (it.late out (ap (is_idle old.core) (own ∙ is) ∙ ap is_none none)))
     merger_handed is (Some merge) was slot serial c =
         let same = it.lasts merge c.merge was c.runs in
         closes_from is merge was merge.doing refl slot serial c (sym same.slot ∙ c.in_slot)
         (subst (IsSerialOf merge.doing) c.own (subst (λ fixed. IfSome fixed (λ list. IsSerialOf merge.doing list.0)) (fixed_as c.merge.doing c.r c.doing) same.behind))
 
-    others_handed : (its : Worker) → worker ≡ its → is_done hands.made.answer ≡ true → (slot serial : ℕ) → IsClosing new.core slot serial → ComesToClose g old new slot serial
+    others_handed : (its : Worker) → worker ≡ its → is_done hands.made.answer ≡ true → (slot serial : ℕ) → MergeCloses new.core slot serial → ComesToClose g old new slot serial
     others_handed Dumper is done slot serial c =
         inl (closing_same old.core new.core slot serial (subst (λ w. LeavesOthers w old.core new.core) (own ∙ is) ((it.beside out).others done)).0 c)
     others_handed Merger is done slot serial c = merger_handed is old.core.merger refl slot serial c
     others_handed Opener is done slot serial c =
         inl (closing_same old.core new.core slot serial (subst (λ w. LeavesOthers w old.core new.core) (own ∙ is) ((it.beside out).others done)).1 c)
 
-    handed_closes : (done : Bool) → is_done hands.made.answer ≡ done → (slot serial : ℕ) → IsClosing new.core slot serial → ComesToClose g old new slot serial
+    handed_closes : (done : Bool) → is_done hands.made.answer ≡ done → (slot serial : ℕ) → MergeCloses new.core slot serial → ComesToClose g old new slot serial
     handed_closes true done slot serial c = others_handed worker refl done slot serial c
     handed_closes false failed slot serial c = absurd (none_down slot serial c (it.failed out failed))
 

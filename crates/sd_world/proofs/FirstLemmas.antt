@@ -13,14 +13,14 @@ use Rattle.sd_gate.specs.declared.answer.Answer.TheVariants.{Done, Len, Failed}
 use Rattle.sd_gate.specs.declared.request_id.RequestId.{RequestId}
 use Rattle.sd_gate.specs.declared.worker.Worker.{Worker}
 use Rattle.sd_gate.specs.declared.worker.Worker.TheVariants.{Dumper, Merger, Opener}
-use Rattle.sd_gate.specs.Calls.{HasCause}
+use Rattle.sd_gate.specs.Calls.{AnswerHasCause}
 use Rattle.sd_gate.specs.Requests.{Asked}
 use Rattle.sd_crash_safety.specs.View.{CoreView, index}
 use Rattle.sd_world.specs.declared.call_state.CallState.{CallState}
 use Rattle.sd_world.specs.declared.call_state.CallState.TheVariants as its
 use Rattle.sd_world.specs.declared.kept.Kept.{Kept}
 use Rattle.sd_world.specs.declared.kept.Kept.TheVariants.{Request, Outcome}
-use Rattle.sd_world.specs.Steps.{IsAnswered, IsPerform, Performs, reply_of}
+use Rattle.sd_world.specs.Steps.{IsAnsweredByDevice, IsPerform, Performs, reply_of_answer}
 use Rattle.sd_world.proofs.KeptLemmas.{asked_there, same_request}
 use Rattle.sd_world.specs.View.{IsAt, WorldView, asked_count, asked_id, id_in, is_asked, is_before, is_of}
 
@@ -137,7 +137,7 @@ asked_any kept worker place lane at = any_at (λ k. is_of worker (asked_id k)) k
 
 -- ---- how a device call is answered
 
-answered : (answer : Answer) (before now : ℕ) → HasCause before now answer → IsAnswered before now (reply_of answer)
+answered : (answer : Answer) (before now : ℕ) → AnswerHasCause before now answer → IsAnsweredByDevice before now (reply_of_answer answer)
 answered Done before now cause = inl (refl, cause.done refl)
 answered (Len len) before now cause = inl (refl, cause.done refl)
 answered Failed before now cause = inr (refl, cause.failed refl)
@@ -158,8 +158,8 @@ module _ {D : Type 0} (g : Ghosts D) (old new : WorldView D) (worker : Worker) (
   idle_step unasked it = idle_by unasked it.core it.performs
 
   device_by : is_asked old.kept worker ≡ true → Performs g worker 0 old.disk old.kept answer new.disk new.kept
-      → IsAnswered (g.failed old.disk) (g.failed new.disk) answer
-  device_by asked (Performs.performs it) = subst (IsAnswered (g.failed old.disk) (g.failed new.disk)) (sym it.keeps.replied)
+      → IsAnsweredByDevice (g.failed old.disk) (g.failed new.disk) answer
+  device_by asked (Performs.performs it) = subst (IsAnsweredByDevice (g.failed old.disk) (g.failed new.disk)) (sym it.keeps.replied)
       (answered it.keeps.made.answer (g.failed old.disk) (g.failed new.disk) it.keeps.performed.cause)
   device_by asked (Performs.none none idle) = absurd (let first = asked_first old.kept worker asked in none first.0 first.1)
 
@@ -175,5 +175,5 @@ module _ {D : Type 0} (g : Ghosts D) (old new : WorldView D) (worker : Worker) (
   pub made_step : is_asked old.kept worker ≡ true → IsPerform g worker 0 old answer new → asked_count new.kept worker < asked_count old.kept worker
   made_step asked it = made_by asked it.performs
 
-  pub device_step : is_asked old.kept worker ≡ true → IsPerform g worker 0 old answer new → IsAnswered (g.failed old.disk) (g.failed new.disk) answer
+  pub device_step : is_asked old.kept worker ≡ true → IsPerform g worker 0 old answer new → IsAnsweredByDevice (g.failed old.disk) (g.failed new.disk) answer
   device_step asked it = device_by asked it.performs

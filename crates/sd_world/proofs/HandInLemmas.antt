@@ -8,7 +8,7 @@ use Rattle.sd_disk.specs.Contents.{file_at}
 use Rattle.sd_disk.specs.declared.disk.Disk.{Ghosts}
 use Rattle.sd_gate.specs.declared.phase.Phase.{Phase}
 use Rattle.sd_gate.specs.Calls.{IsLook, is_done}
-use Rattle.sd_gate.specs.Fits.{Reads}
+use Rattle.sd_gate.specs.Fits.{PhaseReads}
 use Rattle.sd_gate.specs.Laws.{GivenUpFits, WritesCommute}
 use Rattle.sd_gate.specs.Phases.{after as phase_after, body_after, bodies_after, phases_after}
 use Rattle.sd_gate.specs.Requests.{Made}
@@ -59,7 +59,7 @@ module _ (law : WritesCommute) (kept : List Kept) (slots lane : ℕ) (made : Mad
   -- a call that only looks is alone on its slot
   look_reads : (contents : List (List ℕ)) (may_leave : List (List ℕ) → Type 0) (phases : List Phase) (bodies : List (List ℕ)) (phase : Phase)
       → IsLook made.request.id.call → slice_get phases made.request.id.slot ≡ Some phase → Stand contents may_leave phases kept bodies
-      → Reads (phase_after phase made.request.id.call (is_done made.answer))
+      → PhaseReads (phase_after phase made.request.id.call (is_done made.answer))
       (body_after (file_at bodies made.request.id.slot) made.request.id.call made.request.bytes) (file_at contents made.request.id.slot)
   look_reads contents may_leave phases bodies phase looks here stand = elim (lane_cases lane) [
     | inl few ↦ (subst (Fits contents may_leave made.request.id.slot)

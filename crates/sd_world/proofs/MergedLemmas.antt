@@ -9,7 +9,7 @@ use Rattle.sd_image.specs.Image.{IsImage}
 use Rattle.sd_merge.specs.Merger as merger
 use Rattle.sd_chain.specs.Catalog.{Places}
 use Rattle.sd_world.specs.declared.event.Event.{Event}
-use Rattle.sd_world.specs.Closing.{ComesToClose, EntersIn, IsClosing}
+use Rattle.sd_world.specs.Closing.{ComesToClose, EntersIn, MergeCloses}
 use Rattle.sd_world.specs.Merged.{EnteredWithin, MergesStand}
 use Rattle.sd_world.specs.Merges.{IsMergedThere}
 use Rattle.sd_world.specs.Runs.{IsStep, Runs}
@@ -85,7 +85,7 @@ module _ {D : Type 0} (g : Ghosts D) where
 
   -- each merge that closes images entered its own within the run so far
   abbrev Entered : WorldView D → List Event → List Reply → WorldView D → Type 0
-  Entered first events answers last = (slot serial : ℕ) → IsClosing last.core slot serial → EnteredWithin g first events answers last slot serial
+  Entered first events answers last = (slot serial : ℕ) → MergeCloses last.core slot serial → EnteredWithin g first events answers last slot serial
 
   came : (first last end : WorldView D) (events : List Event) (answers : List Reply) (event : Event) (answer : Reply) (slot serial : ℕ) → Runs g first events answers last
       → IsStep g event last answer end → Entered first events answers last → ComesToClose g last end slot serial

@@ -11,7 +11,7 @@ use Rattle.sd_gate.specs.declared.phase.Phase.TheVariants.{Bare, Whole}
 use Rattle.sd_gate.specs.declared.request_id.RequestId.{RequestId}
 use Rattle.sd_gate.specs.declared.worker.Worker.{Worker}
 use Rattle.sd_gate.specs.declared.worker.Worker.TheVariants.{Dumper, Merger, Opener}
-use Rattle.sd_gate.specs.Fits.{Reads}
+use Rattle.sd_gate.specs.Fits.{PhaseReads}
 use Rattle.sd_gate.specs.Laws.{GivenUpFits, WritesCommute}
 use Rattle.sd_gate.specs.Phases.{bodies_after}
 use Rattle.sd_image.specs.Image.{IsImage}
@@ -23,7 +23,7 @@ use Rattle.sd_crash_safety.specs.View.{CoreView, history_of}
 use Rattle.sd_core.specs.GoingOn.{AreOwnLanes}
 use Rattle.sd_core.specs.Lasting.{LeavesMerged}
 use Rattle.sd_core.specs.Merging.{IsAsBelieved, OpensMerged}
-use Rattle.sd_core.specs.Sound.{worker_of}
+use Rattle.sd_core.specs.Sound.{worker_of_lane}
 use Rattle.sd_core.specs.Working.{LeavesByOutcome}
 use Rattle.sd_world.specs.declared.event.Event.{Event}
 use Rattle.sd_world.specs.declared.event.Event.TheVariants.{Command, Begin, Work, TakeUp, HandInAt, Perform, PerformAt, Merge, Cancel, Reopen, Trim}
@@ -39,7 +39,7 @@ use Rattle.sd_world.proofs.KeptLemmas.{free_now, whose}
 use Rattle.sd_world.proofs.Lists.{get_map}
 use Rattle.sd_world.proofs.Worlds.{Fits, Stand, slot_as}
 
-merger_lane : (lane : ℕ) → worker_of lane ≡ Merger → lane ≡ 1
+merger_lane : (lane : ℕ) → worker_of_lane lane ≡ Merger → lane ≡ 1
 merger_lane zero is = absurd (let no : Dumper ≡ Merger = is in cc)
 merger_lane (suc zero) is = refl
 merger_lane (suc (suc zero)) is = absurd (let no : Opener ≡ Merger = is in cc)
@@ -48,7 +48,7 @@ merger_lane (suc (suc (suc k))) is = absurd (let no : Dumper ≡ Merger = is in 
 -- a slot on which no request is out reads as its phase says
 pub reads_free : (contents : List (List ℕ)) (may_leave : List (List ℕ) → Type 0) (phases : List Phase) (kept : List Kept) (bodies : List (List ℕ)) (outs : List (Option RequestId))
     (slot : ℕ) (phase : Phase) → outs ≡ map id_of kept → Stand contents may_leave phases kept bodies → IsFree outs slot → slice_get phases slot ≡ Some phase
-    → Reads phase (file_at bodies slot) (file_at contents slot)
+    → PhaseReads phase (file_at bodies slot) (file_at contents slot)
 reads_free contents may_leave phases kept bodies outs slot phase are stand free is =
     (subst (Fits contents may_leave slot) (free_now kept slot (slot_as phase (file_at bodies slot)) (subst (λ all. IsFree all slot) are free)) (stand slot phase is)).reads
 

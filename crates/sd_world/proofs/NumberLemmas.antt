@@ -22,7 +22,7 @@ use Rattle.sd_core.specs.Images.{job_of}
 use Rattle.sd_core.specs.Merging.{MergesAs, merge_refusal}
 use Rattle.sd_core.specs.Orders.{IsCancelled}
 use Rattle.sd_core.specs.Refusals.{cancel_refusal, work_refusal}
-use Rattle.sd_core.specs.Working.{HasFallen, Leaves, LeavesByOutcome, LeavesByStep}
+use Rattle.sd_core.specs.Working.{HasFallen, LeavesByOutcome, LeavesByStep, LeavesByWork}
 use Rattle.sd_world.specs.declared.event.Event.{Event}
 use Rattle.sd_world.specs.declared.event.Event.TheVariants.{Command as CommandEvent, Begin, Work, TakeUp, HandInAt, Perform, PerformAt, Merge, Cancel, Reopen, Trim}
 use Rattle.sd_world.specs.Promise.{begun_after}
@@ -134,7 +134,7 @@ others_dumper Dumper old new others other = absurd (other refl)
 others_dumper Merger old new others other = others.0
 others_dumper Opener old new others other = others.0
 
-step_number : (old new : CoreView) (worker : Worker) (taken : Taken) → Leaves old worker taken new → LeavesOthers worker old new → KeepsNumber old new
+step_number : (old new : CoreView) (worker : Worker) (taken : Taken) → LeavesByWork old worker taken new → LeavesOthers worker old new → KeepsNumber old new
 step_number old new Merger taken leaves others = same_dumper old new others.0
 step_number old new Opener taken leaves others = same_dumper old new others.0
 step_number old new Dumper (Step answer) leaves others = by_dumper_step old new answer leaves

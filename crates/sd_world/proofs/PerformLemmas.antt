@@ -6,7 +6,7 @@ use Rattle.sd_disk.specs.Contents.{file_at}
 use Rattle.sd_disk.specs.declared.disk.Disk.{Ghosts}
 use Rattle.sd_gate.specs.declared.phase.Phase.{Phase}
 use Rattle.sd_gate.specs.declared.request_id.RequestId.{RequestId}
-use Rattle.sd_gate.specs.Calls.{AreKept, IsAnswerTo, Tells, is_done}
+use Rattle.sd_gate.specs.Calls.{AreKept, CallTells, IsAnswerTo, is_done}
 use Rattle.sd_gate.specs.Laws.{WritesCommute}
 use Rattle.sd_gate.specs.Looks.{IsTold}
 use Rattle.sd_gate.specs.Phases.{after as phase_after, body_after, is_ready}
@@ -39,7 +39,7 @@ page_kept slot request other same kept page = record {
 told_anyway : (file other : List ℕ) (made : Made) → IsWrite made.request.id.call → IsTold file made → IsTold other made
 told_anyway file other made write told = record {
   answers = told.answers;
-  tells = subst (λ c. Tells c other made.answer made.request.bytes) (sym write.is) tt;
+  tells = subst (λ c. CallTells c other made.answer made.request.bytes) (sym write.is) tt;
 }
 
 module _ (law : WritesCommute) {D : Type 0} (g : Ghosts D) (core : CoreView) (kept : List Kept) (lane : ℕ) (request : Asked) (old : D) (made : Made) (new : D)
@@ -123,7 +123,7 @@ module _ (law : WritesCommute) {D : Type 0} (g : Ghosts D) (core : CoreView) (ke
     told_here : g.is_honest new → is_done made.answer ≡ true → IsTold (file_at files made.request.id.slot) made
     told_here honest done = record {
       answers = subst (λ (id : RequestId). IsAnswerTo id.call made.answer) (sym same_id) (p.answers done);
-      tells = subst (λ (id : RequestId). Tells id.call (file_at files id.slot) made.answer made.request.bytes) (sym same_id)
+      tells = subst (λ (id : RequestId). CallTells id.call (file_at files id.slot) made.answer made.request.bytes) (sym same_id)
           (tells_now request.id.call (file_at (g.contents old) request.id.slot) (file_at files request.id.slot) made.answer made.request.bytes
           (λ looks. ap (λ c. file_at c request.id.slot) (p.made_of.looks looks)) (p.tells honest done));
     }

@@ -19,7 +19,7 @@ use Rattle.sd_crash_safety.specs.Shown.{ShowsAllowed}
 use Rattle.sd_crash_safety.specs.View.{CoreView, history_of}
 use Rattle.sd_world.specs.declared.event.Event.{Event}
 use Rattle.sd_world.specs.declared.event.Event.TheVariants.{Command as CommandEvent, Begin, Work, TakeUp, HandInAt, Perform, PerformAt, Merge, Cancel, Reopen, Trim}
-use Rattle.sd_world.specs.Adds.{Adds, AddsByCommand, AddsByPerform, AddsByWork}
+use Rattle.sd_world.specs.Adds.{AddsByCommand, AddsByPerform, AddsByWork, AddsToJournal}
 use Rattle.sd_world.specs.Points.{Folds, PointsFollow, StandsAt}
 use Rattle.sd_world.specs.Promise.{AddsByReply, AddsCancelled, AddsCommand, AddsEntry, Goes, Point, begun_after}
 use Rattle.sd_world.specs.Runs.{IsStep, Runs}
@@ -156,7 +156,7 @@ module _ (old new gone : History) where
 adds_entry : (event : Event) (answer : Reply) (old new : CoreView) (base : Base) (begun : Option ℕ) (gone : History) → event ≢ Trim
     → ((n : ℕ) → running_number old.dumper.running ≡ Some n → begun ≡ Some n)
     → ((n : ℕ) → history_of new ≡ Freeze n ∷ history_of old → at_freeze base (history_of old ++ gone) n ≡ None)
-    → Adds event answer old new → AddsEntry event answer base begun (history_of old ++ gone) (history_of new ++ gone)
+    → AddsToJournal event answer old new → AddsEntry event answer base begun (history_of old ++ gone) (history_of new ++ gone)
 adds_entry (CommandEvent seat command) answer old new base begun gone other last fresh adds = adds_command (history_of old) (history_of new) gone seat command answer adds
 adds_entry (Begin rounds) answer old new base begun gone other last fresh adds = adds_order (history_of old) (history_of new) gone answer adds
 adds_entry (Work worker) answer old new base begun gone other last fresh adds = adds_work (history_of old) (history_of new) gone worker old base begun answer last fresh adds
@@ -235,7 +235,7 @@ went_by_trim answer begun old new base gone folds legal trims = elim (trim_cases
 went_by_other : (event : Event) (answer : Reply) (begun : Option ℕ) (old new : CoreView) (base : Base) (gone : History) → event ≢ Trim
     → Folds base gone old.base → new.base ≡ old.base → ((n : ℕ) → running_number old.dumper.running ≡ Some n → begun ≡ Some n)
     → ((n : ℕ) → history_of new ≡ Freeze n ∷ history_of old → at_freeze base (history_of old ++ gone) n ≡ None)
-    → Adds event answer old new → Went event answer begun base (history_of old ++ gone) new
+    → AddsToJournal event answer old new → Went event answer begun base (history_of old ++ gone) new
 went_by_other event answer begun old new base gone other folds same last fresh adds = record {
   gone = gone;
   folds = subst (Folds base gone) (sym same) folds;

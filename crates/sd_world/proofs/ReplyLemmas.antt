@@ -23,7 +23,7 @@ use Rattle.sd_crash_safety.specs.View.{CoreView, history_of}
 use Rattle.sd_gate.specs.declared.worker.Worker.{Worker}
 use Rattle.sd_world.specs.declared.event.Event.{Event}
 use Rattle.sd_world.specs.declared.event.Event.TheVariants.{Command as CommandEvent, Begin, Work, TakeUp, HandInAt, Perform, PerformAt, Merge, Cancel, Reopen, Trim}
-use Rattle.sd_world.specs.Adds.{Adds, AddsByCommand, AddsByPerform, AddsByTrim, AddsByWork}
+use Rattle.sd_world.specs.Adds.{AddsByCommand, AddsByPerform, AddsByTrim, AddsByWork, AddsToJournal}
 use Rattle.sd_world.specs.Runs.{ShowsFreeze, ShowsReply}
 
 pub marked_legal : (base : Base) (items : Marked) → IsMarked base items → IsLegal base (entries_of items)
@@ -214,7 +214,7 @@ says_trim base history contents (reply.Cancelled n) old new adds = absurd adds
 says_trim base history contents (reply.Merged serial) old new adds = absurd adds
 says_trim base history contents (reply.Reopened m) old new adds = absurd adds
 
-pub says : (event : Event) (answer : Reply) (old new : CoreView) (contents : List (List ℕ)) → Adds event answer old new → IsLegal new.base (history_of new)
+pub says : (event : Event) (answer : Reply) (old new : CoreView) (contents : List (List ℕ)) → AddsToJournal event answer old new → IsLegal new.base (history_of new)
     → ShowsAllowed new.base (history_of new) contents → ShowsReply answer new.base (history_of new) contents
 says (CommandEvent seat asked) answer old new contents adds legal allowed =
     says_command new.base contents seat asked answer (history_of old) (history_of new) adds legal

@@ -8,13 +8,13 @@ use Rattle.sd_journal.specs.Allowed.{Shown}
 use Rattle.sd_journal.specs.History.{Base, History}
 use Rattle.sd_restore.specs.declared.fault.Fault.{Fault}
 use Rattle.sd_restore.specs.declared.fault.Fault.TheVariants.{EmptyChain, Damaged, Device, OutOfMemory}
-use Rattle.sd_restore.specs.Faulty.{Names}
+use Rattle.sd_restore.specs.Faulty.{FaultNames}
 use Rattle.sd_crash_safety.specs.Shown.{ShowsAllowed}
 use Rattle.sd_world.specs.Restored.{IsRestored, IsRestoredAs}
 
 restored_as : ShownOnce → (contents : List (List ℕ)) (shown : Shown) (result : Result Snapshot Fault) → Shows contents shown
     → IfOk result (λ snapshot. Shows contents (Some (snapshot.checkpoint, memory_of snapshot)))
-    → (IsErrOf result EmptyChain → Shows contents None) → IfErr result (Names (λ slot reason. ⊥)) → IsRestoredAs shown result
+    → (IsErrOf result EmptyChain → Shows contents None) → IfErr result (FaultNames (λ slot reason. ⊥)) → IsRestoredAs shown result
 restored_as once contents shown (Ok snapshot) shows ok none good = once contents shown (Some (snapshot.checkpoint, memory_of snapshot)) shows ok
 restored_as once contents shown (Err EmptyChain) shows ok none good = once contents shown None shows (none refl)
 restored_as once contents shown (Err (Damaged slot reason)) shows ok none good = good
@@ -24,7 +24,7 @@ restored_as once contents shown (Err OutOfMemory) shows ok none good = tt
 pub is_restored : ShownOnce → (contents : List (List ℕ)) (base : Base) (history : History) (result : Result Snapshot Fault)
     → IfOk result (λ snapshot. Shows contents (Some (snapshot.checkpoint, memory_of snapshot)))
     → (IsErrOf result EmptyChain → Shows contents None)
-    → ((shown : Shown) → Shows contents shown → IfErr result (Names (λ slot reason. ⊥)))
+    → ((shown : Shown) → Shows contents shown → IfErr result (FaultNames (λ slot reason. ⊥)))
     → ShowsAllowed base history contents → IsRestored base history result
 is_restored once contents base history result ok none good allowed = record {
   shown = allowed.shown;

@@ -16,7 +16,7 @@ use Rattle.sd_crash_safety.specs.View.{CoreView, history_of}
 use Rattle.sd_core.specs.declared.taken.Taken.TheVariants.{Step}
 use Rattle.sd_core.specs.Called.{IsTakenUp}
 use Rattle.sd_core.specs.Grown.{has_swept}
-use Rattle.sd_core.specs.Opening.{IsExpected, awaited}
+use Rattle.sd_core.specs.Opening.{IsExpected, awaited_checkpoint}
 use Rattle.sd_core.specs.Refusals.{work_refusal}
 use Rattle.sd_world.specs.declared.event.Event.TheVariants.{Perform, Reopen, Trim, Work}
 use Rattle.sd_world.specs.Adds.{AddsByPerform, AddsByWork}
@@ -83,7 +83,7 @@ either false n = refl
 -- the store is open, what was found is its last checkpoint or the awaited one, and its entry is added
 record Opens (old : CoreView) (m : Option ℕ) (new : CoreView) : Type 0 where
   stands : new.standing ≡ Open
-  expected : IsExpected (last_number old.base (history_of old)) (awaited old) m
+  expected : IsExpected (last_number old.base (history_of old)) (awaited_checkpoint old) m
   entry : history_of new ≡ entry.Reopened m ∷ history_of old
 
 taken_opens : (old : CoreView) (m : Option ℕ) (new : CoreView) → IsTakenUp Opener old (Step (reply.Reopened m)) new → Opens old m new
@@ -154,7 +154,7 @@ module _ {D : Type 0} (g : Ghosts D) where
 
   -- ---- behind an opening
 
-  none_awaited : (core : CoreView) → history_of core ≡ [] → awaited core ≡ None
+  none_awaited : (core : CoreView) → history_of core ≡ [] → awaited_checkpoint core ≡ None
   none_awaited core none = ap (λ history. if has_swept core.items then pending history else None) none ∙ either (has_swept core.items) None
 
   -- what was found is the number of the base, which stays; the store is open, and the journal has the one entry of that
@@ -164,7 +164,7 @@ module _ {D : Type 0} (g : Ghosts D) where
     pub stands : world.core.standing ≡ Open
     pub journal : history_of world.core ≡ entry.Reopened world.core.base.number ∷ []
 
-  finds_base : (core : CoreView) (m : Option ℕ) → history_of core ≡ [] → IsExpected (last_number core.base (history_of core)) (awaited core) m
+  finds_base : (core : CoreView) (m : Option ℕ) → history_of core ≡ [] → IsExpected (last_number core.base (history_of core)) (awaited_checkpoint core) m
       → m ≡ core.base.number
   finds_base core m none expected =
       elim expected [

@@ -65,5 +65,5 @@ AddsBy Reopen core answer old new = AddsByOrder answer old new
 AddsBy Trim core answer old new = AddsByTrim answer old new
 
 -- what an event with this reply adds to the journal of a core, or takes from its front
-abbrev pub Adds : Event → Reply → CoreView → CoreView → Type 0
-Adds event answer old new = AddsBy event old answer (history_of old) (history_of new)
+abbrev pub AddsToJournal : Event → Reply → CoreView → CoreView → Type 0
+AddsToJournal event answer old new = AddsBy event old answer (history_of old) (history_of new)

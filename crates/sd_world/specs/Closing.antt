@@ -11,7 +11,7 @@ use Rattle.sd_world.specs.Merges.{AreCutThere, IsMergedThere}
 use Rattle.sd_world.specs.View.{WorldView}
 
 -- a merge closes images; its own image, of this serial, is in this slot
-pub record IsClosing (core : CoreView) (slot serial : ℕ) : Type 0 where
+pub record MergeCloses (core : CoreView) (slot serial : ℕ) : Type 0 where
   pub merge : merger.Running
   pub r : Retiring
   pub runs : core.merger ≡ Some merge
@@ -28,11 +28,11 @@ pub record EntersIn {D : Type 0} (g : Ghosts D) (old new : WorldView D) (slot se
 
 -- it did so before, or its image enters
 abbrev pub ComesToClose : {D : Type 0} → Ghosts D → WorldView D → WorldView D → ℕ → ℕ → Type 0
-ComesToClose g old new slot serial = IsClosing old.core slot serial ⊎ EntersIn g old new slot serial
+ComesToClose g old new slot serial = MergeCloses old.core slot serial ⊎ EntersIn g old new slot serial
 
 -- a merge that closes images behind an event came to it so
 abbrev pub ClosesBehind : {D : Type 0} → Ghosts D → WorldView D → WorldView D → Type 0
-ClosesBehind g old new = (slot serial : ℕ) → IsClosing new.core slot serial → ComesToClose g old new slot serial
+ClosesBehind g old new = (slot serial : ℕ) → MergeCloses new.core slot serial → ComesToClose g old new slot serial
 
 -- and so did one that ends with it; each slot of its list then has a file of one byte, with a closed gate
 pub record EndsIn {D : Type 0} (g : Ghosts D) (old new : WorldView D) (serial : ℕ) : Type 0 where

@@ -8,7 +8,7 @@ use Rattle.sd_merge.specs.Merger.{Retiring, list_of, retiring}
 use Rattle.sd_crash_safety.specs.View.{CoreView}
 use Rattle.sd_core.specs.Merging.{OpensMerged}
 use Rattle.sd_world.specs.declared.event.Event.{Event}
-use Rattle.sd_world.specs.Closing.{IsClosing}
+use Rattle.sd_world.specs.Closing.{MergeCloses}
 use Rattle.sd_world.specs.Merges.{AreCutThere, IsMergedThere}
 use Rattle.sd_world.specs.Runs.{IsStep, Runs}
 use Rattle.sd_world.specs.View.{WorldView}
@@ -37,7 +37,7 @@ pub record EnteredWithin {D : Type 0} (g : Ghosts D) (first : WorldView D) (even
 
 -- no merge closes images
 abbrev pub ClosesNone : CoreView → Type 0
-ClosesNone core = (slot serial : ℕ) → IsClosing core slot serial → ⊥
+ClosesNone core = (slot serial : ℕ) → MergeCloses core slot serial → ⊥
 
 -- where a merge has ended, its image stands, and the images of its list are closed and cut
 pub record HasMerged {D : Type 0} (g : Ghosts D) (first : WorldView D) (events : List Event) (answers : List Reply)

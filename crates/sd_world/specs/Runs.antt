@@ -9,7 +9,7 @@ use Rattle.sd_crash_safety.specs.Shown.{ShowsAllowed}
 use Rattle.sd_crash_safety.specs.View.{history_of}
 use Rattle.sd_world.specs.declared.event.Event.{Event}
 use Rattle.sd_world.specs.declared.event.Event.TheVariants.{Trim}
-use Rattle.sd_world.specs.Adds.{Adds}
+use Rattle.sd_world.specs.Adds.{AddsToJournal}
 use Rattle.sd_world.specs.Closing.{ClosesBehind, EndsBehind}
 use Rattle.sd_world.specs.Copied.{DoesCopy}
 use Rattle.sd_world.specs.KeptCheckpoint.{KeepsCheckpoint}
@@ -25,7 +25,7 @@ use Rattle.sd_world.specs.View.{WorldView}
 pub record IsStep {D : Type 0} (g : Ghosts D) (event : Event) (old : WorldView D) (answer : Reply)
     (new : WorldView D) : Type 0 where
   pub does : Does g event old answer new
-  pub adds : Adds event answer old.core new.core
+  pub adds : AddsToJournal event answer old.core new.core
   pub little : DoesLittle event old answer new
   -- the checkpoint that runs behind it is the one that ran before, or the one that it began
   pub checkpoint : KeepsCheckpoint event answer old.core new.core

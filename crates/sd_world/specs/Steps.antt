@@ -14,11 +14,11 @@ use Rattle.sd_gate.specs.declared.answer.Answer.TheVariants.{Done, Len, Failed}
 use Rattle.sd_gate.specs.declared.phase.Phase.{Phase}
 use Rattle.sd_gate.specs.declared.request_id.RequestId.{RequestId}
 use Rattle.sd_gate.specs.declared.worker.Worker.{Worker}
-use Rattle.sd_gate.specs.Calls.{HasCause, IsAnswerTo, Tells, is_done}
+use Rattle.sd_gate.specs.Calls.{AnswerHasCause, CallTells, IsAnswerTo, is_done}
 use Rattle.sd_gate.specs.Fits.{SlotFits}
 use Rattle.sd_gate.specs.Phases.{after, body_after, is_ready}
 use Rattle.sd_gate.specs.Requests.{Asked, Made}
-use Rattle.sd_crash_safety.specs.Calls.{GoesOn}
+use Rattle.sd_crash_safety.specs.Calls.{StaysBelieved}
 use Rattle.sd_crash_safety.specs.Laws.{IsMadeOf}
 use Rattle.sd_crash_safety.specs.View.{CoreView}
 use Rattle.sd_core.specs.declared.taken.Taken.TheVariants.{Step as StepTaken, Call as CallTaken}
@@ -59,7 +59,7 @@ pub data TakesUp (worker : Worker) (old : CoreView) (kept : List Kept) (answer :
       → TakesUp worker old kept answer new later
 
 -- the outcome in this lane is handed in, and not kept any more
-pub record HandsIn (lane : ℕ) (old : CoreView) (kept : List Kept) (made : Made) (answer : Reply) (new : CoreView)
+pub record HandsInKept (lane : ℕ) (old : CoreView) (kept : List Kept) (made : Made) (answer : Reply) (new : CoreView)
     (later : List Kept) : Type 0 where
   pub does : IsHandedIn made answer old new
   pub left : later ≡ slice_set kept lane Nothing
@@ -71,7 +71,7 @@ pub record HandsInAt (worker : Worker) (place : ℕ) (old : CoreView) (kept : Li
   pub at : IsAt kept its.Made worker place lane
   pub made : Made
   pub is : slice_get kept lane ≡ Some (Outcome made)
-  pub hands : HandsIn lane old kept made answer new later
+  pub hands : HandsInKept lane old kept made answer new later
 
 -- refused as idle, and nothing changes
 pub record IsUnasked (old : CoreView) (kept : List Kept) (answer : Reply) (new : CoreView)
@@ -96,14 +96,14 @@ pub data HandsInIfAny (worker : Worker) (place : ℕ) (old : CoreView) (kept : L
 
 -- ---- a device call
 
-abbrev pub reply_of : Answer → Reply
-reply_of Done = reply.Worked
-reply_of (Len len) = reply.Worked
-reply_of Failed = reply.Refused Device
+abbrev pub reply_of_answer : Answer → Reply
+reply_of_answer Done = reply.Worked
+reply_of_answer (Len len) = reply.Worked
+reply_of_answer Failed = reply.Refused Device
 
 -- worked where the device did it, and refused where it failed
-abbrev pub IsAnswered : ℕ → ℕ → Reply → Type 0
-IsAnswered before now answer =
+abbrev pub IsAnsweredByDevice : ℕ → ℕ → Reply → Type 0
+IsAnsweredByDevice before now answer =
     ((answer ≡ reply.Worked) × (now ≡ before)) ⊎ ((answer ≡ reply.Refused Device) × (before < now))
 
 -- the call of a request is made, and no other
@@ -112,7 +112,7 @@ pub record IsPerformed {D : Type 0} (g : Ghosts D) (request : Asked) (old : D) (
   pub count : length (g.contents new) ≡ length (g.contents old)
   pub answers : is_done made.answer ≡ true → IsAnswerTo request.id.call made.answer
   pub tells : g.is_honest new → is_done made.answer ≡ true
-      → Tells request.id.call (file_at (g.contents old) request.id.slot) made.answer made.request.bytes
+      → CallTells request.id.call (file_at (g.contents old) request.id.slot) made.answer made.request.bytes
   pub others : (other : ℕ) → other ≢ request.id.slot → file_at (g.contents new) other ≡ file_at (g.contents old) other
   pub fits : (phase : Phase) (body : List ℕ) → is_ready phase request.id.call ≡ true
       → SlotFits phase body request.id.slot (g.contents old) (g.may_leave old)
@@ -123,7 +123,7 @@ pub record IsPerformed {D : Type 0} (g : Ghosts D) (request : Asked) (old : D) (
       → SlotFits phase body other (g.contents old) (g.may_leave old)
       → SlotFits phase body other (g.contents new) (g.may_leave new)
   pub one_call : IsOneCall g old new
-  pub cause : HasCause (g.failed old) (g.failed new) made.answer
+  pub cause : AnswerHasCause (g.failed old) (g.failed new) made.answer
 
 -- the request that is kept in this lane is performed, and its outcome kept
 pub record KeepsOutcome {D : Type 0} (g : Ghosts D) (lane : ℕ) (request : Asked) (old : D) (kept : List Kept)
@@ -131,7 +131,7 @@ pub record KeepsOutcome {D : Type 0} (g : Ghosts D) (lane : ℕ) (request : Aske
   pub made : Made
   pub performed : IsPerformed g request old made new
   pub left : later ≡ slice_set kept lane (Outcome made)
-  pub replied : answer ≡ reply_of made.answer
+  pub replied : answer ≡ reply_of_answer made.answer
 
 -- the request of the worker at this place is performed
 pub record PerformsAt {D : Type 0} (g : Ghosts D) (worker : Worker) (place : ℕ) (old : D) (kept : List Kept)
@@ -179,7 +179,7 @@ pub record IsCommand {D : Type 0} (seat : ℕ) (command : CommandOf) (old : Worl
 -- a trim touches the base and the journal of the core alone, and what that believes of the store stays
 pub record IsTrim {D : Type 0} (old : WorldView D) (answer : Reply) (new : WorldView D) : Type 0 where
   pub trims : TrimsJournal old.core answer new.core
-  pub goes_on : (asked : List (Option Asked)) → GoesOn old.core asked new.core asked
+  pub goes_on : (asked : List (Option Asked)) → StaysBelieved old.core asked new.core asked
   pub disk : new.disk ≡ old.disk
   pub kept : new.kept ≡ old.kept
 

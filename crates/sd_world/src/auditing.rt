@@ -5,7 +5,7 @@ ghost use Rattle.sd_crash_safety.specs.Shown.{ShowsAllowed};
 ghost use Rattle.sd_crash_safety.specs.View.{history_of};
 ghost use Rattle.sd_disk.specs.Reads.{OnlyReads};
 ghost use Rattle.sd_image.specs.Shows.{Shows};
-ghost use Rattle.sd_restore.specs.Faulty.{IsBrokenChain, IsDamage, Names};
+ghost use Rattle.sd_restore.specs.Faulty.{FaultNames, IsBrokenChain, IsDamage};
 
 use sd_audit::audit as audit_entries;
 use sd_core::Core;
@@ -25,12 +25,12 @@ pub fn audit<D: Disk>(alloc: Global, core: &Core, disk: &mut D) -> Result<bool, 
     ensures exact { D.is_honest disk.new → IfOk result (λ told. IsTrue told
         ↔ ShowsAllowed core.now.base (history_of core.now) (D.contents disk.old)) }
     ensures damaged { D.is_honest disk.new
-        → IfErr result (Names
+        → IfErr result (FaultNames
         (λ slot reason. IsDamage (D.contents disk.old) slot reason
         ⊎ IsBrokenChain (D.contents disk.old) slot reason)) }
     // Contents that show something are never called damaged.
     ensures good { D.is_honest disk.new → (shown : Option (ℕ × PlainMemory))
-        → Shows (D.contents disk.old) shown → IfErr result (Names (λ _ _. ⊥)) }
+        → Shows (D.contents disk.old) shown → IfErr result (FaultNames (λ _ _. ⊥)) }
     ensures saved { result ≢ Err Fault.EmptyChain }
     ensures reads { OnlyReads D.Disk disk.old disk.new }
     ensures device { IsErrOf result Fault.Device → D.failed disk.old < D.failed disk.new }

@@ -2,9 +2,9 @@
 ghost use Rattle.std.specs.Prelude.{◌≡◌, ◌<◌, ℕ, List, Option, Some, length, slice_get};
 ghost use Rattle.sd_gate.specs.Requests.{Asked, Made};
 ghost use Rattle.sd_gate.specs.Lanes.{IsInLane};
-ghost use Rattle.sd_crash_safety.specs.Calls.{GoesOn};
-ghost use Rattle.sd_world.specs.Steps.{Does, HandsIn, HandsInIfAny, KeepsOutcome, KeepsRequest, Performs, TakesUp};
-ghost use Rattle.sd_world.specs.Steps.{Works, answer_of, reply_of};
+ghost use Rattle.sd_crash_safety.specs.Calls.{StaysBelieved};
+ghost use Rattle.sd_world.specs.Steps.{Does, HandsInIfAny, HandsInKept, KeepsOutcome, KeepsRequest, Performs, TakesUp};
+ghost use Rattle.sd_world.specs.Steps.{Works, answer_of, reply_of_answer};
 ghost use Rattle.sd_world.specs.Trims.{TrimsJournal};
 ghost use Rattle.sd_world.specs.declared.kept.Kept.TheVariants.{Outcome as OutcomeKept, Request as RequestKept};
 
@@ -28,7 +28,7 @@ pub(crate) fn answer_of(told: Result<(u64, Reply), Refusal>) -> Reply
 
 /// How a device call is answered.
 fn reply_of(answer: Answer) -> Reply
-    ensures { result ≡ reply_of answer }
+    ensures { result ≡ reply_of_answer answer }
 {
     match answer {
         Answer::Done | Answer::Len(_) => Reply::Worked,
@@ -64,7 +64,7 @@ fn take_up(core: &mut Core, kept: &mut Lanes, worker: Worker) -> Reply
 fn hand_in(core: &mut Core, kept: &mut Lanes, lane: usize) -> Reply
     requires within { lane < 11 }
     ensures { (made : Made) → slice_get kept.old lane ≡ Some (OutcomeKept made)
-        → HandsIn lane core.old kept.old made result core.new kept.new }
+        → HandsInKept lane core.old kept.old made result core.new kept.new }
 {
     match kept.take(lane) {
         Kept::Outcome(outcome) => core.hand_in(outcome),
@@ -127,7 +127,7 @@ fn perform_at<D: Disk>(disk: &mut D, kept: &mut Lanes, worker: Worker, place: u6
 /// Trims the core's journal, and answers how many entries were folded. They are dropped.
 fn trim(core: &mut Core) -> Reply
     ensures trims { TrimsJournal core.old result core.new }
-    ensures goes_on { (asked : List (Option Asked)) → GoesOn core.old asked core.new asked }
+    ensures goes_on { (asked : List (Option Asked)) → StaysBelieved core.old asked core.new asked }
 {
     match core.trim() {
         Ok(folded) => Reply::Trimmed(folded.entries.len() as u64),

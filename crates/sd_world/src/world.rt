@@ -17,7 +17,7 @@ ghost use Rattle.sd_crash_safety.specs.Shown.{ShowsAllowed};
 ghost use Rattle.sd_crash_safety.specs.View.{history_of};
 ghost use Rattle.sd_world.specs.declared.event.Event.TheVariants.{HandInAt, Perform, PerformAt, TakeUp, Trim, Work};
 ghost use Rattle.sd_world.specs.Acked.{DoesAck, HasPreDumpsThere};
-ghost use Rattle.sd_world.specs.Adds.{Adds};
+ghost use Rattle.sd_world.specs.Adds.{AddsToJournal};
 ghost use Rattle.sd_world.specs.Begun.{RunsAsBegun};
 ghost use Rattle.sd_world.specs.Closing.{ClosesBehind, EndsBehind};
 ghost use Rattle.sd_world.specs.Copied.{DoesCopy};
@@ -31,7 +31,7 @@ ghost use Rattle.sd_world.specs.Promise.{Goes, Point};
 ghost use Rattle.sd_world.specs.Refused.{GoesOnUnless};
 ghost use Rattle.sd_world.specs.Restored.{IsRestored};
 ghost use Rattle.sd_world.specs.Runs.{Runs, ShowsAllowedWithin, ShowsReply};
-ghost use Rattle.sd_world.specs.Steps.{Does, IsAnswered, LeavesLess};
+ghost use Rattle.sd_world.specs.Steps.{Does, IsAnsweredByDevice, LeavesLess};
 ghost use Rattle.sd_world.specs.Tickets.{HasOwnTickets, TicketsLast};
 ghost use Rattle.sd_world.specs.View.{asked_count, is_asked, nothing_kept};
 
@@ -270,7 +270,7 @@ impl<D: Disk> World<D> {
         // A device call is answered by how it ended, and no other event touches the disk.
         ensures device { (worker : WorkerKind) → event.now ≡ Perform worker
             → is_asked self.old.kept worker ≡ true
-            → IsAnswered (D.failed self.old.disk) (D.failed self.new.disk) result }
+            → IsAnsweredByDevice (D.failed self.old.disk) (D.failed self.new.disk) result }
         ensures quiet { ((worker : WorkerKind) → event.now ≢ Perform worker)
             → ((worker : WorkerKind) (place : ℕ) → event.now ≢ PerformAt worker place)
             → self.new.disk ≡ self.old.disk }
@@ -310,7 +310,7 @@ impl<D: Disk> World<D> {
         ensures jobs { D.is_honest self.new.disk → GoesOnUnless event.now self.old result }
 
         // What it adds to the journal, or takes from it. What the run goes on from stays, but by a trim.
-        ensures adds { Adds event.now result self.old.core self.new.core }
+        ensures adds { AddsToJournal event.now result self.old.core self.new.core }
         ensures base { event.now ≢ Trim → self.new.core.base ≡ self.old.core.base }
         // The journal is legal, the memory is the one that it makes, and its bits are those that commands and visits
         // give.

@@ -1,6 +1,6 @@
 //! A feeder that puts errands with rising tickets.
 ghost use Rattle.std.specs.Prelude.{◌≡◌, ◌+◌, length, cond};
-ghost use Rattle.sd_relay.specs.Fronts.{put_into, Stays};
+ghost use Rattle.sd_relay.specs.Fronts.{put_into, StaysOnChannel};
 
 use sd_gate::{Plan, Request, SlotState, Worker};
 use sd_relay::{Errand, Feeder, Front};
@@ -34,7 +34,7 @@ fn request(ticket: u64) -> Option<Request> {
 
 /// Puts the errand with this ticket, again and again where it is handed back. Returns whether it was put.
 fn send<R: Wait>(rt: &R, front: &mut Front, ticket: u64, tries: u64) -> bool
-    ensures stays { Stays front.old front.new }
+    ensures stays { StaysOnChannel front.old front.new }
     ensures put { length (put_into front.new) ≡ length (put_into front.old) + cond result 1 0 }
 {
     let Some(request) = request(ticket) else {
@@ -56,7 +56,7 @@ fn send<R: Wait>(rt: &R, front: &mut Front, ticket: u64, tries: u64) -> bool
 
 /// Puts the errands with the tickets from 1 on. Returns how many were put.
 fn send_all<R: Wait>(rt: &R, front: &mut Front, last: u64, tries: u64) -> u64
-    ensures stays { Stays front.old front.new }
+    ensures stays { StaysOnChannel front.old front.new }
     ensures put { length (put_into front.new) ≡ length (put_into front.old) + result }
 {
     let mut sent = 0u64;

@@ -3,7 +3,6 @@ ghost use Rattle.sd_core.specs.Called.{IsApplied};
 
 use super::Core;
 use crate::answering::answer;
-use crate::copies::copy_command;
 use sd_command::{Command, Refusal, Reply};
 use sd_crash_safety::core_steps;
 use sd_journal::{Entry, tracked_laws};
@@ -26,7 +25,7 @@ impl Core {
         if free == 0 {
             return Err(Refusal::JournalFull);
         }
-        let Ok(command) = copy_command(self.alloc, command) else {
+        let Ok(command) = command.try_clone() else {
             return Err(Refusal::OutOfMemory);
         };
         self.apply_owned(seat, command)

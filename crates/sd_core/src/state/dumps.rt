@@ -17,7 +17,7 @@ ghost use Rattle.sd_core.specs.Merging.{OpensMerged};
 ghost use Rattle.sd_core.specs.Refusals.{is_idle, work_refusal};
 ghost use Rattle.sd_core.specs.Rounds.{OpensItsGate, SameRound, TurnsRound};
 ghost use Rattle.sd_core.specs.Starts.{TakesUp};
-ghost use Rattle.sd_core.specs.Working.{Leaves, LeavesByOutcome};
+ghost use Rattle.sd_core.specs.Working.{LeavesByOutcome, LeavesByWork};
 ghost use Rattle.sd_gate.specs.Calls.{is_done};
 
 use super::Core;
@@ -42,7 +42,7 @@ impl Core {
         ensures takes { TakesUp self.old its.Dumper result self.new }
         ensures flags { FlagsByStep self.old its.Dumper result self.new }
         ensures beside { StepsBeside its.Dumper self.old result self.new }
-        ensures leaves { Leaves self.old its.Dumper result self.new }
+        ensures leaves { LeavesByWork self.old its.Dumper result self.new }
         ensures round { SameRound self.old.dumper.running self.new.dumper.running }
         ensures merger { self.new.merger ≡ self.old.merger }
     {
@@ -63,7 +63,7 @@ impl Core {
         ensures takes { TakesUp self.old its.Dumper result self.new }
         ensures flags { FlagsByStep self.old its.Dumper result self.new }
         ensures beside { StepsBeside its.Dumper self.old result self.new }
-        ensures leaves { Leaves self.old its.Dumper result self.new }
+        ensures leaves { LeavesByWork self.old its.Dumper result self.new }
         ensures round { SameRound self.old.dumper.running self.new.dumper.running }
         ensures merger { self.new.merger ≡ self.old.merger }
     {
@@ -112,7 +112,7 @@ impl Core {
         ensures takes { TakesUp self.old its.Dumper result self.new }
         ensures flags { FlagsByStep self.old its.Dumper result self.new }
         ensures beside { StepsBeside its.Dumper self.old result self.new }
-        ensures leaves { Leaves self.old its.Dumper result self.new }
+        ensures leaves { LeavesByWork self.old its.Dumper result self.new }
         ensures round { SameRound self.old.dumper.running self.new.dumper.running }
         ensures merger { self.new.merger ≡ self.old.merger }
     {

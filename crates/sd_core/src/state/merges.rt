@@ -15,7 +15,7 @@ ghost use Rattle.sd_core.specs.Merging.{EndsCut, EntersAsCopy, EntersAtRest, Fix
 ghost use Rattle.sd_core.specs.Merging.{MergesAs, merge_refusal};
 ghost use Rattle.sd_core.specs.Refusals.{is_idle, work_refusal};
 ghost use Rattle.sd_core.specs.Starts.{TakesUp};
-ghost use Rattle.sd_core.specs.Working.{FindsSource, Leaves, LeavesByOutcome};
+ghost use Rattle.sd_core.specs.Working.{FindsSource, LeavesByOutcome, LeavesByWork};
 
 use super::Core;
 use crate::beginning::{first_of, has_tip, is_down, is_not_open};
@@ -92,7 +92,7 @@ impl Core {
         ensures takes { TakesUp self.old its.Merger result self.new }
         ensures flags { FlagsByStep self.old its.Merger result self.new }
         ensures beside { StepsBeside its.Merger self.old result self.new }
-        ensures leaves { Leaves self.old its.Merger result self.new }
+        ensures leaves { LeavesByWork self.old its.Merger result self.new }
         ensures lasts { MergeLasts self.old self.new }
         ensures fixes { FixesNoList self.old self.new }
         ensures finds { FindsSource self.old result }
@@ -113,7 +113,7 @@ impl Core {
         ensures takes { TakesUp self.old its.Merger result self.new }
         ensures flags { FlagsByStep self.old its.Merger result self.new }
         ensures beside { StepsBeside its.Merger self.old result self.new }
-        ensures leaves { Leaves self.old its.Merger result self.new }
+        ensures leaves { LeavesByWork self.old its.Merger result self.new }
         ensures lasts { MergeLasts self.old self.new }
         ensures fixes { FixesNoList self.old self.new }
         ensures finds { FindsSource self.old result }
@@ -149,7 +149,7 @@ impl Core {
         ensures takes { TakesUp self.old its.Merger result self.new }
         ensures flags { FlagsByStep self.old its.Merger result self.new }
         ensures beside { StepsBeside its.Merger self.old result self.new }
-        ensures leaves { Leaves self.old its.Merger result self.new }
+        ensures leaves { LeavesByWork self.old its.Merger result self.new }
         ensures lasts { MergeLasts self.old self.new }
         ensures fixes { FixesNoList self.old self.new }
         ensures finds { FindsSource self.old result }

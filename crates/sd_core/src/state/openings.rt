@@ -12,7 +12,7 @@ ghost use Rattle.sd_core.specs.Opening.{IsAllRead, OpensBelieved, OpensOwn, Refu
 ghost use Rattle.sd_core.specs.Opening.{RefusesRightly, RefusesStrange};
 ghost use Rattle.sd_core.specs.Refusals.{work_refusal};
 ghost use Rattle.sd_core.specs.Starts.{TakesUp};
-ghost use Rattle.sd_core.specs.Working.{Leaves, LeavesByOutcome, LeavesByStep};
+ghost use Rattle.sd_core.specs.Working.{LeavesByOutcome, LeavesByStep, LeavesByWork};
 ghost use Rattle.sd_core.specs.declared.taken.Taken.TheVariants as taken;
 
 use super::Core;
@@ -40,7 +40,7 @@ impl Core {
         ensures scans { RefusesAsScan self.old result }
         ensures opens { OpensBelieved self.old result }
         ensures shows { OpensOwn self.old result }
-        ensures leaves { Leaves self.old its.Opener result self.new }
+        ensures leaves { LeavesByWork self.old its.Opener result self.new }
         ensures merger { self.new.merger ≡ self.old.merger }
     {
         opener_steps();

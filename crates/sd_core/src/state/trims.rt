@@ -2,7 +2,7 @@
 ghost use Rattle.std.specs.Prelude.{◌≡◌, None, Some, Err, ℕ};
 ghost use Rattle.sd_command.specs.declared.refusal.Refusal.TheVariants.{Idle};
 ghost use Rattle.sd_journal.specs.History.{last};
-ghost use Rattle.sd_crash_safety.specs.Calls.{GoesOn};
+ghost use Rattle.sd_crash_safety.specs.Calls.{StaysBelieved};
 ghost use Rattle.sd_crash_safety.specs.View.{history_of};
 ghost use Rattle.sd_core.specs.Flags.{KeepsFlags};
 ghost use Rattle.sd_core.specs.Trims.{Trims, unfolded};
@@ -32,7 +32,7 @@ impl Core {
             → Trims n self.old result self.new }
         ensures flags { KeepsFlags self.old self.new }
         // It believes of its store what it believed.
-        ensures goes_on { (asked : _) → GoesOn self.old asked self.new asked }
+        ensures goes_on { (asked : _) → StaysBelieved self.old asked self.new asked }
     {
         trim_step();
         trim_laws();

@@ -15,7 +15,7 @@ use sd_tables::Entry;
 impl Memory {
     ghost use Rattle.sd_areas.specs.Pages.{page_of};
     ghost use Rattle.sd_pagetable.specs.Nested.{value_at};
-    ghost use Rattle.sd_pagetable.specs.Page.{Page};
+    ghost use Rattle.sd_pagetable.specs.Page.{PageState};
     ghost use Rattle.sd_pagetable.specs.Contents.{page_at, plain_of};
     ghost use Rattle.sd_pagetable.specs.Effects.{after_store};
     ghost use Rattle.sd_pagetable.specs.Due.{answer, Answers, needs_frame, page_due, access_due, fault_due, store_due};
@@ -95,7 +95,7 @@ impl Memory {
         ensures due { result
             ≡ answer (access_due (plain_of self.now) space address (length buffer.old) Read) tt }
         ensures bytes { OnOk result
-            (IfSome (page_at self.now space (page_of address)) (λ (page : Page).
+            (IfSome (page_at self.now space (page_of address)) (λ (page : PageState).
             buffer.new ≡ slice_range page.bytes (address % 4096)
             (address % 4096 + length buffer.old))) }
         ensures err { OnErr result (buffer.new ≡ buffer.old) }

@@ -8,7 +8,7 @@ use std::ops::Bound;
 
 impl Memory {
     ghost use Rattle.std.specs.Option.{option_map};
-    ghost use Rattle.sd_pagetable.specs.Page.{Page};
+    ghost use Rattle.sd_pagetable.specs.Page.{PageState};
     ghost use Rattle.sd_pagetable.specs.Contents.{page_at, plain_of, word_at, IsSound};
     ghost use Rattle.sd_pagetable.specs.Tracking.{Step, Cleared};
     ghost use Rattle.sd_pagetable.specs.Order.{IsNextPage, IsFirstPage, IsFirstIn};
@@ -18,7 +18,7 @@ impl Memory {
     /// writable bit, as writing `4` to `clear_refs` does. It takes no memory.
     pub fn test_and_clear(&mut self, space: SpaceId, page: PageNo) -> Option<bool>
         ensures bit { result
-            ≡ option_map (λ (before : Page). before.soft_dirty) (page_at self.old space page) }
+            ≡ option_map (λ (before : PageState). before.soft_dirty) (page_at self.old space page) }
         ensures step { IfSome result (λ _. Step self.old (Cleared space page) self.new) }
         ensures memory { plain_of self.new ≡ plain_of self.old }
         ensures none { result ≡ None → self.new ≡ self.old }
@@ -41,8 +41,8 @@ impl Memory {
         requires { sector < 8 }
         ensures mapped { result ≡ is_some (page_at self.now space page) }
         ensures whole { IfSome (page_at self.now space page)
-            (λ (found : Page). length found.bytes ≡ 4096) }
-        ensures bytes { IfSome (page_at self.now space page) (λ (found : Page).
+            (λ (found : PageState). length found.bytes ≡ 4096) }
+        ensures bytes { IfSome (page_at self.now space page) (λ (found : PageState).
             bytes.new ≡ slice_range found.bytes (512 * sector) (512 * sector + 512)) }
         ensures none { result ≡ false → bytes.new ≡ bytes.old }
     {
@@ -59,8 +59,8 @@ impl Memory {
         requires { sector < 8 }
         ensures mapped { is_some result ≡ is_some (page_at self.now space page) }
         ensures whole { IfSome (page_at self.now space page)
-            (λ (found : Page). length found.bytes ≡ 4096) }
-        ensures bytes { IfSome result (λ bytes. IfSome (page_at self.now space page) (λ (found : Page).
+            (λ (found : PageState). length found.bytes ≡ 4096) }
+        ensures bytes { IfSome result (λ bytes. IfSome (page_at self.now space page) (λ (found : PageState).
             bytes.now ≡ slice_range found.bytes (512 * sector) (512 * sector + 512))) }
         ensures length { IfSome result (λ bytes. length bytes.now ≡ 512) }
     {
@@ -81,8 +81,8 @@ impl Memory {
         requires { sector < 8 }
         ensures mapped { is_some result ≡ is_some (page_at self.now space page) }
         ensures whole { IfSome (page_at self.now space page)
-            (λ (found : Page). length found.bytes ≡ 4096) }
-        ensures bytes { IfSome result (λ part. IfSome (page_at self.now space page) (λ (found : Page).
+            (λ (found : PageState). length found.bytes ≡ 4096) }
+        ensures bytes { IfSome result (λ part. IfSome (page_at self.now space page) (λ (found : PageState).
             sector_bytes part ≡ slice_range found.bytes (512 * sector) (512 * sector + 512))) }
         ensures length { IfSome result (λ part. length (sector_bytes part) ≡ 512) }
     {

@@ -3,7 +3,8 @@ ghost use Rattle.std.specs.Prelude.{◌≡◌, ◌+◌, ◌<◌, ◌≤◌, ◌^
 ghost use Rattle.std.specs.Prelude.{IfSome};
 ghost use Rattle.std.specs.FinMap as finmap;
 ghost use Rattle.sd_pagetable.specs.Nested.{inside, is_alive};
-ghost use Rattle.sd_pagetable.specs.Page.{Page, fresh_page, shared_page, inherited_page, stored_page, changed_page};
+ghost use Rattle.sd_pagetable.specs.Page.{PageState, fresh_page, shared_page, inherited_page, stored_page};
+ghost use Rattle.sd_pagetable.specs.Page.{changed_page};
 ghost use Rattle.sd_pagetable.specs.Contents.{page_at, put_page, remove_page, is_full, page_count};
 ghost use Rattle.sd_pagetable.specs.Access.{stored_at};
 ghost use Rattle.std.specs.Prelude.{Err};
@@ -161,11 +162,11 @@ impl Paging {
     ) -> Result<(), AllocError>
         requires there { IsSome (page_at self.old space page) }
         requires fresh { IfSome (page_at self.old space page)
-            (λ (before : Page). (before.class ≡ None) × (before.writable ≡ false)) }
+            (λ (before : PageState). (before.class ≡ None) × (before.writable ≡ false)) }
         requires room { is_full self.old ≡ false }
         ensures { OnOk result
             (IfSome (page_at self.old space page)
-            (λ (before : Page). GivesFrame self.old space page before bytes.value self.new)) }
+            (λ (before : PageState). GivesFrame self.old space page before bytes.value self.new)) }
     {
         let Some(entry) = self.tables.get(space, page) else {
             return Ok(());
@@ -209,7 +210,7 @@ impl Paging {
         soft_dirty: bool,
     )
         requires { HasEntry self.old space page entry }
-        ensures { IfSome (page_at self.old space page) (λ (before : Page).
+        ensures { IfSome (page_at self.old space page) (λ (before : PageState).
             self.new ≡ put_page self.old space page
             (record before { prot = prot; writable = false; soft_dirty = soft_dirty })) }
     {
@@ -228,9 +229,9 @@ impl Paging {
     pub(crate) fn inherit(&mut self, parent: SpaceId, child: SpaceId, page: PageNo)
         requires apart { parent ≡ child → ⊥ }
         requires there { IsSome (page_at self.old parent page) }
-        requires fresh { IfSome (page_at self.old child page) (λ (own : Page). own.class ≡ None) }
+        requires fresh { IfSome (page_at self.old child page) (λ (own : PageState). own.class ≡ None) }
         requires mapped { IsSome (page_at self.old child page) }
-        ensures { IfSome (page_at self.old parent page) (λ (before : Page).
+        ensures { IfSome (page_at self.old parent page) (λ (before : PageState).
             self.new ≡ put_page (put_page self.old parent page (shared_page before)) child page
             (inherited_page before)) }
     {
@@ -258,7 +259,7 @@ impl Paging {
     ) -> Result<Entry, MemoryError>
         requires there { HasEntry self.old space page entry }
         requires permitted { IfSome (page_at self.old space page)
-            (λ (before : Page). before.prot.write ≡ true) }
+            (λ (before : PageState). before.prot.write ≡ true) }
         ensures writable { OnOk result
             (MakesWritable self.old space page (λ bytes. bytes) self.new) }
         ensures entry { IfOk result (λ made. HasEntry self.new space page made) }
@@ -292,7 +293,7 @@ impl Paging {
         requires there { HasEntry self.old space page entry }
         requires writable { entry.writable ≡ true }
         requires within { offset + length bytes.now ≤ 4096 }
-        ensures { IfSome (page_at self.old space page) (λ (before : Page).
+        ensures { IfSome (page_at self.old space page) (λ (before : PageState).
             self.new ≡ put_page self.old space page
             (stored_page before (stored_at before.bytes offset bytes.now))) }
     {

@@ -3,7 +3,7 @@ use Rattle.sd_chain.specs.Store.{IsCatalogOf}
 use Rattle.sd_restore.specs.declared.placed_run.PlacedRun.{PlacedRun}
 use Rattle.sd_image.specs.Table.{listing_of}
 use Rattle.sd_restore.specs.Placed.{IsInSlots, placed_pages}
-use Rattle.sd_elf.specs.Files.{Takes, placed_cores}
+use Rattle.sd_elf.specs.Files.{TakesFiles, placed_cores}
 use Rattle.sd_elf.proofs.FileLemmas.{takes_cores}
 use Rattle.sd_elf.proofs.write_core.write_shown.Goals as goal
 
@@ -26,4 +26,4 @@ returns-clause-cores g c = λ honest.
     let spaces = map listing_of placed.spaces.now in
     let pages = placed_pages placed.runs.items in
     takes_cores wanted contents placed.checkpoint spaces pages before after (c.in_ok-placed.ensures.shown contents catalog) (c.in_ok-placed.ensures.laid contents catalog)
-    (subst (λ contents. Takes before after (placed_cores wanted contents placed.checkpoint pages spaces)) same (c.in_ok-write_placed.ensures.taken honest))
+    (subst (λ contents. TakesFiles before after (placed_cores wanted contents placed.checkpoint pages spaces)) same (c.in_ok-write_placed.ensures.taken honest))

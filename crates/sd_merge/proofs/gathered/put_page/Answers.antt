@@ -5,7 +5,7 @@ use Rattle.std.proofs.lemmas.Result.{on_ok_weaker, on_err_weaker}
 use Rattle.sd_image.specs.declared.table.SpaceTable.{SpaceTable}
 use Rattle.sd_image.specs.Runs.{run_ways}
 use Rattle.sd_rounds.specs.Tables.{EndBefore, listed}
-use Rattle.sd_merge.specs.Gathered.{AreGathered, IsBegun, IsPut}
+use Rattle.sd_merge.specs.Gathered.{AreGathered, IsPut, SpaceIsBegun}
 use Rattle.sd_merge.proofs.GatheredLemmas.{first_space, next_space, longer_space, last_ends, last_runs, on_ok_both, same_listed, sourced}
 use Rattle.sd_merge.proofs.gathered.put_page.Goals as goal
 
@@ -16,7 +16,7 @@ returns-in_default-clause-put c = λ are.
     on_ok_weaker c.begin_space.result
     (λ begun. subst (λ (l : List SpaceTable). IsPut (listed l) (listed c.begin_space.new.spaces.items) (c.args.space, c.args.page) c.args.kind) (sym none)
     (first_space c.begin_space.new.spaces.items (c.args.space, c.args.page) c.args.kind
-    (subst (λ (l : List SpaceTable). IsBegun l c.begin_space.new.spaces.items (c.args.space, c.args.page) c.args.kind) left begun)))
+    (subst (λ (l : List SpaceTable). SpaceIsBegun l c.begin_space.new.spaces.items (c.args.space, c.args.page) c.args.kind) left begun)))
     c.begin_space.ensures.begun
 
 pub returns-in_default-clause-err : goal.returns-in_default-clause-err
@@ -31,7 +31,7 @@ returns-then-number-clause-put c = λ are.
     (subst (λ (l : List SpaceTable). AreGathered 0 (listed l)) c.in-Some.ensures.items are)
     (subst (λ (l : List SpaceTable). EndBefore (c.args.space, c.args.page) (listed l)) c.in-Some.ensures.items c.requires.behind)
     (λ e. c.if-number.true (c.number.ensures ∙ e ∙ sym c.number-2.ensures))
-    (subst (λ (l : List SpaceTable). IsBegun l c.begin_space-then-number.new.spaces.items (c.args.space, c.args.page) c.args.kind) c.in_ok-push.ensures.items begun)))
+    (subst (λ (l : List SpaceTable). SpaceIsBegun l c.begin_space-then-number.new.spaces.items (c.args.space, c.args.page) c.args.kind) c.in_ok-push.ensures.items begun)))
     c.begin_space-then-number.ensures.begun
 
 pub returns-then-number-clause-err : goal.returns-then-number-clause-err

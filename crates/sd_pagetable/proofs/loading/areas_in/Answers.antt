@@ -28,7 +28,7 @@ by_areas space es many some least h =
 Errs : {T : Type 0} → Result T MemoryError → List (ℕ × SnapshotPage) → Type 0
 Errs {T} r es = (e : MemoryError) × (r ≡ Err e) × ((e ≡ OutOfMemory) ⊎ ((e ≡ DeniedError (Refused Enomem)) × (nat_lt 1024 (length (areas_of (prots_of es))) ≡ true)))
 
-errs : {T : Type 0} (r : Result T MemoryError) (es : List (ℕ × SnapshotPage)) (area : AreaError) (e : MemoryError) → r ≡ Err e → e ≡ error_of area → area_calls.Answers (within_areas (prots_of es)) area → Errs r es
+errs : {T : Type 0} (r : Result T MemoryError) (es : List (ℕ × SnapshotPage)) (area : AreaError) (e : MemoryError) → r ≡ Err e → e ≡ error_of area → area_calls.RefusesAsDue (within_areas (prots_of es)) area → Errs r es
 unfolding Errs
 errs r es area e h g a = (e, h, subst (λ (x : MemoryError). (x ≡ OutOfMemory) ⊎ ((x ≡ DeniedError (Refused Enomem)) × (nat_lt 1024 (length (areas_of (prots_of es))) ≡ true))) (sym g) (within_err (prots_of es) area a))
 

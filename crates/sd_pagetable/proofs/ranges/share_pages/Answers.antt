@@ -1,7 +1,7 @@
 use Rattle.std.proofs.Common.{◌≡◌, Some, None, refl, sym, ap, subst, is_some}
 use Rattle.std.specs.Prelude.{IfSome}
 use Rattle.sd_pagetable.specs.Nested.{inside}
-use Rattle.sd_pagetable.specs.Page.{Page}
+use Rattle.sd_pagetable.specs.Page.{PageState}
 use Rattle.sd_pagetable.proofs.ForkLemmas.{shares_none, shares_next, shares_all, first_shared, less_remains, child_page, page_of_first}
 use Rattle.sd_pagetable.proofs.ranges.share_pages.Goals as goal
 
@@ -12,7 +12,7 @@ pub inherit-requires-clause-fresh : goal.inherit-requires-clause-fresh
 inherit-requires-clause-fresh c =
     let first = first_shared c.args.paging.now c.loop-page.paging c.args.parent c.args.child c.loop-page.start (Some c.in-Some.page) c.requires.apart c.loop-page.invariant.done c.in-Some.ensures in
     let x = page_of_first (inside c.args.paging.now.spaces c.args.parent) c.loop-page.start c.in-Some.page first in
-    subst (λ o. IfSome o (λ (own : Page). own.class ≡ None)) (sym (child_page c.args.paging.now c.loop-page.paging c.args.parent c.args.child c.in-Some.page c.loop-page.start x.0 c.loop-page.invariant.done first.1 x.1)) refl
+    subst (λ o. IfSome o (λ (own : PageState). own.class ≡ None)) (sym (child_page c.args.paging.now c.loop-page.paging c.args.parent c.args.child c.in-Some.page c.loop-page.start x.0 c.loop-page.invariant.done first.1 x.1)) refl
 
 pub inherit-requires-clause-mapped : goal.inherit-requires-clause-mapped
 inherit-requires-clause-mapped c =

@@ -2,7 +2,7 @@ use Rattle.std.proofs.Common.{◌≡◌, nat_eq, Bool, true, false, not, refl, s
 use Rattle.std.specs.Io.KnownBytes.{Appends}
 use Rattle.std.proofs.KnownBytes.{Appends-nil}
 use Rattle.sd_exit.specs.Ending.{OnFault}
-use Rattle.sd_exit.specs.Texts.{Begins}
+use Rattle.sd_exit.specs.Texts.{PrintsBeginning}
 use Rattle.sd_readers.proofs.PageLemmas.{lines_apart, lines_of_zeros, lines_within, same_printed}
 use Rattle.sd_readers.proofs.restore.print_in_space.Goals as goal
 
@@ -34,5 +34,5 @@ returns-in-Data-clause-text g c = λ honest.
 pub returns-in-Data-clause-begins : goal.returns-in-Data-clause-begins
 returns-in-Data-clause-begins g c = λ honest.
     let within = yet (nat_eq c.args.run.now.space c.args.space) (sym c.ne.ensures ∙ c.if-ne.false) in
-    subst (λ text. OnFault c.print_run.result (Begins (g.W.Write.contents c.args.out.now.writer) (g.W.Write.contents c.print_run.new.out.writer) text))
+    subst (λ text. OnFault c.print_run.result (PrintsBeginning (g.W.Write.contents c.args.out.now.writer) (g.W.Write.contents c.print_run.new.out.writer) text))
     (sym (lines_within (g.D.Disk.contents c.args.disk.now) c.args.space c.args.run.now within)) (c.print_run.ensures.begins honest)

@@ -8,7 +8,7 @@ use Rattle.std.specs.Io.KnownBytes.{Appends}
 use Rattle.sd_image.specs.Table.{listing_of}
 use Rattle.sd_restore.specs.Placed.{placed_pages}
 use Rattle.sd_readers.specs.Texts.{placed_memory_text}
-use Rattle.sd_exit.specs.Texts.{Begins}
+use Rattle.sd_exit.specs.Texts.{PrintsBeginning}
 use Rattle.sd_exit.proofs.EndingLemmas.{on_fault}
 use Rattle.sd_readers.proofs.MemoryTexts.{prints_memory}
 use Rattle.sd_readers.proofs.EndingLemmas.{on_ok}
@@ -59,6 +59,6 @@ returns-clause-begins g c = λ honest.
     (λ begun. inr (
       text,
       prints_memory contents (Some []) (Some text) placed.checkpoint spaces pages (c.in_ok-placed.ensures.shown contents catalog) (c.in_ok-placed.ensures.laid contents catalog) refl,
-      subst (λ contents. Begins from to (placed_memory_text contents placed.checkpoint spaces pages)) same begun,
+      subst (λ contents. PrintsBeginning from to (placed_memory_text contents placed.checkpoint spaces pages)) same begun,
     ))
     (c.print_placed.ensures.begins honest)

@@ -5,7 +5,7 @@ use Rattle.sd_areas.specs.Pages.{pages_from}
 use Rattle.sd_chain.specs.Chains.{IsChainOf}
 use Rattle.sd_chain.specs.Ways.{IsAbsent}
 use Rattle.sd_restore.specs.declared.placed_run.PlacedRun.{PlacedRun}
-use Rattle.sd_restore.specs.Faulty.{Names}
+use Rattle.sd_restore.specs.Faulty.{FaultNames}
 use Rattle.sd_restore.specs.Mapped.{mapped_with, area_mapped}
 use Rattle.sd_restore.specs.Placed.{MeetsBreak, ArePlaced, IsWithin, placed_pages}
 use Rattle.sd_restore.proofs.MappedLemmas.{contains-pages_from}
@@ -36,7 +36,7 @@ pub returns-in_err-found-clause-broken : goal.returns-in_err-found-clause-broken
 returns-in_err-found-clause-broken c = λ done was.
     let at : c.unwrap-first.result ≡ c.number.result + c.loop-placed.placed = search rules in
     let page : c.unwrap-first.result ≡ c.args.area.now.first + c.loop-placed.placed = at ∙ ap (λ n. n + c.loop-placed.placed) c.number.ensures.value in
-    let named : Names (MeetsBreak c.args.catalog.now c.args.serial (done ++ area_mapped c.args.space c.args.area.now)) c.in_err-found.field-0.0 =
+    let named : FaultNames (MeetsBreak c.args.catalog.now c.args.serial (done ++ area_mapped c.args.space c.args.area.now)) c.in_err-found.field-0.0 =
     names_more _ _ c.in_err-found.field-0.0
     (λ slot reason. area_breaks c.args.catalog.now c.args.serial c.args.space c.args.area.now c.loop-placed.placed c.unwrap-first.result done (placed_pages c.loop-placed.runs.items) slot reason c.loop-placed-test.true (c.loop-placed.invariant.pages done was) page)
     c.in_err-found.ensures.broken in

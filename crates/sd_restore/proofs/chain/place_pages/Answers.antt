@@ -7,7 +7,7 @@ use Rattle.sd_image.specs.declared.table.SpaceTable.{SpaceTable}
 use Rattle.sd_image.specs.Table.{listing_of, IsTable}
 use Rattle.sd_image.proofs.Members.{contains_map}
 use Rattle.sd_chain.specs.Catalog.{Opened, images, place_of}
-use Rattle.sd_restore.specs.Faulty.{Names}
+use Rattle.sd_restore.specs.Faulty.{FaultNames}
 use Rattle.sd_restore.specs.Mapped.{space_mapped, mapped_pages}
 use Rattle.sd_restore.specs.Placed.{MeetsBreak, ArePlaced, placed_pages}
 use Rattle.sd_restore.proofs.MappedLemmas.{has_page, space_of}
@@ -45,8 +45,8 @@ returns-in_err-place_space-clause-broken c =
     let spaces : map listing_of items ≡ tip.spaces = ap (map listing_of) c.deref-space-items.ensures.value ∙ c.table.ensures in
     let all : flat_map mapped items ≡ mapped_pages tip.spaces = sym (flat_map-map space_mapped listing_of items) ∙ ap mapped_pages spaces in
     let broken = rw c.header.ensures at (c.in_err-place_space.ensures.broken ([] ++ flat_map mapped (take i items))) in
-    let named : Names (MeetsBreak c.args.catalog.now tip.header.serial (mapped_pages tip.spaces)) c.in_err-place_space.field-0.0 =
-    subst (λ ms. Names (MeetsBreak c.args.catalog.now tip.header.serial ms) c.in_err-place_space.field-0.0) all
+    let named : FaultNames (MeetsBreak c.args.catalog.now tip.header.serial (mapped_pages tip.spaces)) c.in_err-place_space.field-0.0 =
+    subst (λ ms. FaultNames (MeetsBreak c.args.catalog.now tip.header.serial ms) c.in_err-place_space.field-0.0) all
     (part_breaks c.args.catalog.now tip.header.serial [] (flat_map mapped (take i items)) (mapped c.space-item.result) (flat_map mapped (drop (i + 1) items))
     (flat_map mapped items) c.in_err-place_space.field-0.0 (split_parts mapped items i c.space-item.result c.loop-space-test.true c.space-item.is)
     (broken c.loop-space.invariant.pages)) in

@@ -2,7 +2,7 @@ use Rattle.std.proofs.Common.{rules, ◌≡◌, ◌<◌, ◌≤◌, ◌+◌, ◌
 use Rattle.std.specs.List.{flat_map}
 use Rattle.sd_areas.specs.Areas.{area_pages}
 use Rattle.sd_image.specs.Table.{listing_of}
-use Rattle.sd_restore.specs.Faulty.{Names}
+use Rattle.sd_restore.specs.Faulty.{FaultNames}
 use Rattle.sd_restore.specs.Mapped.{area_mapped, space_mapped}
 use Rattle.sd_chain.specs.Chains.{IsChainOf}
 use Rattle.sd_restore.specs.Placed.{MeetsBreak, ArePlaced, placed_pages}
@@ -32,7 +32,7 @@ returns-in_err-place_area-clause-broken c = λ done was.
     let space = c.args.space.now.space in
     let less : i < length areas = rw c.deref-area-items.ensures.value at c.loop-area-test.true in
     let is : c.area-item.result ≡ slice_index_or areas i c.area-item.result = rw c.deref-area-items.ensures.value at c.area-item.is in
-    let named : Names (MeetsBreak c.args.catalog.now c.args.serial (done ++ space_mapped (listing_of c.args.space.now))) c.in_err-place_area.field-0.0 =
+    let named : FaultNames (MeetsBreak c.args.catalog.now c.args.serial (done ++ space_mapped (listing_of c.args.space.now))) c.in_err-place_area.field-0.0 =
     part_breaks c.args.catalog.now c.args.serial done (flat_map (area_mapped space) (take i areas)) (area_mapped space c.area-item.result) (flat_map (area_mapped space) (drop (i + 1) areas))
     (flat_map (area_mapped space) areas) c.in_err-place_area.field-0.0 (split_parts (area_mapped space) areas i c.area-item.result less is)
     (c.in_err-place_area.ensures.broken (done ++ flat_map (area_mapped space) (take i areas)) (c.loop-area.invariant.pages done was)) in

@@ -7,7 +7,7 @@ use Rattle.sd_image.specs.Table.{IsTable, listing_of}
 use Rattle.sd_image.proofs.Members.{contains_map}
 use Rattle.sd_chain.specs.Catalog.{Opened, images}
 use Rattle.sd_chain.specs.Store.{FindsTip}
-use Rattle.sd_restore.specs.Placed.{IsLaidOut, memory_at, placed_pages}
+use Rattle.sd_restore.specs.Placed.{IsLaidOut, placed_memory, placed_pages}
 use Rattle.sd_restore.proofs.LaidLemmas.{laid_tip}
 use Rattle.sd_restore.proofs.RunLemmas.{runs_in_slots}
 use Rattle.sd_restore.proofs.MappedLemmas.{space_of}
@@ -20,8 +20,8 @@ returns-clause-shown c = λ contents catalog.
     let pages = placed_pages c.in_ok-runs.runs.items in
     let finds : FindsTip contents (Some c.in-Some.tip) = subst (FindsTip contents) c.in-Some.is (c.tip.ensures.store contents catalog) in
     let spaces : map listing_of c.as_slice.result.now ≡ tip.spaces = ap (map listing_of) c.as_slice.ensures.value ∙ c.table.ensures in
-    subst (λ h. Shows contents (Some (h.checkpoint, memory_at contents (map listing_of c.as_slice.result.now) pages))) (sym c.header.ensures)
-    (subst (λ listed. Shows contents (Some (tip.header.checkpoint, memory_at contents listed pages))) (sym spaces)
+    subst (λ h. Shows contents (Some (h.checkpoint, placed_memory contents (map listing_of c.as_slice.result.now) pages))) (sym c.header.ensures)
+    (subst (λ listed. Shows contents (Some (tip.header.checkpoint, placed_memory contents listed pages))) (sym spaces)
     (shows_tip contents c.args.catalog.now c.in-Some.tip pages catalog finds c.in_ok-runs.ensures.placed))
 
 pub returns-clause-slots : goal.returns-clause-slots
@@ -49,5 +49,5 @@ returns-clause-laid c = λ contents catalog.
     let pages = placed_pages c.in_ok-runs.runs.items in
     let finds : FindsTip contents (Some c.in-Some.tip) = subst (FindsTip contents) c.in-Some.is (c.tip.ensures.store contents catalog) in
     let spaces : map listing_of c.as_slice.result.now ≡ tip.spaces = ap (map listing_of) c.as_slice.ensures.value ∙ c.table.ensures in
-    subst (λ listed. IsLaidOut contents listed pages (memory_at contents listed pages)) (sym spaces)
+    subst (λ listed. IsLaidOut contents listed pages (placed_memory contents listed pages)) (sym spaces)
     (laid_tip c.areas_law.ensures c.one_list_law.ensures contents c.args.catalog.now c.in-Some.tip pages catalog finds c.in_ok-runs.ensures.placed)

@@ -7,10 +7,10 @@ use Rattle.sd_image.specs.Shows.{Shows}
 use Rattle.sd_image.specs.Table.{IsTable}
 use Rattle.sd_chain.specs.Catalog.{Opened, images}
 use Rattle.sd_chain.specs.Store.{FindsTip}
-use Rattle.sd_restore.specs.Faulty.{Names}
+use Rattle.sd_restore.specs.Faulty.{FaultNames}
 use Rattle.sd_restore.specs.Mapped.{mapped_pages}
 use Rattle.sd_restore.specs.declared.placed_run.PlacedRun.{PlacedRun}
-use Rattle.sd_restore.specs.Placed.{IsInSlots, IsWithin, MeetsBreak, placed_pages, with_pages, memory_at}
+use Rattle.sd_restore.specs.Placed.{IsInSlots, IsWithin, MeetsBreak, placed_pages, with_pages, placed_memory}
 use Rattle.sd_restore.proofs.RunLemmas.{runs_alive, runs_in_slots}
 use Rattle.sd_restore.proofs.CallLemmas.{pages_within}
 use Rattle.sd_restore.proofs.MemoryLemmas.{AreAlive}
@@ -28,7 +28,7 @@ pub returns-in_err-runs-clause-good : goal.returns-in_err-runs-clause-good
 returns-in_err-runs-clause-good g c = λ shown catalog shows.
     let contents : List (List ℕ) = g.D.Disk.contents c.args.disk.now in
     let finds : FindsTip contents (Some c.in-Some.tip) = subst (FindsTip contents) c.in-Some.is (c.tip.ensures.store contents catalog) in
-    let named : Names (λ slot reason. ⊥) c.in_err-runs.field-0.0 =
+    let named : FaultNames (λ slot reason. ⊥) c.in_err-runs.field-0.0 =
     names_more (MeetsBreak c.args.catalog.now c.in-Some.tip.now.header.serial (mapped_pages c.in-Some.tip.now.spaces)) (λ slot reason. ⊥) c.in_err-runs.field-0.0
     (λ slot reason met. no_break c.one_store.ensures c.tip_once.ensures contents c.args.catalog.now c.in-Some.tip slot reason shown catalog finds met shows)
     c.in_err-runs.ensures.broken in
@@ -58,7 +58,7 @@ returns-clause-shown g c = λ honest catalog.
     let contents : List (List ℕ) = g.D.Disk.contents c.args.disk.now in
     let tip = c.in-Some.tip.now in
     let finds : FindsTip contents (Some c.in-Some.tip) = subst (FindsTip contents) c.in-Some.is (c.tip.ensures.store contents catalog) in
-    let memory : memory_of c.read_pages.new.snapshot ≡ memory_at contents tip.spaces (placed_pages c.in_ok-runs.runs.items) =
+    let memory : memory_of c.read_pages.new.snapshot ≡ placed_memory contents tip.spaces (placed_pages c.in_ok-runs.runs.items) =
     c.in_ok-read_pages.ensures.memory honest
     ∙ ap (λ runs. with_pages contents (memory_of c.in_ok-snapshot.snapshot) (placed_pages runs)) c.deref.ensures.value
     ∙ ap (λ m. with_pages contents m (placed_pages c.in_ok-runs.runs.items)) c.in_ok-snapshot.ensures.spaces in

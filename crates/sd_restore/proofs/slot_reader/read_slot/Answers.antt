@@ -4,7 +4,7 @@ use Rattle.sd_disk.specs.Contents.{file_at}
 use Rattle.sd_disk.specs.Reads.{OnlyReads, reads_join}
 use Rattle.sd_image.specs.Reading.{table_in}
 use Rattle.sd_image.specs.Table.{listing_of}
-use Rattle.sd_restore.specs.Faulty.{Names, IsFaulty}
+use Rattle.sd_restore.specs.Faulty.{FaultNames, IsFaulty}
 use Rattle.sd_restore.specs.Reading.{HasDigestOf, HasHeader, table_bytes}
 use Rattle.sd_restore.proofs.FileLemmas.{read_header}
 use Rattle.sd_restore.proofs.WantLemmas.{header_wants}
@@ -42,7 +42,7 @@ returns-in_err-decoded-clause-faulty g c = λ honest.
     read_header file c.in_ok-header.header c.in_ok-bytes.bytes c.in_ok-len.len bytes (c.in_ok-len.ensures.length honest_len) c.if-bytes.false c.in_ok-header.ensures.found in
     let table : c.in_ok-table.table.items ≡ table_bytes c.in_ok-header.header file =
     c.in_ok-table.ensures.bytes honest ∙ ap (λ contents. table_bytes c.in_ok-header.header (file_at contents slot)) same in
-    let named : Names (λ s reason. (s ≡ slot) × IsFaulty file reason) c.in_err-decoded.field-0.0 =
+    let named : FaultNames (λ s reason. (s ≡ slot) × IsFaulty file reason) c.in_err-decoded.field-0.0 =
     c.in_err-decoded.ensures.faulty file has (c.deref.ensures.value ∙ table) in
     search rules
 
@@ -61,7 +61,7 @@ returns-in_err-check_digest-clause-faulty g c = λ honest.
     let table : c.in_ok-table.table.items ≡ table_bytes c.in_ok-header.header file =
     c.in_ok-table.ensures.bytes honest_table ∙ ap (λ contents. table_bytes c.in_ok-header.header (file_at contents slot)) same in
     let now : g.D.Disk.contents c.read_table.new.disk ≡ g.D.Disk.contents c.args.disk.now = c.in_ok-table.ensures.reads.same ∙ same in
-    let named : Names (λ s reason. (s ≡ slot) × IsFaulty file reason) c.in_err-check_digest.field-0.0 =
+    let named : FaultNames (λ s reason. (s ≡ slot) × IsFaulty file reason) c.in_err-check_digest.field-0.0 =
     (rw now at (c.in_err-check_digest.ensures.wrong honest)) has (c.deref-2.ensures.value ∙ table) (map listing_of c.in_ok-decoded.decoded.table.spaces.items)
     (ap (table_in c.in_ok-header.header) (c.deref-2.ensures.value ∙ sym c.deref.ensures.value) ∙ c.in_ok-decoded.ensures.read) in
     search rules

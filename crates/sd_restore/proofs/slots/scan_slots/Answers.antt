@@ -1,6 +1,6 @@
 use Rattle.std.proofs.Common.{rules, List, ℕ, length, arith, refl, ◌∙◌}
 use Rattle.sd_disk.specs.Reads.{nothing_read, reads_join}
-use Rattle.sd_restore.specs.Faulty.{Names, IsFirstFaulty}
+use Rattle.sd_restore.specs.Faulty.{FaultNames, IsFirstFaulty}
 use Rattle.sd_restore.proofs.CallLemmas.{none_failed, slot_last, slot_more}
 use Rattle.sd_restore.proofs.ScanLemmas.{first_faulty}
 use Rattle.sd_restore.proofs.slots.scan_slots.Goals as goal
@@ -35,7 +35,7 @@ pub returns-in_err-scan_slot-clause-faulty : goal.returns-in_err-scan_slot-claus
 returns-in_err-scan_slot-clause-faulty g c = λ honest.
     let was = c.loop-slot.invariant in
     let contents : List (List ℕ) = g.D.Disk.contents c.args.disk.now in
-    let first : Names (IsFirstFaulty contents) c.in_err-scan_slot.field-0.0 =
+    let first : FaultNames (IsFirstFaulty contents) c.in_err-scan_slot.field-0.0 =
     first_faulty contents c.loop-slot.slot c.in_err-scan_slot.field-0.0 (was.scanned (c.in_err-scan_slot.ensures.reads.honest honest)).readable (rw was.reads.same at (c.in_err-scan_slot.ensures.faulty honest)) in
     search rules
 

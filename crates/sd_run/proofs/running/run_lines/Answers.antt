@@ -5,7 +5,7 @@ use Rattle.sd_exit.specs.declared.stop.Stop.TheVariants as stop
 use Rattle.sd_restore.specs.declared.fault.Fault.TheVariants as fault
 use Rattle.sd_script.specs.declared.line.Line.TheVariants as asked
 use Rattle.sd_run.specs.Promise.{Promise}
-use Rattle.sd_run.specs.Whole.{IsLeft, IsPartOfRun, IsWholeRun, PrintsLines}
+use Rattle.sd_run.specs.Whole.{IsLeftByRun, IsPartOfRun, IsWholeRun, PrintsLines}
 use Rattle.sd_run.proofs.EndLemmas.{opening_is_told, unprinted_is_no_fault}
 use Rattle.sd_run.proofs.LineLemmas.{then_on_ok}
 use Rattle.sd_run.proofs.PromiseLemmas.{promise_of, promise_so_far}
@@ -43,7 +43,7 @@ returns-in-Ok-open-clause-whole g c =
     ended.ensures.printed
 
 pub returns-in-Ok-open-clause-left : goal.returns-in-Ok-open-clause-left
-returns-in-Ok-open-clause-left g c = IsLeft.run (record {
+returns-in-Ok-open-clause-left g c = IsLeftByRun.run (record {
   opened = c.in-Ok-open.world;
   last = c.answer_all-ended.new.world;
   run = record {
@@ -100,7 +100,7 @@ returns-in-Ok-open-clause-so_far g c = λ honest.
     (g.W.Write.contents c.args.out.now.writer) (g.W.Write.contents c.answer_all-ended.new.out.writer) part c.answer_all-ended.ensures.told.told honest)
 
 pub returns-in-Err-clause-left : goal.returns-in-Err-clause-left
-returns-in-Err-clause-left g c = IsLeft.only_read (nothing_read g.D.Disk c.args.disk)
+returns-in-Err-clause-left g c = IsLeftByRun.only_read (nothing_read g.D.Disk c.args.disk)
 
 pub returns-in-Err-clause-so_far : goal.returns-in-Err-clause-so_far
 returns-in-Err-clause-so_far g c = λ honest. inl (nothing_read g.D.Disk c.args.disk, refl)

@@ -1,7 +1,7 @@
 use Rattle.std.proofs.Common.{◌≡◌, ◌∙◌, true, false, sym, subst, append-nil}
 use Rattle.std.specs.Io.KnownBytes.{Appends}
 use Rattle.sd_image.specs.Image.{is_open}
-use Rattle.sd_show.specs.Slots.{IsOpened}
+use Rattle.sd_show.specs.Slots.{OpenSlotIsRead}
 use Rattle.sd_show.specs.Texts.{slot_line}
 use Rattle.sd_show.proofs.PrintLemmas.{then_printed}
 use Rattle.sd_show.proofs.SlotLemmas.{text_of_open, text_of_shut}
@@ -9,7 +9,7 @@ use Rattle.sd_show.proofs.text.print_slot.Goals as goal
 
 pub returns-in-Some : goal.returns-in-Some
 returns-in-Some g c = λ file is.
-    let has : (is_open file ≡ true) × IsOpened file c.in-Some.opened = rw c.in-Some.is at is.opened in
+    let has : (is_open file ≡ true) × OpenSlotIsRead file c.in-Some.opened = rw c.in-Some.is at is.opened in
     then_printed c.print_opened.result (g.W.Write.contents c.args.out.now) (g.W.Write.contents c.print_state.new.out) (g.W.Write.contents c.print_opened.new.out) _ _ _
     (text_of_open c.args.slot file c.args.seen.now.state c.in-Some.opened is.state has.0 has.1) c.in_ok-print_state.ensures c.print_opened.ensures
 

@@ -1,6 +1,6 @@
 use Rattle.std.proofs.Common.{sym, ◌∙◌, ap, subst, slice_set}
 use Rattle.sd_world.specs.declared.kept.Kept.TheVariants.{Nothing, Outcome}
-use Rattle.sd_world.specs.Steps.{KeepsOutcome, reply_of}
+use Rattle.sd_world.specs.Steps.{KeepsOutcome, reply_of_answer}
 use Rattle.sd_world.proofs.Calls.{makes_count}
 use Rattle.sd_world.proofs.KeptLemmas.{same_request}
 use Rattle.sd_world.proofs.Lists.{set_twice}
@@ -36,5 +36,5 @@ returns-in-Request g c = λ asked is.
       };
       left = c.put.ensures ∙ ap (λ k. slice_set k c.args.lane (Outcome made)) c.in-Request.ensures.left
           ∙ set_twice c.args.kept.now c.args.lane (Outcome made) Nothing;
-      replied = c.reply_of.ensures ∙ ap reply_of c.answer-answer.ensures;
+      replied = c.reply_of.ensures ∙ ap reply_of_answer c.answer-answer.ensures;
     })

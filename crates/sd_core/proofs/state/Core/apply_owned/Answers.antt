@@ -7,7 +7,7 @@ use Rattle.sd_core.proofs.FlagLemmas.{same_flags}
 use Rattle.sd_core.specs.Grown.{has_grown, has_swept}
 use Rattle.sd_core.specs.Answering.{IsAnswered}
 use Rattle.sd_core.specs.LittleWork.{HasLittle}
-use Rattle.sd_core.specs.Sound.{AreNumbers, IsAtWork, IsJournal}
+use Rattle.sd_core.specs.Sound.{AreSoundNumbers, CheckpointRuns, IsJournal}
 use Rattle.sd_crash_safety.specs.CoreSteps.{IsCommanded}
 use Rattle.sd_core.specs.Starts.{base_of}
 use Rattle.sd_core.specs.Visited.{HasSwept}
@@ -31,10 +31,10 @@ invariant_of-self-in_default-try_clone c =
       held = c.reserve.ensures.grown.held ∙ c.self.invariant.held;
       outs_are = c.self.invariant.outs_are;
       opening = c.self.invariant.opening;
-      numbers_are = subst (λ all. AreNumbers base all c.self.inside.pending c.self.inside.last c.self.inside.numbers) (sym before) c.self.invariant.numbers_are;
+      numbers_are = subst (λ all. AreSoundNumbers base all c.self.inside.pending c.self.inside.last c.self.inside.numbers) (sym before) c.self.invariant.numbers_are;
       counted = c.self.invariant.counted;
       rests = c.self.invariant.rests;
-      work = subst (λ all. IfSome c.self.inside.dumper.running (IsAtWork base all c.self.inside.pending c.self.inside.standing c.self.inside.phases.items c.self.inside.catalog c.self.inside.merger c.self.inside.opener c.self.inside.numbers)) (sym before) c.self.invariant.work;
+      work = subst (λ all. IfSome c.self.inside.dumper.running (CheckpointRuns base all c.self.inside.pending c.self.inside.standing c.self.inside.phases.items c.self.inside.catalog c.self.inside.merger c.self.inside.opener c.self.inside.numbers)) (sym before) c.self.invariant.work;
       little = subst (λ m. IfSome c.self.inside.dumper.running (HasLittle base c.reserve.new.self.items m)) (sym same)
           (subst (λ all. IfSome c.self.inside.dumper.running (HasLittle base all c.self.inside.memory)) (sym before) c.self.invariant.little);
       swept_is = subst (λ m. HasSwept c.self.inside.swept c.self.inside.pending m) (sym same) c.self.invariant.swept_is;
@@ -78,11 +78,11 @@ invariant_of-self-2 c =
       held = c.append.ensures.held ∙ c.reserve.ensures.grown.held ∙ c.self.invariant.held;
       outs_are = c.self.invariant.outs_are;
       opening = c.self.invariant.opening;
-      numbers_are = subst (λ all. AreNumbers base all c.self.inside.pending c.self.inside.last c.self.inside.numbers) (sym items)
+      numbers_are = subst (λ all. AreSoundNumbers base all c.self.inside.pending c.self.inside.last c.self.inside.numbers) (sym items)
           (applied_numbers base c.self.inside.journal.items c.self.inside.pending c.self.inside.last c.self.inside.numbers c.args.seat c.args.command c.in-Ok-answer.reply c.self.invariant.numbers_are);
       counted = c.self.invariant.counted;
       rests = c.self.invariant.rests;
-      work = subst (λ all. IfSome c.self.inside.dumper.running (IsAtWork base all c.self.inside.pending c.self.inside.standing c.self.inside.phases.items c.self.inside.catalog c.self.inside.merger c.self.inside.opener c.self.inside.numbers)) (sym items)
+      work = subst (λ all. IfSome c.self.inside.dumper.running (CheckpointRuns base all c.self.inside.pending c.self.inside.standing c.self.inside.phases.items c.self.inside.catalog c.self.inside.merger c.self.inside.opener c.self.inside.numbers)) (sym items)
           (applied_work base c.self.inside.journal.items c.self.inside.pending c.self.inside.standing c.self.inside.phases.items c.self.inside.catalog c.self.inside.merger c.self.inside.opener c.self.inside.numbers
           c.self.inside.dumper.running c.args.seat c.args.command c.in-Ok-answer.reply c.self.invariant.work);
       little = subst (λ all. IfSome c.self.inside.dumper.running (HasLittle base all c.answer.new.memory)) (sym items)

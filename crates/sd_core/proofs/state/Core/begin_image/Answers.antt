@@ -24,7 +24,7 @@ use Rattle.sd_core.specs.Grown.{IsGatedStage, has_grown, has_swept}
 use Rattle.sd_core.specs.declared.numbers.Numbers.{Numbers}
 use Rattle.sd_core.specs.Images.{begun_as}
 use Rattle.sd_core.specs.LittleWork.{TakesLittle}
-use Rattle.sd_core.specs.Sound.{AreNumbers, AreOuts, IsImageOf, IsJournal, IsMerging, begun_images, due_serials}
+use Rattle.sd_core.specs.Sound.{AreOuts, AreSoundNumbers, IsImageOf, IsJournal, MergeRuns, begun_images, due_serials}
 use Rattle.sd_core.specs.Starts.{base_of}
 use Rattle.sd_core.specs.declared.taken.Taken.TheVariants.{Call as CallTaken}
 use Rattle.sd_core.specs.Noted.{marks_of}
@@ -120,7 +120,7 @@ invariant_of-self-2 c =
           (dumper_outs c.self.inside.phases.items (record w.running { image = Some w.next }) within asked whose writes)
           (λ id is. merger_out _ id core work.stands is)
           (λ id other one two. asks_apart _ w.running id other core w.was (on_slot (record w.running { image = Some w.next }) id asked writes one) two));
-      numbers_are = subst (λ all. AreNumbers base all c.self.inside.pending c.self.inside.last c.tick.new.self) (sym c.note.ensures.items)
+      numbers_are = subst (λ all. AreSoundNumbers base all c.self.inside.pending c.self.inside.last c.tick.new.self) (sym c.note.ensures.items)
           (start_numbers base c.reserve_mark.new.self.items c.self.inside.pending c.self.inside.last old c.tick.new.self begun checkpoint given now core.numbers_are);
       swept_is = swept_same c.self.inside.swept c.self.inside.swept c.self.inside.pending c.self.inside.pending c.self.inside.memory c.begin_next-request.new.memory refl refl w.steps.2 core.swept_is;
       flags_are = record {
@@ -158,7 +158,7 @@ invariant_of-self-2 c =
       little = subst (λ all. TakesLittle base all c.begin_next-request.new.memory w.running.number w.next) (sym c.note.ensures.items)
           (begun_little c.little_law.ensures base c.reserve_mark.new.self.items c.self.inside.memory c.begin_next-request.new.memory w.running.number _ (order_of w.running serial c.state.result) w.next
           c.begin_next-request.result w.steps fresh (t.still ∙ and-false _));
-      merging = subst (λ r. IfSome c.self.inside.merger (IsMerging c.self.inside.standing c.self.inside.phases.items c.hold.new.self c.self.inside.opener c.tick.new.self c.self.inside.room r)) w.is
+      merging = subst (λ r. IfSome c.self.inside.merger (MergeRuns c.self.inside.standing c.self.inside.phases.items c.hold.new.self c.self.inside.opener c.tick.new.self c.self.inside.room r)) w.is
           (merging_stays (record {
             base = base;
             journal = c.reserve_mark.new.self;

@@ -10,9 +10,9 @@ use Rattle.sd_crash_safety.specs.View.{CoreView}
 use Rattle.sd_core.proofs.FlagLemmas.{same_flags}
 use Rattle.sd_core.specs.Beginning.{AreReserved, IsFirstParent}
 use Rattle.sd_core.specs.declared.numbers.Numbers.{Numbers}
-use Rattle.sd_core.specs.Sound.{AreNumbers, AreOuts, held_for}
+use Rattle.sd_core.specs.Sound.{AreOuts, AreSoundNumbers, held_for}
 use Rattle.sd_core.specs.Starts.{base_of}
-use Rattle.sd_journal.specs.Kept.{Kept}
+use Rattle.sd_journal.specs.Kept.{JournalView}
 use Rattle.sd_core.proofs.ApplyLemmas.{same_phases, stays_same}
 use Rattle.sd_core.proofs.BeginLemmas.{MayBegin, begun_counted, begun_numbers, may_begin, none_opens}
 use Rattle.sd_core.proofs.BegunLemmas.{begun_beside, few_due}
@@ -64,10 +64,10 @@ invariant_of-self-2 c =
           (filled_free view c.args.rounds c.begin-number.result slots.pre_dumps.items slots.dump c.first_parent-parent.result (slot_of running) r (record { place = 0; from = omega arith; is = refl }))) tt tt tt)
           (λ id is. merger_out _ id inside may.stands is)
           (λ id other is at same. elim is [ inl own ↦ (let no : None ≡ Some id = own in cc) | inr page ↦ no_write page.0 id page.1 ]));
-      numbers_are = subst (λ all. AreNumbers base all c.self.inside.pending c.self.inside.last c.begin-number.new.self) (sym grown.items)
-          (subst (λ f. AreNumbers base c.self.inside.journal.items f c.self.inside.last c.begin-number.new.self) (sym none)
+      numbers_are = subst (λ all. AreSoundNumbers base all c.self.inside.pending c.self.inside.last c.begin-number.new.self) (sym grown.items)
+          (subst (λ f. AreSoundNumbers base c.self.inside.journal.items f c.self.inside.last c.begin-number.new.self) (sym none)
           (begun_numbers base c.self.inside.journal.items c.self.inside.last c.self.inside.numbers c.begin-number.new.self begun checkpoint given serial
-          (subst (λ f. AreNumbers base c.self.inside.journal.items f c.self.inside.last c.self.inside.numbers) none inside.numbers_are)));
+          (subst (λ f. AreSoundNumbers base c.self.inside.journal.items f c.self.inside.last c.self.inside.numbers) none inside.numbers_are)));
       swept_is = inside.swept_is;
       flags_are = same_flags base c.self.inside.journal.items c.hold.new.self.items c.self.inside.swept c.self.inside.grows c.self.inside.committing grown.items inside.flags_are;
       gated = tt;
@@ -136,6 +136,6 @@ returns-clause-keeps c =
 pub returns-in_default-hold-clause-keeps : goal.returns-in_default-hold-clause-keeps
 returns-in_default-hold-clause-keeps c = stays_seen _ _ _ c.self.view_is (stays_same c.core_steps.ensures _ _ (record {
   store = record { base = refl; phases = refl; outs = refl; opener = refl; standing = refl; catalog = refl; grows = refl; committing = refl; dumper = refl; merger = refl; serial = refl };
-  history = ap (λ (k : Kept). entries_of k.items) c.in_default-hold.ensures.err;
+  history = ap (λ (k : JournalView). entries_of k.items) c.in_default-hold.ensures.err;
   memory = refl;
 }))

@@ -13,7 +13,7 @@ use Rattle.sd_rounds.specs.Dumper.{HasSlot}
 use Rattle.sd_crash_safety.specs.Calls.{IsFree}
 use Rattle.sd_crash_safety.specs.View.{CoreView}
 use Rattle.sd_core.specs.declared.numbers.Numbers.{Numbers}
-use Rattle.sd_core.specs.Sound.{HasHeader, IsDoing, due_serials}
+use Rattle.sd_core.specs.Sound.{ClosesWithHeader, IsDoing, due_serials}
 use Rattle.sd_core.specs.Starts.{base_of}
 use Rattle.sd_core.proofs.BesideLemmas.{core_asks, due_rests, free_asked, merger_works, other_above}
 use Rattle.sd_core.proofs.MarkLemmas.{counted_held, held_place}
@@ -67,7 +67,7 @@ invariant_of-self-2 c =
       syncs = λ id at sync has. m.spared (subst (HasSlot c.self.inside.dumper.running) (ap (λ (i : RequestId). i.slot) (sym (same_Some c.begin_copy-request.result.id id (sym out ∙ at))) ∙ own.slot) has);
       doing = (
         record {
-          header = subst (λ o. HasHeader o w.copy.stage) (sym own.order) (asks_header (begun_copy order) w.copy c.begin_copy-request.result w.steps.0 tt);
+          header = subst (λ o. ClosesWithHeader o w.copy.stage) (sym own.order) (asks_header (begun_copy order) w.copy c.begin_copy-request.result w.steps.0 tt);
           given = omega (arith, given, own_serial);
           held = subst (λ s. place_of c.hold.new.self s ≡ Some None) (sym own_serial) (held_place c.self.inside.catalog c.hold.new.self serial c.in-Ok.ensures.held);
           other = other_above _ w.copy.order.serial c.self.invariant (omega (arith, own_serial, above));

@@ -1,13 +1,13 @@
 use Rattle.std.proofs.Common.{◌≡◌, false, None, IfSome, refl, sym, ◌∙◌, ap, subst, arith}
 use Rattle.sd_journal.specs.History.{Base}
-use Rattle.sd_journal.specs.Kept.{Kept}
+use Rattle.sd_journal.specs.Kept.{JournalView}
 use Rattle.sd_rounds.specs.Dumper.{Dumping, serial_of}
 use Rattle.sd_journal.specs.Marked.{entries_of}
 use Rattle.sd_core.proofs.FlagLemmas.{set_flags}
 use Rattle.sd_core.specs.Grown.{IsGated, has_grown, has_swept}
 use Rattle.sd_core.specs.Dumping.{ReleasesPlace}
 use Rattle.sd_core.specs.LittleWork.{HasLittle}
-use Rattle.sd_core.specs.Sound.{AreNumbers, IsAtWork, held_for}
+use Rattle.sd_core.specs.Sound.{AreSoundNumbers, CheckpointRuns, held_for}
 use Rattle.sd_core.specs.Starts.{base_of}
 use Rattle.sd_core.proofs.ApplyLemmas.{same_phases}
 use Rattle.sd_core.proofs.CancelLemmas.{cancelled_journal, cancelled_numbers, counted_released, images_same, may_cancel, merges_on, rests_cancelled, written_of}
@@ -26,20 +26,20 @@ invariant_of-self c =
     let journal = cancelled_journal c.tracked_laws.ensures _ c.append_held.new.self c.self.invariant (may_cancel _ c.self.invariant (λ idle none. may.some idle (sym c.self.invariant.journal_is.frozen_for ∙ none)))
     c.append_held.ensures.items c.append_held.ensures.numbers.first c.append_held.ensures.numbers.limit in
     let held = c.held-held.ensures in
-    let less = ap (λ (k : Kept). k.held) c.release.ensures in
+    let less = ap (λ (k : JournalView). k.held) c.release.ensures in
     let free : c.release.new.self.held ≡ 0 = omega (arith, held, less) in
-    let items = ap (λ (k : Kept). k.items) c.release.ensures in
+    let items = ap (λ (k : JournalView). k.items) c.release.ensures in
     record {
-      journal_is = same_journal base c.append_held.new.self c.release.new.self c.self.inside.memory None c.self.inside.last (ap (λ (k : Kept). k.first) c.release.ensures) items
-          (ap (λ (k : Kept). k.limit) c.release.ensures) journal;
+      journal_is = same_journal base c.append_held.new.self c.release.new.self c.self.inside.memory None c.self.inside.last (ap (λ (k : JournalView). k.first) c.release.ensures) items
+          (ap (λ (k : JournalView). k.limit) c.release.ensures) journal;
       held = free ∙ ap (λ r. held_for None r None) (sym gone) ∙ ap (held_for None c.cancel.new.self.running) (sym may.closed);
       outs_are = rests_cancelled _ c.cancel.new.self.running c.self.invariant may.closed may.rests may.pages gone;
       opening = c.self.invariant.opening;
-      numbers_are = subst (λ all. AreNumbers base all None c.self.inside.last c.self.inside.numbers) (sym (items ∙ c.append_held.ensures.items))
+      numbers_are = subst (λ all. AreSoundNumbers base all None c.self.inside.last c.self.inside.numbers) (sym (items ∙ c.append_held.ensures.items))
           (cancelled_numbers base c.self.inside.journal.items c.self.inside.pending c.self.inside.last c.self.inside.numbers c.self.invariant.numbers_are);
       counted = counted_released c.self.inside.numbers c.self.inside.catalog c.release_place.new.catalog (serial_of c.self.inside.dumper.running) released c.self.invariant.counted;
       rests = λ none stands. refl;
-      work = subst (λ r. IfSome r (IsAtWork base c.release.new.self.items None c.self.inside.standing c.self.inside.phases.items c.release_place.new.catalog c.self.inside.merger c.self.inside.opener c.self.inside.numbers)) (sym gone) tt;
+      work = subst (λ r. IfSome r (CheckpointRuns base c.release.new.self.items None c.self.inside.standing c.self.inside.phases.items c.release_place.new.catalog c.self.inside.merger c.self.inside.opener c.self.inside.numbers)) (sym gone) tt;
       little = subst (λ r. IfSome r (HasLittle base c.release.new.self.items c.self.inside.memory)) (sym gone) tt;
       swept_is = not_swept false None c.self.inside.memory refl;
       flags_are = set_flags base c.release.new.self.items false false c.self.inside.committing (ap (λ all. has_grown base (entries_of all)) (sym (items ∙ c.append_held.ensures.items))) may.sure (ap has_swept (sym (items ∙ c.append_held.ensures.items)));
@@ -58,7 +58,7 @@ returns-clause-keeps c =
       phases = same_phases c.self.inside.outs c.self.inside.phases.items;
       goes_on = λ asked bodies files b. c.cancelling_law.ensures _ _ c.self.inside.numbers.begun asked bodies files (record {
         base = refl;
-        items = ap (λ (k : Kept). k.items) c.release.ensures ∙ c.append_held.ensures.items;
+        items = ap (λ (k : JournalView). k.items) c.release.ensures ∙ c.append_held.ensures.items;
         memory = refl;
         phases = refl;
         outs = refl;

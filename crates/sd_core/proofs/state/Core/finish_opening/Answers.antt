@@ -18,7 +18,7 @@ use Rattle.sd_core.proofs.FlagLemmas.{set_flags}
 use Rattle.sd_core.specs.Grown.{has_grown, has_swept}
 use Rattle.sd_core.specs.declared.taken.Taken.TheVariants.{Step}
 use Rattle.sd_core.specs.Opening.{IsDamagedOrOther, IsExpected, OpensOwn, RefusesDamage, RefusesStrange}
-use Rattle.sd_core.specs.Sound.{AreNumbers, IsOpening, held_for, out_of_opener}
+use Rattle.sd_core.specs.Sound.{AreSoundNumbers, IsOpening, held_for, out_of_opener}
 use Rattle.sd_core.specs.Starts.{base_of}
 use Rattle.sd_core.proofs.CoreLemmas.{held_idle, held_opening, nobody_is, none_out}
 use Rattle.sd_core.proofs.JournalLemmas.{expected_may, found_used, reopened_journal, reopened_numbers}
@@ -55,7 +55,7 @@ invariant_of-self-2 c =
           (none_merges _ c.self.invariant opening.closed) (ap out_of_opener c.take_opener.ensures.left)
           (nobody_is _ o c.self.invariant is rests);
       opening = subst (λ x. IfSome x (IsOpening Open c.in-Some-read_by.opened.phases.items)) (sym c.take_opener.ensures.left) tt;
-      numbers_are = subst (λ all. AreNumbers base all None c.in-Some-read_by.found c.found.new.self) (sym c.append_held.ensures.items)
+      numbers_are = subst (λ all. AreSoundNumbers base all None c.in-Some-read_by.found c.found.new.self) (sym c.append_held.ensures.items)
           (reopened_numbers base c.self.inside.journal.items c.self.inside.pending c.self.inside.last c.in-Some-read_by.found c.self.inside.numbers c.found.new.self
           c.found.ensures.begun c.found.ensures.given c.found.ensures.checkpoint c.found.ensures.serial used c.self.invariant.numbers_are);
       counted = c.found.ensures.checkpoints;

@@ -21,7 +21,7 @@ use Rattle.sd_core.specs.Grown.{IsGatedStage, has_grown, has_swept}
 use Rattle.sd_core.specs.Dumping.{StepsOn}
 use Rattle.sd_core.specs.Images.{begun_as}
 use Rattle.sd_core.specs.LittleWork.{TakesLittle}
-use Rattle.sd_core.specs.Sound.{AreNumbers, IsImageOf, IsJournal, IsMerging, begun_images, due_serials, held_for}
+use Rattle.sd_core.specs.Sound.{AreSoundNumbers, IsImageOf, IsJournal, MergeRuns, begun_images, due_serials, held_for}
 use Rattle.sd_core.specs.Starts.{base_of}
 use Rattle.sd_core.specs.Visited.{HasSwept}
 use Rattle.sd_core.proofs.ImageLemmas.{image_asked, image_frozen, image_page, image_table, image_visited, image_copied}
@@ -112,7 +112,7 @@ invariant_of-self-in-Visited c =
       entries = ap entries_of items;
       held = c.note-in-Visited.ensures.held;
       journal_is = visit_journal c.tracked_laws.ensures _ w.running w.image w.next _ _ c.note-in-Visited.new.self core w.was w.making w.steps items c.note-in-Visited.ensures.numbers.first c.note-in-Visited.ensures.numbers.limit;
-      numbers_are = subst (λ all. AreNumbers base all c.self.inside.pending c.self.inside.last c.self.inside.numbers) (sym items)
+      numbers_are = subst (λ all. AreSoundNumbers base all c.self.inside.pending c.self.inside.last c.self.inside.numbers) (sym items)
           (numbers_noted base c.reserve_mark.new.self.items c.self.inside.pending c.self.inside.last c.self.inside.numbers (Visit w.image.order.serial c.in-Visited.visit.space c.in-Visited.visit.page) (omega (arith, given)) core.numbers_are);
       flags_are = record { grown = core.flags_are.grown ∙ ap (λ all. has_grown base (entries_of all)) (sym items); swept_by = core.flags_are.swept_by ∙ ap has_swept (sym items); sure = core.flags_are.sure };
       gated = subst (IsGatedStage (is_last w.running) c.self.inside.swept) (sym (ap (λ (m : Making). m.stage) w.steps.passes.1 ∙ w.steps.passes.0)) tt;
@@ -260,7 +260,7 @@ invariant_of-self-in-TableCall c =
       held = c.note.ensures.held;
       journal_is = subst (λ m. IsJournal base c.note.new.self m c.self.inside.pending c.self.inside.last) (sym w.steps.2)
           (table_journal c.tracked_laws.ensures _ w.running w.image w.next c.in-TableCall.request c.note.new.self core w.was w.making w.steps.0 items c.note.ensures.numbers.first c.note.ensures.numbers.limit);
-      numbers_are = subst (λ all. AreNumbers base all c.self.inside.pending c.self.inside.last c.tick-in-TableCall.new.self) (sym items)
+      numbers_are = subst (λ all. AreSoundNumbers base all c.self.inside.pending c.self.inside.last c.tick-in-TableCall.new.self) (sym items)
           (numbers_same base _ c.self.inside.pending c.self.inside.last c.self.inside.numbers c.tick-in-TableCall.new.self numbers
           (numbers_noted base c.reserve_mark.new.self.items c.self.inside.pending c.self.inside.last c.self.inside.numbers (Table w.image.order.serial) (omega (arith, given)) core.numbers_are));
       flags_are = record {
@@ -324,9 +324,9 @@ invariant_of-self-in-Frozen c =
         whose = core.outs_are.whose;
         apart = core.outs_are.apart;
       };
-      numbers_are = subst (λ all. AreNumbers base all (Some c.self.inside.numbers.begun) c.self.inside.last c.self.inside.numbers) (sym c.append_held.ensures.items)
+      numbers_are = subst (λ all. AreSoundNumbers base all (Some c.self.inside.numbers.begun) c.self.inside.last c.self.inside.numbers) (sym c.append_held.ensures.items)
           (freeze_numbers base c.reserve_mark.new.self.items c.self.inside.last c.self.inside.numbers
-          (subst (λ f. AreNumbers base c.reserve_mark.new.self.items f c.self.inside.last c.self.inside.numbers) b.none core.numbers_are));
+          (subst (λ f. AreSoundNumbers base c.reserve_mark.new.self.items f c.self.inside.last c.self.inside.numbers) b.none core.numbers_are));
       flags_are = record { grown = core.flags_are.grown ∙ ap (λ all. has_grown base (entries_of all)) (sym c.append_held.ensures.items); swept_by = unswept c.self.inside.swept c.self.inside.pending c.self.inside.memory b.none core.swept_is ∙ ap has_swept (sym c.append_held.ensures.items); sure = core.flags_are.sure };
       gated = subst (IsGatedStage (is_last w.running) c.self.inside.swept) (sym (ap (λ (m : Making). m.stage) w.steps.0.is)) tt;
       swept_is = none_swept c.self.inside.swept c.self.inside.pending (Some c.self.inside.numbers.begun) c.self.inside.memory c.step_on.new.memory b.none core.swept_is;
@@ -351,7 +351,7 @@ invariant_of-self-in-Frozen c =
       little = subst (λ all. TakesLittle base all c.step_on.new.memory w.running.number w.next) (sym c.append_held.ensures.items)
           (subst (λ n. TakesLittle base (Told (Freeze n) ∷ c.reserve_mark.new.self.items) c.step_on.new.memory w.running.number w.next) work.number
           (freeze_little c.little_law.ensures base c.reserve_mark.new.self.items c.self.inside.memory c.step_on.new.memory w.running.number c.self.inside.numbers.ticket w.image w.next w.steps b.kind core.journal_is.tracked));
-      merging = subst (λ r. IfSome c.self.inside.merger (IsMerging c.self.inside.standing c.self.inside.phases.items c.self.inside.catalog c.self.inside.opener c.self.inside.numbers c.self.inside.room r)) w.is
+      merging = subst (λ r. IfSome c.self.inside.merger (MergeRuns c.self.inside.standing c.self.inside.phases.items c.self.inside.catalog c.self.inside.opener c.self.inside.numbers c.self.inside.room r)) w.is
           (merging_turned _ (record {
             base = base;
             journal = c.append_held.new.self;

@@ -35,7 +35,7 @@ use Rattle.sd_pagetable.specs.Contents.{plain_of}
 use Rattle.sd_rounds.specs.Left.{left_of}
 use Rattle.sd_rounds.specs.declared.progress.Progress.TheVariants.{More}
 use Rattle.sd_core.specs.LittleWork.{HasLittle, visits_of, way_due}
-use Rattle.sd_core.specs.Sound.{AreNumbers, IsAtWork, AreOuts, IsMerging, IsOpening, begun_images, due_serials, held_for}
+use Rattle.sd_core.specs.Sound.{AreSoundNumbers, CheckpointRuns, AreOuts, MergeRuns, IsOpening, begun_images, due_serials, held_for}
 use Rattle.sd_core.specs.Starts.{base_of}
 use Rattle.sd_core.proofs.CoreLemmas.{after_count}
 use Rattle.sd_core.proofs.EnteredLemmas.{entered_merge, fills_after, left_places}
@@ -190,7 +190,7 @@ invariant_of-self-in-PreDump c =
         image = tt;
       };
       little = tt;
-      merging = subst (λ r. IfSome c.self.inside.merger (IsMerging c.self.inside.standing c.follow_call.new.phases.items c.enter_catalog.new.catalog c.self.inside.opener c.self.inside.numbers c.self.inside.room r)) gone
+      merging = subst (λ r. IfSome c.self.inside.merger (MergeRuns c.self.inside.standing c.follow_call.new.phases.items c.enter_catalog.new.catalog c.self.inside.opener c.self.inside.numbers c.self.inside.room r)) gone
           (entered_merge _ (record {
             base = base;
             journal = c.self.inside.journal;
@@ -270,14 +270,14 @@ invariant_of-self-in-Dump c =
           (λ other is. (let its = merger_out _ other c.self.invariant work.stands is in (subst (λ n. other.slot < n) (sym count) its.0, its.1)))
           (λ other one is at same. elim (subst (λ r. IsOfDumper r other) gone is) [ inl plan ↦ (let no : None ≡ Some other = plan in cc) | inr page ↦ no_write page.0 other page.1 ])));
       opening = subst (λ o. IfSome o (IsOpening c.self.inside.standing c.follow_call.new.phases.items)) (sym work.closed) tt;
-      numbers_are = subst (λ all. AreNumbers base all None (Some c.self.inside.numbers.begun) c.self.inside.numbers) (sym c.append_held.ensures.items)
+      numbers_are = subst (λ all. AreSoundNumbers base all None (Some c.self.inside.numbers.begun) c.self.inside.numbers) (sym c.append_held.ensures.items)
           (acked_numbers base c.self.inside.journal.items c.self.inside.pending c.self.inside.last c.self.inside.numbers c.self.invariant.numbers_are);
       swept_is = not_swept false None c.self.inside.memory refl;
       flags_are = set_flags base c.append_held.new.self.items false true false (ap (λ all. has_grown base (entries_of all)) (sym c.append_held.ensures.items)) refl (ap has_swept (sym c.append_held.ensures.items));
       gated = subst (λ r. IfSome r (IsGated false)) (sym gone) tt;
       counted = counted;
       rests = λ none open_. refl;
-      work = subst (λ r. IfSome r (IsAtWork base c.append_held.new.self.items None c.self.inside.standing c.follow_call.new.phases.items c.enter_catalog-in-Dump.new.catalog c.self.inside.merger c.self.inside.opener c.self.inside.numbers)) (sym gone) tt;
+      work = subst (λ r. IfSome r (CheckpointRuns base c.append_held.new.self.items None c.self.inside.standing c.follow_call.new.phases.items c.enter_catalog-in-Dump.new.catalog c.self.inside.merger c.self.inside.opener c.self.inside.numbers)) (sym gone) tt;
       little = subst (λ r. IfSome r (HasLittle base c.append_held.new.self.items c.self.inside.memory)) (sym gone) tt;
       merging = entered_merge _ (record {
         base = base;

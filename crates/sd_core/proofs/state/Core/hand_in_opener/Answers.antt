@@ -8,7 +8,7 @@ use Rattle.sd_command.specs.declared.reply.Reply.TheVariants as reply
 use Rattle.sd_command.specs.declared.refusal.Refusal.TheVariants.{StoreDown}
 use Rattle.sd_crash_safety.specs.View.{CoreView}
 use Rattle.sd_core.proofs.FlagLemmas.{same_flags}
-use Rattle.sd_core.specs.Sound.{AreNumbers, IsOpening, held_for, out_of_opener}
+use Rattle.sd_core.specs.Sound.{AreSoundNumbers, IsOpening, held_for, out_of_opener}
 use Rattle.sd_core.specs.Working.{opener_left}
 use Rattle.sd_crash_safety.specs.declared.standing.Standing.TheVariants.{Open}
 use Rattle.sd_core.specs.Starts.{base_of}
@@ -139,7 +139,7 @@ invariant_of-self-2 c =
       outs_are = none_out c.self.inside.standing c.put_out.new.outs c.follow_call.new.phases.items c.self.inside.dumper.running c.self.inside.merger c.let_go.new.opener none
           (none_merges _ c.self.invariant closed) (ap out_of_opener ended) none_now;
       opening = subst (λ x. IfSome x (IsOpening c.self.inside.standing c.follow_call.new.phases.items)) (sym ended) tt;
-      numbers_are = subst (λ all. AreNumbers base all c.self.inside.pending c.self.inside.last c.self.inside.numbers) (sym gone.items) c.self.invariant.numbers_are;
+      numbers_are = subst (λ all. AreSoundNumbers base all c.self.inside.pending c.self.inside.last c.self.inside.numbers) (sym gone.items) c.self.invariant.numbers_are;
       counted = c.self.invariant.counted;
       rests = c.self.invariant.rests;
       work = none_works _ c.self.inside.dumper.running none;

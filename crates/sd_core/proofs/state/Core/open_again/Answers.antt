@@ -2,7 +2,7 @@ use Rattle.std.proofs.Common.{length, IfSome, Some, refl, sym, ◌∙◌, ap, su
 use Rattle.sd_journal.specs.History.{Base}
 use Rattle.sd_core.proofs.FlagLemmas.{same_flags}
 use Rattle.sd_core.specs.Opening.{HoldsForOpening}
-use Rattle.sd_core.specs.Sound.{AreNumbers, IsOpening, held_for, out_of_opener}
+use Rattle.sd_core.specs.Sound.{AreSoundNumbers, IsOpening, held_for, out_of_opener}
 use Rattle.sd_core.specs.Starts.{base_of}
 use Rattle.sd_core.proofs.CoreLemmas.{none_out}
 use Rattle.sd_core.proofs.JournalLemmas.{same_journal}
@@ -33,7 +33,7 @@ invariant_of-self-2 c =
         closed = may.closed;
         slots = fresh.count ∙ c.len.ensures ∙ c.self.inside.phases.ok.0 ∙ sym (given_count c.self.inside.phases.items) ∙ sym (ap length c.give_up_all.ensures);
       });
-      numbers_are = subst (λ all. AreNumbers base all c.self.inside.pending c.self.inside.last c.self.inside.numbers) (sym held.items) inside.numbers_are;
+      numbers_are = subst (λ all. AreSoundNumbers base all c.self.inside.pending c.self.inside.last c.self.inside.numbers) (sym held.items) inside.numbers_are;
       counted = inside.counted;
       rests = inside.rests;
       work = none_works _ c.self.inside.dumper.running none;

@@ -3,7 +3,7 @@ use Rattle.std.proofs.lemmas.List.{length-append, length-map}
 use Rattle.sd_disk.specs.Contents.{file_at}
 use Rattle.sd_disk.specs.Memory.{memory_events, memory_rooms}
 use Rattle.sd_disk.specs.Outcomes.{Leaves, unsynced_after}
-use Rattle.sd_disk.specs.Slots.{held, room_of, Tracks, AreAtRest}
+use Rattle.sd_disk.specs.Slots.{held, room_of, ShadowTracks, AreAtRest}
 use Rattle.sd_disk.proofs.CrashLemmas.{rest_pushed, files_pushed, rooms_pushed, room_at, files_same}
 use Rattle.sd_disk.proofs.mem_disk.MemDisk.crash.Goals as goal
 
@@ -16,7 +16,7 @@ loop-slot-preserved g c =
     let known = unsynced_after self.budget.log.trace.outside (memory_events self) in
     let near : c.loop-slot.slot < length self.slots.items = omega arith in
     let here = c.index.ensures in
-    let tracks : Tracks c.index.result.now.shadow (known c.loop-slot.slot) = self.tracked.shadows c.loop-slot.slot c.index.result.now near here in
+    let tracks : ShadowTracks c.index.result.now.shadow (known c.loop-slot.slot) = self.tracked.shadows c.loop-slot.slot c.index.result.now near here in
     let pushed : c.push.new.self.items ≡ slots ++ new ∷ [] = c.in_ok-push.ensures.items in
     let each_file : (P : ℕ → List ℕ → Type 0) → ((number : ℕ) → number < c.loop-slot.slot → P number (file_at (map held slots) number)) → P c.loop-slot.slot (held new)
     → (number : ℕ) → number < c.loop-slot.slot + 1 → P number (file_at (map held c.push.new.self.items) number) =

@@ -1,5 +1,5 @@
 use Rattle.std.proofs.Common.{reverse, sym, ◌∙◌, ap}
-use Rattle.sd_journal.specs.Kept.{Kept}
+use Rattle.sd_journal.specs.Kept.{JournalView}
 use Rattle.sd_journal.specs.Marked.{entries_of}
 use Rattle.std.proofs.lemmas.List.{reverse-reverse}
 use Rattle.sd_journal.proofs.KeptLemmas.{entries_in}
@@ -9,4 +9,4 @@ pub returns : goal.returns
 returns c =
     let entries = c.self.inside.entries.items in
     c.deref.ensures.value ∙ sym (reverse-reverse entries) ∙ ap reverse (sym (entries_in _ entries c.self.inside.marks.items))
-    ∙ ap (λ (journal : Kept). reverse (entries_of journal.items)) c.self.view_is
+    ∙ ap (λ (journal : JournalView). reverse (entries_of journal.items)) c.self.view_is

@@ -1,5 +1,5 @@
 use Rattle.std.proofs.Common.{◌≡◌, ◌+◌, ◌∷◌, length, sym, ◌∙◌, ap}
-use Rattle.sd_journal.specs.Kept.{Kept, next_number}
+use Rattle.sd_journal.specs.Kept.{JournalView, next_number}
 use Rattle.sd_journal.specs.Marked.{Noted}
 use Rattle.sd_journal.proofs.KeptLemmas.{after_mark, count_in, within_mark}
 use Rattle.sd_journal.proofs.journal.Journal.note.Goals as goal
@@ -23,4 +23,4 @@ returns-clause-items c =
     let long : c.next_number-before.result ≡ next =
     c.next_number-before.ensures ∙ ap next_number (sym c.self.view_is) ∙ ap (λ n. c.self.inside.first + n) (count_in next c.self.inside.entries.items c.self.inside.marks.items) in
     after_mark c.args.mark next c.next_number-before.result c.self.inside.entries.items c.self.inside.marks.items c.note_behind.new.marks.items long c.note_behind.ensures.items
-    ∙ ap (λ (journal : Kept). Noted c.args.mark ∷ journal.items) c.self.view_is
+    ∙ ap (λ (journal : JournalView). Noted c.args.mark ∷ journal.items) c.self.view_is

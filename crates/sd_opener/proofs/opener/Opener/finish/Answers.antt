@@ -3,7 +3,7 @@ use Rattle.std.proofs.Math.Seq.{take-length}
 use Rattle.sd_gate.specs.Laws.{found_phase}
 use Rattle.sd_restore.specs.declared.fault.Fault.{Fault}
 use Rattle.sd_restore.specs.declared.fault.Fault.TheVariants.{EmptyChain, Damaged, Device, OutOfMemory}
-use Rattle.sd_restore.specs.Faulty.{Names}
+use Rattle.sd_restore.specs.Faulty.{FaultNames}
 use Rattle.sd_restore.specs.Reading.{AreRightlyDigested}
 use Rattle.sd_restore.specs.Scanned.{IsScanned}
 use Rattle.sd_opener.specs.Looking.{Looking}
@@ -28,7 +28,7 @@ always (Ok x) p = tt
 always (Err e) p = p
 
 -- a fault that names no slot is one of the others
-none_is : (r : Result (Unit {0}) Fault) (f : Fault) → r ≡ Err f → r ≢ Err EmptyChain → r ≢ Err Device → r ≢ Err OutOfMemory → Names (λ _ _. ⊥) f → ⊥
+none_is : (r : Result (Unit {0}) Fault) (f : Fault) → r ≡ Err f → r ≢ Err EmptyChain → r ≢ Err Device → r ≢ Err OutOfMemory → FaultNames (λ _ _. ⊥) f → ⊥
 none_is r EmptyChain is empty device memory named = empty is
 none_is r (Damaged slot reason) is empty device memory named = named
 none_is r Device is empty device memory named = device is

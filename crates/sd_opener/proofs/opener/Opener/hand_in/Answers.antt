@@ -10,8 +10,8 @@ use Rattle.sd_image.specs.Image.{is_open}
 use Rattle.sd_restore.specs.Scanned.{IsScanned}
 use Rattle.sd_opener.specs.declared.stage.Stage.TheVariants.{Asking}
 use Rattle.sd_opener.specs.Looking.{IsStageOf, Looking, out_of}
-use Rattle.sd_opener.specs.Sees.{EndsAs, HasEnded, IsToldOf, Sees, SeesSlot}
-use Rattle.sd_opener.specs.Left.{Lowers, stage_left}
+use Rattle.sd_opener.specs.Sees.{InspectionEndsAs, InspectionHasEnded, IsToldOf, Sees, SeesSlot}
+use Rattle.sd_opener.specs.Left.{LowersLooking, stage_left}
 use Rattle.sd_opener.proofs.Inspecting.{begins, ends, goes}
 use Rattle.sd_opener.proofs.Lowers.{open_left, slot_lowers, stage_lowers, within_slots}
 use Rattle.sd_opener.proofs.Steps.{back_count, cant_fail, finds_file, looks_on, open_out, open_stage, passes, within_files}
@@ -69,7 +69,7 @@ returns-in-Some-Open-clause-sees c files request told sees =
     let found = finds_file c.inspection_finds.ensures files request _ c.in-Asking.plan c.settle.new.self c.args.outcome c.settle.result c.in-Asking.is c.settle.ensures.settled was is c.in-Finished.is in
     let plan_is : c.settle.new.self ≡ c.in-Some.ensures.found.0 = (let same : Asking c.settle.new.self ≡ Asking c.in-Some.ensures.found.0 = c.in-Some.ensures.found.1 in cc) in
     let back = c.in-Some.ensures.found.2 ∙ ap (λ p. p.found) (sym plan_is) in
-    let end = subst (EndsAs (file_at files n)) c.in-Some-Open.field-0-is (c.in-Some-Open.ensures.sees (file_at files n) (subst (IsFound (file_at files n)) (sym back) found)) in (
+    let end = subst (InspectionEndsAs (file_at files n)) c.in-Some-Open.field-0-is (c.in-Some-Open.ensures.sees (file_at files n) (subst (IsFound (file_at files n)) (sym back) found)) in (
       refl,
       record {
         count = was.count;
@@ -87,7 +87,7 @@ returns-in-Some-Closed-clause-sees c files request told sees =
     let found = finds_file c.inspection_finds.ensures files request _ c.in-Asking.plan c.settle.new.self c.args.outcome c.settle.result c.in-Asking.is c.settle.ensures.settled was is c.in-Finished.is in
     let plan_is : c.settle.new.self ≡ c.in-Some.ensures.found.0 = (let same : Asking c.settle.new.self ≡ Asking c.in-Some.ensures.found.0 = c.in-Some.ensures.found.1 in cc) in
     let back = c.in-Some.ensures.found.2 ∙ ap (λ p. p.found) (sym plan_is) in
-    let end = subst (EndsAs (file_at files n)) c.in-Some-Closed.field-0-is (c.in-Some-Closed.ensures.sees (file_at files n) (subst (IsFound (file_at files n)) (sym back) found)) in
+    let end = subst (InspectionEndsAs (file_at files n)) c.in-Some-Closed.field-0-is (c.in-Some-Closed.ensures.sees (file_at files n) (subst (IsFound (file_at files n)) (sym back) found)) in
     let long : c.len-slot.result ≡ n = c.len-slot.ensures ∙ c.self.inside.told.ok.0 in
     let within = within_files c.inspection_finds.ensures files request _ c.in-Asking.plan c.settle.new.self c.args.outcome c.settle.result c.in-Asking.is c.settle.ensures.settled was is
     was.count c.self.invariant.within
@@ -113,7 +113,7 @@ returns-in-Some-Open-clause-lowers c out goes =
     let one = ap stage_left c.put_stage-in-Some-Open.ensures ∙ open_left c.in-Some-Open.stage (c.in-Some-Open.ensures.open c.in-Some-Open.stage c.in-Some-Open.field-0-is) in
     let within = within_slots _ _ c.args.outcome.request.id c.self.invariant own in
     let next : Looking = record { slots = c.self.inside.slots; told = c.self.inside.told.items; stage = c.put_stage-in-Some-Open.new.stage; scanned = c.self.inside.scanned } in
-    subst (λ v. Lowers v next) c.self.view_is
+    subst (λ v. LowersLooking v next) c.self.view_is
     (stage_lowers c.self.inside.slots (length c.self.inside.told.items) c.self.inside.stage c.put_stage-in-Some-Open.new.stage within (omega (arith, fewer, before, one)))
 
 pub returns-in-Some-Closed-clause-lowers : goal.returns-in-Some-Closed-clause-lowers
@@ -123,7 +123,7 @@ returns-in-Some-Closed-clause-lowers c out goes =
     let more = ap length c.push.ensures.items ∙ ap (λ r. length (if is_ok r then c.self.inside.told.items ++ c.in-Some-Closed.phase ∷ [] else c.self.inside.told.items)) c.unwrap.ensures
     ∙ back_count c.self.inside.told.items c.in-Some-Closed.phase in
     let next : Looking = record { slots = c.self.inside.slots; told = c.push.new.self.items; stage = c.put_stage-in-Some-Closed.new.stage; scanned = c.self.inside.scanned } in
-    subst (λ v. Lowers v next) c.self.view_is
+    subst (λ v. LowersLooking v next) c.self.view_is
     (slot_lowers c.self.inside.slots (length c.self.inside.told.items) (length c.push.new.self.items) c.self.inside.stage c.put_stage-in-Some-Closed.new.stage within
     (omega (arith, more)) (ap stage_left (c.put_stage-in-Some-Closed.ensures ∙ c.first_stage-in-Some-Closed.ensures)))
 
@@ -156,7 +156,7 @@ returns-in-None-clause-goes_on c own as_asked =
     let plan_is : c.settle.new.self ≡ c.in-Some.ensures.found.0 = (let same : Asking c.settle.new.self ≡ Asking c.in-Some.ensures.found.0 = c.in-Some.ensures.found.1 in cc) in
     let back = c.in-Some.ensures.found.2 ∙ ap (λ (p : Planned). p.found) (sym plan_is) in
     let ended = ends c.in-Asking.plan c.settle.new.self c.args.outcome out was.1 went.0 as_asked (sym went.1 ∙ c.in-Finished.is) in
-    absurd (let no : false ≡ true = ap is_some (sym c.in-None.is) ∙ c.slot_end.ensures.ended (subst HasEnded (sym back) ended) in cc)
+    absurd (let no : false ≡ true = ap is_some (sym c.in-None.is) ∙ c.slot_end.ensures.ended (subst InspectionHasEnded (sym back) ended) in cc)
 
 pub invariant_of-self-in-Some-Closed : goal.invariant_of-self-in-Some-Closed
 invariant_of-self-in-Some-Closed c =

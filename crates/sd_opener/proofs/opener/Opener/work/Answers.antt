@@ -11,7 +11,7 @@ use Rattle.sd_restore.specs.Scanned.{IsScanned}
 use Rattle.sd_opener.specs.declared.stage.Stage.TheVariants.{Asking}
 use Rattle.sd_opener.specs.Sees.{Sees, SeesSlot}
 use Rattle.sd_opener.proofs.Ends.{broken_is_faulty, whole_phase}
-use Rattle.sd_opener.specs.Left.{Lowers, stage_left}
+use Rattle.sd_opener.specs.Left.{LowersLooking, stage_left}
 use Rattle.sd_opener.specs.Looking.{Looking}
 use Rattle.sd_opener.proofs.Lowers.{slot_lowers}
 use Rattle.sd_opener.proofs.Steps.{back_count, faulty_is_no_store, passes}
@@ -64,6 +64,6 @@ returns-in_ok-take_in-in-Ok-clause-lowers c =
     let more = ap length c.push.ensures.items ∙ ap (λ r. length (if is_ok r then c.self.inside.told.items ++ Whole ∷ [] else c.self.inside.told.items)) c.unwrap.ensures
     ∙ back_count c.self.inside.told.items Whole in
     let next : Looking = record { slots = c.self.inside.slots; told = c.push.new.self.items; stage = c.put_stage.new.stage; scanned = c.take_in.new.self } in
-    subst (λ v. Lowers v next) c.self.view_is
+    subst (λ v. LowersLooking v next) c.self.view_is
     (slot_lowers c.self.inside.slots (length c.self.inside.told.items) (length c.push.new.self.items) c.self.inside.stage c.put_stage.new.stage within
     (omega (arith, more)) (ap stage_left (c.put_stage.ensures ∙ c.first_stage.ensures)))

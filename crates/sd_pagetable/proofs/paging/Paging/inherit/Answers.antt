@@ -2,7 +2,7 @@ use Rattle.std.proofs.Common.{◌≡◌, ℕ, ap, ◌∙◌, sym, subst, IsSome,
 use Rattle.std.specs.Option.{IfSome}
 use Rattle.sd_tables.specs.declared.entry.Entry.{Entry}
 use Rattle.sd_pagetable.specs.Nested.{Nested, value_at, put_at}
-use Rattle.sd_pagetable.specs.Page.{Page}
+use Rattle.sd_pagetable.specs.Page.{PageState}
 use Rattle.sd_pagetable.specs.Contents.{Contents, page_at, put_page}
 use Rattle.sd_frames.specs.Frames.{Pool}
 use Rattle.sd_pagetable.specs.View.{page_of_entry, contents_of, IsKept}
@@ -31,7 +31,7 @@ record Inherits (pool : Pool) (tables : Nested Entry) (n parent child page : ℕ
   here : value_at (put_at tables parent page (shared_entry e)) child page ≡ Some own
   none : own.frame ≡ None
 
-inherits : (pool : Pool) (tables : Nested Entry) (n parent child page : ℕ) (e : Entry) (m : Contents) → IsKept pool tables n → contents_of pool tables ≡ m → value_at tables parent page ≡ Some e → (parent ≡ child → ⊥) → IsSome (page_at m child page) → IfSome (page_at m child page) (λ (own : Page). own.class ≡ None) → Inherits pool tables n parent child page e
+inherits : (pool : Pool) (tables : Nested Entry) (n parent child page : ℕ) (e : Entry) (m : Contents) → IsKept pool tables n → contents_of pool tables ≡ m → value_at tables parent page ≡ Some e → (parent ≡ child → ⊥) → IsSome (page_at m child page) → IfSome (page_at m child page) (λ (own : PageState). own.class ≡ None) → Inherits pool tables n parent child page e
 inherits pool tables n parent child page e m kept v h apart mapped fresh =
     let x = some_of (page_at m child page) mapped in
     let own = page_entry pool tables child page x.0 (ap (λ (z : Contents). page_at z child page) v ∙ x.1) in
@@ -40,7 +40,7 @@ inherits pool tables n parent child page e m kept v h apart mapped fresh =
       there = value_at-put tables parent page (shared_entry e) parent page ∙ cond-true _ _ _ (and_from _ _ (eq-eqb parent parent refl) (eq-eqb page page refl));
       own = own.0;
       here = value_at-put tables parent page (shared_entry e) child page ∙ cond-false _ _ _ (and_left _ _ (ne_eqb child parent (λ same. apart (sym same)))) ∙ own.1;
-      none = ap (λ (z : Page). z.class) own.2 ∙ rw x.1 at fresh;
+      none = ap (λ (z : PageState). z.class) own.2 ∙ rw x.1 at fresh;
     }
 
 pub replace-requires : goal.replace-requires

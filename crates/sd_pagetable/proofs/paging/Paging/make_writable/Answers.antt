@@ -2,7 +2,7 @@ use Rattle.std.proofs.Common.{◌≡◌, ℕ, ap, ◌∙◌, sym, subst, refl, O
 use Rattle.std.specs.Option.{IfSome}
 use Rattle.sd_tables.specs.declared.entry.Entry.{Entry}
 use Rattle.sd_pagetable.specs.Nested.{Nested, value_at, put_at}
-use Rattle.sd_pagetable.specs.Page.{Page}
+use Rattle.sd_pagetable.specs.Page.{PageState}
 use Rattle.sd_pagetable.specs.Contents.{Contents, page_at, IsSound}
 use Rattle.sd_frames.specs.Frames.{Pool, IsExhausted, HasFree}
 use Rattle.sd_pagetable.specs.View.{contents_of, HasEntry, IsKept}
@@ -52,8 +52,8 @@ returns-in_err-frame-clause-tested c = λ is.
     due_room c.self.inside.frames c.self.inside.tables c.self.inside.mapped c.self.invariant c.args.space c.args.page c.args.entry (entry_seen c.self.inside.frames c.self.inside.tables c.args.self.now c.args.space c.args.page c.args.entry c.self.view_is c.requires.there) c.args.self.now c.self.view_is
     (inr (left p.0 c.self.inside.frames c.from_residual.result p.1 is (rw p.2 c.in_err-frame.ensures.refused)))
 
-write_here : (pool : Pool) (tables : Nested Entry) (m : Contents) (s p : ℕ) (e : Entry) → contents_of pool tables ≡ m → value_at tables s p ≡ Some e → IfSome (page_at m s p) (λ (before : Page). before.prot.write ≡ true) → e.prot.write ≡ true
-write_here pool tables m s p e v h w = rw (entry_there pool tables s p e h) at (subst (λ (n : Contents). IfSome (page_at n s p) (λ (before : Page). before.prot.write ≡ true)) (sym v) w)
+write_here : (pool : Pool) (tables : Nested Entry) (m : Contents) (s p : ℕ) (e : Entry) → contents_of pool tables ≡ m → value_at tables s p ≡ Some e → IfSome (page_at m s p) (λ (before : PageState). before.prot.write ≡ true) → e.prot.write ≡ true
+write_here pool tables m s p e v h w = rw (entry_there pool tables s p e h) at (subst (λ (n : Contents). IfSome (page_at n s p) (λ (before : PageState). before.prot.write ≡ true)) (sym v) w)
 
 pub replace-requires : goal.replace-requires
 replace-requires c = rw (entry_seen c.self.inside.frames c.self.inside.tables c.args.self.now c.args.space c.args.page c.args.entry c.self.view_is c.requires.there) refl

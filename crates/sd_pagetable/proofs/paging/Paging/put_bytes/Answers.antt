@@ -2,7 +2,7 @@ use Rattle.std.proofs.Common.{◌≡◌, ℕ, ◌<◌, ap, ◌∙◌, sym, subst
 use Rattle.std.specs.Option.{IfSome}
 use Rattle.sd_tables.specs.declared.entry.Entry.{Entry}
 use Rattle.sd_pagetable.specs.Nested.{Nested, value_at, put_at}
-use Rattle.sd_pagetable.specs.Page.{Page}
+use Rattle.sd_pagetable.specs.Page.{PageState}
 use Rattle.sd_pagetable.specs.Contents.{Contents, page_at, put_page, members, is_full}
 use Rattle.sd_frames.specs.Frames.{Pool, Cell, cell_at, SetsCell}
 use Rattle.sd_pagetable.specs.View.{page_of_entry, contents_of, IsKept}
@@ -19,11 +19,11 @@ pub place-requires-clause-free : goal.place-requires-clause-free
 place-requires-clause-free c = free_room c.self.inside.frames c.self.inside.tables c.self.inside.mapped c.self.invariant (ap is_full c.self.view_is ∙ c.requires.room)
 
 -- the entry of a page without a frame
-bare : (pool : Pool) (tables : Nested Entry) (m : Contents) (s p : ℕ) (e : Entry) → contents_of pool tables ≡ m → value_at tables s p ≡ Some e → IfSome (page_at m s p) (λ (before : Page). (before.class ≡ None) × (before.writable ≡ false)) → (e.frame ≡ None) × (e.writable ≡ false)
-bare pool tables m s p e v h w = rw (entry_there pool tables s p e h) at (subst (λ (n : Contents). IfSome (page_at n s p) (λ (before : Page). (before.class ≡ None) × (before.writable ≡ false))) (sym v) w)
+bare : (pool : Pool) (tables : Nested Entry) (m : Contents) (s p : ℕ) (e : Entry) → contents_of pool tables ≡ m → value_at tables s p ≡ Some e → IfSome (page_at m s p) (λ (before : PageState). (before.class ≡ None) × (before.writable ≡ false)) → (e.frame ≡ None) × (e.writable ≡ false)
+bare pool tables m s p e v h w = rw (entry_there pool tables s p e h) at (subst (λ (n : Contents). IfSome (page_at n s p) (λ (before : PageState). (before.class ≡ None) × (before.writable ≡ false))) (sym v) w)
 
 module _ (old new : Pool) (tables again : Nested Entry) (n s p : ℕ) (e f : Entry) (own : ℕ) (cell : Cell) (bytes : List ℕ) (m : Contents) (kept : IsKept old tables n) (h : value_at tables s p ≡ Some e) (v : contents_of old tables ≡ m)
-    (fresh : IfSome (page_at m s p) (λ (before : Page). (before.class ≡ None) × (before.writable ≡ false))) (free : cell_at old own ≡ None) (within : own < old.size) (is : cell ≡ record { count = 1; bytes = bytes })
+    (fresh : IfSome (page_at m s p) (λ (before : PageState). (before.class ≡ None) × (before.writable ≡ false))) (free : cell_at old own ≡ None) (within : own < old.size) (is : cell ≡ record { count = 1; bytes = bytes })
     (sets : SetsCell old new own (Some cell)) (put : again ≡ put_at tables s p f) (entry : f ≡ record e { frame = Some own }) where
   sets_bytes : SetsCell old new own (Some (record { count = 1; bytes = bytes }))
   sets_bytes = subst (λ (c : Cell). SetsCell old new own (Some c)) is sets
@@ -44,7 +44,7 @@ module _ (old new : Pool) (tables again : Nested Entry) (n s p : ℕ) (e f : Ent
             ∙ ap (λ (z : Contents). put_page z s p (record (page_of_entry old e) { bytes = bytes; class = Some own })) v,
       )
 
-  given_page : IfSome (page_at m s p) (λ (before : Page). GivesFrame m s p before bytes (contents_of new again))
+  given_page : IfSome (page_at m s p) (λ (before : PageState). GivesFrame m s p before bytes (contents_of new again))
   given_page = rw (ap (λ (z : Contents). page_at z s p) (sym v) ∙ entry_there old tables s p e h) gives_again
 
 pub invariant_of-self-2 : goal.invariant_of-self-2

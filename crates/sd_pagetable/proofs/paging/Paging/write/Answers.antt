@@ -2,7 +2,7 @@ use Rattle.std.proofs.Common.{◌≡◌, ℕ, ap, ◌∙◌, sym, subst, Option,
 use Rattle.std.specs.Option.{IfSome}
 use Rattle.sd_tables.specs.declared.entry.Entry.{Entry}
 use Rattle.sd_pagetable.specs.Nested.{Nested, value_at}
-use Rattle.sd_pagetable.specs.Page.{Page, stored_page}
+use Rattle.sd_pagetable.specs.Page.{PageState, stored_page}
 use Rattle.sd_pagetable.specs.Contents.{Contents, page_at, put_page}
 use Rattle.sd_pagetable.specs.Access.{stored_at}
 use Rattle.sd_frames.specs.Frames.{Pool, frame_bytes}
@@ -24,7 +24,7 @@ returns c =
     let h = entry_seen c.self.inside.frames c.self.inside.tables c.args.self.now c.args.space c.args.page c.args.entry c.self.view_is c.requires.there in
     let there = entry_there c.self.inside.frames c.self.inside.tables c.args.space c.args.page c.args.entry h in
     let now = (kept_written c.self.inside.frames c.write.new.self c.self.inside.tables c.self.inside.mapped c.args.space c.args.page c.args.entry c.in-Some.frame _ c.self.invariant h c.in-Some.is c.requires.writable c.write.ensures).1 in
-    subst (λ (m : Contents). IfSome (page_at m c.args.space c.args.page) (λ (before : Page). contents_of c.write.new.self c.self.inside.tables ≡ put_page m c.args.space c.args.page (stored_page before (stored_at before.bytes c.args.offset c.args.bytes.now)))) c.self.view_is
+    subst (λ (m : Contents). IfSome (page_at m c.args.space c.args.page) (λ (before : PageState). contents_of c.write.new.self c.self.inside.tables ≡ put_page m c.args.space c.args.page (stored_page before (stored_at before.bytes c.args.offset c.args.bytes.now)))) c.self.view_is
     (rw there (now ∙ ap (λ (bytes : List ℕ). put_page (contents_of c.self.inside.frames c.self.inside.tables) c.args.space c.args.page (record { prot = c.args.entry.prot; bytes = stored_at bytes c.args.offset c.args.bytes.now; class = c.args.entry.frame; writable = c.args.entry.writable; soft_dirty = c.args.entry.soft_dirty })) (sym (ap (frame_bytes c.self.inside.frames) c.in-Some.is))))
 
 pub returns-in_default : goal.returns-in_default

@@ -1,6 +1,6 @@
 use Rattle.std.proofs.Common.{◌≡◌, ◌/◌, ◌*◌, ◌+◌, ℕ, List, Option, Bor, IfSome, is_some, slice_range, length, Some, ap, sym, ◌∙◌, subst}
 use Rattle.sd_pagetable.specs.Contents.{page_at}
-use Rattle.sd_pagetable.specs.Page.{Page}
+use Rattle.sd_pagetable.specs.Page.{PageState}
 use Rattle.sd_pagetable.specs.Sectors.{sector_bytes}
 use Rattle.sd_rounds.specs.Pass.{Pass}
 use Rattle.sd_rounds.specs.Rounds.{taking_of}
@@ -13,7 +13,7 @@ returns-then-ends_in_zeros-clause-copied c =
     let read : WasRead c.args.memory.now (c.in-Some.space, c.in-Some.page) (length c.self.inside.copy / 512) (sector_bytes c.in-Some-framed_sector.sector) =
     subst (λ n. WasRead c.args.memory.now (c.in-Some.space, c.in-Some.page) (n / 512) (sector_bytes c.in-Some-framed_sector.sector)) len
     (was_read c.args.memory.now (c.in-Some.space, c.in-Some.page) (c.len-number.result / 512) (sector_bytes c.in-Some-framed_sector.sector)
-    (sym c.framed_sector.ensures.mapped ∙ ap is_some c.in-Some-framed_sector.is) c.framed_sector.ensures.whole (subst (λ (r : Option (Option (Bor (List ℕ)))). IfSome r (λ sector. IfSome (page_at c.args.memory.now c.in-Some.space c.in-Some.page) (λ (found : Page).
+    (sym c.framed_sector.ensures.mapped ∙ ap is_some c.in-Some-framed_sector.is) c.framed_sector.ensures.whole (subst (λ (r : Option (Option (Bor (List ℕ)))). IfSome r (λ sector. IfSome (page_at c.args.memory.now c.in-Some.space c.in-Some.page) (λ (found : PageState).
     sector_bytes sector ≡ slice_range found.bytes (512 * (c.len-number.result / 512)) (512 * (c.len-number.result / 512) + 512)))) c.in-Some-framed_sector.is c.framed_sector.ensures.bytes)) in
     let is = taken_is c.self.inside.takes_all c.self.inside.tables.items c.self.inside.after c.self.inside.taking c.self.inside.copy (c.in-Some.space, c.in-Some.page) c.in-Some.is in
     copies_zeros c.self.inside.takes_all c.self.inside.tables.items c.self.inside.after c.self.inside.taking c.self.inside.copy
@@ -28,7 +28,7 @@ returns-clause-copied c =
     let read : WasRead c.args.memory.now (c.in-Some.space, c.in-Some.page) (length c.self.inside.copy / 512) (sector_bytes c.in-Some-framed_sector.sector) =
     subst (λ n. WasRead c.args.memory.now (c.in-Some.space, c.in-Some.page) (n / 512) (sector_bytes c.in-Some-framed_sector.sector)) len
     (was_read c.args.memory.now (c.in-Some.space, c.in-Some.page) (c.len-number.result / 512) (sector_bytes c.in-Some-framed_sector.sector)
-    (sym c.framed_sector.ensures.mapped ∙ ap is_some c.in-Some-framed_sector.is) c.framed_sector.ensures.whole (subst (λ (r : Option (Option (Bor (List ℕ)))). IfSome r (λ sector. IfSome (page_at c.args.memory.now c.in-Some.space c.in-Some.page) (λ (found : Page).
+    (sym c.framed_sector.ensures.mapped ∙ ap is_some c.in-Some-framed_sector.is) c.framed_sector.ensures.whole (subst (λ (r : Option (Option (Bor (List ℕ)))). IfSome r (λ sector. IfSome (page_at c.args.memory.now c.in-Some.space c.in-Some.page) (λ (found : PageState).
     sector_bytes sector ≡ slice_range found.bytes (512 * (c.len-number.result / 512)) (512 * (c.len-number.result / 512) + 512)))) c.in-Some-framed_sector.is c.framed_sector.ensures.bytes)) in
     let is = taken_is c.self.inside.takes_all c.self.inside.tables.items c.self.inside.after c.self.inside.taking c.self.inside.copy (c.in-Some.space, c.in-Some.page) c.in-Some.is in
     copies_more c.self.inside.takes_all c.self.inside.tables.items c.self.inside.after c.self.inside.taking c.self.inside.copy

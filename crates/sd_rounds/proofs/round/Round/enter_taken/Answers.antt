@@ -1,6 +1,6 @@
 use Rattle.std.proofs.Common.{◌≡◌, Some, sym, ◌∙◌, ap, subst}
 use Rattle.sd_rounds.specs.Pass.{Pass, place_taken, with_entry}
-use Rattle.sd_rounds.specs.Rounds.{source}
+use Rattle.sd_rounds.specs.Rounds.{entry_parent}
 use Rattle.sd_rounds.proofs.RoundLemmas.{at_cursor, ends_taken, entered_round, entered_view, place_back}
 use Rattle.sd_rounds.proofs.round.Round.enter_taken.Goals as goal
 
@@ -24,7 +24,7 @@ invariant_of-self-2 c =
     let within = c.self.invariant.spaces (c.args.space, c.args.page) cursor in
     entered_round c.self.inside.takes_all c.self.inside.tables.items c.push_entry.new.tables.items c.self.inside.after c.self.inside.taking c.self.inside.copy
     (c.args.space, c.args.page) c.args.kind c.self.invariant is
-    (c.in_ok-push_entry.ensures.more (source c.self.inside.takes_all) c.self.invariant.are (λ e. absurd (c.requires.own e)) within.0 within.1)
+    (c.in_ok-push_entry.ensures.more (entry_parent c.self.inside.takes_all) c.self.invariant.are (λ e. absurd (c.requires.own e)) within.0 within.1)
 
 pub returns-clause-entered : goal.returns-clause-entered
 returns-clause-entered c =
@@ -35,6 +35,6 @@ returns-clause-entered c =
     (c.args.space, c.args.page) c.self.invariant is in
     let within = c.self.invariant.spaces (c.args.space, c.args.page) cursor in
     entered_view c.self.inside.takes_all c.self.inside.tables.items c.push_entry.new.tables.items c.self.inside.after c.self.inside.taking c.self.inside.copy
-    (c.args.space, c.args.page) c.args.kind (source c.self.inside.takes_all)
-    (c.in_ok-push_entry.ensures.more (source c.self.inside.takes_all) c.self.invariant.are (λ e. absurd (c.requires.own e)) within.0 within.1)
+    (c.args.space, c.args.page) c.args.kind (entry_parent c.self.inside.takes_all)
+    (c.in_ok-push_entry.ensures.more (entry_parent c.self.inside.takes_all) c.self.invariant.are (λ e. absurd (c.requires.own e)) within.0 within.1)
     ∙ ap (λ (p : Pass). with_entry p (c.args.space, c.args.page) c.args.kind) c.self.view_is

@@ -1,6 +1,6 @@
 use Rattle.std.proofs.Common.{◌<◌, ◌^◌, subst}
 use Rattle.sd_rounds.specs.Pass.{Pass, Place, data_pages}
-use Rattle.sd_rounds.specs.Rounds.{source}
+use Rattle.sd_rounds.specs.Rounds.{entry_parent}
 use Rattle.sd_rounds.specs.Tables.{listed}
 use Rattle.sd_rounds.proofs.RoomLemmas.{has_room}
 use Rattle.sd_rounds.proofs.RoundLemmas.{at_cursor, ends_taken}
@@ -12,6 +12,6 @@ returns-in-Some c = λ taking is.
     let cursor = at_cursor c.self.inside.takes_all c.self.inside.tables.items c.self.inside.after c.self.inside.taking c.self.inside.copy at c.self.invariant c.in-Some.is in
     let within = c.self.invariant.spaces at cursor in
     subst (λ (p : Pass). data_pages p.entries < 2 ^ 39) c.self.view_is
-    (has_room (source c.self.inside.takes_all) (listed c.self.inside.tables.items) at c.self.invariant.are
+    (has_room (entry_parent c.self.inside.takes_all) (listed c.self.inside.tables.items) at c.self.invariant.are
     (ends_taken c.self.inside.takes_all c.self.inside.tables.items c.self.inside.after c.self.inside.taking c.self.inside.copy at c.self.invariant c.in-Some.is)
     within.0 within.1 (subst (λ n. n < 2 ^ 35) c.number-number.ensures.value c.number-number.ensures.within))
