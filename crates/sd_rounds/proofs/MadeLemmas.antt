@@ -24,7 +24,7 @@ use Rattle.sd_pagetable.specs.Contents.{Contents, page_at, plain_of}
 use Rattle.sd_pagetable.specs.Law.{PlainLaw}
 use Rattle.sd_rounds.specs.Pass.{Place, ImageEntry, Taking, Pass, pages_by, data_pages, has_kind, place_of_entry, taken_as_data}
 use Rattle.sd_rounds.specs.Keeps.{Stored, Chain, EntriesGive, Gave, Keeps, Rests, ChainWithin}
-use Rattle.sd_rounds.specs.Keeps.Gives.{by_data, by_zero, by_parent}
+use Rattle.sd_rounds.specs.Keeps.EntriesGive.{by_data, by_zero, by_parent}
 use Rattle.sd_rounds.specs.Dump.{IsDumped}
 use Rattle.sd_rounds.specs.Made.{run_entries, entries_listed, Lists, IsImageOf, listed_pages, HasTheAreas, MadeLaws}
 use Rattle.sd_rounds.proofs.Clean.{no_some, one_some}
