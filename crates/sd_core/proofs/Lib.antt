@@ -29,6 +29,7 @@ mod OthersLemmas
 mod OutcomeLemmas
 mod OutsLemmas
 mod OwnLemmas
+mod PassLemmas
 mod PreDumpLemmas
 mod RefusalLemmas
 mod RoundLemmas

@@ -6,7 +6,8 @@ use Rattle.sd_gate.specs.Requests.{Asked}
 use Rattle.sd_journal.specs.Kept.{JournalView}
 use Rattle.sd_pagetable.specs.Contents.{Contents}
 use Rattle.sd_rounds.specs.declared.image_step.ImageStep.{ImageStep}
-use Rattle.sd_rounds.specs.declared.image_step.ImageStep.TheVariants.{Call}
+use Rattle.sd_rounds.specs.declared.image_step.ImageStep.TheVariants.{Call, PageCall, TableCall, Frozen, Visited}
+use Rattle.sd_rounds.specs.declared.image_step.ImageStep.TheVariants.{Copied}
 use Rattle.sd_rounds.specs.Dumper.{Dumping, Running, freezes, order_of}
 use Rattle.sd_rounds.specs.Making.{Making, Steps, begun_image}
 
@@ -32,6 +33,15 @@ pub record StepsOn (ticket : ℕ) (old : Dumping) (before : Contents) (step : Im
   pub steps : Steps ticket image before step next after
   pub is : new.running ≡ Some (record running { image = Some next })
   pub counted : new.since_freeze ≡ (if freezes step then 0 else old.since_freeze)
+
+-- a step that visits no page and copies no sector
+abbrev pub IsNoPassStep : ImageStep → Type 0
+IsNoPassStep (Call request) = Unit {0}
+IsNoPassStep (PageCall lane request) = Unit {0}
+IsNoPassStep (TableCall request) = Unit {0}
+IsNoPassStep Frozen = Unit {0}
+IsNoPassStep (Visited visit) = ⊥
+IsNoPassStep (Copied copied) = ⊥
 
 -- the held entries with a running checkpoint's: where it is pending its own serves
 abbrev pub with_two : Option ℕ → ℕ → ℕ

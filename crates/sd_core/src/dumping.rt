@@ -1,14 +1,17 @@
 //! The dumper of a core: its steps, and what it leaves.
-ghost use Rattle.std.specs.Prelude.{◌≡◌, ◌||◌, ◌&&◌, ◌<◌, ◌≤◌, false, None, Some, IsSome, IfOk, OnErr, is_none};
+ghost use Rattle.std.specs.Prelude.{◌≡◌, ◌||◌, ◌&&◌, ◌<◌, ◌≤◌, ℕ, false, None, Some, IsSome, IfOk, IfSome, OnErr};
+ghost use Rattle.std.specs.Prelude.{is_none, Ok};
 ghost use Rattle.sd_chain.specs.Catalog.{Changes, IsHeld};
 ghost use Rattle.sd_gate.specs.declared.call.Call.{Call};
 ghost use Rattle.sd_pagetable.specs.Contents.{plain_of};
-ghost use Rattle.sd_rounds.specs.Dumper.{begun_checkpoint, is_dumping, next_slot};
+ghost use Rattle.sd_rounds.specs.Dumper.{begun_checkpoint, is_dumping, next_slot, serial_of};
+ghost use Rattle.sd_rounds.specs.PassSteps.{NoPageIsNext};
+ghost use Rattle.sd_rounds.specs.PlanSteps.{image_step};
 ghost use Rattle.sd_rounds.specs.Waits.{dumper_must_wait};
 ghost use Rattle.sd_rounds.specs.Left.{left_of};
 ghost use Rattle.sd_crash_safety.specs.DumperSteps.{opens_gate};
 ghost use Rattle.sd_crash_safety.specs.DumperOutcomes.{LeavesCatalog, closes_for_sure};
-ghost use Rattle.sd_core.specs.Dumping.{BeginsNext, LetsGoOfTwo, ReleasesPlace, StepsOn};
+ghost use Rattle.sd_core.specs.Dumping.{BeginsNext, IsNoPassStep, LetsGoOfTwo, ReleasesPlace, StepsOn};
 ghost use Rattle.sd_core.specs.Images.{job_of};
 ghost use Rattle.sd_core.specs.Rounds.{SameRound};
 
@@ -17,7 +20,9 @@ use sd_chain::Catalog;
 use sd_gate::{Call, Phase, Request, SlotState};
 use sd_journal::Journal;
 use sd_pagetable::Memory;
-use sd_rounds::{Dumper, ImageStep, NewImage, NextImage, PageBuffers, WorkError, left_law};
+use sd_rounds::{
+    Dumper, ImageStep, NewImage, NextImage, PageBuffers, PassStep, WorkError, left_law,
+};
 use std::alloc::AllocError;
 
 /// A checkpoint begins.
@@ -58,7 +63,7 @@ pub(crate) fn begin_next(
     }
 }
 
-/// Makes the next step of the image in the making, which awaits no outcome.
+/// Makes the next step of the image in the making, which awaits no outcome, visits no page and copies no sector.
 ///
 /// # Errors
 ///
@@ -71,7 +76,9 @@ pub(crate) fn step_on(
     requires begun { next_slot dumper.old.running ≡ None }
     requires runs { IsSome dumper.old.running }
     requires goes { dumper_must_wait dumper.old.running (plain_of memory.old) ≡ false }
+    requires other { NoPageIsNext dumper.old.running memory.old }
     ensures steps { IfOk result (λ step. StepsOn ticket dumper.old memory.old step dumper.new memory.new) }
+    ensures other { IfOk result (λ step. IsNoPassStep step) }
     ensures job { IfOk result (λ step. job_of dumper.new.running ≡ job_of dumper.old.running) }
     ensures round { IfOk result (λ step. SameRound dumper.old.running dumper.new.running) }
     ensures lowers { IfOk result (λ step. left_of dumper.new.running (plain_of memory.new)
@@ -87,6 +94,42 @@ pub(crate) fn step_on(
     };
     match dumper.work(memory, image, ticket) {
         Ok(step) => Ok(step),
+        Err(WorkError::OutOfMemory) => Err(AllocError),
+        Err(WorkError::Idle | WorkError::Busy) => unreachable!(),
+    }
+}
+
+/// Makes the next step of the image in the making where it visits a page or copies a sector. None where it is another:
+/// nothing changed, and [`step_on`] makes it.
+///
+/// # Errors
+///
+/// Out of memory where a growth was refused. Nothing changed.
+#[inline]
+pub(crate) fn pass_on(
+    dumper: &mut Dumper,
+    memory: &mut Memory,
+) -> Result<Option<PassStep>, AllocError>
+    requires begun { next_slot dumper.old.running ≡ None }
+    requires runs { IsSome dumper.old.running }
+    requires goes { dumper_must_wait dumper.old.running (plain_of memory.old) ≡ false }
+    ensures none { result ≡ Ok None → NoPageIsNext dumper.old.running memory.old
+        × (dumper.new ≡ dumper.old) × (memory.new ≡ memory.old) }
+    ensures steps { IfOk result (λ found. IfSome found (λ step. (ticket : ℕ)
+        → StepsOn ticket dumper.old memory.old (image_step step) dumper.new memory.new)) }
+    ensures serial { IfOk result (λ found. IfSome found (λ step. IsSome (serial_of dumper.new.running))) }
+    ensures job { IfOk result (λ found. IfSome found (λ step.
+        job_of dumper.new.running ≡ job_of dumper.old.running)) }
+    ensures round { IfOk result (λ found. IfSome found (λ step.
+        SameRound dumper.old.running dumper.new.running)) }
+    ensures lowers { IfOk result (λ found. IfSome found (λ step. left_of dumper.new.running (plain_of memory.new)
+        < left_of dumper.old.running (plain_of memory.old))) }
+    ensures err { OnErr result (dumper.new ≡ dumper.old) }
+    ensures err_memory { OnErr result (memory.new ≡ memory.old) }
+{
+    left_law();
+    match dumper.pass(memory) {
+        Ok(found) => Ok(found),
         Err(WorkError::OutOfMemory) => Err(AllocError),
         Err(WorkError::Idle | WorkError::Busy) => unreachable!(),
     }

@@ -37,6 +37,7 @@ mod dumps;
 mod merges;
 mod openings;
 mod orders;
+mod passing;
 mod refusing;
 mod told;
 mod trims;

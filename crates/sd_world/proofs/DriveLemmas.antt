@@ -11,7 +11,7 @@ use Rattle.sd_world.specs.declared.event.Event.TheVariants.{Perform, Work}
 use Rattle.sd_world.specs.Runs.{IsStep}
 use Rattle.sd_world.specs.Steps.{LeavesLess}
 use Rattle.sd_world.specs.View.{WorldView, is_asked}
-use Rattle.sd_world.specs.Jobs.{AreDriven, Drives, is_end, next_event}
+use Rattle.sd_world.specs.Jobs.{AreDriven, AreMade, Drives, is_end, next_event}
 
 -- so many events of a worker, none of which but the last may end its job
 pub record HasDriven {D : Type 0} (g : Ghosts D) (worker : Worker) (count : ℕ) (first : WorldView D) (answer : Reply) (last : WorldView D) : Type 0 where
@@ -74,26 +74,21 @@ module _ {D : Type 0} (g : Ghosts D) (worker : Worker) where
       }
 
   -- the worker's events so far, none of which ended its job
-  pub record HasCalled (first last : WorldView D) : Type 0 where
-    pub before : List Reply
-    pub drives : Drives g worker first before last
-    pub goes_on : AllByRecursion (λ reply. is_end reply ≡ false) before
+  pub called_none : (first : WorldView D) → AreMade g worker first first
+  called_none first = record { answers = []; drives = refl; goes_on = tt }
 
-  pub called_none : (first : WorldView D) → HasCalled first first
-  called_none first = record { before = []; drives = refl; goes_on = tt }
-
-  pub called_more : (first mid last : WorldView D) (answer : Reply) → HasCalled first mid → is_end answer ≡ false
-      → IsStep g (next_event mid.kept worker) mid answer last → HasCalled first last
+  pub called_more : (first mid last : WorldView D) (answer : Reply) → AreMade g worker first mid → is_end answer ≡ false
+      → IsStep g (next_event mid.kept worker) mid answer last → AreMade g worker first last
   called_more first mid last answer so_far goes step = record {
-    before = so_far.before ++ answer ∷ [];
-    drives = drives_more first mid last so_far.before answer so_far.drives step;
-    goes_on = none_ends_more so_far.before answer so_far.goes_on goes;
+    answers = so_far.answers ++ answer ∷ [];
+    drives = drives_more first mid last so_far.answers answer so_far.drives step;
+    goes_on = none_ends_more so_far.answers answer so_far.goes_on goes;
   }
 
-  pub called_driven : (first mid last : WorldView D) (answer : Reply) → HasCalled first mid → IsStep g (next_event mid.kept worker) mid answer last
+  pub called_driven : (first mid last : WorldView D) (answer : Reply) → AreMade g worker first mid → IsStep g (next_event mid.kept worker) mid answer last
       → AreDriven g worker first answer last
   called_driven first mid last answer so_far step =
-      record { before = so_far.before; drives = drives_more first mid last so_far.before answer so_far.drives step; goes_on = so_far.goes_on }
+      record { before = so_far.answers; drives = drives_more first mid last so_far.answers answer so_far.drives step; goes_on = so_far.goes_on }
 
   -- ---- one turn behind another
 

@@ -19,8 +19,10 @@ mod LittleLemmas
 mod LowersLemmas
 mod NumberLemmas
 mod OpenLemmas
+mod PassingLemmas
 mod PerformLemmas
 mod PromiseLemmas
+mod RepeatLemmas
 mod ReplyLemmas
 mod RestoreLemmas
 mod RunLemmas

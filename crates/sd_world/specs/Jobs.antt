@@ -1,6 +1,6 @@
 -- A worker's events, one after the other, and its jobs.
 use Rattle.std.specs.Prelude.{◌≡◌, ◌⊎◌, ◌≤◌, ◌+◌, ℕ, Bool, true, false, if◌then◌else◌, List, [], ◌∷◌, ◌++◌, length}
-use Rattle.std.specs.Prelude.{Result, Ok, Err}
+use Rattle.std.specs.Prelude.{Result, Ok, Err, replicate}
 use Rattle.std.specs.List.{AllByRecursion}
 use Rattle.sd_command.specs.declared.refusal.Refusal.{Refusal}
 use Rattle.sd_command.specs.declared.reply.Reply.{Reply}
@@ -8,11 +8,12 @@ use Rattle.sd_command.specs.declared.reply.Reply.TheVariants.{Done, Bytes, Child
 use Rattle.sd_command.specs.declared.reply.Reply.TheVariants.{Acked, Cancelled, Merged, Trimmed, Reopened, Refused}
 use Rattle.sd_disk.specs.declared.disk.Disk.{Ghosts}
 use Rattle.sd_gate.specs.declared.worker.Worker.{Worker}
+use Rattle.sd_gate.specs.declared.worker.Worker.TheVariants.{Dumper}
 use Rattle.sd_world.specs.declared.event.Event.{Event}
 use Rattle.sd_world.specs.declared.event.Event.TheVariants.{Work, Perform}
 use Rattle.sd_world.specs.declared.kept.Kept.{Kept}
 use Rattle.sd_world.specs.Promise.{Goes, Point}
-use Rattle.sd_world.specs.Runs.{IsStep}
+use Rattle.sd_world.specs.Runs.{IsStep, Runs}
 use Rattle.sd_world.specs.View.{WorldView, is_asked}
 
 -- a worker's next event: its device call where one is out, and else its next step
@@ -40,6 +41,16 @@ abbrev pub Drives : {D : Type 0} → Ghosts D → Worker → WorldView D → Lis
 Drives g worker first [] last = last ≡ first
 Drives {D} g worker first (answer ∷ answers) last =
     (next : WorldView D) × IsStep g (next_event first.kept worker) first answer next × Drives g worker next answers last
+
+-- a worker's next events, none of which ends its job or is refused
+pub record AreMade {D : Type 0} (g : Ghosts D) (worker : Worker) (first last : WorldView D) : Type 0 where
+  pub answers : List Reply
+  pub drives : Drives g worker first answers last
+  pub goes_on : AllByRecursion (λ reply. is_end reply ≡ false) answers
+
+-- so many steps of the dumper, each answered `worked`
+abbrev pub WorksOnly : {D : Type 0} → Ghosts D → ℕ → WorldView D → WorldView D → Type 0
+WorksOnly g count first last = Runs g first (replicate count (Work Dumper)) (replicate count Worked) last
 
 -- A worker's next events, of which only the last may end its job or be refused. The answer is that of the last.
 pub record AreDriven {D : Type 0} (g : Ghosts D) (worker : Worker) (first : WorldView D) (answer : Reply)

@@ -120,15 +120,16 @@ impl<D: Disk> World<D> {
         answer
     }
 
-    /// Makes a worker's device calls, while one is out, and then its next step, unless a call failed. Returns the last
-    /// reply. Where that neither ends the job nor refuses, less of the job is left.
+    /// Makes the next steps of the dumper's pass, a worker's device calls while one is out, and then its next step,
+    /// unless a call failed. Returns the last reply. Where that neither ends the job nor refuses, less of the job is
+    /// left.
     fn turn(&mut self, worker: Worker) -> Reply
         ensures driven { AreDriven D.Disk worker self.old result self.new }
         ensures goes_on { GoesOn D.Disk self.old self.new }
         ensures lowers { is_end result ≡ false
             → left_by self.new.core worker < left_by self.old.core worker }
     {
-        self.sound();
+        self.pass_first(worker);
         while self.is_out(worker) {
             let called = self.make(Event::Perform(worker));
             if is_end(&called) {

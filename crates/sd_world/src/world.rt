@@ -55,6 +55,7 @@ use std::alloc::Global;
 use std::marker::Model;
 
 mod applying;
+mod passing;
 
 /// A core, its disk, and what is kept of the workers between events.
 #[derive(Drop)]

@@ -25,6 +25,8 @@ pub(crate) enum Order {
     GoOn(Worker),
     /// The events of a worker to the end of its job.
     Finish(Worker),
+    /// The dumper's next step, where it visits a page or copies a sector.
+    Pass,
     /// A page is mapped.
     Map,
     /// A byte of it is loaded so many times.
@@ -50,6 +52,7 @@ pub(crate) enum Answer {
     NotJournaled(Refusal),
     Left(u128),
     Idle(bool),
+    Passed(bool),
     /// A reply that no test awaits.
     Other,
 }
@@ -174,6 +177,7 @@ fn ask(core: &mut Core, order: Order) -> Answer {
         Order::Loads(count) => load(core, count),
         Order::Left(worker) => Answer::Left(core.left(worker)),
         Order::Idle(worker) => Answer::Idle(core.is_idle(worker)),
+        Order::Pass => Answer::Passed(core.pass()),
         Order::Open | Order::Save | Order::GoOn(_) | Order::Finish(_) => Answer::Other,
     }
 }

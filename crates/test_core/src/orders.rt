@@ -51,6 +51,27 @@ fn an_open_store_is_not_opened_again(rt: HostRuntime) -> Result<(), Fail> {
     Ok(run(&rt, rt.alloc(), THREE, case)?)
 }
 
+/// A page is visited and its sectors are copied while a checkpoint is at its pass: behind the three calls of its slot's
+/// format and the freeze.
+const PASSED: [Row; 10] = [
+    (Order::Open, Answer::Reopened(None)),
+    (Order::Map, Answer::Journaled),
+    (Order::Pass, Answer::Passed(false)),
+    (Order::Begin(0), Answer::Begun(1)),
+    (Order::Pass, Answer::Passed(false)),
+    (Order::GoOn(Worker::Dumper), Answer::Worked),
+    (Order::GoOn(Worker::Dumper), Answer::Worked),
+    (Order::GoOn(Worker::Dumper), Answer::Worked),
+    (Order::GoOn(Worker::Dumper), Answer::Worked),
+    (Order::Pass, Answer::Passed(true)),
+];
+
+#[test]
+fn a_pass_goes_on_step_by_step(rt: HostRuntime) -> Result<(), Fail> {
+    let case = Case::Answers(&PASSED);
+    Ok(run(&rt, rt.alloc(), THREE, case)?)
+}
+
 /// A store is opened, and a checkpoint, one of whose device calls fails behind so many, is cancelled with this answer.
 fn is_cancelled(
     rt: &impl Abort,

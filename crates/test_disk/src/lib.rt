@@ -12,6 +12,8 @@ mod gates;
 #[cfg(test)]
 mod picks;
 #[cfg(test)]
+mod plan_use;
+#[cfg(test)]
 mod plans;
 #[cfg(test)]
 mod steps;

@@ -3,13 +3,17 @@ use crate::runs::{Part, asks, asks_again};
 use crate::store::{EIGHT, FOUR, Store, TWO};
 use std::test::Fail;
 
-/// A checkpoint, and a store behind it.
+/// A checkpoint, whose one page is visited and copied in one call, and a store behind it.
 const FIRST: &str = "\
 reopen = worked
 open = reopened none
 map = done
 store 4 = done
 begin 0 = begun 1
+pass 1 = done
+steps 10 = worked
+pass 9 = worked
+pass 1 = done
 finish = acked 1
 store 5 = done";
 

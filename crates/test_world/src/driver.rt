@@ -16,6 +16,15 @@ pub(crate) fn steps(world: &mut Tested, count: u64) -> Reply {
     last
 }
 
+/// So many steps of the dumper's pass in one call. `Worked` where it made them all, and else `Done`.
+pub(crate) fn pass(world: &mut Tested, count: u64) -> Reply {
+    if world.pass_on(count) == count {
+        Reply::Worked
+    } else {
+        Reply::Done
+    }
+}
+
 /// One event so often. Returns the last reply.
 pub(crate) fn repeat(world: &mut Tested, event: &Event, count: u64) -> Reply {
     let mut last = Reply::Worked;

@@ -1,5 +1,5 @@
 //! Scripts of a test: each line is what a world is asked, and what it has to answer.
-use crate::driver::{Tested, repeat, steps};
+use crate::driver::{Tested, pass, repeat, steps};
 use sd_areas::{Prot, SpaceId};
 use sd_command::{Bytes, Command, Reply};
 use sd_gate::Worker;
@@ -100,6 +100,7 @@ fn ask(alloc: Global, world: &mut Tested, request: &str) -> Result<Reply, AllocE
     let (word, number) = parts(request);
     match word {
         "steps" => Ok(steps(world, number)),
+        "pass" => Ok(pass(world, number)),
         "loads" => Ok(repeat(world, &loading(), number)),
         "finish" => Ok(world.finish(Worker::Dumper)),
         "open" => Ok(world.finish(Worker::Opener)),

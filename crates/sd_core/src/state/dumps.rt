@@ -7,6 +7,7 @@ ghost use Rattle.sd_merge.specs.Merger.{Running as RunningMerge};
 ghost use Rattle.sd_crash_safety.specs.Calls.{HandedIn};
 ghost use Rattle.sd_gate.specs.declared.worker.Worker.TheVariants as its;
 ghost use Rattle.sd_rounds.specs.Dumper.{Running, next_slot};
+ghost use Rattle.sd_rounds.specs.PassSteps.{NoPageIsNext};
 ghost use Rattle.sd_rounds.specs.Waits.{dumper_must_wait};
 ghost use Rattle.sd_core.specs.Beside.{HandsBeside, StepsBeside};
 ghost use Rattle.sd_core.specs.Images.{IsAcked};
@@ -32,8 +33,9 @@ use sd_command::{Refusal, Reply};
 use sd_crash_safety::{Standing, core_steps, dumper_outcomes, dumper_steps, merger_outcomes};
 use sd_gate::Outcome;
 use sd_journal::{Entry, Mark, due_laws, tracked_laws};
-use sd_pagetable::{clear_law, plain_law};
+use sd_pagetable::plain_law;
 use sd_rounds::{ImageStep, NextImage, Progress, left_law, little_law, rises_law};
+use std::alloc::AllocError;
 
 impl Core {
     /// Makes the dumper's next step, or hands out its next device call.
@@ -117,11 +119,37 @@ impl Core {
         ensures merger { self.new.merger ≡ self.old.merger }
     {
         core_steps();
+        match self.pass_image() {
+            Ok(true) => Taken::Step(Reply::Worked),
+            Ok(false) => self.call_image(),
+            Err(AllocError) => Taken::Step(Reply::Refused(Refusal::OutOfMemory)),
+        }
+    }
+
+    /// Makes the next step of the image in the making that visits no page and copies no sector: hands out its next
+    /// device call, or freezes.
+    ///
+    /// # Errors
+    ///
+    /// `OutOfMemory` where a growth was refused.
+    pub(super) fn call_image(&mut self) -> Taken
+        requires begun { next_slot self.old.dumper.running ≡ None }
+        requires runs { IsSome self.old.dumper.running }
+        requires rests { slice_get self.old.outs 0 ≡ Some None }
+        requires goes { dumper_must_wait self.old.dumper.running (plain_of self.old.memory) ≡ false }
+        requires other { NoPageIsNext self.old.dumper.running self.old.memory }
+        ensures takes { TakesUp self.old its.Dumper result self.new }
+        ensures flags { FlagsByStep self.old its.Dumper result self.new }
+        ensures beside { StepsBeside its.Dumper self.old result self.new }
+        ensures leaves { LeavesByWork self.old its.Dumper result self.new }
+        ensures round { SameRound self.old.dumper.running self.new.dumper.running }
+        ensures merger { self.new.merger ≡ self.old.merger }
+    {
+        core_steps();
         dumper_steps();
         tracked_laws();
         due_laws();
         little_law();
-        clear_law();
         self.dumper.sound();
         let Ok(()) = self.journal.reserve_mark() else {
             return Taken::Step(Reply::Refused(Refusal::OutOfMemory));
@@ -158,15 +186,7 @@ impl Core {
                 self.pending = Some(self.numbers.begun);
                 Taken::Step(Reply::Worked)
             }
-            ImageStep::Visited(visit) => {
-                self.journal.note(Mark::Visit {
-                    serial,
-                    space: visit.space,
-                    page: visit.page,
-                });
-                Taken::Step(Reply::Worked)
-            }
-            ImageStep::Copied(_) => Taken::Step(Reply::Worked),
+            ImageStep::Visited(_) | ImageStep::Copied(_) => unreachable!(),
         }
     }
 

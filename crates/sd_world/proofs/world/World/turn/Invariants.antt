@@ -1,14 +1,15 @@
-use Rattle.std.proofs.Common.{◌≡◌}
+use Rattle.std.proofs.Common.{◌≤◌}
+use Rattle.sd_core.specs.Working.{left_by}
 use Rattle.sd_world.specs.View.{asked_count}
 use Rattle.sd_world.specs.Goes.{GoesOn}
-use Rattle.sd_world.proofs.DriveLemmas.{HasCalled}
+use Rattle.sd_world.specs.Jobs.{AreMade}
 use Rattle.sd_world.proofs.world.World.turn.Given as goal
 
 abbrev pub invariant-loop-self : goal.invariant-loop-self
 invariant-loop-self g l = record {
-  called : HasCalled g.D.Disk l.worker l.fn.self l.self;
+  made : AreMade g.D.Disk l.worker l.fn.self l.self;
   goes_on : GoesOn g.D.Disk l.fn.self l.self;
-  core : l.self.core ≡ l.fn.self.core;
+  less : left_by l.self.core l.worker ≤ left_by l.fn.self.core l.worker;
 }
 
 -- one fewer is out with each

@@ -1,0 +1,197 @@
+use Rattle.std.proofs.Common.{◌≡◌, Some, None, IfSome, is_some, slice_get, ◌∷◌, refl, sym, ◌∙◌, ap, subst, inl, inr, arith}
+use Rattle.sd_gate.specs.declared.worker.Worker.TheVariants as its
+use Rattle.sd_command.specs.declared.reply.Reply.TheVariants as reply
+use Rattle.sd_journal.specs.History.{Base, pending}
+use Rattle.sd_journal.specs.declared.mark.Mark.TheVariants.{Visit}
+use Rattle.sd_journal.specs.Marked.{Noted, entries_of}
+use Rattle.sd_rounds.specs.declared.image_step.ImageStep.TheVariants.{Visited, Copied}
+use Rattle.sd_pagetable.specs.Contents.{plain_of}
+use Rattle.sd_merge.specs.Merger as merger
+use Rattle.sd_rounds.specs.declared.image_order.ImageOrder.{ImageOrder}
+use Rattle.sd_rounds.specs.Dumper.{is_last}
+use Rattle.sd_rounds.specs.PlanSteps.{image_step}
+use Rattle.sd_rounds.specs.Making.{Making}
+use Rattle.sd_core.specs.Grown.{IsGatedStage, has_grown, has_swept}
+use Rattle.sd_core.specs.Dumping.{StepsOn}
+use Rattle.sd_core.specs.Images.{begun_as}
+use Rattle.sd_core.specs.LittleWork.{TakesLittle}
+use Rattle.sd_core.specs.Sound.{AreSoundNumbers, IsImageOf, IsJournal}
+use Rattle.sd_core.specs.Starts.{base_of}
+use Rattle.sd_core.proofs.ImageLemmas.{image_visited, image_copied}
+use Rattle.sd_core.proofs.LaneLemmas.{outs_kept}
+use Rattle.sd_core.proofs.LittleLemmas.{little_of, step_little, visit_more}
+use Rattle.sd_core.proofs.MarkLemmas.{sound_image, visit_journal}
+use Rattle.sd_core.proofs.OpeningLemmas.{step_seen}
+use Rattle.sd_core.proofs.PassLemmas.{step_passed}
+use Rattle.sd_core.proofs.PreDumpLemmas.{same_stay}
+use Rattle.sd_core.proofs.WorkLemmas.{asked_on, at_work, core_working, grown_core, image_of_work, image_within, its_serial, numbers_noted, out_at_work, own_slot, same_numbers, same_places, sound_writes, turned}
+use Rattle.sd_core.proofs.SettledLemmas.{clean_cleared, swept_same}
+use Rattle.sd_core.proofs.StepLemmas.{works_on}
+use Rattle.sd_core.specs.declared.taken.Taken.TheVariants.{Step as StepTaken}
+use Rattle.sd_core.specs.Noted.{marks_of}
+use Rattle.sd_core.proofs.OthersLemmas.{beside_seen, counted_still, keeps_same}
+use Rattle.sd_core.proofs.state.Core.pass_image.Goals as goal
+
+pub invariant_of-self-in-Copied : goal.invariant_of-self-in-Copied
+invariant_of-self-in-Copied c =
+    let base : Base = base_of c.self.inside.base in
+    let w = subst (λ step. StepsOn c.self.inside.numbers.ticket c.self.inside.dumper c.self.inside.memory (image_step step) c.pass_on.new.dumper c.pass_on.new.memory) c.in-Copied.is (step_passed c.self.inside.dumper c.self.inside.memory c.pass_on.new.dumper c.pass_on.new.memory c.in-Ok-pass_on.found c.in-Some.step c.in-Some.is c.in-Ok-pass_on.ensures.steps c.self.inside.numbers.ticket) in
+    let core = grown_core _ c.reserve_mark.new.self c.self.invariant c.in-Ok.ensures.grown in
+    let rests = ap (λ v. slice_get v.outs 0) c.self.view_is ∙ c.requires.rests in
+    let out = out_at_work _ w.running None core w.was rests in
+    let image = image_of_work _ w.running w.image core w.was w.making in
+    let within = image_within _ c.self.inside.dumper.since_freeze w.running w.image core c.sound.ensures.running w.was w.making in
+    let t = image_copied _ _ _ w.image w.next c.self.inside.memory _ image w.steps.0 in
+    core_working _ _ w.is (turned _ _ w.running w.image w.next core (record {
+      was = w.was;
+      making = w.making;
+      is = w.is;
+      merger_is = refl;
+      room = refl;
+      serial = ap (λ (o : ImageOrder). o.serial) t.order;
+      places_stay = same_places w.running c.self.inside.catalog;
+      base = refl;
+      frozen = refl;
+      standing = refl;
+      opener = refl;
+      count = refl;
+      numbers = same_numbers _;
+      entries = refl;
+      held = refl;
+      journal_is = subst (λ m. IsJournal base c.reserve_mark.new.self m c.self.inside.pending c.self.inside.last) (sym w.steps.1) core.journal_is;
+      numbers_are = core.numbers_are;
+      flags_are = core.flags_are;
+      gated = subst (IsGatedStage (is_last w.running) c.self.inside.swept) (sym (ap (λ (m : Making). m.stage) w.steps.0.passes.1 ∙ w.steps.0.passes.0)) tt;
+      swept_is = swept_same c.self.inside.swept c.self.inside.swept c.self.inside.pending c.self.inside.pending c.self.inside.memory c.pass_on.new.memory refl refl w.steps.1 core.swept_is;
+      counted = core.counted;
+      outs = outs_kept w.running w.image w.next (merger.out_of_merge c.self.inside.merger) c.self.inside.outs out.1 w.making (ap (λ (m : Making). m.writes) w.steps.0.passes.1) t.out_is;
+      whose = subst (λ o. IfSome o (λ i. i.worker ≡ its.Dumper)) (sym t.out_is) tt;
+      writes = sound_writes w.running w.next (ap (λ (o : ImageOrder). o.slot) t.order ∙ own_slot c.self.inside.dumper.since_freeze _ w.running w.image c.sound.ensures.running w.was w.making) (sound_image _ (record w.running { image = Some w.next }) w.next c.sound-2.ensures.image w.is refl);
+      stay = same_stay (begun_as w.running) c.self.inside.catalog w.running.opened;
+      asked = asked_on w.running w.image w.next _ t.out_is t.slot (own_slot c.self.inside.dumper.since_freeze _ w.running w.image c.sound.ensures.running w.was w.making);
+      image_is = t.image_is;
+      still = t.still;
+      little = step_little c.little_law.ensures base c.reserve_mark.new.self.items c.reserve_mark.new.self.items c.self.inside.memory c.pass_on.new.memory w.running.number c.self.inside.numbers.ticket w.image w.next (Copied c.in-Copied.field-0) w.steps
+          (sound_image _ w.running w.image c.sound.ensures.image w.was w.making).rising t.still refl refl (little_of base c.reserve_mark.new.self.items c.self.inside.memory c.self.inside.dumper.running w.running w.image core.little w.was w.making);
+    }))
+
+pub invariant_of-self-in-Visited : goal.invariant_of-self-in-Visited
+invariant_of-self-in-Visited c =
+    let base : Base = base_of c.self.inside.base in
+    let w = subst (λ step. StepsOn c.self.inside.numbers.ticket c.self.inside.dumper c.self.inside.memory (image_step step) c.pass_on.new.dumper c.pass_on.new.memory) c.in-Visited.is (step_passed c.self.inside.dumper c.self.inside.memory c.pass_on.new.dumper c.pass_on.new.memory c.in-Ok-pass_on.found c.in-Some.step c.in-Some.is c.in-Ok-pass_on.ensures.steps c.self.inside.numbers.ticket) in
+    let core = grown_core _ c.reserve_mark.new.self c.self.invariant c.in-Ok.ensures.grown in
+    let rests = ap (λ v. slice_get v.outs 0) c.self.view_is ∙ c.requires.rests in
+    let out = out_at_work _ w.running None core w.was rests in
+    let image = image_of_work _ w.running w.image core w.was w.making in
+    let within = image_within _ c.self.inside.dumper.since_freeze w.running w.image core c.sound.ensures.running w.was w.making in
+    let t = image_visited _ _ _ w.image w.next c.self.inside.memory _ _ image w.steps in
+    let given = image.given in
+    let own_serial = its_serial _ w.running w.next c.serial.result _ w.is c.serial.ensures c.in-Some-serial.is ∙ ap (λ (o : ImageOrder). o.serial) t.order in
+    let items = c.note.ensures.items ∙ ap (λ s. Noted (Visit s c.in-Visited.visit.space c.in-Visited.visit.page) ∷ c.reserve_mark.new.self.items) own_serial in
+    core_working _ _ w.is (turned _ _ w.running w.image w.next core (record {
+      was = w.was;
+      making = w.making;
+      is = w.is;
+      merger_is = refl;
+      room = refl;
+      serial = ap (λ (o : ImageOrder). o.serial) t.order;
+      places_stay = same_places w.running c.self.inside.catalog;
+      base = refl;
+      frozen = refl;
+      standing = refl;
+      opener = refl;
+      count = refl;
+      numbers = same_numbers _;
+      entries = ap entries_of items;
+      held = c.note.ensures.held;
+      journal_is = visit_journal c.tracked_laws.ensures _ w.running w.image w.next _ _ c.note.new.self core w.was w.making w.steps items c.note.ensures.numbers.first c.note.ensures.numbers.limit;
+      numbers_are = subst (λ all. AreSoundNumbers base all c.self.inside.pending c.self.inside.last c.self.inside.numbers) (sym items)
+          (numbers_noted base c.reserve_mark.new.self.items c.self.inside.pending c.self.inside.last c.self.inside.numbers (Visit w.image.order.serial c.in-Visited.visit.space c.in-Visited.visit.page) (omega (arith, given)) core.numbers_are);
+      flags_are = record { grown = core.flags_are.grown ∙ ap (λ all. has_grown base (entries_of all)) (sym items); swept_by = core.flags_are.swept_by ∙ ap has_swept (sym items); sure = core.flags_are.sure };
+      gated = subst (IsGatedStage (is_last w.running) c.self.inside.swept) (sym (ap (λ (m : Making). m.stage) w.steps.passes.1 ∙ w.steps.passes.0)) tt;
+      swept_is = λ is. ((core.swept_is is).0, clean_cleared c.clear_law.ensures c.self.inside.memory c.pass_on.new.memory c.in-Visited.visit.space c.in-Visited.visit.page w.steps.tests.cleared (core.swept_is is).1);
+      counted = core.counted;
+      outs = outs_kept w.running w.image w.next (merger.out_of_merge c.self.inside.merger) c.self.inside.outs out.1 w.making (ap (λ (m : Making). m.writes) w.steps.passes.1) t.out_is;
+      whose = subst (λ o. IfSome o (λ i. i.worker ≡ its.Dumper)) (sym t.out_is) tt;
+      writes = sound_writes w.running w.next (ap (λ (o : ImageOrder). o.slot) t.order ∙ own_slot c.self.inside.dumper.since_freeze _ w.running w.image c.sound.ensures.running w.was w.making) (sound_image _ (record w.running { image = Some w.next }) w.next c.sound-2.ensures.image w.is refl);
+      stay = same_stay (begun_as w.running) c.self.inside.catalog w.running.opened;
+      asked = asked_on w.running w.image w.next _ t.out_is t.slot (own_slot c.self.inside.dumper.since_freeze _ w.running w.image c.sound.ensures.running w.was w.making);
+      image_is = subst (λ all. IsImageOf all c.self.inside.catalog c.self.inside.numbers w.next) (sym items) t.image_is;
+      still = t.still;
+      little = subst (λ all. TakesLittle base all c.pass_on.new.memory w.running.number w.next) (sym items)
+          (step_little c.little_law.ensures base c.reserve_mark.new.self.items (Noted (Visit w.image.order.serial c.in-Visited.visit.space c.in-Visited.visit.page) ∷ c.reserve_mark.new.self.items) c.self.inside.memory c.pass_on.new.memory w.running.number c.self.inside.numbers.ticket w.image w.next (Visited c.in-Visited.visit) w.steps
+          (sound_image _ w.running w.image c.sound.ensures.image w.was w.making).rising t.still (visit_more c.due_laws.ensures base c.reserve_mark.new.self.items c.self.inside.memory c.pass_on.new.memory w.image w.next c.in-Visited.visit w.image.order.serial core.journal_is.tracked w.steps) refl (little_of base c.reserve_mark.new.self.items c.self.inside.memory c.self.inside.dumper.running w.running w.image core.little w.was w.making));
+    }))
+
+pub returns-in-Copied-clause-takes : goal.returns-in-Copied-clause-takes
+returns-in-Copied-clause-takes c =
+    let base : Base = base_of c.self.inside.base in
+    let w = subst (λ step. StepsOn c.self.inside.numbers.ticket c.self.inside.dumper c.self.inside.memory (image_step step) c.pass_on.new.dumper c.pass_on.new.memory) c.in-Copied.is (step_passed c.self.inside.dumper c.self.inside.memory c.pass_on.new.dumper c.pass_on.new.memory c.in-Ok-pass_on.found c.in-Some.step c.in-Some.is c.in-Ok-pass_on.ensures.steps c.self.inside.numbers.ticket) in
+    let rests = ap (λ v. slice_get v.outs 0) c.self.view_is ∙ c.requires.rests in
+    let out = out_at_work _ w.running None c.self.invariant w.was rests in
+    let work = at_work _ w.running c.self.invariant w.was in
+    λ _. step_seen its.Dumper reply.Worked _ _ _ c.self.view_is (works_on c.dumper_steps.ensures _ _ w.running w.image w.next c.self.inside.numbers.ticket (Copied c.in-Copied.field-0) tt (record {
+      rest = record { stands = work.stands; base = refl; closed = work.closed; grows = refl; merger = refl };
+      history = ap entries_of c.in-Ok.ensures.grown.items;
+      catalog = refl;
+      phases = refl;
+      serial = refl;
+      outs = refl;
+      was = w.was;
+      making = w.making;
+      rising = (sound_image _ w.running w.image c.sound.ensures.image w.was w.making).rising;
+      steps = w.steps;
+      plain = ap plain_of w.steps.1;
+      committing = refl;
+      is = w.is;
+    }))
+
+pub returns-in-Visited-clause-takes : goal.returns-in-Visited-clause-takes
+returns-in-Visited-clause-takes c =
+    let base : Base = base_of c.self.inside.base in
+    let w = subst (λ step. StepsOn c.self.inside.numbers.ticket c.self.inside.dumper c.self.inside.memory (image_step step) c.pass_on.new.dumper c.pass_on.new.memory) c.in-Visited.is (step_passed c.self.inside.dumper c.self.inside.memory c.pass_on.new.dumper c.pass_on.new.memory c.in-Ok-pass_on.found c.in-Some.step c.in-Some.is c.in-Ok-pass_on.ensures.steps c.self.inside.numbers.ticket) in
+    let rests = ap (λ v. slice_get v.outs 0) c.self.view_is ∙ c.requires.rests in
+    let out = out_at_work _ w.running None c.self.invariant w.was rests in
+    let work = at_work _ w.running c.self.invariant w.was in
+    λ _. step_seen its.Dumper reply.Worked _ _ _ c.self.view_is (works_on c.dumper_steps.ensures _ _ w.running w.image w.next c.self.inside.numbers.ticket (Visited c.in-Visited.visit) tt (record {
+      rest = record { stands = work.stands; base = refl; closed = work.closed; grows = refl; merger = refl };
+      history = ap entries_of (c.note.ensures.items) ∙ ap entries_of c.in-Ok.ensures.grown.items;
+      catalog = refl;
+      phases = refl;
+      serial = refl;
+      outs = refl;
+      was = w.was;
+      making = w.making;
+      rising = (sound_image _ w.running w.image c.sound.ensures.image w.was w.making).rising;
+      steps = w.steps;
+      plain = w.steps.tests.plain;
+      committing = refl;
+      is = w.is;
+    }))
+
+pub returns-in-Visited-clause-beside : goal.returns-in-Visited-clause-beside
+returns-in-Visited-clause-beside c =
+    let w = subst (λ step. StepsOn c.self.inside.numbers.ticket c.self.inside.dumper c.self.inside.memory (image_step step) c.pass_on.new.dumper c.pass_on.new.memory) c.in-Visited.is (step_passed c.self.inside.dumper c.self.inside.memory c.pass_on.new.dumper c.pass_on.new.memory c.in-Ok-pass_on.found c.in-Some.step c.in-Some.is c.in-Ok-pass_on.ensures.steps c.self.inside.numbers.ticket) in
+    let items = c.note.ensures.items ∙ ap (λ all. Noted (Visit c.in-Some-serial.serial c.in-Visited.visit.space c.in-Visited.visit.page) ∷ all) c.in-Ok.ensures.grown.items in
+    λ _. beside_seen its.Dumper (StepTaken reply.Worked) _ _ _ c.self.view_is (record {
+      others = (refl, refl);
+      notes = inr (record {
+        space = c.in-Visited.visit.space;
+        page = c.in-Visited.visit.page;
+        notes = record { serial = c.in-Some-serial.serial; own = sym c.serial.ensures ∙ c.in-Some-serial.is; noted = ap marks_of items };
+      });
+      images = λ none_opened. keeps_same c.self.inside.catalog c.self.inside.catalog refl;
+      counted = counted_still (is_some (pending (entries_of c.self.inside.journal.items))) (is_some (pending (entries_of c.note.new.self.items))) c.self.inside.dumper.since_freeze _
+          (ap (λ all. is_some (pending (entries_of all))) items) w.counted;
+    })
+
+pub returns-in-Copied-clause-beside : goal.returns-in-Copied-clause-beside
+returns-in-Copied-clause-beside c =
+    let w = subst (λ step. StepsOn c.self.inside.numbers.ticket c.self.inside.dumper c.self.inside.memory (image_step step) c.pass_on.new.dumper c.pass_on.new.memory) c.in-Copied.is (step_passed c.self.inside.dumper c.self.inside.memory c.pass_on.new.dumper c.pass_on.new.memory c.in-Ok-pass_on.found c.in-Some.step c.in-Some.is c.in-Ok-pass_on.ensures.steps c.self.inside.numbers.ticket) in
+    λ _. beside_seen its.Dumper (StepTaken reply.Worked) _ _ _ c.self.view_is (record {
+      others = (refl, refl);
+      notes = inl (ap marks_of c.in-Ok.ensures.grown.items);
+      images = λ none_opened. keeps_same c.self.inside.catalog c.self.inside.catalog refl;
+      counted = counted_still (is_some (pending (entries_of c.self.inside.journal.items))) (is_some (pending (entries_of c.reserve_mark.new.self.items))) c.self.inside.dumper.since_freeze _
+          (ap (λ all. is_some (pending (entries_of all))) c.in-Ok.ensures.grown.items) w.counted;
+    })

@@ -1,0 +1,98 @@
+//! A core's pass over the memory: pages that are visited, and sectors that are copied.
+ghost use Rattle.std.specs.Prelude.{◌≡◌, false, true, slice_get, Ok, Some, None, IsSome, OnErr};
+ghost use Rattle.sd_pagetable.specs.Contents.{plain_of};
+ghost use Rattle.sd_command.specs.declared.reply.Reply.TheVariants as reply;
+ghost use Rattle.sd_gate.specs.declared.worker.Worker.TheVariants as its;
+ghost use Rattle.sd_rounds.specs.Dumper.{next_slot};
+ghost use Rattle.sd_rounds.specs.PassSteps.{NoPageIsNext};
+ghost use Rattle.sd_rounds.specs.Waits.{dumper_must_wait};
+ghost use Rattle.sd_core.specs.declared.taken.Taken.TheVariants.{Step as StepTaken};
+ghost use Rattle.sd_core.specs.Beside.{StepsBeside};
+ghost use Rattle.sd_core.specs.Called.{IsTakenUp};
+ghost use Rattle.sd_core.specs.Flags.{FlagsByStep};
+ghost use Rattle.sd_core.specs.Rounds.{SameRound};
+ghost use Rattle.sd_core.specs.Starts.{TakesUp};
+ghost use Rattle.sd_core.specs.Working.{LeavesByWork};
+
+use super::Core;
+use crate::dumping::pass_on;
+use sd_crash_safety::{core_steps, dumper_steps};
+use sd_gate::Worker;
+use sd_journal::{Mark, due_laws, tracked_laws};
+use sd_pagetable::clear_law;
+use sd_rounds::{PassStep, little_law};
+use std::alloc::AllocError;
+
+impl Core {
+    /// Makes the dumper's next step where it visits a page or copies a sector, as [`Core::take_up`] does, which answers
+    /// `Worked` then. `false` where the next step is another one, is refused, or finds no memory: nothing changed, and
+    /// `take_up` tells.
+    #[inline]
+    pub fn pass(&mut self) -> bool
+        ensures worked { result ≡ true → IsTakenUp its.Dumper self.old (StepTaken reply.Worked) self.new }
+        ensures none { result ≡ false → self.new ≡ self.old }
+    {
+        core_steps();
+        if self.refusal_of_work(Worker::Dumper).is_some() || self.dumper.next_slot().is_some() {
+            return false;
+        }
+        match self.pass_image() {
+            Ok(passed) => passed,
+            Err(AllocError) => false,
+        }
+    }
+
+    /// Visits the next page of the image in the making, or copies its next sector. `false` where its next step is
+    /// another one: nothing changed.
+    ///
+    /// # Errors
+    ///
+    /// Out of memory where a growth was refused. Nothing changed.
+    pub(super) fn pass_image(&mut self) -> Result<bool, AllocError>
+        requires begun { next_slot self.old.dumper.running ≡ None }
+        requires runs { IsSome self.old.dumper.running }
+        requires rests { slice_get self.old.outs 0 ≡ Some None }
+        requires goes { dumper_must_wait self.old.dumper.running (plain_of self.old.memory) ≡ false }
+        ensures takes { result ≡ Ok true → TakesUp self.old its.Dumper (StepTaken reply.Worked) self.new }
+        ensures flags { result ≡ Ok true → FlagsByStep self.old its.Dumper (StepTaken reply.Worked) self.new }
+        ensures beside { result ≡ Ok true → StepsBeside its.Dumper self.old (StepTaken reply.Worked) self.new }
+        ensures leaves { result ≡ Ok true → LeavesByWork self.old its.Dumper (StepTaken reply.Worked) self.new }
+        ensures round { result ≡ Ok true → SameRound self.old.dumper.running self.new.dumper.running }
+        ensures merger { result ≡ Ok true → self.new.merger ≡ self.old.merger }
+        ensures other { result ≡ Ok false → NoPageIsNext self.old.dumper.running self.old.memory
+            × (self.new ≡ self.old) }
+        ensures err { OnErr result (self.new ≡ self.old) }
+    {
+        core_steps();
+        dumper_steps();
+        tracked_laws();
+        due_laws();
+        little_law();
+        clear_law();
+        self.dumper.sound();
+        let Ok(()) = self.journal.reserve_mark() else {
+            return Err(AllocError);
+        };
+        let Ok(found) = pass_on(&mut self.dumper, &mut self.memory) else {
+            return Err(AllocError);
+        };
+        let Some(step) = found else {
+            return Ok(false);
+        };
+        self.dumper.sound();
+        let Some(serial) = self.dumper.serial() else {
+            unreachable!();
+        };
+        match step {
+            PassStep::Visited(visit) => {
+                self.journal.note(Mark::Visit {
+                    serial,
+                    space: visit.space,
+                    page: visit.page,
+                });
+                Ok(true)
+            }
+            PassStep::Copied(_) => Ok(true),
+        }
+    }
+}
