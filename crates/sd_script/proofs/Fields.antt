@@ -1,10 +1,12 @@
 -- Lemmas on the fields of a line.
-use Rattle.std.proofs.Common.{◌≡◌, ◌≢◌, ◌<◌, ◌≤◌, ◌+◌, ◌==◌, ◌++◌, ℕ, Bool, List, [], ◌∷◌, map, length, take, drop, get_or, ◌-◌, Bor, None, refl, arith, ap, sym, ◌∙◌, suc, inl, inr, append_assoc, length-drop}
+use Rattle.std.proofs.Common.{◌≡◌, ◌≢◌, ◌<◌, ◌≤◌, ◌+◌, ◌==◌, ◌++◌, ℕ, Bool, true, false, if◌then◌else◌, List, [], ◌∷◌, map, length, take, drop, get_or, slice_set, codes, ◌-◌, Bor, Option, None, refl, arith, ap, sym, subst, ◌∙◌, suc, inl, inr, append_assoc, length-append, length-drop}
+use Rattle.std.specs.Prelude.{bytes_eq}
 use Rattle.std.specs.List.{slice_split, onto_first, position_or_len, before_first, after_first}
 use Rattle.std.proofs.lemmas.Bool.{cases_Bool}
-use Rattle.std.proofs.lemmas.List.{take_all, map-append}
-use Rattle.std.proofs.lemmas.List.Splits.{slice_split_first, slice_split-cons_no}
-use Rattle.sd_script.specs.Line.{mmap_of, munmap_of, mprotect_of, fork_of, exit_of, try_of, fault_of, words_of, store_of, load_of, begin_of, work_of, perform_of, perform_at_of, step_of, finish_of, checkpoint_of, asked_by_word, asked_by_fields}
+use Rattle.std.proofs.lemmas.List.{take_all, take_more_set, length-map, length-take-le, map-append}
+use Rattle.std.proofs.lemmas.List.Splits.{length-slice_split, slice_split_first, slice_split-cons_no}
+use Rattle.sd_script.specs.Line.{mmap_of, munmap_of, mprotect_of, fork_of, exit_of, try_of, fault_of, words_of, store_of, load_of, begin_of, work_of, perform_of, perform_at_of, step_of, finish_of, checkpoint_of, asked_by, asked_by_word, asked_by_fields}
+use Rattle.sd_script.specs.declared.line.Line.{Line}
 
 -- the texts of fields
 abbrev pub texts : List (Bor (List ℕ)) → List (List ℕ)
@@ -160,3 +162,63 @@ pub splits-all : (line rest : List ℕ) (fields : List (Bor (List ℕ))) (field 
     → position_or_len is_space rest ≡ length rest → field.now ≡ rest → texts (fields ++ field ∷ []) ≡ slice_split is_space line
 splits-all line rest fields field splits none is =
     map-append (λ (x : Bor (List ℕ)). x.now) fields (field ∷ []) ∙ ap (λ x. texts fields ++ x ∷ []) is ∙ ap (λ xs. texts fields ++ xs) (sym (one_part is_space rest none)) ∙ splits
+
+-- ---- fields in a list of five, of which the first are taken
+-- one more is put behind those before it
+pub splits-put : (line rest : List ℕ) (fields : List (Bor (List ℕ))) (count : ℕ) (field : Bor (List ℕ)) (others : List ℕ) → count < length fields
+    → Splits line (take count fields) rest → position_or_len is_space rest < length rest → field.now ≡ before_first is_space rest → others ≡ after_first is_space rest
+    → Splits line (take (count + 1) (slice_set fields count field)) others
+splits-put line rest fields count field others within splits found first after =
+    subst (λ xs. Splits line xs others) (sym (take_more_set fields count field within))
+    (splits-more line rest (take count fields) field others splits found first after)
+
+-- the last one is put there
+pub splits-last : (line rest : List ℕ) (fields : List (Bor (List ℕ))) (count : ℕ) (field : Bor (List ℕ)) → count < length fields
+    → Splits line (take count fields) rest → position_or_len is_space rest ≡ length rest → field.now ≡ rest
+    → texts (take (count + 1) (slice_set fields count field)) ≡ slice_split is_space line
+splits-last line rest fields count field within splits none is =
+    ap texts (take_more_set fields count field within) ∙ splits-all line rest (take count fields) field splits none is
+
+-- behind four fields there are two more
+pub splits-many : (line rest : List ℕ) (fields : List (Bor (List ℕ))) → 4 ≤ length fields
+    → Splits line (take 4 fields) rest → position_or_len is_space rest < length rest → 5 < length (slice_split is_space line)
+splits-many line rest fields room splits found =
+    let whole = ap length splits in
+    let parts = length-append (texts (take 4 fields)) (slice_split is_space rest) in
+    let same = length-map (take 4 fields) (λ (x : Bor (List ℕ)). x.now) in
+    let four = length-take-le 4 fields room in
+    let cut = ap length (slice_split_first is_space rest 0 found) in
+    let some = length-slice_split is_space (after_first is_space rest) in
+    omega arith
+
+-- ---- no line has more than five fields
+none_either : (b : Bool) (line : Option Line) → line ≡ None → (if b then None else line) ≡ None
+none_either true line e = refl
+none_either false line e = e
+
+asked_by_word-many : (word a b d e f : List ℕ) (more : List (List ℕ)) → asked_by_word word (a ∷ b ∷ d ∷ e ∷ f ∷ more) ≡ None
+asked_by_word-many word a b d e f more =
+    none_either (bytes_eq word (codes "mmap")) _ (none_either (bytes_eq word (codes "munmap")) _ (
+    none_either (bytes_eq word (codes "mprotect")) _ (none_either (bytes_eq word (codes "fork")) _ (
+    none_either (bytes_eq word (codes "exit")) _ (none_either (bytes_eq word (codes "load")) _ (
+    none_either (bytes_eq word (codes "try")) _ (none_either (bytes_eq word (codes "fault")) _ (
+    none_either (bytes_eq word (codes "store")) _ (none_either (bytes_eq word (codes "words")) _ (
+    none_either (bytes_eq word (codes "begin")) _ (none_either (bytes_eq word (codes "begin-merge")) _ (
+    none_either (bytes_eq word (codes "cancel")) _ (none_either (bytes_eq word (codes "work")) _ (
+    none_either (bytes_eq word (codes "perform")) _ (none_either (bytes_eq word (codes "perform-at")) _ (
+    none_either (bytes_eq word (codes "step")) _ (none_either (bytes_eq word (codes "finish")) _ (
+    none_either (bytes_eq word (codes "checkpoint")) _ (none_either (bytes_eq word (codes "merge")) _ (
+    none_either (bytes_eq word (codes "reopen")) _ (none_either (bytes_eq word (codes "trim")) _ (
+    refl))))))))))))))))))))))
+
+asked_by_fields-many : (fields : List (List ℕ)) → 5 < length fields → asked_by_fields fields ≡ None
+asked_by_fields-many [] many = refl
+asked_by_fields-many (word ∷ []) many = absurd (omega arith)
+asked_by_fields-many (word ∷ a ∷ []) many = absurd (omega arith)
+asked_by_fields-many (word ∷ a ∷ b ∷ []) many = absurd (omega arith)
+asked_by_fields-many (word ∷ a ∷ b ∷ d ∷ []) many = absurd (omega arith)
+asked_by_fields-many (word ∷ a ∷ b ∷ d ∷ e ∷ []) many = absurd (omega arith)
+asked_by_fields-many (word ∷ a ∷ b ∷ d ∷ e ∷ f ∷ more) many = asked_by_word-many word a b d e f more
+
+pub asked_by-many : (line : List ℕ) → 5 < length (slice_split is_space line) → asked_by line ≡ None
+asked_by-many line many = asked_by_fields-many (slice_split is_space line) many

@@ -24,15 +24,15 @@ pub(crate) fn worker_named(name: &str) -> Option<Worker>
 pub(crate) fn number(text: &str) -> Option<u64>
     ensures { result ≡ number_of text.now }
 {
-    match text.strip_prefix("0x") {
-        Some(digits) => numeral(digits, 16),
-        None => numeral(text, 10),
+    match text.as_bytes() {
+        [b'0', b'x', digits @ ..] => numeral(digits, 16),
+        digits => numeral(digits, 10),
     }
 }
 
 /// A number below 2^64 in digits, without a sign.
 #[inline]
-fn numeral(digits: &str, radix: u64) -> Option<u64>
+fn numeral(digits: &[u8], radix: u64) -> Option<u64>
     requires low { 2 ≤ radix }
     requires high { radix ≤ 16 }
     ensures { result ≡ numeral_of radix digits.now }
@@ -42,7 +42,7 @@ fn numeral(digits: &str, radix: u64) -> Option<u64>
     }
     let most = u64::MAX / radix;
     let mut number: u64 = 0;
-    for byte in digits.as_bytes() {
+    for byte in digits {
         let value = digit(*byte) as u64;
         if value >= radix || number > most {
             return None;

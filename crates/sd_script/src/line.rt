@@ -1,5 +1,5 @@
 //! One line of a script.
-ghost use Rattle.std.specs.Prelude.{◌≡◌, ◌==◌, map, OnOk};
+ghost use Rattle.std.specs.Prelude.{◌≡◌, ◌<◌, ◌≤◌, ◌==◌, false, map, take, length, bytes_eq, codes, IfSome, IfNone};
 ghost use Rattle.std.specs.List.{slice_split};
 ghost use Rattle.sd_script.specs.Line.{ParsesLine, asked_by, asked_by_word, at_least_one, begin_of, begin_merge_of};
 ghost use Rattle.sd_script.specs.Line.{cancel_of, checkpoint_of, exit_of, fault_of, finish_of, fork_of, load_of};
@@ -11,7 +11,7 @@ use crate::line_error::LineError;
 use sd_areas::SpaceId;
 use sd_command::{Bytes, Command};
 use sd_gate::Worker;
-use std::alloc::{AllocError, Global};
+use std::alloc::Global;
 
 /// What a line asks for.
 #[derive(Debug, Drop)]
@@ -55,63 +55,85 @@ pub enum Line {
     Trim,
 }
 
-/// What a line asks for. Its fields, separated by single spaces, take the place of those in the list.
-pub fn parse<'a>(alloc: Global, fields: &mut Vec<&'a str>, line: &'a str) -> Result<Line, LineError>
+/// The most fields that a line of the language has.
+const MOST_FIELDS: usize = 5;
+
+/// What a line asks for.
+pub fn parse(alloc: Global, line: &str) -> Result<Line, LineError>
     ensures { ParsesLine result (asked_by line.now) }
 {
-    split_into(fields, line)?;
-    match fields.as_slice() {
+    let mut fields = [""; MOST_FIELDS];
+    let Some(count) = split_into(&mut fields, line) else {
+        return Err(LineError::Unfit);
+    };
+    match &fields[..count] {
         [word, arguments @ ..] => request(alloc, word, arguments),
         [] => Err(LineError::Unfit),
     }
 }
 
-/// Puts the fields of a line in place of those in the list.
-///
-/// # Errors
-///
-/// Out of memory where the list can't grow.
-fn split_into<'a>(fields: &mut Vec<&'a str>, line: &'a str) -> Result<(), AllocError>
-    ensures { OnOk result
-        (map (λ field. field.now) fields.new.items ≡ slice_split (λ byte. byte == 32) line.now) }
+/// Puts the fields of a line, which single spaces separate, into a list, and returns how many they are, if they find
+/// room.
+fn split_into<'a>(fields: &mut [&'a str; MOST_FIELDS], line: &'a str) -> Option<usize>
+    ensures room { IfSome result (λ count. count ≤ 5) }
+    ensures kept { length fields.new ≡ 5 }
+    ensures split { IfSome result (λ count. map (λ field. field.now) (take count fields.new)
+        ≡ slice_split (λ byte. byte == 32) line.now) }
+    ensures more { IfNone result (5 < length (slice_split (λ byte. byte == 32) line.now)) }
 {
-    fields.clear();
     let mut rest = line;
+    let mut count = 0;
     while let Some((field, others)) = rest.split_once(' ') {
-        fields.push(field)?;
+        if count + 1 == MOST_FIELDS {
+            return None;
+        }
+        fields[count] = field;
         rest = others;
+        count += 1;
     }
-    fields.push(rest)?;
-    Ok(())
+    fields[count] = rest;
+    Some(count + 1)
 }
 
+/// What a word and its arguments ask for.
 fn request(alloc: Global, word: &str, arguments: &[&str]) -> Result<Line, LineError>
     ensures { ParsesLine result (asked_by_word word.now (map (λ field. field.now) arguments.now)) }
 {
     match word {
-        "mmap" => mmap(arguments).ok_or(LineError::Unfit),
-        "munmap" => munmap(arguments).ok_or(LineError::Unfit),
-        "mprotect" => mprotect(arguments).ok_or(LineError::Unfit),
-        "fork" => fork(arguments).ok_or(LineError::Unfit),
-        "exit" => exit(arguments).ok_or(LineError::Unfit),
-        "load" => load(arguments).ok_or(LineError::Unfit),
         "try" => try_store(alloc, arguments),
-        "fault" => fault(arguments).ok_or(LineError::Unfit),
         "store" => store(alloc, arguments),
-        "words" => words(arguments).ok_or(LineError::Unfit),
-        "begin" => begin(arguments).ok_or(LineError::Unfit),
-        "begin-merge" => begin_merge(arguments).ok_or(LineError::Unfit),
-        "cancel" => cancel(arguments).ok_or(LineError::Unfit),
-        "work" => work(arguments).ok_or(LineError::Unfit),
-        "perform" => perform(arguments).ok_or(LineError::Unfit),
-        "perform-at" => perform_at(arguments).ok_or(LineError::Unfit),
-        "step" => step(arguments).ok_or(LineError::Unfit),
-        "finish" => finish(arguments).ok_or(LineError::Unfit),
-        "checkpoint" => checkpoint(arguments).ok_or(LineError::Unfit),
-        "merge" => merge(arguments).ok_or(LineError::Unfit),
-        "reopen" => reopen(arguments).ok_or(LineError::Unfit),
-        "trim" => trim(arguments).ok_or(LineError::Unfit),
-        _ => Err(LineError::Unfit),
+        _ => request_of_no_bytes(word, arguments).ok_or(LineError::Unfit),
+    }
+}
+
+/// What a word and its arguments ask for, where it is none of the two that have bytes.
+fn request_of_no_bytes(word: &str, arguments: &[&str]) -> Option<Line>
+    requires not_try { bytes_eq word.now (codes "try") ≡ false }
+    requires not_store { bytes_eq word.now (codes "store") ≡ false }
+    ensures { result ≡ asked_by_word word.now (map (λ field. field.now) arguments.now) }
+{
+    match word {
+        "mmap" => mmap(arguments),
+        "munmap" => munmap(arguments),
+        "mprotect" => mprotect(arguments),
+        "fork" => fork(arguments),
+        "exit" => exit(arguments),
+        "load" => load(arguments),
+        "fault" => fault(arguments),
+        "words" => words(arguments),
+        "begin" => begin(arguments),
+        "begin-merge" => begin_merge(arguments),
+        "cancel" => cancel(arguments),
+        "work" => work(arguments),
+        "perform" => perform(arguments),
+        "perform-at" => perform_at(arguments),
+        "step" => step(arguments),
+        "finish" => finish(arguments),
+        "checkpoint" => checkpoint(arguments),
+        "merge" => merge(arguments),
+        "reopen" => reopen(arguments),
+        "trim" => trim(arguments),
+        _ => None,
     }
 }
 

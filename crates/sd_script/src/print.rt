@@ -1,5 +1,5 @@
 //! Printing the line of an answer.
-ghost use Rattle.std.specs.Prelude.{◌≤◌, ◌++◌, [], ◌∷◌, length, codes, OnOk};
+ghost use Rattle.std.specs.Prelude.{◌≡◌, ◌≤◌, ◌+◌, ◌*◌, ◌++◌, [], ◌∷◌, length, codes, OnOk};
 ghost use Rattle.std.specs.List.{flat_map};
 ghost use Rattle.std.specs.Io.KnownBytes.{Appends};
 ghost use Rattle.hex.specs.Hex.{encode_lower};
@@ -54,9 +54,37 @@ fn print_bytes<W: Write>(bytes: &[u8], out: &mut W) -> io::Result<()>
     ensures { OnOk result (Appends (W.contents out.old) (W.contents out.new)
         (codes "bytes " ++ encode_lower bytes.now ++ 10 ∷ [])) }
 {
+    if bytes.len() <= PART {
+        return print_few_bytes(bytes, out);
+    }
     out.write_all(b"bytes ")?;
     print_digits(bytes, out)?;
     out.write_all(b"\n")
+}
+
+/// The line of so few bytes as a load has, printed by one call.
+fn print_few_bytes<W: Write>(bytes: &[u8], out: &mut W) -> io::Result<()>
+    requires { length bytes.now ≤ 64 }
+    ensures { OnOk result (Appends (W.contents out.old) (W.contents out.new)
+        (codes "bytes " ++ encode_lower bytes.now ++ 10 ∷ [])) }
+{
+    let mut text = [0; 2 * PART + 7];
+    let line = &mut text[..2 * bytes.len() + 7];
+    put_bytes(bytes, &mut *line);
+    out.write_all(line)
+}
+
+/// Puts the line of bytes into a text of its length.
+fn put_bytes(bytes: &[u8], text: &mut [u8])
+    requires few { length bytes.now ≤ 64 }
+    requires fits { length text.old ≡ 2 * length bytes.now + 7 }
+    ensures { text.new ≡ codes "bytes " ++ encode_lower bytes.now ++ 10 ∷ [] }
+{
+    let (word, rest) = text.split_at_mut(6);
+    let (digits, end) = rest.split_at_mut(2 * bytes.len());
+    word.copy_from_slice(b"bytes ");
+    hex::encode_to_slice(bytes, &mut *digits).unwrap();
+    end.copy_from_slice(b"\n");
 }
 
 /// The digits of bytes, some bytes at a time.

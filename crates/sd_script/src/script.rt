@@ -26,16 +26,15 @@ impl Script {
         ensures requests { IfOk result (λ s. s.lines.items ≡ requests_of script.now) }
         ensures unfit { IfUnfit result (λ n. first_unfit_line script.now ≡ Some n) }
     {
-        let mut fields = Vec::new(alloc);
         let mut lines = Vec::new(alloc);
         let mut rest = script;
         let mut number = 1;
         while let Some((line, others)) = first_line(rest) {
-            take_line(alloc, &mut fields, line, number, &mut lines)?;
+            take_line(alloc, line, number, &mut lines)?;
             rest = others;
             number += 1;
         }
-        take_line(alloc, &mut fields, rest, number, &mut lines)?;
+        take_line(alloc, rest, number, &mut lines)?;
         Ok(Script { lines })
     }
 }
@@ -51,11 +50,10 @@ fn first_line(text: &[u8]) -> Option<(&[u8], &[u8])>
     Some((&text[..end], &text[end + 1..]))
 }
 
-/// Adds what a line asks for, if anything, to the requests. The list of fields is for its own.
-fn take_line<'a>(
+/// Adds what a line asks for, if anything, to the requests.
+fn take_line(
     alloc: Global,
-    fields: &mut Vec<&'a str>,
-    line: &'a [u8],
+    line: &[u8],
     number: usize,
     lines: &mut Vec<Line>,
 ) -> Result<(), ScriptError>
@@ -64,7 +62,7 @@ fn take_line<'a>(
         (lines.new.items ≡ lines.old.items ++ filter_map request_in (line.now ∷ [])) }
     ensures unfit { IfUnfit result (λ n. (n ≡ number) × (is_unfit line.now ≡ true)) }
 {
-    match request(alloc, fields, line) {
+    match request(alloc, line) {
         Ok(Some(asked)) => lines.push(asked)?,
         Ok(None) => {}
         Err(LineError::Unfit) => return Err(ScriptError::Line(number)),
@@ -73,12 +71,8 @@ fn take_line<'a>(
     Ok(())
 }
 
-/// What a line asks for, if anything. The list is for its fields.
-fn request<'a>(
-    alloc: Global,
-    fields: &mut Vec<&'a str>,
-    bytes: &'a [u8],
-) -> Result<Option<Line>, LineError>
+/// What a line asks for, if anything.
+fn request(alloc: Global, bytes: &[u8]) -> Result<Option<Line>, LineError>
     ensures { GivesMeaning result (meaning_of bytes.now) }
 {
     let Ok(text) = str::from_utf8(bytes) else {
@@ -87,5 +81,5 @@ fn request<'a>(
     if text.is_empty() || text.starts_with('#') {
         return Ok(None);
     }
-    Ok(Some(line::parse(alloc, fields, text)?))
+    Ok(Some(line::parse(alloc, text)?))
 }

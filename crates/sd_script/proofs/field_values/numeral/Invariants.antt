@@ -3,4 +3,4 @@ use Rattle.sd_script.proofs.Numerals.{Reads}
 use Rattle.sd_script.proofs.field_values.numeral.Given as goal
 
 abbrev pub invariant-loop-byte : goal.invariant-loop-byte
-invariant-loop-byte l = Reads l.radix l.byte-items l.byte-index l.number
+invariant-loop-byte l = Reads l.radix l.digits l.byte-index l.number
