@@ -1,5 +1,5 @@
 -- A step of the dumper's pass, as an event of the world.
-use Rattle.std.proofs.Common.{◌≡◌, ◌≢◌, ◌<◌, ℕ, List, length, None, refl, subst}
+use Rattle.std.proofs.Common.{◌≡◌, ◌≢◌, ◌<◌, ℕ, List, length, None, refl, sym, subst}
 use Rattle.sd_command.specs.declared.reply.Reply.TheVariants as reply
 use Rattle.sd_disk.specs.Crash.{Within}
 use Rattle.sd_disk.specs.declared.disk.Disk.{Ghosts}
@@ -38,6 +38,10 @@ use Rattle.sd_world.proofs.LowersLemmas.{work_lowers}
 use Rattle.sd_world.proofs.MergesLemmas.{step_keeps, step_merges}
 use Rattle.sd_world.proofs.ReplyLemmas.{marked_legal, says}
 use Rattle.sd_world.proofs.StepLemmas.{step_world}
+
+-- no outcome of the dumper is kept, in one view of a world as in the other
+pub none_made : {D : Type 0} (old now : WorldView D) → old ≡ now → IsNowhere now.kept call.Made its.Dumper 0 → IsNowhere old.kept call.Made its.Dumper 0
+none_made {D} old now is none = subst (λ (w : WorldView D). IsNowhere w.kept call.Made its.Dumper 0) (sym is) none
 
 module _ {D : Type 0} (g : Ghosts D) (old : WorldView D) (later : CoreView) (taken : IsTakenUp its.Dumper old.core (StepTaken reply.Worked) later)
     (nowhere : IsNowhere old.kept call.Made its.Dumper 0) (was : IsWorldThere g old) (pre_new : HasItsPreDumps later)

@@ -23,7 +23,8 @@ loop-count-init g c = record {
 }
 
 pub pass_one-requires : goal.pass_one-requires
-pass_one-requires g c = subst (λ kept. IsNowhere kept call.Made its.Dumper 0) (sym c.loop-count.invariant.kept) c.in-None.ensures.found
+pass_one-requires g c = subst (λ kept. IsNowhere kept call.Made its.Dumper 0)
+    (ap (λ (w : WorldView g.row.D.Denot). w.kept) c.self.view_is ∙ sym c.loop-count.invariant.kept) c.in-None.ensures.found
 
 pub loop-count-preserved : goal.loop-count-preserved
 loop-count-preserved g c =
@@ -32,7 +33,7 @@ loop-count-preserved g c =
     let last = c.pass_one.new.self in
     let so_far = c.loop-count.invariant in
     let step = c.if-not-pass_one.ensures.step refl in
-    let unasked : is_asked mid.kept its.Dumper ≡ false = ap (λ kept. is_asked kept its.Dumper) so_far.kept ∙ sym c.is_asked.ensures ∙ c.if-is_asked.false in
+    let unasked : is_asked mid.kept its.Dumper ≡ false = ap (λ kept. is_asked kept its.Dumper) (so_far.kept ∙ sym (ap (λ (w : WorldView g.row.D.Denot). w.kept) c.self.view_is)) ∙ sym c.is_asked.ensures ∙ c.if-is_asked.false in
     record {
       works = repeated g.D.Disk (Work its.Dumper) reply.Worked c.loop-count.count first mid last so_far.works step;
       made = called_more g.D.Disk its.Dumper first mid last reply.Worked so_far.made refl
