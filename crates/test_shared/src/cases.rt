@@ -87,6 +87,33 @@ fn save(
     Ok(())
 }
 
+/// Two checkpoints whose data pages are written by other threads.
+fn relays<R: Threads + Wait + Clock + Files + Alloc + Abort + Sync>(
+    rt: &R,
+    shared: &Shared<Store>,
+    acks: &mut Vec<u64>,
+) -> Result<(), AllocError> {
+    writes_beside(rt, shared);
+    acks.push(1)?;
+    saves_in_16_calls(rt, shared);
+    Ok(acks.push(2)?)
+}
+
+/// Checkpoints that a mutator waits for: to their end, to a thaw, and to a cancel.
+fn awaits<R: Threads + Wait + Clock + Files + Alloc + Abort + Sync>(
+    rt: &R,
+    shared: &Shared<Store>,
+    mutator: &mut Mutator<'_>,
+    acks: &mut Vec<u64>,
+) -> Result<(), AllocError> {
+    waits_asleep(rt, shared);
+    acks.push(1)?;
+    loads_thawed(rt, shared, mutator);
+    acks.push(2)?;
+    wakes_by_a_cancel(rt, shared, mutator, acks);
+    Ok(())
+}
+
 /// Does what a case says, by two mutators, behind the commands that map the pages.
 fn act<R: Threads + Wait + Clock + Files + Alloc + Abort + Sync>(
     rt: &R,
@@ -115,25 +142,13 @@ fn act<R: Threads + Wait + Clock + Files + Alloc + Abort + Sync>(
             acks.push(1)?;
             Ok(())
         }
-        Case::Relayed => {
-            writes_beside(rt, shared);
-            acks.push(1)?;
-            saves_in_16_calls(rt, shared);
-            Ok(acks.push(2)?)
-        }
+        Case::Relayed => relays(rt, shared, acks),
         Case::RelayFalls => {
             falls_beside(rt, shared);
             Ok(acks.push(2)?)
         }
         Case::Trimmed => trims_beside(rt, alloc, shared, mutators),
-        Case::Awaited => {
-            waits_asleep(rt, shared);
-            acks.push(1)?;
-            loads_thawed(rt, shared, mutators.0);
-            acks.push(2)?;
-            wakes_by_a_cancel(rt, shared, mutators.0, acks);
-            Ok(())
-        }
+        Case::Awaited => awaits(rt, shared, mutators.0, acks),
         Case::TwentyPages => {
             writes_twenty_pages(rt, shared);
             Ok(acks.push(1)?)
