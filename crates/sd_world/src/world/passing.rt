@@ -8,7 +8,7 @@ ghost use Rattle.sd_world.specs.declared.event.Event.TheVariants.{Work};
 ghost use Rattle.sd_world.specs.Goes.{GoesOn};
 ghost use Rattle.sd_world.specs.Jobs.{AreMade, WorksOnly};
 ghost use Rattle.sd_world.specs.Runs.{IsStep};
-ghost use Rattle.sd_world.specs.View.{IsNowhere, is_asked};
+ghost use Rattle.sd_world.specs.View.{IsNowhere};
 
 use super::World;
 use crate::call_state::CallState;
