@@ -11,7 +11,7 @@ use std::fmt::Write;
 
 /// What `--version` prints: the version of the program, the images that it writes and reads, and the kit it is proved
 /// with.
-const VERSION: &str = "1.3.1, writes images of version 2 and reads 1 and 2, rattle-kit-13f";
+const VERSION: &str = "1.3.2, writes images of version 2 and reads 1 and 2, rattle-kit-13f";
 
 const DIR: &str = "The folder of a store, with the files img-000 to img-063";
 

@@ -1,4 +1,5 @@
 pub mod Attempts
+pub mod Copies
 pub mod Events
 pub mod Refusals
 pub mod Replies

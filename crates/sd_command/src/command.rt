@@ -1,4 +1,5 @@
-ghost use Rattle.std.specs.Prelude.{◌≡◌, IfOk};
+ghost use Rattle.std.specs.Prelude.{◌≡◌, IfOk, IsErr, IsSome};
+ghost use Rattle.sd_command.specs.Copies.{stored_bytes};
 
 use crate::bytes::Bytes;
 use sd_areas::{Prot, SpaceId};
@@ -61,13 +62,14 @@ pub enum Command {
 }
 
 impl Command {
-    /// A copy. Only that of the bytes of a store takes memory.
+    /// A copy. Only that of the bytes that it stores takes memory.
     ///
     /// # Errors
     ///
     /// Out of memory where its bytes find no room; the command stands as it was.
     pub fn try_clone(&self) -> Result<Command, AllocError>
         ensures copy { IfOk result (λ copy. copy ≡ self.now) }
+        ensures bytes { IsErr result → IsSome (stored_bytes self.now) }
     {
         self.clone()
     }

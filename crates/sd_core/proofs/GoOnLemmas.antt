@@ -60,7 +60,7 @@ dumper_goes None memory out any all = refl
 dumper_goes (Some running) memory out any all = image_goes running.image memory out any all
 
 -- a worker that needn't wait, and has a job
-goes_by : (core : CoreView) (worker : Worker) → must_wait core worker ≡ false → is_idle core worker ≡ false → work_refusal core worker ≡ None
+pub goes_by : (core : CoreView) (worker : Worker) → must_wait core worker ≡ false → is_idle core worker ≡ false → work_refusal core worker ≡ None
 goes_by core worker free busy = ap (λ b. first_of ((b, refusal.Busy) ∷ (is_idle core worker, refusal.Idle) ∷ [])) free
     ∙ ap (λ b. first_of ((false, refusal.Busy) ∷ (b, refusal.Idle) ∷ [])) busy
 

@@ -1,18 +1,26 @@
 -- A step of the pass, as one of the image in the making.
-use Rattle.std.proofs.Common.{◌≡◌, ◌<◌, ℕ, Option, None, Some, IfSome, IsSome, refl, sym, ◌∙◌, ap, subst}
+use Rattle.std.proofs.Common.{◌≡◌, ◌<◌, ◌||◌, ℕ, Bool, true, false, not, if◌then◌else◌, is_none, is_some, [], ◌∷◌, Option, None, Some, IfSome, IsSome, slice_get, ◌⊎◌, refl, sym, ◌∙◌, ap, subst, inl, inr}
+use Rattle.sd_command.specs.declared.refusal.Refusal.TheVariants as refusal
 use Rattle.sd_gate.specs.declared.slot_state.SlotState.{SlotState}
 use Rattle.sd_gate.specs.declared.slot_state.SlotState.TheVariants.{Raw}
+use Rattle.sd_gate.specs.declared.worker.Worker.TheVariants.{Dumper}
 use Rattle.sd_pagetable.specs.Contents.{Contents, plain_of}
 use Rattle.sd_rounds.specs.declared.image_step.ImageStep.{ImageStep}
 use Rattle.sd_rounds.specs.declared.pass_step.PassStep.{PassStep}
-use Rattle.sd_rounds.specs.Dumper.{Dumping, Works, image_from, next_slot, serial_of, slot_before, slot_of}
+use Rattle.sd_rounds.specs.Dumper.{Dumping, Running, Works, image_from, next_slot, serial_of, slot_before, slot_of}
 use Rattle.sd_rounds.specs.Making.{Making, Steps}
 use Rattle.sd_rounds.specs.Left.{LeftLaws, left_of}
-use Rattle.sd_rounds.specs.PassSteps.{Passes}
-use Rattle.sd_rounds.specs.PlanSteps.{image_step}
+use Rattle.sd_rounds.specs.PassSteps.{NoPageIsNext, Passes}
+use Rattle.sd_rounds.specs.PlanSteps.{HaveNoPage, image_step}
+use Rattle.sd_rounds.specs.Waits.{dumper_must_wait}
+use Rattle.sd_crash_safety.specs.View.{CoreView}
+use Rattle.sd_core.specs.Beginning.{first_of}
+use Rattle.sd_core.specs.Called.{HasNoPassStep}
 use Rattle.sd_core.specs.Dumping.{StepsOn}
 use Rattle.sd_core.specs.Images.{job_of}
+use Rattle.sd_core.specs.Refusals.{is_idle, is_page_out, is_resting, must_wait, must_wait_for_pages, none_at, work_refusal}
 use Rattle.sd_core.specs.Rounds.{SameRound}
+use Rattle.sd_core.proofs.GoOnLemmas.{goes_by}
 
 -- the work of a dumper that has an image is a step of that image
 module _ (ticket serial : ℕ) (state : SlotState) (old : Dumping) (before : Contents) (step : ImageStep) (new : Dumping) (after : Contents)
@@ -77,3 +85,63 @@ pub step_passed : (old : Dumping) (before : Contents) (new : Dumping) (after : C
     → (ticket : ℕ) → StepsOn ticket old before (image_step step) new after
 step_passed old before new after found step is steps =
     subst (λ f. IfSome f (λ step. (ticket : ℕ) → StepsOn ticket old before (image_step step) new after)) is steps
+
+-- ---- where a step is refused
+
+not_none : {X : Type 0} (one : Option X) → IsSome one → is_none one ≡ false
+not_none None some = absurd (let no : false ≡ true = some in cc)
+not_none (Some x) some = refl
+
+module _ (core : CoreView) where
+  abbrev waits : Bool
+  waits = dumper_must_wait core.dumper.running (plain_of core.memory)
+
+  runs_waits : IsSome core.dumper.running → must_wait_for_pages core ≡ waits
+  runs_waits runs = ap (λ none. if none then is_page_out core.outs else waits) (not_none core.dumper.running runs)
+
+  -- a dumper that rests, runs and needn't wait isn't refused
+  pub not_refused : slice_get core.outs 0 ≡ Some None → IsSome core.dumper.running → waits ≡ false → work_refusal core Dumper ≡ None
+  not_refused rests runs goes =
+      goes_by core Dumper (ap (λ o. not (none_at o) || must_wait_for_pages core) rests ∙ runs_waits runs ∙ goes) (not_none core.dumper.running runs)
+
+  refused_by : must_wait core Dumper ≡ true → IsSome (work_refusal core Dumper)
+  refused_by must = ap (λ b. is_some (first_of ((b, refusal.Busy) ∷ (is_idle core Dumper, refusal.Idle) ∷ []))) must
+
+  -- one of which a request is out is refused
+  pub busy_refused : is_resting core.outs Dumper ≡ false → IsSome (work_refusal core Dumper)
+  busy_refused busy = refused_by (ap (λ b. not b || must_wait_for_pages core) busy)
+
+  either_waits : (rests : Bool) → (not rests || true) ≡ true
+  either_waits true = refl
+  either_waits false = refl
+
+  -- and so is one that must wait
+  pub waiting_refused : waits ≡ true → IsSome (work_refusal core Dumper)
+  waiting_refused must = refused_by (ap (λ b. not (is_resting core.outs Dumper) || b) (runs_waits (runs core.dumper.running must) ∙ must) ∙ either_waits (is_resting core.outs Dumper))
+    where
+      runs : (r : Option Running) → dumper_must_wait r (plain_of core.memory) ≡ true → IsSome r
+      runs None must = absurd (let no : false ≡ true = must in cc)
+      runs (Some running) must = refl
+
+  -- a pass that finds no step, of a dumper that isn't asked whether it must wait
+  pub none_found : ((waits ≡ true) ⊎ NoPageIsNext core.dumper.running core.memory) → HasNoPassStep core
+  none_found found = elim found [
+    | inl must ↦ inl (waiting_refused must)
+    | inr none ↦ inr none
+  ]
+
+  -- where the dumper isn't refused, none is next
+  pub none_next : work_refusal core Dumper ≡ None → HasNoPassStep core → NoPageIsNext core.dumper.running core.memory
+  none_next free found = elim found [
+    | inl refused ↦ absurd (let no : false ≡ true = sym (ap is_some free) ∙ refused in cc)
+    | inr none ↦ none
+  ]
+
+-- where an image is to begin, no page is next
+pub begins_next : (running : Option Running) (memory : Contents) → IsSome (next_slot running) → NoPageIsNext running memory
+begins_next None memory some = tt
+begins_next (Some running) memory some = by running.image some
+  where
+    by : (image : Option Making) → IsSome (slot_before running image) → HaveNoPage image memory
+    by None some = tt
+    by (Some image) some = absurd (let no : false ≡ true = some in cc)

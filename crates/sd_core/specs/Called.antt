@@ -1,5 +1,7 @@
 -- What each call of a core does: all that it says of its call, by one name.
-use Rattle.std.specs.Prelude.{◌≡◌, ◌≢◌, ◌↔◌, ◌+◌, ℕ, true, false, length, Some, None, is_some, Result, Err, IfOk}
+use Rattle.std.specs.Prelude.{◌≡◌, ◌≢◌, ◌↔◌, ◌+◌, ℕ, true, false, length, Some, None, IsSome, is_some, Result, Err}
+use Rattle.std.specs.Prelude.{IfOk}
+use Rattle.std.specs.Prelude.{◌⊎◌}
 use Rattle.sd_command.specs.declared.command.Command.{Command}
 use Rattle.sd_command.specs.declared.refusal.Refusal.{Refusal}
 use Rattle.sd_command.specs.declared.refusal.Refusal.TheVariants.{Idle, JournalFull, StoreDown}
@@ -12,6 +14,7 @@ use Rattle.sd_gate.specs.Requests.{Made}
 use Rattle.sd_journal.specs.History.{pending}
 use Rattle.sd_opener.specs.Looking.{IsDoneAsAsked}
 use Rattle.sd_rounds.specs.Dumper.{Running}
+use Rattle.sd_rounds.specs.PassSteps.{NoPageIsNext}
 use Rattle.sd_crash_safety.specs.Calls.{AddsByCancel, AddsByOrder, Applies, HandedIn, IsOut, Stays}
 use Rattle.sd_crash_safety.specs.View.{CoreView, history_of}
 use Rattle.sd_core.specs.declared.taken.Taken.{Taken}
@@ -102,6 +105,10 @@ pub record IsTakenUp (worker : Worker) (old : CoreView) (made : Taken) (new : Co
   pub scans : worker ≡ Opener → RefusesAsScan old made
   pub opens : worker ≡ Opener → OpensBelieved old made
   pub shows : worker ≡ Opener → OpensOwn old made
+
+-- the dumper's next step isn't one of a pass: it is refused, or it visits no page and copies no sector
+abbrev pub HasNoPassStep : CoreView → Type 0
+HasNoPassStep core = IsSome (work_refusal core Dumper) ⊎ NoPageIsNext core.dumper.running core.memory
 
 -- the outcome of a device call
 pub record IsHandedIn (made : Made) (answer : Reply) (old new : CoreView) : Type 0 where

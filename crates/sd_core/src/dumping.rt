@@ -1,6 +1,6 @@
 //! The dumper of a core: its steps, and what it leaves.
 ghost use Rattle.std.specs.Prelude.{◌≡◌, ◌||◌, ◌&&◌, ◌<◌, ◌≤◌, ℕ, false, None, Some, IsSome, IfOk, IfSome, OnErr};
-ghost use Rattle.std.specs.Prelude.{is_none, Ok};
+ghost use Rattle.std.specs.Prelude.{is_none, Ok, true, ◌⊎◌};
 ghost use Rattle.sd_chain.specs.Catalog.{Changes, IsHeld};
 ghost use Rattle.sd_gate.specs.declared.call.Call.{Call};
 ghost use Rattle.sd_pagetable.specs.Contents.{plain_of};
@@ -99,8 +99,8 @@ pub(crate) fn step_on(
     }
 }
 
-/// Makes the next step of the image in the making where it visits a page or copies a sector. None where it is another:
-/// nothing changed, and [`step_on`] makes it.
+/// Makes the next step of the image in the making where it visits a page or copies a sector. None where it is another,
+/// which [`step_on`] makes, where an outcome is awaited before it, or where no checkpoint runs: nothing changed.
 ///
 /// # Errors
 ///
@@ -111,10 +111,11 @@ pub(crate) fn pass_on(
     memory: &mut Memory,
 ) -> Result<Option<PassStep>, AllocError>
     requires begun { next_slot dumper.old.running ≡ None }
-    requires runs { IsSome dumper.old.running }
-    requires goes { dumper_must_wait dumper.old.running (plain_of memory.old) ≡ false }
-    ensures none { result ≡ Ok None → NoPageIsNext dumper.old.running memory.old
-        × (dumper.new ≡ dumper.old) × (memory.new ≡ memory.old) }
+    ensures none { result ≡ Ok None → (dumper.new ≡ dumper.old) × (memory.new ≡ memory.old)
+        × ((dumper_must_wait dumper.old.running (plain_of memory.old) ≡ true)
+        ⊎ NoPageIsNext dumper.old.running memory.old) }
+    ensures goes { IfOk result (λ found. IfSome found (λ step. IsSome dumper.old.running
+        × (dumper_must_wait dumper.old.running (plain_of memory.old) ≡ false))) }
     ensures steps { IfOk result (λ found. IfSome found (λ step. (ticket : ℕ)
         → StepsOn ticket dumper.old memory.old (image_step step) dumper.new memory.new)) }
     ensures serial { IfOk result (λ found. IfSome found (λ step. IsSome (serial_of dumper.new.running))) }
@@ -131,7 +132,7 @@ pub(crate) fn pass_on(
     match dumper.pass(memory) {
         Ok(found) => Ok(found),
         Err(WorkError::OutOfMemory) => Err(AllocError),
-        Err(WorkError::Idle | WorkError::Busy) => unreachable!(),
+        Err(WorkError::Idle | WorkError::Busy) => Ok(None),
     }
 }
 

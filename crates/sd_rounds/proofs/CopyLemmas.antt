@@ -11,6 +11,7 @@ use Rattle.sd_pagetable.specs.Contents.{Contents, page_at}
 use Rattle.sd_rounds.specs.Pass.{Place, Pass, Taking, copied_more, sector_of, with_entry}
 use Rattle.sd_rounds.specs.Rounds.{CopiesMore, CopiesZeros, IsCopied, IsCopying, IsNextSector, IsRound, TakesPage, is_page_of_zeros, pass_of, taking_of}
 use Rattle.sd_rounds.specs.Tables.{IsPushed, listed}
+use Rattle.sd_rounds.proofs.PageCopyLemmas.{all_zero}
 use Rattle.sd_rounds.proofs.RoundLemmas.{entered_view}
 use Rattle.sd_rounds.proofs.Clean.{one_some}
 
@@ -68,12 +69,6 @@ copies_more takes_all tables after taking buffer at memory bytes old new view ro
       some = subst (λ (b : List ℕ). is_page_of_zeros (buffer ++ b) ≡ false) read.same some;
       is = more (taking_of buffer at) now.is ∙ ap (λ (b : List ℕ). copied_more old (taking_of buffer at) b) read.same;
     }
-
-all_zero : (xs : List ℕ) → list_all (λ byte. byte == 0) xs ≡ true → xs ≡ replicate (length xs) 0
-all_zero [] e = refl
-all_zero (x ∷ xs) e =
-    let both = and_parts (nat_eq x 0) (list_all (λ byte. byte == 0) xs) e in
-    ap (λ n. n ∷ xs) (eqb-true x 0 both.0) ∙ ap (λ (l : List ℕ). 0 ∷ l) (all_zero xs both.1)
 
 page_of_zeros : (xs : List ℕ) → list_all (λ byte. byte == 0) xs ≡ true → length xs ≡ 4096 → xs ≡ zeros
 unfolding zeros

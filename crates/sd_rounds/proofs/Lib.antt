@@ -11,6 +11,7 @@ pub mod MadeLemmas
 pub mod TableLemmas
 pub mod RoundLemmas
 pub mod CopyLemmas
+pub mod PageCopyLemmas
 pub mod StepLemmas
 pub mod RoomLemmas
 pub mod SpaceTableLemmas

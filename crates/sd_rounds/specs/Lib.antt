@@ -1,4 +1,5 @@
 pub mod Buffers
+pub mod PageCopies
 pub mod Pass
 pub mod Keeps
 pub mod Rises

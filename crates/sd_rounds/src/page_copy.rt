@@ -1,8 +1,9 @@
 //! A page that is copied sector by sector.
 ghost use Rattle.std.specs.Prelude.{◌≡◌, ◌++◌, ◌+◌, ◌<◌, ◌≤◌, ◌^◌, ◌==◌, [], length, vec_capacity, vec_len, OnOk};
-ghost use Rattle.std.specs.Prelude.{OnErr};
+ghost use Rattle.std.specs.Prelude.{false, OnErr};
 ghost use Rattle.std.specs.List.{list_all};
 ghost use Rattle.sd_pagetable.specs.Sectors.{sector_bytes};
+ghost use Rattle.sd_rounds.specs.PageCopies.{copied_bytes};
 
 use sd_areas::PAGE_SIZE;
 use sd_pagetable::SECTOR_SIZE;
@@ -12,22 +13,25 @@ use std::marker::Model;
 /// A page of zeros, which is compared with others many bytes at a time.
 static ZEROS: [u8; PAGE_SIZE] = [0; PAGE_SIZE];
 
-/// What was copied of a page so far, and whether that is zeros alone.
+/// What was copied of a page so far. Zeros that come first aren't written before another byte is copied.
 #[derive(Debug, Drop)]
 pub(crate) struct PageCopy {
-    bytes: Vec<u8>,
+    /// How many zeros come before the bytes of the buffer, which is empty where there are some.
+    front: usize,
+    buffer: Vec<u8>,
+    /// Whether all that was copied is zeros.
     zeros: bool,
 }
 
 impl Model for PageCopy {
-    ghost use Rattle.std.specs.Prelude.{◌≡◌, ℕ, List, ◌==◌};
-    ghost use Rattle.std.specs.List.{list_all};
+    ghost use Rattle.std.specs.Prelude.{ℕ, List};
+    ghost use Rattle.sd_rounds.specs.PageCopies.{IsPageCopy, copied_bytes};
 
     ghost Value = { List ℕ };
 
-    ghost view = { λ c. c.bytes.items };
+    ghost view = { λ c. copied_bytes c.front c.buffer.items };
 
-    ghost invariant = { λ c. c.zeros ≡ list_all (λ byte. byte == 0) c.bytes.items };
+    ghost invariant = { λ c. IsPageCopy c.front c.buffer.items c.zeros };
 }
 
 impl PageCopy {
@@ -35,18 +39,22 @@ impl PageCopy {
     pub(crate) fn new(buffer: Vec<u8>) -> Self
         ensures { result ≡ [] }
     {
-        let mut bytes = buffer;
-        bytes.clear();
-        PageCopy { bytes, zeros: true }
+        let mut buffer = buffer;
+        buffer.clear();
+        PageCopy {
+            front: 0,
+            buffer,
+            zeros: true,
+        }
     }
 
     /// How many bytes are copied.
     #[inline]
     pub(crate) fn len(&self) -> usize
         ensures value { result ≡ length self.now }
-        ensures fits { result < 2 ^ 63 }
+        ensures fits { result < 2 ^ 63 + 4097 }
     {
-        self.bytes.len()
+        self.front + self.buffer.len()
     }
 
     /// Nothing is copied yet.
@@ -54,7 +62,8 @@ impl PageCopy {
     pub(crate) fn clear(&mut self)
         ensures { self.new ≡ [] }
     {
-        self.bytes.clear();
+        self.front = 0;
+        self.buffer.clear();
         self.zeros = true;
     }
 
@@ -82,17 +91,30 @@ impl PageCopy {
         ensures err { OnErr result (self.new ≡ self.old) }
     {
         let zeros = self.stays_zeros(sector);
-        add_sector(&mut self.bytes, bytes_of(sector))?;
+        if zeros && self.buffer.is_empty() && self.front + SECTOR_SIZE <= PAGE_SIZE {
+            self.front += SECTOR_SIZE;
+            return Ok(());
+        }
+        write_zeros(&mut self.buffer, self.front)?;
+        self.front = 0;
+        add_bytes(&mut self.buffer, bytes_of(sector))?;
         self.zeros = zeros;
         Ok(())
     }
 
-    /// The buffer with what was copied.
+    /// The buffer with what was copied, which isn't zeros alone.
     pub(crate) fn into_buffer(self) -> Vec<u8>
+        requires { list_all (λ byte. byte == 0) self ≡ false }
         ensures { result.items ≡ self }
     {
-        let PageCopy { bytes, .. } = self;
-        bytes
+        let PageCopy { buffer, .. } = self;
+        buffer
+    }
+
+    /// The buffer as room for another page.
+    pub(crate) fn into_room(self) -> Vec<u8> {
+        let PageCopy { buffer, .. } = self;
+        buffer
     }
 }
 
@@ -116,16 +138,35 @@ fn is_zero(bytes: &[u8]) -> bool
     bytes == &ZEROS[..bytes.len()]
 }
 
-/// Puts a sector behind those of a buffer.
+/// Writes the zeros that come first into the buffer, which is empty where there are some.
+///
+/// # Errors
+///
+/// Out of memory where there is no room for them: what the buffer has stays.
+#[inline]
+fn write_zeros(buffer: &mut Vec<u8>, front: usize) -> Result<(), AllocError>
+    requires few { front ≤ 4096 }
+    requires bare { 0 < front → buffer.old.items ≡ [] }
+    ensures items { OnOk result (buffer.new.items ≡ copied_bytes front buffer.old.items) }
+    ensures err { OnErr result (buffer.new.items ≡ buffer.old.items) }
+{
+    if front == 0 {
+        return Ok(());
+    }
+    add_bytes(buffer, &ZEROS[..front])?;
+    Ok(())
+}
+
+/// Puts bytes behind those of a buffer.
 ///
 /// # Errors
 ///
 /// Out of memory only where the buffer has no room for it: what it has stays.
 #[inline]
-fn add_sector(buffer: &mut Vec<u8>, sector: &[u8]) -> Result<(), AllocError>
-    ensures items { OnOk result (buffer.new.items ≡ buffer.old.items ++ sector.now) }
-    ensures full { OnErr result (vec_capacity buffer.old < vec_len buffer.old + length sector.now) }
+fn add_bytes(buffer: &mut Vec<u8>, bytes: &[u8]) -> Result<(), AllocError>
+    ensures items { OnOk result (buffer.new.items ≡ buffer.old.items ++ bytes.now) }
+    ensures full { OnErr result (vec_capacity buffer.old < vec_len buffer.old + length bytes.now) }
     ensures err { OnErr result (buffer.new.items ≡ buffer.old.items) }
 {
-    buffer.extend_from_slice(sector)
+    buffer.extend_from_slice(bytes)
 }

@@ -211,7 +211,7 @@ impl Round {
     /// The buffer that pages are copied to.
     pub(crate) fn into_buffer(self) -> Vec<u8> {
         let Round { copy, .. } = self;
-        copy.into_buffer()
+        copy.into_room()
     }
 
     /// Whether no page is left to be visited, and none is being taken.

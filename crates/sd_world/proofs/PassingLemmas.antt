@@ -1,5 +1,5 @@
 -- A step of the dumper's pass, as an event of the world.
-use Rattle.std.proofs.Common.{◌≡◌, ◌≢◌, ◌<◌, ℕ, List, length, None, refl, sym, subst}
+use Rattle.std.proofs.Common.{◌≡◌, ◌≢◌, ◌<◌, ℕ, true, false, List, length, Option, None, Some, MatchOption, is_some, refl, sym, subst}
 use Rattle.sd_command.specs.declared.reply.Reply.TheVariants as reply
 use Rattle.sd_disk.specs.Crash.{Within}
 use Rattle.sd_disk.specs.declared.disk.Disk.{Ghosts}
@@ -38,6 +38,11 @@ use Rattle.sd_world.proofs.LowersLemmas.{work_lowers}
 use Rattle.sd_world.proofs.MergesLemmas.{step_keeps, step_merges}
 use Rattle.sd_world.proofs.ReplyLemmas.{marked_legal, says}
 use Rattle.sd_world.proofs.StepLemmas.{step_world}
+
+-- what is so where a search finds nothing
+pub not_found : (Found : ℕ → Type 0) (None_is : Type 0) (found : Option ℕ) → MatchOption found None_is Found → is_some found ≡ false → None_is
+not_found Found None_is None tells none = tells
+not_found Found None_is (Some lane) tells none = absurd (let no : true ≡ false = none in cc)
 
 -- no outcome of the dumper is kept, in one view of a world as in the other
 pub none_made : {D : Type 0} (old now : WorldView D) → old ≡ now → IsNowhere now.kept call.Made its.Dumper 0 → IsNowhere old.kept call.Made its.Dumper 0

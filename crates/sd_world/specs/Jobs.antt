@@ -9,12 +9,14 @@ use Rattle.sd_command.specs.declared.reply.Reply.TheVariants.{Acked, Cancelled, 
 use Rattle.sd_disk.specs.declared.disk.Disk.{Ghosts}
 use Rattle.sd_gate.specs.declared.worker.Worker.{Worker}
 use Rattle.sd_gate.specs.declared.worker.Worker.TheVariants.{Dumper}
+use Rattle.sd_core.specs.Called.{HasNoPassStep}
+use Rattle.sd_world.specs.declared.call_state.CallState.TheVariants.{Made}
 use Rattle.sd_world.specs.declared.event.Event.{Event}
 use Rattle.sd_world.specs.declared.event.Event.TheVariants.{Work, Perform}
 use Rattle.sd_world.specs.declared.kept.Kept.{Kept}
 use Rattle.sd_world.specs.Promise.{Goes, Point}
 use Rattle.sd_world.specs.Runs.{IsStep, Runs}
-use Rattle.sd_world.specs.View.{WorldView, is_asked}
+use Rattle.sd_world.specs.View.{IsAt, WorldView, is_asked}
 
 -- a worker's next event: its device call where one is out, and else its next step
 abbrev pub next_event : List Kept → Worker → Event
@@ -51,6 +53,14 @@ pub record AreMade {D : Type 0} (g : Ghosts D) (worker : Worker) (first last : W
 -- so many steps of the dumper, each answered `worked`
 abbrev pub WorksOnly : {D : Type 0} → Ghosts D → ℕ → WorldView D → WorldView D → Type 0
 WorksOnly g count first last = Runs g first (replicate count (Work Dumper)) (replicate count Worked) last
+
+-- a device call of the worker is out that wasn't made yet, or its outcome is kept
+abbrev pub HasCall : List Kept → Worker → Type 0
+HasCall kept worker = (is_asked kept worker ≡ true) ⊎ ((lane : ℕ) × IsAt kept Made worker 0 lane)
+
+-- the dumper's next event isn't a step of a pass
+abbrev pub NoPassIsNext : {D : Type 0} → WorldView D → Type 0
+NoPassIsNext world = HasCall world.kept Dumper ⊎ HasNoPassStep world.core
 
 -- A worker's next events, of which only the last may end its job or be refused. The answer is that of the last.
 pub record AreDriven {D : Type 0} (g : Ghosts D) (worker : Worker) (first : WorldView D) (answer : Reply)

@@ -37,6 +37,7 @@ ghost use Rattle.sd_world.specs.View.{asked_count, is_asked, nothing_kept};
 
 use crate::event::Event;
 use crate::kept::Lanes;
+use crate::laws::step_laws;
 use crate::open_error::OpenError;
 use crate::open_fault::OpenFault;
 use crate::opening::start_of;
@@ -45,12 +46,11 @@ use crate::stepping::make_step;
 use sd_areas::Snapshot;
 use sd_command::{Refusal, Reply};
 use sd_core::Core;
-use sd_crash_safety::performed_law;
 use sd_disk::Disk;
-use sd_gate::{Worker, all_found_fit, given_up_fits, writes_commute};
+use sd_gate::{Worker, all_found_fit, writes_commute};
 use sd_journal::trim_laws;
 use sd_restore::Fault;
-use sd_store_laws::{contents_show, left_as_believed, synced_is_found};
+use sd_store_laws::{contents_show, left_as_believed};
 use std::alloc::Global;
 use std::marker::Model;
 
@@ -337,15 +337,7 @@ impl<D: Disk> World<D> {
             → ShowsReply result self.new.core.base (history_of self.new.core)
             (D.contents self.new.disk) }
     {
-        performed_law();
-        writes_commute();
-        left_as_believed();
-        contents_show();
-        given_up_fits(&self.disk);
-        synced_is_found(&self.disk);
-        self.core.goes_on();
-        self.core.merged_stands();
-        self.core.pre_dumps_rest();
+        step_laws(&self.core, &self.disk);
         let answer = make_step(&mut self.core, &mut self.disk, &mut self.kept, event);
         self.core.sound();
         self.core.pre_dumps();

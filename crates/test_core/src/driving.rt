@@ -4,6 +4,7 @@ use sd_command::{Command, Refusal, Reply};
 use sd_core::{Core, Taken};
 use sd_disk::Disk;
 use sd_gate::{Worker, perform};
+use std::alloc::AllocError;
 use std::process::Abort;
 
 /// What a core is asked.
@@ -166,6 +167,14 @@ fn load(core: &mut Core, count: u64) -> Answer {
     Answer::Journaled
 }
 
+/// Makes the dumper's next step, where it visits a page or copies a sector.
+fn pass(core: &mut Core) -> Answer {
+    match core.pass() {
+        Ok(passed) => Answer::Passed(passed),
+        Err(AllocError) => Answer::Other,
+    }
+}
+
 /// Asks a core what needs no device call.
 fn ask(core: &mut Core, order: Order) -> Answer {
     match order {
@@ -177,7 +186,7 @@ fn ask(core: &mut Core, order: Order) -> Answer {
         Order::Loads(count) => load(core, count),
         Order::Left(worker) => Answer::Left(core.left(worker)),
         Order::Idle(worker) => Answer::Idle(core.is_idle(worker)),
-        Order::Pass => Answer::Passed(core.pass()),
+        Order::Pass => pass(core),
         Order::Open | Order::Save | Order::GoOn(_) | Order::Finish(_) => Answer::Other,
     }
 }

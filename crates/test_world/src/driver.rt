@@ -2,7 +2,7 @@
 use crate::store::Device;
 use sd_command::Reply;
 use sd_gate::Worker;
-use sd_world::{Event, World};
+use sd_world::{Event, PassEnd, World};
 
 /// A world of these tests.
 pub(crate) type Tested = World<Device>;
@@ -18,10 +18,9 @@ pub(crate) fn steps(world: &mut Tested, count: u64) -> Reply {
 
 /// So many steps of the dumper's pass in one call. `Worked` where it made them all, and else `Done`.
 pub(crate) fn pass(world: &mut Tested, count: u64) -> Reply {
-    if world.pass_on(count) == count {
-        Reply::Worked
-    } else {
-        Reply::Done
+    match world.pass_on(count).end {
+        PassEnd::AllMade => Reply::Worked,
+        PassEnd::AnotherIsNext | PassEnd::OutOfMemory => Reply::Done,
     }
 }
 

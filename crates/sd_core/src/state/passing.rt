@@ -1,21 +1,20 @@
 //! A core's pass over the memory: pages that are visited, and sectors that are copied.
-ghost use Rattle.std.specs.Prelude.{◌≡◌, false, true, slice_get, Ok, Some, None, IsSome, OnErr};
-ghost use Rattle.sd_pagetable.specs.Contents.{plain_of};
+ghost use Rattle.std.specs.Prelude.{◌≡◌, false, true, slice_get, Ok, Some, None, OnErr};
 ghost use Rattle.sd_command.specs.declared.reply.Reply.TheVariants as reply;
 ghost use Rattle.sd_gate.specs.declared.worker.Worker.TheVariants as its;
 ghost use Rattle.sd_rounds.specs.Dumper.{next_slot};
-ghost use Rattle.sd_rounds.specs.PassSteps.{NoPageIsNext};
-ghost use Rattle.sd_rounds.specs.Waits.{dumper_must_wait};
 ghost use Rattle.sd_core.specs.declared.taken.Taken.TheVariants.{Step as StepTaken};
 ghost use Rattle.sd_core.specs.Beside.{StepsBeside};
-ghost use Rattle.sd_core.specs.Called.{IsTakenUp};
+ghost use Rattle.sd_core.specs.Called.{HasNoPassStep, IsTakenUp};
 ghost use Rattle.sd_core.specs.Flags.{FlagsByStep};
+ghost use Rattle.sd_core.specs.Refusals.{work_refusal};
 ghost use Rattle.sd_core.specs.Rounds.{SameRound};
 ghost use Rattle.sd_core.specs.Starts.{TakesUp};
 ghost use Rattle.sd_core.specs.Working.{LeavesByWork};
 
 use super::Core;
 use crate::dumping::pass_on;
+use crate::lanes::is_resting;
 use sd_crash_safety::{core_steps, dumper_steps};
 use sd_gate::Worker;
 use sd_journal::{Mark, due_laws, tracked_laws};
@@ -25,42 +24,42 @@ use std::alloc::AllocError;
 
 impl Core {
     /// Makes the dumper's next step where it visits a page or copies a sector, as [`Core::take_up`] does, which answers
-    /// `Worked` then. `false` where the next step is another one, is refused, or finds no memory: nothing changed, and
-    /// `take_up` tells.
+    /// `Worked` then. `false` where the dumper is refused a step, or its next is another one: nothing changed, and
+    /// `take_up` refuses or makes it.
+    ///
+    /// # Errors
+    ///
+    /// Out of memory where a growth was refused, as `take_up` answers then. Nothing changed.
     #[inline]
-    pub fn pass(&mut self) -> bool
-        ensures worked { result ≡ true → IsTakenUp its.Dumper self.old (StepTaken reply.Worked) self.new }
-        ensures none { result ≡ false → self.new ≡ self.old }
+    pub fn pass(&mut self) -> Result<bool, AllocError>
+        ensures worked { result ≡ Ok true → IsTakenUp its.Dumper self.old (StepTaken reply.Worked) self.new }
+        ensures other { result ≡ Ok false → HasNoPassStep self.old × (self.new ≡ self.old) }
+        ensures err { OnErr result (self.new ≡ self.old) }
     {
         core_steps();
-        if self.refusal_of_work(Worker::Dumper).is_some() || self.dumper.next_slot().is_some() {
-            return false;
+        if !is_resting(&self.outs, Worker::Dumper) || self.dumper.next_slot().is_some() {
+            return Ok(false);
         }
-        match self.pass_image() {
-            Ok(passed) => passed,
-            Err(AllocError) => false,
-        }
+        self.pass_image()
     }
 
-    /// Visits the next page of the image in the making, or copies its next sector. `false` where its next step is
-    /// another one: nothing changed.
+    /// Visits the next page of the image in the making, or copies its next sector. `false` where the dumper is refused
+    /// a step, or its next is another one: nothing changed.
     ///
     /// # Errors
     ///
     /// Out of memory where a growth was refused. Nothing changed.
     pub(super) fn pass_image(&mut self) -> Result<bool, AllocError>
         requires begun { next_slot self.old.dumper.running ≡ None }
-        requires runs { IsSome self.old.dumper.running }
         requires rests { slice_get self.old.outs 0 ≡ Some None }
-        requires goes { dumper_must_wait self.old.dumper.running (plain_of self.old.memory) ≡ false }
+        ensures goes { result ≡ Ok true → work_refusal self.old its.Dumper ≡ None }
         ensures takes { result ≡ Ok true → TakesUp self.old its.Dumper (StepTaken reply.Worked) self.new }
         ensures flags { result ≡ Ok true → FlagsByStep self.old its.Dumper (StepTaken reply.Worked) self.new }
         ensures beside { result ≡ Ok true → StepsBeside its.Dumper self.old (StepTaken reply.Worked) self.new }
         ensures leaves { result ≡ Ok true → LeavesByWork self.old its.Dumper (StepTaken reply.Worked) self.new }
         ensures round { result ≡ Ok true → SameRound self.old.dumper.running self.new.dumper.running }
         ensures merger { result ≡ Ok true → self.new.merger ≡ self.old.merger }
-        ensures other { result ≡ Ok false → NoPageIsNext self.old.dumper.running self.old.memory
-            × (self.new ≡ self.old) }
+        ensures other { result ≡ Ok false → HasNoPassStep self.old × (self.new ≡ self.old) }
         ensures err { OnErr result (self.new ≡ self.old) }
     {
         core_steps();

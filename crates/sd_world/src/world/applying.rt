@@ -3,11 +3,10 @@ ghost use Rattle.sd_world.specs.Runs.{IsStep};
 ghost use Rattle.sd_world.specs.declared.event.Event.TheVariants.{Command as CommandEvent};
 
 use super::World;
+use crate::laws::step_laws;
 use crate::stepping::answer_of;
 use sd_command::{Command, Reply};
 use sd_disk::Disk;
-use sd_gate::{given_up_fits, writes_commute};
-use sd_store_laws::{contents_show, left_as_believed};
 
 impl<D: Disk> World<D> {
     /// Makes the event of a command, as [`World::step`] does, and answers it. The command goes into the journal itself,
@@ -15,11 +14,7 @@ impl<D: Disk> World<D> {
     pub fn apply(&mut self, seat: usize, command: Command) -> Reply
         ensures { IsStep D.Disk (CommandEvent seat command) self.old result self.new }
     {
-        writes_commute();
-        left_as_believed();
-        contents_show();
-        given_up_fits(&self.disk);
-        self.core.pre_dumps_rest();
+        step_laws(&self.core, &self.disk);
         let told = self.core.apply_owned(seat, command);
         self.core.sound();
         self.core.pre_dumps();

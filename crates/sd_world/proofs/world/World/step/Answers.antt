@@ -38,14 +38,14 @@ invariant_of-self g c = record { is = is; pre_dumps = pre_dumps }
     new = record { core = c.make_step-answer.new.core; disk = c.make_step-answer.new.disk; kept = c.make_step-answer.new.kept }
 
     is : IsWorld g.D.Disk new
-    is = step_world g.D.Disk old new c.given_up_fits.ensures c.synced_is_found.ensures (g.met.D.Disk.as_read c.self.inside.disk) c.performed_law.ensures c.writes_commute.ensures c.self.invariant.is
+    is = step_world g.D.Disk old new c.step_laws.ensures.given_up c.step_laws.ensures.synced (g.met.D.Disk.as_read c.self.inside.disk) c.step_laws.ensures.performed c.step_laws.ensures.commute c.self.invariant.is
         c.args.event.now c.make_step-answer.result c.make_step-answer.ensures
 
     pre_dumps : g.D.Disk.is_honest new.disk → HasPreDumpsThere g.D.Disk new
     pre_dumps honest =
         let before = step_honest g.D.Disk old new c.self.invariant.is c.args.event.now c.make_step-answer.result c.make_step-answer.ensures honest in
         step_pre_dumps g.D.Disk old new c.pre_dumps.ensures c.self.invariant.is (c.self.invariant.is.consistent before) is (is.consistent honest)
-        c.args.event.now c.make_step-answer.result c.pre_dumps_rest.ensures.looks c.pre_dumps_rest.ensures.alone c.make_step-answer.ensures (c.self.invariant.pre_dumps before)
+        c.args.event.now c.make_step-answer.result c.step_laws.ensures.looks c.step_laws.ensures.alone c.make_step-answer.ensures (c.self.invariant.pre_dumps before)
 
 pub returns-clause-adds : goal.returns-clause-adds
 returns-clause-adds g c =
@@ -110,9 +110,9 @@ returns-clause-merges g c = λ honest.
     let old = c.args.self.now in
     let world = subst (IsWorld g.D.Disk) c.self.view_is c.self.invariant.is in
     let does = subst (λ w. Does g.D.Disk c.args.event.now w c.make_step-answer.result new) c.self.view_is c.make_step-answer.ensures in
-    step_merges g.D.Disk old new world c.writes_commute.ensures
-    (subst (λ (w : WorldView g.row.D.Denot). GivenUpFits (g.D.Disk.contents w.disk) (g.D.Disk.may_leave w.disk)) c.self.view_is c.given_up_fits.ensures)
-    (subst (λ (w : WorldView g.row.D.Denot). AreOwnLanes w.core.outs) c.self.view_is c.goes_on.ensures.lanes)
+    step_merges g.D.Disk old new world c.step_laws.ensures.commute
+    (subst (λ (w : WorldView g.row.D.Denot). GivenUpFits (g.D.Disk.contents w.disk) (g.D.Disk.may_leave w.disk)) c.self.view_is c.step_laws.ensures.given_up)
+    (subst (λ (w : WorldView g.row.D.Denot). AreOwnLanes w.core.outs) c.self.view_is c.step_laws.ensures.lanes)
     c.args.event.now c.make_step-answer.result does (step_honest g.D.Disk old new world c.args.event.now c.make_step-answer.result does honest)
 
 pub returns-clause-keeps : goal.returns-clause-keeps
@@ -120,10 +120,10 @@ returns-clause-keeps g c =
     let new : WorldView g.row.D.Denot = record { core = c.make_step-answer.new.core; disk = c.make_step-answer.new.disk; kept = c.make_step-answer.new.kept } in
     let old = c.args.self.now in
     let does = subst (λ w. Does g.D.Disk c.args.event.now w c.make_step-answer.result new) c.self.view_is c.make_step-answer.ensures in
-    step_keeps g.D.Disk old new (subst (IsWorld g.D.Disk) c.self.view_is c.self.invariant.is) c.writes_commute.ensures
-    (subst (λ (w : WorldView g.row.D.Denot). GivenUpFits (g.D.Disk.contents w.disk) (g.D.Disk.may_leave w.disk)) c.self.view_is c.given_up_fits.ensures)
-    (subst (λ (w : WorldView g.row.D.Denot). AreOwnLanes w.core.outs) c.self.view_is c.goes_on.ensures.lanes)
-    (subst (λ (w : WorldView g.row.D.Denot). LeavesMerged w.core) c.self.view_is c.merged_stands.ensures) c.args.event.now c.make_step-answer.result does
+    step_keeps g.D.Disk old new (subst (IsWorld g.D.Disk) c.self.view_is c.self.invariant.is) c.step_laws.ensures.commute
+    (subst (λ (w : WorldView g.row.D.Denot). GivenUpFits (g.D.Disk.contents w.disk) (g.D.Disk.may_leave w.disk)) c.self.view_is c.step_laws.ensures.given_up)
+    (subst (λ (w : WorldView g.row.D.Denot). AreOwnLanes w.core.outs) c.self.view_is c.step_laws.ensures.lanes)
+    (subst (λ (w : WorldView g.row.D.Denot). LeavesMerged w.core) c.self.view_is c.step_laws.ensures.merged) c.args.event.now c.make_step-answer.result does
 
 pub returns-clause-closes : goal.returns-clause-closes
 returns-clause-closes g c = λ honest.
@@ -146,10 +146,10 @@ returns-clause-copies g c = λ honest.
     let world = subst (IsWorld g.D.Disk) c.self.view_is c.self.invariant.is in
     let does = subst (λ w. Does g.D.Disk c.args.event.now w c.make_step-answer.result new) c.self.view_is c.make_step-answer.ensures in
     let now = (invariant_of-self g c).is in
-    step_copies g.D.Disk old new world c.writes_commute.ensures
-    (subst (λ (w : WorldView g.row.D.Denot). GivenUpFits (g.D.Disk.contents w.disk) (g.D.Disk.may_leave w.disk)) c.self.view_is c.given_up_fits.ensures)
-    (subst (λ (w : WorldView g.row.D.Denot). AreOwnLanes w.core.outs) c.self.view_is c.goes_on.ensures.lanes)
-    now c.left_as_believed.ensures (g.met.D.Disk.as_read c.make_step-answer.new.disk)
+    step_copies g.D.Disk old new world c.step_laws.ensures.commute
+    (subst (λ (w : WorldView g.row.D.Denot). GivenUpFits (g.D.Disk.contents w.disk) (g.D.Disk.may_leave w.disk)) c.self.view_is c.step_laws.ensures.given_up)
+    (subst (λ (w : WorldView g.row.D.Denot). AreOwnLanes w.core.outs) c.self.view_is c.step_laws.ensures.lanes)
+    now c.step_laws.ensures.left (g.met.D.Disk.as_read c.make_step-answer.new.disk)
     c.args.event.now c.make_step-answer.result does (world.consistent (step_honest g.D.Disk old new world c.args.event.now c.make_step-answer.result does honest)) (now.consistent honest)
 
 pub returns-clause-acked : goal.returns-clause-acked
@@ -161,7 +161,7 @@ returns-clause-acked g c = λ honest.
     let before = step_honest g.D.Disk old new was.is c.args.event.now c.make_step-answer.result does honest in
     let now = (invariant_of-self g c).is in
     step_acks g.D.Disk old new c.pre_dumps.ensures was.is (was.is.consistent before) now (now.consistent honest)
-    c.args.event.now c.make_step-answer.result (subst (λ (w : WorldView g.row.D.Denot). HasFewOpen w.core.dumper.running) c.self.view_is c.pre_dumps_rest.ensures.few) (was.pre_dumps before) does
+    c.args.event.now c.make_step-answer.result (subst (λ (w : WorldView g.row.D.Denot). HasFewOpen w.core.dumper.running) c.self.view_is c.step_laws.ensures.few) (was.pre_dumps before) does
 
 pub returns-clause-jobs : goal.returns-clause-jobs
 returns-clause-jobs g c = λ honest worker why is unasked busy refused.
@@ -169,8 +169,8 @@ returns-clause-jobs g c = λ honest worker why is unasked busy refused.
     let old = c.args.self.now in
     let world = subst (IsWorld g.D.Disk) c.self.view_is c.self.invariant.is in
     let does = subst (λ w. Does g.D.Disk c.args.event.now w c.make_step-answer.result new) c.self.view_is c.make_step-answer.ensures in
-    job_refused g.D.Disk old new world (subst (λ (w : WorldView g.row.D.Denot). CanGoOn w.core) c.self.view_is c.goes_on.ensures.goes)
-    (subst (λ (w : WorldView g.row.D.Denot). OpenerAsksAlone w.core) c.self.view_is c.goes_on.ensures.alone)
+    job_refused g.D.Disk old new world (subst (λ (w : WorldView g.row.D.Denot). CanGoOn w.core) c.self.view_is c.step_laws.ensures.goes)
+    (subst (λ (w : WorldView g.row.D.Denot). OpenerAsksAlone w.core) c.self.view_is c.step_laws.ensures.opener)
     (subst (λ (w : WorldView g.row.D.Denot). g.D.Disk.may_leave w.disk (g.D.Disk.contents w.disk)) c.self.view_is (g.met.D.Disk.as_read c.self.inside.disk))
     worker c.make_step-answer.result why busy refused
     unasked (step_honest g.D.Disk old new world c.args.event.now c.make_step-answer.result does honest)
@@ -185,7 +185,7 @@ returns-clause-base g c =
 pub returns-clause-at_end : goal.returns-clause-at_end
 returns-clause-at_end g c =
     let new : WorldView g.row.D.Denot = record { core = c.make_step-answer.new.core; disk = c.make_step-answer.new.disk; kept = c.make_step-answer.new.kept } in
-    world_allows g.D.Disk new c.left_as_believed.ensures c.contents_show.ensures c.writes_commute.ensures (g.met.D.Disk.same_slots c.make_step-answer.new.disk)
+    world_allows g.D.Disk new c.step_laws.ensures.left c.step_laws.ensures.show c.step_laws.ensures.commute (g.met.D.Disk.same_slots c.make_step-answer.new.disk)
     (invariant_of-self g c).is
 
 pub returns-clause-contents : goal.returns-clause-contents
@@ -208,7 +208,7 @@ returns-clause-any_moment g c = λ honest.
     let old = c.args.self.now in
     let world = subst (IsWorld g.D.Disk) c.self.view_is c.self.invariant.is in
     let does = subst (λ w. Does g.D.Disk c.args.event.now w c.make_step-answer.result new) c.self.view_is c.make_step-answer.ensures in
-    let before = world_allows g.D.Disk old c.left_as_believed.ensures c.contents_show.ensures c.writes_commute.ensures (g.met.D.Disk.same_slots old.disk) world
+    let before = world_allows g.D.Disk old c.step_laws.ensures.left c.step_laws.ensures.show c.step_laws.ensures.commute (g.met.D.Disk.same_slots old.disk) world
     (step_honest g.D.Disk old new world c.args.event.now c.make_step-answer.result does honest) in
     step_span g.D.Disk old new world (ShowsAllowed old.core.base (history_of old.core)) (g.met.D.Disk.only_now old.disk) before
     c.args.event.now c.make_step-answer.result does
