@@ -1,7 +1,6 @@
 -- What each call of a core does: all that it says of its call, by one name.
 use Rattle.std.specs.Prelude.{◌≡◌, ◌≢◌, ◌↔◌, ◌+◌, ℕ, true, false, length, Some, None, IsSome, is_some, Result, Err}
-use Rattle.std.specs.Prelude.{IfOk}
-use Rattle.std.specs.Prelude.{◌⊎◌}
+use Rattle.std.specs.Prelude.{IfOk, ◌⊎◌}
 use Rattle.sd_command.specs.declared.command.Command.{Command}
 use Rattle.sd_command.specs.declared.refusal.Refusal.{Refusal}
 use Rattle.sd_command.specs.declared.refusal.Refusal.TheVariants.{Idle, JournalFull, StoreDown}
