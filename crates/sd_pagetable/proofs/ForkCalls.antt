@@ -24,7 +24,7 @@ use Rattle.sd_pagetable.specs.Ranges.{bare_page}
 use Rattle.sd_pagetable.specs.Tracking.{with_space, contents_after_fork}
 use Rattle.sd_pagetable.proofs.TableLemmas.{same_table, get_put, get_removed, get-map_values, entries-map_values}
 use Rattle.sd_pagetable.proofs.NestedLemmas.{alive-insert}
-use Rattle.sd_pagetable.proofs.TotalLemmas.{total-empty, total-insert, total-remove, total_within-insert, total_within-remove_space}
+use Rattle.sd_pagetable.proofs.TotalLemmas.{total-empty, total-insert, total-remove, total_within-remove_space}
 use Rattle.sd_pagetable.proofs.RangeLemmas.{cases_bool, same_of, inside_with, inside_other, with_twice}
 use Rattle.sd_pagetable.proofs.PlainRanges.{composed, map_removed, same_many, plain_many, plain_inside, plain_with, areas_with}
 use Rattle.sd_pagetable.proofs.ForkLemmas.{with_swap}
@@ -127,7 +127,7 @@ pub areas_ended : (areas new : BTreeMap ℕ PageMap) (c : Contents) (s : ℕ) �
 areas_ended areas new c s has removed = λ q. removed q ∙ ap (cond (nat_eq q s) None) (has q) ∙ gone (nat_eq q s) prots_of (finmap.get c.spaces q) ∙ ap (option_map prots_of) (sym (get_removed c.spaces s q))
 
 -- ---- `fork`
-dead_inside : (c : Contents) (s : ℕ) → is_alive c.spaces s ≡ false → inside c.spaces s ≡ finmap.empty
+pub dead_inside : (c : Contents) (s : ℕ) → is_alive c.spaces s ≡ false → inside c.spaces s ≡ finmap.empty
 dead_inside c s dead = none (finmap.get c.spaces s) dead
   where
     none : (o : Option (Table PageState)) → is_some o ≡ false → unwrap_or o finmap.empty ≡ finmap.empty
@@ -137,21 +137,12 @@ dead_inside c s dead = none (finmap.get c.spaces s) dead
 pub apart_from : (c : Contents) (s child : ℕ) → is_alive c.spaces s ≡ true → is_alive c.spaces child ≡ false → s ≡ child → ⊥
 apart_from c s child alive dead same = absurd (let e : true ≡ false = sym alive ∙ ap (is_alive c.spaces) same ∙ dead in cc)
 
--- a space without pages more
-pub bare_count : (c : Contents) (child : ℕ) → is_alive c.spaces child ≡ false → page_count (with_space c child finmap.empty).spaces ≡ page_count c.spaces
-bare_count c child dead =
-    let more = total_within-insert (λ (_ : PageState). 1) c.spaces child finmap.empty in
-    let none : total (λ (_ : PageState). 1) finmap.empty ≡ 0 = total-empty (λ (_ : PageState). 1) in
-    let inner : total (λ (_ : PageState). 1) (inside c.spaces child) ≡ 0 = ap (total (λ (_ : PageState). 1)) (dead_inside c child dead) ∙ none in
-    omega (arith, more, none, inner)
+-- a space more, with copies of another's pages
+pub copied_parent : (c copied : Contents) (s child : ℕ) (t : Table PageState) → (s ≡ child → ⊥) → copied ≡ with_space c child t → inside copied.spaces s ≡ inside c.spaces s
+copied_parent c copied s child t apart is = ap (λ (m : Contents). inside m.spaces s) is ∙ inside_other c child s t apart
 
-pub copied_parent : (c copied : Contents) (s child : ℕ) (t : Table PageState) → (s ≡ child → ⊥) → copied ≡ with_space (with_space c child finmap.empty) child t → inside copied.spaces s ≡ inside c.spaces s
-copied_parent c copied s child t apart is = ap (λ (m : Contents). inside m.spaces s) (is ∙ with_twice c child finmap.empty t) ∙ inside_other c child s t apart
-
-pub copied_child : (c copied : Contents) (s child : ℕ) → (s ≡ child → ⊥) → copied ≡ with_space (with_space c child finmap.empty) child (map_values bare_page (inside (with_space c child finmap.empty).spaces s))
-    → inside copied.spaces child ≡ map_values bare_page (inside copied.spaces s)
-copied_child c copied s child apart is = ap (λ (m : Contents). inside m.spaces child) is ∙ inside_with (with_space c child finmap.empty) child _
-    ∙ ap (map_values bare_page) (inside_other c child s finmap.empty apart ∙ sym (copied_parent c copied s child _ apart is))
+pub copied_child : (c copied : Contents) (s child : ℕ) → (s ≡ child → ⊥) → copied ≡ with_space c child (map_values bare_page (inside c.spaces s)) → inside copied.spaces child ≡ map_values bare_page (inside copied.spaces s)
+copied_child c copied s child apart is = ap (λ (m : Contents). inside m.spaces child) is ∙ inside_with c child _ ∙ ap (map_values bare_page) (sym (copied_parent c copied s child _ apart is))
 
 or_true : (b : Bool) → (b || true) ≡ true
 or_true true = refl
@@ -160,30 +151,18 @@ or_true false = refl
 pub still_alive : (c : Contents) (s u : ℕ) (t : Table PageState) → is_alive c.spaces u ≡ true → is_alive (with_space c s t).spaces u ≡ true
 still_alive c s u t alive = alive-insert c.spaces s t u ∙ ap (λ b. nat_eq u s || b) alive ∙ or_true (nat_eq u s)
 
-pub shared : (c copied new : Contents) (s child : ℕ) (t : Table PageState) → (s ≡ child → ⊥) → copied ≡ with_space (with_space c child finmap.empty) child t
+pub shared : (c copied new : Contents) (s child : ℕ) (t : Table PageState) → (s ≡ child → ⊥) → copied ≡ with_space c child t
     → new ≡ with_space (with_space copied s (map_values shared_page (inside copied.spaces s))) child (map_values inherited_page (inside copied.spaces s)) → new ≡ contents_after_fork c s child
 shared c copied new s child t apart is done =
     let own = inside c.spaces s in
     done ∙ ap (λ p. with_space (with_space copied s (map_values shared_page p)) child (map_values inherited_page p)) (copied_parent c copied s child t apart is)
-    ∙ ap (λ m. with_space (with_space m s (map_values shared_page own)) child (map_values inherited_page own)) (is ∙ with_twice c child finmap.empty t)
+    ∙ ap (λ m. with_space (with_space m s (map_values shared_page own)) child (map_values inherited_page own)) is
     ∙ ap (λ m. with_space m child (map_values inherited_page own)) (with_swap c child s t (map_values shared_page own) (λ e. apart (sym e)))
     ∙ with_twice (with_space c s (map_values shared_page own)) child t (map_values inherited_page own)
-
--- a child that was given up
-given_up : (b : Bool) (o : Option (Table PageState)) (t : Table PageState) → (b ≡ true → o ≡ None) → cond b None (cond b (Some t) o) ≡ o
-given_up true o t none = sym (none refl)
-given_up false o t none = refl
 
 dead_none : (o : Option (Table PageState)) → is_some o ≡ false → o ≡ None
 dead_none None e = refl
 dead_none (Some t) e = absurd (let f : true ≡ false = e in cc)
-
-pub unforked : (c copied new : Contents) (child : ℕ) → is_alive c.spaces child ≡ false → copied ≡ with_space (with_space c child finmap.empty) child (inside copied.spaces child)
-    → new ≡ record { pool = copied.pool; spaces = finmap.remove copied.spaces child } → new ≡ c
-unforked c copied new child dead is done =
-    done ∙ ap (λ (m : Contents). record { pool = m.pool; spaces = finmap.remove m.spaces child }) (is ∙ with_twice c child finmap.empty (inside copied.spaces child))
-    ∙ ap (λ spaces. record { pool = c.pool; spaces = spaces }) (same_table _ _ (λ q. get_removed (finmap.insert c.spaces child (inside copied.spaces child)) child q ∙ ap (cond (nat_eq q child) None) (get_put c.spaces child (inside copied.spaces child) q)
-    ∙ given_up (nat_eq q child) (finmap.get c.spaces q) (inside copied.spaces child) (λ here. ap (finmap.get c.spaces) (same_of q child here) ∙ dead_none (finmap.get c.spaces child) dead)))
 
 plain_space : (c : Contents) (s : ℕ) → finmap.get (plain_of c) s ≡ option_map (map_values plain_page) (finmap.get c.spaces s)
 unfolding plain_of
@@ -307,10 +286,6 @@ is_sixteen n le = grind (arith, nat_tests)
 
 pub is_fewer : (n : ℕ) → n < 16 → nat_le 16 n ≡ false
 is_fewer n less = grind (arith, nat_tests)
-
-pub copies_as : (c bare copied : Contents) (s child : ℕ) → bare ≡ with_space c child finmap.empty → copied ≡ with_space bare child (map_values bare_page (inside bare.spaces s))
-    → copied ≡ with_space (with_space c child finmap.empty) child (map_values bare_page (inside (with_space c child finmap.empty).spaces s))
-copies_as c bare copied s child is done = done ∙ ap (λ (m : Contents). with_space m child (map_values bare_page (inside m.spaces s))) is
 
 pub space_pages : (c : Contents) (s : ℕ) → finmap.len (inside c.spaces s) ≤ page_count c.spaces
 space_pages c s =

@@ -1,26 +1,21 @@
--- The pages of a child, copied and shared one after the other.
-use Rattle.std.proofs.Common.{◌≡◌, ℕ, ◌+◌, ◌<◌, ◌≤◌, Bool, true, false, not, cond, nat_eq, nat_lt, ◌||◌, is_some, IsSome, List, [], ◌∷◌, map, length, Option, Some, None, refl, sym, ◌∙◌, ap, subst, arith}
-use Rattle.std.specs.Prelude.{IfSome, sum_by}
+-- The pages of a child, shared one after the other.
+use Rattle.std.proofs.Common.{◌≡◌, ℕ, ◌+◌, ◌<◌, ◌≤◌, Bool, true, false, cond, nat_eq, nat_lt, ◌||◌, is_some, IsSome, Option, Some, None, refl, sym, ◌∙◌, ap, subst, arith}
+use Rattle.std.specs.Prelude.{IfSome}
 use Rattle.std.proofs.lemmas.Bool.Decides.{nat_tests}
-use Rattle.std.proofs.lemmas.List.Sums.{sum_by-cons}
 use Rattle.std.specs.Option.{option_map, option_map_or}
-use Rattle.std.specs.Ordering.{nat_cmp}
-use Rattle.std.specs.declared.cmp.Ordering.TheVariants.{Equal}
 use Rattle.std.specs.declared.ops.Bound.{Bound}
 use Rattle.std.specs.declared.ops.Bound.TheVariants.{Included, Excluded, Unbounded}
 use Rattle.std.specs.FinMap as finmap
-use Rattle.std.specs.FinMap.{get-empty, get-retain_keys, len-entries, nat_cmp-IsAntisymmetric}
 use Rattle.sd_pagetable.specs.Nested.{Table, map_entries, map_values, inside, value_at, is_alive, total}
 use Rattle.sd_pagetable.specs.Page.{PageState, shared_page, inherited_page}
-use Rattle.sd_pagetable.specs.Contents.{Contents, page_at, put_page, page_count}
+use Rattle.sd_pagetable.specs.Contents.{Contents, page_at, put_page}
 use Rattle.sd_tables.specs.Firsts.{is_from, IsFirstFrom}
 use Rattle.sd_pagetable.specs.Ranges.{bare_page}
 use Rattle.sd_pagetable.specs.Tracking.{with_space}
-use Rattle.sd_pagetable.proofs.TableLemmas.{same_table, get_put, get-map_entries, entries-map_entries, get-map_values}
+use Rattle.sd_pagetable.proofs.TableLemmas.{same_table, get_put, get-map_entries, get-map_values}
 use Rattle.sd_pagetable.proofs.NestedLemmas.{same_nested, alive-insert, value_at-insert}
 use Rattle.sd_pagetable.proofs.TotalLemmas.{total-insert}
-use Rattle.sd_pagetable.proofs.RangeLemmas.{same_of, inside_with, inside_other, with_itself, put_in, at_table}
-use Rattle.sd_pagetable.proofs.RangeCounts.{one_more}
+use Rattle.sd_pagetable.proofs.RangeLemmas.{same_of, inside_with, inside_other, with_itself, put_in}
 
 -- ---- the pages from a bound on
 no_longer : (page : ℕ) → is_from (Excluded page) page ≡ false
@@ -106,115 +101,12 @@ remaining_next start t page x first is =
     let same : total (λ n. n) (finmap.insert (parted one nought start t) page 0) ≡ total (λ n. n) (parted one nought (Excluded page) t) = ap (total (λ n. n)) (parted_next one nought start t page x first is) in
     omega (arith, weight, sum, same)
 
-all_one : (es : List (ℕ × PageState)) → sum_by (λ (e : ℕ × ℕ). e.1) (map (λ (e : ℕ × PageState). (e.0, cond true (one e.1) (nought e.1))) es) ≡ length es
-unfolding one nought
-all_one [] = refl
-all_one (e ∷ es) =
-    let front = sum_by-cons (λ (e : ℕ × ℕ). e.1) (e.0, 1) (map (λ (e : ℕ × PageState). (e.0, cond true (one e.1) (nought e.1))) es) in
-    omega (arith, front, all_one es)
-
-pub remaining_all : (t : Table PageState) → remaining Unbounded t ≡ finmap.len t
-unfolding remaining parted total
-remaining_all t = ap (sum_by (λ (e : ℕ × ℕ). e.1)) (entries-map_entries (λ q x. cond true (one x) (nought x)) t) ∙ all_one (finmap.entries t) ∙ sym (len-entries t)
-
--- ---- copying: the child has those of the parent's pages that were done
-pub copied : Bound ℕ → Table PageState → Table PageState
-copied start t = map_values bare_page (finmap.retain_keys t (λ q. not (is_from start q)))
-
-kept : (b : Bool) (o : Option PageState) → option_map bare_page (cond (not b) o None) ≡ cond b None (option_map bare_page o)
-kept true o = refl
-kept false o = refl
-
-alike : (start : Bound ℕ) (q x : ℕ) → nat_cmp q x ≡ Equal → not (is_from start x) ≡ not (is_from start q)
-alike start q x e = ap (λ k. not (is_from start k)) (sym (nat_cmp-IsAntisymmetric q x e))
-
-pub get-copied : (start : Bound ℕ) (t : Table PageState) (q : ℕ) → finmap.get (copied start t) q ≡ cond (is_from start q) None (option_map bare_page (finmap.get t q))
-unfolding copied
-get-copied start t q = get-map_values bare_page (finmap.retain_keys t (λ q. not (is_from start q))) q
-    ∙ ap (option_map bare_page) (get-retain_keys t (λ q. not (is_from start q)) q (λ x e. alike start q x e)) ∙ kept (is_from start q) (finmap.get t q)
-
-copied_at : (start : Bound ℕ) (t : Table PageState) (page : ℕ) (x : PageState) → IsFirstFrom t start (Some page) → finmap.get t page ≡ Some x
-    → (q : ℕ) (here : Bool) → nat_eq q page ≡ here → (o : Option PageState) → finmap.get t q ≡ o
-    → cond (is_from (Excluded page) q) None (option_map bare_page o) ≡ cond here (Some (bare_page x)) (cond (is_from start q) None (option_map bare_page o))
-copied_at start t page x first is q true e o f =
-    ap (λ b. cond b None (option_map bare_page o)) (ap (is_from (Excluded page)) (same_of q page e) ∙ no_longer page) ∙ ap (option_map bare_page) (sym f ∙ ap (finmap.get t) (same_of q page e) ∙ is)
-copied_at start t page x first is q false e None f = nothing (is_from (Excluded page) q) (is_from start q)
-  where
-    nothing : (a b : Bool) → cond a None (option_map bare_page None) ≡ cond b None (option_map bare_page None)
-    nothing true true = refl
-    nothing true false = refl
-    nothing false true = refl
-    nothing false false = refl
-copied_at start t page x first is q false e (Some y) f = ap (λ b. cond b None (Some (bare_page y))) (sym (from_next t start page q first (subst IsSome (sym f) refl) e))
-
-pub copied_next : (start : Bound ℕ) (t : Table PageState) (page : ℕ) (x : PageState) → IsFirstFrom t start (Some page) → finmap.get t page ≡ Some x
-    → finmap.insert (copied start t) page (bare_page x) ≡ copied (Excluded page) t
-copied_next start t page x first is = same_table _ _ (λ q. get_put (copied start t) page (bare_page x) q ∙ ap (cond (nat_eq q page) (Some (bare_page x))) (get-copied start t q)
-    ∙ sym (copied_at start t page x first is q (nat_eq q page) refl (finmap.get t q) refl) ∙ sym (get-copied (Excluded page) t q))
-
-pub copied_none : (t : Table PageState) → copied Unbounded t ≡ finmap.empty
-copied_none t = same_table _ _ (λ q. get-copied Unbounded t q ∙ sym (get-empty nat_cmp q))
-
-copied_whole : (start : Bound ℕ) (q : ℕ) (o : Option PageState) → (IsSome o → is_from start q ≡ false) → cond (is_from start q) None (option_map bare_page o) ≡ option_map bare_page o
-copied_whole start q None none = nothing (is_from start q)
-  where
-    nothing : (a : Bool) → cond a None (option_map bare_page None) ≡ option_map bare_page None
-    nothing true = refl
-    nothing false = refl
-copied_whole start q (Some x) none = ap (λ b. cond b None (Some (bare_page x))) (none refl)
-
-pub copied_all : (start : Bound ℕ) (t : Table PageState) → IsFirstFrom t start None → copied start t ≡ map_values bare_page t
-copied_all start t none = same_table _ _ (λ q. get-copied start t q ∙ copied_whole start q (finmap.get t q) (none q) ∙ sym (get-map_values bare_page t q))
-
--- the page isn't in the child yet
-pub uncopied : (start : Bound ℕ) (t : Table PageState) (page : ℕ) → is_from start page ≡ true → finmap.get (copied start t) page ≡ None
-uncopied start t page from = get-copied start t page ∙ ap (λ b. cond b None (option_map bare_page (finmap.get t page))) from
-
 some_of : (o : Option PageState) → IsSome o → (x : PageState) × (o ≡ Some x)
 some_of (Some x) e = (x, refl)
 some_of None e = absurd (let f : false ≡ true = e in cc)
 
--- ---- one page more of a child
-pub record Copies (old now : Contents) (parent child : ℕ) (start : Bound ℕ) : Type 0 where
-  pub done : now ≡ with_space old child (copied start (inside old.spaces parent))
-  pub few : page_count now.spaces + remaining start (inside old.spaces parent) ≡ page_count old.spaces + finmap.len (inside old.spaces parent)
-
-pub copies_none : (old : Contents) (parent child : ℕ) → is_alive old.spaces child ≡ true → inside old.spaces child ≡ finmap.empty → Copies old old parent child Unbounded
-copies_none old parent child alive bare = record {
-  done = sym (ap (with_space old child) (copied_none (inside old.spaces parent) ∙ sym bare) ∙ with_itself old child alive);
-  few = ap (λ n. page_count old.spaces + n) (remaining_all (inside old.spaces parent));
-}
-
--- the parent's pages are as they were
-pub parent_same : (old now : Contents) (parent child : ℕ) (t : Table PageState) → (parent ≡ child → ⊥) → now ≡ with_space old child t → inside now.spaces parent ≡ inside old.spaces parent
-parent_same old now parent child t apart done = ap (λ (c : Contents). inside c.spaces parent) done ∙ inside_other old child parent t apart
-
-pub copy_hole : (old now : Contents) (parent child page : ℕ) (start : Bound ℕ) → Copies old now parent child start → is_from start page ≡ true → page_at now child page ≡ None
-copy_hole old now parent child page start copies from = ap (λ c. page_at c child page) copies.done ∙ at_table old child page _ ∙ uncopied start (inside old.spaces parent) page from
-
-pub copy_room : (old now : Contents) (parent child page : ℕ) (start : Bound ℕ) → Copies old now parent child start → IsFirstFrom (inside old.spaces parent) start (Some page)
-    → page_count old.spaces + finmap.len (inside old.spaces parent) ≤ 65536 → page_count now.spaces < 65536
-copy_room old now parent child page start copies first few =
-    let x = some_of (finmap.get (inside old.spaces parent) page) first.0 in
-    omega (arith, copies.few, few, remaining_next start (inside old.spaces parent) page x.0 first x.1)
-
 if_there : (P : PageState → Type 0) (o : Option PageState) (x : PageState) → o ≡ Some x → IfSome o P → P x
 if_there P o x e given = (let g : IfSome (Some x) P = subst (λ o. IfSome o P) e given in g)
-
-pub copies_next : (old now new : Contents) (parent child page : ℕ) (start : Bound ℕ) → (parent ≡ child → ⊥) → Copies old now parent child start → IsFirstFrom (inside old.spaces parent) start (Some page)
-    → IfSome (page_at now parent page) (λ before. new ≡ put_page now child page (bare_page before)) → Copies old new parent child (Excluded page)
-copies_next old now new parent child page start apart copies first put =
-    let x = some_of (finmap.get (inside old.spaces parent) page) first.0 in
-    let there : page_at now parent page ≡ Some x.0 = ap (λ t. finmap.get t page) (parent_same old now parent child _ apart copies.done) ∙ x.1 in
-    let step : new ≡ put_page now child page (bare_page x.0) = if_there (λ before. new ≡ put_page now child page (bare_page before)) _ x.0 there put in
-    let more : page_count new.spaces ≡ page_count now.spaces + 1 = ap (λ (c : Contents). page_count c.spaces) step ∙ one_more now child page (bare_page x.0) (copy_hole old now parent child page start copies first.1) in
-    record {
-      done = step ∙ ap (λ c. put_page c child page (bare_page x.0)) copies.done ∙ put_in old child page _ (bare_page x.0) ∙ ap (with_space old child) (copied_next start (inside old.spaces parent) page x.0 first x.1);
-      few = omega (arith, copies.few, more, remaining_next start (inside old.spaces parent) page x.0 first x.1);
-    }
-
-pub first_of_parent : (old now : Contents) (parent : ℕ) (start : Bound ℕ) (page : Option ℕ) → inside now.spaces parent ≡ inside old.spaces parent → IsFirstFrom (inside now.spaces parent) start page → IsFirstFrom (inside old.spaces parent) start page
-first_of_parent old now parent start page same first = subst (λ t. IsFirstFrom t start page) same first
 
 pub less_remains : (t : Table PageState) (start : Bound ℕ) (page : ℕ) → IsFirstFrom t start (Some page) → remaining (Excluded page) t < remaining start t
 less_remains t start page first =

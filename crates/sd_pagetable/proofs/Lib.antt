@@ -8,6 +8,7 @@ pub mod CleanLemmas
 pub mod EffectLemmas
 pub mod LawLemmas
 pub mod ViewLemmas
+pub mod FirstLemmas
 pub mod KeptLemmas
 pub mod WordLemmas
 pub mod SpaceLemmas
@@ -24,6 +25,7 @@ pub mod PlainRanges
 pub mod RangeDue
 pub mod AreaCalls
 pub mod ForkCalls
+pub mod CopyLemmas
 pub mod ClearLemmas
 pub mod CountLemmas
 pub mod PlainLaws

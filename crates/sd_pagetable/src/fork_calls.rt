@@ -17,7 +17,7 @@ use crate::memory_error::MemoryError;
 use crate::memory_refusal::MemoryRefusal;
 use crate::paging::Paging;
 use crate::range_calls::{Areas, copy_in};
-use crate::ranges::{copy_pages, share_pages, unmap_all};
+use crate::ranges::{share_pages, unmap_all};
 use sd_areas::{AreaMap, MAPPED_PAGE_LIMIT, SPACE_LIMIT, SpaceId};
 use std::alloc::AllocError;
 
@@ -93,11 +93,7 @@ fn copy_space(paging: &mut Paging, space: SpaceId, child: SpaceId) -> Result<(),
     ensures ok { OnOk result (paging.new ≡ contents_after_fork paging.old space child) }
     ensures err { OnErr result (paging.new ≡ paging.old) }
 {
-    paging.add_space(child)?;
-    if let Err(error) = copy_pages(paging, space, child) {
-        end_space(paging, child);
-        return Err(error);
-    }
+    paging.add_copy(space, child)?;
     share_pages(paging, space, child);
     Ok(())
 }

@@ -187,6 +187,19 @@ impl Paging {
         self.tables.first_from(space, start)
     }
 
+    /// The first page of a space from a bound on, with its entry.
+    pub(crate) fn first_entry_from(
+        &self,
+        space: SpaceId,
+        start: Bound<PageNo>,
+    ) -> Option<(PageNo, Entry)>
+        ensures first { IsFirstFrom (inside self.now.spaces space) start
+            (option_map (λ found. found.0) result) }
+        ensures entry { IfSome result (λ found. HasEntry self.now space found.0 found.1) }
+    {
+        self.tables.first_entry_from(space, start)
+    }
+
     /// The first page of a space.
     pub(crate) fn first_in(&self, space: SpaceId) -> Option<PageNo>
         ensures first { IsFirstFrom (inside self.now.spaces space) Bound.Unbounded result }
@@ -224,6 +237,17 @@ fn protect_entry(tables: &mut Tables, space: SpaceId, page: PageNo, entry: Entry
 {
     if entry.writable {
         tables.replace(space, page, entry.write_protected(entry.soft_dirty));
+    }
+}
+
+/// Gives a child's page the entry that it inherits. One without a frame has it already, and stays as it is.
+fn put_inherited(tables: &mut Tables, child: SpaceId, page: PageNo, entry: Entry)
+    requires there { IsSome (value_at tables.old child page) }
+    requires bare { entry.frame ≡ None → value_at tables.old child page ≡ Some entry }
+    ensures { tables.new ≡ put_at tables.old child page entry }
+{
+    if entry.frame.is_some() {
+        tables.replace(child, page, entry);
     }
 }
 

@@ -1,4 +1,4 @@
-//! Runs of pages, mapped, unmapped and protected, and the pages of a child.
+//! Runs of pages, mapped, unmapped and protected, and the pages that a child shares.
 ghost use Rattle.std.specs.Prelude.{◌≡◌, ◌+◌, ◌-◌, ◌<◌, ◌≤◌, ◌^◌, ◌&&◌, ℕ, ◌==◌, true, false, not, cond, None, Some};
 ghost use Rattle.std.specs.Prelude.{is_some, IsSome, IfSome, IfOk, OnOk, OnErr, count_by};
 ghost use Rattle.std.specs.FinMap as finmap;
@@ -281,59 +281,6 @@ pub(crate) fn unmap_all(paging: &mut Paging, space: SpaceId)
     }
 }
 
-/// Maps a page of the parent in a child, without a frame.
-///
-/// # Errors
-///
-/// Out of memory where the child's table can't grow: nothing changes.
-fn copy_page(
-    paging: &mut Paging,
-    parent: SpaceId,
-    child: SpaceId,
-    page: PageNo,
-) -> Result<(), AllocError>
-    requires alive { is_alive paging.old.spaces child ≡ true }
-    requires hole { page_at paging.old child page ≡ None }
-    requires few { page_count paging.old.spaces < 65536 }
-    ensures ok { OnOk result
-        (IfSome (page_at paging.old parent page)
-        (λ (before : PageState). paging.new ≡ put_page paging.old child page (bare_page before))) }
-    ensures err { OnErr result (paging.new ≡ paging.old) }
-{
-    let Some(entry) = paging.entry(parent, page) else {
-        return Ok(());
-    };
-    paging.add(child, page, entry.prot)
-}
-
-/// Maps the parent's pages in a child without pages, each without a frame.
-///
-/// # Errors
-///
-/// Out of memory where the child's table can't grow: the child has some of the pages.
-pub(crate) fn copy_pages(
-    paging: &mut Paging,
-    parent: SpaceId,
-    child: SpaceId,
-) -> Result<(), AllocError>
-    requires apart { parent ≡ child → ⊥ }
-    requires alive { is_alive paging.old.spaces child ≡ true }
-    requires bare { inside paging.old.spaces child ≡ finmap.empty }
-    requires few { page_count paging.old.spaces + finmap.len
-        (inside paging.old.spaces parent) ≤ 65536 }
-    ensures ok { OnOk result
-        (paging.new ≡ with_space paging.old child
-        (map_values bare_page (inside paging.old.spaces parent))) }
-    ensures child { paging.new ≡ with_space paging.old child (inside paging.new.spaces child) }
-{
-    let mut start = Bound::Unbounded;
-    while let Some(page) = paging.first_from(parent, start) {
-        copy_page(paging, parent, child, page)?;
-        start = Bound::Excluded(page);
-    }
-    Ok(())
-}
-
 /// Puts the child's pages into the classes of the parent's.
 pub(crate) fn share_pages(paging: &mut Paging, parent: SpaceId, child: SpaceId)
     requires apart { parent ≡ child → ⊥ }
@@ -347,8 +294,8 @@ pub(crate) fn share_pages(paging: &mut Paging, parent: SpaceId, child: SpaceId)
         (map_values inherited_page (inside paging.old.spaces parent)) }
 {
     let mut start = Bound::Unbounded;
-    while let Some(page) = paging.first_from(parent, start) {
-        paging.inherit(parent, child, page);
-        start = Bound::Excluded(page);
+    while let Some(found) = paging.first_entry_from(parent, start) {
+        paging.inherit(parent, child, found.0, found.1);
+        start = Bound::Excluded(found.0);
     }
 }

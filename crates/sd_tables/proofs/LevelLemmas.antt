@@ -79,12 +79,12 @@ module _ {X : Type 0} (at : X → ℕ → Option Entry) (span : ℕ) where
     pub first_in_none : (from : ℕ) → IsFirstAt span (slot_at at slot) from None → IsFirstIn span (level_at at span tables) place from None
     first_in_none from none page q l = at_place page q ∙ none (page % span) l
 
-    pub first_in_some : (from first : ℕ) → IsFirstAt span (slot_at at slot) from (Some first) → IsFirstIn span (level_at at span tables) place from (Some (place * span + first))
-    first_in_some from first some =
+    pub first_in_some : (from first : ℕ) (entry : Entry) → IsFirstAt span (slot_at at slot) from (Some (first, entry)) → IsFirstIn span (level_at at span tables) place from (Some (place * span + first, entry))
+    first_in_some from first entry some =
         let m = mod-mul-add place span first some.1 in (
           div-mul-add place span first some.1,
           (let l = some.0 in omega arith),
-          subst (λ (o : Option Entry). IsSome o) (sym (at_page first some.1)) some.2,
+          at_page first some.1 ∙ some.2,
           λ page q l b. at_place page q ∙ some.3 (page % span) l
               (let e = div-add-mod' page span in let k : page / span * span ≡ place * span = ap (λ k. k * span) q in omega arith),
         )
@@ -123,8 +123,8 @@ module _ {X : Type 0} (at : X → ℕ → Option Entry) (IsKept : X → Type 0) 
 
   module _ (page place : ℕ) (here : page / span ≡ place) where
     -- it is found in the page's own table
-    pub first_here : (first : ℕ) → place < 512 → IsFirstIn span (level_at at span tables) place (page % span) (Some first) → IsFirstAt (512 * span) (level_at at span tables) page (Some first)
-    first_here first within some = (
+    pub first_here : (first : ℕ) (entry : Entry) → place < 512 → IsFirstIn span (level_at at span tables) place (page % span) (Some (first, entry)) → IsFirstAt (512 * span) (level_at at span tables) page (Some (first, entry))
+    first_here first entry within some = (
       place_le span page first (here ∙ sym some.0) some.1,
       spans span place first pos some.0 within,
       some.2,
@@ -149,8 +149,8 @@ module _ {X : Type 0} (at : X → ℕ → Option Entry) (IsKept : X → Type 0) 
 
       module _ (after : ℕ) (next : IsNextUsed words (place + 1) (Some after)) where
         -- it is the first page of the next table
-        pub first_after : (first : ℕ) → IsFirstIn span (level_at at span tables) after 0 (Some first) → IsFirstAt (512 * span) (level_at at span tables) page (Some first)
-        first_after first some = (
+        pub first_after : (first : ℕ) (entry : Entry) → IsFirstIn span (level_at at span tables) after 0 (Some (first, entry)) → IsFirstAt (512 * span) (level_at at span tables) page (Some (first, entry))
+        first_after first entry some = (
           (let n = next.0 in let f = some.0 in elim (cases_lt page first) [
             | inl l ↦ omega arith
             | inr g ↦ (let above : first / span ≤ page / span = div_mono span first page pos g in absurd (omega arith))
@@ -223,8 +223,8 @@ module _ {X : Type 0} (at : X → ℕ → Option Entry) (IsKept : X → Type 0) 
   pub first_got_none : (from : ℕ) → IsFirstAt span (slot_at at (get_or tables place d)) from None → IsFirstIn span (level_at at span tables) place from None
   first_got_none from none = first_in_none at span tables place (get_or tables place d) got_is from none
 
-  pub first_got_some : (s from first : ℕ) → s ≡ span → IsFirstAt span (slot_at at (get_or tables place d)) from (Some first) → IsFirstIn span (level_at at span tables) place from (Some (place * s + first))
-  first_got_some s from first e some = subst (λ k. IsFirstIn span (level_at at span tables) place from (Some (place * k + first))) (sym e) (first_in_some at span tables place (get_or tables place d) got_is from first some)
+  pub first_got_some : (s from first : ℕ) (entry : Entry) → s ≡ span → IsFirstAt span (slot_at at (get_or tables place d)) from (Some (first, entry)) → IsFirstIn span (level_at at span tables) place from (Some (place * s + first, entry))
+  first_got_some s from first entry e some = subst (λ k. IsFirstIn span (level_at at span tables) place from (Some (place * k + first, entry))) (sym e) (first_in_some at span tables place (get_or tables place d) got_is from first entry some)
 
 -- the table in the place of a page, as the code reads it: s and t are the span of the tables below
 module _ {X : Type 0} (at : X → ℕ → Option Entry) (IsKept : X → Type 0) (span : ℕ) (pos : 0 < span) (words : List ℕ) (tables : List (Option X)) (kept : IsLevel at IsKept span words tables)
@@ -289,19 +289,19 @@ module _ {X : Type 0} (at : X → ℕ → Option Entry) (IsKept : X → Type 0) 
   own : page / span ≡ page / s
   own = ap (λ k. page / k) (sym e)
 
-  in_own : (o : Option ℕ) → IsFirstIn span (level_at at span tables) (page / s) (page % t) o → IsFirstIn span (level_at at span tables) (page / s) (page % span) o
+  in_own : (o : Option (ℕ × Entry)) → IsFirstIn span (level_at at span tables) (page / s) (page % t) o → IsFirstIn span (level_at at span tables) (page / s) (page % span) o
   in_own o first = subst (λ k. IsFirstIn span (level_at at span tables) (page / s) (page % k) o) f first
 
-  pub found_here : (o : Option ℕ) → is_some o ≡ true → IsFirstIn span (level_at at span tables) (page / s) (page % t) o → IsFirstAt (512 * span) (level_at at span tables) page o
+  pub found_here : (o : Option (ℕ × Entry)) → is_some o ≡ true → IsFirstIn span (level_at at span tables) (page / s) (page % t) o → IsFirstAt (512 * span) (level_at at span tables) page o
   found_here None g first = absurd (let h : false ≡ true = g in cc)
-  found_here (Some first) g some = first_here at IsKept span pos words tables kept page (page / s) own first (below_512 span s page e pos within) (in_own (Some first) some)
+  found_here (Some first) g some = first_here at IsKept span pos words tables kept page (page / s) own first.0 first.1 (below_512 span s page e pos within) (in_own (Some first) some)
 
-  pub nowhere : (o : Option ℕ) → is_some o ≡ false → IsFirstIn span (level_at at span tables) (page / s) (page % t) o → IsNextUsed words (page / s + 1) None → IsFirstAt (512 * span) (level_at at span tables) page None
+  pub nowhere : (o : Option (ℕ × Entry)) → is_some o ≡ false → IsFirstIn span (level_at at span tables) (page / s) (page % t) o → IsNextUsed words (page / s + 1) None → IsFirstAt (512 * span) (level_at at span tables) page None
   nowhere None g none next = first_nowhere at IsKept span pos words tables kept page (page / s) own (in_own None none) next
   nowhere (Some first) g none next = absurd (let h : true ≡ false = g in cc)
 
-  pub of_next : (o : Option ℕ) → is_some o ≡ false → IsFirstIn span (level_at at span tables) (page / s) (page % t) o → (after : ℕ) → IsNextUsed words (page / s + 1) (Some after)
-      → (r : Option ℕ) → IsFirstIn span (level_at at span tables) after 0 r → IsFirstAt (512 * span) (level_at at span tables) page r
+  pub of_next : (o : Option (ℕ × Entry)) → is_some o ≡ false → IsFirstIn span (level_at at span tables) (page / s) (page % t) o → (after : ℕ) → IsNextUsed words (page / s + 1) (Some after)
+      → (r : Option (ℕ × Entry)) → IsFirstIn span (level_at at span tables) after 0 r → IsFirstAt (512 * span) (level_at at span tables) page r
   of_next (Some first) g none after next r found = absurd (let h : true ≡ false = g in cc)
   of_next None g none after next None found = absurd (never_none at IsKept span pos words tables kept page (page / s) own (in_own None none) after next found)
-  of_next None g none after next (Some first) found = first_after at IsKept span pos words tables kept page (page / s) own (in_own None none) after next first found
+  of_next None g none after next (Some first) found = first_after at IsKept span pos words tables kept page (page / s) own (in_own None none) after next first.0 first.1 found

@@ -6,3 +6,4 @@ pub mod TableOfLemmas
 pub mod LeafLemmas
 pub mod SlotLemmas
 pub mod RunLemmas
+pub mod CopyLemmas

@@ -1,7 +1,7 @@
 -- The table that has at each page what a function says.
 use Rattle.std.proofs.Common.{◌≡◌, ℕ, zero, suc, ◌+◌, ◌-◌, ◌<◌, ◌≤◌, Bool, true, false, cond, ◌||◌, nat_eq, nat_le, is_some, IsSome, List, [], ◌∷◌, length, Option, Some, None, refl, sym, ◌∙◌, ap, subst, inl, inr, arith}
 use Rattle.std.specs.List.{filter_map, cons_option}
-use Rattle.std.specs.Option.{option_map, IfSome}
+use Rattle.std.specs.Option.{option_map}
 use Rattle.std.specs.Prelude.{Result, Ok, Err, OnOk, OnErr}
 use Rattle.std.specs.Ordering.{nat_cmp}
 use Rattle.std.specs.Cmp.{nat_cmp_total}
@@ -81,6 +81,40 @@ module _ (at : ℕ → Option Entry) where
 
   pub get_past : (limit q : ℕ) → limit ≤ q → finmap.get (table_of limit at) q ≡ None
   get_past limit q l = get-table_of limit q ∙ cond-false (is_within 0 limit q) (at q) None (grind (arith, nat_tests))
+
+-- as many pages, where the same ones are mapped
+module _ (f g : ℕ → Option Entry) (same : (q : ℕ) → is_some (g q) ≡ is_some (f q)) where
+  same_there : (w : Bool) (q : ℕ) → is_some (cond w (g q) None) ≡ is_some (cond w (f q) None)
+  same_there true q = same q
+  same_there false q = refl
+
+  len_from_same : (first count : ℕ) → finmap.len (finmap.from_entries {R = nat_cmp} (filter_map (entry_at g) (pages_from first count)))
+      ≡ finmap.len (finmap.from_entries {R = nat_cmp} (filter_map (entry_at f) (pages_from first count)))
+  unfolding pages_from
+  len_from_same first zero = len-empty nat_cmp Entry ∙ sym (len-empty nat_cmp Entry)
+  len_from_same first (suc count) = by_first (g first) (f first) (same first) (len_from_same (suc first) count)
+    where
+      rest : (ℕ → Option Entry) → List (ℕ × Entry)
+      rest at = filter_map (entry_at at) (pages_from (suc first) count)
+
+      known : (at : ℕ → Option Entry) → finmap.contains_key (finmap.from_entries {R = nat_cmp} (rest at)) first ≡ is_some (cond (is_within (suc first) count first) (at first) None)
+      known at = ap is_some (get-from_entries nat_cmp_total (rest at) first ∙ find_from at (suc first) count first)
+
+      by_first : (x y : Option Entry) → is_some x ≡ is_some y → finmap.len (finmap.from_entries {R = nat_cmp} (rest g)) ≡ finmap.len (finmap.from_entries {R = nat_cmp} (rest f))
+          → finmap.len (finmap.from_entries {R = nat_cmp} (cons_option (option_map (λ entry. (first, entry)) x) (rest g)))
+          ≡ finmap.len (finmap.from_entries {R = nat_cmp} (cons_option (option_map (λ entry. (first, entry)) y) (rest f)))
+      by_first None None e more = more
+      by_first None (Some y) e more = absurd (let h : false ≡ true = e in cc)
+      by_first (Some x) None e more = absurd (let h : true ≡ false = e in cc)
+      by_first (Some x) (Some y) e more = len-insert nat_cmp_total (finmap.from_entries (rest g)) first x
+          ∙ ap (λ b. cond b (finmap.len (finmap.from_entries {R = nat_cmp} (rest g))) (finmap.len (finmap.from_entries {R = nat_cmp} (rest g)) + 1))
+          (known g ∙ same_there (is_within (suc first) count first) first ∙ sym (known f))
+          ∙ ap (λ n. cond (finmap.contains_key (finmap.from_entries {R = nat_cmp} (rest f)) first) n (n + 1)) more
+          ∙ sym (len-insert nat_cmp_total (finmap.from_entries (rest f)) first y)
+
+  pub len_same : (limit : ℕ) → finmap.len (table_of limit g) ≡ finmap.len (table_of limit f)
+  unfolding table_of
+  len_same limit = len_from_same 0 limit
 
 module _ (limit : ℕ) (f g : ℕ → Option Entry) where
   pub table_same : ((q : ℕ) → g q ≡ f q) → table_of limit g ≡ table_of limit f
@@ -173,9 +207,9 @@ module _ (limit span : ℕ) (at : ℕ → Option Entry) (start : Bound ℕ) wher
   not_from : (page : ℕ) → (start_of start ≤ page → ⊥) → is_from start page ≡ false
   not_from page n = from_is start page ∙ lt-leb (start_of start) page (omega arith)
 
-  pub first_found : (first : ℕ) → first < limit → IsFirstAt span at (start_of start) (Some first) → IsFirstFrom (table_of limit at) start (Some first)
-  first_found first l some = (
-    subst (λ (o : Option Entry). IsSome o) (sym (get_within at limit first l)) some.2,
+  pub first_found : (first : ℕ) (entry : Entry) → first < limit → IsFirstAt span at (start_of start) (Some (first, entry)) → IsFirstFrom (table_of limit at) start (Some first)
+  first_found first entry l some = (
+    ap is_some (get_within at limit first l ∙ some.2),
     from_is start first ∙ le-leb (start_of start) first some.0,
     λ page is from. elim (cases_lt page first) [
       | inl b ↦ absurd (not_none (finmap.get (table_of limit at) page) (get_within at limit page (some_below page is) ∙ some.3 page (reached page from) b) is)
@@ -186,8 +220,8 @@ module _ (limit span : ℕ) (at : ℕ → Option Entry) (start : Bound ℕ) wher
   pub first_none : IsFirstAt span at (start_of start) None → IsFirstFrom (table_of limit at) start None
   first_none none page is = not_from page (λ l. not_none (finmap.get (table_of limit at) page) (get_within at limit page (some_below page is) ∙ none page l) is)
 
-  pub first_past : (first : ℕ) → limit ≤ first → IsFirstAt span at (start_of start) (Some first) → IsFirstFrom (table_of limit at) start None
-  first_past first g some page is = not_from page (λ l. not_none (finmap.get (table_of limit at) page)
+  pub first_past : (first : ℕ) (entry : Entry) → limit ≤ first → IsFirstAt span at (start_of start) (Some (first, entry)) → IsFirstFrom (table_of limit at) start None
+  first_past first entry g some page is = not_from page (λ l. not_none (finmap.get (table_of limit at) page)
       (get_within at limit page (some_below page is) ∙ some.3 page l (let b = some_below page is in omega arith)) is)
 
 -- ---- as the code finds it
@@ -195,12 +229,18 @@ module _ (limit span : ℕ) (at : ℕ → Option Entry) (start : Bound ℕ) (n :
   pub from_none : IsFirstAt span at n None → IsFirstFrom t start None
   from_none none = subst (λ (m : Table Entry). IsFirstFrom m start None) is (first_none limit span at start (subst (λ k. IsFirstAt span at k None) e none))
 
-  pub from_some : (first : ℕ) → IsFirstAt span at n (Some first) → (r : Option ℕ) → (first < limit → IsSome r) → (IsSome r → first < limit) → IfSome r (λ page. page ≡ first) → IsFirstFrom t start r
-  from_some first some None all within value = subst (λ (m : Table Entry). IsFirstFrom m start None) is
-      (first_past limit span at start first (elim (cases_lt first limit) [
-        | inl l ↦ absurd (let f : false ≡ true = all l in cc)
-        | inr g ↦ g
-      ]) (subst (λ k. IsFirstAt span at k (Some first)) e some))
-  from_some first some (Some page) all within value = subst (λ (m : Table Entry). IsFirstFrom m start (Some page)) is
-      (first_found limit span at start page (subst (λ k. k < limit) (sym value) (within refl))
-      (subst (λ k. IsFirstAt span at (start_of start) (Some k)) (sym value) (subst (λ k. IsFirstAt span at k (Some first)) e some)))
+  module _ (first : ℕ) (entry : Entry) (some : IsFirstAt span at n (Some (first, entry))) where
+    pub from_past : (r : Option ℕ) → r ≡ None → (first < limit → IsSome r) → IsFirstFrom t start None
+    from_past r none all = subst (λ (m : Table Entry). IsFirstFrom m start None) is
+        (first_past limit span at start first entry (elim (cases_lt first limit) [
+          | inl l ↦ absurd (not_none r none (all l))
+          | inr g ↦ g
+        ]) (subst (λ k. IsFirstAt span at k (Some (first, entry))) e some))
+
+    pub from_some : (page : ℕ) → first < limit → page ≡ first → IsFirstFrom t start (Some page)
+    from_some page within value = subst (λ (m : Table Entry). IsFirstFrom m start (Some page)) is
+        (first_found limit span at start page entry (subst (λ k. k < limit) (sym value) within)
+        (subst (λ k. IsFirstAt span at (start_of start) (Some (k, entry))) (sym value) (subst (λ k. IsFirstAt span at k (Some (first, entry))) e some)))
+
+    pub entry_from : (page : ℕ) → first < limit → page ≡ first → finmap.get t page ≡ Some entry
+    entry_from page within value = ap (finmap.get t) value ∙ ap (λ m. finmap.get m first) (sym is) ∙ get_within at limit first within ∙ some.2

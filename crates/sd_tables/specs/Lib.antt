@@ -3,3 +3,4 @@ pub mod Firsts
 pub mod Entries
 pub mod Runs
 pub mod Radix
+pub mod Copies

@@ -67,17 +67,19 @@ level_at at span tables page = slot_at at (table_in tables (page / span)) (page 
 abbrev pub HasPage : ℕ → (ℕ → Option Entry) → Type 0
 HasPage limit at = (page : ℕ) × (page < limit) × IsSome (at page)
 
--- the first mapped page from one on, below a limit
-abbrev pub IsFirstAt : ℕ → (ℕ → Option Entry) → ℕ → Option ℕ → Type 0
+-- the first mapped page from one on, below a limit, with its entry
+abbrev pub IsFirstAt : ℕ → (ℕ → Option Entry) → ℕ → Option (ℕ × Entry) → Type 0
 IsFirstAt limit at from None = (page : ℕ) → from ≤ page → at page ≡ None
-IsFirstAt limit at from (Some first) = (from ≤ first) × (first < limit) × IsSome (at first)
-    × ((page : ℕ) → from ≤ page → page < first → at page ≡ None)
+IsFirstAt limit at from (Some first) = (from ≤ first.0) × (first.0 < limit) × (at first.0 ≡ Some first.1)
+    × ((page : ℕ) → from ≤ page → page < first.0 → at page ≡ None)
 
--- the first mapped page from one on, among those of the table in a place; that one counts from the table's first page
-abbrev pub IsFirstIn : ℕ → (ℕ → Option Entry) → ℕ → ℕ → Option ℕ → Type 0
+-- the first mapped page from one on, among those of the table in a place, with its entry; that one counts from the
+-- table's first page
+abbrev pub IsFirstIn : ℕ → (ℕ → Option Entry) → ℕ → ℕ → Option (ℕ × Entry) → Type 0
 IsFirstIn span at place from None = (page : ℕ) → page / span ≡ place → from ≤ page % span → at page ≡ None
-IsFirstIn span at place from (Some first) = (first / span ≡ place) × (from ≤ first % span) × IsSome (at first)
-    × ((page : ℕ) → page / span ≡ place → from ≤ page % span → page < first → at page ≡ None)
+IsFirstIn span at place from (Some first) = (first.0 / span ≡ place) × (from ≤ first.0 % span)
+    × (at first.0 ≡ Some first.1)
+    × ((page : ℕ) → page / span ≡ place → from ≤ page % span → page < first.0 → at page ≡ None)
 
 -- a place has no table, or one that is kept and has a page
 abbrev pub IsSlot : {X : Type 0} → (X → ℕ → Option Entry) → (X → Type 0) → ℕ → Option X → Type 0

@@ -17,6 +17,8 @@ pub(crate) struct Leaf {
 impl Leaf {
     ghost use Rattle.sd_tables.specs.Radix.{leaf_at};
     ghost use Rattle.sd_tables.specs.Runs.{ChangesRun};
+    ghost use Rattle.sd_tables.specs.Copies.{bare_entry};
+    ghost use Rattle.std.specs.Option.{option_map};
 
     /// A leaf without pages.
     fn new() -> Self
@@ -57,6 +59,20 @@ impl Leaf {
         };
         self.entries[place] = LeafEntry::of(entry);
         true
+    }
+
+    /// Puts the pages of another leaf, each as one just mapped with its permissions.
+    fn put_bare(&mut self, other: &Self)
+        requires { (page : ℕ) → leaf_at self.old.used.words self.old.entries page ≡ None }
+        ensures { (page : ℕ) → leaf_at self.new.used.words self.new.entries page
+            ≡ option_map bare_entry (leaf_at other.now.used.words other.now.entries page) }
+    {
+        let mut from = 0;
+        while let Some(place) = other.used.next(from) {
+            let entry = other.entries[place].entry();
+            self.put(place, Entry::fresh(entry.prot));
+            from = place + 1;
+        }
     }
 }
 
@@ -145,9 +161,15 @@ impl Node for Leaf {
         end
     }
 
-    fn first_from(&self, page: u64) -> Option<u64> {
+    fn bare_copy(&self, alloc: Global) -> Result<Box<Self>, AllocError> {
+        let mut leaf = Box::new(alloc, Leaf::new())?;
+        leaf.put_bare(self);
+        Ok(leaf)
+    }
+
+    fn first_from(&self, page: u64) -> Option<(u64, Entry)> {
         let place = self.used.next(page as usize)?;
-        Some(place as u64)
+        Some((place as u64, self.entries[place].entry()))
     }
 
     fn is_empty(&self) -> bool {

@@ -1,10 +1,15 @@
 ghost use Rattle.std.specs.Prelude.{◌≡◌, ℕ, ◌+◌, ◌*◌, ◌/◌, ◌%◌, ◌^◌, ◌<◌, ◌≤◌, ◌==◌, ◌||◌, false, None};
+ghost use Rattle.std.specs.Prelude.{OnOk};
+ghost use Rattle.std.specs.Option.{option_map};
+ghost use Rattle.sd_tables.specs.Copies.{bare_entry};
 ghost use Rattle.sd_tables.specs.Radix.{is_used, table_in, level_at, IsFirstIn, IsLevel};
 
 use crate::entry::Entry;
 use crate::node::Node;
 use crate::run_change::RunChange;
-use crate::slot::{change_in, fill_in, first_in, get_in, insert_in, mapped_in, remove_in};
+use crate::slot::{
+    bare_copy_in, change_in, fill_in, first_in, get_in, insert_in, mapped_in, remove_in,
+};
 use crate::used_places::{PLACES, UsedPlaces};
 use std::alloc::{AllocError, Global};
 use std::array;
@@ -28,8 +33,35 @@ impl<T: Node> Level<T> {
         }
     }
 
-    /// The first page from one on, of the table in a place.
-    fn first_of(&self, place: usize, page: u64) -> Option<u64>
+    /// Puts copies of another table's tables.
+    ///
+    /// # Errors
+    ///
+    /// Out of memory where a table can't be allocated: some of them are there.
+    fn put_bare(&mut self, alloc: Global, other: &Self) -> Result<(), AllocError>
+        requires fits { T.span ≤ 2 ^ 36 }
+        requires empty { (place : ℕ) → table_in self.old.tables place ≡ None }
+        requires own { IsLevel (λ table. T.at table.value)
+            (λ table. T.IsKept table.value) T.span self.old.used.words self.old.tables }
+        requires kept { IsLevel (λ table. T.at table.value)
+            (λ table. T.IsKept table.value) T.span other.now.used.words other.now.tables }
+        ensures kept { OnOk result (IsLevel (λ table. T.at table.value)
+            (λ table. T.IsKept table.value) T.span self.new.used.words self.new.tables) }
+        ensures value { OnOk result ((page : ℕ)
+            → level_at (λ table. T.at table.value) T.span self.new.tables page
+            ≡ option_map bare_entry (level_at (λ table. T.at table.value) T.span other.now.tables page)) }
+    {
+        let mut from = 0;
+        while let Some(place) = other.used.next(from) {
+            self.tables[place] = bare_copy_in(&other.tables[place], alloc)?;
+            self.used.add(place);
+            from = place + 1;
+        }
+        Ok(())
+    }
+
+    /// The first page from one on, of the table in a place, with its entry.
+    fn first_of(&self, place: usize, page: u64) -> Option<(u64, Entry)>
         requires fits { 512 * T.span ≤ 2 ^ 36 }
         requires place { place < 512 }
         requires page { page < T.span }
@@ -37,8 +69,8 @@ impl<T: Node> Level<T> {
             (λ table. T.IsKept table.value) T.span self.now.used.words self.now.tables }
         ensures { IsFirstIn T.span (level_at (λ table. T.at table.value) T.span self.now.tables) place page result }
     {
-        let found = first_in(&self.tables[place], page)?;
-        Some(place as u64 * T::span() + found)
+        let (found, entry) = first_in(&self.tables[place], page)?;
+        Some((place as u64 * T::span() + found, entry))
     }
 }
 
@@ -118,7 +150,13 @@ impl<T: Node> Node for Level<T> {
         first + change_in(slot, from % T::span(), end - first, change)
     }
 
-    fn first_from(&self, page: u64) -> Option<u64> {
+    fn bare_copy(&self, alloc: Global) -> Result<Box<Self>, AllocError> {
+        let mut level = Box::new(alloc, Level::new())?;
+        level.put_bare(alloc, self)?;
+        Ok(level)
+    }
+
+    fn first_from(&self, page: u64) -> Option<(u64, Entry)> {
         let place = (page / T::span()) as usize;
         let found = self.first_of(place, page % T::span());
         if found.is_some() {

@@ -1,6 +1,8 @@
 ghost use Rattle.std.specs.Prelude.{◌≡◌, ℕ, Option, None, ◌<◌, ◌≤◌, ◌^◌, ◌==◌, if◌then◌else◌, Some, IfOk, OnErr};
 ghost use Rattle.std.specs.Prelude.{IfSome, IfNone, true, false};
 ghost use Rattle.sd_tables.specs.declared.entry.Entry.{Entry as EntryValue};
+ghost use Rattle.std.specs.Option.{option_map};
+ghost use Rattle.sd_tables.specs.Copies.{bare_entry};
 ghost use Rattle.sd_tables.specs.Radix.{HasPage, IsFirstAt};
 ghost use Rattle.sd_tables.specs.Runs.{AreMapped, ChangesRun, FillsRun};
 
@@ -125,8 +127,20 @@ pub(crate) trait Node: Drop {
         ensures span { result ≤ span }
         ensures run { ChangesRun change (at self.old) (at self.new) from result };
 
-    /// The first mapped page from one on.
-    fn first_from(&self, page: u64) -> Option<u64>
+    /// A table with the same pages, each as one just mapped with its permissions.
+    ///
+    /// # Errors
+    ///
+    /// Out of memory: nothing is left.
+    fn bare_copy(&self, alloc: Global) -> Result<Box<Self>, AllocError>
+        requires fits { span ≤ 2 ^ 36 }
+        requires kept { IsKept self.now }
+        ensures kept { IfOk result (λ table. IsKept table.value) }
+        ensures value { IfOk result (λ table. (page : ℕ)
+            → at table.value page ≡ option_map bare_entry (at self.now page)) };
+
+    /// The first mapped page from one on, with its entry.
+    fn first_from(&self, page: u64) -> Option<(u64, Entry)>
         requires fits { span ≤ 2 ^ 36 }
         requires kept { IsKept self.now }
         requires within { page < span }

@@ -1,5 +1,8 @@
 ghost use Rattle.std.specs.Prelude.{◌≡◌, ◌<◌, ◌≤◌, ◌^◌, ℕ, Bool, true, false, Some, None, IsSome, OnOk, OnErr, IfOk};
 ghost use Rattle.std.specs.FinMap as finmap;
+ghost use Rattle.std.specs.Prelude.{IfSome};
+ghost use Rattle.std.specs.Option.{option_map};
+ghost use Rattle.sd_tables.specs.Copies.{bare_entry};
 ghost use Rattle.sd_tables.specs.Firsts.{start_of, IsFirstFrom};
 ghost use Rattle.sd_tables.specs.Runs.{AreMapped, ChangesRun, FillsRun};
 
@@ -8,7 +11,9 @@ use crate::leaf::Leaf;
 use crate::level::Level;
 use crate::node::Node;
 use crate::run_change::RunChange;
-use crate::slot::{change_in, fill_in, first_in, get_in, insert_in, mapped_in, remove_in};
+use crate::slot::{
+    bare_copy_in, change_in, fill_in, first_in, get_in, insert_in, mapped_in, remove_in,
+};
 use sd_areas::PageNo;
 use std::alloc::{AllocError, Global};
 use std::marker::Model;
@@ -163,11 +168,31 @@ impl PageTable {
         change_in(&mut self.top, first.number(), end, change)
     }
 
-    /// The first mapped page from a bound on.
-    pub(crate) fn first_from(&self, start: Bound<PageNo>) -> Option<PageNo>
-        ensures { IsFirstFrom self.now start result }
+    /// A table with the same pages, each as one just mapped with its permissions.
+    ///
+    /// # Errors
+    ///
+    /// Out of memory: nothing is left.
+    pub(crate) fn bare_copy(&self) -> Result<Self, AllocError>
+        ensures { IfOk result (λ copy. (page : ℕ)
+            → finmap.get copy page ≡ option_map bare_entry (finmap.get self.now page)) }
     {
-        PageNo::new(first_in(&self.top, start_of(start))?)
+        let top = bare_copy_in(&self.top, self.alloc)?;
+        Ok(PageTable {
+            alloc: self.alloc,
+            top,
+            mapped: self.mapped,
+        })
+    }
+
+    /// The first mapped page from a bound on, with its entry.
+    pub(crate) fn first_entry_from(&self, start: Bound<PageNo>) -> Option<(PageNo, Entry)>
+        ensures first { IsFirstFrom self.now start (option_map (λ found. found.0) result) }
+        ensures entry { IfSome result (λ found. finmap.get self.now found.0 ≡ Some found.1) }
+    {
+        let (number, entry) = first_in(&self.top, start_of(start))?;
+        let page = PageNo::new(number)?;
+        Some((page, entry))
     }
 }
 

@@ -1,7 +1,8 @@
 //! A place for a table: it has none, or one with a page.
 ghost use Rattle.std.specs.Prelude.{◌≡◌, ℕ, ◌<◌, ◌≤◌, ◌^◌, ◌==◌, if◌then◌else◌, is_some, true, false, None, Some, IfOk};
 ghost use Rattle.std.specs.Prelude.{OnOk, OnErr};
-ghost use Rattle.std.specs.Option.{ForSome};
+ghost use Rattle.std.specs.Option.{ForSome, option_map};
+ghost use Rattle.sd_tables.specs.Copies.{bare_entry};
 ghost use Rattle.sd_tables.specs.Radix.{slot_at, IsSlot, IsFirstAt};
 ghost use Rattle.sd_tables.specs.Runs.{AreMapped, ChangesRun, FillsRun};
 
@@ -24,9 +25,32 @@ pub(crate) fn get_in<T: Node>(slot: &Option<Box<T>>, page: u64) -> Option<Entry>
     }
 }
 
-/// The first mapped page from one on, if there is a table that has one.
+/// A copy of the table, if there is one, with each page as one just mapped with its permissions.
+///
+/// # Errors
+///
+/// Out of memory: nothing is left.
+pub(crate) fn bare_copy_in<T: Node>(
+    slot: &Option<Box<T>>,
+    alloc: Global,
+) -> Result<Option<Box<T>>, AllocError>
+    requires fits { T.span ≤ 2 ^ 36 }
+    requires kept { IsSlot (λ table. T.at table.value) (λ table. T.IsKept table.value) T.span slot.now }
+    ensures kept { IfOk result
+        (λ copy. IsSlot (λ table. T.at table.value) (λ table. T.IsKept table.value) T.span copy) }
+    ensures there { IfOk result (λ copy. is_some copy ≡ is_some slot.now) }
+    ensures value { IfOk result (λ copy. (page : ℕ) → slot_at (λ table. T.at table.value) copy page
+        ≡ option_map bare_entry (slot_at (λ table. T.at table.value) slot.now page)) }
+{
+    let Some(table) = slot else {
+        return Ok(None);
+    };
+    Ok(Some(table.bare_copy(alloc)?))
+}
+
+/// The first mapped page from one on with its entry, if there is a table that has one.
 #[inline]
-pub(crate) fn first_in<T: Node>(slot: &Option<Box<T>>, page: u64) -> Option<u64>
+pub(crate) fn first_in<T: Node>(slot: &Option<Box<T>>, page: u64) -> Option<(u64, Entry)>
     requires fits { T.span ≤ 2 ^ 36 }
     requires kept { IsSlot (λ table. T.at table.value) (λ table. T.IsKept table.value) T.span slot.now }
     requires within { page < T.span }

@@ -1,5 +1,8 @@
 ghost use Rattle.std.specs.Prelude.{◌≡◌, ◌<◌, ◌≤◌, ◌^◌, true, false, None, IsSome, OnOk, OnErr, IfOk};
+ghost use Rattle.std.specs.Prelude.{ℕ, Some, IfSome};
+ghost use Rattle.std.specs.Option.{option_map};
 ghost use Rattle.std.specs.FinMap as finmap;
+ghost use Rattle.sd_tables.specs.Copies.{bare_entry};
 ghost use Rattle.sd_tables.specs.Tables.{inside, value_at, is_alive, put_at, remove_at};
 ghost use Rattle.sd_tables.specs.Firsts.{IsFirstFrom};
 ghost use Rattle.sd_tables.specs.Runs.{AreMapped, ChangesRun, FillsRun};
@@ -80,7 +83,16 @@ impl Tables {
     pub fn first_from(&self, space: SpaceId, start: Bound<PageNo>) -> Option<PageNo>
         ensures { IsFirstFrom (inside self.now space) start result }
     {
-        self.spaces.get(&space)?.first_from(start)
+        let (page, _) = self.first_entry_from(space, start)?;
+        Some(page)
+    }
+
+    /// The first page of a space from a bound on, with its entry.
+    pub fn first_entry_from(&self, space: SpaceId, start: Bound<PageNo>) -> Option<(PageNo, Entry)>
+        ensures first { IsFirstFrom (inside self.now space) start (option_map (λ found. found.0) result) }
+        ensures entry { IfSome result (λ found. value_at self.now space found.0 ≡ Some found.1) }
+    {
+        self.spaces.get(&space)?.first_entry_from(start)
     }
 
     /// The page up to which those of a space from one on are mapped, at most an end.
@@ -156,6 +168,38 @@ impl Tables {
     {
         self.spaces.insert(space, PageTable::new(self.alloc))?;
         Ok(())
+    }
+
+    /// Adds a space with the pages of another, each as one just mapped with its permissions.
+    ///
+    /// # Errors
+    ///
+    /// Out of memory where a table can't be allocated: nothing changes.
+    pub fn add_copy(&mut self, space: SpaceId, child: SpaceId) -> Result<(), AllocError>
+        ensures pages { OnOk result ((page : ℕ) → value_at self.new child page
+            ≡ option_map bare_entry (value_at self.old space page)) }
+        ensures others { OnOk result
+            (self.new ≡ finmap.insert self.old child (inside self.new child)) }
+        ensures err { OnErr result (self.new ≡ self.old) }
+    {
+        let copy = self.copy_of(space)?;
+        self.spaces.insert(child, copy)?;
+        Ok(())
+    }
+
+    /// A table with the pages of a space, each as one just mapped with its permissions.
+    ///
+    /// # Errors
+    ///
+    /// Out of memory: nothing is left.
+    fn copy_of(&self, space: SpaceId) -> Result<PageTable, AllocError>
+        ensures { IfOk result (λ copy. (page : ℕ)
+            → finmap.get copy page ≡ option_map bare_entry (value_at self.now space page)) }
+    {
+        match self.spaces.get(&space) {
+            Some(table) => table.bare_copy(),
+            None => Ok(PageTable::new(self.alloc)),
+        }
     }
 
     /// Takes a space away.

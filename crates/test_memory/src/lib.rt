@@ -6,6 +6,8 @@ mod areas;
 #[cfg(test)]
 mod bits;
 #[cfg(test)]
+mod copies;
+#[cfg(test)]
 mod deeds;
 #[cfg(test)]
 mod growths;

@@ -11,13 +11,15 @@ ghost use Rattle.std.specs.Prelude.{Err};
 ghost use Rattle.sd_pagetable.specs.declared.memory_error.MemoryError.TheVariants.{OutOfMemory};
 ghost use Rattle.sd_pagetable.specs.Due.{Answers, frame_due, needs_frame};
 ghost use Rattle.std.specs.Prelude.{◌-◌};
-ghost use Rattle.sd_pagetable.specs.Nested.{change_within, fill_within};
+ghost use Rattle.std.specs.Option.{option_map};
+ghost use Rattle.sd_pagetable.specs.Ranges.{bare_page};
+ghost use Rattle.sd_pagetable.specs.Nested.{change_within, fill_within, map_values};
 ghost use Rattle.sd_pagetable.specs.Tracking.{MakesWritable, with_space};
 ghost use Rattle.sd_pagetable.specs.View.{HasEntry};
 ghost use Rattle.sd_areas.specs.Memory.{page_of_snapshot};
 ghost use Rattle.sd_pagetable.specs.Loaded.{is_zero_page, Loads, GivesFrame};
 
-use super::{Paging, own_frame, protect_entry, release, share};
+use super::{Paging, own_frame, protect_entry, put_inherited, release, share};
 use crate::loading::is_zero;
 use crate::memory_error::MemoryError;
 use sd_areas::{PAGE_SIZE, PageNo, Prot, SnapshotPage, SpaceId};
@@ -94,6 +96,27 @@ impl Paging {
         ensures err { OnErr result (self.new ≡ self.old) }
     {
         self.tables.add_space(space)
+    }
+
+    /// Adds a child with the pages of a space, each without a frame.
+    ///
+    /// # Errors
+    ///
+    /// Out of memory where a table can't be allocated: nothing changes.
+    pub(crate) fn add_copy(&mut self, space: SpaceId, child: SpaceId) -> Result<(), AllocError>
+        requires fresh { is_alive self.old.spaces child ≡ false }
+        requires least { 1 ≤ child }
+        requires greatest { child ≤ 16 }
+        requires few { page_count self.old.spaces + finmap.len
+            (inside self.old.spaces space) ≤ 65536 }
+        ensures ok { OnOk result
+            (self.new ≡ with_space self.old child
+            (map_values bare_page (inside self.old.spaces space))) }
+        ensures err { OnErr result (self.new ≡ self.old) }
+    {
+        self.tables.add_copy(space, child)?;
+        self.mapped += self.tables.pages_in(child) as u64;
+        Ok(())
     }
 
     /// Takes a space without pages away.
@@ -224,23 +247,20 @@ impl Paging {
         self.tables.replace(space, page, protected);
     }
 
-    /// Makes a child's page, which has no frame, share the frame of the parent's, and
-    /// write-protects both.
-    pub(crate) fn inherit(&mut self, parent: SpaceId, child: SpaceId, page: PageNo)
+    /// Makes a child's page, a copy without a frame, share the frame of the parent's, which has this
+    /// entry, and write-protects both.
+    pub(crate) fn inherit(&mut self, parent: SpaceId, child: SpaceId, page: PageNo, entry: Entry)
         requires apart { parent ≡ child → ⊥ }
-        requires there { IsSome (page_at self.old parent page) }
-        requires fresh { IfSome (page_at self.old child page) (λ (own : PageState). own.class ≡ None) }
-        requires mapped { IsSome (page_at self.old child page) }
+        requires there { HasEntry self.old parent page entry }
+        requires copied { page_at self.old child page
+            ≡ option_map bare_page (page_at self.old parent page) }
         ensures { IfSome (page_at self.old parent page) (λ (before : PageState).
             self.new ≡ put_page (put_page self.old parent page (shared_page before)) child page
             (inherited_page before)) }
     {
-        let Some(entry) = self.tables.get(parent, page) else {
-            return;
-        };
         protect_entry(&mut self.tables, parent, page, entry);
-        self.tables
-            .replace(child, page, entry.write_protected(true));
+        let inherited = entry.write_protected(true);
+        put_inherited(&mut self.tables, child, page, inherited);
         share(&mut self.frames, entry.frame);
     }
 

@@ -7,11 +7,11 @@ use Rattle.sd_pagetable.proofs.ForkLemmas.{parted, remaining}
 use Rattle.sd_pagetable.proofs.ranges.share_pages.Given as goal
 
 -- the pages before the bound are shared
-abbrev pub invariant-loop-page : goal.invariant-loop-page
-invariant-loop-page l = record {
+abbrev pub invariant-loop-found : goal.invariant-loop-found
+invariant-loop-found l = record {
   done : l.paging ≡ with_space (with_space l.fn.paging l.parent (parted (λ page. page) shared_page l.start (inside l.fn.paging.spaces l.parent)))
       l.child (parted bare_page inherited_page l.start (inside l.fn.paging.spaces l.parent));
 }
 
-abbrev pub decreases-loop-page : goal.decreases-loop-page
-decreases-loop-page l = remaining l.start (inside l.fn.paging.spaces l.parent)
+abbrev pub decreases-loop-found : goal.decreases-loop-found
+decreases-loop-found l = remaining l.start (inside l.fn.paging.spaces l.parent)
