@@ -18,7 +18,7 @@ use Rattle.sd_pagetable.proofs.TotalLemmas.{total-insert}
 use Rattle.sd_pagetable.proofs.RangeLemmas.{same_of, inside_with, inside_other, with_itself, put_in}
 
 -- ---- the pages from a bound on
-no_longer : (page : ℕ) → is_from (Excluded page) page ≡ false
+pub no_longer : (page : ℕ) → is_from (Excluded page) page ≡ false
 no_longer page = grind (arith, nat_tests)
 
 up_from : (start : Bound ℕ) (page q : ℕ) → is_from start page ≡ true → nat_lt page q ≡ true → is_from start q ≡ true
@@ -35,7 +35,7 @@ agree false true f g = g refl
 agree false false f g = refl
 
 -- behind its first page
-pub from_next : (t : Table PageState) (start : Bound ℕ) (page q : ℕ) → IsFirstFrom t start (Some page) → IsSome (finmap.get t q) → nat_eq q page ≡ false → is_from start q ≡ is_from (Excluded page) q
+pub from_next : {X : Type 0} (t : Table X) (start : Bound ℕ) (page q : ℕ) → IsFirstFrom t start (Some page) → IsSome (finmap.get t q) → nat_eq q page ≡ false → is_from start q ≡ is_from (Excluded page) q
 from_next t start page q first there differs = agree (is_from start q) (nat_lt page q)
     (λ from. less_of page q (first.2 q there from) differs) (up_from start page q first.1)
 

@@ -35,3 +35,4 @@ pub mod SnapshotLemmas
 pub mod LoadingLemmas
 pub mod RunKept
 pub mod RunSteps
+pub mod ExitLemmas

@@ -3,9 +3,7 @@ use Rattle.std.proofs.Common.{◌≡◌, ◌⊎◌, ℕ, ◌+◌, ◌-◌, ◌<�
 use Rattle.std.specs.Prelude.{count_by, IfSome}
 use Rattle.std.proofs.lemmas.Bool.Decides.{nat_tests}
 use Rattle.std.specs.Option.{option_map}
-use Rattle.std.specs.Ordering.{nat_cmp}
 use Rattle.std.specs.FinMap as finmap
-use Rattle.std.specs.FinMap.{get-empty}
 use Rattle.sd_areas.specs.Pages.{pages_from, is_within}
 use Rattle.sd_pagetable.specs.Nested.{Table, inside, is_alive, fill_within, change_within, remove_within}
 use Rattle.sd_pagetable.specs.Page.{PageState}
@@ -244,10 +242,6 @@ past_run c s first end page past least q within there =
 
     below : (first end q : ℕ) → is_within first (end - first) q ≡ true → q < end
     below first end q within = grind (arith, nat_tests)
-
--- a space without pages
-pub emptied : (old now : Contents) (s : ℕ) → now ≡ with_space old s (inside now.spaces s) → ((q : ℕ) → IsSome (page_at now s q) → true ≡ false) → now ≡ with_space old s finmap.empty
-emptied old now s others none = others ∙ ap (with_space old s) (same_table _ _ (λ q. not_some (page_at now s q) (λ there. absurd (let f : true ≡ false = none q there in cc)) ∙ sym (get-empty nat_cmp q)))
 
 pub unfilled_step : {A : Type 0} (areas : ℕ → Option A) (a b c : Contents) (s first k : ℕ) → first ≤ k → (is_some (areas k) ≡ true → c ≡ b) → (is_some (areas k) ≡ false → IsCleared b c s (λ q. nat_eq q k))
     → IsCleared a b s (λ q. is_within first (k - first) q && not (is_some (areas q))) → IsCleared a c s (λ q. is_within first (k + 1 - first) q && not (is_some (areas q)))

@@ -35,11 +35,11 @@ module _ {X : Type 0} where
   itself (Some x) = refl
 
   -- ---- a space's table is another
-  insert_twice : (m : Nested X) (s : ℕ) (t u : Table X) → finmap.insert (finmap.insert m s t) s u ≡ finmap.insert m s u
+  pub insert_twice : (m : Nested X) (s : ℕ) (t u : Table X) → finmap.insert (finmap.insert m s t) s u ≡ finmap.insert m s u
   insert_twice m s t u = same_table _ _ (λ q. get_put (finmap.insert m s t) s u q ∙ ap (cond (nat_eq q s) (Some u)) (get_put m s t q)
       ∙ absorbed (nat_eq q s) (Some u) (Some t) (finmap.get m q) ∙ sym (get_put m s u q))
 
-  insert_itself : (m : Nested X) (s : ℕ) → is_alive m s ≡ true → finmap.insert m s (inside m s) ≡ m
+  pub insert_itself : (m : Nested X) (s : ℕ) → is_alive m s ≡ true → finmap.insert m s (inside m s) ≡ m
   insert_itself m s alive =
       let found = some_of (finmap.get m s) alive in
       ap (finmap.insert m s) (inside_is m s found.0 found.1) ∙ same_again m s found.0 found.1

@@ -17,7 +17,7 @@ use crate::memory_error::MemoryError;
 use crate::memory_refusal::MemoryRefusal;
 use crate::paging::Paging;
 use crate::range_calls::{Areas, copy_in};
-use crate::ranges::{share_pages, unmap_all};
+use crate::ranges::share_pages;
 use sd_areas::{AreaMap, MAPPED_PAGE_LIMIT, SPACE_LIMIT, SpaceId};
 use std::alloc::AllocError;
 
@@ -44,16 +44,6 @@ fn drop_areas(areas: &mut Areas, space: SpaceId)
     areas.remove(&space);
 }
 
-/// Unmaps all pages of a space, and ends it.
-fn end_space(paging: &mut Paging, space: SpaceId)
-    requires { is_alive paging.old.spaces space ≡ true }
-    ensures { paging.new
-        ≡ record { pool = paging.old.pool; spaces = finmap.remove paging.old.spaces space } }
-{
-    unmap_all(paging, space);
-    paging.remove_space(space);
-}
-
 /// `exit` over the pages of all spaces and the areas beside them. It needs no memory.
 pub(crate) fn exit(
     paging: &mut Paging,
@@ -73,7 +63,7 @@ pub(crate) fn exit(
     if paging.space_count() == 1 {
         return Err(AccessError::Refused(MemoryRefusal::LastSpace));
     }
-    end_space(paging, space);
+    paging.end_space(space);
     drop_areas(areas, space);
     Ok(())
 }

@@ -13,7 +13,8 @@ ghost use Rattle.std.specs.Option.{ForSome};
 ghost use Rattle.sd_frames.specs.Frames.{count_at, HasFree};
 ghost use Rattle.sd_pagetable.specs.Owning.{ReleasesFrame, SharesFrame, is_own, TakesFrame, OwnsFrame, FailsToTake};
 ghost use Rattle.sd_pagetable.specs.Sectors.{framed_bytes};
-ghost use Rattle.sd_pagetable.specs.View.{entry_of, HasEntry};
+ghost use Rattle.sd_pagetable.specs.View.{entry_of, contents_of, HasEntry, IsKept};
+ghost use Rattle.sd_pagetable.specs.Tracking.{with_space};
 
 use crate::memory_error::MemoryError;
 use crate::memory_refusal::MemoryRefusal;
@@ -260,6 +261,22 @@ fn release(frames: &mut Frames, frame: Option<u32>)
         return;
     };
     frames.release(number);
+}
+
+/// Decrements the reference counts of the frames of a space's pages, whose tables are about to be let go.
+fn release_all(frames: &mut Frames, tables: &Tables, space: SpaceId)
+    requires alive { is_alive tables.now space ≡ true }
+    requires kept { IsKept frames.old tables.now (page_count (contents_of frames.old tables.now).spaces) }
+    ensures kept { IsKept frames.new (finmap.insert tables.now space finmap.empty)
+        (page_count (contents_of frames.new (finmap.insert tables.now space finmap.empty)).spaces) }
+    ensures value { contents_of frames.new (finmap.insert tables.now space finmap.empty)
+        ≡ with_space (contents_of frames.old tables.now) space finmap.empty }
+{
+    let mut start = Bound::Unbounded;
+    while let Some(found) = tables.first_entry_from(space, start) {
+        release(frames, found.1.frame);
+        start = Bound::Excluded(found.0);
+    }
 }
 
 /// Increments the reference count of a frame, if there is one.

@@ -271,16 +271,6 @@ pub(crate) fn protect(paging: &mut Paging, space: SpaceId, first: u64, end: u64,
     }
 }
 
-/// Unmaps each page of a space.
-pub(crate) fn unmap_all(paging: &mut Paging, space: SpaceId)
-    requires alive { is_alive paging.old.spaces space ≡ true }
-    ensures { paging.new ≡ with_space paging.old space finmap.empty }
-{
-    while let Some(page) = paging.first_from(space, Bound::Unbounded) {
-        paging.remove(space, page);
-    }
-}
-
 /// Puts the child's pages into the classes of the parent's.
 pub(crate) fn share_pages(paging: &mut Paging, parent: SpaceId, child: SpaceId)
     requires apart { parent ≡ child → ⊥ }

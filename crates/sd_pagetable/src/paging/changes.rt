@@ -19,7 +19,7 @@ ghost use Rattle.sd_pagetable.specs.View.{HasEntry};
 ghost use Rattle.sd_areas.specs.Memory.{page_of_snapshot};
 ghost use Rattle.sd_pagetable.specs.Loaded.{is_zero_page, Loads, GivesFrame};
 
-use super::{Paging, own_frame, protect_entry, put_inherited, release, share};
+use super::{Paging, own_frame, protect_entry, put_inherited, release, release_all, share};
 use crate::loading::is_zero;
 use crate::memory_error::MemoryError;
 use sd_areas::{PAGE_SIZE, PageNo, Prot, SnapshotPage, SpaceId};
@@ -119,12 +119,14 @@ impl Paging {
         Ok(())
     }
 
-    /// Takes a space without pages away.
-    pub(crate) fn remove_space(&mut self, space: SpaceId)
-        requires { inside self.old.spaces space ≡ finmap.empty }
+    /// Ends a space with all its pages.
+    pub(crate) fn end_space(&mut self, space: SpaceId)
+        requires { is_alive self.old.spaces space ≡ true }
         ensures { self.new
             ≡ record { pool = self.old.pool; spaces = finmap.remove self.old.spaces space } }
     {
+        release_all(&mut self.frames, &self.tables, space);
+        self.mapped -= self.tables.pages_in(space) as u64;
         self.tables.remove_space(space);
     }
 
