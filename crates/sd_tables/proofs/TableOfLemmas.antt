@@ -2,7 +2,6 @@
 use Rattle.std.proofs.Common.{◌≡◌, ℕ, zero, suc, ◌+◌, ◌-◌, ◌<◌, ◌≤◌, Bool, true, false, cond, ◌||◌, nat_eq, nat_le, is_some, IsSome, List, [], ◌∷◌, length, Option, Some, None, refl, sym, ◌∙◌, ap, subst, inl, inr, arith}
 use Rattle.std.specs.List.{filter_map, cons_option}
 use Rattle.std.specs.Option.{option_map}
-use Rattle.std.specs.Prelude.{Result, Ok, Err, OnOk, OnErr}
 use Rattle.std.specs.Ordering.{nat_cmp}
 use Rattle.std.specs.Cmp.{nat_cmp_total}
 use Rattle.std.specs.FinMap as finmap
@@ -183,10 +182,6 @@ module _ (limit : ℕ) (f : ℕ → Option Entry) (count k : ℕ) (is_count : co
 module _ (limit : ℕ) (f : ℕ → Option Entry) (k page : ℕ) (same : k ≡ page) (l : k < limit) (t : Table Entry) (is : table_of limit f ≡ t) (there : IsSome (finmap.get t page)) where
   pub some_there : is_some (f k) ≡ true
   some_there = ap is_some (sym (get_within f limit k l) ∙ ap (λ m. finmap.get m k) is ∙ ap (finmap.get t) same) ∙ there
-
-  pub put_there : {T E P : Type 0} (r : Result T E) → OnOk r P → OnErr r (f k ≡ None) → P
-  put_there (Ok x) ok err = ok
-  put_there (Err e) ok err = absurd (not_none (f k) err some_there)
 
 -- ---- the first page from a bound on
 from_is : (start : Bound ℕ) (page : ℕ) → is_from start page ≡ nat_le (start_of start) page

@@ -118,6 +118,11 @@ impl Node for Leaf {
     }
 
     #[inline]
+    fn replace(&mut self, page: u64, entry: Entry) {
+        self.put(page as usize, entry);
+    }
+
+    #[inline]
     fn remove(&mut self, page: u64) -> Option<Entry> {
         let before = self.get(page);
         self.used.remove(page as usize);

@@ -8,7 +8,7 @@ use crate::entry::Entry;
 use crate::node::Node;
 use crate::run_change::RunChange;
 use crate::slot::{
-    bare_copy_in, change_in, fill_in, first_in, get_in, insert_in, mapped_in, remove_in,
+    bare_copy_in, change_in, fill_in, first_in, get_in, insert_in, mapped_in, remove_in, replace_in,
 };
 use crate::used_places::{PLACES, UsedPlaces};
 use std::alloc::{AllocError, Global};
@@ -109,6 +109,12 @@ impl<T: Node> Node for Level<T> {
         let before = insert_in(&mut self.tables[place], alloc, page % T::span(), entry)?;
         self.used.add(place);
         Ok(before)
+    }
+
+    #[inline]
+    fn replace(&mut self, page: u64, entry: Entry) {
+        let place = (page / T::span()) as usize;
+        replace_in(&mut self.tables[place], page % T::span(), entry);
     }
 
     #[inline]

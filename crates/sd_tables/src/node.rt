@@ -1,5 +1,5 @@
 ghost use Rattle.std.specs.Prelude.{◌≡◌, ℕ, Option, None, ◌<◌, ◌≤◌, ◌^◌, ◌==◌, if◌then◌else◌, Some, IfOk, OnErr};
-ghost use Rattle.std.specs.Prelude.{IfSome, IfNone, true, false};
+ghost use Rattle.std.specs.Prelude.{IsSome, IfSome, IfNone, true, false};
 ghost use Rattle.sd_tables.specs.declared.entry.Entry.{Entry as EntryValue};
 ghost use Rattle.std.specs.Option.{option_map};
 ghost use Rattle.sd_tables.specs.Copies.{bare_entry};
@@ -67,6 +67,16 @@ pub(crate) trait Node: Drop {
             → at self.new other ≡ (if other == page then Some entry else at self.old other)) }
         ensures err { OnErr result ((other : ℕ) → at self.new other ≡ at self.old other) }
         ensures full { OnErr result (at self.old page ≡ None) };
+
+    /// Replaces the entry of a mapped page.
+    fn replace(&mut self, page: u64, entry: Entry)
+        requires fits { span ≤ 2 ^ 36 }
+        requires kept { IsKept self.old }
+        requires within { page < span }
+        requires there { IsSome (at self.old page) }
+        ensures kept { IsKept self.new }
+        ensures value { (other : ℕ)
+            → at self.new other ≡ (if other == page then Some entry else at self.old other) };
 
     /// Takes the entry of a page out, and returns it.
     fn remove(&mut self, page: u64) -> Option<Entry>

@@ -12,7 +12,7 @@ use crate::level::Level;
 use crate::node::Node;
 use crate::run_change::RunChange;
 use crate::slot::{
-    bare_copy_in, change_in, fill_in, first_in, get_in, insert_in, mapped_in, remove_in,
+    bare_copy_in, change_in, fill_in, first_in, get_in, insert_in, mapped_in, remove_in, replace_in,
 };
 use sd_areas::PageNo;
 use std::alloc::{AllocError, Global};
@@ -103,7 +103,7 @@ impl PageTable {
         requires { IsSome (finmap.get self.old page) }
         ensures { self.new ≡ finmap.insert self.old page entry }
     {
-        let _ = insert_in(&mut self.top, self.alloc, page.number(), entry);
+        replace_in(&mut self.top, page.number(), entry);
     }
 
     /// Takes the entry of a page out, and returns it, if the page is mapped.

@@ -1,6 +1,6 @@
 //! A place for a table: it has none, or one with a page.
 ghost use Rattle.std.specs.Prelude.{◌≡◌, ℕ, ◌<◌, ◌≤◌, ◌^◌, ◌==◌, if◌then◌else◌, is_some, true, false, None, Some, IfOk};
-ghost use Rattle.std.specs.Prelude.{OnOk, OnErr};
+ghost use Rattle.std.specs.Prelude.{OnOk, OnErr, IsSome};
 ghost use Rattle.std.specs.Option.{ForSome, option_map};
 ghost use Rattle.sd_tables.specs.Copies.{bare_entry};
 ghost use Rattle.sd_tables.specs.Radix.{slot_at, IsSlot, IsFirstAt};
@@ -178,6 +178,23 @@ pub(crate) fn insert_in<T: Node>(
     }
     *slot = Some(T::with_page(alloc, page, entry)?);
     Ok(None)
+}
+
+/// Replaces the entry of a page, which the table has.
+#[inline]
+pub(crate) fn replace_in<T: Node>(slot: &mut Option<Box<T>>, page: u64, entry: Entry)
+    requires fits { T.span ≤ 2 ^ 36 }
+    requires kept { IsSlot (λ table. T.at table.value) (λ table. T.IsKept table.value) T.span slot.old }
+    requires within { page < T.span }
+    requires mapped { IsSome (slot_at (λ table. T.at table.value) slot.old page) }
+    ensures kept { IsSlot (λ table. T.at table.value) (λ table. T.IsKept table.value) T.span slot.new }
+    ensures there { is_some slot.new ≡ is_some slot.old }
+    ensures value { (other : ℕ) → slot_at (λ table. T.at table.value) slot.new other
+        ≡ (if other == page then Some entry else slot_at (λ table. T.at table.value) slot.old other) }
+{
+    if let Some(table) = slot {
+        table.replace(page, entry);
+    }
 }
 
 /// Takes the entry of a page out, and with the last one the table. It returns the entry.
