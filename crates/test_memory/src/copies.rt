@@ -27,12 +27,20 @@ fn child() -> SpaceId {
     SpaceId::new(2)
 }
 
-/// Adds a space with pages that have a frame, and a copy of it.
+/// Puts the pages of a space, each with a frame.
+fn fill(rt: &impl Abort, tables: &mut Tables, space: SpaceId) -> Result<(), AllocError> {
+    for number in FIRST..END {
+        if tables.is_alive(space) {
+            tables.insert(space, page(rt, number), ENTRY)?;
+        }
+    }
+    Ok(())
+}
+
+/// Adds a space with pages, and a copy of it.
 fn copy(rt: &impl Abort, tables: &mut Tables) -> Result<(), AllocError> {
     tables.add_space(original())?;
-    if tables.is_alive(original()) {
-        tables.fill_run(original(), page(rt, FIRST), END, ENTRY)?;
-    }
+    fill(rt, tables, original())?;
     tables.add_copy(original(), child())
 }
 
