@@ -1,3 +1,5 @@
+ghost use Rattle.std.specs.Prelude.{◌≡◌};
+
 use crate::closing::Closing;
 use crate::copier::Copier;
 
@@ -12,4 +14,11 @@ pub enum Job {
     Opened(u64),
     /// The images of the list are closed.
     Closing(Closing),
+}
+
+/// Gives a merge its next job.
+pub(crate) fn put_job(job: &mut Job, next: Job)
+    ensures { job.new ≡ next }
+{
+    *job = next;
 }

@@ -1,6 +1,7 @@
 //! A merge that runs: the merged image, and then the images that it makes needless.
-ghost use Rattle.std.specs.Prelude.{◌≡◌, ◌≢◌, ◌↔◌, Err, IfOk, IfErr, OnErr};
+ghost use Rattle.std.specs.Prelude.{◌≡◌, ◌≢◌, ◌↔◌, Err, IsOk, IfOk, IfErr, OnErr};
 ghost use Rattle.sd_merge.specs.declared.work_error.WorkError.TheVariants.{Busy, Idle, Lost, OutOfMemory};
+ghost use Rattle.sd_merge.specs.Copying.{Steps, begun_copy};
 ghost use Rattle.sd_merge.specs.Left.{running_left};
 ghost use Rattle.sd_merge.specs.Merger.{HandsTo, HasSoundCopyIn, IsBusyWith, IsInPass, IsRunning, LosesPage, WorksOn};
 ghost use Rattle.sd_merge.specs.Merger.{order_of, running_of};
@@ -9,7 +10,7 @@ use crate::closing::Closing;
 use crate::copier::Copier;
 use crate::copy_order::CopyOrder;
 use crate::copy_progress::CopyProgress;
-use crate::job::Job;
+use crate::job::{Job, put_job};
 use crate::merge_progress::MergeProgress;
 use crate::merge_step::MergeStep;
 use crate::next_image::NextImage;
@@ -29,6 +30,21 @@ pub struct Merge {
     /// The serials of the images that were in the catalog when it began.
     pub(crate) before: Vec<u64>,
     pub(crate) job: Job,
+}
+
+/// An image that begins, with its first step. It asks for the first call of the format.
+fn first_step(
+    alloc: Global,
+    order: CopyOrder,
+    catalog: &Catalog,
+    ticket: u64,
+) -> (Copier, Result<MergeStep, WorkError>)
+    ensures steps { IfOk result.1 (λ step. Steps ticket catalog.now (begun_copy order) step result.0) }
+    ensures made { IsOk result.1 }
+{
+    let mut copier = Copier::new(alloc, order);
+    let step = copier.work(catalog, ticket);
+    (copier, step)
 }
 
 impl Merge {
@@ -65,10 +81,9 @@ impl Merge {
         let order = self.order(image);
         match &mut self.job {
             Job::Due => {
-                let mut copier = Copier::new(alloc, order);
-                let step = copier.work(catalog, ticket)?;
-                self.job = Job::Copying(copier);
-                Ok(step)
+                let (copier, step) = first_step(alloc, order, catalog, ticket);
+                put_job(&mut self.job, Job::Copying(copier));
+                step
             }
             Job::Copying(copier) => copier.work(catalog, ticket),
             Job::Opened(_) => Err(WorkError::Busy),
@@ -88,7 +103,7 @@ impl Merge {
                 CopyProgress::Failed => MergeProgress::Failed,
                 CopyProgress::More => MergeProgress::More,
                 CopyProgress::Opened(image) => {
-                    self.job = Job::Opened(image.header.serial);
+                    put_job(&mut self.job, Job::Opened(image.header.serial));
                     MergeProgress::Opened(image)
                 }
             },

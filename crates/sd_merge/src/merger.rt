@@ -39,11 +39,18 @@ impl Model for Merger {
     ghost invariant = { λ m. AreRunning (option_map running_of m.merge) };
 }
 
+/// Gives a merger another merge, or none.
+fn put_merge(merge: &mut Option<Merge>, next: Option<Merge>)
+    ensures { merge.new ≡ next }
+{
+    *merge = next;
+}
+
 /// No merge runs from now on.
 fn end(merge: &mut Option<Merge>)
     ensures { merge.new ≡ None }
 {
-    *merge = None;
+    put_merge(merge, None);
 }
 
 /// Whether a merge ends with this.
@@ -82,12 +89,13 @@ impl Merger {
         if self.merge.is_some() {
             return Err(WorkError::Busy);
         }
-        self.merge = Some(Merge {
+        let merge = Merge {
             source,
             slot,
             before,
             job: Job::Due,
-        });
+        };
+        put_merge(&mut self.merge, Some(merge));
         Ok(())
     }
 

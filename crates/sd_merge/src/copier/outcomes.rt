@@ -8,7 +8,7 @@ ghost use Rattle.sd_merge.specs.PlanSteps.{at_stage};
 
 use super::{Copier, read_of};
 use crate::copy_progress::CopyProgress;
-use crate::stage::Stage;
+use crate::stage::{Stage, put_stage};
 use sd_chain::PlacedTable;
 use sd_gate::{Outcome, Plan, RequestId, Settled, settle};
 use sd_image::Header;
@@ -71,7 +71,7 @@ impl Copier {
         match settle(&mut plan, outcome) {
             Settled::Strange | Settled::Failed => CopyProgress::Failed,
             Settled::More => {
-                self.stage = Stage::Format(plan);
+                put_stage(&mut self.stage, Stage::Format(plan));
                 CopyProgress::More
             }
             Settled::Finished => CopyProgress::More,
@@ -90,7 +90,7 @@ impl Copier {
         match settle(&mut plan, outcome) {
             Settled::Strange | Settled::Failed => CopyProgress::Failed,
             Settled::More => {
-                self.stage = Stage::PageWrite(plan);
+                put_stage(&mut self.stage, Stage::PageWrite(plan));
                 CopyProgress::More
             }
             Settled::Finished => {
@@ -122,11 +122,12 @@ impl Copier {
         match settle(&mut plan, outcome) {
             Settled::Strange | Settled::Failed => CopyProgress::Failed,
             Settled::More => {
-                self.stage = Stage::Close {
+                let stage = Stage::Close {
                     plan,
                     header,
                     table,
                 };
+                put_stage(&mut self.stage, stage);
                 CopyProgress::More
             }
             Settled::Finished => CopyProgress::Opened(NewImage {
