@@ -27,7 +27,7 @@ use crate::left::{CLOSE, FREEZE};
 use crate::page_buffers::PageBuffers;
 use crate::pass_step::PassStep;
 use crate::round::Round;
-use crate::stage::Stage;
+use crate::stage::{Stage, put_stage};
 use crate::standing::Standing;
 use sd_gate::{Plan, Request, RequestId, Worker, ask, is_any_out, plan_left};
 use sd_image::{Digester, Header, Kind, Version};
@@ -216,7 +216,7 @@ impl ImageMaker {
     {
         match &mut self.stage {
             Stage::Freeze => {
-                self.stage = Stage::Pass;
+                put_stage(&mut self.stage, Stage::Pass);
                 ImageStep::Frozen
             }
             Stage::Pass => unreachable!(),

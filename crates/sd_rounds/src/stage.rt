@@ -1,3 +1,5 @@
+ghost use Rattle.std.specs.Prelude.{◌≡◌};
+
 use sd_chain::PlacedTable;
 use sd_gate::Plan;
 use sd_image::Header;
@@ -17,4 +19,11 @@ pub enum Stage {
         header: Header,
         table: PlacedTable,
     },
+}
+
+/// Gives an image its next stage.
+pub(crate) fn put_stage(stage: &mut Stage, next: Stage)
+    ensures { stage.new ≡ next }
+{
+    *stage = next;
 }

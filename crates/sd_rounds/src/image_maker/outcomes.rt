@@ -11,7 +11,7 @@ use super::{ImageMaker, behind_format};
 use crate::image_progress::ImageProgress;
 use crate::new_image::NewImage;
 use crate::page_buffers::PageBuffers;
-use crate::stage::Stage;
+use crate::stage::{Stage, put_stage};
 use sd_chain::PlacedTable;
 use sd_gate::{Outcome, Plan, RequestId, Settled, lane_of, settle};
 use sd_image::Header;
@@ -63,7 +63,7 @@ impl ImageMaker {
         match settle(&mut plan, outcome) {
             Settled::Strange | Settled::Failed => ImageProgress::Failed,
             Settled::More => {
-                self.stage = Stage::Format(plan);
+                put_stage(&mut self.stage, Stage::Format(plan));
                 ImageProgress::More
             }
             Settled::Finished => {
@@ -114,11 +114,12 @@ impl ImageMaker {
         match settle(&mut plan, outcome) {
             Settled::Strange | Settled::Failed => ImageProgress::Failed,
             Settled::More => {
-                self.stage = Stage::Close {
+                let stage = Stage::Close {
                     plan,
                     header,
                     table,
                 };
+                put_stage(&mut self.stage, stage);
                 ImageProgress::More
             }
             Settled::Finished => ImageProgress::Opened(NewImage {

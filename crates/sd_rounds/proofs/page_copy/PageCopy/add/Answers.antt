@@ -11,5 +11,5 @@ pub returns-then-self-le-PAGE_SIZE-clause-items : goal.returns-then-self-le-PAGE
 returns-then-self-le-PAGE_SIZE-clause-items c =
     let zeroed : list_all (λ byte. byte == 0) (c.args.self.now ++ sector_bytes c.args.sector) ≡ true = sym c.stays_zeros-zeros.ensures ∙ c.if-zeros.true in
     more_zeros c.self.inside.front c.self.inside.buffer.items (sector_bytes c.args.sector) (is_bare c.self.inside.buffer.items (ap (λ n. n == 0) (sym c.self.inside.buffer.ok.0) ∙ sym c.is_empty.ensures ∙ c.if-is_empty.true)) c.requires
-        (ap (λ bytes. list_all (λ byte. byte == 0) (bytes ++ sector_bytes c.args.sector)) c.self.view_is ∙ zeroed)
+    (ap (λ bytes. list_all (λ byte. byte == 0) (bytes ++ sector_bytes c.args.sector)) c.self.view_is ∙ zeroed)
     ∙ ap (λ bytes. bytes ++ sector_bytes c.args.sector) c.self.view_is
