@@ -9,7 +9,7 @@ use Rattle.std.proofs.lemmas.List.{take-append-drop, drop-drop, get_or-drop}
 use Rattle.std.proofs.lemmas.List.Quantifiers.{position-Some}
 use Rattle.sd_areas.specs.declared.area.Area.{Area}
 use Rattle.sd_areas.specs.Pages.{is_within, pages_from}
-use Rattle.sd_areas.specs.Areas.{PageMap, prot_in, AreMaximal, pages_of}
+use Rattle.sd_areas.specs.Areas.{PageMap, prot_in, AreMaximal, page_map_of}
 use Rattle.sd_areas.specs.Calls.{has_hole, set_pages, remove_pages, within_areas, RefusesAsDue}
 use Rattle.sd_areas.specs.declared.errno.Errno.{Errno}
 use Rattle.sd_areas.specs.declared.errno.Errno.TheVariants.{Enomem}
@@ -116,10 +116,10 @@ same_holes one other first (suc count) h =
 
 pub hole_around : (xs : List Area) (from to first count : ℕ) → AreMaximal None xs → from ≤ to → to ≤ length xs
     → AllWithin (λ (x : Area). x.first + x.count < first) xs 0 from → AllWithin (λ (x : Area). first + count < x.first) xs to (length xs)
-    → has_hole (pages_of (slice_range xs from to)) first count ≡ has_hole (pages_of xs) first count
+    → has_hole (page_map_of (slice_range xs from to)) first count ≡ has_hole (page_map_of xs) first count
 hole_around xs from to first count m l h below above =
     let parts = around xs from to first count m l h below above in
-    same_holes (pages_of (slice_range xs from to)) (pages_of xs) first count (λ page low high.
+    same_holes (page_map_of (slice_range xs from to)) (page_map_of xs) first count (λ page low high.
     get-pages_of (slice_range xs from to) page
     ∙ sym (in_middle (take from xs) (slice_range xs from to) (drop to xs) first count page parts low high)
     ∙ ap (λ (ys : List Area). prot_in ys page) (around_is xs from to l)
@@ -127,11 +127,11 @@ hole_around xs from to first count m l h below above =
 
 pub hole_around_at : (xs seen part : List Area) (from to first count : ℕ) → seen ≡ xs → part ≡ xs → AreMaximal None xs → from ≤ to → to ≤ length seen
     → AllWithin (λ (x : Area). x.first + x.count < first) seen 0 from → AllWithin (λ (x : Area). first + count < x.first) seen to (length seen)
-    → has_hole (pages_of (slice_range part from to)) first count ≡ has_hole (pages_of xs) first count
+    → has_hole (page_map_of (slice_range part from to)) first count ≡ has_hole (page_map_of xs) first count
 hole_around_at xs seen part from to first count e f m l h below above =
     let below' = subst (λ (ys : List Area). AllWithin (λ (x : Area). x.first + x.count < first) ys 0 from) e below in
     let above' = subst (λ (ys : List Area). AllWithin (λ (x : Area). first + count < x.first) ys to (length ys)) e above in
-    ap (λ (ys : List Area). has_hole (pages_of (slice_range ys from to)) first count) f
+    ap (λ (ys : List Area). has_hole (page_map_of (slice_range ys from to)) first count) f
     ∙ hole_around xs from to first count m l (subst (λ (ys : List Area). to ≤ length ys) e h) below' above'
 
 -- what the searches tell
@@ -148,12 +148,12 @@ above_by xs from met begin first count m found e k d low high =
     omega (arith, e, there, starts_rise None xs (from + met) k d m low high)
 
 -- ---- what the list is afterwards
-pub run_fits : (old new placed : List Area) (area : Area) → HasRun old placed area → new ≡ placed → length new ≤ 1024 → within_areas (set_pages (pages_of old) area.first area.count area.prot) ≡ Ok (pages_of new)
+pub run_fits : (old new placed : List Area) (area : Area) → HasRun old placed area → new ≡ placed → length new ≤ 1024 → within_areas (set_pages (page_map_of old) area.first area.count area.prot) ≡ Ok (page_map_of new)
 run_fits old new placed area run e few =
     let now : HasRun old new area = subst (λ (l : List Area). HasRun old l area) (sym e) run in
     ap within_areas (run_is old new area now) ∙ within_ok new now.maximal few
 
-pub gap_fits : (old new placed : List Area) (first count : ℕ) → HasGap old placed first count → new ≡ placed → length new ≤ 1024 → within_areas (remove_pages (pages_of old) first count) ≡ Ok (pages_of new)
+pub gap_fits : (old new placed : List Area) (first count : ℕ) → HasGap old placed first count → new ≡ placed → length new ≤ 1024 → within_areas (remove_pages (page_map_of old) first count) ≡ Ok (page_map_of new)
 gap_fits old new placed first count gap e few =
     let now : HasGap old new first count = subst (λ (l : List Area). HasGap old l first count) (sym e) gap in
     ap within_areas (gap_is old new first count now) ∙ within_ok new now.maximal few
@@ -163,7 +163,7 @@ bare_gap : (page : ℕ) (b : Bool) → prot_in [] page ≡ cond b None (prot_in 
 bare_gap page true = refl
 bare_gap page false = refl
 
-pub bare_fits : (areas : List Area) (first count : ℕ) → length areas ≡ 0 → within_areas (remove_pages (pages_of areas) first count) ≡ Ok (pages_of areas)
+pub bare_fits : (areas : List Area) (first count : ℕ) → length areas ≡ 0 → within_areas (remove_pages (page_map_of areas) first count) ≡ Ok (page_map_of areas)
 bare_fits [] first count e = gap_fits [] [] [] first count (record { maximal = tt; same = λ page. bare_gap page (is_within first count page) }) refl (omega arith)
 bare_fits (area ∷ areas) first count e = absurd (omega (arith, e))
 
@@ -172,11 +172,11 @@ refused_by r e long full (inl out) = subst (RefusesAsDue r) (sym out) tt
 refused_by r e long full (inr many) = subst (RefusesAsDue r) (sym many.0) (full many.1)
 
 pub run_refused : (old placed : List Area) (area : Area) (e : AreaError) → HasRun old placed area → (e ≡ OutOfMemory) ⊎ ((e ≡ Refused Enomem) × (1024 < length placed))
-    → RefusesAsDue (within_areas (set_pages (pages_of old) area.first area.count area.prot)) e
+    → RefusesAsDue (within_areas (set_pages (page_map_of old) area.first area.count area.prot)) e
 run_refused old placed area e run why = refused_by _ e (1024 < length placed) (λ many. ap within_areas (run_is old placed area run) ∙ within_err placed run.maximal many) why
 
 pub gap_refused : (old placed : List Area) (first count : ℕ) (e : AreaError) → HasGap old placed first count → (e ≡ OutOfMemory) ⊎ ((e ≡ Refused Enomem) × (1024 < length placed))
-    → RefusesAsDue (within_areas (remove_pages (pages_of old) first count)) e
+    → RefusesAsDue (within_areas (remove_pages (page_map_of old) first count)) e
 gap_refused old placed first count e gap why = refused_by _ e (1024 < length placed) (λ many. ap within_areas (gap_is old placed first count gap) ∙ within_err placed gap.maximal many) why
 
 pub on_ok_both : {A E : Type 0} {P Q S : Type 0} (r : Result A E) → (P → Q → S) → OnOk r P → OnOk r Q → OnOk r S

@@ -9,7 +9,7 @@ use Rattle.std.proofs.lemmas.Bool.{eq-eqb, ne_eqb, cond-true, cond-false, cases_
 use Rattle.sd_areas.specs.declared.area.Area.{Area}
 use Rattle.sd_areas.specs.declared.prot.Prot.{Prot}
 use Rattle.sd_areas.specs.Pages.{is_within}
-use Rattle.sd_areas.specs.Areas.{PageMap, AreMaximal, AreAreasOf, AreInSpace, pages_of, areas_of}
+use Rattle.sd_areas.specs.Areas.{PageMap, AreMaximal, AreAreasOf, AreInSpace, page_map_of, areas_of}
 use Rattle.std.specs.Prelude.{Ok, Err}
 use Rattle.std.specs.FinMap.{get-retain_keys}
 use Rattle.std.proofs.Common.{◌%◌}
@@ -50,33 +50,33 @@ get-remove_pages pages first count page =
 none_some : (o : Option Prot) → o ≡ None → IsSome o → ⊥
 none_some o e s = cc
 
-pub areas_in_space : (areas : List Area) → AreMaximal None areas → AreInSpace (pages_of areas)
+pub areas_in_space : (areas : List Area) → AreMaximal None areas → AreInSpace (page_map_of areas)
 areas_in_space areas m page some =
     elim (cases_lt page (2 ^ 35)) [
       | inl l ↦ l
-      | inr g ↦ absurd (none_some (finmap.get (pages_of areas) page) (get-pages_of areas page ∙ none_outside None areas page m g) some)
+      | inr g ↦ absurd (none_some (finmap.get (page_map_of areas) page) (get-pages_of areas page ∙ none_outside None areas page m g) some)
     ]
 
-pub areas_of_pages_of : (areas : List Area) → AreMaximal None areas → areas_of (pages_of areas) ≡ areas
-areas_of_pages_of areas m = areas_of_is (pages_of areas) areas (areas_in_space areas m) (pages_of_areas areas m)
+pub areas_of_pages_of : (areas : List Area) → AreMaximal None areas → areas_of (page_map_of areas) ≡ areas
+areas_of_pages_of areas m = areas_of_is (page_map_of areas) areas (areas_in_space areas m) (pages_of_areas areas m)
 
-pub within_ok : (areas : List Area) → AreMaximal None areas → length areas ≤ 1024 → within_areas (pages_of areas) ≡ Ok (pages_of areas)
+pub within_ok : (areas : List Area) → AreMaximal None areas → length areas ≤ 1024 → within_areas (page_map_of areas) ≡ Ok (page_map_of areas)
 unfolding within_areas
-within_ok areas m l = cond-false (nat_lt 1024 (length (areas_of (pages_of areas)))) (Err Enomem) (Ok (pages_of areas)) (rw (areas_of_pages_of areas m) (le-ltb 1024 (length areas) l))
+within_ok areas m l = cond-false (nat_lt 1024 (length (areas_of (page_map_of areas)))) (Err Enomem) (Ok (page_map_of areas)) (rw (areas_of_pages_of areas m) (le-ltb 1024 (length areas) l))
 
-pub within_err : (areas : List Area) → AreMaximal None areas → 1024 < length areas → within_areas (pages_of areas) ≡ Err Enomem
+pub within_err : (areas : List Area) → AreMaximal None areas → 1024 < length areas → within_areas (page_map_of areas) ≡ Err Enomem
 unfolding within_areas
-within_err areas m l = cond-true (nat_lt 1024 (length (areas_of (pages_of areas)))) (Err Enomem) (Ok (pages_of areas)) (rw (areas_of_pages_of areas m) (lt-ltb 1024 (length areas) l))
+within_err areas m l = cond-true (nat_lt 1024 (length (areas_of (page_map_of areas)))) (Err Enomem) (Ok (page_map_of areas)) (rw (areas_of_pages_of areas m) (lt-ltb 1024 (length areas) l))
 
-pub run_is : (old new : List Area) (area : Area) → HasRun old new area → set_pages (pages_of old) area.first area.count area.prot ≡ pages_of new
+pub run_is : (old new : List Area) (area : Area) → HasRun old new area → set_pages (page_map_of old) area.first area.count area.prot ≡ page_map_of new
 run_is old new area h = same_pages _ _ (λ page.
-    get-set_pages (pages_of old) area.first area.count area.prot page
+    get-set_pages (page_map_of old) area.first area.count area.prot page
     ∙ ap (cond (is_within area.first area.count page) (Some area.prot)) (get-pages_of old page)
     ∙ sym (h.same page) ∙ sym (get-pages_of new page))
 
-pub gap_is : (old new : List Area) (first count : ℕ) → HasGap old new first count → remove_pages (pages_of old) first count ≡ pages_of new
+pub gap_is : (old new : List Area) (first count : ℕ) → HasGap old new first count → remove_pages (page_map_of old) first count ≡ page_map_of new
 gap_is old new first count h = same_pages _ _ (λ page.
-    get-remove_pages (pages_of old) first count page
+    get-remove_pages (page_map_of old) first count page
     ∙ ap (cond (is_within first count page) None) (get-pages_of old page)
     ∙ sym (h.same page) ∙ sym (get-pages_of new page))
 
@@ -94,15 +94,15 @@ unfolding map_result
 mapped_within pages address bytes prot e o = cond-false _ _ _ e ∙ cond-false _ _ _ o
 
 -- ---- what a caller sees
-pub shown_areas : (areas shown : List Area) (pages : PageMap) → shown ≡ areas → pages_of areas ≡ pages → AreMaximal None areas → AreAreasOf pages shown
+pub shown_areas : (areas shown : List Area) (pages : PageMap) → shown ≡ areas → page_map_of areas ≡ pages → AreMaximal None areas → AreAreasOf pages shown
 shown_areas areas shown pages e v m =
     subst (λ (l : List Area). AreAreasOf pages l) (sym e) (subst (λ (p : PageMap). AreAreasOf p areas) v (pages_of_areas areas m))
 
-pub shown_value : (areas shown : List Area) (pages : PageMap) → shown ≡ areas → pages_of areas ≡ pages → AreMaximal None areas → shown ≡ areas_of pages
+pub shown_value : (areas shown : List Area) (pages : PageMap) → shown ≡ areas → page_map_of areas ≡ pages → AreMaximal None areas → shown ≡ areas_of pages
 shown_value areas shown pages e v m = e ∙ sym (ap areas_of (sym v) ∙ areas_of_pages_of areas m)
 
 -- areas that show no page are none
-pub shows_none : (areas : List Area) (pages : PageMap) → pages_of areas ≡ pages → AreMaximal None areas → pages ≡ finmap.empty → areas ≡ []
+pub shows_none : (areas : List Area) (pages : PageMap) → page_map_of areas ≡ pages → AreMaximal None areas → pages ≡ finmap.empty → areas ≡ []
 shows_none areas pages v m e =
     one_list pages areas [] (subst (λ (p : PageMap). AreAreasOf p areas) v (pages_of_areas areas m))
     (record { maximal = tt; same = λ page. sym (ap (λ (p : PageMap). finmap.get p page) e ∙ get-empty nat_cmp page) })
@@ -143,7 +143,7 @@ unfolding protect_result
 protected_within pages address bytes prot e z o h = cond-false _ _ _ (not_from_true _ e) ∙ cond-false _ _ _ (ne_eqb bytes 0 z) ∙ cond-false _ _ _ o ∙ cond-false _ _ _ h
 
 -- the test for a hole, as the code makes it
-pub hole_test : (pages : PageMap) (old : List Area) (first count address bytes : ℕ) (b : Bool) → pages_of old ≡ pages → first ≡ page_of address → count ≡ pages_for bytes → b ≡ has_hole (pages_of old) first count → has_hole pages (page_of address) (pages_for bytes) ≡ b
+pub hole_test : (pages : PageMap) (old : List Area) (first count address bytes : ℕ) (b : Bool) → page_map_of old ≡ pages → first ≡ page_of address → count ≡ pages_for bytes → b ≡ has_hole (page_map_of old) first count → has_hole pages (page_of address) (pages_for bytes) ≡ b
 hole_test pages old first count address bytes b v f n h = rw (← v, ← f, ← n) (sym h)
 
 -- ---- a range by its address and length

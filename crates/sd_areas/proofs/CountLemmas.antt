@@ -12,7 +12,7 @@ use Rattle.std.proofs.lemmas.List.Sums.{sum_by-cons}
 use Rattle.sd_areas.specs.declared.area.Area.{Area}
 use Rattle.sd_areas.specs.declared.prot.Prot.{Prot}
 use Rattle.sd_areas.specs.Pages.{pages_from}
-use Rattle.sd_areas.specs.Areas.{area_pages, AreMaximal, is_area_after, pages_of}
+use Rattle.sd_areas.specs.Areas.{area_pages, AreMaximal, is_area_after, page_map_of}
 use Rattle.sd_areas.specs.Laws.{CountLaw}
 use Rattle.sd_areas.proofs.PagesOf.{get-pages_of, same_pages}
 
@@ -95,10 +95,10 @@ len_of_sorted es h =
     ∙ ap length (ap finmap.entries (same_map nat_cmp_total nat_cmp-IsAntisymmetric (finmap.from_entries es) (finmap.from_sorted es) (λ q. get-from_entries nat_cmp_total es q ∙ sym (get-from_sorted nat_cmp es q sorted)))
     ∙ entries-from_sorted nat_cmp es sorted)
 
-len_pages_of : (areas : List Area) → AreMaximal None areas → finmap.len (pages_of areas) ≡ sum_by (λ (a : Area). a.count) areas
-unfolding pages_of
+len_pages_of : (areas : List Area) → AreMaximal None areas → finmap.len (page_map_of areas) ≡ sum_by (λ (a : Area). a.count) areas
+unfolding page_map_of
 len_pages_of areas are = len_of_sorted (area_entries areas) (areas_sorted None areas are) ∙ counted areas
 
 pub areas_count : CountLaw
 areas_count pages areas are =
-    sym (len_pages_of areas are.maximal) ∙ ap finmap.len (same_pages (pages_of areas) pages (λ page. get-pages_of areas page ∙ are.same page))
+    sym (len_pages_of areas are.maximal) ∙ ap finmap.len (same_pages (page_map_of areas) pages (λ page. get-pages_of areas page ∙ are.same page))

@@ -10,7 +10,7 @@ use Rattle.sd_areas.specs.declared.area.Area.{Area}
 use Rattle.sd_areas.specs.declared.prot.Prot.{Prot}
 use Rattle.sd_areas.specs.Pages.{is_within}
 use Rattle.sd_areas.specs.Areas.{PageMap, prot_in, AreMaximal, AreAreasOf, AreInSpace, put_page_before, areas_of_entries, areas_of}
-use Rattle.sd_areas.specs.Runs.{is_continued}
+use Rattle.sd_areas.specs.Runs.{is_area_continued}
 use Rattle.sd_areas.proofs.Maximal.{same_prot, follows_on, follows_apart, first_area, inside, below, above}
 use Rattle.sd_areas.proofs.PagesOf.{tied, untied}
 pub use Rattle.sd_areas.proofs.Unique.{one_list}
@@ -25,7 +25,7 @@ single page prot = record { first = page; count = 1; prot = prot }
 longer : ℕ → Area → Area
 longer page a = record { first = page; count = a.count + 1; prot = a.prot }
 
-put_case : (page : ℕ) (prot : Prot) (a : Area) (rest : List Area) (b : Bool) → is_continued (single page prot) a ≡ b → put_page_before page prot (a ∷ rest) ≡ cond b (longer page a ∷ rest) (single page prot ∷ a ∷ rest)
+put_case : (page : ℕ) (prot : Prot) (a : Area) (rest : List Area) (b : Bool) → is_area_continued (single page prot) a ≡ b → put_page_before page prot (a ∷ rest) ≡ cond b (longer page a ∷ rest) (single page prot ∷ a ∷ rest)
 unfolding single longer
 put_case page prot a rest b e = ap (λ t. cond t (longer page a ∷ rest) (single page prot ∷ a ∷ rest)) e
 
@@ -33,7 +33,7 @@ put_first : (k page : ℕ) (prot : Prot) (areas : List Area) → k < page → Fi
 unfolding FirstAbove single longer
 put_first k page prot [] l = l
 put_first k page prot (a ∷ rest) l =
-    elim (cases_Bool (is_continued (single page prot) a)) [
+    elim (cases_Bool (is_area_continued (single page prot) a)) [
       | inl t ↦ subst (FirstAbove k) (sym (put_case page prot a rest true t)) l
       | inr f ↦ subst (FirstAbove k) (sym (put_case page prot a rest false f)) l
     ]
@@ -43,7 +43,7 @@ same_before : (a b : Area) (rest : List Area) → b.first + b.count ≡ a.first 
 same_before a b [] e p m = tt
 same_before a b (z ∷ rest) e p m = (rw (e, p) m.0, m.1)
 
-joined_parts : (page : ℕ) (prot : Prot) (a : Area) → is_continued (single page prot) a ≡ true → (page + 1 ≡ a.first) × (prot ≡ a.prot)
+joined_parts : (page : ℕ) (prot : Prot) (a : Area) → is_area_continued (single page prot) a ≡ true → (page + 1 ≡ a.first) × (prot ≡ a.prot)
 unfolding single
 joined_parts page prot a t = let p = and_parts _ _ t in (eqb-true _ _ p.0, same_prot _ _ (eqb-true _ _ p.1))
 
@@ -52,7 +52,7 @@ unfolding FirstAbove single longer
 put_maximal page prot [] m l w = (first_area (single page prot) (omega arith) (omega arith), tt)
 put_maximal page prot (a ∷ rest) m l w =
     let f = follows_on None a m.0 in
-    elim (cases_Bool (is_continued (single page prot) a)) [
+    elim (cases_Bool (is_area_continued (single page prot) a)) [
       | inl t ↦ (
           let touch : page + 1 ≡ a.first = (joined_parts page prot a t).0 in
           subst (AreMaximal None) (sym (put_case page prot a rest true t))
@@ -86,7 +86,7 @@ put_prot_in : (page : ℕ) (prot : Prot) (areas : List Area) (q : ℕ) → prot_
 unfolding single longer
 put_prot_in page prot [] q = ap (λ b. cond b (Some prot) None) (one_page page q)
 put_prot_in page prot (a ∷ rest) q =
-    elim (cases_Bool (is_continued (single page prot) a)) [
+    elim (cases_Bool (is_area_continued (single page prot) a)) [
       | inl t ↦ (
           let parts = joined_parts page prot a t in
           ap (λ l. prot_in l q) (put_case page prot a rest true t) ∙ rw (parts.1, ← parts.0) (one_more page a.count q (Some a.prot) (prot_in rest q)))

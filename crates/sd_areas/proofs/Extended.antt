@@ -7,13 +7,13 @@ use Rattle.sd_areas.specs.declared.prot.Prot.{Prot}
 use Rattle.sd_areas.specs.Pages.{is_within}
 use Rattle.sd_areas.specs.Prot.{prot_bits}
 use Rattle.sd_areas.specs.Areas.{prot_in, is_area_after, AreMaximal}
-use Rattle.sd_areas.specs.Runs.{last_after, end_of, end_of_all, is_continued, IsExtended}
+use Rattle.sd_areas.specs.Runs.{last_after, area_end, end_of_all, is_area_continued, IsExtended}
 use Rattle.sd_areas.proofs.Maximal.{first_area, same_prot, follows_on, follows_apart, touching, comes_after, touches_after, inside, below, above, last_after-append, AreMaximal-append, AreMaximal-front, prot_in-append}
 
 pub extended : (old : List Area) (area : Area) → AreMaximal None old → end_of_all old ≤ area.first → IsTrue (is_area_after (last_after None old) area) → IsExtended old (old ++ area ∷ []) area
 extended old area m l h = record {
   maximal = AreMaximal-append None old area m h;
-  ends = ap end_of (last_after-append None old area);
+  ends = ap area_end (last_after-append None old area);
   same = λ page. prot_in-append None old area page m l;
 }
 
@@ -31,10 +31,10 @@ extended_none old popped new area is same none c w =
     subst (λ (o : List Area). IsExtended o (new ++ area ∷ []) area) (sym e) (subst (λ (n : List Area). IsExtended [] (n ++ area ∷ []) area) (sym f) first_one)
 
 -- an area that doesn't continue the last
-pub extended_apart : (xs old new : List Area) (last area : Area) → old ≡ xs ++ last ∷ [] → new ≡ xs ++ last ∷ [] → AreMaximal None old → end_of_all old ≤ area.first → 0 < area.count → area.first + area.count ≤ 2 ^ 35 → is_continued last area ≡ false → IsExtended old (new ++ area ∷ []) area
+pub extended_apart : (xs old new : List Area) (last area : Area) → old ≡ xs ++ last ∷ [] → new ≡ xs ++ last ∷ [] → AreMaximal None old → end_of_all old ≤ area.first → 0 < area.count → area.first + area.count ≤ 2 ^ 35 → is_area_continued last area ≡ false → IsExtended old (new ++ area ∷ []) area
 extended_apart xs old new last area e f m l c w apart =
     let at : last_after None old ≡ Some last = ap (last_after None) e ∙ last_after-append None xs last in
-    let le : last.first + last.count ≤ area.first = subst (λ (o : Option Area). end_of o ≤ area.first) at l in
+    let le : last.first + last.count ≤ area.first = subst (λ (o : Option Area). area_end o ≤ area.first) at l in
     let h : IsTrue (is_area_after (last_after None old) area) = subst (λ (o : Option Area). IsTrue (is_area_after o area)) (sym at) (follows_apart last area c w le apart) in
     subst (λ (n : List Area). IsExtended old (n ++ area ∷ []) area) (e ∙ sym f) (extended old area m l h)
 
@@ -69,7 +69,7 @@ two_runs first a b page p rest =
     ]
 
 -- an area that continues the last becomes a part of it
-pub extended_joined : (xs old : List Area) (last area more : Area) → old ≡ xs ++ last ∷ [] → AreMaximal None old → 0 < area.count → area.first + area.count ≤ 2 ^ 35 → is_continued last area ≡ true →
+pub extended_joined : (xs old : List Area) (last area more : Area) → old ≡ xs ++ last ∷ [] → AreMaximal None old → 0 < area.count → area.first + area.count ≤ 2 ^ 35 → is_area_continued last area ≡ true →
     more.first ≡ last.first → more.count ≡ last.count + area.count → more.prot ≡ last.prot → IsExtended old (xs ++ more ∷ []) area
 extended_joined xs old last area more e m c w joined f n p =
     let parts = and_parts _ _ joined in

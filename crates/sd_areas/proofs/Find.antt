@@ -8,7 +8,7 @@ use Rattle.sd_areas.specs.declared.area.Area.{Area}
 use Rattle.sd_areas.specs.declared.prot.Prot.{Prot}
 use Rattle.sd_areas.specs.Pages.{is_within}
 use Rattle.sd_areas.specs.Areas.{prot_in, AreMaximal}
-use Rattle.sd_areas.specs.Runs.{end_of}
+use Rattle.sd_areas.specs.Runs.{area_end}
 use Rattle.sd_areas.proofs.Maximal.{follows_on, inside, below, above, none_before}
 
 -- whether an area begins at a page or before it
@@ -16,7 +16,7 @@ abbrev pub begins_by : ℕ → Area → Bool
 begins_by page area = leb area.first page
 
 -- each later area begins behind what stands before
-pub later_begins : (before : Option Area) (xs : List Area) (i : ℕ) (d : Area) → AreMaximal before xs → i < length xs → end_of before ≤ (get_or xs i d).first
+pub later_begins : (before : Option Area) (xs : List Area) (i : ℕ) (d : Area) → AreMaximal before xs → i < length xs → area_end before ≤ (get_or xs i d).first
 later_begins before [] i d m l = absurd (omega arith)
 later_begins before (x ∷ xs) zero d m l = (follows_on before x m.0).behind
 later_begins before (x ∷ xs) (suc i) d m l = omega (arith, follows_on before x m.0, later_begins (Some x) xs i d m.1 (omega arith))

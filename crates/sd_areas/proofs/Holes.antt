@@ -13,9 +13,9 @@ use Rattle.std.proofs.Math.Seq.{take-length}
 use Rattle.std.specs.FinMap as finmap
 use Rattle.std.proofs.lemmas.Bool.{or_from, or_left, or_right, not_from_true, not_from_false}
 use Rattle.sd_areas.specs.Pages.{pages_from}
-use Rattle.sd_areas.specs.Areas.{PageMap, pages_of}
+use Rattle.sd_areas.specs.Areas.{PageMap, page_map_of}
 use Rattle.sd_areas.specs.Calls.{has_hole}
-use Rattle.sd_areas.specs.Runs.{IsCovered}
+use Rattle.sd_areas.specs.Runs.{IsMappedUpTo}
 use Rattle.sd_areas.proofs.Parts.{take_next, next_follows, AreMaximal-take}
 use Rattle.sd_areas.proofs.PagesOf.{get-pages_of}
 
@@ -35,7 +35,7 @@ hole_at pages first (suc count) page l g e =
           or_left _ _ (not_from_false _ (ap is_some (subst (λ (p : ℕ). finmap.get pages p ≡ None) same e))))
     ]
 
-pub covered_none : (first : ℕ) → IsCovered [] first first
+pub covered_none : (first : ℕ) → IsMappedUpTo [] first first
 covered_none first = record { begins = omega arith; mapped = λ page l g. absurd (omega arith); hole = refl }
 
 some_over : (b : Bool) (p : Prot) (o : Option Prot) → IsSome o → IsSome (cond b (Some p) o)
@@ -43,8 +43,8 @@ some_over true p o h = refl
 some_over false p o h = h
 
 -- with the next area the cover reaches the end of that, if it has the page
-covered_more : (front : List Area) (x : Area) (first next : ℕ) → AreMaximal None front → AreMaximal None (front ++ x ∷ []) → FollowsOn (last_after None front) x → IsCovered front first next →
-    IsCovered (front ++ x ∷ []) first (cond (is_within x.first x.count next) (x.first + x.count) next)
+covered_more : (front : List Area) (x : Area) (first next : ℕ) → AreMaximal None front → AreMaximal None (front ++ x ∷ []) → FollowsOn (last_after None front) x → IsMappedUpTo front first next →
+    IsMappedUpTo (front ++ x ∷ []) first (cond (is_within x.first x.count next) (x.first + x.count) next)
 covered_more front x first next m all f h =
     let with : (page : ℕ) → prot_in (front ++ x ∷ []) page ≡ cond (is_within x.first x.count page) (Some x.prot) (prot_in front page) = λ page. prot_in-append None front x page m f.behind in
     elim (cases_Bool (is_within x.first x.count next)) [
@@ -66,21 +66,21 @@ covered_more front x first next m all f h =
           })
     ]
 
-pub covered_step : (xs : List Area) (i : ℕ) (x : Area) (first next : ℕ) → AreMaximal None xs → i < length xs → x ≡ get_or xs i x → IsCovered (take i xs) first next →
-    IsCovered (take (i + 1) xs) first (cond (is_within x.first x.count next) (x.first + x.count) next)
+pub covered_step : (xs : List Area) (i : ℕ) (x : Area) (first next : ℕ) → AreMaximal None xs → i < length xs → x ≡ get_or xs i x → IsMappedUpTo (take i xs) first next →
+    IsMappedUpTo (take (i + 1) xs) first (cond (is_within x.first x.count next) (x.first + x.count) next)
 covered_step xs i x first next m l e h =
     let step = take_next i xs x l e in
     rw step (covered_more (take i xs) x first next (AreMaximal-take i xs m) (subst (AreMaximal None) step (AreMaximal-take (i + 1) xs m)) (next_follows i xs x m l e) h)
 
-pub meets : (xs : List Area) (first count next : ℕ) → IsCovered xs first next → nat_lt next (first + count) ≡ has_hole (pages_of xs) first count
+pub meets : (xs : List Area) (first count next : ℕ) → IsMappedUpTo xs first next → nat_lt next (first + count) ≡ has_hole (page_map_of xs) first count
 meets xs first count next h =
     elim (cases_lt next (first + count)) [
-      | inl l ↦ lt-ltb _ _ l ∙ sym (hole_at (pages_of xs) first count next h.begins l (get-pages_of xs next ∙ h.hole))
-      | inr g ↦ le-ltb _ _ g ∙ sym (no_hole (pages_of xs) first count (λ page l k. rw (get-pages_of xs page) (h.mapped page l (omega arith))))
+      | inl l ↦ lt-ltb _ _ l ∙ sym (hole_at (page_map_of xs) first count next h.begins l (get-pages_of xs next ∙ h.hole))
+      | inr g ↦ le-ltb _ _ g ∙ sym (no_hole (page_map_of xs) first count (λ page l k. rw (get-pages_of xs page) (h.mapped page l (omega arith))))
     ]
 
-pub meets_at : (xs front : List Area) (first count next begin : ℕ) → front ≡ xs → begin ≡ first → IsCovered front first next → nat_lt next (begin + count) ≡ has_hole (pages_of xs) first count
-meets_at xs front first count next begin e f h = rw f (meets xs first count next (subst (λ (l : List Area). IsCovered l first next) e h))
+pub meets_at : (xs front : List Area) (first count next begin : ℕ) → front ≡ xs → begin ≡ first → IsMappedUpTo front first next → nat_lt next (begin + count) ≡ has_hole (page_map_of xs) first count
+meets_at xs front first count next begin e f h = rw f (meets xs first count next (subst (λ (l : List Area). IsMappedUpTo l first next) e h))
 
 pub whole : (i : ℕ) (xs : List Area) → i ≤ length xs → length xs ≤ i → take i xs ≡ xs
 whole i xs l g = let e : i ≡ length xs = omega arith in ap (λ n. take n xs) e ∙ take-length xs

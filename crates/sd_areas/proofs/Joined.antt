@@ -8,7 +8,7 @@ use Rattle.sd_areas.specs.declared.prot.Prot.{Prot}
 use Rattle.sd_areas.specs.Pages.{is_within}
 use Rattle.sd_areas.specs.Prot.{prot_bits}
 use Rattle.sd_areas.specs.Areas.{prot_in, is_area_after, AreMaximal}
-use Rattle.sd_areas.specs.Runs.{last_after, end_of}
+use Rattle.sd_areas.specs.Runs.{last_after, area_end}
 use Rattle.sd_areas.proofs.Maximal.{follows_on, same_prot, touching, comes_after, first_area, touches_after, above, inside_parts, end_grows, none_before, none_behind}
 use Rattle.sd_areas.proofs.Unique.{at_head, below_head, behind_differs}
 
@@ -42,7 +42,7 @@ abbrev pub BeginsAbove : List Area → ℕ → Type 0
 BeginsAbove [] page = Unit {0}
 BeginsAbove (c ∷ cs) page = page < c.first
 
-end_below : (before : Option Area) (page : ℕ) → EndsBelow before page → end_of before ≤ page
+end_below : (before : Option Area) (page : ℕ) → EndsBelow before page → area_end before ≤ page
 end_below None page h = omega arith
 end_below (Some a) page h = omega (arith, h)
 

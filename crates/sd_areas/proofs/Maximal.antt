@@ -7,7 +7,7 @@ use Rattle.sd_areas.specs.declared.prot.Prot.{Prot}
 use Rattle.sd_areas.specs.Pages.{is_within}
 use Rattle.sd_areas.specs.Prot.{prot_bits}
 use Rattle.sd_areas.specs.Areas.{prot_in, is_area_after, AreMaximal}
-use Rattle.sd_areas.specs.Runs.{last_after, end_of, is_continued}
+use Rattle.sd_areas.specs.Runs.{last_after, area_end, is_area_continued}
 
 -- permissions are known by their bits
 prot_with : ℕ → Prot
@@ -30,7 +30,7 @@ same_prot p q e = sym (prot_made p.read p.write p.execute) ∙ ap prot_with e �
 pub record FollowsOn (before : Option Area) (area : Area) : Type 0 where
   pub pages : 0 < area.count
   pub within : area.first + area.count ≤ 2 ^ 35
-  pub behind : end_of before ≤ area.first
+  pub behind : area_end before ≤ area.first
 
 pub follows_on : (before : Option Area) (area : Area) → IsTrue (is_area_after before area) → FollowsOn before area
 follows_on None area h =
@@ -56,7 +56,7 @@ touching b area h e same =
     ]
 
 -- behind a gap, or with other permissions
-pub comes_after : (before : Option Area) (area : Area) → 0 < area.count → area.first + area.count ≤ 2 ^ 35 → end_of before < area.first → IsTrue (is_area_after before area)
+pub comes_after : (before : Option Area) (area : Area) → 0 < area.count → area.first + area.count ≤ 2 ^ 35 → area_end before < area.first → IsTrue (is_area_after before area)
 comes_after None area c w g = and_from _ _ (and_from _ _ (lt-ltb _ _ c) (le-leb _ _ w)) refl
 comes_after (Some b) area c w g = and_from _ _ (and_from _ _ (lt-ltb _ _ c) (le-leb _ _ w)) (or_left _ _ (lt-ltb _ _ g))
 
@@ -67,7 +67,7 @@ pub touches_after : (b area : Area) → 0 < area.count → area.first + area.cou
 touches_after b area c w e n = and_from _ _ (and_from _ _ (lt-ltb _ _ c) (le-leb _ _ w)) (or_right _ _ (and_from _ _ (eq-eqb _ _ e) (not_from_false _ (ne_eqb _ _ n))))
 
 -- an area that doesn't continue the one before it follows it
-pub follows_apart : (b area : Area) → 0 < area.count → area.first + area.count ≤ 2 ^ 35 → b.first + b.count ≤ area.first → is_continued b area ≡ false → IsTrue (is_area_after (Some b) area)
+pub follows_apart : (b area : Area) → 0 < area.count → area.first + area.count ≤ 2 ^ 35 → b.first + b.count ≤ area.first → is_area_continued b area ≡ false → IsTrue (is_area_after (Some b) area)
 follows_apart b area c w le apart =
     elim (cases_lt (b.first + b.count) area.first) [
       | inl l ↦ comes_after (Some b) area c w l
@@ -103,26 +103,26 @@ AreMaximal-front before [] y m = (tt, m.0)
 AreMaximal-front before (x ∷ xs) y m = let r = AreMaximal-front (Some x) xs y m.1 in ((m.0, r.0), r.1)
 
 -- the last area ends no sooner than what stands before
-pub end_grows : (before : Option Area) (xs : List Area) → AreMaximal before xs → end_of before ≤ end_of (last_after before xs)
+pub end_grows : (before : Option Area) (xs : List Area) → AreMaximal before xs → area_end before ≤ area_end (last_after before xs)
 end_grows before [] m = omega arith
 end_grows before (x ∷ xs) m = omega (arith, follows_on before x m.0, end_grows (Some x) xs m.1)
 
 -- no area has a page below the end of what stands before
-pub none_before : (before : Option Area) (xs : List Area) (page : ℕ) → AreMaximal before xs → page < end_of before → prot_in xs page ≡ None
+pub none_before : (before : Option Area) (xs : List Area) (page : ℕ) → AreMaximal before xs → page < area_end before → prot_in xs page ≡ None
 none_before before [] page m l = refl
 none_before before (x ∷ xs) page m l =
     let f = follows_on before x m.0 in
     cond-false _ _ _ (below x.first x.count page (omega arith)) ∙ none_before (Some x) xs page m.1 (omega arith)
 
 -- nor one at the end of the last
-pub none_behind : (before : Option Area) (xs : List Area) (page : ℕ) → AreMaximal before xs → end_of (last_after before xs) ≤ page → prot_in xs page ≡ None
+pub none_behind : (before : Option Area) (xs : List Area) (page : ℕ) → AreMaximal before xs → area_end (last_after before xs) ≤ page → prot_in xs page ≡ None
 none_behind before [] page m l = refl
 none_behind before (x ∷ xs) page m l =
     let g = end_grows (Some x) xs m.1 in
     cond-false _ _ _ (above x.first x.count page (omega arith)) ∙ none_behind (Some x) xs page m.1 l
 
 -- the last area's pages are no other's
-pub prot_in-append : (before : Option Area) (xs : List Area) (y : Area) (page : ℕ) → AreMaximal before xs → end_of (last_after before xs) ≤ y.first →
+pub prot_in-append : (before : Option Area) (xs : List Area) (y : Area) (page : ℕ) → AreMaximal before xs → area_end (last_after before xs) ≤ y.first →
     prot_in (xs ++ y ∷ []) page ≡ (if is_within y.first y.count page then Some y.prot else prot_in xs page)
 prot_in-append before [] y page m l = refl
 prot_in-append before (x ∷ xs) y page m l =

@@ -14,7 +14,7 @@ use Rattle.sd_areas.specs.declared.snapshot_page.SnapshotPage.{SnapshotPage}
 use Rattle.sd_areas.specs.Pages.{is_within}
 use Rattle.sd_areas.specs.Areas.{prot_in, AreMaximal, AreAreasOf}
 use Rattle.sd_areas.specs.Runs.{end_of_all}
-use Rattle.sd_areas.specs.Memory.{prots_of}
+use Rattle.sd_areas.specs.Memory.{snapshot_prots}
 use Rattle.sd_areas.proofs.Maximal.{none_behind}
 use Rattle.sd_areas.proofs.Entries.{one_page}
 
@@ -97,8 +97,8 @@ unfolding or_else
 nothing_else None = refl
 nothing_else (Some p) = refl
 
-pub built_all : (all rest : List (ℕ × SnapshotPage)) (areas : List Area) → IsBuilt all rest areas → rest ≡ [] → AreAreasOf (prots_of all) areas
-unfolding prots_of prot_entries
+pub built_all : (all rest : List (ℕ × SnapshotPage)) (areas : List Area) → IsBuilt all rest areas → rest ≡ [] → AreAreasOf (snapshot_prots all) areas
+unfolding snapshot_prots prot_entries
 built_all all rest areas h e = record {
   maximal = h.maximal;
   same = λ q. sym (get-from_entries nat_cmp_total _ q ∙ h.same q ∙ ap (λ es. or_else (prot_in areas q) (find nat_cmp q (prot_entries es))) e ∙ nothing_else (prot_in areas q));

@@ -10,7 +10,7 @@ use Rattle.std.proofs.lemmas.Bool.Decides.{nat_tests}
 use Rattle.sd_areas.specs.declared.area.Area.{Area}
 use Rattle.sd_areas.specs.declared.prot.Prot.{Prot}
 use Rattle.sd_areas.specs.Pages.{pages_from, is_within}
-use Rattle.sd_areas.specs.Areas.{PageMap, area_pages, prot_in, AreMaximal, AreAreasOf, pages_of}
+use Rattle.sd_areas.specs.Areas.{PageMap, area_pages, prot_in, AreMaximal, AreAreasOf, page_map_of}
 use Rattle.sd_areas.proofs.Maximal.{inside, below, above}
 
 pub tied : (q k : ℕ) → q ≡ k → eq_by_cmp nat_cmp q k ≡ true
@@ -39,16 +39,16 @@ find-areas : (areas : List Area) (q : ℕ) → find nat_cmp q (flat_map (λ (are
 find-areas [] q = refl
 find-areas (area ∷ areas) q = find-run area.first area.count area.prot _ q ∙ ap (cond (is_within area.first area.count q) (Some area.prot)) (find-areas areas q)
 
-pub get-pages_of : (areas : List Area) (page : ℕ) → finmap.get (pages_of areas) page ≡ prot_in areas page
-unfolding pages_of
+pub get-pages_of : (areas : List Area) (page : ℕ) → finmap.get (page_map_of areas) page ≡ prot_in areas page
+unfolding page_map_of
 get-pages_of areas page = get-from_entries nat_cmp_total _ page ∙ find-areas areas page
 
-pub pages_of_areas : (areas : List Area) → AreMaximal None areas → AreAreasOf (pages_of areas) areas
+pub pages_of_areas : (areas : List Area) → AreMaximal None areas → AreAreasOf (page_map_of areas) areas
 pages_of_areas areas m = record { maximal = m; same = λ page. sym (get-pages_of areas page) }
 
 pub same_pages : (m n : PageMap) → ((page : ℕ) → finmap.get m page ≡ finmap.get n page) → m ≡ n
 same_pages m n is = same_map nat_cmp_total nat_cmp-IsAntisymmetric m n is
 
 -- the areas of a space's pages give that space
-pub pages_again : (pages : PageMap) (areas : List Area) → AreAreasOf pages areas → pages_of areas ≡ pages
+pub pages_again : (pages : PageMap) (areas : List Area) → AreAreasOf pages areas → page_map_of areas ≡ pages
 pages_again pages areas h = same_pages _ _ (λ page. get-pages_of areas page ∙ h.same page)

@@ -46,8 +46,8 @@ abbrev pub AreInSpace : PageMap → Type 0
 AreInSpace pages = (page : ℕ) → IsSome (finmap.get pages page) → page < 2 ^ 35
 
 -- the pages of a list of areas, each with its permissions
-unfoldable pub pages_of : List Area → PageMap
-pages_of areas = finmap.from_entries (flat_map (λ area. map (λ page. (page, area.prot)) (area_pages area)) areas)
+unfoldable pub page_map_of : List Area → PageMap
+page_map_of areas = finmap.from_entries (flat_map (λ area. map (λ page. (page, area.prot)) (area_pages area)) areas)
 
 -- a page put before the areas: it joins the first where it touches that and has its permissions
 abbrev pub put_page_before : ℕ → Prot → List Area → List Area

@@ -19,8 +19,8 @@ unfoldable pub memory_of : Snapshot → PlainMemory
 memory_of snapshot = finmap.from_entries (map (λ e. (e.0, space_of e.1.entries)) snapshot.spaces.entries)
 
 -- the permissions of the pages of one space
-unfoldable pub prots_of : List (ℕ × SnapshotPage) → PageMap
-prots_of entries = finmap.from_entries (map (λ e. (e.0, e.1.prot)) entries)
+unfoldable pub snapshot_prots : List (ℕ × SnapshotPage) → PageMap
+snapshot_prots entries = finmap.from_entries (map (λ e. (e.0, e.1.prot)) entries)
 
 -- a page put into a space
 abbrev pub put_page : PlainMemory → ℕ → ℕ → Page → PlainMemory

@@ -12,17 +12,17 @@ last_after before [] = before
 last_after before (area ∷ areas) = last_after (Some area) areas
 
 -- the page behind an area
-abbrev pub end_of : Option Area → ℕ
-end_of None = 0
-end_of (Some area) = area.first + area.count
+abbrev pub area_end : Option Area → ℕ
+area_end None = 0
+area_end (Some area) = area.first + area.count
 
 -- the page behind the last of the areas
 abbrev pub end_of_all : List Area → ℕ
-end_of_all areas = end_of (last_after None areas)
+end_of_all areas = area_end (last_after None areas)
 
 -- an area begins where the other ends, with its permissions
-abbrev pub is_continued : Area → Area → Bool
-is_continued last area = (last.first + last.count == area.first) && (prot_bits last.prot == prot_bits area.prot)
+abbrev pub is_area_continued : Area → Area → Bool
+is_area_continued last area = (last.first + last.count == area.first) && (prot_bits last.prot == prot_bits area.prot)
 
 -- one more area was put behind the others
 pub record IsExtended (old new : List Area) (area : Area) : Type 0 where
@@ -65,7 +65,7 @@ pub record HasGap (old new : List Area) (first count : ℕ) : Type 0 where
   pub same : (page : ℕ) → prot_in new page ≡ (if is_within first count page then None else prot_in old page)
 
 -- the areas map each page of a run up to one that they don't map
-pub record IsCovered (areas : List Area) (first next : ℕ) : Type 0 where
+pub record IsMappedUpTo (areas : List Area) (first next : ℕ) : Type 0 where
   pub begins : first ≤ next
   pub mapped : (page : ℕ) → first ≤ page → page < next → IsSome (prot_in areas page)
   pub hole : prot_in areas next ≡ None

@@ -32,23 +32,23 @@ impl Model for AreaMap {
     ghost use Rattle.std.specs.Prelude.{◌≤◌, length, None};
     ghost use Rattle.std.specs.FinMap as finmap;
     ghost use Rattle.std.specs.Coded.{coded_ℕ};
-    ghost use Rattle.sd_areas.specs.Areas.{PageMap, AreMaximal, pages_of};
+    ghost use Rattle.sd_areas.specs.Areas.{PageMap, AreMaximal, page_map_of};
     ghost use Rattle.sd_areas.specs.Codes.{prot_code};
 
     ghost Value = { PageMap };
 
     ghost coded = { finmap.code coded_ℕ prot_code };
 
-    ghost view = { λ a. pages_of a.areas.items };
+    ghost view = { λ a. page_map_of a.areas.items };
 
     ghost invariant = { λ a. AreMaximal None a.areas.items × (length a.areas.items ≤ 1024) };
 }
 
 impl AreaMap {
-    ghost use Rattle.sd_areas.specs.Areas.{AreAreasOf, AreMaximal, areas_of, pages_of};
+    ghost use Rattle.sd_areas.specs.Areas.{AreAreasOf, AreMaximal, areas_of, page_map_of};
     ghost use Rattle.sd_areas.specs.Calls.{map_result, unmap_result, protect_result, within_areas, has_hole};
     ghost use Rattle.sd_areas.specs.Calls.{RefusesAsDue};
-    ghost use Rattle.sd_areas.specs.Memory.{prots_of};
+    ghost use Rattle.sd_areas.specs.Memory.{snapshot_prots};
     ghost use Rattle.sd_areas.specs.declared.errno.AreaError.TheVariants.{Refused, OutOfMemory};
     ghost use Rattle.sd_areas.specs.declared.errno.Errno.TheVariants.{Einval, Enomem};
 
@@ -72,8 +72,8 @@ impl AreaMap {
         alloc: Global,
         pages: &BTreeMap<PageNo, SnapshotPage>,
     ) -> Result<Self, AreaError>
-        ensures ok { IfOk result (λ map. within_areas (prots_of pages.now.entries) ≡ Ok map) }
-        ensures refused { IfErr result (RefusesAsDue (within_areas (prots_of pages.now.entries))) }
+        ensures ok { IfOk result (λ map. within_areas (snapshot_prots pages.now.entries) ≡ Ok map) }
+        ensures refused { IfErr result (RefusesAsDue (within_areas (snapshot_prots pages.now.entries))) }
         ensures some { result ≡ Err OutOfMemory → pages.now.entries ≢ [] }
     {
         let areas = areas_in(alloc, pages)?;
@@ -187,8 +187,8 @@ impl AreaMap {
     /// ENOMEM where they are over 1,024.
     fn from_areas(alloc: Global, areas: Vec<Area>) -> Result<Self, AreaError>
         requires { AreMaximal None areas.items }
-        ensures ok { IfOk result (λ map. within_areas (pages_of areas.items) ≡ Ok map) }
-        ensures refused { IfErr result (RefusesAsDue (within_areas (pages_of areas.items))) }
+        ensures ok { IfOk result (λ map. within_areas (page_map_of areas.items) ≡ Ok map) }
+        ensures refused { IfErr result (RefusesAsDue (within_areas (page_map_of areas.items))) }
         ensures granted { result ≢ Err OutOfMemory }
     {
         if AREA_LIMIT < areas.len() {

@@ -3,7 +3,7 @@
 ghost use Rattle.std.specs.Prelude.{◌≡◌, ◌≢◌, ◌⊎◌, ◌+◌, ◌<◌, ◌≤◌, ◌^◌, [], nat_lt, length, Ok, OnOk, OnErr, IfErr};
 ghost use Rattle.std.specs.Prelude.{None};
 ghost use Rattle.std.specs.List.{splice, AllWithin, position};
-ghost use Rattle.sd_areas.specs.Areas.{AreMaximal, pages_of};
+ghost use Rattle.sd_areas.specs.Areas.{AreMaximal, page_map_of};
 ghost use Rattle.sd_areas.specs.Calls.{set_pages, remove_pages, within_areas, RefusesAsDue};
 ghost use Rattle.sd_areas.specs.declared.errno.AreaError.TheVariants.{Refused, OutOfMemory};
 ghost use Rattle.sd_areas.specs.declared.errno.Errno.TheVariants.{Enomem};
@@ -111,10 +111,10 @@ pub(crate) fn set_between(
     ensures maximal { OnOk result (AreMaximal None areas.new.items) }
     ensures few { OnOk result (length areas.new.items ≤ 1024) }
     ensures ok { OnOk result
-        (within_areas (set_pages (pages_of areas.old.items) area.first area.count area.prot)
-        ≡ Ok (pages_of areas.new.items)) }
+        (within_areas (set_pages (page_map_of areas.old.items) area.first area.count area.prot)
+        ≡ Ok (page_map_of areas.new.items)) }
     ensures refused { IfErr result (RefusesAsDue
-        (within_areas (set_pages (pages_of areas.old.items) area.first area.count area.prot))) }
+        (within_areas (set_pages (page_map_of areas.old.items) area.first area.count area.prot))) }
     ensures err { OnErr result (areas.new.items ≡ areas.old.items) }
 {
     let pieces = with_area(alloc, &areas[from..to], area)?;
@@ -135,10 +135,10 @@ pub(crate) fn set_run(alloc: Global, areas: &mut Vec<Area>, area: Area) -> Resul
     ensures maximal { OnOk result (AreMaximal None areas.new.items) }
     ensures few { OnOk result (length areas.new.items ≤ 1024) }
     ensures ok { OnOk result
-        (within_areas (set_pages (pages_of areas.old.items) area.first area.count area.prot)
-        ≡ Ok (pages_of areas.new.items)) }
+        (within_areas (set_pages (page_map_of areas.old.items) area.first area.count area.prot)
+        ≡ Ok (page_map_of areas.new.items)) }
     ensures refused { IfErr result (RefusesAsDue
-        (within_areas (set_pages (pages_of areas.old.items) area.first area.count area.prot))) }
+        (within_areas (set_pages (page_map_of areas.old.items) area.first area.count area.prot))) }
     ensures err { OnErr result (areas.new.items ≡ areas.old.items) }
 {
     let range = PageRange {
@@ -166,10 +166,10 @@ pub(crate) fn remove_run(
     ensures maximal { OnOk result (AreMaximal None areas.new.items) }
     ensures few { OnOk result (length areas.new.items ≤ 1024) }
     ensures ok { OnOk result
-        (within_areas (remove_pages (pages_of areas.old.items) range.first range.count)
-        ≡ Ok (pages_of areas.new.items)) }
+        (within_areas (remove_pages (page_map_of areas.old.items) range.first range.count)
+        ≡ Ok (page_map_of areas.new.items)) }
     ensures refused { IfErr result (RefusesAsDue
-        (within_areas (remove_pages (pages_of areas.old.items) range.first range.count))) }
+        (within_areas (remove_pages (page_map_of areas.old.items) range.first range.count))) }
     ensures some { OnErr result (areas.old.items ≢ []) }
     ensures err { OnErr result (areas.new.items ≡ areas.old.items) }
 {

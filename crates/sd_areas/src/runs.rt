@@ -1,10 +1,11 @@
 //! Lists of areas that rise and are maximal, built from the front.
 ghost use Rattle.std.specs.Prelude.{◌≡◌, if◌then◌else◌, ℕ, ◌+◌, ◌<◌, ◌≤◌, ◌^◌, OnOk, IfOk, Some, None, MatchOption};
 ghost use Rattle.std.specs.Prelude.{min, max};
-ghost use Rattle.sd_areas.specs.Areas.{AreMaximal, prot_in, pages_of};
+ghost use Rattle.sd_areas.specs.Areas.{AreMaximal, prot_in, page_map_of};
 ghost use Rattle.sd_areas.specs.Pages.{is_within};
 ghost use Rattle.sd_areas.specs.Calls.{has_hole};
-ghost use Rattle.sd_areas.specs.Runs.{is_continued, end_of_all, IsExtended, IsPart, HasPart, HasParts, HasRun, HasGap};
+ghost use Rattle.sd_areas.specs.Runs.{is_area_continued, end_of_all, IsExtended, IsPart, HasPart, HasParts, HasRun};
+ghost use Rattle.sd_areas.specs.Runs.{HasGap};
 
 use crate::area::Area;
 use crate::limits::PAGE_NUMBER_LIMIT;
@@ -16,7 +17,7 @@ use std::alloc::{AllocError, Global};
 /// Whether an area goes on where the one before it ends, with equal permissions.
 fn continues(last: &Area, area: &Area) -> bool
     requires { last.now.first + last.now.count ≤ 2 ^ 35 }
-    ensures { result ≡ is_continued last.now area.now }
+    ensures { result ≡ is_area_continued last.now area.now }
 {
     last.first.number() + last.count == area.first.number() && last.prot.bits() == area.prot.bits()
 }
@@ -172,7 +173,7 @@ fn reach(area: &Area, page: u64) -> u64
 pub(crate) fn meets_hole(areas: &[Area], range: &PageRange) -> bool
     requires maximal { AreMaximal None areas.now }
     requires within { range.now.first + range.now.count ≤ 2 ^ 35 }
-    ensures { result ≡ has_hole (pages_of areas.now) range.now.first range.now.count }
+    ensures { result ≡ has_hole (page_map_of areas.now) range.now.first range.now.count }
 {
     let mut next = range.first.number();
     for area in areas {

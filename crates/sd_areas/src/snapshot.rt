@@ -1,7 +1,7 @@
 ghost use Rattle.std.specs.Prelude.{◌≡◌, [], OnOk, OnErr, IsOk, IfOk, IsTrue};
 ghost use Rattle.std.specs.FinMap as finmap;
 ghost use Rattle.sd_areas.specs.Areas.{AreAreasOf};
-ghost use Rattle.sd_areas.specs.Memory.{prots_of};
+ghost use Rattle.sd_areas.specs.Memory.{snapshot_prots};
 
 use crate::area::Area;
 use crate::limits::PAGE_SIZE;
@@ -86,7 +86,7 @@ pub fn areas_in(
     alloc: Global,
     pages: &BTreeMap<PageNo, SnapshotPage>,
 ) -> Result<Vec<Area>, AllocError>
-    ensures areas { IfOk result (λ areas. AreAreasOf (prots_of pages.now.entries) areas.items) }
+    ensures areas { IfOk result (λ areas. AreAreasOf (snapshot_prots pages.now.entries) areas.items) }
     ensures bare { pages.now.entries ≡ [] → IsOk result }
 {
     let mut areas = Vec::new(alloc);

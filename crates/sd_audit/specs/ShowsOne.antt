@@ -10,8 +10,9 @@ use Rattle.sd_journal.specs.Allowed.{Shown, IsAllowed}
 
 -- what a run goes on from: a memory, with the number of its checkpoint if it has one. Where these come from matters to
 -- no audit.
-abbrev pub base_of : Option ℕ → Snapshot → Base
-base_of number snapshot = record { number = number; memory = memory_of snapshot; origin = Opened; folded = 0 }
+abbrev pub base_from_snapshot : Option ℕ → Snapshot → Base
+base_from_snapshot number snapshot =
+    record { number = number; memory = memory_of snapshot; origin = Opened; folded = 0 }
 
 -- the contents show nothing saved, or a checkpoint's memory, and the journal allows just that
 pub record ShowsOne (base : Base) (history : History) (contents : List (List ℕ)) : Type 0 where

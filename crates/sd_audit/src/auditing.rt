@@ -8,7 +8,7 @@ ghost use Rattle.sd_image.specs.Shows.{Shows};
 ghost use Rattle.sd_journal.specs.Allowed.{IsAllowed};
 ghost use Rattle.sd_journal.specs.Legal.{IsLegal};
 ghost use Rattle.sd_restore.specs.Faulty.{FaultNames, IsBrokenChain, IsDamage};
-ghost use Rattle.sd_audit.specs.ShowsOne.{ShowsOne, base_of, shown_by};
+ghost use Rattle.sd_audit.specs.ShowsOne.{ShowsOne, base_from_snapshot, shown_by};
 
 use crate::freezes::memory_at_freeze;
 use crate::numbers::{is_last_or_pending, last_number};
@@ -34,9 +34,9 @@ pub fn audit<D: Disk>(
     entries: &[Entry],
     disk: &mut D,
 ) -> Result<bool, Fault>
-    requires { IsLegal (base_of number base.now) (reverse entries.now) }
+    requires { IsLegal (base_from_snapshot number base.now) (reverse entries.now) }
     ensures exact { D.is_honest disk.new → IfOk result (λ told. IsTrue told
-        ↔ ShowsOne (base_of number base.now) (reverse entries.now) (D.contents disk.old)) }
+        ↔ ShowsOne (base_from_snapshot number base.now) (reverse entries.now) (D.contents disk.old)) }
     ensures damaged { D.is_honest disk.new
         → IfErr result (FaultNames
         (λ slot reason. IsDamage (D.contents disk.old) slot reason
@@ -85,9 +85,9 @@ fn is_allowed(
     entries: &[Entry],
     found: &Option<Snapshot>,
 ) -> Result<bool, AllocError>
-    requires { IsLegal (base_of number base.now) (reverse entries.now) }
+    requires { IsLegal (base_from_snapshot number base.now) (reverse entries.now) }
     ensures { IfOk result (λ told. IsTrue told
-        ↔ IsAllowed (base_of number base.now) (reverse entries.now) (option_map shown_by found.now)) }
+        ↔ IsAllowed (base_from_snapshot number base.now) (reverse entries.now) (option_map shown_by found.now)) }
 {
     let Some(snapshot) = found else {
         return Ok(last_number(number, entries).is_none());

@@ -5,7 +5,7 @@ ghost use Rattle.sd_areas.specs.Memory.{memory_of};
 ghost use Rattle.sd_journal.specs.History.{at_freeze};
 ghost use Rattle.sd_journal.specs.Legal.{IsLegal};
 ghost use Rattle.sd_audit.specs.Freezes.{IsFreezePlace};
-ghost use Rattle.sd_audit.specs.ShowsOne.{base_of};
+ghost use Rattle.sd_audit.specs.ShowsOne.{base_from_snapshot};
 
 use crate::copying::copy_of;
 use sd_areas::Snapshot;
@@ -25,9 +25,9 @@ pub fn memory_at_freeze(
     entries: &[Entry],
     checkpoint: u64,
 ) -> Result<Option<Snapshot>, AllocError>
-    requires { IsLegal (base_of number base.now) (reverse entries.now) }
+    requires { IsLegal (base_from_snapshot number base.now) (reverse entries.now) }
     ensures { IfOk result (λ found. option_map memory_of found
-        ≡ at_freeze (base_of number base.now) (reverse entries.now) checkpoint) }
+        ≡ at_freeze (base_from_snapshot number base.now) (reverse entries.now) checkpoint) }
 {
     if let Some(place) = freeze_place(entries, checkpoint) {
         let start = copy_of(alloc, base)?;

@@ -16,7 +16,7 @@ use Rattle.sd_chain.specs.Catalog.{Opened, Places, AreInOrder, Changes, images, 
 use Rattle.sd_chain.specs.Catalog as catalog
 use Rattle.sd_chain.specs.Ways.{HasPage, LiesAt}
 use Rattle.sd_chain.specs.Ways as ways
-use Rattle.sd_chain.specs.Tells.{AddedImageIsTold, Agrees, CatalogLists, HavePages, HeldPlacesTellNothing, IsStoredAt, IsToldAs, RemovedSlotIsUntold, RemovedSlotWasTold}
+use Rattle.sd_chain.specs.Tells.{AddedImageIsTold, Agrees, CatalogLists, HaveDataPages, HeldPlacesTellNothing, IsStoredAt, IsToldAs, RemovedSlotIsUntold, RemovedSlotWasTold}
 use Rattle.sd_chain.proofs.Members.{open_place}
 use Rattle.sd_chain.proofs.Walks.{member_of}
 
@@ -59,11 +59,11 @@ module _ (places : Places) (all : List Image) (order : AreInOrder places) (tells
         omega (arith, le, serials j other.0 other.2, serials i image told);
   }
 
-  after_there : (i j : Opened) (a b : Image) → IsToldAs i a → IsToldAs j b → catalog.IsNotAfter i j → IsNotAfter a b
+  after_there : (i j : Opened) (a b : Image) → IsToldAs i a → IsToldAs j b → catalog.IsNotNewer i j → IsNotAfter a b
   after_there i j a b ta tb (inl less) = inl (omega (arith, less, checkpoints i a ta, checkpoints j b tb))
   after_there i j a b ta tb (inr same) = inr (checkpoints i a ta ∙ same.0 ∙ sym (checkpoints j b tb), omega (arith, same.1, serials i a ta, serials j b tb))
 
-  after_back : (i j : Opened) (a b : Image) → IsToldAs i a → IsToldAs j b → IsNotAfter a b → catalog.IsNotAfter i j
+  after_back : (i j : Opened) (a b : Image) → IsToldAs i a → IsToldAs j b → IsNotAfter a b → catalog.IsNotNewer i j
   after_back i j a b ta tb (inl less) = inl (omega (arith, less, checkpoints i a ta, checkpoints j b tb))
   after_back i j a b ta tb (inr same) = inr (sym (checkpoints i a ta) ∙ same.0 ∙ checkpoints j b tb, omega (arith, same.1, serials i a ta, serials j b tb))
 
@@ -105,7 +105,7 @@ module _ (places : Places) (all : List Image) (order : AreInOrder places) (tells
         rest.2,
       )
 
-  lies_there : HavePages all → (page : ℕ × ℕ) (there : Found) (i : Opened) (image : Image) → Contains (images places) i → Contains all image → IsToldAs i image
+  lies_there : HaveDataPages all → (page : ℕ × ℕ) (there : Found) (i : Opened) (image : Image) → Contains (images places) i → Contains all image → IsToldAs i image
       → LiesAt places page there i → (bytes : List ℕ) × Holds all page.0 page.1 bytes image × IsStoredAt places all there bytes
   lies_there have page there i image ci c told (ways.by_data _ place has is) =
       let at : slice_get (pages_of Data image.spaces) place ≡ Some page = subst (λ (spaces : List Listed). HasPage spaces page (way.Data place)) (sym told.spaces) has in

@@ -3,15 +3,15 @@ use Rattle.std.proofs.Common.{◌≡◌, ◌≢◌, ◌⊎◌, ◌≤◌, max, �
 use Rattle.std.proofs.lemmas.Bool.{cases_lt}
 use Rattle.std.proofs.lemmas.List.{append-nil}
 use Rattle.std.proofs.lemmas.List.Elements.{Contains-push, Contains-push_cases, Contains-append_left, All-push, All-contains, filter_map-append}
-use Rattle.sd_chain.specs.Catalog.{Opened, Places, images, IsRestored, IsNotAfter, IsNewestAmong, IsNamedAmong, IsNewestChoice, IsNamedChoice, IsGreatest, number_at}
+use Rattle.sd_chain.specs.Catalog.{Opened, Places, images, IsDumpOrMerged, IsNotNewer, IsNewestAmong, IsNamedAmong, IsNewestChoice, IsNamedChoice, IsGreatest, number_at_place}
 
-not_after_step : (a b c : Opened) → IsNotAfter a b → IsNotAfter b c → IsNotAfter a c
+not_after_step : (a b c : Opened) → IsNotNewer a b → IsNotNewer b c → IsNotNewer a c
 not_after_step a b c (inl x) (inl y) = inl (omega arith)
 not_after_step a b c (inl x) (inr y) = inl (omega (arith, y.0))
 not_after_step a b c (inr x) (inl y) = inl (omega (arith, x.0))
 not_after_step a b c (inr x) (inr y) = inr (x.0 ∙ y.0, omega (arith, x.1, y.1))
 
-order_cases : (a b : Opened) → IsNotAfter a b ⊎ IsNotAfter b a
+order_cases : (a b : Opened) → IsNotNewer a b ⊎ IsNotNewer b a
 order_cases a b = elim (cases_lt a.header.checkpoint b.header.checkpoint) [
   | inl l ↦ inl (inl l)
   | inr g ↦ elim (cases_lt b.header.checkpoint a.header.checkpoint) [
@@ -23,43 +23,43 @@ order_cases a b = elim (cases_lt a.header.checkpoint b.header.checkpoint) [
   ]
 ]
 
-pub not_after : (a b : Opened) → (IsNotAfter a b → ⊥) → IsNotAfter b a
+pub not_after : (a b : Opened) → (IsNotNewer a b → ⊥) → IsNotNewer b a
 not_after a b never = elim (order_cases a b) [ inl x ↦ absurd (never x) | inr y ↦ y ]
 
 -- ---- the newest
 
-pub newest_kept : (all : List Opened) (one best : Opened) → IsNewestAmong all best → (IsRestored one → IsNotAfter one best) → IsNewestAmong (all ++ one ∷ []) best
+pub newest_kept : (all : List Opened) (one best : Opened) → IsNewestAmong all best → (IsDumpOrMerged one → IsNotNewer one best) → IsNewestAmong (all ++ one ∷ []) best
 newest_kept all one best newest less = record {
   member = Contains-append_left all (one ∷ []) best newest.member;
   restored = newest.restored;
   greatest = λ other among restored. elim (Contains-push_cases all one other among) [
     | inl c ↦ newest.greatest other c restored
-    | inr e ↦ subst (λ (f : Opened). IsNotAfter f best) e (less (subst IsRestored (sym e) restored))
+    | inr e ↦ subst (λ (f : Opened). IsNotNewer f best) e (less (subst IsDumpOrMerged (sym e) restored))
   ];
 }
 
-pub newest_first : (all : List Opened) (one : Opened) → All (λ i. IsRestored i → ⊥) all → IsRestored one → IsNewestAmong (all ++ one ∷ []) one
+pub newest_first : (all : List Opened) (one : Opened) → All (λ i. IsDumpOrMerged i → ⊥) all → IsDumpOrMerged one → IsNewestAmong (all ++ one ∷ []) one
 newest_first all one none restored = record {
   member = Contains-push all one;
   restored = restored;
   greatest = λ other among is. elim (Contains-push_cases all one other among) [
-    | inl c ↦ absurd (All-contains (λ (i : Opened). IsRestored i → ⊥) all other none c is)
-    | inr e ↦ subst (λ (f : Opened). IsNotAfter f one) e (inr (refl, omega arith))
+    | inl c ↦ absurd (All-contains (λ (i : Opened). IsDumpOrMerged i → ⊥) all other none c is)
+    | inr e ↦ subst (λ (f : Opened). IsNotNewer f one) e (inr (refl, omega arith))
   ];
 }
 
-pub newest_next : (all : List Opened) (one best : Opened) → IsNewestAmong all best → IsRestored one → IsNotAfter best one → IsNewestAmong (all ++ one ∷ []) one
+pub newest_next : (all : List Opened) (one best : Opened) → IsNewestAmong all best → IsDumpOrMerged one → IsNotNewer best one → IsNewestAmong (all ++ one ∷ []) one
 newest_next all one best newest restored less = record {
   member = Contains-push all one;
   restored = restored;
   greatest = λ other among is. elim (Contains-push_cases all one other among) [
     | inl c ↦ not_after_step other best one (newest.greatest other c is) less
-    | inr e ↦ subst (λ (f : Opened). IsNotAfter f one) e (inr (refl, omega arith))
+    | inr e ↦ subst (λ (f : Opened). IsNotNewer f one) e (inr (refl, omega arith))
   ];
 }
 
-pub choice_kept : (all : List Opened) (one : Opened) (chosen : Option (Bor Opened)) → IsNewestChoice all chosen → (IsRestored one → ⊥) → IsNewestChoice (all ++ one ∷ []) chosen
-choice_kept all one None none never = All-push (λ i. IsRestored i → ⊥) all one none never
+pub choice_kept : (all : List Opened) (one : Opened) (chosen : Option (Bor Opened)) → IsNewestChoice all chosen → (IsDumpOrMerged one → ⊥) → IsNewestChoice (all ++ one ∷ []) chosen
+choice_kept all one None none never = All-push (λ i. IsDumpOrMerged i → ⊥) all one none never
 choice_kept all one (Some best) newest never = newest_kept all one best.now newest (λ restored. absurd (never restored))
 
 -- ---- the one that a number names
@@ -131,7 +131,7 @@ greatest_next number all one n m was is =
       ];
     }
 
-pub greatest_more : (number : Opened → ℕ) (before : Places) (serial : ℕ) (place : Option Opened) (n m : ℕ) → IsGreatest number n (images before) → m ≡ max n (number_at number place)
+pub greatest_more : (number : Opened → ℕ) (before : Places) (serial : ℕ) (place : Option Opened) (n m : ℕ) → IsGreatest number n (images before) → m ≡ max n (number_at_place number place)
     → IsGreatest number m (images (before ++ (serial, place) ∷ []))
 greatest_more number before serial None n m was is =
     let same : n ≡ m = omega arith in

@@ -10,7 +10,7 @@ use Rattle.std.proofs.lemmas.List.Elements.{Contains-get_or, recursion_from_All}
 use Rattle.std.proofs.lemmas.List.Sorted.{IsNonDecreasingBy-from_sort}
 use Rattle.std.proofs.lemmas.Map.Views.{Contains-from_lookup, lookup-from_Contains}
 use Rattle.sd_image.proofs.Members.{contains_cases, contains_front, contains_later}
-use Rattle.sd_chain.specs.Catalog.{Opened, Places, AreInOrder, Changes, IsNewestChoice, IsSoundCatalog, IsTip, place_of, images, IsRising, Names}
+use Rattle.sd_chain.specs.Catalog.{Opened, Places, AreInOrder, Changes, IsNewestChoice, IsSoundCatalog, IsTip, place_of, images, SerialsRise, Names}
 use Rattle.sd_chain.proofs.Places.{by_keys}
 
 -- ---- an image stands at a place
@@ -101,12 +101,12 @@ images_above a [] above own = tt
 images_above a (e ∷ es) above own = above_step a e.0 e.1 es above.0 own.0 (images_above a es above.1 own.1)
 
 rising_step : (k : ℕ) (o : Option Opened) (es : Places) → AllByRecursion (λ (f : ℕ × Option Opened). k < f.0) es → IsOwned (k, o) → AllByRecursion IsOwned es
-    → IsRising (images es) → IsRising (images ((k, o) ∷ es))
+    → SerialsRise (images es) → SerialsRise (images ((k, o) ∷ es))
 rising_step k None es above own owns rest = rest
 rising_step k (Some i) es above own owns rest =
     (subst (λ a. AllByRecursion (λ (j : Opened). a < j.header.serial) (images es)) (sym (own i refl)) (images_above k es above owns), rest)
 
-images_rise : (es : Places) → Rise es → AllByRecursion IsOwned es → IsRising (images es)
+images_rise : (es : Places) → Rise es → AllByRecursion IsOwned es → SerialsRise (images es)
 images_rise [] rise own = tt
 images_rise (e ∷ es) rise own = rising_step e.0 e.1 es rise.0 own.0 own.1 (images_rise es rise.1 own.1)
 
@@ -114,7 +114,7 @@ owned : (es : Places) → AreInOrder es → (e : ℕ × Option Opened) → Conta
 owned es order e c = λ i is.
     order.own e.0 i (lookup-from_Contains nat_eq_equiv e.0 (Some i) es order.distinct (subst (λ (o : Option Opened). Contains es (e.0, o)) is c))
 
-pub rising : (es : Places) → AreInOrder es → IsRising (images es)
+pub rising : (es : Places) → AreInOrder es → SerialsRise (images es)
 rising es order =
     images_rise es (places_rise es (IsNonDecreasingBy-from_sort (λ (e : ℕ × Option Opened). e.0) es (by_keys es order.sorted)) order.distinct)
     (recursion_from_All IsOwned es (λ k d l. owned es order (slice_index_or es k d) (Contains-get_or es k d l)))

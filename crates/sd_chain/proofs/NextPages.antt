@@ -16,7 +16,7 @@ use Rattle.sd_image.specs.Shows.{pages_of}
 use Rattle.sd_image.specs.Table.{AreRuns, AreSpaces, IsTable, Listed, begins_behind, has_source, listing_of}
 use Rattle.sd_image.proofs.Members.{contains_cases, contains_front, contains_later}
 use Rattle.sd_chain.specs.declared.way.Way.TheVariants as way
-use Rattle.sd_chain.specs.Passes.{HasRun, HasSpace, IsBefore, IsBehind, IsFirstFrom, IsFrom, IsLeastFrom, IsListed, IsNextOrNone, from_within, start_of}
+use Rattle.sd_chain.specs.Passes.{HasPageInRuns, HasSpace, IsBefore, IsBehind, IsFirstPageFrom, IsFrom, IsLeastFrom, IsListed, IsNextOrNone, from_within, start_of}
 use Rattle.sd_chain.proofs.Runs.{apart, within_from, within_high, within_low}
 use Rattle.sd_chain.proofs.TablePages.{had, has_in_run}
 use Rattle.sd_chain.proofs.Ways.{among_kind, kind_of, later_space, runs_of}
@@ -62,7 +62,7 @@ none_before parent from runs at good point page k run less within is low has =
     let high = within_high run page has in
     absurd (omega (arith, ends, parts, first, count, high, low))
 
-pub none_left : (parent from : ℕ) (runs : List Run) (at : ℕ) → AreRuns parent None runs → IsPoint from runs at → length runs ≤ at → (page : ℕ) → from ≤ page → HasRun runs page → ⊥
+pub none_left : (parent from : ℕ) (runs : List Run) (at : ℕ) → AreRuns parent None runs → IsPoint from runs at → length runs ≤ at → (page : ℕ) → from ≤ page → HasPageInRuns runs page → ⊥
 none_left parent from runs at good point all page low has =
     none_before parent from runs at good point page has.1.0 has.0 (let within = has.1.1 in omega (arith, all, within)) has.1.1 has.1.2 low has.2
 
@@ -81,7 +81,7 @@ least_there parent from runs at run n answer good point within got is some value
         let count : (get_or runs at run).count ≡ run.count = ap (λ (r : Run). r.count) (sym got) in
         omega (arith, ends, first, count)
 
-    least : (page : ℕ) → from ≤ page → HasRun runs page → n ≤ page
+    least : (page : ℕ) → from ≤ page → HasPageInRuns runs page → n ≤ page
     least page low has = elim (cases_lt has.1.0 at) [
       | inl before ↦ absurd (none_before parent from runs at good point page has.1.0 has.0 before has.1.1 has.1.2 low has.2)
       | inr later ↦ elim (cases_lt at has.1.0) [
@@ -152,10 +152,10 @@ from_high number page place small low = elim (cases_lt number place.0) [
 
 -- no page of a space is at a place or behind it
 abbrev pub IsPassed : ℕ × ℕ → SpaceTable → Type 0
-IsPassed place s = (page : ℕ) → IsFrom place (s.space, page) → HasRun s.runs.items page → ⊥
+IsPassed place s = (page : ℕ) → IsFrom place (s.space, page) → HasPageInRuns s.runs.items page → ⊥
 
 -- a run of a table has pages below 2^35
-small_page : (parent : ℕ) (runs : List Run) (page : ℕ) → AreRuns parent None runs → HasRun runs page → page < 2 ^ 35
+small_page : (parent : ℕ) (runs : List Run) (page : ℕ) → AreRuns parent None runs → HasPageInRuns runs page → page < 2 ^ 35
 small_page parent runs page good has =
     let parts = (is_run parent None runs has.1.0 has.0 good has.1.1).1 in
     let first : (get_or runs has.1.0 has.0).first ≡ has.0.first = ap (λ (r : Run). r.first) has.1.2 in
@@ -227,7 +227,7 @@ take_all items at t all c = contains_take items at c.0 t (let within = c.1 in om
 -- the first space that has a page there has the first page
 pub first_there : (h : Header) (items : List SpaceTable) (place : ℕ × ℕ) (at : ℕ) (s : SpaceTable) (found : ℕ) → IsTable h (map listing_of items)
     → ((t : SpaceTable) → Contains (take at items) t → IsPassed place t) → at < length items → s ≡ get_or items at s
-    → IsLeastFrom s.runs.items (from_within s.space place) (Some found) → IsFirstFrom items place (Some (s.space, found))
+    → IsLeastFrom s.runs.items (from_within s.space place) (Some found) → IsFirstPageFrom items place (Some (s.space, found))
 first_there h items place at s found table before within got least = (
   from_high s.space found place (small_page h.parent s.runs.items found good least.1) least.0,
   (s, here, refl, least.1),
@@ -243,7 +243,7 @@ first_there h items place at s found table before within got least = (
           let same : has.1.0 ≡ at = omega (arith, later, back) in
           let it : has.0 ≡ s = sym has.1.2 ∙ ap (λ n. get_or items n has.0) same ∙ get_or_default items at has.0 s within ∙ sym got in
           let number : page.0 ≡ s.space = has.2 ∙ ap (λ (t : SpaceTable). t.space) it in
-          let runs : HasRun s.runs.items page.1 = subst (λ (t : SpaceTable). HasRun t.runs.items page.1) it has.3 in
+          let runs : HasPageInRuns s.runs.items page.1 = subst (λ (t : SpaceTable). HasPageInRuns t.runs.items page.1) it has.3 in
           let small = small_page h.parent s.runs.items page.1 good runs in
           let low = least.2 page.1 (from_low s.space page.1 place small (subst (λ n. IsFrom place (n, page.1)) number from)) runs in
           not_low page less number low
@@ -268,7 +268,7 @@ first_there h items place at s found table before within got least = (
     not_low page (inl less) number low = absurd (omega (arith, less, number))
     not_low page (inr same) number low = let less = same.1 in absurd (omega (arith, less, low))
 
-pub none_there : (items : List SpaceTable) (place : ℕ × ℕ) → ((t : SpaceTable) → Contains items t → IsPassed place t) → IsFirstFrom items place None
+pub none_there : (items : List SpaceTable) (place : ℕ × ℕ) → ((t : SpaceTable) → Contains items t → IsPassed place t) → IsFirstPageFrom items place None
 none_there items place all page from has = all has.0 has.1 page.1 (subst (λ n. IsFrom place (n, page.1)) has.2 from) has.3
 
 -- ---- tables
@@ -304,7 +304,7 @@ start_back None page from = tt
 start_back (Some place) page (inl less) = inl less
 start_back (Some place) page (inr same) = inr (same.0, (let low = same.1 in omega (arith, low)))
 
-pub next_of : (items : List SpaceTable) (after next : Option (ℕ × ℕ)) → IsFirstFrom items (start_of after) next → IsNextOrNone (map listing_of items) after next
+pub next_of : (items : List SpaceTable) (after next : Option (ℕ × ℕ)) → IsFirstPageFrom items (start_of after) next → IsNextOrNone (map listing_of items) after next
 next_of items after None none = λ page listed behind. none page (start_on after page behind) (listed_had items page listed)
 next_of items after (Some page) found = record {
   listed = had_listed items page found.1;

@@ -316,7 +316,7 @@ store_of one contents places order catalog =
         let same : i.0 ≡ j.0 = same_serial places i.0 j.0 order i.1 j.1 (i.3 ∙ e ∙ sym j.3) in
         sym i.2 ∙ ap (λ (k : Opened). k.slot) same ∙ j.2
 
-not_after : (i j : Opened) (a b : Image) → a.header ≡ i.header → b.header ≡ j.header → catalog.IsNotAfter i j → IsNotAfter a b
+not_after : (i j : Opened) (a b : Image) → a.header ≡ i.header → b.header ≡ j.header → catalog.IsNotNewer i j → IsNotAfter a b
 not_after i j a b p q h =
     subst (λ (x : Header). (x.checkpoint < b.header.checkpoint) ⊎ ((x.checkpoint ≡ b.header.checkpoint) × (x.serial ≤ b.header.serial))) (sym p)
     (subst (λ (y : Header). (i.header.checkpoint < y.checkpoint) ⊎ ((i.header.checkpoint ≡ y.checkpoint) × (i.header.serial ≤ y.serial))) (sym q) h)
@@ -331,7 +331,7 @@ finds_tip one contents places answer order ties chosen =
         → MatchOption answer ((image : Image) → Contains all image → IsRestorable image → ⊥) (λ i. (image : Image) × IsOpenedAs contents i.now image × IsTip all image)
     by all tied None none = λ image c restored.
         let i = opened_of contents all places image tied c in
-        All-contains (λ (k : Opened). catalog.IsRestored k → ⊥) (images places) i.0 none i.1 (subst (λ (h : Header). h.kind ≢ PreDump) i.2.header restored)
+        All-contains (λ (k : Opened). catalog.IsDumpOrMerged k → ⊥) (images places) i.0 none i.1 (subst (λ (h : Header). h.kind ≢ PreDump) i.2.header restored)
     by all tied (Some i) newest =
         let image = image_of contents all places i.now tied newest.member in (
           image.0,

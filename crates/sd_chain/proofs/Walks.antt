@@ -6,12 +6,12 @@ use Rattle.std.proofs.lemmas.Bool.{eqb-true, ne_eqb}
 use Rattle.std.proofs.lemmas.List.Elements.{Contains-push, Contains-push_cases, Contains-append_left, All-contains}
 use Rattle.std.proofs.lemmas.Map.Views.{Contains-from_lookup}
 use Rattle.sd_chain.specs.Catalog.{Opened, Places, AreInOrder, place_of, images, Names}
-use Rattle.sd_chain.specs.Reaches.{IsChain, IsPath, Reaches, ReachesSerial, ParentsFall}
+use Rattle.sd_chain.specs.Reaches.{IsChain, IsPath, ReachesInCatalog, ReachesSerial, ParentsFall}
 use Rattle.sd_chain.proofs.Members.{open_place, contains_open, same_serial, named_once}
 
 -- the next image of the walk, if there is one, reaches this
 abbrev pub NextReaches : Places → Option (Bor Opened) → Opened → Type 0
-NextReaches places next j = MatchOption next ⊥ (λ i. Reaches places j i.now)
+NextReaches places next j = MatchOption next ⊥ (λ i. ReachesInCatalog places j i.now)
 
 pub record IsWalk (places : Places) (serial : ℕ) (list : List ℕ) (next : Option (Bor Opened)) : Type 0 where
   pub said : (n : ℕ) → Contains list n → ReachesSerial places serial n
@@ -44,7 +44,7 @@ walk_begins places serial (Some i) order found = record {
   ahead = λ j r. (i.now, j, member_of places serial i.now found.0, found.1, r, refl);
   left = λ n r.
       let is : r.0 ≡ i.now = same_serial places r.0 i.now order r.2 (member_of places serial i.now found.0) (r.3 ∙ sym found.1) in
-      inr (r.1, subst (Reaches places r.1) is r.4, r.5);
+      inr (r.1, subst (ReachesInCatalog places r.1) is r.4, r.5);
 }
   where
     empty : (n : ℕ) → Contains [] n → ⊥
@@ -56,33 +56,33 @@ pub record IsNext (places : Places) (i : Opened) (next : Option (Bor Opened)) : 
   pub all : i.header.parent < i.header.stands_for → IsNone next → (p : Opened) → Names places i.header.parent p → ⊥
 
 ahead_more : (places : Places) (serial : ℕ) (i : Opened) (next : Option (Bor Opened)) → IfSome next (λ p. Names places i.header.parent p.now)
-    → ((j : Opened) → Reaches places j i → ReachesSerial places serial j.header.serial) → (j : Opened) → NextReaches places next j → ReachesSerial places serial j.header.serial
+    → ((j : Opened) → ReachesInCatalog places j i → ReachesSerial places serial j.header.serial) → (j : Opened) → NextReaches places next j → ReachesSerial places serial j.header.serial
 ahead_more places serial i None named was j never = absurd never
-ahead_more places serial i (Some p) named was j r = was j (Reaches.beyond i p.now named r)
+ahead_more places serial i (Some p) named was j r = was j (ReachesInCatalog.beyond i p.now named r)
 
 member_more : (places : Places) (i : Opened) (next : Option (Bor Opened)) → IfSome next (λ p. Names places i.header.parent p.now) → IfSome next (λ p. Contains (images places) p.now)
 member_more places i None named = tt
 member_more places i (Some p) named = named.member
 
 beyond_next : (places : Places) (i p j : Opened) (next : Option (Bor Opened)) → AreInOrder places → i.header.parent < i.header.stands_for → IsNext places i next
-    → Names places i.header.parent p → Reaches places j p → NextReaches places next j
+    → Names places i.header.parent p → ReachesInCatalog places j p → NextReaches places next j
 beyond_next places i p j None order falls is named r = absurd (is.all falls refl p named)
-beyond_next places i p j (Some q) order falls is named r = subst (Reaches places j) (named_once places i.header.parent p q.now order named is.named) r
+beyond_next places i p j (Some q) order falls is named r = subst (ReachesInCatalog places j) (named_once places i.header.parent p q.now order named is.named) r
 
 reached_more : (places : Places) (i j : Opened) (next : Option (Bor Opened)) → AreInOrder places → i.header.parent < i.header.stands_for → IsNext places i next
-    → Reaches places j i → (i ≡ j) ⊎ NextReaches places next j
+    → ReachesInCatalog places j i → (i ≡ j) ⊎ NextReaches places next j
 reached_more places i j next order falls is r = by i r falls is
   where
-    by : (k : Opened) → Reaches places j k → k.header.parent < k.header.stands_for → IsNext places k next → (k ≡ j) ⊎ NextReaches places next j
-    by _ Reaches.itself falls is = inl refl
-    by _ (Reaches.beyond k p named rest) falls is = inr (beyond_next places k p j next order falls is named rest)
+    by : (k : Opened) → ReachesInCatalog places j k → k.header.parent < k.header.stands_for → IsNext places k next → (k ≡ j) ⊎ NextReaches places next j
+    by _ ReachesInCatalog.itself falls is = inl refl
+    by _ (ReachesInCatalog.beyond k p named rest) falls is = inr (beyond_next places k p j next order falls is named rest)
 
 pub walk_goes_on : (places : Places) (serial : ℕ) (list : List ℕ) (i : Bor Opened) (next : Option (Bor Opened)) → AreInOrder places → ParentsFall places
     → IsWalk places serial list (Some i) → IsNext places i.now next → IsWalk places serial (list ++ i.now.header.serial ∷ []) next
 walk_goes_on places serial list i next order fall walk is = record {
   said = λ n c. elim (Contains-push_cases list i.now.header.serial n c) [
     | inl d ↦ walk.said n d
-    | inr e ↦ subst (ReachesSerial places serial) e (walk.ahead i.now Reaches.itself)
+    | inr e ↦ subst (ReachesSerial places serial) e (walk.ahead i.now ReachesInCatalog.itself)
   ];
   member = member_more places i.now next is.named;
   ahead = ahead_more places serial i.now next is.named walk.ahead;

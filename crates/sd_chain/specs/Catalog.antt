@@ -34,9 +34,9 @@ abbrev pub images : Places → List Opened
 images = filter_map (λ (place : ℕ × Option Opened). place.1)
 
 -- each before those with a greater serial
-abbrev pub IsRising : List Opened → Type 0
-IsRising [] = Unit {0}
-IsRising (i ∷ all) = AllByRecursion (λ (j : Opened). i.header.serial < j.header.serial) all × IsRising all
+abbrev pub SerialsRise : List Opened → Type 0
+SerialsRise [] = Unit {0}
+SerialsRise (i ∷ all) = AllByRecursion (λ (j : Opened). i.header.serial < j.header.serial) all × SerialsRise all
 
 abbrev pub IsHeld : Places → ℕ → Type 0
 IsHeld places serial = place_of places serial ≡ Some None
@@ -66,26 +66,26 @@ abbrev pub Names : Places → ℕ → Opened → Type 0
 Names places = IsNamedAmong (images places)
 
 -- dumps and merged images are restored; a pre-dump alone never is
-abbrev pub IsRestored : Opened → Type 0
-IsRestored i = i.header.kind ≢ PreDump
+abbrev pub IsDumpOrMerged : Opened → Type 0
+IsDumpOrMerged i = i.header.kind ≢ PreDump
 
 -- the order of the pairs (checkpoint, serial)
-abbrev pub IsNotAfter : Opened → Opened → Type 0
-IsNotAfter i j = (i.header.checkpoint < j.header.checkpoint)
+abbrev pub IsNotNewer : Opened → Opened → Type 0
+IsNotNewer i j = (i.header.checkpoint < j.header.checkpoint)
     ⊎ ((i.header.checkpoint ≡ j.header.checkpoint) × (i.header.serial ≤ j.header.serial))
 
 -- the image with the greatest pair of those that are restored
 pub record IsNewestAmong (all : List Opened) (i : Opened) : Type 0 where
   pub member : Contains all i
-  pub restored : IsRestored i
-  pub greatest : (j : Opened) → Contains all j → IsRestored j → IsNotAfter j i
+  pub restored : IsDumpOrMerged i
+  pub greatest : (j : Opened) → Contains all j → IsDumpOrMerged j → IsNotNewer j i
 
 abbrev pub IsTip : Places → Opened → Type 0
 IsTip places = IsNewestAmong (images places)
 
 -- what was chosen of these, or there was none to choose
 abbrev pub IsNewestChoice : List Opened → Option (Bor Opened) → Type 0
-IsNewestChoice all chosen = MatchOption chosen (All (λ i. IsRestored i → ⊥) all) (λ i. IsNewestAmong all i.now)
+IsNewestChoice all chosen = MatchOption chosen (All (λ i. IsDumpOrMerged i → ⊥) all) (λ i. IsNewestAmong all i.now)
 
 abbrev pub IsNamedChoice : ℕ → List Opened → Option (Bor Opened) → Type 0
 IsNamedChoice number all chosen =
@@ -95,8 +95,8 @@ IsNamedChoice number all chosen =
 abbrev pub serial_of : Opened → ℕ
 serial_of i = i.header.serial
 
-abbrev pub checkpoint_of : Opened → ℕ
-checkpoint_of i = i.header.checkpoint
+abbrev pub checkpoint_number : Opened → ℕ
+checkpoint_number i = i.header.checkpoint
 
 -- a number is the greatest of these images, or 0 where there are none
 pub record IsGreatest (number : Opened → ℕ) (n : ℕ) (all : List Opened) : Type 0 where
@@ -104,14 +104,14 @@ pub record IsGreatest (number : Opened → ℕ) (n : ℕ) (all : List Opened) : 
   pub one : (n ≡ 0) ⊎ ((i : Opened) × Contains all i × (n ≡ number i))
 
 -- the number of the image of a place, or 0 where it is held
-abbrev pub number_at : (Opened → ℕ) → Option Opened → ℕ
-number_at number None = 0
-number_at number (Some i) = number i
+abbrev pub number_at_place : (Opened → ℕ) → Option Opened → ℕ
+number_at_place number None = 0
+number_at_place number (Some i) = number i
 
 -- What is so of every catalog.
 pub record IsSoundCatalog (places : Places) : Type 0 where
   pub order : AreInOrder places
-  pub rising : IsRising (images places)
+  pub rising : SerialsRise (images places)
   -- an image stands at its serial, and nowhere else
   pub own : (i : Opened) → Contains (images places) i → place_of places i.header.serial ≡ Some (Some i)
   pub member : (serial : ℕ) (i : Opened) → place_of places serial ≡ Some (Some i) → Contains (images places) i

@@ -33,22 +33,23 @@ IsNextOrNone spaces after next =
     MatchOption next ((page : ℕ × ℕ) → IsListed spaces page → IsBehind after page → ⊥) (IsNextOf spaces after)
 
 -- the same of the image of a serial; where no image has it there is none
-abbrev pub IsNextPage : Places → ℕ → Option (ℕ × ℕ) → Option (ℕ × ℕ) → Type 0
-IsNextPage places serial after next =
+abbrev pub IsNextPageOfImage : Places → ℕ → Option (ℕ × ℕ) → Option (ℕ × ℕ) → Type 0
+IsNextPageOfImage places serial after next =
     ((i : Opened) → place_of places serial ≡ Some (Some i) → IsNextOrNone i.spaces after next)
     × (((i : Opened) → place_of places serial ≡ Some (Some i) → ⊥) → IsNone next)
 
 -- Within: a place, and the pages from it on.
 
 -- one of some runs has a page
-abbrev pub HasRun : List Run → ℕ → Type 0
-HasRun runs page = (run : Run) × Contains runs run × IsTrue (is_within run.first run.count page)
+abbrev pub HasPageInRuns : List Run → ℕ → Type 0
+HasPageInRuns runs page = (run : Run) × Contains runs run × IsTrue (is_within run.first run.count page)
 
 -- the least page from this one on that the runs have, or they have none there
 abbrev pub IsLeastFrom : List Run → ℕ → Option ℕ → Type 0
 IsLeastFrom runs from least = MatchOption least
-    ((page : ℕ) → from ≤ page → HasRun runs page → ⊥)
-    (λ found. (from ≤ found) × HasRun runs found × ((page : ℕ) → from ≤ page → HasRun runs page → found ≤ page))
+    ((page : ℕ) → from ≤ page → HasPageInRuns runs page → ⊥)
+    (λ found. (from ≤ found) × HasPageInRuns runs found
+    × ((page : ℕ) → from ≤ page → HasPageInRuns runs page → found ≤ page))
 
 -- a page is at a place or behind it
 abbrev pub IsFrom : ℕ × ℕ → ℕ × ℕ → Type 0
@@ -56,11 +57,11 @@ IsFrom place page = (place.0 < page.0) ⊎ ((place.0 ≡ page.0) × (place.1 ≤
 
 -- one of some spaces has a page
 abbrev pub HasSpace : List SpaceTable → ℕ × ℕ → Type 0
-HasSpace spaces page = (s : SpaceTable) × Contains spaces s × (page.0 ≡ s.space) × HasRun s.runs.items page.1
+HasSpace spaces page = (s : SpaceTable) × Contains spaces s × (page.0 ≡ s.space) × HasPageInRuns s.runs.items page.1
 
 -- the first page from a place on that the spaces have, or they have none there
-abbrev pub IsFirstFrom : List SpaceTable → ℕ × ℕ → Option (ℕ × ℕ) → Type 0
-IsFirstFrom spaces place first = MatchOption first
+abbrev pub IsFirstPageFrom : List SpaceTable → ℕ × ℕ → Option (ℕ × ℕ) → Type 0
+IsFirstPageFrom spaces place first = MatchOption first
     ((page : ℕ × ℕ) → IsFrom place page → HasSpace spaces page → ⊥)
     (λ found. IsFrom place found × HasSpace spaces found
     × ((page : ℕ × ℕ) → IsFrom place page → HasSpace spaces page → IsBefore page found → ⊥))

@@ -28,8 +28,8 @@ IsStoredAt places all (found.Data slot offset) bytes =
     × (i.slot ≡ slot) × (offset ≡ 4096 + 4096 * place) × (slice_get image.pages place ≡ Some bytes)
 
 -- each data page that a table lists is there
-abbrev pub HavePages : List Image → Type 0
-HavePages all = (image : Image) → Contains all image → (place : ℕ) (page : ℕ × ℕ)
+abbrev pub HaveDataPages : List Image → Type 0
+HaveDataPages all = (image : Image) → Contains all image → (place : ℕ) (page : ℕ × ℕ)
     → slice_get (pages_of Data image.spaces) place ≡ Some page
     → (bytes : List ℕ) × (slice_get image.pages place ≡ Some bytes)
 
@@ -48,7 +48,8 @@ pub record Agrees (places : Places) (all : List Image) : Type 0 where
       → Contains all image → IsToldAs i image
       → Holds all page.0 page.1 bytes image
       → (there : Found) × LiesAt places page there i × IsStoredAt places all there bytes
-  pub lies : HavePages all → (page : ℕ × ℕ) (there : Found) (i : Opened) (image : Image) → Contains (images places) i
+  pub lies : HaveDataPages all → (page : ℕ × ℕ) (there : Found) (i : Opened) (image : Image)
+      → Contains (images places) i
       → Contains all image → IsToldAs i image
       → LiesAt places page there i
       → (bytes : List ℕ) × Holds all page.0 page.1 bytes image × IsStoredAt places all there bytes

@@ -5,7 +5,8 @@ ghost use Rattle.sd_image.specs.Image.{Image, OpenImages};
 ghost use Rattle.sd_chain.specs.declared.error.CatalogError.TheVariants.{DoubleSerial};
 ghost use Rattle.sd_chain.specs.Store.{IsCatalogOf, FindsNamed, FindsTip, HasTheImages};
 ghost use Rattle.sd_chain.specs.Catalog.{Opened, place_of, images, IsHeld, Changes, is_elsewhere, without_slot, Names};
-ghost use Rattle.sd_chain.specs.Catalog.{IsTip, IsRestored, IsGreatest, IsSoundCatalog, serial_of, checkpoint_of};
+ghost use Rattle.sd_chain.specs.Catalog.{IsTip, IsDumpOrMerged, IsGreatest, IsSoundCatalog, serial_of};
+ghost use Rattle.sd_chain.specs.Catalog.{checkpoint_number};
 ghost use Rattle.sd_chain.specs.Tells.{Agrees, CatalogLists};
 
 use crate::choice::{Places, greatest_checkpoint, greatest_serial, images_of, named_of, newest_of};
@@ -170,7 +171,7 @@ impl Catalog {
     /// where there are only pre-dumps. It makes one pass over the images.
     pub fn tip(&self) -> Option<&OpenImage>
         ensures newest { MatchOption result
-            (All (λ i. IsRestored i → ⊥) (images self.now))
+            (All (λ i. IsDumpOrMerged i → ⊥) (images self.now))
             (λ i. IsTip self.now i.now) }
         ensures store { (contents : List (List ℕ)) → IsCatalogOf contents self.now
             → FindsTip contents result }
@@ -210,7 +211,7 @@ impl Catalog {
 
     /// The greatest checkpoint of the images, or 0 where there are none. It takes no memory.
     pub fn greatest_checkpoint(&self) -> u64
-        ensures { IsGreatest checkpoint_of result (images self.now) }
+        ensures { IsGreatest checkpoint_number result (images self.now) }
     {
         greatest_checkpoint(&self.places)
     }

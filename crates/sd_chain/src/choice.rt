@@ -1,7 +1,7 @@
 //! Choosing among the open images of a catalog.
 ghost use Rattle.std.specs.Prelude.{◌≡◌, ◌≤◌, ◌↔◌, ℕ, List, [], ◌∷◌, ◌++◌, Option, IfOk, OnOk, IsTrue, map};
-ghost use Rattle.sd_chain.specs.Catalog.{Opened, images, IsGreatest, IsRestored, IsNotAfter, IsNewestChoice};
-ghost use Rattle.sd_chain.specs.Catalog.{IsNamedChoice, checkpoint_of, number_at, serial_of};
+ghost use Rattle.sd_chain.specs.Catalog.{Opened, images, IsGreatest, IsDumpOrMerged, IsNotNewer, IsNewestChoice};
+ghost use Rattle.sd_chain.specs.Catalog.{IsNamedChoice, checkpoint_number, number_at_place, serial_of};
 
 use crate::image::OpenImage;
 use indexmap::IndexMap;
@@ -13,7 +13,7 @@ pub(crate) type Places = IndexMap<u64, Option<OpenImage>>;
 
 /// Whether the image alone, or with what it names, is restored.
 fn is_restored(image: &OpenImage) -> bool
-    ensures { IsTrue result ↔ IsRestored image.now }
+    ensures { IsTrue result ↔ IsDumpOrMerged image.now }
 {
     match image.header().kind {
         Kind::PreDump => false,
@@ -23,7 +23,7 @@ fn is_restored(image: &OpenImage) -> bool
 
 /// Whether an image comes no later than another, by its checkpoint and then by its serial.
 fn is_not_after(a: &OpenImage, b: &OpenImage) -> bool
-    ensures { IsTrue result ↔ IsNotAfter a.now b.now }
+    ensures { IsTrue result ↔ IsNotNewer a.now b.now }
 {
     let (a, b) = (a.header(), b.header());
     a.checkpoint < b.checkpoint || (a.checkpoint == b.checkpoint && a.serial <= b.serial)
@@ -151,7 +151,7 @@ pub(crate) fn images_of(alloc: Global, places: &Places) -> Result<Vec<&OpenImage
 
 /// The serial of the image of a place, or 0 where it is held.
 fn serial_at(place: &Option<OpenImage>) -> u64
-    ensures { result ≡ number_at serial_of place.now }
+    ensures { result ≡ number_at_place serial_of place.now }
 {
     match place {
         Some(image) => image.header().serial,
@@ -161,7 +161,7 @@ fn serial_at(place: &Option<OpenImage>) -> u64
 
 /// The checkpoint of the image of a place, or 0 where it is held.
 fn checkpoint_at(place: &Option<OpenImage>) -> u64
-    ensures { result ≡ number_at checkpoint_of place.now }
+    ensures { result ≡ number_at_place checkpoint_number place.now }
 {
     match place {
         Some(image) => image.header().checkpoint,
@@ -182,7 +182,7 @@ pub(crate) fn greatest_serial(places: &Places) -> u64
 
 /// The greatest checkpoint of the images, or 0 where there are none.
 pub(crate) fn greatest_checkpoint(places: &Places) -> u64
-    ensures { IsGreatest checkpoint_of result (images places.now.entries) }
+    ensures { IsGreatest checkpoint_number result (images places.now.entries) }
 {
     let mut greatest = 0u64;
     for (_, place) in places {

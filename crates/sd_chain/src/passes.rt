@@ -3,7 +3,7 @@ ghost use Rattle.std.specs.Prelude.{◌≡◌, ◌+◌, ◌-◌, ◌^◌, ℕ, N
 ghost use Rattle.sd_image.specs.declared.header.Header.{Header};
 ghost use Rattle.sd_image.specs.declared.run.Run.{Run};
 ghost use Rattle.sd_image.specs.Table.{AreRuns, IsTable, listing_of};
-ghost use Rattle.sd_chain.specs.Passes.{IsFirstFrom, IsLeastFrom, from_within, start_of};
+ghost use Rattle.sd_chain.specs.Passes.{IsFirstPageFrom, IsLeastFrom, from_within, start_of};
 
 use sd_areas::{PAGE_NUMBER_LIMIT, PageNo, SpaceId};
 use sd_image::{Run, SpaceTable};
@@ -54,7 +54,7 @@ pub(crate) fn place_behind(after: Option<(SpaceId, PageNo)>) -> (u64, u64)
 /// runs of each.
 pub(crate) fn first_from(spaces: &[SpaceTable], space: u64, page: u64) -> Option<(SpaceId, PageNo)>
     ensures { (h : Header) → IsTable h (map listing_of spaces.now)
-        → IsFirstFrom spaces.now (space, page) result }
+        → IsFirstPageFrom spaces.now (space, page) result }
 {
     for listed in spaces {
         let from = from_in(listed.space.number(), space, page);

@@ -43,10 +43,10 @@ try_reply outcome.Done = reply.Done
 try_reply outcome.NeedsFault = reply.NeedsFault
 
 -- so many bytes from an address on
-abbrev pub IsLoaded : Contents → ℕ → ℕ → ℕ → Reply → Type 0
-IsLoaded memory space address count (reply.Bytes bytes) = IfSome (page_under memory space address)
+abbrev pub HasLoadedBytes : Contents → ℕ → ℕ → ℕ → Reply → Type 0
+HasLoadedBytes memory space address count (reply.Bytes bytes) = IfSome (page_under memory space address)
     (λ (page : PageState). bytes ≡ slice_range page.bytes (address % 4096) (address % 4096 + count))
-IsLoaded memory space address count _ = ⊥
+HasLoadedBytes memory space address count _ = ⊥
 
 -- what an accepted command does, by its reply
 abbrev pub CommandDoes : Command → Reply → Contents → Contents → Type 0
@@ -59,7 +59,8 @@ CommandDoes (command.Mprotect space address bytes prot) answer old new =
 CommandDoes (command.Fork space) answer old new =
     (child : ℕ) × (answer ≡ reply.Child child) × IsLeastFree (plain_of old) child × Step old (Forked space child) new
 CommandDoes (command.Exit space) answer old new = (answer ≡ reply.Done) × Step old (Exited space) new
-CommandDoes (command.Load space address count) answer old new = (new ≡ old) × IsLoaded old space address count answer
+CommandDoes (command.Load space address count) answer old new =
+    (new ≡ old) × HasLoadedBytes old space address count answer
 CommandDoes (command.TryStore space address bytes) answer old new =
     ((answer ≡ reply.Done) × (try_outcome old space address (length bytes) ≡ Ok outcome.Done)
     × Step old (Tried space (page_of address) (address % 4096) bytes) new)

@@ -4,7 +4,7 @@ ghost use Rattle.sd_pagetable.specs.Contents.{plain_of};
 ghost use Rattle.sd_pagetable.specs.Due.{Answers, access_due};
 ghost use Rattle.sd_pagetable.specs.Tracking.{Step};
 ghost use Rattle.sd_pagetable.specs.declared.access.Access.TheVariants.{Read};
-ghost use Rattle.sd_command.specs.Attempts.{CommandDoes, IsLoaded, denial, done_reply, try_reply};
+ghost use Rattle.sd_command.specs.Attempts.{CommandDoes, HasLoadedBytes, denial, done_reply, try_reply};
 ghost use Rattle.sd_command.specs.Events.{Chooses, TakesMemory, event_of};
 ghost use Rattle.sd_command.specs.Replies.{IsLegalReply, effect};
 
@@ -127,7 +127,7 @@ fn load(
     ensures due { Answers (access_due (plain_of memory.now) space address count Read) result }
     ensures tested { result ≡ Err MemoryError.OutOfMemory
         → access_due (plain_of memory.now) space address count Read ≡ None }
-    ensures bytes { IfOk result (IsLoaded memory.now space address count) }
+    ensures bytes { IfOk result (HasLoadedBytes memory.now space address count) }
 {
     let mut buffer = [0; TOO_MANY];
     let bytes = &mut buffer[..count.min(TOO_MANY as u64) as usize];

@@ -20,7 +20,7 @@ use Rattle.sd_crash_safety.specs.declared.standing.Standing.TheVariants.{Open}
 use Rattle.sd_core.specs.declared.numbers.Numbers.{Numbers}
 use Rattle.sd_core.specs.Images.{begun_as}
 use Rattle.sd_core.specs.Merging.{IsMergedImage}
-use Rattle.sd_core.specs.Sound.{AreOuts, CheckpointRuns, CheckpointsAreCounted, ClosesWithHeader, IsCore, IsDoing, IsImageOf, IsOpening, MergeRuns, Parts, begun_images, due_serials}
+use Rattle.sd_core.specs.Sound.{AreOuts, CheckpointRuns, CheckpointsAreCounted, ClosesWithHeader, IsCore, IsDoing, IsImageInMaking, IsOpening, MergeRuns, Parts, begun_images, due_serials}
 use Rattle.sd_core.proofs.MergeLemmas.{image_stays}
 use Rattle.sd_core.proofs.OutsLemmas.{DumperOuts, IsOfDumper, dumper_none, dumper_outs, lane_at, no_write, on_slot, open_outs}
 use Rattle.sd_core.proofs.OwnLemmas.{own_has, spared_of}
@@ -120,8 +120,8 @@ pub record LeavesWork (core : Parts) (places : Places) (numbers : Numbers) (merg
   pub stay : (serial : ℕ) (o : Opened) → place_of core.places serial ≡ Some (Some o) → HasSlot core.dumper.running o.slot → place_of places serial ≡ Some (Some o)
 
 image_beside : (core : Parts) (places : Places) (numbers : Numbers) (merge : Option merger.Running) (running : Running) (image : Option Making) → LeavesWork core places numbers merge
-    → core.dumper.running ≡ Some running → running.image ≡ image → IfSome image (IsImageOf core.journal.items core.places core.numbers)
-    → IfSome image (IsImageOf core.journal.items places numbers)
+    → core.dumper.running ≡ Some running → running.image ≡ image → IfSome image (IsImageInMaking core.journal.items core.places core.numbers)
+    → IfSome image (IsImageInMaking core.journal.items places numbers)
 image_beside core places numbers merge running None l was making is = tt
 image_beside core places numbers merge running (Some image) l was making is =
     let given = is.given in

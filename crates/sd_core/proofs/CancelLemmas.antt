@@ -11,7 +11,7 @@ use Rattle.sd_journal.specs.Marked.{IsTracked, Marked, Told, entries_of}
 use Rattle.sd_journal.specs.TrackedLaws.{TrackedLaws}
 use Rattle.sd_gate.specs.declared.request_id.RequestId.{RequestId}
 use Rattle.sd_merge.specs.Merger as merger
-use Rattle.sd_rounds.specs.Dumper.{Dumping, HasSlot, Running, image_serial, out_of_running, serial_of, writes_of_running}
+use Rattle.sd_rounds.specs.Dumper.{Dumping, HasSlot, Running, image_serial, out_of_running, serial_of_running, writes_of_running}
 use Rattle.sd_rounds.specs.Making.{Making}
 use Rattle.sd_rounds.specs.Writes.{no_writes}
 use Rattle.sd_crash_safety.specs.Merges.{IsOtherImage, IsSpared, MakesOther}
@@ -150,7 +150,7 @@ rests_cancelled core running sound closed at pages gone = record {
 
 -- a merge beside it goes on
 pub merges_on : (core : Parts) (places : Places) (dumper : Dumping) → IsCore core → dumper.running ≡ None
-    → ReleasesPlace (serial_of core.dumper.running) core.places places
+    → ReleasesPlace (serial_of_running core.dumper.running) core.places places
     → IfSome core.merger (MergeRuns core.standing core.phases places core.opener core.numbers core.room dumper.running)
 merges_on core places dumper sound gone released = merging_stays core (record core { places = places; dumper = dumper }) (record {
   merger_is = refl;
@@ -165,7 +165,7 @@ merges_on core places dumper sound gone released = merging_stays core (record co
   fills = λ slot spared. subst (λ r. IsSpared r slot) (sym gone) tt;
   other = λ serial given other. subst (λ r. MakesOther r serial) (sym gone) tt;
   held = λ serial given other held. still_held core.dumper.running serial other released held;
-  images = λ serial o there spared. still_open (serial_of core.dumper.running) serial o released there;
+  images = λ serial o there spared. still_open (serial_of_running core.dumper.running) serial o released there;
 }) sound.merging
   where
     not_same : (a b : ℕ) → a ≢ b → (a == b) ≡ false
@@ -185,7 +185,7 @@ merges_on core places dumper sound gone released = merging_stays core (record co
         by_place (Some None) is = r.released is serial ∙ ap (λ b. if b then None else place_of old serial) (not_same own serial differs) ∙ held
         by_place (Some (Some i)) is = same (r.nothing (λ h. let no : Some (Some i) ≡ Some None = sym is ∙ h in cc))
 
-    still_held : (running : Option Running) (serial : ℕ) → MakesOther running serial → ReleasesPlace (serial_of running) core.places places → IsHeld core.places serial → IsHeld places serial
+    still_held : (running : Option Running) (serial : ℕ) → MakesOther running serial → ReleasesPlace (serial_of_running running) core.places places → IsHeld core.places serial → IsHeld places serial
     still_held None serial other r held = ap (λ all. place_of all serial) r ∙ held
     still_held (Some running) serial other r held = by_image running.image other r
       where

@@ -19,22 +19,22 @@ use Rattle.sd_rounds.specs.declared.stage.Stage.TheVariants.{Format, Freeze as F
 use Rattle.sd_rounds.specs.Making.{Asks, CopiesSector, IsWritten, MakerFreezes, Making, PlanGoesOn, Visits, WritesPage, WritesTable, begun_image, is_frozen_dump, is_passing, is_past_freeze, out_of, stage_after, with_plan}
 use Rattle.sd_rounds.specs.Pass.{Pass}
 use Rattle.sd_core.specs.declared.numbers.Numbers.{Numbers}
-use Rattle.sd_core.specs.Sound.{IsImageOf, IsStageOf, IsVisiting, IsVisitingIn}
+use Rattle.sd_core.specs.Sound.{IsImageInMaking, IsStageOfImage, IsVisiting, IsVisitingIn}
 use Rattle.sd_core.specs.Visited.{is_begun}
 use Rattle.sd_core.proofs.StageLemmas.{IsAskedIn, IsBehind, asked_in, behind, copied_after, frozen_asked, visited_after, visiting_asked}
 use Rattle.sd_core.proofs.WorkLemmas.{SameNumbers, same_numbers}
 
 -- the image in another stage, with its request that is out then
 pub record IsTurned (items : Marked) (places : Places) (numbers : Numbers) (image next : Making) (out : Option RequestId) : Type 0 where
-  pub image_is : IsImageOf items places numbers next
+  pub image_is : IsImageInMaking items places numbers next
   pub order : next.order ≡ image.order
   pub still : is_frozen_dump next ≡ is_frozen_dump image
   pub out_is : out_of next.stage ≡ out
   pub slot : IfSome out (λ id. id.slot ≡ image.order.slot)
 
 turn : (items now : Marked) (places after : Places) (old new : Numbers) (image : Making) (pass : Pass) (stage : Stage) (writes : List (Option RequestId)) (digester : Digester) → SameNumbers old new
-    → IsImageOf items places old image → IsHeld after image.order.serial → IsStageOf image.order stage → IsVisitingIn now image.order.serial pass stage
-    → is_begun now image.order.serial ≡ true → IsImageOf now after new (record { order = image.order; pass = pass; stage = stage; writes = writes; digester = digester })
+    → IsImageInMaking items places old image → IsHeld after image.order.serial → IsStageOfImage image.order stage → IsVisitingIn now image.order.serial pass stage
+    → is_begun now image.order.serial ≡ true → IsImageInMaking now after new (record { order = image.order; pass = pass; stage = stage; writes = writes; digester = digester })
 turn items now places after old new image pass stage writes digester same is held at visits begun = record {
   given = (let given = is.given in let more = same.given in omega (arith, given, more));
   held = held;
@@ -45,7 +45,7 @@ turn items now places after old new image pass stage writes digester same is hel
 
 -- the next call of a plan
 pub image_asked : (items : Marked) (places : Places) (old new : Numbers) (image next : Making) (request : Asked) → SameNumbers old new
-    → IsImageOf items places old image → Asks image request next → IsTurned items places new image next (Some request.id)
+    → IsImageInMaking items places old image → Asks image request next → IsTurned items places new image next (Some request.id)
 image_asked items places old new image next request same is asks = subst (λ m. IsTurned items places new image m (Some request.id)) (sym asks.is) (record {
   image_is = turn items items places places old new image image.pass (with_plan image.stage asks.next) image.writes image.digester same is is.held asked.stage_is
       (visiting_asked items image.order.serial image.pass image.stage asks.next is.visiting_in) is.begun;
@@ -59,13 +59,13 @@ image_asked items places old new image next request same is asks = subst (λ m. 
     asked = asked_in image.order image.stage asks.plan asks.next request asks.was asks.gives is.stage
 
 -- the pass is over, or goes on: its cursor
-passing : (items : Marked) (places : Places) (numbers : Numbers) (image : Making) → IsImageOf items places numbers image → image.stage ≡ PassStage
+passing : (items : Marked) (places : Places) (numbers : Numbers) (image : Making) → IsImageInMaking items places numbers image → image.stage ≡ PassStage
     → IsVisiting items image.order.serial image.pass
 passing items places numbers image is stage = subst (λ s. IsVisitingIn items image.order.serial image.pass s) stage is.visiting_in
 
 -- the write of a page that was copied
 pub image_page : (items : Marked) (places : Places) (old new : Numbers) (image next : Making) (lane : ℕ) (request : Asked) → SameNumbers old new
-    → IsImageOf items places old image → WritesPage image lane request next → IsTurned items places new image next None
+    → IsImageInMaking items places old image → WritesPage image lane request next → IsTurned items places new image next None
 image_page items places old new image next lane request same is writes = subst (λ m. IsTurned items places new image m None) (sym whole) (record {
   image_is = turn items items places places old new image next.pass PassStage next.writes next.digester same is is.held tt
       (record { started = cursor.started; cursor = cursor.cursor ∙ sym (ap (λ (p : Pass). p.after) writes.taken.is) }) is.begun;
@@ -84,7 +84,7 @@ image_page items places old new image next lane request same is writes = subst (
 
 -- the first call that writes the table: the image's visits are over
 pub image_table : (items : Marked) (places : Places) (old new : Numbers) (image next : Making) (memory : Contents) (request : Asked) → SameNumbers old new
-    → IsImageOf items places old image → WritesTable image memory request next → IsTurned (Noted (Table image.order.serial) ∷ items) places new image next (Some request.id)
+    → IsImageInMaking items places old image → WritesTable image memory request next → IsTurned (Noted (Table image.order.serial) ∷ items) places new image next (Some request.id)
 image_table items places old new image next memory request same is writes =
     subst (λ m. IsTurned (Noted (Table image.order.serial) ∷ items) places new image m (Some request.id)) (sym writes.is) (record {
       image_is = turn items (Noted (Table image.order.serial) ∷ items) places places old new image image.pass (Close writes.next writes.header writes.tables) image.writes image.digester same is is.held (
@@ -104,7 +104,7 @@ image_table items places old new image next memory request same is writes =
 
 -- a page was visited: the journal's mark tells the cursor
 pub image_visited : (items : Marked) (places : Places) (numbers : Numbers) (image next : Making) (before after : Contents) (visit : PageVisit)
-    → IsImageOf items places numbers image → Visits image before visit next after
+    → IsImageInMaking items places numbers image → Visits image before visit next after
     → IsTurned (Noted (Visit image.order.serial visit.space visit.page) ∷ items) places numbers image next None
 image_visited items places numbers image next before after visit is visits = subst (λ m. IsTurned (Noted (Visit image.order.serial visit.space visit.page) ∷ items) places numbers image m None) (sym visits.passes.1) (record {
   image_is = turn items (Noted (Visit image.order.serial visit.space visit.page) ∷ items) places places numbers numbers image next.pass image.stage image.writes image.digester (same_numbers numbers) is is.held is.stage
@@ -124,7 +124,7 @@ image_visited items places numbers image next before after visit is visits = sub
 
 -- a sector was copied
 pub image_copied : (items : Marked) (places : Places) (numbers : Numbers) (image next : Making) (memory : Contents) (copied : Copied)
-    → IsImageOf items places numbers image → CopiesSector image memory copied next → IsTurned items places numbers image next None
+    → IsImageInMaking items places numbers image → CopiesSector image memory copied next → IsTurned items places numbers image next None
 image_copied items places numbers image next memory copied is copies = subst (λ m. IsTurned items places numbers image m None) (sym copies.passes.1) (record {
   image_is = turn items items places places numbers numbers image next.pass image.stage image.writes image.digester (same_numbers numbers) is is.held is.stage
       (subst (λ s. IsVisitingIn items image.order.serial next.pass s) (sym copies.passes.0)
@@ -140,7 +140,7 @@ image_copied items places numbers image next memory copied is copies = subst (λ
 
 -- an outcome of its plan with which it goes on
 plan_more : (items : Marked) (places after : Places) (numbers : Numbers) (image next : Making) (made : Made)
-    → IsImageOf items places numbers image → IsHeld after image.order.serial → PlanGoesOn image made next → IsTurned items after numbers image next None
+    → IsImageInMaking items places numbers image → IsHeld after image.order.serial → PlanGoesOn image made next → IsTurned items after numbers image next None
 plan_more items places after numbers image next made is held goes = subst (λ m. IsTurned items after numbers image m None) (sym goes.is) (record {
   image_is = turn items items places after numbers numbers image image.pass
       (stage_after image.order.kind image.stage (plan_after goes.plan made) (plan_after goes.plan made).calls) image.writes image.digester (same_numbers numbers) is held
@@ -156,7 +156,7 @@ plan_more items places after numbers image next made is held goes = subst (λ m.
 
 -- a data page was written
 page_more : (items : Marked) (places after : Places) (numbers : Numbers) (image next : Making) (made : Made)
-    → IsImageOf items places numbers image → IsHeld after image.order.serial → IsWritten image made next → IsTurned items after numbers image next None
+    → IsImageInMaking items places numbers image → IsHeld after image.order.serial → IsWritten image made next → IsTurned items after numbers image next None
 page_more items places after numbers image next made is held written = subst (λ m. IsTurned items after numbers image m None) (sym written.is) (record {
   image_is = turn items items places after numbers numbers image image.pass image.stage (slice_set image.writes written.lane None) image.digester (same_numbers numbers) is held is.stage is.visiting_in is.begun;
   order = refl;
@@ -173,17 +173,17 @@ page_more items places after numbers image next made is held written = subst (λ
 
 -- an outcome with which it goes on
 pub image_more : (items : Marked) (places after : Places) (numbers : Numbers) (image next : Making) (made : Made)
-    → IsImageOf items places numbers image → IsHeld after image.order.serial → PlanGoesOn image made next ⊎ IsWritten image made next → IsTurned items after numbers image next None
+    → IsImageInMaking items places numbers image → IsHeld after image.order.serial → PlanGoesOn image made next ⊎ IsWritten image made next → IsTurned items after numbers image next None
 image_more items places after numbers image next made is held (inl goes) = plan_more items places after numbers image next made is held goes
 image_more items places after numbers image next made is held (inr written) = page_more items places after numbers image next made is held written
 
 -- the memory is frozen for it
 pub record IsFrozenNext (items : Marked) (places : Places) (numbers : Numbers) (image next : Making) : Type 0 where
   pub order : next.order ≡ image.order
-  pub image_is : IsImageOf (Told (Freeze numbers.begun) ∷ items) places numbers next
+  pub image_is : IsImageInMaking (Told (Freeze numbers.begun) ∷ items) places numbers next
   pub out_is : out_of next.stage ≡ None
 
-pub image_frozen : (items : Marked) (places : Places) (numbers : Numbers) (image next : Making) → IsImageOf items places numbers image → MakerFreezes image next
+pub image_frozen : (items : Marked) (places : Places) (numbers : Numbers) (image next : Making) → IsImageInMaking items places numbers image → MakerFreezes image next
     → IsFrozenNext items places numbers image next
 image_frozen items places numbers image next is f = subst (IsFrozenNext items places numbers image) (sym f.is) (record {
   order = refl;

@@ -27,7 +27,7 @@ use Rattle.sd_crash_safety.specs.Calls.{AddsByOutcome, AreGivenUp, HandedIn}
 use Rattle.sd_crash_safety.specs.DumperOutcomes.{IsDumpersOutcome, LeavesCatalog}
 use Rattle.sd_crash_safety.specs.View.{CoreView, history_of}
 use Rattle.sd_core.specs.declared.numbers.Numbers.{Numbers}
-use Rattle.sd_core.specs.Sound.{AreSoundNumbers, CheckpointsAreCounted, IsCore, IsHeaderOf, IsImageOf, IsJournal, IsStageOf, Parts}
+use Rattle.sd_core.specs.Sound.{AreSoundNumbers, CheckpointsAreCounted, IsCore, IsHeaderOf, IsImageInMaking, IsJournal, IsStageOfImage, Parts}
 use Rattle.sd_core.specs.Visited.{IsClean}
 use Rattle.sd_core.proofs.ApplyLemmas.{same_phases}
 use Rattle.sd_core.proofs.SettledLemmas.{settled_now}
@@ -73,9 +73,9 @@ left_counted false slot old new numbers leaves was serial o at = was serial o (a
 
 -- ---- an image that is open
 
-pub opened_now : (items : Marked) (places : Places) (numbers : Numbers) (image : Making) (opened : NewImage) (made : Made) → IsImageOf items places numbers image
+pub opened_now : (items : Marked) (places : Places) (numbers : Numbers) (image : Making) (opened : NewImage) (made : Made) → IsImageInMaking items places numbers image
     → Opens image made opened → IsHeaderOf image.order opened.header
-opened_now items places numbers image opened made is opens = (subst (IsStageOf image.order) opens.was is.stage).1
+opened_now items places numbers image opened made is opens = (subst (IsStageOfImage image.order) opens.was is.stage).1
 
 -- a place changes to that of an image whose checkpoint was begun
 pub counted_opened : (numbers : Numbers) (old new : Places) (serial : ℕ) (o : Opened) → Changes old new serial (Some (Some o)) → o.header.checkpoint ≤ numbers.checkpoint

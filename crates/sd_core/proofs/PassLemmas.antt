@@ -7,7 +7,7 @@ use Rattle.sd_gate.specs.declared.worker.Worker.TheVariants.{Dumper}
 use Rattle.sd_pagetable.specs.Contents.{Contents, plain_of}
 use Rattle.sd_rounds.specs.declared.image_step.ImageStep.{ImageStep}
 use Rattle.sd_rounds.specs.declared.pass_step.PassStep.{PassStep}
-use Rattle.sd_rounds.specs.Dumper.{Dumping, Running, Works, image_from, next_slot, serial_of, slot_before, slot_of}
+use Rattle.sd_rounds.specs.Dumper.{Dumping, Running, Works, image_from, next_slot, serial_of_running, slot_before, slot_of}
 use Rattle.sd_rounds.specs.Making.{Making, Steps}
 use Rattle.sd_rounds.specs.Left.{LeftLaws, left_of}
 use Rattle.sd_rounds.specs.PassSteps.{NoPageIsNext, Passes}
@@ -43,8 +43,8 @@ module _ (ticket serial : ℕ) (state : SlotState) (old : Dumping) (before : Con
 
 -- what stays with a step of an image
 module _ (ticket : ℕ) (old : Dumping) (before : Contents) (step : ImageStep) (new : Dumping) (after : Contents) (on : StepsOn ticket old before step new after) where
-  pub serial_on : IsSome (serial_of new.running)
-  serial_on = subst (λ r. IsSome (serial_of r)) (sym on.is) refl
+  pub serial_on : IsSome (serial_of_running new.running)
+  serial_on = subst (λ r. IsSome (serial_of_running r)) (sym on.is) refl
 
   pub job_on : job_of new.running ≡ job_of old.running
   job_on = ap job_of on.is ∙ sym (ap job_of on.was)
@@ -62,7 +62,7 @@ module _ (old : Dumping) (before : Contents) (new : Dumping) (after : Contents) 
   steps_passed None passes = tt
   steps_passed (Some step) passes = on_passed step passes
 
-  pub serial_passed : (found : Option PassStep) → Passes old before found new after → IfSome found (λ step. IsSome (serial_of new.running))
+  pub serial_passed : (found : Option PassStep) → Passes old before found new after → IfSome found (λ step. IsSome (serial_of_running new.running))
   serial_passed None passes = tt
   serial_passed (Some step) passes = serial_on 0 old before (image_step step) new after (on_passed step passes 0)
 

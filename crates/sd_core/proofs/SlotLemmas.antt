@@ -6,7 +6,7 @@ use Rattle.std.proofs.lemmas.Option.{same_Some, slice_get-get_or}
 use Rattle.std.specs.Option.{option_map}
 use Rattle.sd_image.proofs.Members.{contains_at}
 use Rattle.sd_chain.specs.Catalog.{IsSoundCatalog, Opened, Places, images, place_of}
-use Rattle.sd_chain.specs.Reaches.{ParentsFall, Reaches, ReachesSerial}
+use Rattle.sd_chain.specs.Reaches.{ParentsFall, ReachesInCatalog, ReachesSerial}
 use Rattle.sd_merge.specs.declared.retired.Retired.{Retired}
 use Rattle.sd_merge.specs.declared.source.Source.{Source}
 use Rattle.sd_merge.specs.Merger as merger
@@ -35,9 +35,9 @@ pub free_unreserved : FreeSlotsLaw → (core : CoreView) (slots : List ℕ) (slo
 free_unreserved law core slots slot free f = (law.each core.catalog core.dumper.running core.merger core.outs (length core.phases) slots f.place slot free f.at).1
 
 -- what an image of the catalog reaches is in it
-reached_in : (places : Places) (j i : Opened) → Reaches places j i → Contains (images places) i → Contains (images places) j
-reached_in places j _ Reaches.itself member = member
-reached_in places j _ (Reaches.beyond i parent named rest) member = reached_in places j parent rest named.member
+reached_in : (places : Places) (j i : Opened) → ReachesInCatalog places j i → Contains (images places) i → Contains (images places) j
+reached_in places j _ ReachesInCatalog.itself member = member
+reached_in places j _ (ReachesInCatalog.beyond i parent named rest) member = reached_in places j parent rest named.member
 
 -- an image that another reaches stands in its slot
 pub reached_at : (places : Places) (serial reached slot : ℕ) (o : Opened) → IsSoundCatalog places → place_of places reached ≡ Some (Some o) → o.slot ≡ slot

@@ -17,18 +17,18 @@ use Rattle.sd_rounds.specs.declared.stage.Stage.TheVariants.{Format, Freeze, Pas
 use Rattle.sd_rounds.specs.Making.{closing_outcomes, is_past_freeze, out_of, plan_of, stage_after, stage_behind, with_plan}
 use Rattle.sd_rounds.specs.Pass.{Pass, Place, begun_to_take, left_to_parent, visited}
 use Rattle.sd_rounds.specs.Rounds.{Copies}
-use Rattle.sd_core.specs.Sound.{IsStageOf, IsVisitingIn}
+use Rattle.sd_core.specs.Sound.{IsStageOfImage, IsVisitingIn}
 
 -- ---- a call of its plan is asked for
 
 -- the slot, and what is out then
 pub record IsAskedIn (order : ImageOrder) (stage : Stage) (next : Planned) (request : Asked) : Type 0 where
-  pub stage_is : IsStageOf order (with_plan stage next)
+  pub stage_is : IsStageOfImage order (with_plan stage next)
   pub slot : request.id.slot ≡ order.slot
   pub out : out_of (with_plan stage next) ≡ Some request.id
 
 pub asked_in : (order : ImageOrder) (stage : Stage) (plan next : Planned) (request : Asked) → plan_of stage ≡ Some plan → Gives plan next request
-    → IsStageOf order stage → IsAskedIn order stage next request
+    → IsStageOfImage order stage → IsAskedIn order stage next request
 asked_in order (Format p) plan next request was gives is = record { stage_is = own next.slot gives.same_slot; slot = own request.id.slot gives.slot; out = gives.out }
   where
     own : (slot : ℕ) → slot ≡ plan.slot → slot ≡ order.slot
@@ -57,7 +57,7 @@ frozen_asked (Close p header tables) next = refl
 -- ---- an outcome with which it goes on
 
 pub record IsBehind (items : Marked) (order : ImageOrder) (pass : Pass) (stage new : Stage) : Type 0 where
-  pub stage_is : IsStageOf order stage → IsStageOf order new
+  pub stage_is : IsStageOfImage order stage → IsStageOfImage order new
   pub rests : out_of new ≡ None
   pub frozen : ((kind_number order.kind == 2) && is_past_freeze new) ≡ ((kind_number order.kind == 2) && is_past_freeze stage)
   pub visiting_in : IsVisitingIn items order.serial pass stage → IsVisitingIn items order.serial pass new

@@ -20,7 +20,7 @@ use Rattle.sd_rounds.specs.Pass.{Pass}
 use Rattle.sd_core.proofs.FlagLemmas.{grown_trims, swept_trims}
 use Rattle.sd_core.specs.Grown.{has_grown, has_swept}
 use Rattle.sd_core.specs.LittleWork.{HasLittle, IsFrozenFor, TakesLittle, visits_of}
-use Rattle.sd_core.specs.Sound.{AreSoundNumbers, CheckpointRuns, IsCore, IsImageOf, IsVisiting, IsVisitingIn, Parts}
+use Rattle.sd_core.specs.Sound.{AreSoundNumbers, CheckpointRuns, IsCore, IsImageInMaking, IsVisiting, IsVisitingIn, Parts}
 use Rattle.sd_core.specs.Visited.{HasSettled, is_begun}
 use Rattle.sd_core.proofs.FrontLemmas.{same_front}
 use Rattle.sd_core.proofs.LittleLemmas.{no_visits}
@@ -194,7 +194,7 @@ module _ (laws : TrimLaws) (marked_laws : MarkedTrimLaws) (tracked_laws : Tracke
   visiting_in serial pass PassStage v = visiting_kept serial pass v
   visiting_in serial pass (Close plan header tables) v = tt
 
-  image : (making : Making) → IsImageOf core.journal.items core.places core.numbers making → IsImageOf kept core.places core.numbers making
+  image : (making : Making) → IsImageInMaking core.journal.items core.places core.numbers making → IsImageInMaking kept core.places core.numbers making
   image making is = record {
     given = is.given;
     held = is.held;
@@ -203,7 +203,7 @@ module _ (laws : TrimLaws) (marked_laws : MarkedTrimLaws) (tracked_laws : Tracke
     begun = begun_kept n kept front making.order.serial f (ap (λ all. is_begun all making.order.serial) (sym parts) ∙ is.begun);
   }
 
-  image_some : (making : Option Making) → IfSome making (IsImageOf core.journal.items core.places core.numbers) → IfSome making (IsImageOf kept core.places core.numbers)
+  image_some : (making : Option Making) → IfSome making (IsImageInMaking core.journal.items core.places core.numbers) → IfSome making (IsImageInMaking kept core.places core.numbers)
   image_some None is = tt
   image_some (Some making) is = image making is
 
@@ -234,7 +234,7 @@ module _ (laws : TrimLaws) (marked_laws : MarkedTrimLaws) (tracked_laws : Tracke
   work_some (Some running) w = work running w
 
   -- the pages that it has
-  little : (number : ℕ) (making : Making) → IsImageOf core.journal.items core.places core.numbers making → (is_frozen_dump making ≡ true → core.frozen ≡ Some number)
+  little : (number : ℕ) (making : Making) → IsImageInMaking core.journal.items core.places core.numbers making → (is_frozen_dump making ≡ true → core.frozen ≡ Some number)
       → TakesLittle core.base core.journal.items core.memory number making → TakesLittle after kept core.memory number making
   little number making is pends takes = record {
     round = λ kind. subst (λ all. TakesVisited all making) seen (takes.round kind);
@@ -261,7 +261,7 @@ module _ (laws : TrimLaws) (marked_laws : MarkedTrimLaws) (tracked_laws : Tracke
           (marked_laws.fresh core.base kept front making.order.serial was.marked (started kept making.order.serial begun))
 
   little_some : (running : Running) (making : Option Making) → running.image ≡ making → core.dumper.running ≡ Some running
-      → IfSome making (IsImageOf core.journal.items core.places core.numbers)
+      → IfSome making (IsImageInMaking core.journal.items core.places core.numbers)
       → IfSome making (TakesLittle core.base core.journal.items core.memory running.number) → IfSome making (TakesLittle after kept core.memory running.number)
   little_some running None making is image_is takes = tt
   little_some running (Some image) making is image_is takes = little running.number image image_is

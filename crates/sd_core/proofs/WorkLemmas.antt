@@ -20,7 +20,7 @@ use Rattle.sd_opener.specs.Looking.{Looking}
 use Rattle.sd_pagetable.specs.Contents.{Contents}
 use Rattle.sd_rounds.specs.declared.stage.Stage.{Stage}
 use Rattle.sd_rounds.specs.declared.stage.Stage.TheVariants.{Format, Freeze as FreezeStage, Pass as PassStage, Close}
-use Rattle.sd_rounds.specs.Dumper.{AreRunning, HasSlot, IsItsImage, Running, order_of, out_of_image, out_of_running, serial_of, slot_of, writes_of_image, writes_of_running}
+use Rattle.sd_rounds.specs.Dumper.{AreRunning, HasSlot, IsItsImage, Running, order_of, out_of_image, out_of_running, serial_of_running, slot_of, writes_of_image, writes_of_running}
 use Rattle.sd_rounds.specs.Making.{Making, is_frozen_dump, out_of}
 use Rattle.sd_rounds.specs.Pass.{data_pages}
 use Rattle.sd_rounds.specs.Sound.{IsSoundImage}
@@ -39,7 +39,7 @@ use Rattle.sd_core.proofs.PreDumpLemmas.{TheyStay, pre_dumps_stay}
 use Rattle.sd_core.proofs.SettledLemmas.{settled_more}
 use Rattle.sd_core.specs.Images.{begun_as}
 use Rattle.sd_core.specs.LittleWork.{HasLittle, TakesLittle}
-use Rattle.sd_core.specs.Sound.{AreOuts, AreSoundNumbers, CheckpointRuns, CheckpointsAreCounted, HasWrites, IsCore, IsImageOf, IsJournal, IsOpening, IsVisiting, IsVisitingIn, MergeRuns, Parts, begun_images, due_serials, frozen_by, held_for}
+use Rattle.sd_core.specs.Sound.{AreOuts, AreSoundNumbers, CheckpointRuns, CheckpointsAreCounted, HasWrites, IsCore, IsImageInMaking, IsJournal, IsOpening, IsVisiting, IsVisitingIn, MergeRuns, Parts, begun_images, due_serials, frozen_by, held_for}
 
 -- ---- where none runs
 
@@ -211,7 +211,7 @@ pub record Turns (old new : Parts) (running : Running) (image next : Making) : T
   pub asked : IfSome (out_of next.stage) (λ id. id.slot ≡ slot_of running)
   pub whose : IfSome (out_of next.stage) (λ id. id.worker ≡ Dumper)
   pub writes : HasWrites running (Some next)
-  pub image_is : IsImageOf new.journal.items new.places new.numbers next
+  pub image_is : IsImageInMaking new.journal.items new.places new.numbers next
   pub still : is_frozen_dump next ≡ is_frozen_dump image
   pub little : TakesLittle new.base new.journal.items new.memory running.number next
   pub swept_is : HasSwept new.swept new.frozen new.memory
@@ -352,9 +352,9 @@ grown_core core journal sound grown = record {
 -- ---- the image in the making
 
 pub image_of_work : (core : Parts) (running : Running) (image : Making) → IsCore core → core.dumper.running ≡ Some running → running.image ≡ Some image
-    → IsImageOf core.journal.items core.places core.numbers image
+    → IsImageInMaking core.journal.items core.places core.numbers image
 image_of_work core running image sound was making =
-    subst (λ i. IfSome i (IsImageOf core.journal.items core.places core.numbers)) making (at_work core running sound was).image
+    subst (λ i. IfSome i (IsImageInMaking core.journal.items core.places core.numbers)) making (at_work core running sound was).image
 
 pub own_order : (since : ℕ) (all : Option Running) (running : Running) (image : Making) → AreRunning since all → all ≡ Some running → running.image ≡ Some image
     → image.order ≡ order_of running image.order.serial image.order.state
@@ -378,9 +378,9 @@ slot_within core running sound was =
     (at_work core running sound was).within (slot_of running) (record { place = running.opened; from = omega arith; is = refl })
 
 -- the serial that the dumper tells is the image's
-pub its_serial : (running : Option Running) (now : Running) (image : Making) (told : Option ℕ) (serial : ℕ) → running ≡ Some (record now { image = Some image }) → told ≡ serial_of running
+pub its_serial : (running : Option Running) (now : Running) (image : Making) (told : Option ℕ) (serial : ℕ) → running ≡ Some (record now { image = Some image }) → told ≡ serial_of_running running
     → told ≡ Some serial → serial ≡ image.order.serial
-its_serial running now image told serial is tells some = same_Some serial image.order.serial (sym some ∙ tells ∙ ap serial_of is)
+its_serial running now image told serial is tells some = same_Some serial image.order.serial (sym some ∙ tells ∙ ap serial_of_running is)
 
 -- its slot is one of the store's
 pub image_within : (core : Parts) (since : ℕ) (running : Running) (image : Making) → IsCore core → AreRunning since core.dumper.running → core.dumper.running ≡ Some running
@@ -441,7 +441,7 @@ applied_numbers base items frozen newest numbers seat command reply was = record
 }
 
 image_applied : (items : Marked) (places : Places) (numbers : Numbers) (image : Making) (seat : ℕ) (command : Command) (reply : Reply)
-    → IsImageOf items places numbers image → IsImageOf (Told (Applied seat command reply) ∷ items) places numbers image
+    → IsImageInMaking items places numbers image → IsImageInMaking (Told (Applied seat command reply) ∷ items) places numbers image
 image_applied items places numbers image seat command reply is = record {
   given = is.given;
   held = is.held;
@@ -461,7 +461,7 @@ image_applied items places numbers image seat command reply is = record {
     by_stage (Close plan header tables) v = tt
 
 image_applied_some : (items : Marked) (places : Places) (numbers : Numbers) (image : Option Making) (seat : ℕ) (command : Command) (reply : Reply)
-    → IfSome image (IsImageOf items places numbers) → IfSome image (IsImageOf (Told (Applied seat command reply) ∷ items) places numbers)
+    → IfSome image (IsImageInMaking items places numbers) → IfSome image (IsImageInMaking (Told (Applied seat command reply) ∷ items) places numbers)
 image_applied_some items places numbers None seat command reply is = tt
 image_applied_some items places numbers (Some image) seat command reply is = image_applied items places numbers image seat command reply is
 

@@ -1,7 +1,7 @@
 -- What each call of a core does to the numbers that were used, to whether the next checkpoint goes on from the tip, and
 -- to whether the opening of the gate of the pending checkpoint's dump was taken up.
 use Rattle.std.specs.Prelude.{◌≡◌, ℕ, ◌+◌, ◌%◌, ◌^◌, max, Bool, true, false, ◌&&◌, ◌||◌, is_some, Option, Some, None}
-use Rattle.sd_chain.specs.Catalog.{IsGreatest, Opened, Places, checkpoint_of, images, serial_of}
+use Rattle.sd_chain.specs.Catalog.{IsGreatest, Opened, Places, checkpoint_number, images, serial_of}
 use Rattle.sd_command.specs.declared.reply.Reply.{Reply}
 use Rattle.sd_command.specs.declared.reply.Reply.TheVariants as reply
 use Rattle.sd_gate.specs.declared.call.Call.{Call as DeviceCall}
@@ -10,7 +10,7 @@ use Rattle.sd_gate.specs.declared.worker.Worker.TheVariants.{Dumper, Merger, Ope
 use Rattle.sd_gate.specs.Requests.{Asked}
 use Rattle.sd_merge.specs.Merger as merger
 use Rattle.sd_merge.specs.Merger.{Doing, copying, due, opened, retiring, slot_before}
-use Rattle.sd_rounds.specs.Dumper.{is_dumping, next_slot, serial_of as serial_of_running}
+use Rattle.sd_rounds.specs.Dumper.{is_dumping, next_slot, serial_of_running}
 use Rattle.sd_crash_safety.specs.DumperSteps.{opens_gate}
 use Rattle.sd_crash_safety.specs.View.{CoreView, Numbers}
 use Rattle.sd_core.specs.declared.taken.Taken.{Taken}
@@ -29,13 +29,14 @@ KeepsFlags old new = HasFlags old.grows old.committing old.numbers new
 
 -- ---- a start
 
-abbrev pub number_of : Option ℕ → ℕ
-number_of None = 0
-number_of (Some n) = n
+abbrev pub number_or_zero : Option ℕ → ℕ
+number_or_zero None = 0
+number_or_zero (Some n) = n
 
 -- the numbers of a run that starts from this checkpoint
 abbrev pub numbers_from : Option ℕ → Numbers
-numbers_from base = record { checkpoint = number_of base; serial = 0; begun = number_of base; given = 0; ticket = 0 }
+numbers_from base =
+    record { checkpoint = number_or_zero base; serial = 0; begun = number_or_zero base; given = 0; ticket = 0 }
 
 -- ---- orders
 
@@ -55,15 +56,15 @@ FlagsByCancel old _ new = KeepsFlags old new
 -- ---- steps
 
 -- the greater of a number and the greatest of a catalog's images
-pub record IsFound (number : Opened → ℕ) (own : ℕ) (places : Places) (found : ℕ) : Type 0 where
+pub record IsGreatestFound (number : Opened → ℕ) (own : ℕ) (places : Places) (found : ℕ) : Type 0 where
   pub greatest : ℕ
   pub is_greatest : IsGreatest number greatest (images places)
   pub is : found ≡ max own greatest
 
 -- A store was opened, whose images are these. What was found at an earlier opening counts no more.
 pub record FindsNumbers (old : Numbers) (places : Places) (new : Numbers) : Type 0 where
-  pub checkpoint : IsFound checkpoint_of old.begun places new.checkpoint
-  pub serial : IsFound serial_of old.given places new.serial
+  pub checkpoint : IsGreatestFound checkpoint_number old.begun places new.checkpoint
+  pub serial : IsGreatestFound serial_of old.given places new.serial
   pub begun : new.begun ≡ old.begun
   pub given : new.given ≡ old.given
   pub ticket : new.ticket ≡ old.ticket

@@ -244,13 +244,13 @@ EndsCut old request new = (bodies : List (List ℕ)) → IsAsBelieved old reques
 
 -- ---- the entries of a checkpoint that ends with the merge's call
 
-abbrev pub lets_go : Option Running → Option ℕ → ℕ
-lets_go None pending = 0
-lets_go (Some running) None = 2
-lets_go (Some running) (Some n) = 0
+abbrev pub entries_let_go : Option Running → Option ℕ → ℕ
+entries_let_go None pending = 0
+entries_let_go (Some running) None = 2
+entries_let_go (Some running) (Some n) = 0
 
 pub record EndsCheckpoint (running : Option Running) (pending : Option ℕ) (old new : JournalView) : Type 0 where
   pub first : new.first ≡ old.first
   pub items : new.items ≡ old.items
   pub limit : new.limit ≡ old.limit
-  pub held : new.held + lets_go running pending ≡ old.held
+  pub held : new.held + entries_let_go running pending ≡ old.held

@@ -5,7 +5,7 @@ use Rattle.sd_gate.specs.declared.worker.Worker.TheVariants.{Dumper, Merger, Ope
 use Rattle.sd_journal.specs.declared.mark.Mark.{Mark}
 use Rattle.sd_journal.specs.declared.mark.Mark.TheVariants.{Start, Visit, Table}
 use Rattle.sd_journal.specs.Marked.{Marked, Noted, Told}
-use Rattle.sd_rounds.specs.Dumper.{Running, next_slot, serial_of}
+use Rattle.sd_rounds.specs.Dumper.{Running, next_slot, serial_of_running}
 use Rattle.sd_rounds.specs.Making.{Making, is_passing}
 use Rattle.sd_crash_safety.specs.View.{CoreView}
 use Rattle.sd_core.specs.declared.taken.Taken.{Taken}
@@ -23,7 +23,7 @@ KeepsMarks old new = marks_of new.items ≡ marks_of old.items
 -- this mark of the image that is being made is added
 pub record NotesMark (mark : ℕ → Mark) (old new : CoreView) : Type 0 where
   pub serial : ℕ
-  pub own : serial_of new.dumper.running ≡ Some serial
+  pub own : serial_of_running new.dumper.running ≡ Some serial
   pub noted : marks_of new.items ≡ mark serial ∷ marks_of old.items
 
 -- pages are visited and copied

@@ -21,7 +21,7 @@ use Rattle.sd_journal.specs.Kept.{JournalView}
 use Rattle.sd_opener.specs.declared.opened.Opened.{Opened}
 use Rattle.sd_opener.specs.declared.opener_step.OpenerStep.{OpenerStep}
 use Rattle.sd_opener.specs.Left.{LowersByStep, LowersLooking}
-use Rattle.sd_opener.specs.Looking.{IsDoneAsAsked, Looking, LooksFurther, StepMoves, out_of}
+use Rattle.sd_opener.specs.Looking.{IsDoneAsAsked, Looking, LooksFurther, StepMoves, out_of_look}
 use Rattle.sd_opener.specs.Sees.{IsToldOf, Sees, SeesAfter, StepNames, StoreIsRead}
 use Rattle.sd_restore.specs.Faulty.{IsDamage, IsFirstFaulty}
 use Rattle.sd_restore.specs.Reading.{AreRightlyDigested}
@@ -39,7 +39,7 @@ pub record WorksOpener (old : Option Looking) (number : ℕ) (step : OpenerStep)
   pub is : new ≡ Some next
   pub moves : StepMoves number opener step next
   pub slots : next.slots ≡ opener.slots
-  pub rests : out_of opener.stage ≡ None
+  pub rests : out_of_look opener.stage ≡ None
   pub lowers : LowersByStep step opener next
   pub sees : (files : List (List ℕ)) → Sees files None opener → SeesAfter files step next
   pub names : (files : List (List ℕ)) → Sees files None opener → AreRightlyDigested files
@@ -49,10 +49,10 @@ pub record WorksOpener (old : Option Looking) (number : ℕ) (step : OpenerStep)
 pub record IsResting (opener : Option Looking) : Type 0 where
   pub looking : Looking
   pub is : opener ≡ Some looking
-  pub rests : out_of looking.stage ≡ None
+  pub rests : out_of_look looking.stage ≡ None
 
 -- an opener of so many slots, none of which was looked at
-pub record IsFresh (slots : ℕ) (opener : Looking) : Type 0 where
+pub record IsFreshOpener (slots : ℕ) (opener : Looking) : Type 0 where
   pub count : opener.slots ≡ slots
   pub told : opener.told ≡ []
   pub stage : opener.stage ≡ Asking (begun 0 first_looks the_length)
@@ -171,22 +171,22 @@ pub record OpensAnew (opener : Looking) (last pending : Option ℕ) (opened : Op
 
 -- an outcome that is handed to the opener, and whether it goes on
 pub record OpenerGoesOn (old : Looking) (made : Made) (new : Looking) : Type 0 where
-  pub done : out_of old.stage ≡ Some made.request.id → is_done made.answer ≡ true
+  pub done : out_of_look old.stage ≡ Some made.request.id → is_done made.answer ≡ true
   pub moves : LooksFurther old new
   pub slots : new.slots ≡ old.slots
-  pub free : out_of old.stage ≡ Some made.request.id → out_of new.stage ≡ None
-  pub lowers : out_of old.stage ≡ Some made.request.id → LowersLooking old new
+  pub free : out_of_look old.stage ≡ Some made.request.id → out_of_look new.stage ≡ None
+  pub lowers : out_of_look old.stage ≡ Some made.request.id → LowersLooking old new
   pub sees : (files : List (List ℕ)) → IsToldOf (file_at files (length old.told)) made.request made
       → Sees files (Some made.request) old → Sees files None new
 
 abbrev pub TeachesOpener : Option Looking → Made → Bool → Option Looking → Type 0
 TeachesOpener None made goes new = (goes ≡ false) × (new ≡ None)
 TeachesOpener (Some opener) made true new = (next : Looking) × (new ≡ Some next) × OpenerGoesOn opener made next
-TeachesOpener (Some opener) made false new = out_of opener.stage ≡ Some made.request.id → IsDoneAsAsked made → ⊥
+TeachesOpener (Some opener) made false new = out_of_look opener.stage ≡ Some made.request.id → IsDoneAsAsked made → ⊥
 
 -- every slot was read
 pub record IsAllRead (opener : Option Looking) : Type 0 where
   pub looking : Looking
   pub is : opener ≡ Some looking
   pub all : length looking.told ≡ looking.slots
-  pub rests : out_of looking.stage ≡ None
+  pub rests : out_of_look looking.stage ≡ None

@@ -11,14 +11,14 @@ use Rattle.sd_crash_safety.specs.View.{CoreView, history_of}
 use Rattle.sd_core.specs.Refusals.{is_idle}
 
 -- the number of the checkpoint that runs, or of the one that is pending
-abbrev pub IsUnderWay : CoreView → ℕ → Type 0
-IsUnderWay core n = (running_number core.dumper.running ≡ Some n) ⊎ (pending (history_of core) ≡ Some n)
+abbrev pub IsCheckpointUnderWay : CoreView → ℕ → Type 0
+IsCheckpointUnderWay core n = (running_number core.dumper.running ≡ Some n) ⊎ (pending (history_of core) ≡ Some n)
 
 -- no checkpoint runs, no entry is held, and the next one takes every page; a merge goes on
 pub record IsCancelled (old : CoreView) (answer : Reply) (new : CoreView) : Type 0 where
   pub number : ℕ
   pub answered : answer ≡ reply.Cancelled number
-  pub under_way : IsUnderWay old number
+  pub under_way : IsCheckpointUnderWay old number
   pub stands : new.standing ≡ old.standing
   pub idle : new.dumper.running ≡ None
   pub held : new.held ≡ 0

@@ -21,7 +21,7 @@ use Rattle.sd_merge.specs.declared.stage.Stage.TheVariants as copying_stage
 use Rattle.sd_merge.specs.Copying.{Copying}
 use Rattle.sd_merge.specs.Merger as merger
 use Rattle.sd_merge.specs.Merger.{Doing, Retiring, due, copying, opened, retiring}
-use Rattle.sd_opener.specs.Looking.{Looking, out_of}
+use Rattle.sd_opener.specs.Looking.{Looking, out_of_look}
 use Rattle.sd_pagetable.specs.Contents.{Contents}
 use Rattle.sd_rounds.specs.declared.image_order.ImageOrder.{ImageOrder}
 use Rattle.sd_rounds.specs.declared.stage.Stage.{Stage}
@@ -54,7 +54,7 @@ held_for None None None = 0
 -- the request of the opener that is out
 abbrev pub out_of_opener : Option Looking → Option RequestId
 out_of_opener None = None
-out_of_opener (Some opener) = out_of opener.stage
+out_of_opener (Some opener) = out_of_look opener.stage
 
 -- an opener runs while the store isn't open, and looks at each of its slots
 pub record IsOpening (standing : Standing) (phases : List Phase) (opener : Looking) : Type 0 where
@@ -135,11 +135,11 @@ pub record IsHeaderOf (order : ImageOrder) (header : Header) : Type 0 where
   pub checkpoint : header.checkpoint ≡ order.checkpoint
 
 -- the plan of an image is one on its slot, and it ends with its header
-abbrev pub IsStageOf : ImageOrder → Stage → Type 0
-IsStageOf order (Format plan) = plan.slot ≡ order.slot
-IsStageOf order Freeze = Unit {0}
-IsStageOf order PassStage = Unit {0}
-IsStageOf order (Close plan header tables) = (plan.slot ≡ order.slot) × IsHeaderOf order header
+abbrev pub IsStageOfImage : ImageOrder → Stage → Type 0
+IsStageOfImage order (Format plan) = plan.slot ≡ order.slot
+IsStageOfImage order Freeze = Unit {0}
+IsStageOfImage order PassStage = Unit {0}
+IsStageOfImage order (Close plan header tables) = (plan.slot ≡ order.slot) × IsHeaderOf order header
 
 -- up to its table the journal's marks tell which page it visited last
 pub record IsVisiting (items : Marked) (serial : ℕ) (pass : Pass) : Type 0 where
@@ -153,10 +153,10 @@ IsVisitingIn items serial pass PassStage = IsVisiting items serial pass
 IsVisitingIn items serial pass (Close plan header tables) = Unit {0}
 
 -- An image in the making has a serial that was given out, whose place in the catalog is held.
-pub record IsImageOf (items : Marked) (places : Places) (numbers : Numbers) (image : Making) : Type 0 where
+pub record IsImageInMaking (items : Marked) (places : Places) (numbers : Numbers) (image : Making) : Type 0 where
   pub given : image.order.serial ≤ numbers.given
   pub held : IsHeld places image.order.serial
-  pub stage : IsStageOf image.order image.stage
+  pub stage : IsStageOfImage image.order image.stage
   pub visiting_in : IsVisitingIn items image.order.serial image.pass image.stage
   pub begun : is_begun items image.order.serial ≡ true
 
@@ -205,7 +205,7 @@ pub record CheckpointRuns (base : Base) (items : Marked) (frozen : Option ℕ) (
   pub asked : IfSome (out_of_image running.image) (λ id. id.slot ≡ slot_of running)
   pub whose : IfSome (out_of_image running.image) (λ id. id.worker ≡ Dumper)
   pub writes : HasWrites running running.image
-  pub image : IfSome running.image (IsImageOf items places numbers)
+  pub image : IfSome running.image (IsImageInMaking items places numbers)
 
 -- ---- the merge that runs
 

@@ -20,7 +20,7 @@ abbrev pub HasSwept : Bool → Option ℕ → Contents → Type 0
 HasSwept swept frozen memory = swept ≡ true → IsSome frozen × IsClean memory
 
 -- the front of the journal that ended the pending of a checkpoint, and that each page was visited then
-pub record IsSettled (base : Base) (items : Marked) (n : ℕ) : Type 0 where
+pub record IsSettledBy (base : Base) (items : Marked) (n : ℕ) : Type 0 where
   pub kept : Marked
   pub folded : Marked
   pub parts : items ≡ kept ++ folded
@@ -29,7 +29,7 @@ pub record IsSettled (base : Base) (items : Marked) (n : ℕ) : Type 0 where
 
 -- the last checkpoint is the base's, or there is such a front
 abbrev pub HasSettled : Base → Marked → Option ℕ → Type 0
-HasSettled base items newest = (newest ≡ base.number) ⊎ ((n : ℕ) × (newest ≡ Some n) × IsSettled base items n)
+HasSettled base items newest = (newest ≡ base.number) ⊎ ((n : ℕ) × (newest ≡ Some n) × IsSettledBy base items n)
 
 -- the image with this serial was started, and no checkpoint has ended since
 abbrev pub is_begun : Marked → ℕ → Bool

@@ -4,7 +4,7 @@ ghost use Rattle.std.specs.Prelude.{is_none, Ok, true, ◌⊎◌};
 ghost use Rattle.sd_chain.specs.Catalog.{Changes, IsHeld};
 ghost use Rattle.sd_gate.specs.declared.call.Call.{Call};
 ghost use Rattle.sd_pagetable.specs.Contents.{plain_of};
-ghost use Rattle.sd_rounds.specs.Dumper.{begun_checkpoint, is_dumping, next_slot, serial_of};
+ghost use Rattle.sd_rounds.specs.Dumper.{begun_checkpoint, is_dumping, next_slot, serial_of_running};
 ghost use Rattle.sd_rounds.specs.PassSteps.{NoPageIsNext};
 ghost use Rattle.sd_rounds.specs.PlanSteps.{image_step};
 ghost use Rattle.sd_rounds.specs.Waits.{dumper_must_wait};
@@ -118,7 +118,7 @@ pub(crate) fn pass_on(
         × (dumper_must_wait dumper.old.running (plain_of memory.old) ≡ false))) }
     ensures steps { IfOk result (λ found. IfSome found (λ step. (ticket : ℕ)
         → StepsOn ticket dumper.old memory.old (image_step step) dumper.new memory.new)) }
-    ensures serial { IfOk result (λ found. IfSome found (λ step. IsSome (serial_of dumper.new.running))) }
+    ensures serial { IfOk result (λ found. IfSome found (λ step. IsSome (serial_of_running dumper.new.running))) }
     ensures job { IfOk result (λ found. IfSome found (λ step.
         job_of dumper.new.running ≡ job_of dumper.old.running)) }
     ensures round { IfOk result (λ found. IfSome found (λ step.

@@ -1,7 +1,7 @@
 //! The numbers that were used.
 ghost use Rattle.std.specs.Prelude.{◌≡◌, ◌≤◌, ◌<◌, ◌+◌, ◌^◌, ◌||◌, nat_le, ℕ, Some, IfSome};
-ghost use Rattle.sd_chain.specs.Catalog.{Opened, checkpoint_of, place_of, serial_of};
-ghost use Rattle.sd_core.specs.Flags.{IsFound, number_of, ticket_after};
+ghost use Rattle.sd_chain.specs.Catalog.{Opened, checkpoint_number, place_of, serial_of};
+ghost use Rattle.sd_core.specs.Flags.{IsGreatestFound, number_or_zero, ticket_after};
 
 use sd_chain::Catalog;
 
@@ -29,7 +29,7 @@ impl Numbers {
         ensures base { IfSome base (λ number. number ≡ result.begun) }
         ensures checkpoint { result.checkpoint ≡ result.begun }
         ensures serial { (result.serial ≡ 0) × (result.given ≡ 0) }
-        ensures begun { result.begun ≡ number_of base }
+        ensures begun { result.begun ≡ number_or_zero base }
         ensures ticket { result.ticket ≡ 0 }
     {
         let begun = base.unwrap_or(0);
@@ -53,8 +53,8 @@ impl Numbers {
         ensures serials { (serial : ℕ) (i : Opened) → place_of catalog.now serial ≡ Some (Some i)
             → i.header.serial ≤ self.new.serial }
         ensures ticket { self.new.ticket ≡ self.old.ticket }
-        ensures finds_checkpoint { IsFound checkpoint_of self.old.begun catalog.now self.new.checkpoint }
-        ensures finds_serial { IsFound serial_of self.old.given catalog.now self.new.serial }
+        ensures finds_checkpoint { IsGreatestFound checkpoint_number self.old.begun catalog.now self.new.checkpoint }
+        ensures finds_serial { IsGreatestFound serial_of self.old.given catalog.now self.new.serial }
     {
         catalog.sound();
         self.checkpoint = self.begun.max(catalog.greatest_checkpoint());

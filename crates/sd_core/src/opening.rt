@@ -9,7 +9,7 @@ ghost use Rattle.sd_gate.specs.Phases.{given_up, phases_after};
 ghost use Rattle.sd_gate.specs.declared.phase.Phase.{Phase};
 ghost use Rattle.std.specs.Prelude.{slice_get};
 ghost use Rattle.sd_journal.specs.Kept.{entry_count};
-ghost use Rattle.sd_core.specs.Opening.{HoldsForOpening, IsExpected, IsFresh, IsResting, IsTipNumber, LetsGo};
+ghost use Rattle.sd_core.specs.Opening.{HoldsForOpening, IsExpected, IsFreshOpener, IsResting, IsTipNumber, LetsGo};
 ghost use Rattle.sd_core.specs.Opening.{OpensAnew, SawDamage, SawStrange, TeachesOpener, WorksOpener};
 ghost use Rattle.sd_core.specs.Refusals.{is_store_open};
 ghost use Rattle.sd_core.specs.Working.{opener_left};
@@ -76,7 +76,7 @@ pub(crate) fn fresh_opener(
     pending: Option<u64>,
 ) -> Result<Opener, AllocError>
     requires { pending ≡ None → entry_count journal.old + journal.old.held + 1 ≤ journal.old.limit }
-    ensures opener { IfOk result (IsFresh slots) }
+    ensures opener { IfOk result (IsFreshOpener slots) }
     ensures holds { HoldsForOpening pending journal.old result journal.new }
 {
     let opener = Opener::new(alloc, slots)?;

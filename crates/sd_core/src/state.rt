@@ -7,7 +7,7 @@ ghost use Rattle.sd_image.specs.Shows.{Shows};
 ghost use Rattle.sd_gate.specs.Laws.{found_phase};
 ghost use Rattle.sd_crash_safety.specs.Believes.{Believes};
 ghost use Rattle.sd_crash_safety.specs.View.{CoreView};
-ghost use Rattle.sd_rounds.specs.Dumper.{pages_of};
+ghost use Rattle.sd_rounds.specs.Dumper.{pages_of_checkpoint};
 ghost use Rattle.sd_core.specs.Called.{IsHandedIn, IsTakenUp};
 ghost use Rattle.sd_core.specs.Refusals.{is_idle};
 ghost use Rattle.sd_core.specs.Starts.{IsStart, nothing_asked, shown_base};
@@ -182,7 +182,7 @@ impl Core {
 
     /// How many data pages the image that the dumper makes has so far: 0 while it makes none.
     pub fn pages(&self) -> usize
-        ensures { result ≡ pages_of self.now.dumper.running }
+        ensures { result ≡ pages_of_checkpoint self.now.dumper.running }
     {
         self.dumper.pages()
     }

@@ -13,7 +13,7 @@ use Rattle.sd_pagetable.specs.Contents.{Contents, plain_of}
 use Rattle.sd_rounds.specs.declared.image_order.ImageOrder.{ImageOrder}
 use Rattle.sd_rounds.specs.declared.stage.Stage.{Stage}
 use Rattle.sd_rounds.specs.declared.stage.Stage.TheVariants.{Format, Freeze, Pass as PassStage, Close}
-use Rattle.sd_rounds.specs.Files.{FilesImage, HasAreas, HasAreasIn, IsFiled, IsFiledIn}
+use Rattle.sd_rounds.specs.Files.{FilesImage, HasAreasAtFreeze, HasAreasIn, IsFiled, IsFiledIn}
 use Rattle.sd_rounds.specs.Made.{MadeLaws, listed_pages}
 use Rattle.sd_rounds.specs.Making.{Making, is_past_freeze, plan_of, with_plan}
 use Rattle.sd_rounds.specs.MakingLaws.{DumpsImage, IsDumpedIn, IsKeptIn, Pages, image_of}
@@ -93,7 +93,7 @@ memory_has images i memory is = record {
 
 -- the dump of a frozen memory has it, once its table is written
 pub dump_has : MadeLaws → (images : List Image) (number : ℕ) (cut : Contents) (pages : Pages) (image : Making) (plan : Planned) (header : Header) (tables : List Listed) (memory : Contents)
-    → image.stage ≡ Close plan header tables → image.order.parent ≡ number → FilesImage pages image → HasAreas cut image
+    → image.stage ≡ Close plan header tables → image.order.parent ≡ number → FilesImage pages image → HasAreasAtFreeze cut image
     → DumpsImage cut pages (record { images = images; number = number }) image memory → HasMemory images (image_of header pages tables) (plain_of cut)
 dump_has made images number cut pages image plan header tables memory stage parent files areas dumps =
     let filed : IsFiled image.order image.pass pages header tables = subst (λ s. IsFiledIn s image.order image.pass pages) stage files in

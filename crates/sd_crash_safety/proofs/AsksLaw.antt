@@ -30,7 +30,7 @@ use Rattle.sd_store_laws.specs.Needs.{IsNeededIn}
 use Rattle.sd_store_laws.specs.SlotSteps.{with_belief}
 use Rattle.sd_store_laws.specs.Store.{IsFresh, IsNext, IsNextDump, jobs}
 use Rattle.sd_crash_safety.specs.Believes.{Believes, HasStore}
-use Rattle.sd_crash_safety.specs.DumperSteps.{AsksFor, commits, opens_gate}
+use Rattle.sd_crash_safety.specs.DumperSteps.{AsksFor, commits_dump, opens_gate}
 use Rattle.sd_crash_safety.specs.GateSteps.{GateSteps}
 use Rattle.sd_crash_safety.specs.InUse.{IsFrozenAs, IsImageOn, IsInUseOn, IsMakingOn, IsRunningOn, IsSlotFor, body_written, chain_of, lanes_of, pending_dump}
 use Rattle.sd_crash_safety.specs.StoreSteps.{MayAsk, MayOpen, QuietSteps}
@@ -176,7 +176,7 @@ module _ (quiet : QuietSteps) (gates : GateSteps) (made : MadeLaws) (follows : C
   neither false b is = (refl, is)
 
   sure_still : new.committing ≡ false → b.dump ≡ None
-  sure_still is = b.knows.sure (neither old.committing (commits running request.id.call) (sym s.committing ∙ is)).0
+  sure_still is = b.knows.sure (neither old.committing (commits_dump running request.id.call) (sym s.committing ∙ is)).0
 
   -- ---- a quiet call
 
@@ -315,8 +315,8 @@ module _ (quiet : QuietSteps) (gates : GateSteps) (made : MadeLaws) (follows : C
     sure_then : new.committing ≡ false → pending_dump image.order.kind i ≡ None
     sure_then is = by_place (is_last running) refl
       where
-        no_commit : commits running request.id.call ≡ false
-        no_commit = (neither old.committing (commits running request.id.call) (sym s.committing ∙ is)).1
+        no_commit : commits_dump running request.id.call ≡ false
+        no_commit = (neither old.committing (commits_dump running request.id.call) (sym s.committing ∙ is)).1
 
         by_place : (last : Bool) → is_last running ≡ last → pending_dump image.order.kind i ≡ None
         by_place true last = absurd (false≢true (sym no_commit ∙ (ap (λ l. l && opens_gate request.id.call) last ∙ ap opens_gate q.call)))

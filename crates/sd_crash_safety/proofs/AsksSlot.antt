@@ -22,7 +22,7 @@ use Rattle.sd_rounds.specs.Making.{plan_of, with_plan}
 use Rattle.sd_rounds.specs.MakingLaws.{Pages, image_of}
 use Rattle.sd_store_laws.specs.Beliefs.{Belief, Closed, Kept, Closing, Opening}
 use Rattle.sd_store_laws.specs.Gates.{IsBelievedAs}
-use Rattle.sd_crash_safety.specs.InUse.{AreLeft, ClosesBody, IsFormatted, IsFormatting, IsSlotFor, call_of, calls_left, is_opening_at, pending_dump}
+use Rattle.sd_crash_safety.specs.InUse.{AreLeft, ClosesBody, IsFormatted, IsFormatting, IsSlotFor, calls_left, is_opening_at, kind_of_call, pending_dump}
 use Rattle.sd_crash_safety.proofs.Leads.{is_whole, leads_end, leads_head}
 
 -- the image that a stage writes into its slot
@@ -69,7 +69,7 @@ asked_ready phase last body final plan next request gives leads =
     (leads_head phase last body final request.id.call request.bytes next.calls (subst (λ calls. Leads phase body calls last final) gives.next leads)).ready
 
 left_then : (all : Calls) (place : ℕ) (plan next : Planned) (request : Asked) → Gives plan next request → AreLeft all place None plan → AreLeft all place (Some request) next
-left_then all place plan next request gives left = ap (map call_of) (sym gives.next) ∙ left
+left_then all place plan next request gives left = ap (map kind_of_call) (sym gives.next) ∙ left
 
 leads_then : (phase last : Phase) (body final : List ℕ) (plan next : Planned) (request : Asked) → Gives plan next request → Leads phase body (calls_left None plan) last final
     → Leads phase body (calls_left (Some request) next) last final
@@ -153,9 +153,9 @@ module _ (order : ImageOrder) (pages : Pages) (phase : Phase) (body : List ℕ) 
   ]
 
   abbrev names : List Call
-  names = map call_of next.calls
+  names = map kind_of_call next.calls
 
-  its_names : (request.id.call ∷ names) ≡ drop f.place (map call_of (format_calls order.state))
+  its_names : (request.id.call ∷ names) ≡ drop f.place (map kind_of_call (format_calls order.state))
   its_names = left_then (format_calls order.state) f.place plan next request gives f.left
 
   is_other : (call : Call) → request.id.call ≡ call → call ≢ CloseCall → call ≢ Open → AsksOn (Format next) order pages phase body request belief dump
@@ -171,7 +171,7 @@ module _ (order : ImageOrder) (pages : Pages) (phase : Phase) (body : List ℕ) 
   formats_cutting zero is = is_other Cut (first_name request.id.call Cut names [] is) (λ same. cc) (λ same. cc)
   formats_cutting (suc n) is = absurd (none_named request.id.call names (is ∙ none_dropped n))
 
-  formats_by : (state : SlotState) (place : ℕ) → (request.id.call ∷ names) ≡ drop place (map call_of (format_calls state)) → AsksOn (Format next) order pages phase body request belief dump
+  formats_by : (state : SlotState) (place : ℕ) → (request.id.call ∷ names) ≡ drop place (map kind_of_call (format_calls state)) → AsksOn (Format next) order pages phase body request belief dump
   formats_by slot_state.Raw place is = formats_closing place is
   formats_by slot_state.Closed place is = formats_cutting place is
   formats_by slot_state.Open place is = formats_closing place is
@@ -192,10 +192,10 @@ module _ (order : ImageOrder) (pages : Pages) (phase : Phase) (body : List ℕ) 
     abbrev all : Calls
     all = body_calls header (table_text tables)
 
-    its_left : (request.id.call ∷ map call_of next.calls) ≡ drop c.place (map call_of all)
+    its_left : (request.id.call ∷ map kind_of_call next.calls) ≡ drop c.place (map kind_of_call all)
     its_left = left_then all c.place plan next request gives c.left
 
-    closes_with : (place : ℕ) → (request.id.call ∷ map call_of next.calls) ≡ drop place (map call_of all) → (belief_now : Belief) (dump_now : Option Image)
+    closes_with : (place : ℕ) → (request.id.call ∷ map kind_of_call next.calls) ≡ drop place (map kind_of_call all) → (belief_now : Belief) (dump_now : Option Image)
         → (is_opening_at place (Some request) ≡ false → (belief_now ≡ Closed) × (dump_now ≡ None))
         → (is_opening_at place (Some request) ≡ true → (belief_now ≡ Opening i) × (dump_now ≡ pending_dump order.kind i))
         → IsSlotFor (Close next header tables) order pages phase body (Some request) belief_now dump_now
@@ -209,7 +209,7 @@ module _ (order : ImageOrder) (pages : Pages) (phase : Phase) (body : List ℕ) 
     }
 
     -- a call before the gate's opening
-    before : (place : ℕ) → (request.id.call ∷ map call_of next.calls) ≡ drop place (map call_of all) → (call : Call) → request.id.call ≡ call → call ≢ CloseCall → call ≢ Open
+    before : (place : ℕ) → (request.id.call ∷ map kind_of_call next.calls) ≡ drop place (map kind_of_call all) → (call : Call) → request.id.call ≡ call → call ≢ CloseCall → call ≢ Open
         → is_opening_at place None ≡ false → is_opening_at place (Some request) ≡ false
         → (belief ≡ Closed) × (dump ≡ None) → AsksOn (Close next header tables) order pages phase body request belief dump
     before place left call same other_close other_open rests asks closed = inl (record {
@@ -219,7 +219,7 @@ module _ (order : ImageOrder) (pages : Pages) (phase : Phase) (body : List ℕ) 
     })
 
     -- the sync behind it
-    behind : (place : ℕ) → (request.id.call ∷ map call_of next.calls) ≡ drop place (map call_of all) → (call : Call) → request.id.call ≡ call → call ≢ CloseCall → call ≢ Open
+    behind : (place : ℕ) → (request.id.call ∷ map kind_of_call next.calls) ≡ drop place (map kind_of_call all) → (call : Call) → request.id.call ≡ call → call ≢ CloseCall → call ≢ Open
         → is_opening_at place (Some request) ≡ true
         → (belief ≡ Opening i) × (dump ≡ pending_dump order.kind i) → AsksOn (Close next header tables) order pages phase body request belief dump
     behind place left call same other_close other_open asks opening = inl (record {
@@ -229,22 +229,22 @@ module _ (order : ImageOrder) (pages : Pages) (phase : Phase) (body : List ℕ) 
     })
 
     -- behind the opening and its sync the body is that of the image
-    opened_body : (calls : Calls) → map call_of calls ≡ Sync ∷ [] → Leads (after phase Open true) (body_after body Open request.bytes) calls Whole (image_text i) → body ≡ image_text i
+    opened_body : (calls : Calls) → map kind_of_call calls ≡ Sync ∷ [] → Leads (after phase Open true) (body_after body Open request.bytes) calls Whole (image_text i) → body ≡ image_text i
     opened_body [] names leads = absurd (let no : 0 ≡ 1 = ap length names in omega (arith, no))
     opened_body ((call, bytes) ∷ calls) names leads =
         let rest = (leads_head (after phase Open true) Whole body (image_text i) call bytes calls leads).rest in
-        let named = first_name call Sync (map call_of calls) [] names in
-        let done = only_one calls (rest_names call Sync (map call_of calls) [] names) in
+        let named = first_name call Sync (map kind_of_call calls) [] names in
+        let done = only_one calls (rest_names call Sync (map kind_of_call calls) [] names) in
         let end = subst (λ cs. Leads (after (after phase Open true) call true) (body_after body call bytes) cs Whole (image_text i)) done rest in
         ap (λ x. body_after body x bytes) (sym named) ∙ (leads_end (after (after phase Open true) call true) Whole (body_after body call bytes) (image_text i) end).1
       where
-        only_one : (cs : Calls) → map call_of cs ≡ [] → cs ≡ []
+        only_one : (cs : Calls) → map kind_of_call cs ≡ [] → cs ≡ []
         only_one [] same = refl
-        only_one (c ∷ cs) same = absurd (let no : suc (length (map call_of cs)) ≡ 0 = ap length same in omega (arith, no))
+        only_one (c ∷ cs) same = absurd (let no : suc (length (map kind_of_call cs)) ≡ 0 = ap length same in omega (arith, no))
 
-    opens_it : (request.id.call ∷ map call_of next.calls) ≡ Open ∷ Sync ∷ [] → (belief ≡ Closed) × (dump ≡ None) → AsksOn (Close next header tables) order pages phase body request belief dump
+    opens_it : (request.id.call ∷ map kind_of_call next.calls) ≡ Open ∷ Sync ∷ [] → (belief ≡ Closed) × (dump ≡ None) → AsksOn (Close next header tables) order pages phase body request belief dump
     opens_it left closed =
-        let same = first_name request.id.call Open (map call_of next.calls) (Sync ∷ []) left in
+        let same = first_name request.id.call Open (map kind_of_call next.calls) (Sync ∷ []) left in
         let led = leads_head phase Whole body (image_text i) request.id.call request.bytes next.calls (subst (λ calls. Leads phase body calls Whole (image_text i)) gives.next c.leads) in
         inr (inr (record {
           call = same;
@@ -252,22 +252,22 @@ module _ (order : ImageOrder) (pages : Pages) (phase : Phase) (body : List ℕ) 
           its = refl;
           closed = closed.0;
           alone = closed.1;
-          spelled = opened_body next.calls (rest_names request.id.call Open (map call_of next.calls) (Sync ∷ []) left)
+          spelled = opened_body next.calls (rest_names request.id.call Open (map kind_of_call next.calls) (Sync ∷ []) left)
               (subst (λ x. Leads (after phase x true) (body_after body x request.bytes) next.calls Whole (image_text i)) same led.rest);
           slot_is = closes_with 3 left (Opening i) (pending_dump order.kind i) (λ is. absurd (false≢true (sym is))) (λ is. (refl, refl));
         }))
 
-    closes_by : (place : ℕ) → (request.id.call ∷ map call_of next.calls) ≡ drop place (map call_of all)
+    closes_by : (place : ℕ) → (request.id.call ∷ map kind_of_call next.calls) ≡ drop place (map kind_of_call all)
         → (is_opening_at place None ≡ false → (belief ≡ Closed) × (dump ≡ None)) → (is_opening_at place None ≡ true → (belief ≡ Opening i) × (dump ≡ pending_dump order.kind i))
         → AsksOn (Close next header tables) order pages phase body request belief dump
     closes_by zero left shut opening =
-        before 0 left (Write (table_place header)) (first_name request.id.call (Write (table_place header)) (map call_of next.calls) (WriteHeader ∷ Sync ∷ Open ∷ Sync ∷ []) left)
+        before 0 left (Write (table_place header)) (first_name request.id.call (Write (table_place header)) (map kind_of_call next.calls) (WriteHeader ∷ Sync ∷ Open ∷ Sync ∷ []) left)
         (λ same. cc) (λ same. cc) refl refl (shut refl)
-    closes_by (suc zero) left shut opening = before 1 left WriteHeader (first_name request.id.call WriteHeader (map call_of next.calls) (Sync ∷ Open ∷ Sync ∷ []) left) (λ same. cc) (λ same. cc) refl refl (shut refl)
-    closes_by (suc (suc zero)) left shut opening = before 2 left Sync (first_name request.id.call Sync (map call_of next.calls) (Open ∷ Sync ∷ []) left) (λ same. cc) (λ same. cc) refl refl (shut refl)
+    closes_by (suc zero) left shut opening = before 1 left WriteHeader (first_name request.id.call WriteHeader (map kind_of_call next.calls) (Sync ∷ Open ∷ Sync ∷ []) left) (λ same. cc) (λ same. cc) refl refl (shut refl)
+    closes_by (suc (suc zero)) left shut opening = before 2 left Sync (first_name request.id.call Sync (map kind_of_call next.calls) (Open ∷ Sync ∷ []) left) (λ same. cc) (λ same. cc) refl refl (shut refl)
     closes_by (suc (suc (suc zero))) left shut opening = opens_it left (shut refl)
-    closes_by (suc (suc (suc (suc zero)))) left shut opening = behind 4 left Sync (first_name request.id.call Sync (map call_of next.calls) [] left) (λ same. cc) (λ same. cc) refl (opening refl)
-    closes_by (suc (suc (suc (suc (suc n))))) left shut opening = absurd (none_named request.id.call (map call_of next.calls) (left ∙ none_dropped n))
+    closes_by (suc (suc (suc (suc zero)))) left shut opening = behind 4 left Sync (first_name request.id.call Sync (map kind_of_call next.calls) [] left) (λ same. cc) (λ same. cc) refl (opening refl)
+    closes_by (suc (suc (suc (suc (suc n))))) left shut opening = absurd (none_named request.id.call (map kind_of_call next.calls) (left ∙ none_dropped n))
 
     pub closes_on : AsksOn (Close next header tables) order pages phase body request belief dump
     closes_on = closes_by c.place its_left c.shut c.opening

@@ -21,7 +21,7 @@ use Rattle.sd_store_laws.specs.InUse.{IsCatalogInUse, SlotHasImage, ToldReachesS
 use Rattle.sd_store_laws.specs.Reached.{Reaches, beyond, itself}
 use Rattle.sd_store_laws.specs.Store.{Store}
 use Rattle.sd_crash_safety.specs.CheckpointSteps.{IsUnread, LeavesMerge}
-use Rattle.sd_crash_safety.specs.Merges.{IsAskedIn, IsCopying, IsMergeAt, IsMergeOn, IsOtherImage, IsRepeating, IsRetiringOn, MakesOther}
+use Rattle.sd_crash_safety.specs.Merges.{IsAskedIn, IsCopyOfSource, IsMergeAt, IsMergeOn, IsOtherImage, IsRepeating, IsRetiringOn, MakesOther}
 
 module _ (places : Places) (store : Store) (beliefs : List Belief) (in_use : IsCatalogInUse places beliefs) (told : CatalogLists places store.catalog) (reaches : ToldReachesSo places)
     (members : (i : Image) → Contains beliefs (Kept i) → Contains store.catalog i) (phases : List Phase) (asked : List (Option Asked)) (bodies : List (List ℕ)) (last : ℕ) (running : Running) where
@@ -109,7 +109,7 @@ module _ (places : Places) (store : Store) (beliefs : List Belief) (in_use : IsC
     asked_beside source image serial there unread target (copy.Close plan header tables) page (Some request) a = a
 
     copying_beside : (at : ℕ) (origin : Source) (made : Copying) → ((k : ℕ) → IsReserved running k → k ≢ at) → ((k : ℕ) → IsReserved running k → IsUnread places (Some origin) k)
-        → IsCopying phases asked bodies last store beliefs None at origin made → IsCopying phases asked bodies last store beliefs (Some running) at origin made
+        → IsCopyOfSource phases asked bodies last store beliefs None at origin made → IsCopyOfSource phases asked bodies last store beliefs (Some running) at origin made
     unfolding repeating_beside
     copying_beside at origin made target unread m =
         let c = m.copy in

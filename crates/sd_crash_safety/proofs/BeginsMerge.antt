@@ -35,7 +35,7 @@ use Rattle.sd_crash_safety.specs.Believes.{Believes}
 use Rattle.sd_crash_safety.specs.GateSteps.{GateSteps}
 use Rattle.sd_crash_safety.specs.InUse.{IsAtWork, IsImageOn, IsInUseOn}
 use Rattle.sd_crash_safety.specs.MergerSteps.{BeginsMerge, BeginsMerged, IsUncalled, MergeBeginningIsBelieved}
-use Rattle.sd_crash_safety.specs.Merges.{IsCopying, IsMergeAt, IsMergeOn, IsOtherImage, IsRepeating, IsSilent, IsUnmerged, MakesOther}
+use Rattle.sd_crash_safety.specs.Merges.{IsCopyOfSource, IsMergeAt, IsMergeOn, IsOtherImage, IsRepeating, IsSilent, IsUnmerged, MakesOther}
 use Rattle.sd_crash_safety.specs.View.{CoreView, history_of}
 use Rattle.sd_crash_safety.proofs.BeginsImage.{held_in_use, image_of_has, none_at, used_more}
 use Rattle.sd_crash_safety.proofs.MergeStays.{slots_at}
@@ -82,7 +82,7 @@ begins_merged_lem merge_laws making plans old new merge phase asked bodies files
       numbers = λ number is new. new;
       images = λ k j has. inl has;
     } in
-    let copies : IsCopying old.phases asked bodies (last + 1) b.store b.beliefs old.dumper.running merge.slot merge.source (begun_copy order) = record {
+    let copies : IsCopyOfSource old.phases asked bodies (last + 1) b.store b.beliefs old.dumper.running merge.slot merge.source (begun_copy order) = record {
       repeats = r;
       order = (refl, refl);
       copy = record {

@@ -1,7 +1,7 @@
 -- A store that was read is believed to show what it shows.
 use Rattle.std.proofs.Common.{◌≡◌, ℕ, suc, List, [], ◌∷◌, drop, length, map, None, IfSome, refl, sym, ◌∙◌, ap, subst}
 use Rattle.sd_gate.specs.Laws.{found_phase}
-use Rattle.sd_store_laws.specs.GateSteps.{FoundIsBelieved as FilesAreBelieved, FoundIsExact}
+use Rattle.sd_store_laws.specs.GateSteps.{FilesAreBelieved, FoundIsExact}
 use Rattle.sd_store_laws.specs.InUse.{CatalogIsFound}
 use Rattle.sd_crash_safety.proofs.FoundInUse.{found_in_use, found_merging}
 use Rattle.sd_store_laws.specs.Gates.{AreBelieved}

@@ -26,7 +26,7 @@ use Rattle.sd_rounds.specs.Pass.{Pass}
 use Rattle.sd_store_laws.specs.Beliefs.{Belief, Closed}
 use Rattle.sd_store_laws.specs.Gates.{IsBelievedAs}
 use Rattle.sd_crash_safety.specs.DumperOutcomes.{closes_for_sure}
-use Rattle.sd_crash_safety.specs.InUse.{IsFilled, IsSlotFor}
+use Rattle.sd_crash_safety.specs.InUse.{IsFilledSlot, IsSlotFor}
 use Rattle.sd_crash_safety.proofs.HandsSlot.{belief_after, closes_more, formats_last, formats_more, formatted_then}
 
 -- ---- the plan
@@ -117,7 +117,7 @@ module _ (order : ImageOrder) (pages : Pages) (phase : Phase) (body : List ℕ) 
       → IsSlotFor (Format own) order pages phase body (Some request) belief dump → SlotGoesOn (stage_after order.kind (Format own) next calls) order pages phase body request belief dump
   format_goes_on own [] none same on empty s = record {
     slot_is = behind_format order.kind own (
-      subst (λ p. IsFilled p then_phase then_body then_belief) (sym empty) (formats_last order own next phase body request belief s.0 same on (sym same ∙ none)),
+      subst (λ p. IsFilledSlot p then_phase then_body then_belief) (sym empty) (formats_last order own next phase body request belief s.0 same on (sym same ∙ none)),
       refl,
       s.1,
     );

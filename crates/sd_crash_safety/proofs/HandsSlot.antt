@@ -23,7 +23,7 @@ use Rattle.sd_rounds.specs.MakingLaws.{Pages, image_of}
 use Rattle.sd_store_laws.specs.Beliefs.{Belief, Closed, Opening, FitsBelief}
 use Rattle.sd_store_laws.specs.Gates.{IsBelievedAs, IsInDoubt, MayBelieve}
 use Rattle.sd_crash_safety.specs.DumperOutcomes.{closes_for_sure, is_being_closed, is_sync}
-use Rattle.sd_crash_safety.specs.InUse.{ClosesBody, IsFilled, IsFormatting, IsSlotFor, call_of, is_opening_at, pending_dump}
+use Rattle.sd_crash_safety.specs.InUse.{ClosesBody, IsFilledSlot, IsFormatting, IsSlotFor, is_opening_at, kind_of_call, pending_dump}
 use Rattle.sd_crash_safety.proofs.Leads.{leads_end, leads_head}
 
 pub and_false : (b : Bool) → (b && false) ≡ false
@@ -127,18 +127,18 @@ none_made : (k : ℕ) → drop {A = Call} k [] ≡ []
 none_made zero = refl
 none_made (suc k) = refl
 
-pub no_calls : (calls : Calls) → map call_of calls ≡ [] → calls ≡ []
+pub no_calls : (calls : Calls) → map kind_of_call calls ≡ [] → calls ≡ []
 no_calls [] same = refl
-no_calls (c ∷ calls) same = absurd (let no : suc (length (map call_of calls)) ≡ 0 = ap length same in omega (arith, no))
+no_calls (c ∷ calls) same = absurd (let no : suc (length (map kind_of_call calls)) ≡ 0 = ap length same in omega (arith, no))
 
 -- the first of the calls that are left is one for which the slot is ready
-ready_next : (phase last : Phase) (body final : List ℕ) (calls : Calls) (first : Call) (rest : List Call) → map call_of calls ≡ first ∷ rest → Leads phase body calls last final
+ready_next : (phase last : Phase) (body final : List ℕ) (calls : Calls) (first : Call) (rest : List Call) → map kind_of_call calls ≡ first ∷ rest → Leads phase body calls last final
     → is_ready phase first ≡ true
 ready_next phase last body final [] first rest names leads = absurd (let no : 0 ≡ suc (length rest) = ap length names in omega (arith, no))
 ready_next phase last body final ((call, bytes) ∷ calls) first rest names leads =
     ap (is_ready phase) (sym (first_of names)) ∙ (leads_head phase last body final call bytes calls leads).ready
   where
-    first_of : call ∷ map call_of calls ≡ first ∷ rest → call ≡ first
+    first_of : call ∷ map kind_of_call calls ≡ first ∷ rest → call ≡ first
     first_of e = cc
 
 -- ---- a slot that is formatted
@@ -160,8 +160,8 @@ module _ (order : ImageOrder) (plan next : Planned) (phase : Phase) (body : List
   now_ready : is_ready phase request.id.call ≡ true
   now_ready = (leads_head phase Bare body [] request.id.call request.bytes plan.calls f.leads).ready
 
-  left_then : map call_of plan.calls ≡ drop (suc f.place) (map call_of (format_calls order.state))
-  left_then = left_next request.id.call (map call_of plan.calls) (map call_of (format_calls order.state)) f.place f.left
+  left_then : map kind_of_call plan.calls ≡ drop (suc f.place) (map kind_of_call (format_calls order.state))
+  left_then = left_next request.id.call (map kind_of_call plan.calls) (map kind_of_call (format_calls order.state)) f.place f.left
 
   by_close : request.id.call ≡ CloseCall → IsBelievedAs then_phase then_body then_belief
   by_close same =
@@ -174,33 +174,33 @@ module _ (order : ImageOrder) (plan next : Planned) (phase : Phase) (body : List
       (subst (λ x. IsBelievedAs (after phase x true) (body_after body x request.bytes) belief) (sym same)
       (writes_closed phase body belief (ap (is_ready phase) (sym same) ∙ now_ready) (f.formatted.1 (λ is. (let no : Cut ≡ CloseCall = sym same ∙ is in cc)))))
 
-  by_sync : request.id.call ≡ Sync → map call_of plan.calls ≡ Cut ∷ [] → IsBelievedAs then_phase then_body then_belief
+  by_sync : request.id.call ≡ Sync → map kind_of_call plan.calls ≡ Cut ∷ [] → IsBelievedAs then_phase then_body then_belief
   by_sync same names =
       subst (λ x. IsBelievedAs (after phase x true) (body_after body x request.bytes) (belief_after (closes_for_sure phase x) belief)) (sym same)
       (formatted_sync phase body belief
       (ready_next (synced phase) Bare body [] plan.calls Cut [] names (subst (λ x. Leads (after phase x true) (body_after body x request.bytes) plan.calls Bare []) same led))
       (f.formatted.1 (λ is. (let no : Sync ≡ CloseCall = sym same ∙ is in cc))))
 
-  first_named : (first : Call) (rest : List Call) → request.id.call ∷ map call_of plan.calls ≡ first ∷ rest → request.id.call ≡ first
+  first_named : (first : Call) (rest : List Call) → request.id.call ∷ map kind_of_call plan.calls ≡ first ∷ rest → request.id.call ≡ first
   first_named first rest e = cc
 
-  rest_named : (first : Call) (rest : List Call) → request.id.call ∷ map call_of plan.calls ≡ first ∷ rest → map call_of plan.calls ≡ rest
+  rest_named : (first : Call) (rest : List Call) → request.id.call ∷ map kind_of_call plan.calls ≡ first ∷ rest → map kind_of_call plan.calls ≡ rest
   rest_named first rest e = cc
 
-  none_named : request.id.call ∷ map call_of plan.calls ≡ [] → ⊥
-  none_named e = let no : suc (length (map call_of plan.calls)) ≡ 0 = ap length e in omega (arith, no)
+  none_named : request.id.call ∷ map kind_of_call plan.calls ≡ [] → ⊥
+  none_named e = let no : suc (length (map kind_of_call plan.calls)) ≡ 0 = ap length e in omega (arith, no)
 
-  by_closing : (place : ℕ) → request.id.call ∷ map call_of plan.calls ≡ drop place (CloseCall ∷ Sync ∷ Cut ∷ []) → IsBelievedAs then_phase then_body then_belief
+  by_closing : (place : ℕ) → request.id.call ∷ map kind_of_call plan.calls ≡ drop place (CloseCall ∷ Sync ∷ Cut ∷ []) → IsBelievedAs then_phase then_body then_belief
   by_closing zero is = by_close (first_named CloseCall (Sync ∷ Cut ∷ []) is)
   by_closing (suc zero) is = by_sync (first_named Sync (Cut ∷ []) is) (rest_named Sync (Cut ∷ []) is)
   by_closing (suc (suc zero)) is = by_cut (first_named Cut [] is)
   by_closing (suc (suc (suc n))) is = absurd (none_named (is ∙ none_made n))
 
-  by_cutting : (place : ℕ) → request.id.call ∷ map call_of plan.calls ≡ drop place (Cut ∷ []) → IsBelievedAs then_phase then_body then_belief
+  by_cutting : (place : ℕ) → request.id.call ∷ map kind_of_call plan.calls ≡ drop place (Cut ∷ []) → IsBelievedAs then_phase then_body then_belief
   by_cutting zero is = by_cut (first_named Cut [] is)
   by_cutting (suc n) is = absurd (none_named (is ∙ none_made n))
 
-  by_state : (state : SlotState) (place : ℕ) → request.id.call ∷ map call_of plan.calls ≡ drop place (map call_of (format_calls state))
+  by_state : (state : SlotState) (place : ℕ) → request.id.call ∷ map kind_of_call plan.calls ≡ drop place (map kind_of_call (format_calls state))
       → IsBelievedAs then_phase then_body then_belief
   by_state slot_state.Raw place is = by_closing place is
   by_state slot_state.Closed place is = by_cutting place is
@@ -214,13 +214,13 @@ module _ (order : ImageOrder) (plan next : Planned) (phase : Phase) (body : List
   formats_more = record {
     place = suc f.place;
     on = on ∙ f.on;
-    left = ap (map call_of) calls ∙ left_then;
+    left = ap (map kind_of_call) calls ∙ left_then;
     leads = subst (λ cs. Leads then_phase then_body cs Bare []) (sym calls) led;
     formatted = formatted_then;
   }
 
   -- once all is done it is one closed byte
-  pub formats_last : plan.calls ≡ [] → IsFilled [] then_phase then_body then_belief
+  pub formats_last : plan.calls ≡ [] → IsFilledSlot [] then_phase then_body then_belief
   formats_last none =
       let end = leads_end then_phase Bare then_body [] (subst (λ cs. Leads then_phase then_body cs Bare []) none led) in
       record {
@@ -260,29 +260,29 @@ module _ (order : ImageOrder) (i : Image) (plan next : Planned) (phase : Phase) 
   led_on : Leads (after phase request.id.call true) (body_after body request.id.call request.bytes) plan.calls Whole (image_text i)
   led_on = (leads_head phase Whole body (image_text i) request.id.call request.bytes plan.calls c.leads).rest
 
-  names_on : map call_of plan.calls ≡ drop (suc c.place) (map call_of all)
-  names_on = left_next request.id.call (map call_of plan.calls) (map call_of all) c.place c.left
+  names_on : map kind_of_call plan.calls ≡ drop (suc c.place) (map kind_of_call all)
+  names_on = left_next request.id.call (map kind_of_call plan.calls) (map kind_of_call all) c.place c.left
 
-  closing_at : (place : ℕ) → map call_of plan.calls ≡ drop place (map call_of all)
+  closing_at : (place : ℕ) → map kind_of_call plan.calls ≡ drop place (map kind_of_call all)
       → (is_opening_at place None ≡ false → (belief ≡ Closed) × (dump ≡ None)) → (is_opening_at place None ≡ true → (belief ≡ Opening i) × (dump ≡ pending_dump order.kind i))
       → ClosesBody order i next (after phase request.id.call true) (body_after body request.id.call request.bytes) None belief dump
   closing_at place left shut opening = record {
     place = place;
     on = on ∙ c.on;
-    left = ap (map call_of) calls ∙ left;
+    left = ap (map kind_of_call) calls ∙ left;
     leads = subst (λ cs. Leads (after phase request.id.call true) (body_after body request.id.call request.bytes) cs Whole (image_text i)) (sym calls) led_on;
     shut = shut;
     opening = opening;
   }
 
-  first_call : (first : Call) (rest : List Call) → request.id.call ∷ map call_of plan.calls ≡ first ∷ rest → request.id.call ≡ first
+  first_call : (first : Call) (rest : List Call) → request.id.call ∷ map kind_of_call plan.calls ≡ first ∷ rest → request.id.call ≡ first
   first_call first rest e = cc
 
-  rest_calls : (first : Call) (rest : List Call) → request.id.call ∷ map call_of plan.calls ≡ first ∷ rest → map call_of plan.calls ≡ rest
+  rest_calls : (first : Call) (rest : List Call) → request.id.call ∷ map kind_of_call plan.calls ≡ first ∷ rest → map kind_of_call plan.calls ≡ rest
   rest_calls first rest e = cc
 
   -- a call before the gate's opening, which is no sync
-  shut_still : (place : ℕ) (call : Call) → request.id.call ≡ call → call ≢ Sync → map call_of plan.calls ≡ drop place (map call_of all) → is_opening_at place None ≡ false
+  shut_still : (place : ℕ) (call : Call) → request.id.call ≡ call → call ≢ Sync → map kind_of_call plan.calls ≡ drop place (map kind_of_call all) → is_opening_at place None ≡ false
       → (belief ≡ Closed) × (dump ≡ None) → ClosesOn order i next phase body request belief dump
   shut_still place call same other left not_yet closed = record {
     closing_is = closing_at place left (λ is. closed) (λ is. absurd (false≢true (sym not_yet ∙ is)));
@@ -290,7 +290,7 @@ module _ (order : ImageOrder) (i : Image) (plan next : Planned) (phase : Phase) 
     exact = inl closed.0;
   }
 
-  closes_at : (place : ℕ) → request.id.call ∷ map call_of plan.calls ≡ drop place (map call_of all)
+  closes_at : (place : ℕ) → request.id.call ∷ map kind_of_call plan.calls ≡ drop place (map kind_of_call all)
       → (is_opening_at place (Some request) ≡ false → (belief ≡ Closed) × (dump ≡ None)) → (is_opening_at place (Some request) ≡ true → (belief ≡ Opening i) × (dump ≡ pending_dump order.kind i))
       → ClosesOn order i next phase body request belief dump
   closes_at zero is shut opening =
@@ -318,7 +318,7 @@ module _ (order : ImageOrder) (i : Image) (plan next : Planned) (phase : Phase) 
         exact = inr (ap (λ x. after phase x true) same, opened.0, ap (λ x. body_after body x request.bytes) same ∙ synced_text plan.calls names led_open);
       }
     where
-      synced_text : (cs : Calls) → map call_of cs ≡ Sync ∷ [] → Leads OpeningPhase body cs Whole (image_text i) → body ≡ image_text i
+      synced_text : (cs : Calls) → map kind_of_call cs ≡ Sync ∷ [] → Leads OpeningPhase body cs Whole (image_text i) → body ≡ image_text i
       synced_text [] names leads = absurd (let no : 0 ≡ 1 = ap length names in omega (arith, no))
       synced_text ((call, bytes) ∷ cs) names leads =
           let rest = (leads_head OpeningPhase Whole body (image_text i) call bytes cs leads).rest in
@@ -326,13 +326,13 @@ module _ (order : ImageOrder) (i : Image) (plan next : Planned) (phase : Phase) 
           (subst (λ x. Leads (after OpeningPhase call true) (body_after body call bytes) x Whole (image_text i)) (no_calls cs (tail_is names)) rest) in
           ap (λ x. body_after body x bytes) (sym (head_is names)) ∙ end.1
         where
-          head_is : call ∷ map call_of cs ≡ Sync ∷ [] → call ≡ Sync
+          head_is : call ∷ map kind_of_call cs ≡ Sync ∷ [] → call ≡ Sync
           head_is e = cc
 
-          tail_is : call ∷ map call_of cs ≡ Sync ∷ [] → map call_of cs ≡ []
+          tail_is : call ∷ map kind_of_call cs ≡ Sync ∷ [] → map kind_of_call cs ≡ []
           tail_is e = cc
   closes_at (suc (suc (suc (suc zero)))) is shut opening = absurd (some (no_calls plan.calls (rest_calls Sync [] is)))
-  closes_at (suc (suc (suc (suc (suc n))))) is shut opening = absurd (let no : suc (length (map call_of plan.calls)) ≡ 0 = ap length (is ∙ none_made n) in omega (arith, no))
+  closes_at (suc (suc (suc (suc (suc n))))) is shut opening = absurd (let no : suc (length (map kind_of_call plan.calls)) ≡ 0 = ap length (is ∙ none_made n) in omega (arith, no))
 
   pub closes_more : ClosesOn order i next phase body request belief dump
   closes_more = closes_at c.place c.left c.shut c.opening

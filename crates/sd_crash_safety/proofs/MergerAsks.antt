@@ -39,7 +39,7 @@ use Rattle.sd_crash_safety.specs.Believes.{Believes, HasStore}
 use Rattle.sd_crash_safety.specs.GateSteps.{GateSteps}
 use Rattle.sd_crash_safety.specs.InUse.{IsInUseOn, IsSlotFor, body_written}
 use Rattle.sd_crash_safety.specs.MergerSteps.{AsksForMerged}
-use Rattle.sd_crash_safety.specs.Merges.{IsAskedIn, IsCopyOn, IsCopying, IsMergeAt, IsMergeOn, MakesOther, lanes_in_slot, order_of_slot, request_in_slot, stage_in_slot}
+use Rattle.sd_crash_safety.specs.Merges.{IsAskedIn, IsCopyOfSource, IsCopyOn, IsMergeAt, IsMergeOn, MakesOther, lanes_in_slot, order_of_slot, request_in_slot, stage_in_slot}
 use Rattle.sd_crash_safety.specs.StoreSteps.{MayAsk, QuietSteps}
 use Rattle.sd_crash_safety.specs.View.{CoreView, history_of}
 use Rattle.sd_crash_safety.proofs.Asks.{HasIt, IsChangedAt, changed_by, unchanged_at}
@@ -140,7 +140,7 @@ module _ (quiet : QuietSteps) (gates : GateSteps) (files_of : FileLaws) (repeats
   u : IsInUseOn old.base history old.catalog old.grows old.memory old.phases asked bodies last b.store b.dump b.beliefs running
   u = b.knows.in_use s.merges.rest.stands
 
-  k : IsCopying old.phases asked bodies last b.store b.beliefs running merge.slot merge.source made
+  k : IsCopyOfSource old.phases asked bodies last b.store b.beliefs running merge.slot merge.source made
   k = subst (IsMergeAt old.phases asked bodies last b.store b.beliefs running merge.slot merge.source) s.merges.doing
       (subst (λ m. IsMergeOn old.phases asked bodies last b.store b.beliefs running m) s.merges.was (b.knows.merging s.merges.rest.stands).is)
 
@@ -197,7 +197,7 @@ module _ (quiet : QuietSteps) (gates : GateSteps) (files_of : FileLaws) (repeats
   merge_with : (belief_now : Belief) (then : List Belief) → IsChangedAt b.beliefs target belief_now then
       → IsSlotFor (with_plan (stage_in_slot made.stage) asks.next) order c.pages c.phase (file_at bodies target) (Some request) belief_now None
       → ((i : Image) → image_in belief_now ≡ Some i → IsNeededIn b.store i → ⊥)
-      → IsCopying old.phases asked_now bodies last b.store then running merge.slot merge.source later
+      → IsCopyOfSource old.phases asked_now bodies last b.store then running merge.slot merge.source later
   merge_with belief_now then changed slot_now unneeded = record {
     repeats = record {
       image = source;

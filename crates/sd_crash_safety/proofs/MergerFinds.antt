@@ -13,7 +13,7 @@ use Rattle.sd_store_laws.specs.Beliefs.{Kept}
 use Rattle.sd_store_laws.specs.InUse.{IsCatalogInUse}
 use Rattle.sd_crash_safety.specs.declared.standing.Standing.TheVariants.{Open}
 use Rattle.sd_crash_safety.specs.Believes.{Believes}
-use Rattle.sd_crash_safety.specs.Merges.{IsCopying, IsMergeAt, IsMergeOn}
+use Rattle.sd_crash_safety.specs.Merges.{IsCopyOfSource, IsMergeAt, IsMergeOn}
 use Rattle.sd_crash_safety.specs.View.{CoreView}
 use Rattle.sd_crash_safety.proofs.MergerSource.{KnowsCatalog, source_in}
 
@@ -21,7 +21,7 @@ use Rattle.sd_crash_safety.proofs.MergerSource.{KnowsCatalog, source_in}
 pub finds_lem : MergeLaws → (places : Places) → KnowsCatalog places → (core : CoreView) (merge : merger.Running) (made : Copying) (asked : List (Option Asked)) (bodies files : List (List ℕ))
     → core.catalog ≡ places → core.standing ≡ Open → core.merger ≡ Some merge → merge.doing ≡ copying made → Believes core asked bodies files → IsLost places made → ⊥
 finds_lem merge_laws places knows core merge made asked bodies files its_catalog stands was doing b lost =
-    let k : IsCopying core.phases asked bodies core.numbers.serial b.store b.beliefs core.dumper.running merge.slot merge.source made =
+    let k : IsCopyOfSource core.phases asked bodies core.numbers.serial b.store b.beliefs core.dumper.running merge.slot merge.source made =
     subst (IsMergeAt core.phases asked bodies core.numbers.serial b.store b.beliefs core.dumper.running merge.slot merge.source) doing
     (subst (λ m. IsMergeOn core.phases asked bodies core.numbers.serial b.store b.beliefs core.dumper.running m) was (b.knows.merging stands).is) in
     let x = k.repeats.source in

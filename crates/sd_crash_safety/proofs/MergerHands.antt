@@ -47,10 +47,10 @@ use Rattle.sd_crash_safety.specs.Believes.{Believes, HasStore}
 use Rattle.sd_crash_safety.specs.Calls.{WasTold}
 use Rattle.sd_crash_safety.specs.DumperOutcomes.{LeavesCatalog, closes_for_sure, is_being_closed}
 use Rattle.sd_crash_safety.specs.GateSteps.{GateSteps}
-use Rattle.sd_crash_safety.specs.InUse.{IsFilled, IsInUseOn, IsSlotFor, body_written}
+use Rattle.sd_crash_safety.specs.InUse.{IsFilledSlot, IsInUseOn, IsSlotFor, body_written}
 use Rattle.sd_crash_safety.specs.Knows.{SeesStore}
 use Rattle.sd_crash_safety.specs.MergerOutcomes.{MergeGoesDown, MergedGoesOn, OutcomeIsBelieved}
-use Rattle.sd_crash_safety.specs.Merges.{IsAskedIn, IsCopyOn, IsCopying, IsMergeAt, IsMergeOn, IsReadOn, IsWriteOn, lanes_in_slot, order_of_slot, request_in_slot, stage_in_slot}
+use Rattle.sd_crash_safety.specs.Merges.{IsAskedIn, IsCopyOfSource, IsCopyOn, IsMergeAt, IsMergeOn, IsReadOn, IsWriteOn, lanes_in_slot, order_of_slot, request_in_slot, stage_in_slot}
 use Rattle.sd_crash_safety.specs.declared.standing.Standing.TheVariants as standing
 use Rattle.sd_crash_safety.specs.StoreSteps.{QuietSteps}
 use Rattle.sd_crash_safety.specs.View.{CoreView, history_of}
@@ -214,7 +214,7 @@ module _ (quiet : QuietSteps) (making : MakingLaws) (merges : MergeLaws) (files_
   abbrev last : ℕ
   last = old.numbers.serial
 
-  k : IsCopying old.phases asked bodies last b.store b.beliefs running merge.slot merge.source made
+  k : IsCopyOfSource old.phases asked bodies last b.store b.beliefs running merge.slot merge.source made
   k = subst (IsMergeAt old.phases asked bodies last b.store b.beliefs running merge.slot merge.source) s.doing
       (subst (λ m. IsMergeOn old.phases asked bodies last b.store b.beliefs running m) s.was (b.knows.merging s.rest.stands).is)
 
@@ -256,7 +256,7 @@ module _ (quiet : QuietSteps) (making : MakingLaws) (merges : MergeLaws) (files_
     abbrev later : Copying
     later = record made { read = copies_of.read_after made.stage call made.read; stage = stage_then }
 
-    copying_now : IsCopying (phases_then old call phase) (asked_then asked) (bodies_then bodies call) last h.store h.later running merge.slot merge.source later
+    copying_now : IsCopyOfSource (phases_then old call phase) (asked_then asked) (bodies_then bodies call) last h.store h.later running merge.slot merge.source later
     copying_now = record {
       repeats = record {
         image = source;
@@ -477,7 +477,7 @@ module _ (quiet : QuietSteps) (making : MakingLaws) (merges : MergeLaws) (files_
     write : IsWriteOn target own call.request
     write = subst (λ stage. IsAskedIn stage old.phases bodies b.store b.beliefs running target source made.taking (Some call.request)) is asked_was
 
-    filled_was : IsFilled c.pages c.phase (body_after (file_at bodies target) call.request.id.call call.request.bytes) c.belief
+    filled_was : IsFilledSlot c.pages c.phase (body_after (file_at bodies target) call.request.id.call call.request.bytes) c.belief
     filled_was = slot_full.0
       where
         slot_full : IsSlotFor PassStage order c.pages c.phase (body_after (file_at bodies target) call.request.id.call call.request.bytes) None c.belief None

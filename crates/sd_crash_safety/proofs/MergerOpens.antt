@@ -53,7 +53,7 @@ use Rattle.sd_crash_safety.specs.GateSteps.{GateSteps, IsOnlyTwin}
 use Rattle.sd_crash_safety.specs.InUse.{ClosesBody, IsAtWork, IsImageOn, IsInUseOn, IsSlotFor, body_written, is_opening_at, lanes_of, pending_dump}
 use Rattle.sd_crash_safety.specs.MergerOutcomes.{MayRetire, MergedOpens, OutcomeIsBelieved}
 use Rattle.sd_crash_safety.specs.MergerSteps.{IsUncalled}
-use Rattle.sd_crash_safety.specs.Merges.{IsAskedIn, IsCopyOn, IsCopying, IsListedOn, IsMergeAt, IsMergeOn, IsOtherImage, IsSpared, IsUnmerged, MakesOther, lanes_in_slot, order_of_slot, request_in_slot, stage_in_slot}
+use Rattle.sd_crash_safety.specs.Merges.{IsAskedIn, IsCopyOfSource, IsCopyOn, IsListedOn, IsMergeAt, IsMergeOn, IsOtherImage, IsSpared, IsUnmerged, MakesOther, lanes_in_slot, order_of_slot, request_in_slot, stage_in_slot}
 use Rattle.sd_crash_safety.specs.StoreSteps.{QuietSteps, SlotIsOpened}
 use Rattle.sd_crash_safety.specs.View.{CoreView, history_of}
 use Rattle.sd_crash_safety.proofs.BeginsImage.{image_of_has}
@@ -141,7 +141,7 @@ module _ (quiet : QuietSteps) (gates : GateSteps) (making : MakingLaws) (keeps :
   u : IsInUseOn old.base history old.catalog old.grows old.memory old.phases asked bodies last b.store b.dump b.beliefs running
   u = b.knows.in_use s.rest.stands
 
-  k : IsCopying old.phases asked bodies last b.store b.beliefs running merge.slot merge.source made
+  k : IsCopyOfSource old.phases asked bodies last b.store b.beliefs running merge.slot merge.source made
   k = subst (IsMergeAt old.phases asked bodies last b.store b.beliefs running merge.slot merge.source) s.doing
       (subst (λ m. IsMergeOn old.phases asked bodies last b.store b.beliefs running m) s.was (b.knows.merging s.rest.stands).is)
 

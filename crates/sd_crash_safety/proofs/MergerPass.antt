@@ -36,9 +36,9 @@ use Rattle.sd_store_laws.specs.Needs.{IsNeededIn}
 use Rattle.sd_store_laws.specs.Stays.{SourceReachesNeeded}
 use Rattle.sd_crash_safety.specs.Believes.{Believes, HasStore}
 use Rattle.sd_crash_safety.specs.Calls.{IsFree}
-use Rattle.sd_crash_safety.specs.InUse.{IsAtWork, IsFilled, IsInUseOn, IsSlotFor, body_written, call_of, ids_of}
+use Rattle.sd_crash_safety.specs.InUse.{IsAtWork, IsFilledSlot, IsInUseOn, IsSlotFor, body_written, ids_of, kind_of_call}
 use Rattle.sd_crash_safety.specs.MergerSteps.{AsksForMerged, MergesOn, TakesZeros}
-use Rattle.sd_crash_safety.specs.Merges.{IsAskedIn, IsCopyOn, IsCopying, IsMergeAt, IsMergeOn, IsSpared, MakesOther, lanes_in_slot, order_of_slot, request_in_slot, stage_in_slot}
+use Rattle.sd_crash_safety.specs.Merges.{IsAskedIn, IsCopyOfSource, IsCopyOn, IsMergeAt, IsMergeOn, IsSpared, MakesOther, lanes_in_slot, order_of_slot, request_in_slot, stage_in_slot}
 use Rattle.sd_crash_safety.specs.StoreSteps.{IsQuiet, QuietSteps}
 use Rattle.sd_crash_safety.specs.View.{CoreView, history_of}
 use Rattle.sd_crash_safety.proofs.Asks.{unchanged_at}
@@ -113,7 +113,7 @@ module _ (quiet : QuietSteps) (merge_laws : MergeLaws) (files_of : FileLaws) (ne
   u : IsInUseOn old.base history old.catalog old.grows old.memory old.phases asked bodies last b.store b.dump b.beliefs running
   u = b.knows.in_use s.rest.stands
 
-  k : IsCopying old.phases asked bodies last b.store b.beliefs running merge.slot merge.source made
+  k : IsCopyOfSource old.phases asked bodies last b.store b.beliefs running merge.slot merge.source made
   k = subst (IsMergeAt old.phases asked bodies last b.store b.beliefs running merge.slot merge.source) s.doing
       (subst (λ m. IsMergeOn old.phases asked bodies last b.store b.beliefs running m) s.was (b.knows.merging s.rest.stands).is)
 
@@ -143,7 +143,7 @@ module _ (quiet : QuietSteps) (merge_laws : MergeLaws) (files_of : FileLaws) (ne
   copying_next : (pages : Pages) (asked_now : List (Option Asked)) (request : Option Asked) → next.order ≡ made.order → KeepsCopy b.store.catalog source pages next → FilesCopy source pages next
       → slice_get asked_now 1 ≡ Some request → IsAskedIn next.stage old.phases bodies b.store b.beliefs running target source next.taking request
       → IsSlotFor (stage_in_slot next.stage) (order_of_slot target made.order.state) pages c.phase (body_written (file_at bodies target) (lanes_in_slot next.stage request)) (request_in_slot next.stage request) c.belief None
-      → IsCopying old.phases asked_now bodies last b.store b.beliefs running merge.slot merge.source next
+      → IsCopyOfSource old.phases asked_now bodies last b.store b.beliefs running merge.slot merge.source next
   copying_next pages asked_now request same keeps filed own asked_in slot_is = record {
     repeats = k.repeats;
     order = (ap (λ o. o.source) same ∙ k.order.0, ap (λ o. o.slot) same ∙ k.order.1);
@@ -169,7 +169,7 @@ module _ (quiet : QuietSteps) (merge_laws : MergeLaws) (files_of : FileLaws) (ne
   -- the new core
   believes_next : (asked_now : List (Option Asked)) → ids_of asked_now ≡ new.outs → HasStore old.base history old.phases asked_now bodies b.store b.dump b.beliefs
       → IsInUseOn old.base history old.catalog old.grows old.memory old.phases asked_now bodies last b.store b.dump b.beliefs running
-      → IsCopying old.phases asked_now bodies last b.store b.beliefs running merge.slot merge.source next → Believes new asked_now bodies files
+      → IsCopyOfSource old.phases asked_now bodies last b.store b.beliefs running merge.slot merge.source next → Believes new asked_now bodies files
   believes_next asked_now out has in_use copying_it =
       believes_parts new old.base history old.catalog old.grows old.memory old.phases last running (Some (record merge { doing = copying next }))
       (record {
@@ -193,13 +193,13 @@ module _ (quiet : QuietSteps) (merge_laws : MergeLaws) (files_of : FileLaws) (ne
     none_out : c.request ≡ None
     none_out = ready.1
       where
-        ready : IsFilled c.pages c.phase (file_at bodies target) c.belief × (c.request ≡ None) × (no_dump ≡ None)
+        ready : IsFilledSlot c.pages c.phase (file_at bodies target) c.belief × (c.request ≡ None) × (no_dump ≡ None)
         ready = subst (λ st. IsSlotFor (stage_in_slot st) (order_of_slot target made.order.state) c.pages c.phase (body_written (file_at bodies target) (lanes_in_slot st c.request)) (request_in_slot st c.request) c.belief None) stage c.slot_is
 
-    filled_slot : IsFilled c.pages c.phase (file_at bodies target) c.belief
+    filled_slot : IsFilledSlot c.pages c.phase (file_at bodies target) c.belief
     filled_slot = ready.0
       where
-        ready : IsFilled c.pages c.phase (file_at bodies target) c.belief × (c.request ≡ None) × (no_dump ≡ None)
+        ready : IsFilledSlot c.pages c.phase (file_at bodies target) c.belief × (c.request ≡ None) × (no_dump ≡ None)
         ready = subst (λ st. IsSlotFor (stage_in_slot st) (order_of_slot target made.order.state) c.pages c.phase (body_written (file_at bodies target) (lanes_in_slot st c.request)) (request_in_slot st c.request) c.belief None) stage c.slot_is
 
     own_none : slice_get asked 1 ≡ Some None
@@ -218,7 +218,7 @@ module _ (quiet : QuietSteps) (merge_laws : MergeLaws) (files_of : FileLaws) (ne
 
       asks_on_slot : (phase : Phase) (belief : Belief) → slice_get old.phases request.id.slot ≡ Some phase → slice_get b.beliefs request.id.slot ≡ Some belief → is_ready phase request.id.call ≡ true
           → IsQuiet phase request.id.call → IsSpared running request.id.slot
-          → IsCopying old.phases asked_now bodies last b.store b.beliefs running merge.slot merge.source next → Believes new asked_now bodies files
+          → IsCopyOfSource old.phases asked_now bodies last b.store b.beliefs running merge.slot merge.source next → Believes new asked_now bodies files
       asks_on_slot phase belief phase_is belief_is ready is_quiet spared copying_it =
           believes_next asked_now out_now
           (quiet.asks old.base history old.phases asked bodies b.store b.dump b.beliefs 1 request
@@ -463,7 +463,7 @@ module _ (quiet : QuietSteps) (merge_laws : MergeLaws) (files_of : FileLaws) (ne
       (subst (λ st. IsSlotFor (stage_in_slot st) (order_of_slot merge.slot made.order.state) c0.pages c0.phase (body_written body (lanes_in_slot st (Some request))) (request_in_slot st (Some request)) c0.belief None) (sym next_stage) (record {
         place = 0;
         on = writes.gives.same_slot ∙ k0.order.1;
-        left = ap (map call_of) (sym given);
+        left = ap (map kind_of_call) (sym given);
         leads = subst (λ cs. Leads c0.phase body cs Whole (image_text i)) given
             (subst (Leads c0.phase body calls Whole) (ap (λ x. body_closed x writes.header text) filled0.spelled ∙ spelled)
             (plans.close_body c0.phase body writes.header text filled0.writes filled0.fills));

@@ -20,7 +20,7 @@ use Rattle.sd_gate.specs.Sequences.{Calls, closing_calls}
 use Rattle.sd_merge.specs.declared.merge_progress.MergeProgress.{MergeProgress}
 use Rattle.sd_merge.specs.declared.merge_progress.MergeProgress.TheVariants as progress
 use Rattle.sd_merge.specs.declared.retired.Retired.{Retired}
-use Rattle.sd_merge.specs.Merger.{EndsOne, GoesOnWith, HandsClosing, IsLastOf, Retiring, retiring}
+use Rattle.sd_merge.specs.Merger.{EndsOne, GoesOnWith, HandsClosing, IsLastCall, Retiring, retiring}
 use Rattle.sd_merge.specs.Merger as merger
 use Rattle.sd_rounds.specs.declared.image_order.ImageOrder.{ImageOrder}
 use Rattle.sd_rounds.specs.declared.stage.Stage.TheVariants.{Format, Close}
@@ -246,7 +246,7 @@ module _ (quiet : QuietSteps) (gates : GateSteps) (making : MakingLaws) (closing
   -- ---- the next one begins
 
   -- behind its last call its slot is closed, and its file one byte long
-  cut_now : IsLastOf r made → IsCutOn (phases_then old made phase) running one
+  cut_now : IsLastCall r made → IsCutOn (phases_then old made phase) running one
   cut_now l =
       let led = leads_head phase Bare (file_at bodies slot) [] made.request.id.call made.request.bytes r.plan.calls slot_was.0.leads in
       record {
@@ -256,13 +256,13 @@ module _ (quiet : QuietSteps) (gates : GateSteps) (making : MakingLaws) (closing
       }
 
   -- so are those up to it
-  cut_up_to : IsLastOf r made → (place : ℕ) (other : Retired) → place < r.ended + 1 → slice_get r.list place ≡ Some other → IsCutOn (phases_then old made phase) running other
+  cut_up_to : IsLastCall r made → (place : ℕ) (other : Retired) → place < r.ended + 1 → slice_get r.list place ≡ Some other → IsCutOn (phases_then old made phase) running other
   cut_up_to l place other behind there = elim (cases_eq place r.ended) [
     | inl its ↦ subst (IsCutOn (phases_then old made phase) running) (same_Some one other (sym k.there ∙ ap (slice_get r.list) (sym its) ∙ there)) (cut_now l)
     | inr differs ↦ cut_then place other (omega (arith, behind, differs)) there
   ]
 
-  ends_one : IsLastOf r made → EndsOne r next → new.merger ≡ Some (record merge { doing = retiring next }) → Believes new (asked_then asked) (bodies_then bodies made) files
+  ends_one : IsLastCall r made → EndsOne r next → new.merger ≡ Some (record merge { doing = retiring next }) → Believes new (asked_then asked) (bodies_then bodies made) files
   ends_one l e is = believes_merge (Some (record merge { doing = retiring (begun_at r.serial r.list (r.ended + 1) e.next) })) (is ∙ ap (λ x. Some (record merge { doing = retiring x })) e.is) (record {
     alone = alone;
     one = e.next;

@@ -6,7 +6,7 @@ use Rattle.sd_image.specs.Image.{Image, IsImage}
 use Rattle.sd_image.specs.Laws.{HaveTables, PageInFile}
 use Rattle.sd_image.specs.Table.{IsTable}
 use Rattle.sd_chain.specs.Catalog.{IsSoundCatalog, Places, images}
-use Rattle.sd_chain.specs.Tells.{Agrees, CatalogLists, HavePages}
+use Rattle.sd_chain.specs.Tells.{Agrees, CatalogLists, HaveDataPages}
 use Rattle.sd_chain.specs.Ways.{AreImages}
 use Rattle.sd_merge.specs.Merging.{IsSourceAt}
 use Rattle.sd_store_laws.specs.InUse.{CatalogInUseTells}
@@ -23,7 +23,7 @@ module _ (places : Places) (knows : KnowsCatalog places) (all : List Image) (spe
   pub tables_of : HaveTables all
   tables_of i member = (spelled i member).1.table
 
-  pub pages_of_all : HavePages all
+  pub pages_of_all : HaveDataPages all
   pages_of_all i member place page at =
       let file = spelled i member in
       (_, (knows.page file.0 i page place file.1 at).1)

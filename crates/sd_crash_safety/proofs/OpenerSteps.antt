@@ -18,7 +18,7 @@ use Rattle.sd_journal.specs.Marked.{entries_of}
 use Rattle.sd_store_laws.specs.GateSteps.{GivenUpSyncs}
 use Rattle.sd_opener.specs.declared.stage.Stage.{Stage}
 use Rattle.sd_opener.specs.declared.stage.Stage.TheVariants.{Asking, Read as ReadStage, Broken}
-use Rattle.sd_opener.specs.Looking.{IsAskedBy, IsAtNext, Looking}
+use Rattle.sd_opener.specs.Looking.{IsAtNext, Looking, OpenerAsks}
 use Rattle.sd_opener.specs.Sees.{IsToldOf, Sees, SeesSlot}
 use Rattle.sd_crash_safety.specs.declared.standing.Standing.TheVariants as standing
 use Rattle.sd_crash_safety.specs.Believes.{Believes, HasStore}
@@ -256,7 +256,7 @@ looks_lem quiet old new opener next number request asked bodies files l b =
       | inr differs ↦ absurd (none worker other (sym (set_other a 2 worker (Some r) differs) ∙ is))
     ]
 
-    was_past : (o n : Looking) → IsPastSync n.stage → IsAskedBy number o request n → IsPastSync o.stage
+    was_past : (o n : Looking) → IsPastSync n.stage → OpenerAsks number o request n → IsPastSync o.stage
     was_past o n past asks =
         let has : HasSynced asks.next = subst IsPastSync asks.is past in
         subst IsPastSync (sym asks.was) (record {

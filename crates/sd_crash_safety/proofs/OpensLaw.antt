@@ -18,7 +18,7 @@ use Rattle.sd_gate.specs.Requests.{Asked}
 use Rattle.sd_gate.specs.Sequences.{body_calls}
 use Rattle.sd_rounds.specs.declared.image_order.ImageOrder.{ImageOrder}
 use Rattle.sd_store_laws.specs.Beliefs.{Belief, Kept, Opening, image_at, image_in}
-use Rattle.sd_crash_safety.specs.InUse.{AreExact, ClosesBody, IsImageOn, IsInUseOn, IsMakingOn, IsRunningOn, IsSlotFor, NoneAt, call_of, chain_of, is_opening_at, pending_dump, body_written, ids_of, lanes_of}
+use Rattle.sd_crash_safety.specs.InUse.{AreExact, ClosesBody, IsImageOn, IsInUseOn, IsMakingOn, IsRunningOn, IsSlotFor, NoneAt, kind_of_call, chain_of, is_opening_at, pending_dump, body_written, ids_of, lanes_of}
 use Rattle.sd_chain.specs.Catalog.{Changes, place_of}
 use Rattle.sd_gate.specs.Calls.{is_done}
 use Rattle.sd_gate.specs.Phases.{bodies_after, phases_after}
@@ -70,8 +70,8 @@ pub record IsOpenThen (order : ImageOrder) (i : Image) (phase : Phase) (body : L
 
 module _ (order : ImageOrder) (i : Image) (plan : Planned) (phase : Phase) (body : List ℕ) (request : Asked) (belief : Belief) (dump : Option Image)
     (c : ClosesBody order i plan phase body (Some request) belief dump) (none : plan.calls ≡ []) where
-  named : request.id.call ∷ [] ≡ drop c.place (map call_of (body_calls i.header (table_text i.spaces)))
-  named = ap (λ cs. request.id.call ∷ map call_of cs) (sym none) ∙ c.left
+  named : request.id.call ∷ [] ≡ drop c.place (map kind_of_call (body_calls i.header (table_text i.spaces)))
+  named = ap (λ cs. request.id.call ∷ map kind_of_call cs) (sym none) ∙ c.left
 
   too_many : (first second : Call) (rest : List Call) → request.id.call ∷ [] ≡ first ∷ second ∷ rest → ⊥
   too_many first second rest e = let no : 1 ≡ suc (suc (length rest)) = ap length e in omega (arith, no)
@@ -80,7 +80,7 @@ module _ (order : ImageOrder) (i : Image) (plan : Planned) (phase : Phase) (body
   none_made zero = refl
   none_made (suc k) = refl
 
-  opened_by : (place : ℕ) → request.id.call ∷ [] ≡ drop place (map call_of (body_calls i.header (table_text i.spaces)))
+  opened_by : (place : ℕ) → request.id.call ∷ [] ≡ drop place (map kind_of_call (body_calls i.header (table_text i.spaces)))
       → (is_opening_at place (Some request) ≡ true → (belief ≡ Opening i) × (dump ≡ pending_dump order.kind i)) → (belief ≡ Opening i) × (dump ≡ pending_dump order.kind i)
   opened_by zero is opening = absurd (too_many _ _ _ is)
   opened_by (suc zero) is opening = absurd (too_many _ _ _ is)

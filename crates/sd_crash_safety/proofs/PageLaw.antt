@@ -19,7 +19,7 @@ use Rattle.sd_store_laws.specs.Beliefs.{Belief, Closed}
 use Rattle.sd_store_laws.specs.Gates.{IsBelievedAs, MayBelieve}
 use Rattle.sd_crash_safety.specs.Believes.{Believes, HasStore}
 use Rattle.sd_crash_safety.specs.DumperOutcomes.{PageIsWritten}
-use Rattle.sd_crash_safety.specs.InUse.{ArePagesOf, IsFilled, IsFrozenAs, IsImageOn, IsInUseOn, IsMakingOn, IsPageOf, IsRunningOn, IsSlotFor, NoneAt, body_written, chain_of, ids_of, lanes_of}
+use Rattle.sd_crash_safety.specs.InUse.{ArePagesOf, IsFilledSlot, IsFrozenAs, IsImageOn, IsInUseOn, IsMakingOn, IsPageOf, IsRunningOn, IsSlotFor, NoneAt, body_written, chain_of, ids_of, lanes_of}
 use Rattle.sd_crash_safety.specs.StoreSteps.{QuietSteps}
 use Rattle.sd_crash_safety.specs.View.{CoreView, history_of, page_lane}
 use Rattle.sd_crash_safety.proofs.HandsLaw.{count_then, file_set, has_then, ids_then}
@@ -77,7 +77,7 @@ module _ (commutes : WritesCommute) (making : MakingLaws) (quiet : QuietSteps) (
   stage : image.stage ≡ PassStage
   stage = passing_stage image.stage s.hands.passing
 
-  ready : IsFilled m.pages m.phase (body_written (file_at bodies slot) (lanes_of asked)) m.belief × (m.request ≡ None) × (b.dump ≡ None)
+  ready : IsFilledSlot m.pages m.phase (body_written (file_at bodies slot) (lanes_of asked)) m.belief × (m.request ≡ None) × (b.dump ≡ None)
   ready = subst (λ st. IsSlotFor st image.order m.pages m.phase (body_written (file_at bodies slot) (lanes_of asked)) m.request m.belief b.dump) stage m.slot_is
 
   phase_same : m.phase ≡ phase

@@ -43,7 +43,7 @@ use Rattle.sd_merge.specs.Merger.{Doing, Retiring, due, copying, opened, retirin
 use Rattle.sd_merge.specs.Merger as merger
 use Rattle.sd_crash_safety.specs.Merges.{IsAskedIn, IsCopyOn, IsMergeAt, IsMergeOn, IsReadOn, IsRetiredOn, IsSpared, lanes_in_slot, order_of_slot, request_in_slot, stage_in_slot}
 use Rattle.sd_store_laws.specs.Store.{Store}
-use Rattle.sd_crash_safety.specs.InUse.{AreLeft, ArePagesOf, IsAtWork, IsImageOn, IsInUseOn, IsPageOf, IsSlotFor, NoneAt, body_written, call_of, calls_left, lanes_of}
+use Rattle.sd_crash_safety.specs.InUse.{AreLeft, ArePagesOf, IsAtWork, IsImageOn, IsInUseOn, IsPageOf, IsSlotFor, NoneAt, body_written, calls_left, kind_of_call, lanes_of}
 use Rattle.sd_crash_safety.specs.View.{CoreView, history_of}
 use Rattle.sd_opener.specs.declared.stage.Stage.{Stage}
 use Rattle.sd_opener.specs.declared.stage.Stage.TheVariants.{Asking, Read as ReadStage, Broken}
@@ -198,7 +198,7 @@ module _ (asked : List (Option Asked)) (worker : ℕ) (request : Asked) (made : 
       (leads_kept phase last body final request.id.call request.bytes made.request.bytes plan.calls is.bytes leads)
 
   left_made : (all : Calls) (place : ℕ) (plan : Planned) → AreLeft all place (Some request) plan → AreLeft all place (Some made.request) plan
-  left_made all place plan left = ap (λ (id : RequestId). id.call ∷ map call_of plan.calls) is.id ∙ left
+  left_made all place plan left = ap (λ (id : RequestId). id.call ∷ map kind_of_call plan.calls) is.id ∙ left
 
   slot_made : (stage : RoundStage) (order : ImageOrder) (pages : Pages) (phase : Phase) (body : List ℕ) (belief : Belief) (dump : Option Image)
       → IsSlotFor stage order pages phase body (Some request) belief dump → IsSlotFor stage order pages phase body (Some made.request) belief dump

@@ -22,7 +22,7 @@ use Rattle.sd_rounds.specs.declared.image_step.ImageStep.TheVariants.{PageCall, 
 use Rattle.sd_rounds.specs.declared.stage.Stage.{Stage}
 use Rattle.sd_rounds.specs.declared.stage.Stage.TheVariants.{Pass as PassStage, Close}
 use Rattle.sd_rounds.specs.Dumper.{IsReserved, Running, is_last, order_of, writes_of_image}
-use Rattle.sd_rounds.specs.Files.{FileLaws, FilesImage, HasAreas}
+use Rattle.sd_rounds.specs.Files.{FileLaws, FilesImage, HasAreasAtFreeze}
 use Rattle.sd_rounds.specs.Keeps.{Chain}
 use Rattle.sd_rounds.specs.Making.{Making, WritesPage, WritesTable, is_frozen_dump, is_past_freeze}
 use Rattle.sd_rounds.specs.MakingLaws.{AreItsNumbers, DumpsImage, KeepsImage, MakingLaws, Pages, image_of}
@@ -33,7 +33,7 @@ use Rattle.sd_store_laws.specs.InUse.{CatalogFollows}
 use Rattle.sd_store_laws.specs.Needs.{IsNeededIn}
 use Rattle.sd_crash_safety.specs.Believes.{Believes}
 use Rattle.sd_crash_safety.specs.DumperSteps.{AsksFor, AsksToWrite, OnlyDumps}
-use Rattle.sd_crash_safety.specs.InUse.{ArePagesOf, ClosesBody, IsFilled, IsFrozenAs, IsImageOn, IsInUseOn, IsMakingOn, IsPageOf, IsRunningOn, IsSlotFor, body_written, call_of, chain_of, ids_of, lanes_of}
+use Rattle.sd_crash_safety.specs.InUse.{ArePagesOf, ClosesBody, IsFilledSlot, IsFrozenAs, IsImageOn, IsInUseOn, IsMakingOn, IsPageOf, IsRunningOn, IsSlotFor, body_written, chain_of, ids_of, kind_of_call, lanes_of}
 use Rattle.sd_crash_safety.specs.StoreSteps.{MayAsk, QuietSteps}
 use Rattle.sd_crash_safety.specs.View.{CoreView, history_of, page_lane}
 use Rattle.sd_crash_safety.proofs.Asks.{in_use_from, unchanged_at}
@@ -91,7 +91,7 @@ module _ (quiet : QuietSteps) (follows : CatalogFollows)
   writes_in : ids_of (lanes_of asked) ≡ image.writes
   writes_in = u.writes ∙ ap writes_of_image s.making
 
-  ready : IsFilled m.pages m.phase (body_written (file_at bodies slot) (lanes_of asked)) m.belief × (m.request ≡ None) × (b.dump ≡ None)
+  ready : IsFilledSlot m.pages m.phase (body_written (file_at bodies slot) (lanes_of asked)) m.belief × (m.request ≡ None) × (b.dump ≡ None)
   ready = subst (λ st. IsSlotFor st image.order m.pages m.phase (body_written (file_at bodies slot) (lanes_of asked)) m.request m.belief b.dump) stage m.slot_is
 
   few_of : (i : Image) → image_in m.belief ≡ Some i → i.header.serial ≤ old.numbers.serial
@@ -295,7 +295,7 @@ writes_table_lem quiet plans follows making file old new running image next numb
             dumps = subst (λ mem. DumpsImage f.cut m0.pages chain later mem) s.memory
                 (subst (λ x. DumpsImage f.cut m0.pages chain x new.memory) writes.is
                 (making.dumps number f.cut m0.pages chain image next old.memory new.memory (TableCall request) s.steps (ap is_past_freeze writes.stage) s.rising m0.keeps f.dumps));
-            areas = subst (HasAreas f.cut) writes.is (areas_by image.order.kind refl past m0.pages chain m0.keeps numbers f);
+            areas = subst (HasAreasAtFreeze f.cut) writes.is (areas_by image.order.kind refl past m0.pages chain m0.keeps numbers f);
           };
       serial = m0.serial;
       fresh = m0.fresh;
@@ -313,7 +313,7 @@ writes_table_lem quiet plans follows making file old new running image next numb
       slot_is = subst (λ x. ClosesBody image.order i writes.next m0.phase x (Some request) m0.belief b.dump) (sym (ap (body_written body) lanes_same ∙ still)) (record {
         place = 0;
         on = writes.gives.same_slot;
-        left = ap (map call_of) (sym given);
+        left = ap (map kind_of_call) (sym given);
         leads = subst (λ cs. Leads m0.phase body cs Whole (image_text i)) given
             (subst (Leads m0.phase body calls Whole) (ap (λ x. body_closed x writes.header text) (sym still ∙ ready0.0.spelled) ∙ spelled)
             (plans.close_body m0.phase body writes.header text ready0.0.writes ready0.0.fills));
@@ -337,7 +337,7 @@ writes_table_lem quiet plans follows making file old new running image next numb
     filed_by Merged is pages chain keeps numbers frozen = absurd (never_merged (is_last running) (sym (ap (λ o. o.kind) s.own) ∙ is))
 
     areas_by : (kind : Kind) → image.order.kind ≡ kind → ((kind_number image.order.kind == 2) && true) ≡ true → (pages : Pages) (chain : Chain) → KeepsImage pages chain image old.memory
-        → AreItsNumbers image.order → (f : IsFrozenAs old.base (history_of old) running.number old.memory pages chain image) → HasAreas f.cut next
+        → AreItsNumbers image.order → (f : IsFrozenAs old.base (history_of old) running.number old.memory pages chain image) → HasAreasAtFreeze f.cut next
     areas_by PreDump is past pages chain keeps numbers f = absurd (false≢true (ap (λ k. (kind_number k == 2) && true) (sym is) ∙ past))
     areas_by Dump is past pages chain keeps numbers f = (file.dump number f.cut pages chain image next old.memory new.memory request s.steps is numbers s.rising keeps f.dumps).1
     areas_by Merged is past pages chain keeps numbers f = absurd (never_merged (is_last running) (sym (ap (λ o. o.kind) s.own) ∙ is))

@@ -59,8 +59,8 @@ opens_gate call.Cut = false
 opens_gate call.Sync = false
 
 -- a call of the running checkpoint opens the gate of its dump
-abbrev pub commits : Running → DeviceCall → Bool
-commits running asked = is_last running && opens_gate asked
+abbrev pub commits_dump : Running → DeviceCall → Bool
+commits_dump running asked = is_last running && opens_gate asked
 
 -- A step of an image asks for a device call that writes no data page.
 pub record AsksFor (old : CoreView) (running : Running) (image : Making) (number : ℕ) (step : ImageStep)
@@ -79,7 +79,7 @@ pub record AsksFor (old : CoreView) (running : Running) (image : Making) (number
   pub rising : IsRising image.pass
   pub own : image.order ≡ order_of running image.order.serial image.order.state
   pub steps : Steps number image old.memory step next new.memory
-  pub committing : new.committing ≡ (old.committing || commits running request.id.call)
+  pub committing : new.committing ≡ (old.committing || commits_dump running request.id.call)
   pub is : new.dumper.running ≡ Some (record running { image = Some next })
 
 -- A step of an image asks for the write of a data page: what is out on its slot writes others.

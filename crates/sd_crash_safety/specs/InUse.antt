@@ -26,7 +26,7 @@ use Rattle.sd_rounds.specs.declared.image_order.ImageOrder.{ImageOrder}
 use Rattle.sd_rounds.specs.declared.stage.Stage.{Stage}
 use Rattle.sd_rounds.specs.declared.stage.Stage.TheVariants.{Format, Freeze, Pass as PassStage, Close}
 use Rattle.sd_rounds.specs.Dumper.{IsReserved, Running, slot_of, writes_of_running}
-use Rattle.sd_rounds.specs.Files.{FilesImage, HasAreas}
+use Rattle.sd_rounds.specs.Files.{FilesImage, HasAreasAtFreeze}
 use Rattle.sd_rounds.specs.Keeps.{Chain, Rests}
 use Rattle.sd_rounds.specs.Making.{Making, is_frozen_dump, is_passing}
 use Rattle.sd_rounds.specs.MakingLaws.{DumpsImage, KeepsImage, Pages, image_of}
@@ -81,12 +81,12 @@ calls_left None plan = plan.calls
 calls_left (Some request) plan = (request.id.call, request.bytes) ∷ plan.calls
 
 -- the kinds of these calls
-abbrev pub call_of : Call × List ℕ → Call
-call_of c = c.0
+abbrev pub kind_of_call : Call × List ℕ → Call
+kind_of_call c = c.0
 
 -- so many of these calls were made, and the others are left, with the one that is out
 abbrev pub AreLeft : Calls → ℕ → Option Asked → Planned → Type 0
-AreLeft all place request plan = map call_of (calls_left request plan) ≡ drop place (map call_of all)
+AreLeft all place request plan = map kind_of_call (calls_left request plan) ≡ drop place (map kind_of_call all)
 
 -- what a slot is believed to be while it is formatted, also while a close of it is out
 abbrev pub IsFormatted : Phase → List ℕ → Option Asked → Belief → Type 0
@@ -115,7 +115,7 @@ body_written body (None ∷ lanes) = body_written body lanes
 body_written body (Some request ∷ lanes) = body_written (body_after body request.id.call request.bytes) lanes
 
 -- a slot that is closed for sure, and has these data pages behind the gate
-pub record IsFilled (pages : Pages) (phase : Phase) (body : List ℕ) (belief : Belief) : Type 0 where
+pub record IsFilledSlot (pages : Pages) (phase : Phase) (body : List ℕ) (belief : Belief) : Type 0 where
   pub writes : may_write phase ≡ true
   pub fills : filled phase ≡ Writing
   pub spelled : body ≡ pages_body pages
@@ -155,9 +155,9 @@ abbrev pub IsSlotFor : Stage → ImageOrder → Pages → Phase → List ℕ →
 IsSlotFor (Format plan) order pages phase body request belief dump =
     IsFormatting order plan phase body request belief × (dump ≡ None)
 IsSlotFor Freeze order pages phase body request belief dump =
-    IsFilled pages phase body belief × (request ≡ None) × (dump ≡ None)
+    IsFilledSlot pages phase body belief × (request ≡ None) × (dump ≡ None)
 IsSlotFor PassStage order pages phase body request belief dump =
-    IsFilled pages phase body belief × (request ≡ None) × (dump ≡ None)
+    IsFilledSlot pages phase body belief × (request ≡ None) × (dump ≡ None)
 IsSlotFor (Close plan header tables) order pages phase body request belief dump =
     ClosesBody order (image_of header pages tables) plan phase body request belief dump
 
@@ -171,7 +171,7 @@ pub record IsFrozenAs (base : Base) (history : History) (number : ℕ) (memory :
   pub shown : at_freeze base history number ≡ Some (plain_of cut)
   pub still : plain_of memory ≡ plain_of cut
   pub dumps : DumpsImage cut pages chain image memory
-  pub areas : HasAreas cut image
+  pub areas : HasAreasAtFreeze cut image
 
 -- an image that is being made
 pub record IsMakingOn (base : Base) (history : History) (memory : Contents) (phases : List Phase)

@@ -239,7 +239,7 @@ pub record IsRepeating (phases : List Phase) (store : Store) (beliefs : List Bel
 abbrev pub IsSilent : List (Option Asked) → Type 0
 IsSilent asked = slice_get asked 1 ≡ Some None
 
-pub record IsCopying (phases : List Phase) (asked : List (Option Asked)) (bodies : List (List ℕ)) (last : ℕ)
+pub record IsCopyOfSource (phases : List Phase) (asked : List (Option Asked)) (bodies : List (List ℕ)) (last : ℕ)
     (store : Store) (beliefs : List Belief)
     (running : Option Running) (target : ℕ) (origin : Source) (made : Copying) : Type 0 where
   pub repeats : IsRepeating phases store beliefs running target origin
@@ -251,7 +251,7 @@ abbrev pub IsMergeAt : List Phase → List (Option Asked) → List (List ℕ) �
 IsMergeAt phases asked bodies last store beliefs running target origin due =
     IsRepeating phases store beliefs running target origin × IsSilent asked
 IsMergeAt phases asked bodies last store beliefs running target origin (copying made) =
-    IsCopying phases asked bodies last store beliefs running target origin made
+    IsCopyOfSource phases asked bodies last store beliefs running target origin made
 IsMergeAt phases asked bodies last store beliefs running target origin (opened serial) = ⊥
 IsMergeAt phases asked bodies last store beliefs running target origin (retiring r) =
     IsRetiringOn phases asked bodies store beliefs running r

@@ -10,7 +10,7 @@ use Rattle.sd_gate.specs.Plans.{begun}
 use Rattle.sd_gate.specs.Requests.{Asked, Made}
 use Rattle.sd_gate.specs.Sequences.{first_looks}
 use Rattle.sd_opener.specs.declared.stage.Stage.TheVariants.{Asking}
-use Rattle.sd_opener.specs.Looking.{IsAskedBy, IsDecoded, Looking, LooksFurther}
+use Rattle.sd_opener.specs.Looking.{IsDecoded, Looking, LooksFurther, OpenerAsks}
 use Rattle.sd_opener.specs.Sees.{IsToldOf, Sees}
 use Rattle.sd_rounds.specs.Writes.{no_writes}
 use Rattle.sd_crash_safety.specs.declared.standing.Standing.TheVariants.{Open}
@@ -60,7 +60,7 @@ pub record LooksOn (old : CoreView) (opener : Looking) (number : ℕ) (request :
   pub phases : new.phases ≡ old.phases
   pub was : old.opener ≡ Some opener
   pub is : new.opener ≡ Some next
-  pub asked : IsAskedBy number opener request next
+  pub asked : OpenerAsks number opener request next
   pub sees : (files : List (List ℕ)) → Sees files None opener → Sees files (Some request) next
 
 -- an open slot was decoded

@@ -6,7 +6,7 @@ use Rattle.std.proofs.lemmas.List.{get_or_past, length-set}
 use Rattle.sd_disk.specs.Contents.{file_at, Torn, Cut, AtSlot}
 use Rattle.sd_disk.specs.Crash.{Elapses}
 use Rattle.sd_disk.specs.Events.{Outside, DiskEvent, files_after}
-use Rattle.sd_disk.specs.Laws.{Leads}
+use Rattle.sd_disk.specs.Laws.{CallLeadsTo}
 use Rattle.sd_disk.specs.Moments.{LeftSince}
 use Rattle.sd_disk.specs.Outcomes.{Unsynced, Leaves, MayLeave, at_rest, with_write, with_cut, unsynced_after, was_synced}
 use Rattle.sd_disk.specs.declared.call.Call.TheVariants.{Measured, Read, Written, Cut as Cuts, Synced, Failed, WriteFailed, CutFailed}
@@ -102,7 +102,7 @@ module _ (outside : Outside) (earlier : List DiskEvent) where
 
 -- an outcome after a call was one before it, and the call led there
 pub leads_back : (outside : Outside) (event : DiskEvent) (earlier : List DiskEvent) (c : List (List ℕ)) → MayLeave outside (event ∷ earlier) c
-    → (d : List (List ℕ)) × MayLeave outside earlier d × Leads event.0 event.1 (files_after outside earlier) d c
+    → (d : List (List ℕ)) × MayLeave outside earlier d × CallLeadsTo event.0 event.1 (files_after outside earlier) d c
 leads_back outside (Measured number len, bytes) earlier c left = (c, record { count = left.count; each = left.each }, refl)
 leads_back outside (Read number at, bytes) earlier c left = (c, record { count = left.count; each = left.each }, refl)
 leads_back outside (Written number at, bytes) earlier c left =
@@ -122,7 +122,7 @@ leads_back outside (CutFailed number len, bytes) earlier c left =
 
 -- what is led to from an outcome before a call is an outcome after it
 pub leads_on : (outside : Outside) (event : DiskEvent) (earlier : List DiskEvent) (c : List (List ℕ))
-    → ((d : List (List ℕ)) × MayLeave outside earlier d × Leads event.0 event.1 (files_after outside earlier) d c) → MayLeave outside (event ∷ earlier) c
+    → ((d : List (List ℕ)) × MayLeave outside earlier d × CallLeadsTo event.0 event.1 (files_after outside earlier) d c) → MayLeave outside (event ∷ earlier) c
 leads_on outside (Measured number len, bytes) earlier c from = let left = subst (MayLeave outside earlier) from.2 from.1 in record { count = left.count; each = left.each }
 leads_on outside (Read number at, bytes) earlier c from = let left = subst (MayLeave outside earlier) from.2 from.1 in record { count = left.count; each = left.each }
 leads_on outside (Written number at, bytes) earlier c from =
@@ -144,10 +144,10 @@ leads_on outside (CutFailed number len, bytes) earlier c from =
 -- an event that was noted
 module _ (outside outside' : Outside) (events events' : List DiskEvent) (event : DiskEvent) (same : outside' ≡ outside) (noted : events' ≡ event ∷ events) where
   pub crash_noted : (c : List (List ℕ)) → MayLeave outside' events' c
-      → (d : List (List ℕ)) × MayLeave outside events d × Leads event.0 event.1 (files_after outside events) d c
+      → (d : List (List ℕ)) × MayLeave outside events d × CallLeadsTo event.0 event.1 (files_after outside events) d c
   crash_noted c left = leads_back outside event events c (subst (λ o. MayLeave o (event ∷ events) c) same (subst (λ es. MayLeave outside' es c) noted left))
 
-  pub reach_noted : (c : List (List ℕ)) → ((d : List (List ℕ)) × MayLeave outside events d × Leads event.0 event.1 (files_after outside events) d c)
+  pub reach_noted : (c : List (List ℕ)) → ((d : List (List ℕ)) × MayLeave outside events d × CallLeadsTo event.0 event.1 (files_after outside events) d c)
       → MayLeave outside' events' c
   reach_noted c from = subst (λ es. MayLeave outside' es c) (sym noted) (subst (λ o. MayLeave o (event ∷ events) c) (sym same) (leads_on outside event events c from))
 

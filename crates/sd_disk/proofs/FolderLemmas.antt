@@ -2,12 +2,12 @@
 use Rattle.std.proofs.Common.{◌≡◌, ℕ, ◌<◌, List, [], ◌∷◌, length, refl, sym, ◌∙◌, subst}
 use Rattle.std.proofs.Math.ListN.{length-set}
 use Rattle.sd_disk.specs.Contents.{file_at, Torn, Cut, AtSlot}
-use Rattle.sd_disk.specs.Events.{Outside, DiskEvent, after, failures_in, files_after}
+use Rattle.sd_disk.specs.Events.{Outside, DiskEvent, files_after_call, failures_in, files_after}
 use Rattle.sd_disk.specs.declared.call.Call as call
 use Rattle.sd_disk.specs.declared.call.Call.TheVariants.{Measured, Read, Written, Cut as Cuts, Synced, Failed, WriteFailed, CutFailed}
 use Rattle.sd_disk.proofs.StepLemmas.{at_slot, torn_written, cut_taken, torn_by_write, torn_by_cut}
 
-length_after : (call : call.Call) (bytes left : List ℕ) (files : List (List ℕ)) → length (after call bytes left files) ≡ length files
+length_after : (call : call.Call) (bytes left : List ℕ) (files : List (List ℕ)) → length (files_after_call call bytes left files) ≡ length files
 length_after (Measured slot len) bytes left files = refl
 length_after (Read slot at) bytes left files = refl
 length_after (Written slot at) bytes left files = length-set files slot _
@@ -23,11 +23,11 @@ length_files outside (event ∷ earlier) =
     length_after event.0 event.1 (file_at outside.left (failures_in earlier)) (files_after outside earlier) ∙ length_files outside earlier
 
 module _ (outside outside' : Outside) (events events' : List DiskEvent) (event : DiskEvent) (same : outside' ≡ outside) (noted : events' ≡ event ∷ events) where
-  files_noted : files_after outside' events' ≡ after event.0 event.1 (file_at outside.left (failures_in events)) (files_after outside events)
+  files_noted : files_after outside' events' ≡ files_after_call event.0 event.1 (file_at outside.left (failures_in events)) (files_after outside events)
   files_noted = rw (same, noted) refl
 
   pub noted_at : (slot : ℕ) (step : List ℕ → List ℕ → Type 0)
-      → AtSlot slot step (files_after outside events) (after event.0 event.1 (file_at outside.left (failures_in events)) (files_after outside events))
+      → AtSlot slot step (files_after outside events) (files_after_call event.0 event.1 (file_at outside.left (failures_in events)) (files_after outside events))
       → AtSlot slot step (files_after outside events) (files_after outside' events')
   noted_at slot step stepped =
       let P : List (List ℕ) → Type 0 = AtSlot slot step (files_after outside events) in

@@ -5,7 +5,7 @@ use Rattle.std.proofs.lemmas.Bool.Decides.{eqb_tells}
 use Rattle.std.proofs.lemmas.List.{length-set, length-map, same_lists, get_or_default}
 use Rattle.sd_disk.specs.Contents.{file_at}
 use Rattle.sd_disk.specs.Crash.{Only}
-use Rattle.sd_disk.specs.Events.{Outside, DiskEvent, after, files_after, failures_in}
+use Rattle.sd_disk.specs.Events.{Outside, DiskEvent, files_after_call, files_after, failures_in}
 use Rattle.sd_disk.specs.Outcomes.{Leaves, MayLeave, AreSettled, at_rest, with_write, with_cut, unsynced_after, was_synced}
 use Rattle.sd_disk.specs.Slots.{held, ShadowTracks, AreTracked, AreAtRest}
 use Rattle.sd_disk.specs.declared.call.Call.TheVariants.{Written, Cut as Cuts, Synced, Failed}
@@ -47,11 +47,11 @@ tracked_after slots i old new is_slot is outside outside' events events' event s
     within number near = subst (λ n. number < n) (length-set slots i new) near
 
 pub replayed_after : (slots slots' : List SlotFile) (outside outside' : Outside) (events events' : List DiskEvent) (event : DiskEvent) → outside' ≡ outside → events' ≡ event ∷ events
-    → files_after outside events ≡ map held slots → ((left : List ℕ) → after event.0 event.1 left (map held slots) ≡ map held slots')
+    → files_after outside events ≡ map held slots → ((left : List ℕ) → files_after_call event.0 event.1 left (map held slots) ≡ map held slots')
     → files_after outside' events' ≡ map held slots'
 replayed_after slots slots' outside outside' events events' event same noted before changes =
     ap (files_after outside') noted ∙ ap (λ o. files_after o (event ∷ events)) same
-    ∙ ap (after event.0 event.1 (file_at outside.left (failures_in events))) before ∙ changes (file_at outside.left (failures_in events))
+    ∙ ap (files_after_call event.0 event.1 (file_at outside.left (failures_in events))) before ∙ changes (file_at outside.left (failures_in events))
 
 -- a call failed, and changed nothing
 pub tracked_failed : (slots : List SlotFile) (outside outside' : Outside) (events events' : List DiskEvent) → outside' ≡ outside → events' ≡ (Failed, []) ∷ events

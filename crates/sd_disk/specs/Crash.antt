@@ -11,8 +11,8 @@ abbrev pub Follows : (List (List ℕ) → List (List ℕ) → Type 0) → Outcom
 Follows step old new = (c : List (List ℕ)) → new c → (d : List (List ℕ)) × old d × step d c
 
 -- and each old outcome after a step is a new one
-abbrev pub Reaches : (List (List ℕ) → List (List ℕ) → Type 0) → Outcomes → Outcomes → Type 0
-Reaches step old new = (c d : List (List ℕ)) → old d → step d c → new c
+abbrev pub CoversSteps : (List (List ℕ) → List (List ℕ) → Type 0) → Outcomes → Outcomes → Type 0
+CoversSteps step old new = (c d : List (List ℕ)) → old d → step d c → new c
 
 -- every outcome of the one is an outcome of the other
 abbrev pub Within : Outcomes → Outcomes → Type 0

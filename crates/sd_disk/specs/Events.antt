@@ -48,22 +48,23 @@ abbrev pub torn_cut : ℕ → List ℕ → List ℕ → List ℕ
 torn_cut n file left = mixed (max (min (length file) n) (min (length file) (length left))) (λ i. nat_lt i n) file left
 
 -- the files after one call
-abbrev pub after : Call → List ℕ → List ℕ → List (List ℕ) → List (List ℕ)
-after (Measured slot len) bytes left files = files
-after (Read slot at) bytes left files = files
-after (Written slot at) bytes left files = slice_set files slot (file_after_write (file_at files slot) at bytes)
-after (Cut slot len) bytes left files = slice_set files slot (take len (file_at files slot))
-after (Synced slot) bytes left files = files
-after Failed bytes left files = files
-after (WriteFailed slot at) bytes left files =
+abbrev pub files_after_call : Call → List ℕ → List ℕ → List (List ℕ) → List (List ℕ)
+files_after_call (Measured slot len) bytes left files = files
+files_after_call (Read slot at) bytes left files = files
+files_after_call (Written slot at) bytes left files =
+    slice_set files slot (file_after_write (file_at files slot) at bytes)
+files_after_call (Cut slot len) bytes left files = slice_set files slot (take len (file_at files slot))
+files_after_call (Synced slot) bytes left files = files
+files_after_call Failed bytes left files = files
+files_after_call (WriteFailed slot at) bytes left files =
     slice_set files slot (torn_write at (length bytes) (file_at files slot) left)
-after (CutFailed slot len) bytes left files = slice_set files slot (torn_cut len (file_at files slot) left)
+files_after_call (CutFailed slot len) bytes left files = slice_set files slot (torn_cut len (file_at files slot) left)
 
 -- the files after all calls
 abbrev pub files_after : Outside → List DiskEvent → List (List ℕ)
 files_after outside [] = outside.found
 files_after outside (event ∷ earlier) =
-    after event.0 event.1 (file_at outside.left (failures_in earlier)) (files_after outside earlier)
+    files_after_call event.0 event.1 (file_at outside.left (failures_in earlier)) (files_after outside earlier)
 
 -- what came back is that of these files, and a cut didn't lengthen
 abbrev pub IsAnswer : Call → List ℕ → List (List ℕ) → Type 0

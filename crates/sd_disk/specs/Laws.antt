@@ -8,19 +8,19 @@ use Rattle.sd_disk.specs.declared.call.Call.TheVariants.{Measured, Read, Written
 use Rattle.sd_disk.specs.declared.call.Call.TheVariants.{WriteFailed, CutFailed}
 
 -- the outcomes after a call are those before it, with any bytes where it wrote or cut
-abbrev pub Leads : Call → List ℕ → List (List ℕ) → List (List ℕ) → List (List ℕ) → Type 0
-Leads (Measured slot len) bytes files before c = before ≡ c
-Leads (Read slot at) bytes files before c = before ≡ c
-Leads (Written slot at) bytes files before c = AtSlot slot (Torn at (length bytes)) before c
-Leads (Cuts slot len) bytes files before c = AtSlot slot (Cut len) before c
-Leads (Synced slot) bytes files before c = (before ≡ c) × (file_at c slot ≡ file_at files slot)
-Leads Failed bytes files before c = before ≡ c
-Leads (WriteFailed slot at) bytes files before c = AtSlot slot (Torn at (length bytes)) before c
-Leads (CutFailed slot len) bytes files before c = AtSlot slot (Cut len) before c
+abbrev pub CallLeadsTo : Call → List ℕ → List (List ℕ) → List (List ℕ) → List (List ℕ) → Type 0
+CallLeadsTo (Measured slot len) bytes files before c = before ≡ c
+CallLeadsTo (Read slot at) bytes files before c = before ≡ c
+CallLeadsTo (Written slot at) bytes files before c = AtSlot slot (Torn at (length bytes)) before c
+CallLeadsTo (Cuts slot len) bytes files before c = AtSlot slot (Cut len) before c
+CallLeadsTo (Synced slot) bytes files before c = (before ≡ c) × (file_at c slot ≡ file_at files slot)
+CallLeadsTo Failed bytes files before c = before ≡ c
+CallLeadsTo (WriteFailed slot at) bytes files before c = AtSlot slot (Torn at (length bytes)) before c
+CallLeadsTo (CutFailed slot len) bytes files before c = AtSlot slot (Cut len) before c
 
 -- The rules, call by call, in both directions.
 abbrev pub CrashOutcomes : Type 0
 CrashOutcomes = (outside : Outside) (event : DiskEvent) (earlier : List DiskEvent) (c : List (List ℕ))
     → MayLeave outside (event ∷ earlier) c ↔
     ((before : List (List ℕ)) × MayLeave outside earlier before
-    × Leads event.0 event.1 (files_after outside earlier) before c)
+    × CallLeadsTo event.0 event.1 (files_after outside earlier) before c)

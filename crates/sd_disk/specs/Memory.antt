@@ -47,8 +47,8 @@ abbrev pub memory_left_since : MemDisk → ℕ → List (List ℕ) → Type 0
 memory_left_since disk = LeftSince disk.budget.log.trace.outside (memory_events disk)
 
 -- there is room for a write of n bytes
-abbrev pub HasRoom : MemDisk → ℕ → ℕ → ℕ → Type 0
-HasRoom disk slot at n = (0 < memory_calls disk) × (at + n ≤ slice_index (memory_rooms disk) slot)
+abbrev pub HasRoomForWrite : MemDisk → ℕ → ℕ → ℕ → Type 0
+HasRoomForWrite disk slot at n = (0 < memory_calls disk) × (at + n ≤ slice_index (memory_rooms disk) slot)
 
 -- a call that was done
 pub record UsesCall (old new : MemDisk) : Type 0 where
@@ -58,7 +58,7 @@ pub record UsesCall (old new : MemDisk) : Type 0 where
   pub reads : memory_reads new ≡ memory_reads old
 
 -- a call that there was no room for
-pub record Refuses (old new : MemDisk) : Type 0 where
+pub record RefusesForRoom (old new : MemDisk) : Type 0 where
   pub calls : memory_calls new ≡ memory_calls old
   pub failures : memory_failures new ≡ memory_failures old + 1
   pub rooms : memory_rooms new ≡ memory_rooms old

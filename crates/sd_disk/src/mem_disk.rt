@@ -118,10 +118,10 @@ impl MemDisk {
 impl Disk for MemDisk {
     ghost use Rattle.std.specs.Prelude.{◌↔◌, IsOk, OnErr, take, slice_range, slice_set};
     ghost use Rattle.sd_disk.specs.Contents.{file_at, file_after_write, Torn, Cut, AtSlot};
-    ghost use Rattle.sd_disk.specs.Crash.{Follows, Reaches, Within, OnlyAt, Elapses};
+    ghost use Rattle.sd_disk.specs.Crash.{Follows, CoversSteps, Within, OnlyAt, Elapses};
     ghost use Rattle.sd_disk.specs.Memory.{memory_files, memory_calls, memory_failures, memory_called, memory_rooms};
     ghost use Rattle.sd_disk.specs.Memory.{memory_reads, memory_events, memory_may_leave, memory_moment};
-    ghost use Rattle.sd_disk.specs.Memory.{memory_left_since, HasRoom, UsesCall, Refuses, CountsRead};
+    ghost use Rattle.sd_disk.specs.Memory.{memory_left_since, HasRoomForWrite, UsesCall, RefusesForRoom, CountsRead};
     ghost use Rattle.sd_disk.specs.Moments.{counts_now, only_now};
     ghost use Rattle.sd_disk.specs.Outcomes.{read_as, count_as};
 
@@ -210,14 +210,14 @@ impl Disk for MemDisk {
         ensures crash { Follows (AtSlot slot (Torn at (length bytes.now)))
             (memory_may_leave self.old) (memory_may_leave self.new) }
         ensures reached { OnOk result
-            (Reaches (AtSlot slot (Torn at (length bytes.now))) (memory_may_leave self.old)
+            (CoversSteps (AtSlot slot (Torn at (length bytes.now))) (memory_may_leave self.old)
             (memory_may_leave self.new)) }
         ensures time { Elapses (memory_moment self.old) (memory_moment self.new)
             (memory_left_since self.old) (memory_left_since self.new) (memory_may_leave self.new) }
         ensures counted { memory_called self.new ≡ memory_called self.old + 1 }
         ensures done { OnOk result (UsesCall self.old self.new) }
-        ensures refused { OnErr result (Refuses self.old self.new) }
-        ensures room { IsOk result ↔ HasRoom self.old slot at (length bytes.now) }
+        ensures refused { OnErr result (RefusesForRoom self.old self.new) }
+        ensures room { IsOk result ↔ HasRoomForWrite self.old slot at (length bytes.now) }
     {
         let file = &mut self.slots[slot];
         let fits = file.has_room(at, bytes.len());
@@ -235,13 +235,13 @@ impl Disk for MemDisk {
         ensures crash { Follows (AtSlot slot (Cut len)) (memory_may_leave self.old)
             (memory_may_leave self.new) }
         ensures reached { OnOk result
-            (Reaches (AtSlot slot (Cut len)) (memory_may_leave self.old)
+            (CoversSteps (AtSlot slot (Cut len)) (memory_may_leave self.old)
             (memory_may_leave self.new)) }
         ensures time { Elapses (memory_moment self.old) (memory_moment self.new)
             (memory_left_since self.old) (memory_left_since self.new) (memory_may_leave self.new) }
         ensures counted { memory_called self.new ≡ memory_called self.old + 1 }
         ensures done { OnOk result (UsesCall self.old self.new) }
-        ensures refused { OnErr result (Refuses self.old self.new) }
+        ensures refused { OnErr result (RefusesForRoom self.old self.new) }
         ensures room { IsOk result ↔ (0 < memory_calls self.old)
             × (len ≤ length (file_at (memory_files self.old) slot)) }
     {
@@ -265,7 +265,7 @@ impl Disk for MemDisk {
             (memory_left_since self.old) (memory_left_since self.new) (memory_may_leave self.new) }
         ensures counted { memory_called self.new ≡ memory_called self.old + 1 }
         ensures done { OnOk result (UsesCall self.old self.new) }
-        ensures refused { OnErr result (Refuses self.old self.new) }
+        ensures refused { OnErr result (RefusesForRoom self.old self.new) }
         ensures room { IsOk result ↔ 0 < memory_calls self.old }
     {
         self.budget.spend(&Call::Synced { slot }, &[], true)?;

@@ -7,7 +7,7 @@ use Rattle.std.proofs.lemmas.Grind.{flat_map-append}
 use Rattle.std.proofs.lemmas.List.Sums.{sum_by-append, sum_by-cons}
 use Rattle.sd_areas.specs.declared.area.Area.{Area}
 use Rattle.sd_areas.specs.Areas.{AreMaximal}
-use Rattle.sd_areas.specs.Runs.{end_of}
+use Rattle.sd_areas.specs.Runs.{area_end}
 use Rattle.sd_areas.proofs.Maximal.{follows_on}
 use Rattle.sd_restore.proofs.TakeLemmas.{taken}
 use Rattle.sd_elf.specs.Texts.{area_header, area_headers, padded, program_header_text}
@@ -16,7 +16,7 @@ abbrev pub count_of : Area → ℕ
 count_of area = area.count
 
 -- areas that rise have no more pages than a space
-pub few_pages : (before : Option Area) (areas : List Area) (i : ℕ) → end_of before ≤ 2 ^ 35 → AreMaximal before areas → end_of before + sum_by count_of (take i areas) ≤ 2 ^ 35
+pub few_pages : (before : Option Area) (areas : List Area) (i : ℕ) → area_end before ≤ 2 ^ 35 → AreMaximal before areas → area_end before + sum_by count_of (take i areas) ≤ 2 ^ 35
 few_pages before areas zero least are = omega (arith, least)
 few_pages before [] (suc i) least are = omega (arith, least)
 few_pages before (area ∷ areas) (suc i) least are =
@@ -52,7 +52,7 @@ headers_more place at areas i area less is there =
 
 pub few_none : (areas : List Area) (i : ℕ) → AreMaximal None areas → sum_by count_of (take i areas) ≤ 2 ^ 35
 few_none areas i are =
-    let least : end_of None ≤ 2 ^ 35 = omega arith in
+    let least : area_end None ≤ 2 ^ 35 = omega arith in
     let few = few_pages None areas i least are in
     omega (arith, few)
 

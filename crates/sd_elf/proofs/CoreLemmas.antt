@@ -13,8 +13,8 @@ use Rattle.sd_elf.specs.declared.fault.HeaderFault.TheVariants as fault
 use Rattle.sd_elf.specs.declared.file_header.FileHeader.{FileHeader}
 use Rattle.sd_elf.specs.declared.program_header.ProgramHeader.{ProgramHeader}
 use Rattle.sd_elf.specs.Headers.{BreaksHeader, program_header_in}
-use Rattle.sd_elf.specs.Segments.{AreSegments, BreaksAt, IsFirstBreak, is_memory, no_extent}
-use Rattle.sd_elf.specs.Cores.{BeginsCore, IsCore, IsErrorOf, IsFaultOf, IsOutside, IsTable, headers_of, program_headers_in}
+use Rattle.sd_elf.specs.Segments.{AreSegments, BreaksAtSegment, IsFirstSegmentFault, is_memory, no_extent}
+use Rattle.sd_elf.specs.Cores.{BeginsCore, HasCoreFault, IsCoreFile, IsErrorOf, IsHeaderTable, IsOutside, headers_of, program_headers_in}
 use Rattle.sd_elf.proofs.SegmentLemmas.{first_break_none}
 
 pub range_last : (a n : ℕ) → range_with_len a (suc n) ≡ range_with_len a n ++ (a + n) ∷ []
@@ -42,7 +42,7 @@ header_unbroken bytes h fault.EntrySize p b = b (sym (ap (λ (h : FileHeader). h
 header_unbroken bytes h fault.Count p b = p.header.count (ap (λ (h : FileHeader). h.e_phnum) p.header.fields ∙ b)
 header_unbroken bytes h fault.Table p b = let table = rw p.header.fields at p.header.table in omega (arith, table, b)
 
-pub core_unbroken : (bytes : List ℕ) (segments : List ProgramHeader) (f : CoreFault) → IsCore bytes segments → IsFaultOf bytes f → ⊥
+pub core_unbroken : (bytes : List ℕ) (segments : List ProgramHeader) (f : CoreFault) → IsCoreFile bytes segments → HasCoreFault bytes f → ⊥
 core_unbroken bytes segments (core.Header f) p b = header_unbroken bytes p.header f p.begins b
 core_unbroken bytes segments (core.Segment number f) p b =
     let same : b.header ≡ p.header = b.begins.header.fields ∙ sym p.begins.header.fields in
@@ -50,34 +50,34 @@ core_unbroken bytes segments (core.Segment number f) p b =
     (subst (AreSegments (length bytes) no_extent) (p.memory ∙ ap (λ h. filter is_memory (headers_of bytes h)) (sym same)) p.fits)
 
 -- so an error of it says nothing of the bytes
-pub core_unrefused : (bytes : List ℕ) (segments : List ProgramHeader) (e : ReadError) → IsCore bytes segments → IsErrorOf bytes e → IsOutside e
+pub core_unrefused : (bytes : List ℕ) (segments : List ProgramHeader) (e : ReadError) → IsCoreFile bytes segments → IsErrorOf bytes e → IsOutside e
 core_unrefused bytes segments (error.Fault f) p b = core_unbroken bytes segments f p b
 core_unrefused bytes segments (error.File e) p b = tt
 core_unrefused bytes segments error.OutOfMemory p b = tt
 
-pub never_refused : (o : Option (List ℕ)) (result : Result Core ReadError) → IfSome o (λ held. IfErr result (IsErrorOf held)) → IfSome o (λ held. (segments : List ProgramHeader) → IsCore held segments → IfErr result IsOutside)
+pub never_refused : (o : Option (List ℕ)) (result : Result Core ReadError) → IfSome o (λ held. IfErr result (IsErrorOf held)) → IfSome o (λ held. (segments : List ProgramHeader) → IsCoreFile held segments → IfErr result IsOutside)
 never_refused None result h = tt
 never_refused (Some held) (Ok core) h = λ segments is. tt
 never_refused (Some held) (Err e) h = λ segments is. core_unrefused held segments e is h
 
 -- ---- the fault of a segment
 
-table_headers : (held table : List ℕ) (t : IsTable held table) → program_headers_in (length table / 56) table ≡ headers_of held t.header
+table_headers : (held table : List ℕ) (t : IsHeaderTable held table) → program_headers_in (length table / 56) table ≡ headers_of held t.header
 table_headers held table t =
     let n : ℕ = t.header.e_phnum in
     let count = t.count in
     ap (λ k. program_headers_in k table) (let e : length table / 56 ≡ n = omega (arith, count) in e) ∙ ap (program_headers_in n) t.same
 
-segment_error : (held table : List ℕ) (size : ℕ) (headers : List ProgramHeader) (f : CoreFault) → size ≡ length held → IsTable held table → headers ≡ program_headers_in (length table / 56) table → BreaksAt size headers f → IsFaultOf held f
+segment_error : (held table : List ℕ) (size : ℕ) (headers : List ProgramHeader) (f : CoreFault) → size ≡ length held → IsHeaderTable held table → headers ≡ program_headers_in (length table / 56) table → BreaksAtSegment size headers f → HasCoreFault held f
 segment_error held table size headers (core.Header f) whole t are b = absurd b
 segment_error held table size headers (core.Segment number f) whole t are b = record {
   header = t.header;
   begins = t.begins;
-  first = subst (λ hs. IsFirstBreak (length held) hs number f) (are ∙ table_headers held table t) (subst (λ n. IsFirstBreak n headers number f) whole b);
+  first = subst (λ hs. IsFirstSegmentFault (length held) hs number f) (are ∙ table_headers held table t) (subst (λ n. IsFirstSegmentFault n headers number f) whole b);
 }
 
-pub segment_told : (o : Option (List ℕ)) (table : List ℕ) (size : ℕ) (headers : List ProgramHeader) (f : CoreFault) → IfSome o (λ held. size ≡ length held) → IfSome o (λ held. size ≡ length held → IsTable held table)
-    → headers ≡ program_headers_in (length table / 56) table → BreaksAt size headers f → IfSome o (λ held. IsErrorOf held (error.Fault f))
+pub segment_told : (o : Option (List ℕ)) (table : List ℕ) (size : ℕ) (headers : List ProgramHeader) (f : CoreFault) → IfSome o (λ held. size ≡ length held) → IfSome o (λ held. size ≡ length held → IsHeaderTable held table)
+    → headers ≡ program_headers_in (length table / 56) table → BreaksAtSegment size headers f → IfSome o (λ held. IsErrorOf held (error.Fault f))
 segment_told None table size headers f whole t are b = tt
 segment_told (Some held) table size headers f whole t are b = segment_error held table size headers f whole (t whole) are b
 

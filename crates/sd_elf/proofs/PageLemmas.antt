@@ -13,7 +13,7 @@ use Rattle.sd_chain.specs.Store.{bytes_at}
 use Rattle.sd_restore.specs.declared.placed_run.PlacedRun.{PlacedRun}
 use Rattle.sd_restore.specs.Placed.{PlacedPage, page_behind, pages_in}
 use Rattle.sd_restore.proofs.RunLemmas.{first_pages, none_first, one_more}
-use Rattle.sd_elf.specs.Texts.{pages_bytes, part_of_run, placed_bytes, space_bytes}
+use Rattle.sd_elf.specs.Texts.{pages_bytes, placed_bytes, run_part_bytes, space_bytes}
 use Rattle.sd_elf.proofs.CoreLemmas.{range_last}
 
 pub same_written : {T E : Type 0} (result : Result T E) (a b : Option (List ℕ)) (bs cs : List ℕ) → bs ≡ cs → OnOk result (Appends a b bs) → OnOk result (Appends a b cs)
@@ -44,13 +44,13 @@ found_behind (found.Data slot offset) b k = ap (found.Data slot) (let e : offset
 -- pages that were read are those of the run
 pub read_pages_bytes : (contents : List (List ℕ)) (r : PlacedRun) (behind count : ℕ) (bytes : List ℕ)
     → ((k : ℕ) → k < count → slice_range bytes (4096 * k) (4096 * k + 4096) ≡ bytes_at contents (found_on (found_on r.there behind) k))
-    → pages_bytes bytes count ≡ part_of_run contents r behind count
+    → pages_bytes bytes count ≡ run_part_bytes contents r behind count
 read_pages_bytes contents r behind count bytes read =
     same_parts (λ k. slice_range bytes (4096 * k) (4096 * k + 4096)) (λ k. placed_bytes contents (page_behind r (behind + k))) count (λ k less.
     read k less ∙ ap (bytes_at contents) (found_behind r.there behind k))
 
 pub first_more : (contents : List (List ℕ)) (r : PlacedRun) (d n : ℕ)
-    → flat_map (placed_bytes contents) (first_pages r (d + n)) ≡ flat_map (placed_bytes contents) (first_pages r d) ++ part_of_run contents r d n
+    → flat_map (placed_bytes contents) (first_pages r (d + n)) ≡ flat_map (placed_bytes contents) (first_pages r d) ++ run_part_bytes contents r d n
 first_more contents r d zero = ap (λ k. flat_map (placed_bytes contents) (first_pages r k)) (let e : d + 0 ≡ d = omega arith in e) ∙ sym (append-nil _)
 first_more contents r d (suc n) =
     ap (λ k. flat_map (placed_bytes contents) (first_pages r k)) (let e : d + suc n ≡ suc (d + n) = omega arith in e)
@@ -58,7 +58,7 @@ first_more contents r d (suc n) =
     ∙ flat_map-append (placed_bytes contents) (first_pages r (d + n)) (page_behind r (d + n) ∷ [])
     ∙ ap (λ xs. flat_map (placed_bytes contents) (first_pages r (d + n)) ++ xs) (append-nil (placed_bytes contents (page_behind r (d + n))))
     ∙ ap (λ xs. xs ++ placed_bytes contents (page_behind r (d + n))) (first_more contents r d n)
-    ∙ append_assoc (flat_map (placed_bytes contents) (first_pages r d)) (part_of_run contents r d n) (placed_bytes contents (page_behind r (d + n)))
+    ∙ append_assoc (flat_map (placed_bytes contents) (first_pages r d)) (run_part_bytes contents r d n) (placed_bytes contents (page_behind r (d + n)))
     ∙ ap (λ xs. flat_map (placed_bytes contents) (first_pages r d) ++ xs) (sym (parts_last (λ k. placed_bytes contents (page_behind r (d + k))) n))
 
 pub none_of_run : (contents : List (List ℕ)) (r : PlacedRun) → flat_map (placed_bytes contents) (first_pages r 0) ≡ []

@@ -9,7 +9,7 @@ use Rattle.sd_elf.specs.declared.fault.SegmentFault.{SegmentFault}
 use Rattle.sd_elf.specs.declared.fault.SegmentFault.TheVariants as fault
 use Rattle.sd_elf.specs.declared.program_header.ProgramHeader.{ProgramHeader}
 use Rattle.sd_elf.specs.declared.segments.Extent.{Extent}
-use Rattle.sd_elf.specs.Segments.{AreSegments, BreaksSegment, IsFirstBreak, IsSegment, extent_after, extent_of, is_memory, no_extent}
+use Rattle.sd_elf.specs.Segments.{AreSegments, BreaksSegment, IsFirstSegmentFault, IsSegment, extent_after, extent_of, is_memory, no_extent}
 
 -- ---- behind others
 
@@ -85,7 +85,7 @@ one_more_extent xs i d e longer less memory is after =
 
 -- the first that a space can't have
 pub breaks_first : (size : ℕ) (xs : List ProgramHeader) (i : ℕ) (d : ProgramHeader) (e : Extent) (f : SegmentFault) → i < length xs → is_memory (slice_index_or xs i d) ≡ true → AreSegments size no_extent (passed i xs) → e ≡ extent_of no_extent (passed i xs)
-    → BreaksSegment size e (slice_index_or xs i d) f → IsFirstBreak size xs i f
+    → BreaksSegment size e (slice_index_or xs i d) f → IsFirstSegmentFault size xs i f
 breaks_first size xs i d e f less memory before is breaks = record {
   segment = slice_index_or xs i d;
   within = less;
@@ -96,7 +96,7 @@ breaks_first size xs i d e f less memory before is breaks = record {
 }
 
 -- where there is such a one, a space can't have them all
-pub first_break_none : (size : ℕ) (xs : List ProgramHeader) (i : ℕ) (f : SegmentFault) → IsFirstBreak size xs i f → AreSegments size no_extent (filter is_memory xs) → ⊥
+pub first_break_none : (size : ℕ) (xs : List ProgramHeader) (i : ℕ) (f : SegmentFault) → IsFirstSegmentFault size xs i f → AreSegments size no_extent (filter is_memory xs) → ⊥
 first_break_none size xs i f b all =
     let s = b.segment in
     let rest : List ProgramHeader = filter is_memory (drop (i + 1) xs) in

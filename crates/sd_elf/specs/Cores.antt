@@ -9,7 +9,7 @@ use Rattle.sd_elf.specs.declared.fault.CoreFault.TheVariants as core
 use Rattle.sd_elf.specs.declared.file_header.FileHeader.{FileHeader}
 use Rattle.sd_elf.specs.declared.program_header.ProgramHeader.{ProgramHeader}
 use Rattle.sd_elf.specs.Headers.{BreaksHeader, IsCoreHeader, program_header_in, table_end}
-use Rattle.sd_elf.specs.Segments.{AreSegments, IsFirstBreak, is_memory, no_extent}
+use Rattle.sd_elf.specs.Segments.{AreSegments, IsFirstSegmentFault, is_memory, no_extent}
 
 -- so many program headers that stand one behind the other in bytes
 abbrev pub program_headers_in : ℕ → List ℕ → List ProgramHeader
@@ -26,7 +26,7 @@ pub record BeginsCore (bytes : List ℕ) (h : FileHeader) : Type 0 where
   pub header : IsCoreHeader (slice_range bytes 0 64) (length bytes) h
 
 -- the bytes of a file are a core that a space can have, and these are its segments of memory
-pub record IsCore (bytes : List ℕ) (segments : List ProgramHeader) : Type 0 where
+pub record IsCoreFile (bytes : List ℕ) (segments : List ProgramHeader) : Type 0 where
   pub header : FileHeader
   pub begins : BeginsCore bytes header
   pub memory : segments ≡ filter is_memory (headers_of bytes header)
@@ -39,13 +39,14 @@ pub record BreaksCore (bytes : List ℕ) (breaks : List ProgramHeader → Type 0
   pub first : breaks (headers_of bytes header)
 
 -- what a fault says of the bytes of a file
-abbrev pub IsFaultOf : List ℕ → CoreFault → Type 0
-IsFaultOf bytes (core.Header f) = BreaksHeader (slice_range bytes 0 64) (length bytes) f
-IsFaultOf bytes (core.Segment number f) = BreaksCore bytes (λ headers. IsFirstBreak (length bytes) headers number f)
+abbrev pub HasCoreFault : List ℕ → CoreFault → Type 0
+HasCoreFault bytes (core.Header f) = BreaksHeader (slice_range bytes 0 64) (length bytes) f
+HasCoreFault bytes (core.Segment number f) =
+    BreaksCore bytes (λ headers. IsFirstSegmentFault (length bytes) headers number f)
 
 -- what an error says of them: nothing where they weren't read, or memory was refused
 abbrev pub IsErrorOf : List ℕ → ReadError → Type 0
-IsErrorOf bytes (error.Fault f) = IsFaultOf bytes f
+IsErrorOf bytes (error.Fault f) = HasCoreFault bytes f
 IsErrorOf bytes (error.File e) = Unit {0}
 IsErrorOf bytes error.OutOfMemory = Unit {0}
 
@@ -61,7 +62,7 @@ pub record IsRead (held : List ℕ) (place : ℕ) (bytes : List ℕ) : Type 0 wh
   pub same : bytes ≡ slice_range held place (place + length bytes)
 
 -- the bytes of the program headers of a core
-pub record IsTable (held : List ℕ) (table : List ℕ) : Type 0 where
+pub record IsHeaderTable (held : List ℕ) (table : List ℕ) : Type 0 where
   pub header : FileHeader
   pub begins : BeginsCore held header
   pub count : length table ≡ 56 * header.e_phnum

@@ -23,12 +23,12 @@ abbrev pub IsIn : ℕ → Piece → Type 0
 IsIn k p = (p.from ≤ k) × (k < p.to)
 
 -- a store of a piece is one of 1 to 64 bytes within a page
-pub record IsStore (p : Piece) : Type 0 where
+pub record FitsOneStore (p : Piece) : Type 0 where
   pub some : p.from < p.to
   pub few : p.to ≤ p.from + 64
   pub within : p.to ≤ 4096
 
 -- below a byte each one that differs is in one of these pieces, which can be stored
 pub record ArePieces (old new : List ℕ) (end : ℕ) (pieces : List Piece) : Type 0 where
-  pub stores : All IsStore pieces
+  pub stores : All FitsOneStore pieces
   pub cover : (k : ℕ) → k < end → (slice_index old k ≡ slice_index new k) ⊎ Any (IsIn k) pieces

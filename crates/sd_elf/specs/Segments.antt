@@ -82,7 +82,7 @@ extent_of e [] = e
 extent_of e (s ∷ segments) = extent_of (extent_after e s) segments
 
 -- the first segment of memory that a space can't have, behind those before it, and what is wrong with it
-pub record IsFirstBreak (size : ℕ) (headers : List ProgramHeader) (number : ℕ) (f : SegmentFault) : Type 0 where
+pub record IsFirstSegmentFault (size : ℕ) (headers : List ProgramHeader) (number : ℕ) (f : SegmentFault) : Type 0 where
   pub segment : ProgramHeader
   pub within : number < length headers
   pub there : segment ≡ slice_index_or headers number segment
@@ -90,6 +90,6 @@ pub record IsFirstBreak (size : ℕ) (headers : List ProgramHeader) (number : �
   pub before : AreSegments size no_extent (filter is_memory (take number headers))
   pub breaks : BreaksSegment size (extent_of no_extent (filter is_memory (take number headers))) segment f
 
-abbrev pub BreaksAt : ℕ → List ProgramHeader → CoreFault → Type 0
-BreaksAt size headers (core.Header f) = ⊥
-BreaksAt size headers (core.Segment number f) = IsFirstBreak size headers number f
+abbrev pub BreaksAtSegment : ℕ → List ProgramHeader → CoreFault → Type 0
+BreaksAtSegment size headers (core.Header f) = ⊥
+BreaksAtSegment size headers (core.Segment number f) = IsFirstSegmentFault size headers number f

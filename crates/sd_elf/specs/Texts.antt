@@ -17,8 +17,8 @@ use Rattle.sd_elf.specs.declared.program_header.ProgramHeader.{ProgramHeader}
 use Rattle.sd_elf.specs.Headers.{ident}
 
 -- Elf64_Ehdr: e_ident and what the file is, its places, and its sizes and counts
-abbrev pub kind_text : FileHeader → List ℕ
-kind_text h =
+abbrev pub file_kind_text : FileHeader → List ℕ
+file_kind_text h =
     ident ++ zero_bytes 9 ++ number_bytes 2 h.e_type ++ number_bytes 2 h.e_machine ++ number_bytes 4 h.e_version
 
 abbrev pub places_text : FileHeader → List ℕ
@@ -30,7 +30,7 @@ counts_text h = number_bytes 2 h.e_ehsize ++ number_bytes 2 h.e_phentsize ++ num
     ++ number_bytes 2 h.e_shentsize ++ number_bytes 2 h.e_shnum ++ number_bytes 2 h.e_shstrndx
 
 unfoldable pub file_header_text : FileHeader → List ℕ
-file_header_text h = kind_text h ++ places_text h ++ counts_text h
+file_header_text h = file_kind_text h ++ places_text h ++ counts_text h
 
 -- Elf64_Phdr: where a segment stands, and how large it is
 abbrev pub place_text : ProgramHeader → List ℕ
@@ -146,8 +146,8 @@ abbrev pub placed_core : List (List ℕ) → ℕ → List PlacedPage → Listed 
 placed_core contents checkpoint pages s = front_text checkpoint s.space s.areas ++ space_bytes contents s.space pages
 
 -- so many pages of a run from one on
-abbrev pub part_of_run : List (List ℕ) → PlacedRun → ℕ → ℕ → List ℕ
-part_of_run contents r behind count =
+abbrev pub run_part_bytes : List (List ℕ) → PlacedRun → ℕ → ℕ → List ℕ
+run_part_bytes contents r behind count =
     flat_map (λ k. placed_bytes contents (page_behind r (behind + k))) (range_with_len 0 count)
 
 -- pages that lie one behind the other in bytes that were read

@@ -1,7 +1,7 @@
 //! A core file, read: its headers, and then the pages of its segments.
 ghost use Rattle.std.specs.Prelude.{◌≡◌, ◌+◌, ◌^◌, ◌<◌, ◌/◌, ℕ, List, slice_index, filter, length, map, IfErr, IfOk};
 ghost use Rattle.std.specs.Prelude.{IfSome, OnOk};
-ghost use Rattle.sd_elf.specs.Cores.{IsCore, IsErrorOf, IsOutside, IsTable, program_headers_in, segment_byte};
+ghost use Rattle.sd_elf.specs.Cores.{IsCoreFile, IsErrorOf, IsHeaderTable, IsOutside, program_headers_in, segment_byte};
 ghost use Rattle.sd_elf.specs.Segments.{extent_of, is_memory, no_extent};
 ghost use Rattle.sd_elf.specs.declared.program_header.ProgramHeader.{ProgramHeader};
 
@@ -122,7 +122,7 @@ fn memory_segments(
 /// Reads the bytes of the program headers of a core.
 fn read_table<F: CoreFile>(alloc: Global, file: &F, size: u64) -> Result<Vec<u8>, ReadError>
     ensures found { IfSome (F.bytes file.now) (λ held. size ≡ length held
-        → IfOk result (λ table. IsTable held table.items)) }
+        → IfOk result (λ table. IsHeaderTable held table.items)) }
     ensures fault { IfSome (F.bytes file.now) (λ held. size ≡ length held
         → IfErr result (IsErrorOf held)) }
 {
@@ -144,11 +144,11 @@ fn read_table<F: CoreFile>(alloc: Global, file: &F, size: u64) -> Result<Vec<u8>
 /// `Fault` where the bytes are no core that a space can have; `File` where they can't be read.
 pub fn read_core<F: CoreFile>(alloc: Global, file: &F) -> Result<Core, ReadError>
     // What is read is a core that a space can have: its segments, and what they take.
-    ensures found { IfSome (F.bytes file.now) (λ held. IfOk result (λ core. IsCore held core.segments.items
+    ensures found { IfSome (F.bytes file.now) (λ held. IfOk result (λ core. IsCoreFile held core.segments.items
         × (core.extent ≡ extent_of no_extent core.segments.items))) }
     // A core that a space can have is read, unless the file can't be read or memory runs out.
     ensures only { IfSome (F.bytes file.now) (λ held. (segments : List ProgramHeader)
-        → IsCore held segments → IfErr result IsOutside) }
+        → IsCoreFile held segments → IfErr result IsOutside) }
     // What the fault says of the bytes is so.
     ensures fault { IfSome (F.bytes file.now) (λ held. IfErr result (IsErrorOf held)) }
 {

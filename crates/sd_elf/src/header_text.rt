@@ -5,7 +5,8 @@ ghost use Rattle.std.specs.List.{flat_map};
 ghost use Rattle.sd_areas.specs.Areas.{AreMaximal};
 ghost use Rattle.sd_image.specs.Words.{zero_bytes};
 ghost use Rattle.sd_elf.specs.Texts.{area_header, area_headers, core_header, counts_text, file_header_text, front_text};
-ghost use Rattle.sd_elf.specs.Texts.{kind_text, note_header, notes_place, own_note, padded, pages_place, place_text};
+ghost use Rattle.sd_elf.specs.Texts.{file_kind_text, note_header, notes_place, own_note, padded, pages_place};
+ghost use Rattle.sd_elf.specs.Texts.{place_text};
 ghost use Rattle.sd_elf.specs.Texts.{places_text, program_header_text, prot_flags, size_text, state_note};
 
 use crate::fields::{put_u16, put_u32, put_u64};
@@ -123,7 +124,7 @@ fn area_header(area: &Area, place: u64) -> ProgramHeader
 
 /// Writes what a file header begins with, up to its entry.
 fn put_kind(out: &mut Vec<u8>, header: &FileHeader) -> Result<(), AllocError>
-    ensures { OnOk result (out.new.items ≡ out.old.items ++ kind_text header.now) }
+    ensures { OnOk result (out.new.items ≡ out.old.items ++ file_kind_text header.now) }
 {
     out.extend_from_slice(&IDENT)?;
     push_zeros(out, 9)?;

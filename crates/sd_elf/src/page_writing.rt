@@ -5,7 +5,7 @@ ghost use Rattle.std.specs.Io.KnownBytes.{Appends};
 ghost use Rattle.sd_disk.specs.Reads.{OnlyReads};
 ghost use Rattle.sd_image.specs.Reading.{are_zero};
 ghost use Rattle.sd_restore.specs.Placed.{IsInSlots, IsWithin, pages_in, placed_pages};
-ghost use Rattle.sd_elf.specs.Texts.{pages_bytes, part_of_run, placed_bytes, space_bytes};
+ghost use Rattle.sd_elf.specs.Texts.{pages_bytes, placed_bytes, run_part_bytes, space_bytes};
 
 use crate::output::CoreOutput;
 use crate::write_error::WriteError;
@@ -60,7 +60,7 @@ fn put_some<D: Disk, O: CoreOutput>(
     requires room { length buffer.old ≡ 4096 * count }
     ensures text { D.is_honest disk.new → OnOk result
         (Appends (O.contents out.old) (O.contents out.new)
-        (part_of_run (D.contents disk.old) run.now behind count)) }
+        (run_part_bytes (D.contents disk.old) run.now behind count)) }
     ensures reads { OnlyReads D.Disk disk.old disk.new }
 {
     read_placed_pages(disk, run.place(behind), buffer)?;

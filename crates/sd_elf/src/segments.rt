@@ -1,7 +1,7 @@
 //! The segments of a core, and whether a space can have them.
 ghost use Rattle.std.specs.Prelude.{◌≡◌, ◌+◌, ◌<◌, ◌≤◌, ◌^◌, ℕ, filter, IsOk, IfOk, IfErr, MatchOption};
 ghost use Rattle.sd_elf.specs.declared.segments.Extent.{Extent};
-ghost use Rattle.sd_elf.specs.Segments.{AreSegments, BreaksAt, BreaksSegment, HasBytes, IsSegment, StandsBehind};
+ghost use Rattle.sd_elf.specs.Segments.{AreSegments, BreaksAtSegment, BreaksSegment, HasBytes, IsSegment, StandsBehind};
 ghost use Rattle.sd_elf.specs.Segments.{extent_after, extent_of, is_memory, no_extent, segment_end};
 
 use crate::fault::{CoreFault, SegmentFault};
@@ -135,7 +135,7 @@ pub fn check_segments(segments: &[ProgramHeader], size: u64) -> Result<Extent, C
     // Those that a space can have are never refused.
     ensures only { AreSegments size no_extent (filter is_memory segments.now) → IsOk result }
     // No other fault is told than one of a segment.
-    ensures fault { IfErr result (BreaksAt size segments.now) }
+    ensures fault { IfErr result (BreaksAtSegment size segments.now) }
 {
     let mut extent = Extent::EMPTY;
     for (number, segment) in segments.iter().enumerate() {

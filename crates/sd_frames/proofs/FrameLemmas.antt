@@ -5,10 +5,10 @@ use Rattle.std.proofs.lemmas.Bool.{cases_Bool, cases_eq, cases_lt, or_cases, or_
 use Rattle.std.specs.List.{slice_get}
 use Rattle.std.specs.Option.{option_and_then, option_map_or, IfSome}
 use Rattle.sd_frames.specs.Bytes.{zeros}
-use Rattle.sd_frames.specs.Frames.{Cell, Pool, cell_at, count_at, bytes_at, SetsCell, IsExhausted, HasFree}
+use Rattle.sd_frames.specs.Frames.{Cell, Pool, cell_at, count_at, cell_bytes, SetsCell, IsExhausted, HasFree}
 use Rattle.sd_frames.specs.declared.frame_cell.FrameCell.{FrameCell}
 use Rattle.sd_frames.specs.declared.frame_cell.FrameCell.TheVariants.{Used, Free}
-use Rattle.sd_frames.specs.FrameCells.{cell_of, cells_of, is_among, IsChain, IsFreeList}
+use Rattle.sd_frames.specs.FrameCells.{cell_of, cells_of, is_among, AreLinked, IsFreeList}
 
 -- ---- lists
 module _ {X : Type 0} where
@@ -59,7 +59,7 @@ pub used_slot : (slots : List FrameCell) (k : ℕ) (c : Cell) → get_or (cells_
 used_slot slots k c e = in_slot (slice_get slots k) c (sym (at_cell slots k) ∙ e)
 
 -- ---- the chain of free places
-chain_free : (slots : List FrameCell) (first : Option ℕ) (places : List ℕ) (k : ℕ) → IsChain slots first places → is_among k places ≡ true → (next : Option ℕ) × (slice_get slots k ≡ Some (Free next))
+chain_free : (slots : List FrameCell) (first : Option ℕ) (places : List ℕ) (k : ℕ) → AreLinked slots first places → is_among k places ≡ true → (next : Option ℕ) × (slice_get slots k ≡ Some (Free next))
 chain_free slots first [] k h e = absurd (let f : false ≡ true = e in cc)
 chain_free slots first (p ∷ ps) k h e = elim (or_cases (nat_eq p k) (is_among k ps) e) [
   | inl here ↦ (h.0, ap (slice_get slots) (let q : k ≡ p = grind (arith, nat_tests) in q) ∙ h.2)
@@ -69,13 +69,13 @@ chain_free slots first (p ∷ ps) k h e = elim (or_cases (nat_eq p k) (is_among 
 used_free : (c : Cell) (n : Option ℕ) → ◌≡◌ {A = Option FrameCell} (Some (Used c)) (Some (Free n)) → ⊥
 used_free c n e = cc
 
-chain_apart : (slots : List FrameCell) (first : Option ℕ) (places : List ℕ) (k : ℕ) (c : Cell) → IsChain slots first places → slice_get slots k ≡ Some (Used c) → is_among k places ≡ false
+chain_apart : (slots : List FrameCell) (first : Option ℕ) (places : List ℕ) (k : ℕ) (c : Cell) → AreLinked slots first places → slice_get slots k ≡ Some (Used c) → is_among k places ≡ false
 chain_apart slots first places k c h e = elim (cases_Bool (is_among k places)) [
   | inl t ↦ (let f = chain_free slots first places k h t in absurd (used_free c f.0 (sym e ∙ f.1)))
   | inr f ↦ f
 ]
 
-chain_set : (slots : List FrameCell) (first : Option ℕ) (places : List ℕ) (k : ℕ) (s : FrameCell) → IsChain slots first places → is_among k places ≡ false → IsChain (set slots k s) first places
+chain_set : (slots : List FrameCell) (first : Option ℕ) (places : List ℕ) (k : ℕ) (s : FrameCell) → AreLinked slots first places → is_among k places ≡ false → AreLinked (set slots k s) first places
 chain_set slots first [] k s h e = h
 chain_set slots first (p ∷ ps) k s h e =
     let parts = or_parts (nat_eq p k) (is_among k ps) e in
@@ -126,7 +126,7 @@ taken slots k next d (p ∷ ps, h, a) e =
     let link : h.0 ≡ next = same_link h.0 next (sym h.2 ∙ ap (slice_get slots) p_is ∙ e) in
     let apart : is_among k ps ≡ false = ap (λ q. is_among q ps) (sym p_is) ∙ h.4 in (
       ps,
-      chain_set slots next ps k (Used d) (subst (λ (n : Option ℕ). IsChain slots n ps) link h.3) apart,
+      chain_set slots next ps k (Used d) (subst (λ (n : Option ℕ). AreLinked slots n ps) link h.3) apart,
       λ place n f. elim (cases_eq place k) [
         | inl same ↦ absurd (used_free d n (sym (got_set slots k (Used d) (got_within slots k (Free next) e)) ∙ ap (slice_get (set slots k (Used d))) (sym same) ∙ f))
         | inr other ↦ elim (or_cases (nat_eq p place) (is_among place ps) (a place n (sym (got_other slots k place (Used d) other) ∙ f))) [
@@ -215,7 +215,7 @@ abbrev pub frames_of : ℕ → List FrameCell → Pool
 frames_of size slots = record { size = size; cells = cells_of slots }
 
 abbrev pub frame_of : Pool → ℕ → Cell
-frame_of pool k = record { count = count_at pool k; bytes = bytes_at pool k }
+frame_of pool k = record { count = count_at pool k; bytes = cell_bytes pool k }
 
 pub frame_again : (pool : Pool) (k : ℕ) (c : Cell) → cell_at pool k ≡ Some c → frame_of pool k ≡ c
 frame_again pool k c e = ap (λ (o : Option Cell). record { count = option_map_or (λ (cell : Cell). cell.count) o 0; bytes = option_map_or (λ (cell : Cell). cell.bytes) o zeros }) e

@@ -7,11 +7,11 @@ use Rattle.std.specs.List.{slice_get}
 use Rattle.sd_frames.specs.declared.frame_cell.FrameCell.{FrameCell}
 use Rattle.sd_frames.specs.declared.frame_cell.FrameCell.TheVariants.{Used}
 use Rattle.sd_frames.specs.Bytes.{stored_at, zeros}
-use Rattle.sd_frames.specs.Frames.{Cell, Pool, cell_at, bytes_at, SetsCell, HasWholeFrames}
+use Rattle.sd_frames.specs.Frames.{Cell, Pool, cell_at, cell_bytes, SetsCell, HasWholeFrames}
 use Rattle.sd_frames.proofs.FrameLemmas.{frames_of, some_cell, used_slot, at_cell, got_pushed, got_before}
 
 -- a frame that is used has its bytes
-pub whole_at : (pool : Pool) (k : ℕ) → HasWholeFrames pool → IsSome (cell_at pool k) → length (bytes_at pool k) ≡ 4096
+pub whole_at : (pool : Pool) (k : ℕ) → HasWholeFrames pool → IsSome (cell_at pool k) → length (cell_bytes pool k) ≡ 4096
 whole_at pool k whole some =
     let c = some_cell (cell_at pool k) some in
     ap (λ (o : Option Cell). length (option_map_or (λ (cell : Cell). cell.bytes) o zeros)) c.1 ∙ whole k c.0 c.1

@@ -17,12 +17,12 @@ abbrev pub is_among : ℕ → List ℕ → Bool
 is_among place places = list_any (λ other. other == place) places
 
 -- from a first place on, each link leads to the next of these places, and none comes twice
-abbrev pub IsChain : List FrameCell → Option ℕ → List ℕ → Type 0
-IsChain slots first [] = first ≡ None
-IsChain slots first (place ∷ places) = (next : Option ℕ) × (first ≡ Some place)
-    × (slice_get slots place ≡ Some (Free next)) × IsChain slots next places × (is_among place places ≡ false)
+abbrev pub AreLinked : List FrameCell → Option ℕ → List ℕ → Type 0
+AreLinked slots first [] = first ≡ None
+AreLinked slots first (place ∷ places) = (next : Option ℕ) × (first ≡ Some place)
+    × (slice_get slots place ≡ Some (Free next)) × AreLinked slots next places × (is_among place places ≡ false)
 
 -- the chain from a first place has each free place
 abbrev pub IsFreeList : List FrameCell → Option ℕ → Type 0
-IsFreeList slots first = (places : List ℕ) × IsChain slots first places
+IsFreeList slots first = (places : List ℕ) × AreLinked slots first places
     × ((place : ℕ) (next : Option ℕ) → slice_get slots place ≡ Some (Free next) → is_among place places ≡ true)

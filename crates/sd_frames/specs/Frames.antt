@@ -30,13 +30,13 @@ abbrev pub count_at : Pool → ℕ → ℕ
 count_at pool number = option_map_or (λ (cell : Cell). cell.count) (cell_at pool number) 0
 
 -- a frame's bytes
-abbrev pub bytes_at : Pool → ℕ → List ℕ
-bytes_at pool number = option_map_or (λ (cell : Cell). cell.bytes) (cell_at pool number) zeros
+abbrev pub cell_bytes : Pool → ℕ → List ℕ
+cell_bytes pool number = option_map_or (λ (cell : Cell). cell.bytes) (cell_at pool number) zeros
 
 -- the bytes of a page with this frame; without one it reads as zeros
 abbrev pub frame_bytes : Pool → Option ℕ → List ℕ
 frame_bytes pool None = zeros
-frame_bytes pool (Some frame) = bytes_at pool frame
+frame_bytes pool (Some frame) = cell_bytes pool frame
 
 -- one frame changed, and all else is as before
 pub record SetsCell (old new : Pool) (number : ℕ) (cell : Option Cell) : Type 0 where

@@ -3,7 +3,7 @@ ghost use Rattle.std.specs.Prelude.{◌≡◌, ◌+◌, ◌-◌, ◌<◌, ◌≤
 ghost use Rattle.std.specs.Prelude.{IsSome, OnErr, IfOk, if◌then◌else◌};
 ghost use Rattle.std.specs.Option.{ForSome};
 ghost use Rattle.sd_frames.specs.Bytes.{stored_at, zeros};
-ghost use Rattle.sd_frames.specs.Frames.{Cell, cell_at, count_at, bytes_at, SetsCell, IsExhausted, HasFree};
+ghost use Rattle.sd_frames.specs.Frames.{Cell, cell_at, count_at, cell_bytes, SetsCell, IsExhausted, HasFree};
 ghost use Rattle.sd_frames.specs.Frames.{HasWholeFrames, frame_bytes};
 
 use crate::frame::Frame;
@@ -80,7 +80,7 @@ impl Frames {
     /// The bytes of a frame.
     pub fn bytes(&self, number: u32) -> &[u8]
         requires { IsSome (cell_at self.now number) }
-        ensures value { result.now ≡ bytes_at self.now number }
+        ensures value { result.now ≡ cell_bytes self.now number }
         ensures length { length result.now ≡ 4096 }
     {
         match self.slots.get(number as usize) {
@@ -109,7 +109,7 @@ impl Frames {
         requires used { IsSome (cell_at self.old number) }
         requires few { count_at self.old number < 2 ^ 17 }
         ensures { SetsCell self.old self.new number
-            (Some (record { count = count_at self.old number + 1; bytes = bytes_at self.old number })) }
+            (Some (record { count = count_at self.old number + 1; bytes = cell_bytes self.old number })) }
     {
         self.slots[number as usize].share();
     }
@@ -123,7 +123,7 @@ impl Frames {
             (Some (record {
               count = count_at self.old number;
               bytes = stored_at
-                  (bytes_at self.old number) offset bytes.now;
+                  (cell_bytes self.old number) offset bytes.now;
             })) }
     {
         self.slots[number as usize].write(offset, bytes);
@@ -134,7 +134,7 @@ impl Frames {
         requires { 0 < count_at self.old number }
         ensures { SetsCell self.old self.new number
             (if count_at self.old number == 1 then None
-            else Some (record { count = count_at self.old number - 1; bytes = bytes_at self.old number })) }
+            else Some (record { count = count_at self.old number - 1; bytes = cell_bytes self.old number })) }
     {
         if self.count(number) == 1 {
             let page = self.slots[number as usize].free(self.free);
@@ -175,7 +175,7 @@ impl Frames {
             (λ number. (number < self.old.size) × (cell_at self.old number ≡ None)) }
         ensures ok { IfOk result
             (λ number. SetsCell self.old self.new number
-            (Some (record { count = 1; bytes = bytes_at self.old from }))) }
+            (Some (record { count = 1; bytes = cell_bytes self.old from }))) }
         ensures err { OnErr result (self.new ≡ self.old) }
     {
         let bytes = self.page_like(from)?;
@@ -197,7 +197,7 @@ impl Frames {
     /// A page with the bytes of a frame, in no frame yet.
     fn page_like(&mut self, from: u32) -> Result<Box<[u8; PAGE_SIZE]>, AllocError>
         requires { IsSome (cell_at self.old from) }
-        ensures copy { IfOk result (λ page. page.value ≡ bytes_at self.old from) }
+        ensures copy { IfOk result (λ page. page.value ≡ cell_bytes self.old from) }
         ensures same { self.new ≡ self.old }
     {
         let Some(mut page) = self.spare.take() else {

@@ -10,8 +10,8 @@ use Rattle.sd_gate.specs.declared.request_id.RequestId.{RequestId}
 use Rattle.sd_merge.specs.declared.retired.Retired.{Retired}
 use Rattle.sd_merge.specs.Merger as merger
 use Rattle.sd_rounds.specs.Dumper.{Running}
-use Rattle.sd_free_slots.specs.Lists.{HasNoted, Notes, StandsAt, listed_at, listed_from, noted}
-use Rattle.sd_free_slots.specs.Marks.{IsTaken}
+use Rattle.sd_free_slots.specs.Lists.{HasNoted, Notes, StandsInSlot, listed_at, listed_from, noted}
+use Rattle.sd_free_slots.specs.Marks.{IsMarkedSlot}
 use Rattle.sd_free_slots.specs.Taken.{AreTaken, IsLeftOver, IsListOf, IsNeededAt}
 use Rattle.sd_free_slots.proofs.MarkLemmas.{set_cases, set_here, set_keeps, set_length}
 
@@ -83,7 +83,7 @@ notes_none places before serials = record {
   few = omega arith;
 }
 
-stands_as : (places : Places) (P Q : ℕ → Type 0) (slot serial : ℕ) → ((own : ℕ) → P own → Q own) → StandsAt places P slot serial → StandsAt places Q slot serial
+stands_as : (places : Places) (P Q : ℕ → Type 0) (slot serial : ℕ) → ((own : ℕ) → P own → Q own) → StandsInSlot places P slot serial → StandsInSlot places Q slot serial
 stands_as places P Q slot serial to s = record { is_among = to serial s.is_among; image = s.image; there = s.there; at = s.at }
 
 pub notes_more : (places : Places) (before : List ℕ) (count next serial : ℕ) (old mid new : List (Option ℕ)) → next ≡ suc count → slice_get before count ≡ Some serial
@@ -127,7 +127,7 @@ notes_more places before count next serial old mid new more there one two = reco
       | inr its ↦ noted_as (λ o. o ≡ serial) slot this_one its
     ]
 
-    by_place : (slot own : ℕ) → slot < length old → (s : StandsAt places (IsEarly before next) slot own) → (s.is_among.place ≡ count) ⊎ (s.is_among.place < count)
+    by_place : (slot own : ℕ) → slot < length old → (s : StandsInSlot places (IsEarly before next) slot own) → (s.is_among.place ≡ count) ⊎ (s.is_among.place < count)
         → HasNoted places (IsEarly before next) new slot
     by_place slot own within s (inl same) = noted_as (λ o. o ≡ serial) slot this_one (two.all slot own (inside slot within)
         (record { is_among = same_Some own serial (sym s.is_among.there ∙ ap (slice_get before) same ∙ there); image = s.image; there = s.there; at = s.at }))
@@ -293,10 +293,10 @@ list_of_room places running merge outs count marks old serials list taken fresh 
     within : (one : Retired) → ComesFrom 0 marks serials one → one.slot < count
     within one from = subst (λ n. one.slot < n) taken.count_is (subst (λ n. n < length marks) (here_is one from) (slice_get_within marks from.at false from.unmarked))
 
-    marked : (one : Retired) → ComesFrom 0 marks serials one → IsTaken marks one.slot → ⊥
+    marked : (one : Retired) → ComesFrom 0 marks serials one → IsMarkedSlot marks one.slot → ⊥
     marked one from is_taken = (let no : Some false ≡ Some true = sym from.unmarked ∙ ap (slice_get marks) (here_is one from) ∙ is_taken in cc)
 
-    stands : (one : Retired) → ComesFrom 0 marks serials one → StandsAt places (Contains (merger.before_of merge)) one.slot one.serial
+    stands : (one : Retired) → ComesFrom 0 marks serials one → StandsInSlot places (Contains (merger.before_of merge)) one.slot one.serial
     stands one from = elim (notes.each one.slot one.serial (ap (slice_get serials) (sym (here_is one from)) ∙ from.serial)) [
       | inl was ↦ absurd (none_noted count one.slot one.serial (ap (λ all. slice_get all one.slot) (sym fresh) ∙ was))
       | inr s ↦ s

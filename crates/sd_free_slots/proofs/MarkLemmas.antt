@@ -3,7 +3,7 @@ use Rattle.std.proofs.Common.{◌≡◌, ◌⊎◌, ℕ, zero, suc, ◌<◌, ◌
 use Rattle.std.proofs.lemmas.Option.{same_Some, slice_get_within}
 use Rattle.std.proofs.Math.Nat.{eq-or-lt_of_le}
 use Rattle.sd_chain.specs.Catalog.{Places}
-use Rattle.sd_free_slots.specs.Marks.{IsTaken, TakesNeeded, TakesSlots}
+use Rattle.sd_free_slots.specs.Marks.{IsMarkedSlot, TakesNeeded, TakesSlots}
 
 -- ---- one slot
 
@@ -17,7 +17,7 @@ set_here [] at mark within = absurd (omega (arith, within))
 set_here (m ∷ marks) zero mark within = refl
 set_here (m ∷ marks) (suc at) mark within = set_here marks at mark (omega (arith, within))
 
-set_stays : (marks : List Bool) (at slot : ℕ) → IsTaken marks slot → IsTaken (slice_set marks at true) slot
+set_stays : (marks : List Bool) (at slot : ℕ) → IsMarkedSlot marks slot → IsMarkedSlot (slice_set marks at true) slot
 set_stays [] at slot is = is
 set_stays (m ∷ marks) zero zero is = refl
 set_stays (m ∷ marks) zero (suc slot) is = is
@@ -58,7 +58,7 @@ takes_one marks new at is = subst (TakesSlots (λ slot. at ≡ slot) marks) (sym
     ]),
     (λ either. elim either [
       | inl was ↦ set_stays marks at slot was
-      | inr here ↦ subst (IsTaken (slice_set marks at true)) here (set_here marks at true (subst (λ s. s < length marks) (sym here) within))
+      | inr here ↦ subst (IsMarkedSlot (slice_set marks at true)) here (set_here marks at true (subst (λ s. s < length marks) (sym here) within))
     ]),
   );
 })

@@ -7,8 +7,8 @@ use Rattle.sd_chain.specs.Catalog.{Names, Opened, Places}
 use Rattle.sd_gate.specs.declared.request_id.RequestId.{RequestId}
 use Rattle.sd_merge.specs.Merger as merger
 use Rattle.sd_rounds.specs.Dumper.{HasSlot, Running, dump_slot, parent_of, pre_dump_slots}
-use Rattle.sd_free_slots.specs.Marks.{IsReachedFrom, IsTaken, IsUnmarked, TakesNeeded, TakesSlots}
-use Rattle.sd_free_slots.specs.Taken.{AreFree, AreTaken, FreeSlotsLaw, IsListed, IsNeededAt, IsOutAt, IsParentsSerial, IsReservedBy, IsRoot, IsSourcesSerial, IsTipsSerial, NamesParent}
+use Rattle.sd_free_slots.specs.Marks.{IsMarkedSlot, IsReachedFrom, IsUnmarked, TakesNeeded, TakesSlots}
+use Rattle.sd_free_slots.specs.Taken.{AreFree, AreTaken, FreeSlotsLaw, IsListedSlot, IsNeededAt, IsOutAt, IsParentsSerial, IsReservedBy, IsRoot, IsSourcesSerial, IsTipsSerial, NamesParent}
 use Rattle.sd_free_slots.proofs.FreeLemmas.{free_at, free_rises}
 use Rattle.sd_free_slots.proofs.MarkLemmas.{needed_as, needed_more, takes_as, takes_more}
 
@@ -67,18 +67,18 @@ has_from (Some running) slot (inr is) = inr (ap Some (sym is))
 
 pub jobs_of : (running : Option Running) (merge : Option merger.Running) (outs : List (Option RequestId)) (old one two three four new : List Bool)
     → TakesSlots (Contains (pre_dump_slots running)) old one → TakesSlots (λ slot. dump_slot running ≡ Some slot) one two
-    → TakesSlots (λ slot. option_map merger.slot_of merge ≡ Some slot) two three → TakesSlots (IsListed (merger.list_of merge)) three four → TakesSlots (IsOutAt outs) four new
+    → TakesSlots (λ slot. option_map merger.slot_of merge ≡ Some slot) two three → TakesSlots (IsListedSlot (merger.list_of merge)) three four → TakesSlots (IsOutAt outs) four new
     → TakesSlots (IsReservedBy running merge outs) old new
 jobs_of running merge outs old one two three four new a b c d e =
     takes_as all (IsReservedBy running merge outs) old new to from
-    (takes_more (λ slot. ((Contains (pre_dump_slots running) slot ⊎ (dump_slot running ≡ Some slot)) ⊎ (option_map merger.slot_of merge ≡ Some slot)) ⊎ IsListed (merger.list_of merge) slot)
+    (takes_more (λ slot. ((Contains (pre_dump_slots running) slot ⊎ (dump_slot running ≡ Some slot)) ⊎ (option_map merger.slot_of merge ≡ Some slot)) ⊎ IsListedSlot (merger.list_of merge) slot)
     (IsOutAt outs) old four new
-    (takes_more (λ slot. (Contains (pre_dump_slots running) slot ⊎ (dump_slot running ≡ Some slot)) ⊎ (option_map merger.slot_of merge ≡ Some slot)) (IsListed (merger.list_of merge)) old three four
+    (takes_more (λ slot. (Contains (pre_dump_slots running) slot ⊎ (dump_slot running ≡ Some slot)) ⊎ (option_map merger.slot_of merge ≡ Some slot)) (IsListedSlot (merger.list_of merge)) old three four
     (takes_more (λ slot. Contains (pre_dump_slots running) slot ⊎ (dump_slot running ≡ Some slot)) (λ slot. option_map merger.slot_of merge ≡ Some slot) old two three
     (takes_more (Contains (pre_dump_slots running)) (λ slot. dump_slot running ≡ Some slot) old one two a b) c) d) e)
   where
     all : ℕ → Type 0
-    all slot = (((Contains (pre_dump_slots running) slot ⊎ (dump_slot running ≡ Some slot)) ⊎ (option_map merger.slot_of merge ≡ Some slot)) ⊎ IsListed (merger.list_of merge) slot) ⊎ IsOutAt outs slot
+    all slot = (((Contains (pre_dump_slots running) slot ⊎ (dump_slot running ≡ Some slot)) ⊎ (option_map merger.slot_of merge ≡ Some slot)) ⊎ IsListedSlot (merger.list_of merge) slot) ⊎ IsOutAt outs slot
 
     to : (slot : ℕ) → all slot → IsReservedBy running merge outs slot
     to slot (inl (inl (inl either))) = inl (has_to running slot either)
@@ -127,7 +127,7 @@ unmarked_at places running merge outs count slots place slot f is =
     let here : found.0 ≡ slot = omega (arith, same) in
     subst (λ at. slice_get f.marks at ≡ Some false) here found.2
 
-not_both : (marks : List Bool) (slot : ℕ) → slice_get marks slot ≡ Some false → IsTaken marks slot → ⊥
+not_both : (marks : List Bool) (slot : ℕ) → slice_get marks slot ≡ Some false → IsMarkedSlot marks slot → ⊥
 not_both marks slot is taken = (let no : Some false ≡ Some true = sym is ∙ taken in cc)
 
 pub free_slots_law : FreeSlotsLaw

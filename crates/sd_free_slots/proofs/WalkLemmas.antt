@@ -4,8 +4,8 @@ use Rattle.std.specs.Prelude.{IfSome, IsNone}
 use Rattle.std.proofs.lemmas.List.Elements.{All-contains}
 use Rattle.std.proofs.lemmas.Option.{same_Some, slice_get_within}
 use Rattle.sd_chain.specs.Catalog.{IsSoundCatalog, Names, Opened, Places, images, place_of}
-use Rattle.sd_chain.specs.Reaches.{ParentsFall, Reaches}
-use Rattle.sd_free_slots.specs.Marks.{IsReachedAt, IsTaken, TakesNeeded, TakesSlots}
+use Rattle.sd_chain.specs.Reaches.{ParentsFall, ReachesInCatalog}
+use Rattle.sd_free_slots.specs.Marks.{IsMarkedSlot, IsReachedAt, TakesNeeded, TakesSlots}
 use Rattle.sd_free_slots.proofs.MarkLemmas.{takes_one}
 
 -- an image that the next one of the walk reaches, if there is one, stands in the slot
@@ -13,17 +13,17 @@ pub record IsAhead (places : Places) (next : Option (Bor Opened)) (slot : ℕ) :
   pub from : Bor Opened
   pub is : next ≡ Some from
   pub image : Opened
-  pub reaches : Reaches places image from.now
+  pub reaches : ReachesInCatalog places image from.now
   pub at : image.slot ≡ slot
 
 -- What is marked, and what is ahead of the walk, are what was marked before it and what the image of the serial reaches.
 pub record IsWalked (places : Places) (serial : ℕ) (old : List Bool) (next : Option (Bor Opened)) (marks : List Bool) : Type 0 where
   pub count : length marks ≡ length old
-  pub kept : (slot : ℕ) → IsTaken old slot → IsTaken marks slot
+  pub kept : (slot : ℕ) → IsMarkedSlot old slot → IsMarkedSlot marks slot
   pub member : IfSome next (λ i. Contains (images places) i.now)
-  pub done : ParentsFall places → (slot : ℕ) → slot < length old → IsTaken marks slot → IsTaken old slot ⊎ IsReachedAt places serial slot
+  pub done : ParentsFall places → (slot : ℕ) → slot < length old → IsMarkedSlot marks slot → IsMarkedSlot old slot ⊎ IsReachedAt places serial slot
   pub ahead : ParentsFall places → (slot : ℕ) → IsAhead places next slot → IsReachedAt places serial slot
-  pub all : ParentsFall places → (slot : ℕ) → slot < length old → IsTaken old slot ⊎ IsReachedAt places serial slot → IsTaken marks slot ⊎ IsAhead places next slot
+  pub all : ParentsFall places → (slot : ℕ) → slot < length old → IsMarkedSlot old slot ⊎ IsReachedAt places serial slot → IsMarkedSlot marks slot ⊎ IsAhead places next slot
 
 -- what a look-up by serial gives
 abbrev pub IsFound : Places → ℕ → Option (Bor Opened) → Type 0
@@ -56,12 +56,12 @@ walk_begins places serial marks (Some i) sound found = record {
     from = i.now;
     there = found.0;
     image = a.image;
-    reaches = subst (λ (o : Bor Opened). Reaches places a.image o.now) (sym (same_Some i a.from a.is)) a.reaches;
+    reaches = subst (λ (o : Bor Opened). ReachesInCatalog places a.image o.now) (sym (same_Some i a.from a.is)) a.reaches;
     at = a.at;
   };
   all = λ fall slot within either. elim either [
     | inl was ↦ inl was
-    | inr r ↦ inr (record { from = i; is = refl; image = r.image; reaches = subst (Reaches places r.image) (some_of r.from i.now (sym r.there ∙ found.0)) r.reaches; at = r.at })
+    | inr r ↦ inr (record { from = i; is = refl; image = r.image; reaches = subst (ReachesInCatalog places r.image) (some_of r.from i.now (sym r.there ∙ found.0)) r.reaches; at = r.at })
   ];
 }
 
@@ -80,18 +80,18 @@ named_by places i None from named is = absurd (let no : None ≡ Some from = is 
 named_by places i (Some p) from named is = subst (λ (o : Bor Opened). Names places i.header.parent o.now) (same_Some p from is) named
 
 beyond_next : (places : Places) (i p j : Opened) (next : Option (Bor Opened)) → IsSoundCatalog places → i.header.parent < i.header.stands_for → IsNext places i next
-    → Names places i.header.parent p → Reaches places j p → IsAhead places next j.slot
+    → Names places i.header.parent p → ReachesInCatalog places j p → IsAhead places next j.slot
 beyond_next places i p j None sound falls is named r = absurd (is.all falls refl p named)
 beyond_next places i p j (Some q) sound falls is named r =
-    record { from = q; is = refl; image = j; reaches = subst (Reaches places j) (sound.named_once i.header.parent p q.now named is.named) r; at = refl }
+    record { from = q; is = refl; image = j; reaches = subst (ReachesInCatalog places j) (sound.named_once i.header.parent p q.now named is.named) r; at = refl }
 
 reached_more : (places : Places) (i j : Opened) (next : Option (Bor Opened)) → IsSoundCatalog places → i.header.parent < i.header.stands_for → IsNext places i next
-    → Reaches places j i → (i ≡ j) ⊎ IsAhead places next j.slot
+    → ReachesInCatalog places j i → (i ≡ j) ⊎ IsAhead places next j.slot
 reached_more places i j next sound falls is r = by i r falls is
   where
-    by : (k : Opened) → Reaches places j k → k.header.parent < k.header.stands_for → IsNext places k next → (k ≡ j) ⊎ IsAhead places next j.slot
-    by _ Reaches.itself falls is = inl refl
-    by _ (Reaches.beyond k p named rest) falls is = inr (beyond_next places k p j next sound falls is named rest)
+    by : (k : Opened) → ReachesInCatalog places j k → k.header.parent < k.header.stands_for → IsNext places k next → (k ≡ j) ⊎ IsAhead places next j.slot
+    by _ ReachesInCatalog.itself falls is = inl refl
+    by _ (ReachesInCatalog.beyond k p named rest) falls is = inr (beyond_next places k p j next sound falls is named rest)
 
 pub walk_goes_on : (places : Places) (serial : ℕ) (old marks new : List Bool) (i : Bor Opened) (next : Option (Bor Opened)) → IsSoundCatalog places
     → IsNext places i.now next → new ≡ slice_set marks i.now.slot true → IsWalked places serial old (Some i) marks → IsWalked places serial old next new
@@ -101,13 +101,13 @@ walk_goes_on places serial old marks new i next sound is set w = record {
   member = member_more places i.now next is.named;
   done = λ fall slot within taken. elim ((t.exact slot (inside slot within)).0 taken) [
     | inl was ↦ w.done fall slot within was
-    | inr here ↦ inr (w.ahead fall slot (record { from = i; is = refl; image = i.now; reaches = Reaches.itself; at = here }))
+    | inr here ↦ inr (w.ahead fall slot (record { from = i; is = refl; image = i.now; reaches = ReachesInCatalog.itself; at = here }))
   ];
   ahead = λ fall slot a. w.ahead fall slot (record {
     from = i;
     is = refl;
     image = a.image;
-    reaches = Reaches.beyond i.now a.from.now (named_by places i.now next a.from is.named a.is) a.reaches;
+    reaches = ReachesInCatalog.beyond i.now a.from.now (named_by places i.now next a.from is.named a.is) a.reaches;
     at = a.at;
   });
   all = λ fall slot within either. elim (w.all fall slot within either) [
@@ -122,12 +122,12 @@ walk_goes_on places serial old marks new i next sound is set w = record {
     inside : (slot : ℕ) → slot < length old → slot < length marks
     inside slot within = subst (λ n. slot < n) (sym w.count) within
 
-    kept_on : (slot : ℕ) → IsTaken marks slot → IsTaken new slot
+    kept_on : (slot : ℕ) → IsMarkedSlot marks slot → IsMarkedSlot new slot
     kept_on slot taken = (t.exact slot (slice_get_within marks slot true taken)).1 (inl taken)
 
-    further : ParentsFall places → (slot : ℕ) → slot < length old → IsAhead places (Some i) slot → IsTaken new slot ⊎ IsAhead places next slot
+    further : ParentsFall places → (slot : ℕ) → slot < length old → IsAhead places (Some i) slot → IsMarkedSlot new slot ⊎ IsAhead places next slot
     further fall slot within a = elim (reached_more places i.now a.image next sound (All-contains (λ (o : Opened). o.header.parent < o.header.stands_for) (images places) i.now fall w.member) is
-        (subst (λ (o : Bor Opened). Reaches places a.image o.now) (sym (same_Some i a.from a.is)) a.reaches)) [
+        (subst (λ (o : Bor Opened). ReachesInCatalog places a.image o.now) (sym (same_Some i a.from a.is)) a.reaches)) [
           | inl same ↦ inl ((t.exact slot (inside slot within)).1 (inr (ap (λ (o : Opened). o.slot) same ∙ a.at)))
           | inr later ↦ inr (subst (IsAhead places next) a.at later)
         ]

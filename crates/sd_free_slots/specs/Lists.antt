@@ -25,7 +25,7 @@ noted (None ∷ serials) = noted serials
 noted (Some serial ∷ serials) = 1 + noted serials
 
 -- an image stands in the slot, and its serial is among these
-pub record StandsAt (places : Places) (among : ℕ → Type 0) (slot serial : ℕ) : Type 0 where
+pub record StandsInSlot (places : Places) (among : ℕ → Type 0) (slot serial : ℕ) : Type 0 where
   pub is_among : among serial
   pub image : Opened
   pub there : place_of places serial ≡ Some (Some image)
@@ -35,21 +35,23 @@ pub record StandsAt (places : Places) (among : ℕ → Type 0) (slot serial : �
 pub record HasNoted (places : Places) (among : ℕ → Type 0) (serials : List (Option ℕ)) (slot : ℕ) : Type 0 where
   pub serial : ℕ
   pub noted_is : slice_get serials slot ≡ Some (Some serial)
-  pub stands : StandsAt places among slot serial
+  pub stands : StandsInSlot places among slot serial
 
 -- The slots in which images of these serials stand have one of them each, and the others what they had. At most so many
 -- are noted.
 pub record Notes (places : Places) (among : ℕ → Type 0) (many : ℕ) (old new : List (Option ℕ)) : Type 0 where
   pub count : length new ≡ length old
   pub each : (slot serial : ℕ) → slice_get new slot ≡ Some (Some serial)
-      → (slice_get old slot ≡ Some (Some serial)) ⊎ StandsAt places among slot serial
+      → (slice_get old slot ≡ Some (Some serial)) ⊎ StandsInSlot places among slot serial
   pub kept : (slot serial : ℕ) → slice_get old slot ≡ Some (Some serial)
       → (slice_get new slot ≡ Some (Some serial)) ⊎ HasNoted places among new slot
-  pub all : (slot serial : ℕ) → slot < length old → StandsAt places among slot serial → HasNoted places among new slot
+  pub all : (slot serial : ℕ) → slot < length old → StandsInSlot places among slot serial
+      → HasNoted places among new slot
   pub few : noted new ≤ many + noted old
 
 -- no slot is marked, no serial is noted, the list is empty, and there is room for all slots
-pub record HasRoom (marks : List Bool) (serials : List (Option ℕ)) (list : List Retired) (room : ℕ) : Type 0 where
+pub record HasRoomForSlots (marks : List Bool) (serials : List (Option ℕ)) (list : List Retired)
+    (room : ℕ) : Type 0 where
   pub unmarked : IsUnmarked marks
   pub none : serials ≡ replicate (length marks) None
   pub empty : list ≡ []

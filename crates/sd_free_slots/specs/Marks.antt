@@ -2,15 +2,15 @@
 use Rattle.std.specs.Prelude.{◌≡◌, ◌⊎◌, ◌↔◌, ℕ, ◌+◌, ◌<◌, Bool, true, if◌then◌else◌, List, [], ◌∷◌, length, Option}
 use Rattle.std.specs.Prelude.{Some, slice_get}
 use Rattle.sd_chain.specs.Catalog.{Opened, Places, place_of}
-use Rattle.sd_chain.specs.Reaches.{ParentsFall, Reaches}
+use Rattle.sd_chain.specs.Reaches.{ParentsFall, ReachesInCatalog}
 
 -- a slot is marked
-abbrev pub IsTaken : List Bool → ℕ → Type 0
-IsTaken marks slot = slice_get marks slot ≡ Some true
+abbrev pub IsMarkedSlot : List Bool → ℕ → Type 0
+IsMarkedSlot marks slot = slice_get marks slot ≡ Some true
 
 -- no slot is
 abbrev pub IsUnmarked : List Bool → Type 0
-IsUnmarked marks = (slot : ℕ) → IsTaken marks slot → ⊥
+IsUnmarked marks = (slot : ℕ) → IsMarkedSlot marks slot → ⊥
 
 -- the slots that aren't marked, rising, where the first of these has this number
 abbrev pub free_from : ℕ → List Bool → List ℕ
@@ -22,19 +22,20 @@ pub record IsReachedAt (places : Places) (serial slot : ℕ) : Type 0 where
   pub from : Opened
   pub there : place_of places serial ≡ Some (Some from)
   pub image : Opened
-  pub reaches : Reaches places image from
+  pub reaches : ReachesInCatalog places image from
   pub at : image.slot ≡ slot
 
 -- Slots of these are marked too, and no other.
 pub record TakesSlots (P : ℕ → Type 0) (old new : List Bool) : Type 0 where
   pub count : length new ≡ length old
-  pub exact : (slot : ℕ) → slot < length old → IsTaken new slot ↔ (IsTaken old slot ⊎ P slot)
+  pub exact : (slot : ℕ) → slot < length old → IsMarkedSlot new slot ↔ (IsMarkedSlot old slot ⊎ P slot)
 
 -- So it is where the parents' numbers fall; in any case what was marked stays so.
 pub record TakesNeeded (places : Places) (P : ℕ → Type 0) (old new : List Bool) : Type 0 where
   pub count : length new ≡ length old
-  pub kept : (slot : ℕ) → IsTaken old slot → IsTaken new slot
-  pub exact : ParentsFall places → (slot : ℕ) → slot < length old → IsTaken new slot ↔ (IsTaken old slot ⊎ P slot)
+  pub kept : (slot : ℕ) → IsMarkedSlot old slot → IsMarkedSlot new slot
+  pub exact : ParentsFall places → (slot : ℕ) → slot < length old
+      → IsMarkedSlot new slot ↔ (IsMarkedSlot old slot ⊎ P slot)
 
 -- it is what an image of this serial reaches, if a serial there is
 pub record IsReachedFrom (places : Places) (root : Option ℕ) (slot : ℕ) : Type 0 where

@@ -8,7 +8,7 @@ use Rattle.sd_merge.specs.declared.retired.Retired.{Retired}
 use Rattle.sd_merge.specs.declared.source.Source.{Source}
 use Rattle.sd_merge.specs.Merger as merger
 use Rattle.sd_rounds.specs.Dumper.{HasSlot, Running}
-use Rattle.sd_free_slots.specs.Marks.{IsReachedAt, IsTaken, free_from}
+use Rattle.sd_free_slots.specs.Marks.{IsMarkedSlot, IsReachedAt, free_from}
 
 -- ---- images that are needed
 
@@ -49,7 +49,7 @@ pub record IsNeededAt (places : Places) (running : Option Running) (merge : Opti
 -- ---- jobs
 
 -- an image of a list stands in the slot, or stood
-pub record IsListed (list : List Retired) (slot : ℕ) : Type 0 where
+pub record IsListedSlot (list : List Retired) (slot : ℕ) : Type 0 where
   pub one : Retired
   pub listed : Contains list one
   pub at : one.slot ≡ slot
@@ -67,7 +67,7 @@ slot_of_id id = id.slot
 -- the slot is one of the running checkpoint, that of a merged image, or on a merge's list, or a request is out on it
 abbrev pub IsReservedBy : Option Running → Option merger.Running → List (Option RequestId) → ℕ → Type 0
 IsReservedBy running merge outs slot = HasSlot running slot
-    ⊎ ((option_map merger.slot_of merge ≡ Some slot) ⊎ (IsListed (merger.list_of merge) slot ⊎ IsOutAt outs slot))
+    ⊎ ((option_map merger.slot_of merge ≡ Some slot) ⊎ (IsListedSlot (merger.list_of merge) slot ⊎ IsOutAt outs slot))
 
 -- ---- free slots
 
@@ -75,9 +75,9 @@ IsReservedBy running merge outs slot = HasSlot running slot
 pub record AreTaken (places : Places) (running : Option Running) (merge : Option merger.Running)
     (outs : List (Option RequestId)) (count : ℕ) (marks : List Bool) : Type 0 where
   pub count_is : length marks ≡ count
-  pub jobs : (slot : ℕ) → slot < count → IsReservedBy running merge outs slot → IsTaken marks slot
+  pub jobs : (slot : ℕ) → slot < count → IsReservedBy running merge outs slot → IsMarkedSlot marks slot
   pub exact : ParentsFall places → (slot : ℕ) → slot < count
-      → IsTaken marks slot ↔ (IsNeededAt places running merge slot ⊎ IsReservedBy running merge outs slot)
+      → IsMarkedSlot marks slot ↔ (IsNeededAt places running merge slot ⊎ IsReservedBy running merge outs slot)
 
 -- the slots that aren't taken, rising
 pub record AreFree (places : Places) (running : Option Running) (merge : Option merger.Running)

@@ -24,13 +24,13 @@ pub struct ListRoom {
 
 impl Model for ListRoom {
     ghost use Rattle.std.specs.Prelude.{ℕ, length, vec_capacity};
-    ghost use Rattle.sd_free_slots.specs.Lists.{HasRoom};
+    ghost use Rattle.sd_free_slots.specs.Lists.{HasRoomForSlots};
 
     ghost Value = { ℕ };
 
     ghost view = { λ r. length r.marks.items };
 
-    ghost invariant = { λ r. HasRoom r.marks.items r.serials.items r.list.items (vec_capacity r.list) };
+    ghost invariant = { λ r. HasRoomForSlots r.marks.items r.serials.items r.list.items (vec_capacity r.list) };
 }
 
 /// Adds an image to a list with room for it.

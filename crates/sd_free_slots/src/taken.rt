@@ -2,7 +2,7 @@
 ghost use Rattle.std.specs.Prelude.{◌≡◌, ◌↔◌, ℕ, IfOk, Some, length};
 ghost use Rattle.std.specs.Option.{option_map};
 ghost use Rattle.sd_free_slots.specs.Marks.{IsUnmarked, TakesNeeded, TakesSlots};
-ghost use Rattle.sd_free_slots.specs.Taken.{AreFree, AreTaken, FreeSlotsLaw, IsListed, IsNeededAt, IsOutAt};
+ghost use Rattle.sd_free_slots.specs.Taken.{AreFree, AreTaken, FreeSlotsLaw, IsListedSlot, IsNeededAt, IsOutAt};
 ghost use Rattle.sd_free_slots.specs.Taken.{IsParentsSerial, IsReservedBy, IsSourcesSerial, IsTipsSerial, slot_of_id};
 
 use crate::marks::{free_slots, take, take_all, take_root, take_some};
@@ -48,7 +48,7 @@ fn take_needed(marks: &mut Vec<bool>, catalog: &Catalog, dumper: &Dumper, merger
 
 /// Marks the slots of a merge's list.
 fn take_listed(marks: &mut Vec<bool>, list: &[Retired])
-    ensures { TakesSlots (IsListed list.now) marks.old.items marks.new.items }
+    ensures { TakesSlots (IsListedSlot list.now) marks.old.items marks.new.items }
 {
     for one in list {
         take(marks, one.slot);

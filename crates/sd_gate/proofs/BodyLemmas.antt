@@ -10,7 +10,7 @@ use Rattle.sd_image.specs.declared.header.Version.{Version}
 use Rattle.sd_image.specs.declared.header.Version.TheVariants.{One, Two}
 use Rattle.sd_image.specs.Header.{HasWords, IsDigest, header_front, header_text}
 use Rattle.sd_image.specs.Words.{number_bytes, zero_bytes}
-use Rattle.sd_gate.specs.Laws.{AreWhole, pages_body, page_place}
+use Rattle.sd_gate.specs.Laws.{AreWholePages, pages_body, page_place}
 use Rattle.sd_gate.specs.Sequences.{table_place}
 
 -- a write at or past the end: zeros up to it, and then the bytes
@@ -28,7 +28,7 @@ written_at_end body at bytes ends =
     ∙ ap (λ n. (body ++ replicate n 0) ++ bytes) (let none : at - length body ≡ 0 = omega arith in none)
     ∙ ap (λ xs. xs ++ bytes) (append-nil body)
 
-length_concat : (pages : List (List ℕ)) → AreWhole pages → length (concat pages) ≡ 4096 * length pages
+length_concat : (pages : List (List ℕ)) → AreWholePages pages → length (concat pages) ≡ 4096 * length pages
 length_concat [] whole = refl
 length_concat (page ∷ pages) whole = omega (arith, length-append page (concat pages), length_concat pages whole.1, whole.0)
 
@@ -42,7 +42,7 @@ unfolding zero_bytes
 first_written at bytes is = ap (λ n. file_after_write [] n bytes) is ∙ written_behind [] 4095 bytes (lit≤ tt)
 
 -- bytes behind the data pages
-behind_pages : (pages : List (List ℕ)) (at : ℕ) (bytes : List ℕ) → AreWhole pages → at ≡ page_place pages
+behind_pages : (pages : List (List ℕ)) (at : ℕ) (bytes : List ℕ) → AreWholePages pages → at ≡ page_place pages
     → file_after_write (pages_body pages) (at - 1) bytes ≡ zero_bytes 4095 ++ concat pages ++ bytes
 unfolding zero_bytes
 behind_pages [] at bytes whole is = first_written (at - 1) bytes (omega (arith, is))
@@ -60,7 +60,7 @@ body_snoc : (pages : List (List ℕ)) (page : List ℕ) → pages_body (pages ++
 body_snoc [] page = refl
 body_snoc (first ∷ pages) page = refl
 
-pub page_filled : (pages : List (List ℕ)) (page : List ℕ) → AreWhole pages
+pub page_filled : (pages : List (List ℕ)) (page : List ℕ) → AreWholePages pages
     → file_after_write (pages_body pages) (page_place pages - 1) page ≡ pages_body (pages ++ page ∷ [])
 page_filled pages page whole =
     behind_pages pages (page_place pages) page whole refl
@@ -86,7 +86,7 @@ length_header header words =
     let parts = length-append header.digest (zero_bytes 4000) in
     omega (arith, parts, length-digest header.version header.digest words.digest)
 
-pub image_filled : (pages : List (List ℕ)) (header : Header) (table : List ℕ) → AreWhole pages → header.pages ≡ length pages → HasWords header
+pub image_filled : (pages : List (List ℕ)) (header : Header) (table : List ℕ) → AreWholePages pages → header.pages ≡ length pages → HasWords header
     → file_after_write (file_after_write (pages_body pages) (table_place header - 1) table) 0 (header_text header) ≡ header_text header ++ concat pages ++ table
 image_filled pages header table whole count words =
     ap (λ body. file_after_write body 0 (header_text header))

@@ -3,16 +3,16 @@ use Rattle.std.proofs.Common.{◌≡◌, ℕ, zero, suc, ◌+◌, ◌-◌, ◌<�
 use Rattle.std.proofs.lemmas.Grind.{same_number_lists}
 use Rattle.sd_disk.specs.Contents.{file_after_write, Torn, Cut}
 use Rattle.sd_image.specs.Image.{gate}
-use Rattle.sd_gate.specs.Fits.{IsClosed, IsBehind, IsBehindClosed, IsShort}
+use Rattle.sd_gate.specs.Fits.{IsClosed, IsBodyOf, IsBehindClosed, IsShort}
 
 pub behind_is_closed : (body file : List ℕ) → IsBehindClosed body file → IsClosed file
 behind_is_closed body [] behind = absurd (omega (arith, ap length behind.spelled))
 behind_is_closed body (x ∷ file) behind = record { some = omega arith; shut = λ is_gate. behind.shut (sym (ap (λ xs. slice_index xs 0) behind.spelled) ∙ is_gate) }
 
-pub closed_is_behind : (body file : List ℕ) → IsBehindClosed body file → IsBehind body file
+pub closed_is_behind : (body file : List ℕ) → IsBehindClosed body file → IsBodyOf body file
 closed_is_behind body file behind = record { first = behind.first; spelled = behind.spelled }
 
-pub open_is_behind : (body file : List ℕ) → file ≡ gate ∷ body → IsBehind body file
+pub open_is_behind : (body file : List ℕ) → file ≡ gate ∷ body → IsBodyOf body file
 open_is_behind body file is = record { first = gate; spelled = is }
 
 -- a write behind the gate leaves it closed
@@ -30,7 +30,7 @@ cut_closed old new closed cut = record {
 }
 
 -- a write over the gate leaves the body
-pub torn_gate : (first : ℕ) (body new : List ℕ) → Torn 0 1 (first ∷ body) new → IsBehind body new
+pub torn_gate : (first : ℕ) (body new : List ℕ) → Torn 0 1 (first ∷ body) new → IsBodyOf body new
 torn_gate first body [] torn = absurd (omega (arith, torn.no_shorter))
 torn_gate first body (x ∷ rest) torn = record {
   first = x;
@@ -38,7 +38,7 @@ torn_gate first body (x ∷ rest) torn = record {
       torn.above (suc i) (omega (arith, torn.no_shorter, torn.no_longer)) (omega arith)));
 }
 
-pub torn_behind : (body old new : List ℕ) → IsBehind body old → Torn 0 1 old new → IsBehind body new
+pub torn_behind : (body old new : List ℕ) → IsBodyOf body old → Torn 0 1 old new → IsBodyOf body new
 torn_behind body old new behind torn = torn_gate behind.first body new (rw behind.spelled at torn)
 
 -- and a short file short
@@ -52,10 +52,10 @@ zeroed_closed file = record { some = omega arith; shut = λ is_gate. omega (arit
 pub gate_written : (first byte : ℕ) (body : List ℕ) → file_after_write (first ∷ body) 0 (byte ∷ []) ≡ byte ∷ body
 gate_written first byte body = refl
 
-pub zeroed_behind : (body file : List ℕ) → IsBehind body file → IsBehindClosed body (file_after_write file 0 (0 ∷ []))
+pub zeroed_behind : (body file : List ℕ) → IsBodyOf body file → IsBehindClosed body (file_after_write file 0 (0 ∷ []))
 zeroed_behind body file behind = record { first = 0; shut = λ is_gate. omega (arith, is_gate); spelled = rw behind.spelled (gate_written behind.first 0 body) }
 
-pub opened : (body file : List ℕ) → IsBehind body file → file_after_write file 0 (gate ∷ []) ≡ gate ∷ body
+pub opened : (body file : List ℕ) → IsBodyOf body file → file_after_write file 0 (gate ∷ []) ≡ gate ∷ body
 opened body file behind = rw behind.spelled (gate_written behind.first gate body)
 
 -- bytes behind the gate are written into the body

@@ -12,7 +12,7 @@ use Rattle.sd_image.specs.Image.{gate, is_open}
 use Rattle.sd_gate.specs.declared.call.Call.TheVariants.{Write, WriteHeader, Close, Open, Cut, Sync}
 use Rattle.sd_gate.specs.declared.phase.Phase.{Phase}
 use Rattle.sd_gate.specs.declared.phase.Phase.TheVariants.{Raw, RawClosing, Whole, Closing, Shut, ShutSynced, Bare, Writing, Ready, Opening, Doubt, DoubtSynced}
-use Rattle.sd_gate.specs.Fits.{IsClosed, IsBehind, IsShort, PhaseLeaves, PhaseReads, SlotFits}
+use Rattle.sd_gate.specs.Fits.{IsClosed, IsBodyOf, IsShort, PhaseLeaves, PhaseReads, SlotFits}
 use Rattle.sd_gate.specs.Laws.{IsClosedOrWhole, CrashLeaves, found_phase, phase_told, InspectionTells, Leads, no_call, one_call, PlansLead, AllFoundFit}
 use Rattle.sd_gate.specs.Phases.{may_close, may_write, closing, filled, body_after, state_of}
 use Rattle.sd_gate.specs.Sequences.{format_calls, closing_calls, body_calls, table_place}
@@ -24,7 +24,7 @@ short_not_open file short = grind (arith, nat_tests)
 closed_not_open : (file : List ℕ) → IsClosed file → is_open file ≡ false
 closed_not_open file closed = let shut = closed.shut in grind (arith, nat_tests)
 
-pub behind_whole : (body file : List ℕ) → IsBehind body file → IsClosedOrWhole body file
+pub behind_whole : (body file : List ℕ) → IsBodyOf body file → IsClosedOrWhole body file
 behind_whole body file behind = ⊎_elim
     (λ is. inr (behind.spelled ∙ ap (λ first. first ∷ body) is))
     (λ other. inl (closed_not_open file (behind_is_closed body file (record { first = behind.first; shut = other; spelled = behind.spelled }))))

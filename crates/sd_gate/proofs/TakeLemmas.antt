@@ -7,7 +7,7 @@ use Rattle.sd_image.specs.Image.{gate}
 use Rattle.sd_gate.specs.declared.call.Call.TheVariants.{Write, WriteHeader, Open, Cut, Sync}
 use Rattle.sd_gate.specs.declared.phase.Phase.{Phase}
 use Rattle.sd_gate.specs.declared.phase.Phase.TheVariants.{Raw, RawClosing, Whole, Closing, Shut, ShutSynced, Bare, Writing, Ready, Opening, Doubt, DoubtSynced}
-use Rattle.sd_gate.specs.Fits.{IsBehind}
+use Rattle.sd_gate.specs.Fits.{IsBodyOf}
 use Rattle.sd_gate.specs.Laws.{IsClosedOrWhole}
 use Rattle.sd_gate.specs.PlanRuns.{LeavesAtMost, PlansTake, Takes, body_closed}
 use Rattle.sd_gate.specs.Phases.{body_after, closing, filled, given_up, may_close, may_write, state_of}
@@ -34,13 +34,13 @@ short_at_most : (image body : List ℕ) → LeavesAtMost image Raw body
 short_at_most image body file left = inl (leaves_whole_or_closed Raw body file left)
 
 -- what stands behind any byte is the image, where it is behind the gate
-behind_at_most : (image body : List ℕ) → IsClosedOrWhole image (gate ∷ body) → (file : List ℕ) → IsBehind body file → IsClosedOrWhole image file
+behind_at_most : (image body : List ℕ) → IsClosedOrWhole image (gate ∷ body) → (file : List ℕ) → IsBodyOf body file → IsClosedOrWhole image file
 behind_at_most image body whole file behind = elim (behind_whole body file behind) [
   | inl closed ↦ inl closed
   | inr is ↦ subst (IsClosedOrWhole image) (sym is) whole
 ]
 
-opened_file : (body : List ℕ) → IsBehind body (gate ∷ body)
+opened_file : (body : List ℕ) → IsBodyOf body (gate ∷ body)
 opened_file body = record { first = gate; spelled = refl }
 
 cut_takes : (image : List ℕ) (phase : Phase) (body : List ℕ) → may_write phase ≡ true → Takes image phase body ((Cut, []) ∷ []) Bare []

@@ -13,7 +13,7 @@ pub record IsClosed (file : List ℕ) : Type 0 where
   pub shut : slice_index file 0 ≢ gate
 
 -- the body behind some byte
-pub record IsBehind (body file : List ℕ) : Type 0 where
+pub record IsBodyOf (body file : List ℕ) : Type 0 where
   pub first : ℕ
   pub spelled : file ≡ first ∷ body
 
@@ -39,23 +39,23 @@ PhaseReads Bare body file = (body ≡ []) × IsBehindClosed [] file
 PhaseReads Writing body file = IsBehindClosed body file
 PhaseReads Ready body file = IsBehindClosed body file
 PhaseReads Opening body file = file ≡ gate ∷ body
-PhaseReads Doubt body file = IsBehind body file
-PhaseReads DoubtSynced body file = IsBehind body file
+PhaseReads Doubt body file = IsBodyOf body file
+PhaseReads DoubtSynced body file = IsBodyOf body file
 
 -- what a crash may leave of it
 abbrev pub PhaseLeaves : Phase → List ℕ → List ℕ → Type 0
 PhaseLeaves Raw body file = IsShort file
 PhaseLeaves RawClosing body file = IsShort file
 PhaseLeaves Whole body file = file ≡ gate ∷ body
-PhaseLeaves Closing body file = IsBehind body file
+PhaseLeaves Closing body file = IsBodyOf body file
 PhaseLeaves Shut body file = IsClosed file
 PhaseLeaves ShutSynced body file = IsClosed file
 PhaseLeaves Bare body file = IsClosed file
 PhaseLeaves Writing body file = IsClosed file
 PhaseLeaves Ready body file = IsBehindClosed body file
-PhaseLeaves Opening body file = IsBehind body file
-PhaseLeaves Doubt body file = IsBehind body file
-PhaseLeaves DoubtSynced body file = IsBehind body file
+PhaseLeaves Opening body file = IsBodyOf body file
+PhaseLeaves Doubt body file = IsBodyOf body file
+PhaseLeaves DoubtSynced body file = IsBodyOf body file
 
 -- a crash leaves what is read
 abbrev pub is_synced : Phase → Bool

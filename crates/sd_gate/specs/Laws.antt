@@ -96,8 +96,8 @@ pub record PlansLead : Type 0 where
       (body_after (body_after body (Write (table_place header)) table) WriteHeader (header_text header))
 
 -- each has the bytes of a page
-abbrev pub AreWhole : List (List ℕ) → Type 0
-AreWhole = AllByRecursion (λ page. length page ≡ 4096)
+abbrev pub AreWholePages : List (List ℕ) → Type 0
+AreWholePages = AllByRecursion (λ page. length page ≡ 4096)
 
 -- the body with these data pages behind the room for a header, which is made with the first of them
 abbrev pub pages_body : List (List ℕ) → List ℕ
@@ -110,9 +110,10 @@ page_place pages = data_place (length pages)
 
 -- data pages are written one behind the other, and the table and the header complete the body of the image
 pub record BodiesFill : Type 0 where
-  pub page : (pages : List (List ℕ)) (page : List ℕ) → AreWhole pages
+  pub page : (pages : List (List ℕ)) (page : List ℕ) → AreWholePages pages
       → body_after (pages_body pages) (Write (page_place pages)) page ≡ pages_body (pages ++ page ∷ [])
-  pub image : (pages : List (List ℕ)) (header : Header) (table : List ℕ) → AreWhole pages → header.pages ≡ length pages
+  pub image : (pages : List (List ℕ)) (header : Header) (table : List ℕ) → AreWholePages pages
+      → header.pages ≡ length pages
       → HasWords header
       → body_after (body_after (pages_body pages) (Write (table_place header)) table) WriteHeader (header_text header)
       ≡ header_text header ++ concat pages ++ table

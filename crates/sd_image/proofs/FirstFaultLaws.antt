@@ -11,7 +11,7 @@ use Rattle.sd_image.specs.declared.space_head.SpaceHead.{SpaceHead}
 use Rattle.sd_image.specs.Table.{Listed}
 use Rattle.sd_image.specs.Reading.{◌>>=◌, number_at, item_value, many, head_at, space_head_of, space_head_at, area_limit, area_of, area_holds, area_from, area_at, run_of, run_holds, run_from, run_at, covers, space_at, ends_rightly, table_in}
 use Rattle.sd_image.specs.ReasonLaws.{reason_number, IsLeast}
-use Rattle.sd_image.specs.FirstFault.{applies, head_rules, space_head_rules, area_rules, run_rules, Reaches, here, later, IsSpaceFault, space_head_breaks, area_breaks, run_breaks, space_ends_wrongly, IsTableFault, table_head_breaks, space_breaks, table_ends_wrongly, FirstFaultIsNamed}
+use Rattle.sd_image.specs.FirstFault.{applies, head_rules, space_head_rules, area_rules, run_rules, ReadsUpTo, here, later, IsSpaceFault, space_head_breaks, area_breaks, run_breaks, space_ends_wrongly, IsTableFault, table_head_breaks, space_breaks, table_ends_wrongly, FirstFaultIsNamed}
 use Rattle.sd_image.proofs.LeastReason.{number_once}
 
 -- ---- rules, in the order of their numbers
@@ -172,7 +172,7 @@ bind_err (Err q) f r e = inl (ap Err (err_is q r (ap fails e)))
 record Reached {X S : Type 0} (read : S → List ℕ → Result (X × List ℕ) Reason) (after : X → S) (n : ℕ) (state : S) (bytes : List ℕ) (r : Reason) : Type 0 where
   next : S
   place : List ℕ
-  reaches : Reaches read after next place n state bytes
+  reaches : ReadsUpTo read after next place n state bytes
   breaks : read next place ≡ Err r
 
 many_fails : {X S : Type 0} (read : S → List ℕ → Result (X × List ℕ) Reason) (after : X → S) (n : ℕ) (state : S) (bytes : List ℕ) (r : Reason)
@@ -191,7 +191,7 @@ many_fails read after (suc n) state bytes r e =
     ]
 
 many_broken : {X S : Type 0} (read : S → List ℕ → Result (X × List ℕ) Reason) (after : X → S) (next : S) (place : List ℕ) (r : Reason) (n : ℕ) (state : S) (bytes : List ℕ)
-    → read next place ≡ Err r → Reaches read after next place n state bytes → many read after n state bytes ≡ Err r
+    → read next place ≡ Err r → ReadsUpTo read after next place n state bytes → many read after n state bytes ≡ Err r
 unfolding many
 many_broken read after next place r _ _ _ e (here n) = rw e refl
 many_broken read after next place r _ _ _ e (later n state bytes x rest good reaches) = rw (good, many_broken read after next place r n (after x) rest e reaches) refl

@@ -12,7 +12,7 @@ use Rattle.sd_image.specs.declared.run.RunKind.{RunKind}
 use Rattle.sd_image.specs.declared.run.RunKind.TheVariants.{Data, Parent, Zero}
 use Rattle.sd_image.specs.Table.{AreRuns, is_run_after, run_pages}
 use Rattle.sd_image.specs.Words.{run_kind_number}
-use Rattle.sd_image.specs.Runs.{AreRunsOf, IsSourced, PageWay, RunsHavePages, end_of, has_way, is_continued, page_of, pages_by, run_ways}
+use Rattle.sd_image.specs.Runs.{AreRunsOf, IsSourced, PageWay, RunsHavePages, end_of, has_way, is_continued, page_of_way, run_pages_by, run_ways}
 use Rattle.sd_image.proofs.PagePlaces.{kind_number_once}
 
 pub end_of-snoc : (runs : List Run) (run : Run) → end_of (runs ++ run ∷ []) ≡ run.first + run.count
@@ -137,38 +137,38 @@ begins_behind_last parent front last page kind behind within other sourced =
 
 -- ---- the pages of runs
 
-own_pages : (kind : RunKind) (xs : List ℕ) → map page_of (map (λ page. (page, kind)) xs) ≡ xs
+own_pages : (kind : RunKind) (xs : List ℕ) → map page_of_way (map (λ page. (page, kind)) xs) ≡ xs
 own_pages kind [] = refl
 own_pages kind (x ∷ xs) = ap (λ ys. x ∷ ys) (own_pages kind xs)
 
-all_pages : (runs : List Run) → map page_of (flat_map run_ways runs) ≡ flat_map run_pages runs
+all_pages : (runs : List Run) → map page_of_way (flat_map run_ways runs) ≡ flat_map run_pages runs
 all_pages [] = refl
 all_pages (run ∷ runs) =
-    map-append page_of (run_ways run) (flat_map run_ways runs)
-    ∙ ap (λ xs. xs ++ map page_of (flat_map run_ways runs)) (own_pages run.kind (run_pages run))
+    map-append page_of_way (run_ways run) (flat_map run_ways runs)
+    ∙ ap (λ xs. xs ++ map page_of_way (flat_map run_ways runs)) (own_pages run.kind (run_pages run))
     ∙ ap (λ xs. run_pages run ++ xs) (all_pages runs)
 
 ways_with : (kind own : RunKind) (b : Bool) (xs : List ℕ) → nat_eq (run_kind_number own) (run_kind_number kind) ≡ b
-    → map page_of (filter (has_way kind) (map (λ page. (page, own)) xs)) ≡ cond b xs []
+    → map page_of_way (filter (has_way kind) (map (λ page. (page, own)) xs)) ≡ cond b xs []
 ways_with kind own true [] is = refl
 ways_with kind own false [] is = refl
 ways_with kind own true (x ∷ xs) is =
-    ap (λ b. map page_of (cond b ((x, own) ∷ filter (has_way kind) (map (λ page. (page, own)) xs)) (filter (has_way kind) (map (λ page. (page, own)) xs)))) is
+    ap (λ b. map page_of_way (cond b ((x, own) ∷ filter (has_way kind) (map (λ page. (page, own)) xs)) (filter (has_way kind) (map (λ page. (page, own)) xs)))) is
     ∙ ap (λ ys. x ∷ ys) (ways_with kind own true xs is)
 ways_with kind own false (x ∷ xs) is =
-    ap (λ b. map page_of (cond b ((x, own) ∷ filter (has_way kind) (map (λ page. (page, own)) xs)) (filter (has_way kind) (map (λ page. (page, own)) xs)))) is
+    ap (λ b. map page_of_way (cond b ((x, own) ∷ filter (has_way kind) (map (λ page. (page, own)) xs)) (filter (has_way kind) (map (λ page. (page, own)) xs)))) is
     ∙ ways_with kind own false xs is
 
-kind_pages : (kind : RunKind) (runs : List Run) → map page_of (filter (has_way kind) (flat_map run_ways runs)) ≡ flat_map (pages_by kind) runs
+kind_pages : (kind : RunKind) (runs : List Run) → map page_of_way (filter (has_way kind) (flat_map run_ways runs)) ≡ flat_map (run_pages_by kind) runs
 kind_pages kind [] = refl
 kind_pages kind (run ∷ runs) =
-    ap (map page_of) (filter-append (has_way kind) (run_ways run) (flat_map run_ways runs))
-    ∙ map-append page_of (filter (has_way kind) (run_ways run)) (filter (has_way kind) (flat_map run_ways runs))
-    ∙ ap (λ xs. xs ++ map page_of (filter (has_way kind) (flat_map run_ways runs))) (ways_with kind run.kind (nat_eq (run_kind_number run.kind) (run_kind_number kind)) (run_pages run) refl)
-    ∙ ap (λ xs. pages_by kind run ++ xs) (kind_pages kind runs)
+    ap (map page_of_way) (filter-append (has_way kind) (run_ways run) (flat_map run_ways runs))
+    ∙ map-append page_of_way (filter (has_way kind) (run_ways run)) (filter (has_way kind) (flat_map run_ways runs))
+    ∙ ap (λ xs. xs ++ map page_of_way (filter (has_way kind) (flat_map run_ways runs))) (ways_with kind run.kind (nat_eq (run_kind_number run.kind) (run_kind_number kind)) (run_pages run) refl)
+    ∙ ap (λ xs. run_pages_by kind run ++ xs) (kind_pages kind runs)
 
 pub runs_have_pages_lem : RunsHavePages
 runs_have_pages_lem parent pages runs are = record {
-  all = sym (all_pages runs) ∙ ap (map page_of) are.list;
-  by_kind = λ kind. sym (kind_pages kind runs) ∙ ap (λ ps. map page_of (filter (has_way kind) ps)) are.list;
+  all = sym (all_pages runs) ∙ ap (map page_of_way) are.list;
+  by_kind = λ kind. sym (kind_pages kind runs) ∙ ap (λ ps. map page_of_way (filter (has_way kind) ps)) are.list;
 }

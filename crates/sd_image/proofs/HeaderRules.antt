@@ -15,7 +15,7 @@ use Rattle.sd_image.specs.declared.reason.Reason.{Reason}
 use Rattle.sd_image.specs.declared.reason.Reason.TheVariants as reason
 use Rattle.sd_image.specs.Words.{kind_number, version_number, number_bytes, zero_bytes}
 use Rattle.sd_image.specs.Header.{magic, header_front, header_text, AreNumbers, HasWords, IsDigest, IsHeader}
-use Rattle.sd_image.specs.Reading.{◌>>=◌, rules_kept, number_at, are_zero, has_no_digest, kind_of, version_of, breaks_bytes, bytes_kept, form_of, form_in, fields_of, stands_rightly, parent_rightly, breaks_fields, fields_kept, header_in}
+use Rattle.sd_image.specs.Reading.{◌>>=◌, rules_kept, number_at, are_zero, has_no_digest, kind_of_number, version_of, breaks_bytes, bytes_kept, form_of, form_in, fields_of, stands_rightly, parent_rightly, breaks_fields, fields_kept, header_in}
 use Rattle.sd_image.proofs.Steps.{bind_ok, guard_ok, ok_is, IsBytes, piece}
 use Rattle.sd_image.proofs.Numbers.{bytes_2, bytes_8, number_fits, zeros_are}
 
@@ -63,7 +63,7 @@ version_back (suc zero) low high = refl
 version_back (suc (suc zero)) low high = refl
 version_back (suc (suc (suc n))) low high = absurd (omega arith)
 
-kind_back : (n : ℕ) → 1 ≤ n → n ≤ 3 → kind_number (kind_of n) ≡ n
+kind_back : (n : ℕ) → 1 ≤ n → n ≤ 3 → kind_number (kind_of_number n) ≡ n
 kind_back zero low high = absurd (omega arith)
 kind_back (suc zero) low high = refl
 kind_back (suc (suc zero)) low high = refl
@@ -84,7 +84,7 @@ spelled_so bytes long fits kept =
     let p24 = piece 24 8 32 bytes _ _ refl (bytes_8 24 bytes fits (omega arith)) p32 in
     let p16 = piece 16 8 24 bytes _ _ refl (bytes_8 16 bytes fits (omega arith)) p24 in
     let p12 = piece 12 4 16 bytes (zero_bytes 4) _ refl (zeros_are 4 (take 4 (drop 12 bytes)) (length-take-le 4 (drop 12 bytes) (omega (arith, length-drop 12 bytes))) kept.reserved) p16 in
-    let kind : number_bytes 2 (kind_number (kind_of (number_at 2 10 bytes))) ≡ take 2 (drop 10 bytes) = ap (number_bytes 2) (kind_back (number_at 2 10 bytes) kept.kind_low kept.kind_high) ∙ bytes_2 10 bytes fits (omega arith) in
+    let kind : number_bytes 2 (kind_number (kind_of_number (number_at 2 10 bytes))) ≡ take 2 (drop 10 bytes) = ap (number_bytes 2) (kind_back (number_at 2 10 bytes) kept.kind_low kept.kind_high) ∙ bytes_2 10 bytes fits (omega arith) in
     let p10 = piece 10 2 12 bytes _ _ refl kind p12 in
     let version : number_bytes 2 (version_number (version_of (number_at 2 8 bytes))) ≡ take 2 (drop 8 bytes) = ap (number_bytes 2) (version_back (number_at 2 8 bytes) kept.version_low kept.version_high) ∙ bytes_2 8 bytes fits (omega arith) in
     let p8 = piece 8 2 10 bytes _ _ refl version p10 in
@@ -156,7 +156,7 @@ version_fits : (version : Version) → (1 ≤ version_number version) × (versio
 version_fits One = (omega arith, omega arith)
 version_fits Two = (omega arith, omega arith)
 
-kind_again : (kind : Kind) → kind_of (kind_number kind) ≡ kind
+kind_again : (kind : Kind) → kind_of_number (kind_number kind) ≡ kind
 kind_again PreDump = refl
 kind_again Dump = refl
 kind_again Merged = refl
@@ -263,7 +263,7 @@ found_header h = Ok h
 pub text_again : (b : ℕ) (h : Header) (len : ℕ) → IsHeader h len → header_in (b ∷ header_text h) len ≡ found_header h
 unfolding header_in form_in
 text_again b h len good =
-    let kind : kind_of (number_at 2 10 (b ∷ header_text h)) ≡ h.kind = ap kind_of (kind_at b h) ∙ kind_again h.kind in
+    let kind : kind_of_number (number_at 2 10 (b ∷ header_text h)) ≡ h.kind = ap kind_of_number (kind_at b h) ∙ kind_again h.kind in
     let version : version_of (number_at 2 8 (b ∷ header_text h)) ≡ h.version = ap version_of (version_at b h) ∙ version_again h.version in
     rw (bytes_again b h good.words, version, kind, fields_again b h good.words, fields_are_kept h len good) refl
 
@@ -287,7 +287,7 @@ header_length h words = text_length h (length-digest h.version h.digest words.di
 pub header_once : (g h : Header) → HasWords g → HasWords h → header_text g ≡ header_text h → g ≡ h
 header_once g h a b e =
     let number : number_at 2 10 (0 ∷ header_text g) ≡ number_at 2 10 (0 ∷ header_text h) = ap (λ (t : List ℕ). number_at 2 10 (0 ∷ t)) e in
-    let kind : g.kind ≡ h.kind = sym (kind_again g.kind) ∙ ap kind_of (sym (kind_at 0 g) ∙ number ∙ kind_at 0 h) ∙ kind_again h.kind in
+    let kind : g.kind ≡ h.kind = sym (kind_again g.kind) ∙ ap kind_of_number (sym (kind_at 0 g) ∙ number ∙ kind_at 0 h) ∙ kind_again h.kind in
     let number_of : number_at 2 8 (0 ∷ header_text g) ≡ number_at 2 8 (0 ∷ header_text h) = ap (λ (t : List ℕ). number_at 2 8 (0 ∷ t)) e in
     let version : g.version ≡ h.version = sym (version_again g.version) ∙ ap version_of (sym (version_at 0 g) ∙ number_of ∙ version_at 0 h) ∙ version_again h.version in
     let fields : fields_of (g.version, g.kind) (0 ∷ header_text g) ≡ fields_of (h.version, h.kind) (0 ∷ header_text h) =

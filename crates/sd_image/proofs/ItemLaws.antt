@@ -14,7 +14,7 @@ use Rattle.sd_image.specs.declared.run.RunKind.{RunKind}
 use Rattle.sd_image.specs.declared.run.RunKind.TheVariants.{Data, Parent, Zero}
 use Rattle.sd_image.specs.Words.{run_kind_number, number_bytes, zero_bytes}
 use Rattle.sd_image.specs.Table.{area_text, run_text, is_run_after}
-use Rattle.sd_image.specs.Reading.{◌>>=◌, number_at, item_at, item_value, prot_of, area_of, area_holds, area_from, area_at, run_kind_of, run_of, run_holds, run_from, run_at}
+use Rattle.sd_image.specs.Reading.{◌>>=◌, number_at, item_at, item_value, prot_of_number, area_of, area_holds, area_from, area_at, run_kind_of, run_of, run_holds, run_from, run_at}
 use Rattle.sd_image.proofs.Steps.{IsBytes, IsBytes-take, IsBytes-drop, bind_ok, guard_ok, ok_is, Takes, piece}
 use Rattle.sd_image.proofs.Numbers.{bytes_4, bytes_8}
 use Rattle.sd_image.proofs.Written.{zero_4}
@@ -57,8 +57,8 @@ last_zero place next item fits n long z =
     let same : zero_bytes 4 ≡ take 4 (drop place item) = sym zero_4 ∙ ap (number_bytes 4) (sym z) ∙ bytes_4 place item fits (omega arith) in
     piece place 4 next item (zero_bytes 4) [] n same (drop_all next item (omega arith))
 
-prot_number : (n : ℕ) → n ≤ 7 → prot_bits (prot_of n) ≡ n
-unfolding prot_of
+prot_number : (n : ℕ) → n ≤ 7 → prot_bits (prot_of_number n) ≡ n
+unfolding prot_of_number
 prot_number zero h = refl
 prot_number (suc zero) h = refl
 prot_number (suc (suc zero)) h = refl
@@ -143,7 +143,7 @@ area_fields a range =
     let first : little_number 8 (drop 0 (area_text a)) ≡ a.first = little_number-reads_back 8 a.first (drop 8 (area_text a)) (omega (arith, range.inside)) in
     let count : little_number 8 (drop 8 (area_text a)) ≡ a.count = little_number-reads_back 8 a.count (drop 16 (area_text a)) (omega (arith, range.inside)) in
     let prot : little_number 4 (drop 16 (area_text a)) ≡ prot_bits a.prot = little_number-reads_back 4 (prot_bits a.prot) (drop 20 (area_text a)) (omega (arith, small)) in
-    let whole = same_area _ a first count (ap prot_of prot ∙ prot_back a.prot) in
+    let whole = same_area _ a first count (ap prot_of_number prot ∙ prot_back a.prot) in
     (whole, prot, refl)
 
 area_length : (a : Area) → length (area_text a) ≡ 24

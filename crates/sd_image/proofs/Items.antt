@@ -11,11 +11,11 @@ use Rattle.sd_image.specs.declared.reason.Reason.{Reason}
 use Rattle.sd_image.specs.declared.run.Run.{Run}
 use Rattle.sd_image.specs.declared.run.RunKind.{RunKind}
 use Rattle.sd_image.specs.Table.{begins_behind, has_source, is_run_after}
-use Rattle.sd_image.specs.Reading.{number_at, item_at, prot_of, area_of, area_holds, area_from, area_at, run_kind_of, run_of, run_holds, run_from, run_at}
+use Rattle.sd_image.specs.Reading.{number_at, item_at, prot_of_number, area_of, area_holds, area_from, area_at, run_kind_of, run_of, run_holds, run_from, run_at}
 
 -- permissions are those of their number
-prot_made : (read write execute : Bool) → prot_of (prot_bits (record { read = read; write = write; execute = execute })) ≡ record { read = read; write = write; execute = execute }
-unfolding prot_of
+prot_made : (read write execute : Bool) → prot_of_number (prot_bits (record { read = read; write = write; execute = execute })) ≡ record { read = read; write = write; execute = execute }
+unfolding prot_of_number
 prot_made false false false = refl
 prot_made false false true = refl
 prot_made false true false = refl
@@ -25,12 +25,12 @@ prot_made true false true = refl
 prot_made true true false = refl
 prot_made true true true = refl
 
-pub prot_back : (prot : Prot) → prot_of (prot_bits prot) ≡ prot
+pub prot_back : (prot : Prot) → prot_of_number (prot_bits prot) ≡ prot
 prot_back prot = prot_made prot.read prot.write prot.execute
 
-pub prot_is : (r : Option Prot) (n : ℕ) → n ≤ 7 → (n ≤ 7 → IsSome r) → IfSome r (λ prot. prot_bits prot ≡ n) → MatchOption r (7 < n) (λ prot. (n ≤ 7) × (prot ≡ prot_of n))
+pub prot_is : (r : Option Prot) (n : ℕ) → n ≤ 7 → (n ≤ 7 → IsSome r) → IfSome r (λ prot. prot_bits prot ≡ n) → MatchOption r (7 < n) (λ prot. (n ≤ 7) × (prot ≡ prot_of_number n))
 prot_is None n le some value = let s = some le in absurd cc
-prot_is (Some prot) n le some value = (le, sym (prot_back prot) ∙ ap prot_of value)
+prot_is (Some prot) n le some value = (le, sym (prot_back prot) ∙ ap prot_of_number value)
 
 -- ---- areas
 
@@ -66,7 +66,7 @@ prot_past before item number is past = false_from_ne_true (area_holds before ite
 abbrev pub area_made : ℕ → ℕ → Prot → Area
 area_made first count prot = record { first = first; count = count; prot = prot }
 
-pub area_is : (item : List ℕ) (first count number : ℕ) (prot : Prot) → first ≡ number_at 8 0 item → count ≡ number_at 8 8 item → number ≡ number_at 4 16 item → prot ≡ prot_of number → area_made first count prot ≡ area_of item
+pub area_is : (item : List ℕ) (first count number : ℕ) (prot : Prot) → first ≡ number_at 8 0 item → count ≡ number_at 8 8 item → number ≡ number_at 4 16 item → prot ≡ prot_of_number number → area_made first count prot ≡ area_of item
 unfolding area_of
 area_is item first count number prot f n p q = rw (f, n, q, p) refl
 

@@ -55,24 +55,24 @@ run_rules parent before bytes =
 
 -- Of n items one behind the other, the next to be read begins at this place, behind what came before it: all before it
 -- are good.
-pub data Reaches {X S : Type 0} (read : S → List ℕ → Result (X × List ℕ) Reason) (after : X → S) (next : S)
+pub data ReadsUpTo {X S : Type 0} (read : S → List ℕ → Result (X × List ℕ) Reason) (after : X → S) (next : S)
     (place : List ℕ) : ℕ → S → List ℕ → Type 0 where
-  here : (n : ℕ) → Reaches read after next place (suc n) next place
+  here : (n : ℕ) → ReadsUpTo read after next place (suc n) next place
   later : (n : ℕ) (state : S) (bytes : List ℕ) (x : X) (rest : List ℕ) → read state bytes ≡ Ok (x, rest)
-      → Reaches read after next place n (after x) rest → Reaches read after next place (suc n) state bytes
+      → ReadsUpTo read after next place n (after x) rest → ReadsUpTo read after next place (suc n) state bytes
 
 -- where a space is at fault, behind the space with the number before
 pub data IsSpaceFault (h : Header) (before : ℕ) (bytes : List ℕ) (r : Reason) : Type 0 where
   space_head_breaks : IsLeast (applies (space_head_rules h.kind before bytes)) r → IsSpaceFault h before bytes r
   area_breaks : (head : SpaceHead) (rest : List ℕ) (previous : Option Area) (place : List ℕ)
       → space_head_at h.kind before bytes ≡ Ok (head, rest)
-      → Reaches area_at Some previous place head.areas None rest
+      → ReadsUpTo area_at Some previous place head.areas None rest
       → IsLeast (applies (area_rules previous place)) r → IsSpaceFault h before bytes r
   run_breaks : (head : SpaceHead) (rest : List ℕ) (areas : List Area) (behind : List ℕ) (previous : Option Run)
       (place : List ℕ)
       → space_head_at h.kind before bytes ≡ Ok (head, rest)
       → many area_at Some head.areas None rest ≡ Ok (areas, behind)
-      → Reaches (run_at h.parent) Some previous place head.runs None behind
+      → ReadsUpTo (run_at h.parent) Some previous place head.runs None behind
       → IsLeast (applies (run_rules h.parent previous place)) r → IsSpaceFault h before bytes r
   space_ends_wrongly : (head : SpaceHead) (rest : List ℕ) (areas : List Area) (behind : List ℕ) (runs : List Run)
       (end : List ℕ)
@@ -86,7 +86,7 @@ pub data IsTableFault (h : Header) (bytes : List ℕ) (r : Reason) : Type 0 wher
   table_head_breaks : IsLeast (applies (head_rules bytes)) r → IsTableFault h bytes r
   space_breaks : (count : ℕ) (rest : List ℕ) (before : ℕ) (place : List ℕ)
       → head_at bytes ≡ Ok (count, rest)
-      → Reaches (space_at h) (λ s. s.space) before place count 0 rest
+      → ReadsUpTo (space_at h) (λ s. s.space) before place count 0 rest
       → IsSpaceFault h before place r → IsTableFault h bytes r
   table_ends_wrongly : (count : ℕ) (rest : List ℕ) (spaces : List Listed) (end : List ℕ)
       → head_at bytes ≡ Ok (count, rest)

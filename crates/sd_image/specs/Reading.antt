@@ -64,8 +64,8 @@ are_zero bytes = list_all (λ b. b == 0) bytes
 abbrev pub version_of : ℕ → Version
 version_of n = if n == 1 then One else Two
 
-abbrev pub kind_of : ℕ → Kind
-kind_of n = if n == 1 then PreDump else if n == 2 then Dump else Merged
+abbrev pub kind_of_number : ℕ → Kind
+kind_of_number n = if n == 1 then PreDump else if n == 2 then Dump else Merged
 
 -- version 1 has zeros in the place of a digest
 abbrev pub has_no_digest : Version → List ℕ → Bool
@@ -86,7 +86,7 @@ bytes_kept bytes = rules_kept (breaks_bytes bytes) (reason.Magic ∷ reason.Vers
 
 -- the version and the kind
 abbrev pub form_of : List ℕ → Version × Kind
-form_of bytes = (version_of (number_at 2 8 bytes), kind_of (number_at 2 10 bytes))
+form_of bytes = (version_of (number_at 2 8 bytes), kind_of_number (number_at 2 10 bytes))
 
 -- these, where the bytes are what they have to be
 unfoldable pub form_in : List ℕ → Result (Version × Kind) Reason
@@ -163,11 +163,12 @@ head_at bytes = do
   Ok (spaces, item.1)
 
 -- permissions from their number
-unfoldable pub prot_of : ℕ → Prot
-prot_of n = record { read = n % 2 == 1; write = n / 2 % 2 == 1; execute = n / 4 == 1 }
+unfoldable pub prot_of_number : ℕ → Prot
+prot_of_number n = record { read = n % 2 == 1; write = n / 2 % 2 == 1; execute = n / 4 == 1 }
 
 unfoldable pub area_of : List ℕ → Area
-area_of item = record { first = number_at 8 0 item; count = number_at 8 8 item; prot = prot_of (number_at 4 16 item) }
+area_of item =
+    record { first = number_at 8 0 item; count = number_at 8 8 item; prot = prot_of_number (number_at 4 16 item) }
 
 -- whether an item is an area that may stand behind the one before
 unfoldable pub area_holds : Option Area → List ℕ → Bool

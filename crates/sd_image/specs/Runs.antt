@@ -11,8 +11,8 @@ use Rattle.sd_image.specs.Words.{run_kind_number}
 abbrev pub PageWay : Type 0
 PageWay = ℕ × RunKind
 
-abbrev pub page_of : PageWay → ℕ
-page_of p = p.0
+abbrev pub page_of_way : PageWay → ℕ
+page_of_way p = p.0
 
 abbrev pub has_way : RunKind → PageWay → Bool
 has_way kind p = run_kind_number p.1 == run_kind_number kind
@@ -41,13 +41,13 @@ abbrev pub is_continued : Run → ℕ → RunKind → Bool
 is_continued run page kind = (run_kind_number run.kind == run_kind_number kind) && (run.first + run.count == page)
 
 -- the pages that a run has in one way
-abbrev pub pages_by : RunKind → Run → List ℕ
-pages_by kind run = if run_kind_number run.kind == run_kind_number kind then run_pages run else []
+abbrev pub run_pages_by : RunKind → Run → List ℕ
+run_pages_by kind run = if run_kind_number run.kind == run_kind_number kind then run_pages run else []
 
 -- The runs of some pages have exactly these pages, and in each way those that are to be had so.
 pub record HavePages (pages : List PageWay) (runs : List Run) : Type 0 where
-  pub all : flat_map run_pages runs ≡ map page_of pages
-  pub by_kind : (kind : RunKind) → flat_map (pages_by kind) runs ≡ map page_of (filter (has_way kind) pages)
+  pub all : flat_map run_pages runs ≡ map page_of_way pages
+  pub by_kind : (kind : RunKind) → flat_map (run_pages_by kind) runs ≡ map page_of_way (filter (has_way kind) pages)
 
 abbrev pub RunsHavePages : Type 0
 RunsHavePages =

@@ -5,7 +5,8 @@ ghost use Rattle.std.specs.Prelude.{Ok};
 ghost use Rattle.sd_image.specs.declared.header.Header.{Header};
 ghost use Rattle.sd_image.specs.Header.{header_text, IsHeader};
 ghost use Rattle.sd_image.specs.Words.{kind_number, version_number};
-ghost use Rattle.sd_image.specs.Reading.{Reads, form_in, has_no_digest, kind_of, version_of, fields_of, fields_kept};
+ghost use Rattle.sd_image.specs.Reading.{Reads, form_in, has_no_digest, kind_of_number, version_of, fields_of};
+ghost use Rattle.sd_image.specs.Reading.{fields_kept};
 ghost use Rattle.sd_image.specs.Reading.{stands_rightly, parent_rightly, header_in};
 
 use crate::fields::{are_zero, u16_at, u64_at};
@@ -51,7 +52,7 @@ fn number_of(kind: Kind) -> u16
 /// The kind with this number, or none.
 fn kind_with(number: u16) -> Option<Kind>
     ensures { MatchOption result (number < 1 ⊎ 3 < number)
-        (λ kind. (1 ≤ number) × (number ≤ 3) × (kind ≡ kind_of number)) }
+        (λ kind. (1 ≤ number) × (number ≤ 3) × (kind ≡ kind_of_number number)) }
 {
     match number {
         1 => Some(Kind::PreDump),

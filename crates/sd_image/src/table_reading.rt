@@ -4,7 +4,7 @@ ghost use Rattle.std.specs.Prelude.{◌≡◌, ◌⊎◌, ℕ, ◌+◌, ◌^◌,
 ghost use Rattle.std.specs.Prelude.{true, false, length, map, IsOk, IfOk, MatchOption, option_copied};
 ghost use Rattle.sd_areas.specs.Areas.{begins_after, is_area_after};
 ghost use Rattle.sd_image.specs.declared.header.Header.{Header};
-ghost use Rattle.sd_image.specs.Reading.{Reads, ReadsTable, number_at, prot_of, item_at, many, head_at, area_of};
+ghost use Rattle.sd_image.specs.Reading.{Reads, ReadsTable, number_at, prot_of_number, item_at, many, head_at, area_of};
 ghost use Rattle.sd_image.specs.Reading.{area_holds};
 ghost use Rattle.sd_image.specs.Reading.{area_from, area_at, run_kind_of, run_of, run_holds, run_from, run_at};
 ghost use Rattle.sd_image.specs.Reading.{area_limit, space_head_of, space_head_at, covers, space_at, ends_rightly};
@@ -91,7 +91,7 @@ fn is_area_after(before: Option<&Area>, area: &Area) -> bool
 
 /// The permissions with this number, or none.
 fn prot_with(number: u32) -> Option<Prot>
-    ensures { MatchOption result (7 < number) (λ prot. (number ≤ 7) × (prot ≡ prot_of number)) }
+    ensures { MatchOption result (7 < number) (λ prot. (number ≤ 7) × (prot ≡ prot_of_number number)) }
 {
     if number > 7 {
         return None;

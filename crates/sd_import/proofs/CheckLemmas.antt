@@ -8,12 +8,12 @@ use Rattle.std.specs.Option.{option_map}
 use Rattle.std.specs.Ordering.{nat_cmp}
 use Rattle.sd_areas.specs.Areas.{PageMap}
 use Rattle.sd_areas.specs.declared.prot.Prot.{Prot}
-use Rattle.sd_elf.specs.Cores.{IsCore, segment_byte}
+use Rattle.sd_elf.specs.Cores.{IsCoreFile, segment_byte}
 use Rattle.sd_elf.specs.Segments.{AreSegments, extent_after, no_extent, prot_of_flags}
 use Rattle.sd_elf.specs.declared.segments.Extent.{Extent}
 use Rattle.sd_elf.specs.declared.program_header.ProgramHeader.{ProgramHeader}
 use Rattle.sd_areas.specs.PlainMemory.{Space}
-use Rattle.sd_import.specs.Imported.{HasCore, HasPage, HasSegment, page_count}
+use Rattle.sd_import.specs.Imported.{HasCore, HasPageOfSegment, HasSegment, segment_page_count}
 use Rattle.sd_pagetable.specs.Contents.{Contents, page_at, plain_of, AreWhole}
 use Rattle.sd_pagetable.specs.Kept.{prots_of}
 use Rattle.sd_pagetable.specs.Nested.{Table, inside, map_values}
@@ -103,7 +103,7 @@ pub page_compared : (E : Type 0) (o : Option (List ℕ)) (m : Contents) (s : Pro
     → ((found : PageState) → page_at m space page ≡ Some found → found.prot ≡ prot_of_flags s.p_flags)
     → (b ≡ true → (found : PageState) × (page_at m space page ≡ Some found) × ((k : ℕ) → k < 4096 → slice_index found.bytes k ≡ slice_index bytes k))
     → IfSome o (λ held. s.p_offset + s.p_filesz < 2 ^ 64 → (k : ℕ) → k < length bytes → slice_index bytes k ≡ segment_byte held s (behind + k))
-    → IfSome o (λ held. s.p_offset + s.p_filesz < 2 ^ 64 → ◌≡◌ {A = Result Bool E} (Ok b) (Ok true) → HasPage held (inside (plain_of m) space) s number)
+    → IfSome o (λ held. s.p_offset + s.p_filesz < 2 ^ 64 → ◌≡◌ {A = Result Bool E} (Ok b) (Ok true) → HasPageOfSegment held (inside (plain_of m) space) s number)
 page_compared E None m s space number behind page bytes b behind_is page_is whole long permitted compared read = tt
 page_compared E (Some held) m s space number behind page bytes b behind_is page_is whole long permitted compared read = λ small is.
     let passes : b ≡ true = cc in
@@ -139,7 +139,7 @@ segments_more E (Some held) segments small P n s b passes inside_it there before
 
 -- all segments are there, and no other page
 pub core_there : (E : Type 0) (o : Option (List ℕ)) (segments : List ProgramHeader) (small : ProgramHeader → Type 0) (space : Space) (n mapped counted : ℕ)
-    → length segments ≤ n → mapped ≡ finmap.len space → counted ≡ sum_by page_count segments
+    → length segments ≤ n → mapped ≡ finmap.len space → counted ≡ sum_by segment_page_count segments
     → IfSome o (λ held. All small segments → (k : ℕ) (d : ProgramHeader) → k < n → HasSegment held space (slice_index_or segments k d))
     → IfSome o (λ held. All small segments → ◌≡◌ {A = Result Bool E} (Ok (eqb mapped counted)) (Ok true) → HasCore held segments space)
 core_there E None segments small space n mapped counted all mapped_is counted_is there = tt
@@ -162,7 +162,7 @@ small_at size e (s ∷ ss) (suc k) d are below = small_at size (extent_after e s
 -- what the comparison found of a core that fits
 pub core_imported : (E : Type 0) (o : Option (List ℕ)) (segments : List ProgramHeader) (space : Space) (b : Bool) → b ≡ true
     → IfSome o (λ held. All (λ (s : ProgramHeader). s.p_offset + s.p_filesz < 2 ^ 64) segments → ◌≡◌ {A = Result Bool E} (Ok b) (Ok true) → HasCore held segments space)
-    → IfSome o (λ held. length held < 2 ^ 64 → IsCore held segments → HasCore held segments space)
+    → IfSome o (λ held. length held < 2 ^ 64 → IsCoreFile held segments → HasCore held segments space)
 core_imported E None segments space b passes found = tt
 core_imported E (Some held) segments space b passes found = λ short is.
     found (λ k d below. let in_file = small_at (length held) no_extent segments k d is.fits below in omega (arith, in_file, short))

@@ -4,7 +4,7 @@ ghost use Rattle.std.specs.Prelude.{All, IfSome};
 ghost use Rattle.std.specs.FinMap as finmap;
 ghost use Rattle.sd_areas.specs.declared.area.Area.{Area as AreaOf};
 ghost use Rattle.sd_elf.specs.declared.program_header.ProgramHeader.{ProgramHeader as Header};
-ghost use Rattle.sd_import.specs.Imported.{HasCore, HasPage, HasSegment, page_count};
+ghost use Rattle.sd_import.specs.Imported.{HasCore, HasPageOfSegment, HasSegment, segment_page_count};
 ghost use Rattle.sd_pagetable.specs.Contents.{page_at, plain_of};
 ghost use Rattle.sd_pagetable.specs.Nested.{inside};
 ghost use Rattle.sd_pagetable.specs.Page.{PageState};
@@ -63,7 +63,7 @@ fn has_page<F: CoreFile>(
 ) -> io::Result<bool>
     requires { number < segment.now.p_memsz / 4096 }
     ensures { IfSome (F.bytes file.now) (λ held. segment.now.p_offset + segment.now.p_filesz < 2 ^ 64
-        → result ≡ Ok true → HasPage held (inside (plain_of memory.now) space) segment.now number) }
+        → result ≡ Ok true → HasPageOfSegment held (inside (plain_of memory.now) space) segment.now number) }
 {
     memory.whole();
     let (address, size) = (segment.p_vaddr, segment.p_memsz);
@@ -104,7 +104,7 @@ fn pages_in(areas: &[Area]) -> u128
 
 /// How many pages segments have.
 fn pages_of(segments: &[ProgramHeader]) -> u128
-    ensures { result ≡ sum_by page_count segments.now }
+    ensures { result ≡ sum_by segment_page_count segments.now }
 {
     segments
         .iter()

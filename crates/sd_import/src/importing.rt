@@ -1,6 +1,6 @@
 //! The commands by which a space gets the memory of a core: as few as the language has.
 ghost use Rattle.std.specs.Prelude.{◌≡◌, ◌+◌, ◌^◌, ◌<◌, IfSome, OnOk, length};
-ghost use Rattle.sd_elf.specs.Cores.{IsCore};
+ghost use Rattle.sd_elf.specs.Cores.{IsCoreFile};
 ghost use Rattle.sd_import.specs.Changes.{ChangesOnly};
 ghost use Rattle.sd_import.specs.Imported.{HasCore};
 ghost use Rattle.sd_pagetable.specs.Contents.{plain_of};
@@ -110,7 +110,7 @@ pub fn import_core<D: Disk, F: CoreFile>(
 ) -> Result<Tally, ImportError>
     // The space has the memory that the core file says: each page of its segments, and no other.
     ensures memory { IfSome (F.bytes file.now) (λ held. length held < 2 ^ 64
-        → IsCore held core.now.segments.items
+        → IsCoreFile held core.now.segments.items
         → OnOk result (HasCore held core.now.segments.items (inside (plain_of world.new.core.memory) space))) }
     // Every other space is as before.
     ensures changes { OnOk result (ChangesOnly D.Disk space world.old world.new) }

@@ -5,7 +5,7 @@ use Rattle.std.specs.List.{list_any}
 use Rattle.std.specs.Option.{option_map}
 use Rattle.sd_areas.specs.PlainMemory.{PlainMemory}
 use Rattle.sd_pagetable.specs.Contents.{Contents, IsSound, page_at, plain_of}
-use Rattle.sd_pagetable.specs.EventEffects.{EffectLaw}
+use Rattle.sd_pagetable.specs.EventEffects.{EventEffectLaw}
 use Rattle.sd_pagetable.specs.Law.{ClearLaw, PlainLaw}
 use Rattle.sd_pagetable.specs.Nested.{value_at}
 use Rattle.sd_pagetable.specs.Order.{is_above, IsNextPage}
@@ -17,7 +17,7 @@ use Rattle.sd_command.specs.declared.command.Command.TheVariants as command
 use Rattle.sd_command.specs.declared.refusal.Refusal.TheVariants.{Frozen}
 use Rattle.sd_command.specs.declared.reply.Reply.{Reply}
 use Rattle.sd_command.specs.declared.reply.Reply.TheVariants.{Refused}
-use Rattle.sd_command.specs.Events.{event_of, EffectLaw as CommandLaw}
+use Rattle.sd_command.specs.Events.{event_of, EffectLaw}
 use Rattle.sd_command.specs.Replies.{IsLegalReply, effect}
 use Rattle.sd_journal.specs.declared.entry.Entry.{Entry}
 use Rattle.sd_journal.specs.declared.entry.Entry.TheVariants.{Applied, Freeze, Acked, Cancelled, Reopened}
@@ -80,7 +80,7 @@ still_swept : (base : Base) (items : Marked) (entry : Entry) → IfSome (visitin
 still_swept base items entry swept =
     if_some (visiting items) (λ serial. IsSwept base items serial) (λ serial. IsSwept base (Told entry ∷ items) serial) (λ serial. swept_told base items entry serial) swept
 
-pub applied : PageLaw → CommandLaw → (base : Base) (items : Marked) (old new : Contents) (seat : ℕ) (command : Command) (reply : Reply)
+pub applied : PageLaw → EffectLaw → (base : Base) (items : Marked) (old new : Contents) (seat : ℕ) (command : Command) (reply : Reply)
     → IsSound old → IsTracked base items old → pending (entries_of items) ≡ None → IsLegalReply (plain_of old) false command reply
     → Step old (event_of command reply) new → IsTracked base (Told (Applied seat command reply) ∷ items) new
 applied pages effects base items old new seat command reply sound tracked none legal step =
@@ -219,7 +219,7 @@ swept_visit plain base items old serial s p tracked is next space page behind st
     go mapped stayed swept last false other true e =
         never (sym (below s p space page last other) ∙ next.2 space page (in_memory plain base items old space page tracked.memory mapped) e)
 
-pub visited : ClearLaw → EffectLaw → PlainLaw → (base : Base) (items : Marked) (old new : Contents) (serial space page : ℕ)
+pub visited : ClearLaw → EventEffectLaw → PlainLaw → (base : Base) (items : Marked) (old new : Contents) (serial space page : ℕ)
     → IsTracked base items old → visiting items ≡ Some serial
     → IsNextPage old.spaces (last_visit items serial) (Some (space, page)) → Step old (Cleared space page) new
     → IsTracked base (Noted (Visit serial space page) ∷ items) new

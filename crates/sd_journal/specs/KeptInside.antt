@@ -3,7 +3,7 @@ use Rattle.std.specs.Prelude.{◌+◌, ◌≤◌, ◌^◌, length, reverse, vec_
 use Rattle.sd_journal.specs.declared.journal.Journal.TheInside.{Inside}
 use Rattle.sd_journal.specs.Kept.{AreWithin}
 
-pub record IsKept (journal : Inside) : Type 0 where
+pub record IsKeptJournal (journal : Inside) : Type 0 where
   -- so many entries were taken from the front
   pub first : journal.first ≤ 2 ^ 62
   pub most : journal.limit ≤ 1048576

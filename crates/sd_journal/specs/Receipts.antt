@@ -11,17 +11,18 @@ use Rattle.sd_journal.specs.declared.entry.Entry.TheVariants.{Applied, Freeze, A
 use Rattle.sd_journal.specs.declared.receipt.Receipt.{Receipt}
 
 -- the entries whose numbers begin at first have this one at the number
-abbrev pub IsAt : ℕ → List Entry → ℕ → Entry → Type 0
-IsAt first journal number entry = (place : ℕ) × (number ≡ first + place) × (slice_get journal place ≡ Some entry)
+abbrev pub IsEntryAt : ℕ → List Entry → ℕ → Entry → Type 0
+IsEntryAt first journal number entry = (place : ℕ) × (number ≡ first + place) × (slice_get journal place ≡ Some entry)
 
 -- the journal has at the receipt's number its seat, command and reply
 abbrev pub Stands : ℕ → List Entry → Receipt → Type 0
-Stands first journal receipt = IsAt first journal receipt.number (Applied receipt.seat receipt.command receipt.reply)
+Stands first journal receipt =
+    IsEntryAt first journal receipt.number (Applied receipt.seat receipt.command receipt.reply)
 
 -- the journal has a command at this number
 abbrev pub HasCommand : ℕ → List Entry → ℕ → Type 0
 HasCommand first journal number =
-    (seat : ℕ) × (command : Command) × (reply : Reply) × IsAt first journal number (Applied seat command reply)
+    (seat : ℕ) × (command : Command) × (reply : Reply) × IsEntryAt first journal number (Applied seat command reply)
 
 abbrev pub AllStand : ℕ → List Entry → List Receipt → Type 0
 AllStand first journal receipts =

@@ -25,19 +25,19 @@ module _ (one other : Command) (done again : Reply) where
   abbrev pub second : PlainMemory
   second = effect other again first
 
-  abbrev pub begun : History
-  begun = Freeze 1 ∷ Applied 0 one done ∷ []
+  abbrev pub first_frozen : History
+  first_frozen = Freeze 1 ∷ Applied 0 one done ∷ []
 
   abbrev pub saved : History
-  saved = Acked 1 ∷ begun
+  saved = Acked 1 ∷ first_frozen
 
   abbrev pub doubtful : History
   doubtful = Freeze 2 ∷ Applied 1 other again ∷ saved
 
   pub record WorkedJournal : Type 0 where
     -- while the first checkpoint is written it is allowed, and so is nothing
-    pub first_written : IsAllowed empty_base begun (Some (1, first))
-    pub or_nothing : IsAllowed empty_base begun None
+    pub first_written : IsAllowed empty_base first_frozen (Some (1, first))
+    pub or_nothing : IsAllowed empty_base first_frozen None
     -- once it is acknowledged, nothing else
     pub first_saved : IsAllowed empty_base saved (Some (1, first))
     pub not_empty : IsAllowed empty_base saved None → ⊥

@@ -44,9 +44,9 @@ impl Model for Journal {
       mark_room = vec_capacity j.marks - length j.marks.items;
     } };
 
-    ghost use Rattle.sd_journal.specs.KeptInside.{IsKept};
+    ghost use Rattle.sd_journal.specs.KeptInside.{IsKeptJournal};
 
-    ghost invariant = { IsKept };
+    ghost invariant = { IsKeptJournal };
 }
 
 impl Journal {

@@ -20,8 +20,8 @@ use Rattle.sd_merge.specs.declared.stage.Stage.{Stage}
 use Rattle.sd_merge.specs.declared.stage.Stage.TheVariants.{Format, Pass as PassStage, PageRead, PageWrite, Close}
 use Rattle.sd_merge.specs.Copying.{Copying, IsClosing, Opens, PlanGoesOn, Steps, begun_copy, is_taking, plan_of, stage_after, with_plan}
 use Rattle.sd_merge.specs.Sources.{few_pages}
-use Rattle.sd_merge.specs.Left.{LeftLaws, copy_left, doing_left, left_of, pages_left, retiring_left, running_left, stage_left}
-use Rattle.sd_merge.specs.Merger.{AreRunning, CopiesOn, Doing, EndsOne, GoesOnWith, Hands, HandsAt, HandsClosing, HandsCopying, HandsTo, IsLastOf, IsHanded, IsRunning, IsRunningAt, TakesList, Retiring, Running, StaysStrange, Works, WorksAt, awaited_in, copying, due, ends, is_strange, opened, order_of, retiring}
+use Rattle.sd_merge.specs.Left.{LeftLaws, body_left, copy_left, doing_left, left_of, retiring_left, running_left, stage_left}
+use Rattle.sd_merge.specs.Merger.{AreRunning, CopiesOn, Doing, EndsOne, GoesOnWith, Hands, HandsAt, HandsClosing, HandsCopying, HandsTo, IsLastCall, IsHanded, IsRunning, IsRunningAt, TakesList, Retiring, Running, StaysStrange, Works, WorksAt, awaited_in, copying, due, ends, is_strange, opened, order_of, retiring}
 
 -- ---- a plan
 
@@ -36,7 +36,7 @@ asked_fewer (Close plan header tables) old new taking pages is fewer = (let same
 -- ---- a step of the merged image
 
 -- in the pass
-passing : (old : Copying) → old.stage ≡ PassStage → copy_left old ≡ pages_left (is_taking old.taking) old.ahead
+passing : (old : Copying) → old.stage ≡ PassStage → copy_left old ≡ body_left (is_taking old.taking) old.ahead
 passing old e = ap (λ (s : Stage). stage_left s (is_taking old.taking) old.ahead) e
 
 step_fewer : (ticket : ℕ) (places : Places) (old new : Copying) (made : MergeStep) → Steps ticket places old made new → copy_left new < copy_left old
@@ -44,27 +44,27 @@ step_fewer ticket places old new (step.Call request) s =
     subst (λ (m : Copying). copy_left m < copy_left old) (sym s.0.is)
     (asked_fewer old.stage s.0.plan s.0.next (is_taking old.taking) old.ahead s.0.was (gives_fewer s.0.plan s.0.next request s.0.gives))
 step_fewer ticket places old new (step.ReadCall request) s =
-    let now : copy_left new ≡ plan_left s.0.reads.next + pages_left 1 new.ahead = ap copy_left s.0.reads.is in
+    let now : copy_left new ≡ plan_left s.0.reads.next + body_left 1 new.ahead = ap copy_left s.0.reads.is in
     let one : plan_left s.0.reads.next + 1 ≡ 2 = gives_fewer _ s.0.reads.next request s.0.reads.gives in
-    let was : copy_left old ≡ pages_left (is_taking old.taking) old.ahead = passing old s.0.reads.stage in
+    let was : copy_left old ≡ body_left (is_taking old.taking) old.ahead = passing old s.0.reads.stage in
     let free : is_taking old.taking ≡ 0 = ap is_taking s.0.reads.free in
     let more : old.ahead ≡ new.ahead + 1 = s.0.reads.fewer in
     omega arith
 step_fewer ticket places old new (step.PageCall request) s =
-    let now : copy_left new ≡ plan_left s.0.next + pages_left 0 old.ahead = ap copy_left s.0.is in
+    let now : copy_left new ≡ plan_left s.0.next + body_left 0 old.ahead = ap copy_left s.0.is in
     let one : plan_left s.0.next + 1 ≡ 2 = gives_fewer _ s.0.next request s.0.gives in
-    let was : copy_left old ≡ pages_left (is_taking old.taking) old.ahead = passing old s.0.stage in
+    let was : copy_left old ≡ body_left (is_taking old.taking) old.ahead = passing old s.0.stage in
     let taking : is_taking old.taking ≡ 1 = ap is_taking s.0.taking in
     omega arith
 step_fewer ticket places old new (step.TableCall request) s =
     let now : copy_left new ≡ plan_left s.0.writes.next = ap copy_left s.0.writes.is in
     let one : plan_left s.0.writes.next + 1 ≡ 10 = gives_fewer _ s.0.writes.next request s.0.writes.gives in
-    let was : copy_left old ≡ pages_left (is_taking old.taking) old.ahead = passing old s.0.writes.stage in
+    let was : copy_left old ≡ body_left (is_taking old.taking) old.ahead = passing old s.0.writes.stage in
     omega arith
 step_fewer ticket places old new step.Zero s =
     let now : copy_left new ≡ stage_left old.stage (is_taking old.taking) new.ahead = ap copy_left s.takes.is in
-    let pass : stage_left old.stage (is_taking old.taking) new.ahead ≡ pages_left (is_taking old.taking) new.ahead = ap (λ (g : Stage). stage_left g (is_taking old.taking) new.ahead) s.takes.stage in
-    let was : copy_left old ≡ pages_left (is_taking old.taking) old.ahead = passing old s.takes.stage in
+    let pass : stage_left old.stage (is_taking old.taking) new.ahead ≡ body_left (is_taking old.taking) new.ahead = ap (λ (g : Stage). stage_left g (is_taking old.taking) new.ahead) s.takes.stage in
+    let was : copy_left old ≡ body_left (is_taking old.taking) old.ahead = passing old s.takes.stage in
     let more : old.ahead ≡ new.ahead + 1 = s.takes.fewer in
     omega arith
 
@@ -203,7 +203,7 @@ goes_with_fewer old new made g =
     plus : (a b later : ℕ) → a + 1 ≡ b → a + later < b + later
     plus a b later e = omega arith
 
-ends_fewer : (old new : Retiring) (made : Made) → IsLastOf old made → EndsOne old new → retiring_left new < retiring_left old
+ends_fewer : (old new : Retiring) (made : Made) → IsLastCall old made → EndsOne old new → retiring_left new < retiring_left old
 ends_fewer old new made last e =
     next_fewer (plan_left old.plan) (6 * (length old.list - (old.ended + 1))) (length old.list) old.ended (retiring_left new)
     (let o : is_one old.plan.out ≡ 1 = ap is_one last.done.out in

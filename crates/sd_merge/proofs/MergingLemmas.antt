@@ -22,8 +22,8 @@ use Rattle.sd_image.proofs.Members.{contains_at, place_in}
 use Rattle.sd_chain.specs.declared.found.Found.{Found}
 use Rattle.sd_chain.specs.declared.found.Found.TheVariants as found
 use Rattle.sd_chain.specs.Catalog.{IsSoundCatalog, Opened, Places, images}
-use Rattle.sd_chain.specs.Tells.{Agrees, HavePages, IsToldAs}
-use Rattle.sd_chain.specs.Passes.{IsListed, IsNextOf, IsNextPage}
+use Rattle.sd_chain.specs.Tells.{Agrees, HaveDataPages, IsToldAs}
+use Rattle.sd_chain.specs.Passes.{IsListed, IsNextOf, IsNextPageOfImage}
 use Rattle.sd_chain.specs.Ways.{LiesAt, LiesBySerial}
 use Rattle.sd_gate.specs.Plans.{Planned, plan_after}
 use Rattle.sd_gate.specs.declared.call.Call.{Call}
@@ -44,7 +44,7 @@ use Rattle.sd_merge.specs.declared.merge_step.MergeStep.{MergeStep}
 use Rattle.sd_merge.specs.declared.merge_step.MergeStep.TheVariants as step
 use Rattle.sd_merge.specs.declared.stage.Stage.{Stage}
 use Rattle.sd_merge.specs.declared.stage.Stage.TheVariants.{Format, Pass as PassStage, PageRead, PageWrite, Close}
-use Rattle.sd_merge.specs.Copying.{Copying, HandsIn, IsLost, Steps, begun_copy, cursor, is_taking, page_of, read_after, stage_after, with_plan}
+use Rattle.sd_merge.specs.Copying.{Copying, HandsIn, IsLost, Steps, begun_copy, cursor, is_taking, page_or_zeros, read_after, stage_after, with_plan}
 use Rattle.sd_merge.specs.Sources.{few_pages, listed_count, runs_count}
 use Rattle.sd_merge.specs.Merging.{IsCopy, IsFirstOf, IsOverIn, IsReadOf, IsSoundCopy, IsSourceAt, KeepsCopy, MergeLaws, TellsIn, listed_places, pages_after}
 use Rattle.sd_merge.proofs.OrderLemmas.{In, contains_in, next_is_first, none_is_over}
@@ -139,14 +139,14 @@ source_table places catalog serial source at =
 
 first_of : ((l : List Listed) → Lists (entries_listed l) l) → (places : Places) (catalog : List Image) (source : Image) (old : Copying) (rest : List Place) (at : Place)
     → IsSourceAt places catalog old.order.source.serial source → map rounds.place_of_entry old.entries ++ rest ≡ listed_places source.spaces
-    → IsNextPage places old.order.source.serial (cursor old) (Some at) → IsFirstOf rest at
+    → IsNextPageOfImage places old.order.source.serial (cursor old) (Some at) → IsFirstOf rest at
 first_of lists places catalog source old rest at is all next =
     next_is_first source.header source.spaces old.entries rest at (source_table places catalog old.order.source.serial source is) (lists source.spaces) all
     (subst (λ (l : List Listed). IsNextOf l (cursor old) at) (sym is.told.spaces) (next.0 is.opened is.there))
 
 pub over_of : ((l : List Listed) → Lists (entries_listed l) l) → (places : Places) (catalog : List Image) (source : Image) (old : Copying) (rest : List Place)
     → IsSourceAt places catalog old.order.source.serial source → map rounds.place_of_entry old.entries ++ rest ≡ listed_places source.spaces
-    → IsNextPage places old.order.source.serial (cursor old) None → rest ≡ []
+    → IsNextPageOfImage places old.order.source.serial (cursor old) None → rest ≡ []
 over_of lists places catalog source old rest is all next =
     none_is_over source.header source.spaces old.entries rest (source_table places catalog old.order.source.serial source is) (lists source.spaces) all
     (λ page listed behind. next.0 is.opened is.there page (subst (λ (l : List Listed). IsListed l page) is.told.spaces listed) behind)
@@ -295,7 +295,7 @@ offsets slot offset other number e = cc
 no_zero : (slot offset : ℕ) → found.Data slot offset ≡ found.Zero → ⊥
 no_zero slot offset e = cc
 
-page_of_chain : (places : Places) (catalog : List Image) (page : Place) (slot offset : ℕ) (there : Found) → IsSoundCatalog places → Agrees places catalog → HavePages catalog → there ≡ found.Data slot offset
+page_of_chain : (places : Places) (catalog : List Image) (page : Place) (slot offset : ℕ) (there : Found) → IsSoundCatalog places → Agrees places catalog → HaveDataPages catalog → there ≡ found.Data slot offset
     → (i : Opened) (image : Image) → Contains (images places) i → Contains catalog image → IsToldAs i image → LiesAt places page there i → IsPageOf places catalog page slot offset image
 page_of_chain places catalog page slot offset there sound agrees pages e _ image among member told (LiesAt.by_data i place has is) =
     let listed = subst (λ (l : List Listed). slice_get (pages_of Data l) place ≡ Some page) (sym told.spaces) has in
@@ -377,7 +377,7 @@ read_more (Format plan) catalog source entries taking old made was tells at byte
 read_more PassStage catalog source entries taking old made was tells at bytes e f = was at bytes e f
 read_more (PageRead plan) catalog source entries taking old made was tells at bytes e f =
     let told = tells at e in
-    let same : made.request.bytes ≡ bytes = sym (page_whole made.request.bytes told.0) ∙ one_some (page_of made.request.bytes) bytes f in
+    let same : made.request.bytes ≡ bytes = sym (page_whole made.request.bytes told.0) ∙ one_some (page_or_zeros made.request.bytes) bytes f in
     subst (λ (b : List ℕ). (length b ≡ 4096) × Holds catalog at.0 at.1 b source) same told
 read_more (PageWrite plan) catalog source entries taking old made was tells at bytes e f = was at bytes e f
 read_more (Close plan header tables) catalog source entries taking old made was tells at bytes e f = was at bytes e f
@@ -480,7 +480,7 @@ finds lists places catalog source pages copy is held was lost =
       | inr at ↦ by at.0 at.1.next at.1.lost
     ]
   where
-    by : (at : Place) → IsNextPage places copy.order.source.serial (cursor copy) (Some at) → (copy.ahead ≡ 0) ⊎ ((there : Found) → LiesBySerial places copy.order.source.serial at there → ⊥) → ⊥
+    by : (at : Place) → IsNextPageOfImage places copy.order.source.serial (cursor copy) (Some at) → (copy.ahead ≡ 0) ⊎ ((there : Found) → LiesBySerial places copy.order.source.serial at there → ⊥) → ⊥
     by at next (inl none) =
         let first = first_of lists places catalog source copy was.rest at is was.merging.all next in
         let long : length was.rest ≡ suc (length first.later) = ap (λ (l : List Place). length l) first.is in

@@ -9,7 +9,7 @@ use Rattle.sd_image.specs.Table.{IsTable}
 use Rattle.sd_chain.specs.declared.found.Found.{Found}
 use Rattle.sd_chain.specs.declared.found.Found.TheVariants as found
 use Rattle.sd_chain.specs.Catalog.{IsSoundCatalog, Opened, Places, images, place_of}
-use Rattle.sd_chain.specs.Passes.{IsBehind, IsNextPage}
+use Rattle.sd_chain.specs.Passes.{IsBehind, IsNextPageOfImage}
 use Rattle.sd_chain.specs.Ways.{AreImages, LiesAt, LiesBySerial}
 use Rattle.std.proofs.lemmas.Bool.{both_ways}
 use Rattle.sd_gate.specs.Sequences.{data_place}
@@ -58,7 +58,7 @@ numbered few places sound are serial page slot offset lies =
 -- ---- the next page
 
 -- a page that is next is behind the last
-next_behind : (places : Places) (serial : ℕ) (after : Option Place) (at : Place) → IsNextPage places serial after (Some at) → IsBehind after at
+next_behind : (places : Places) (serial : ℕ) (after : Option Place) (at : Place) → IsNextPageOfImage places serial after (Some at) → IsBehind after at
 next_behind places serial after at next = by (place_of places serial) refl
   where
     some_none : true ≡ false → ⊥
@@ -71,10 +71,10 @@ next_behind places serial after at next = by (place_of places serial) refl
 
 -- what was asked of the catalog, as it is seen
 pub next_of : (places : Places) (inside old : Copying) (after next : Option Place) → inside ≡ old → after ≡ last_of None inside.entries
-    → IsNextPage places inside.order.source.serial after next → IsNextPage places old.order.source.serial (cursor old) next
+    → IsNextPageOfImage places inside.order.source.serial after next → IsNextPageOfImage places old.order.source.serial (cursor old) next
 next_of places inside old after next is last page =
-    subst (λ (m : Copying). IsNextPage places m.order.source.serial (last_of None m.entries) next) is
-    (subst (λ (o : Option Place). IsNextPage places inside.order.source.serial o next) last page)
+    subst (λ (m : Copying). IsNextPageOfImage places m.order.source.serial (last_of None m.entries) next) is
+    (subst (λ (o : Option Place). IsNextPageOfImage places inside.order.source.serial o next) last page)
 
 -- ---- the steps
 
@@ -94,7 +94,7 @@ read_step ticket places old new (PageCall request) at slot place next is = absur
 read_step ticket places old new (TableCall request) at slot place next is = absurd is
 read_step ticket places old new Zero at slot place next is = absurd is
 
-pub table_step : (ticket : ℕ) (places : Places) (old new : Copying) (step : MergeStep) → (AreImages places → IsNextPage places old.order.source.serial (cursor old) None)
+pub table_step : (ticket : ℕ) (places : Places) (old new : Copying) (step : MergeStep) → (AreImages places → IsNextPageOfImage places old.order.source.serial (cursor old) None)
     → IsTableCallOf (λ request. WritesTable places old request new × IsAskedBy Merger ticket request) step → Steps ticket places old step new
 table_step ticket places old new (Call request) over is = absurd is
 table_step ticket places old new (ReadCall request) over is = absurd is
@@ -104,7 +104,7 @@ table_step ticket places old new Zero over is = absurd is
 
 -- where the page lies, by the number of its data page
 pub placed : FewPages → (places : Places) → IsSoundCatalog places → (old : Copying) (at : Place) (slot offset place : ℕ) → ((number : ℕ) → offset ≡ data_place number → place ≡ number)
-    → IsNextPage places old.order.source.serial (cursor old) (Some at) → AreImages places → LiesBySerial places old.order.source.serial at (found.Data slot offset)
+    → IsNextPageOfImage places old.order.source.serial (cursor old) (Some at) → AreImages places → LiesBySerial places old.order.source.serial at (found.Data slot offset)
     → IsNextAt places old at (found.Data slot (data_place place))
 placed few places sound old at slot offset place own next are lies =
     let n = numbered few places sound are old.order.source.serial at slot offset lies in
@@ -116,7 +116,7 @@ placed few places sound old at slot offset place own next are lies =
 -- ---- what is lost
 
 pub lost_ahead : (places : Places) (old : Copying) (at : Place) → old.stage ≡ PassStage → old.taking ≡ None
-    → (AreImages places → IsNextPage places old.order.source.serial (cursor old) (Some at)) → old.ahead ≡ 0 → IsLost places old
+    → (AreImages places → IsNextPageOfImage places old.order.source.serial (cursor old) (Some at)) → old.ahead ≡ 0 → IsLost places old
 lost_ahead places old at stage free next none = record {
   stage = stage;
   free = free;
@@ -124,7 +124,7 @@ lost_ahead places old at stage free next none = record {
 }
 
 pub lost_behind : (places : Places) (old : Copying) (at : Place) (tested : Bool) → old.stage ≡ PassStage → old.taking ≡ None
-    → (AreImages places → IsNextPage places old.order.source.serial (cursor old) (Some at)) → (IsBehind (cursor old) at → IsTrue tested) → tested ≡ false → IsLost places old
+    → (AreImages places → IsNextPageOfImage places old.order.source.serial (cursor old) (Some at)) → (IsBehind (cursor old) at → IsTrue tested) → tested ≡ false → IsLost places old
 lost_behind places old at tested stage free next test off = record {
   stage = stage;
   free = free;
@@ -132,7 +132,7 @@ lost_behind places old at tested stage free next test off = record {
 }
 
 pub lost_chain : (places : Places) (old : Copying) (at : Place) → old.stage ≡ PassStage → old.taking ≡ None
-    → (AreImages places → IsNextPage places old.order.source.serial (cursor old) (Some at))
+    → (AreImages places → IsNextPageOfImage places old.order.source.serial (cursor old) (Some at))
     → (AreImages places → (there : Found) → LiesBySerial places old.order.source.serial at there → ⊥) → IsLost places old
 lost_chain places old at stage free next none = record {
   stage = stage;

@@ -13,7 +13,7 @@ use Rattle.sd_image.specs.Table.{Listed, table_text}
 use Rattle.sd_chain.specs.declared.found.Found.{Found}
 use Rattle.sd_chain.specs.declared.found.Found.TheVariants as found
 use Rattle.sd_chain.specs.Catalog.{Opened, Places, place_of}
-use Rattle.sd_chain.specs.Passes.{IsBehind, IsNextPage}
+use Rattle.sd_chain.specs.Passes.{IsBehind, IsNextPageOfImage}
 use Rattle.sd_chain.specs.Ways.{AreImages, LiesBySerial}
 use Rattle.sd_gate.specs.declared.call.Call.TheVariants.{Read, Write}
 use Rattle.sd_gate.specs.declared.request_id.RequestId.{RequestId}
@@ -68,8 +68,8 @@ abbrev pub cursor : Copying → Option Place
 cursor copy = last_of None copy.entries
 
 -- a page that came back; what isn't as long as a page is of none
-abbrev pub page_of : List ℕ → List ℕ
-page_of bytes = if length bytes == 4096 then bytes else replicate 4096 0
+abbrev pub page_or_zeros : List ℕ → List ℕ
+page_or_zeros bytes = if length bytes == 4096 then bytes else replicate 4096 0
 
 -- the plan whose calls are being made
 abbrev pub plan_of : Stage → Option Planned
@@ -106,7 +106,7 @@ pub record Asks (old : Copying) (request : Asked) (new : Copying) : Type 0 where
 
 -- the source lists this page next, and its chain has it there
 pub record IsNextAt (places : Places) (old : Copying) (at : Place) (there : Found) : Type 0 where
-  pub next : IsNextPage places old.order.source.serial (cursor old) (Some at)
+  pub next : IsNextPageOfImage places old.order.source.serial (cursor old) (Some at)
   pub lies : LiesBySerial places old.order.source.serial at there
 
 -- the page has only zeros, and is taken
@@ -191,7 +191,7 @@ pub record StepsRead (places : Places) (old : Copying) (request : Asked) (new : 
 
 pub record StepsTable (places : Places) (old : Copying) (request : Asked) (new : Copying) : Type 0 where
   pub writes : WritesTable places old request new
-  pub over : AreImages places → IsNextPage places old.order.source.serial (cursor old) None
+  pub over : AreImages places → IsNextPageOfImage places old.order.source.serial (cursor old) None
 
 -- what a step does, with this ticket
 abbrev pub Steps : ℕ → Places → Copying → MergeStep → Copying → Type 0
@@ -204,19 +204,19 @@ Steps ticket places old (step.TableCall request) new =
 Steps ticket places old step.Zero new = StepsZero places old new
 
 -- no image of the catalog has the serial
-abbrev pub IsAbsent : Places → ℕ → Type 0
-IsAbsent places serial = (i : Opened) → place_of places serial ≡ Some (Some i) → ⊥
+abbrev pub LacksSerial : Places → ℕ → Type 0
+LacksSerial places serial = (i : Opened) → place_of places serial ≡ Some (Some i) → ⊥
 
 -- a page that the merge didn't begin with, or that the chain of the source doesn't have
 pub record IsLostAt (places : Places) (old : Copying) (at : Place) : Type 0 where
-  pub next : IsNextPage places old.order.source.serial (cursor old) (Some at)
+  pub next : IsNextPageOfImage places old.order.source.serial (cursor old) (Some at)
   pub lost : (old.ahead ≡ 0) ⊎ ((there : Found) → LiesBySerial places old.order.source.serial at there → ⊥)
 
 -- the catalog doesn't have what the next step needs
 pub record IsLost (places : Places) (old : Copying) : Type 0 where
   pub stage : old.stage ≡ PassStage
   pub free : old.taking ≡ None
-  pub why : AreImages places → IsAbsent places old.order.source.serial ⊎ ((at : Place) × IsLostAt places old at)
+  pub why : AreImages places → LacksSerial places old.order.source.serial ⊎ ((at : Place) × IsLostAt places old at)
 
 -- ---- Outcomes
 
@@ -234,7 +234,7 @@ stage_after stage plan (call ∷ calls) = with_plan stage plan
 abbrev pub read_after : Stage → Made → Option (List ℕ) → Option (List ℕ)
 read_after (Format plan) made read = read
 read_after PassStage made read = read
-read_after (PageRead plan) made read = Some (page_of made.request.bytes)
+read_after (PageRead plan) made read = Some (page_or_zeros made.request.bytes)
 read_after (PageWrite plan) made read = read
 read_after (Close plan header tables) made read = read
 
@@ -284,7 +284,7 @@ HandsIn old made (progress.Opened image) new = Opens old made image
 -- ---- What holds of every merged image in the making
 
 -- the outcome of a read that is out brings back its buffer alone
-pub record IsReading (plan : Planned) : Type 0 where
+pub record HasReadOut (plan : Planned) : Type 0 where
   pub id : RequestId
   pub place : ℕ
   pub out : plan.out ≡ Some id
@@ -294,9 +294,9 @@ pub record IsReading (plan : Planned) : Type 0 where
   pub fresh : plan.found ≡ nothing_back
 
 -- a page that is being taken is behind the others
-abbrev pub IsTaken : List ImageEntry → Option Place → Type 0
-IsTaken entries None = ⊥
-IsTaken entries (Some at) = IsBehind (last_of None entries) at
+abbrev pub TakesPageBehind : List ImageEntry → Option Place → Type 0
+TakesPageBehind entries None = ⊥
+TakesPageBehind entries (Some at) = IsBehind (last_of None entries) at
 
 -- a page was read, or none is being taken
 abbrev pub IsFreeOrRead : List ImageEntry → Option Place → Option (List ℕ) → Type 0
@@ -311,7 +311,7 @@ pub record TakesNoPage (page : Option Place) (bytes : Option (List ℕ)) : Type 
 abbrev pub IsReadyFor : List ImageEntry → Option Place → Option (List ℕ) → Stage → Type 0
 IsReadyFor entries taking read (Format plan) = (entries ≡ []) × TakesNoPage taking read × IsUnderWay plan
 IsReadyFor entries taking read PassStage = IsFreeOrRead entries taking read
-IsReadyFor entries taking read (PageRead plan) = IsTaken entries taking × (read ≡ None) × IsReading plan
+IsReadyFor entries taking read (PageRead plan) = TakesPageBehind entries taking × (read ≡ None) × HasReadOut plan
 IsReadyFor entries taking read (PageWrite plan) = TakesNoPage taking read × IsUnderWay plan
 IsReadyFor entries taking read (Close plan header tables) =
     TakesNoPage taking read × (header.pages ≡ data_pages entries) × IsUnderWay plan
@@ -330,7 +330,7 @@ IsOwnPlan slot (PageWrite plan) = plan.slot ≡ slot
 IsOwnPlan slot (Close plan header tables) = plan.slot ≡ slot
 
 -- it counts its data pages, and they, the page that is being taken and those that are left are few
-pub record IsCopying (slot : ℕ) (entries : List ImageEntry) (stored ahead : ℕ) (taking : Option Place)
+pub record IsCountedCopy (slot : ℕ) (entries : List ImageEntry) (stored ahead : ℕ) (taking : Option Place)
     (read : Option (List ℕ)) (stage : Stage) : Type 0 where
   pub counted : stored ≡ data_pages entries
   pub few : stored + is_taking taking + ahead ≤ 65536

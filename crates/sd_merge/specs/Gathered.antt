@@ -58,16 +58,16 @@ front_runs space [] = []
 front_runs space (t ∷ tables) = if t.space == space then t.runs else []
 
 -- the spaces behind it
-abbrev pub behind_space : ℕ → List Listed → List Listed
-behind_space space [] = []
-behind_space space (t ∷ tables) = if t.space == space then tables else t ∷ tables
+abbrev pub spaces_behind : ℕ → List Listed → List Listed
+spaces_behind space [] = []
+spaces_behind space (t ∷ tables) = if t.space == space then tables else t ∷ tables
 
 -- the spaces and areas of a source, each with the runs that were taken of it
 abbrev pub tables_of : List Listed → List Listed → List Listed
 tables_of [] taken = []
 tables_of (s ∷ source) taken =
     (record { space = s.space; areas = s.areas; runs = front_runs s.space taken }) ∷ tables_of source
-    (behind_space s.space taken)
+    (spaces_behind s.space taken)
 
 abbrev pub own_areas : Listed → ℕ × List Area
 own_areas s = (s.space, s.areas)

@@ -16,14 +16,14 @@ use Rattle.sd_merge.specs.Merger.{retiring, is_strange}
 
 -- what the pages that are ahead, the one that is being taken, and the five calls that close the body come to: a page is
 -- read by a request with an outcome, and written by another
-abbrev pub pages_left : ℕ → ℕ → ℕ
-pages_left taking pages = 2 * taking + 4 * pages + 10
+abbrev pub body_left : ℕ → ℕ → ℕ
+body_left taking pages = 2 * taking + 4 * pages + 10
 
 abbrev pub stage_left : Stage → ℕ → ℕ → ℕ
-stage_left (Format plan) taking pages = plan_left plan + pages_left taking pages
-stage_left PassStage taking pages = pages_left taking pages
-stage_left (PageRead plan) taking pages = plan_left plan + pages_left taking pages
-stage_left (PageWrite plan) taking pages = plan_left plan + pages_left taking pages
+stage_left (Format plan) taking pages = plan_left plan + body_left taking pages
+stage_left PassStage taking pages = body_left taking pages
+stage_left (PageRead plan) taking pages = plan_left plan + body_left taking pages
+stage_left (PageWrite plan) taking pages = plan_left plan + body_left taking pages
 stage_left (Close plan header tables) taking pages = plan_left plan
 
 abbrev pub copy_left : Copying → ℕ

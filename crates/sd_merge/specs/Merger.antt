@@ -139,9 +139,9 @@ IsInPass (copying copy) = copy.stage ≡ PassStage
 IsInPass (opened serial) = ⊥
 IsInPass (retiring r) = ⊥
 
-abbrev pub Passes : Option Running → Type 0
-Passes None = ⊥
-Passes (Some running) = IsInPass running.doing
+abbrev pub MergePasses : Option Running → Type 0
+MergePasses None = ⊥
+MergePasses (Some running) = IsInPass running.doing
 
 -- the catalog doesn't have the next page
 abbrev pub LosesPage : Places → Doing → Type 0
@@ -212,14 +212,14 @@ EndsRetiring old (progress.Closed one) new = ⊥
 EndsRetiring old (progress.Merged serial) new = EndsAll old serial
 
 -- the last call on an image was done
-pub record IsLastOf (old : Retiring) (made : Made) : Type 0 where
+pub record IsLastCall (old : Retiring) (made : Made) : Type 0 where
   pub done : IsDoneOf old made
   pub last : (plan_after old.plan made).calls ≡ []
 
 -- a call that was no sync goes on, and the last goes to the next image
 abbrev pub GoesOnClosing : Retiring → Made → Retiring → Type 0
 GoesOnClosing old made new =
-    (GoesOnWith old made new × (made.request.id.call ≢ Sync)) ⊎ (IsLastOf old made × EndsOne old new)
+    (GoesOnWith old made new × (made.request.id.call ≢ Sync)) ⊎ (IsLastCall old made × EndsOne old new)
 
 -- a 0 stands at its first byte for sure
 pub record ShutsOne (old : Retiring) (made : Made) (one : Retired) (new : Retiring) : Type 0 where
@@ -237,7 +237,7 @@ HandsClosing old made progress.Failed new = FailsClosing old made
 HandsClosing old made progress.More new = GoesOnClosing old made new
 HandsClosing old made (progress.Opened one) new = ⊥
 HandsClosing old made (progress.Closed one) new = ShutsOne old made one new
-HandsClosing old made (progress.Merged serial) new = IsLastOf old made × EndsAll old serial
+HandsClosing old made (progress.Merged serial) new = IsLastCall old made × EndsAll old serial
 
 -- it is strange, and nothing changed
 abbrev pub StaysStrange : Doing → MergeProgress → Doing → Type 0

@@ -9,7 +9,7 @@ use Rattle.sd_image.specs.Laws.{SerialsDiffer}
 use Rattle.sd_image.specs.Shows.{Holds, IsRestorable}
 use Rattle.sd_image.specs.Table.{IsTable, Listed}
 use Rattle.sd_chain.specs.Catalog.{IsSoundCatalog, Opened, Places, images, place_of}
-use Rattle.sd_chain.specs.Tells.{Agrees, HavePages, IsToldAs}
+use Rattle.sd_chain.specs.Tells.{Agrees, HaveDataPages, IsToldAs}
 use Rattle.sd_chain.specs.Ways.{AreImages}
 use Rattle.sd_gate.specs.declared.call.Call.TheVariants.{Read}
 use Rattle.sd_gate.specs.Requests.{Asked, Made}
@@ -89,7 +89,7 @@ pub record IsSourceAt (places : Places) (catalog : List Image) (serial : ℕ) (s
   pub sound : IsSoundCatalog places
   pub are : AreImages places
   pub agrees : Agrees places catalog
-  pub pages : HavePages catalog
+  pub pages : HaveDataPages catalog
   pub opened : Opened
   pub there : place_of places serial ≡ Some (Some opened)
   pub among : Contains (images places) opened

@@ -10,14 +10,14 @@ ghost use Rattle.sd_gate.specs.Calls.{is_done};
 ghost use Rattle.sd_gate.specs.Inspections.{nothing};
 ghost use Rattle.sd_gate.specs.Plans.{Gives, begun};
 ghost use Rattle.sd_gate.specs.Sequences.{data_place};
-ghost use Rattle.sd_chain.specs.Passes.{IsBehind, IsNextPage};
+ghost use Rattle.sd_chain.specs.Passes.{IsBehind, IsNextPageOfImage};
 ghost use Rattle.sd_chain.specs.Ways.{AreImages};
 ghost use Rattle.sd_merge.specs.declared.stage.Stage.TheVariants.{Pass as PassStage};
 ghost use Rattle.sd_merge.specs.declared.work_error.WorkError.TheVariants.{Busy, Idle, Lost, OutOfMemory};
 ghost use Rattle.sd_gate.specs.PlanUse.{IsAskedBy};
-ghost use Rattle.sd_merge.specs.Copying.{IsLost, IsAbsent, IsReading, IsSoundCopying, ReadsPage, Steps};
+ghost use Rattle.sd_merge.specs.Copying.{IsLost, LacksSerial, HasReadOut, IsSoundCopying, ReadsPage, Steps};
 ghost use Rattle.sd_merge.specs.Copying.{TakesZero, WritesPage, WritesTable, begun_copy, cursor, header_of, out_of};
-ghost use Rattle.sd_merge.specs.Copying.{page_of};
+ghost use Rattle.sd_merge.specs.Copying.{page_or_zeros};
 ghost use Rattle.sd_merge.specs.Left.{copy_left};
 ghost use Rattle.sd_merge.specs.PlanSteps.{IsPageCallOf, IsReadCallOf, IsTableCallOf, IsZeroStep};
 
@@ -62,7 +62,7 @@ pub struct Copier {
 
 impl Model for Copier {
     ghost use Rattle.std.specs.Option.{option_map};
-    ghost use Rattle.sd_merge.specs.Copying.{Copying, IsCopying, page_of};
+    ghost use Rattle.sd_merge.specs.Copying.{Copying, IsCountedCopy, page_or_zeros};
 
     ghost Value = { Copying };
 
@@ -71,13 +71,13 @@ impl Model for Copier {
       entries = m.copies;
       ahead = m.ahead;
       taking = m.taking;
-      read = option_map (λ b. page_of b.items) m.read;
+      read = option_map (λ b. page_or_zeros b.items) m.read;
       stage = m.stage;
       digester = m.digester;
     } };
 
-    ghost invariant = { λ m. IsCopying m.order.slot m.copies m.stored m.ahead m.taking
-        (option_map (λ b. page_of b.items) m.read) m.stage };
+    ghost invariant = { λ m. IsCountedCopy m.order.slot m.copies m.stored m.ahead m.taking
+        (option_map (λ b. page_or_zeros b.items) m.read) m.stage };
 }
 
 /// The header of a merged image: it stands for what its source stands for, and has no parent.
@@ -125,7 +125,7 @@ fn read_request(slot: usize, place: usize, buffer: Vec<u8>, ticket: u64) -> Opti
     requires whole { length buffer.items ≡ 4096 }
     ensures gives { IfSome result (λ read. Gives
         (begun slot ((Read (data_place place), buffer.items) ∷ []) nothing) read.0 read.1
-        × IsReading read.0 × IsAskedBy Merger ticket read.1) }
+        × HasReadOut read.0 × IsAskedBy Merger ticket read.1) }
     ensures none { IsNone result → 2 ^ 39 ≤ place }
 {
     let mut plan = Plan::read_page(slot, place, buffer);
@@ -205,7 +205,7 @@ impl Copier {
     ) -> Result<MergeStep, WorkError>
         requires stage { self.old.stage ≡ PassStage }
         requires free { self.old.taking ≡ None }
-        requires next { AreImages catalog.now → IsNextPage catalog.now self.old.order.source.serial
+        requires next { AreImages catalog.now → IsNextPageOfImage catalog.now self.old.order.source.serial
             (cursor self.old) (Some (space, page)) }
         ensures steps { IfOk result (λ step. Steps ticket catalog.now self.old step self.new) }
         ensures lost { result ≡ Err Lost → IsLost catalog.now self.old }
@@ -312,7 +312,7 @@ impl Copier {
         requires free { self.old.taking ≡ None }
         ensures table { IfOk result (IsTableCallOf (λ request. WritesTable catalog.now self.old request self.new
             × IsAskedBy Merger ticket request)) }
-        ensures lost { result ≡ Err Lost → IsAbsent catalog.now self.old.order.source.serial }
+        ensures lost { result ≡ Err Lost → LacksSerial catalog.now self.old.order.source.serial }
         ensures errors { IfErr result (λ e. (e ≢ Idle) × (e ≢ Busy)) }
         ensures err { OnErr result (self.new ≡ self.old) }
     {
@@ -362,7 +362,7 @@ impl Copier {
 /// zeros.
 fn make_whole(buffer: &mut Vec<u8>) -> Result<(), AllocError>
     ensures whole { OnOk result (length buffer.new.items ≡ 4096) }
-    ensures same { page_of buffer.new.items ≡ page_of buffer.old.items }
+    ensures same { page_or_zeros buffer.new.items ≡ page_or_zeros buffer.old.items }
 {
     if buffer.len() == PAGE_SIZE {
         return Ok(());
@@ -374,7 +374,7 @@ fn make_whole(buffer: &mut Vec<u8>) -> Result<(), AllocError>
 
 /// The buffer that a read filled. None where the device failed.
 fn read_of(mut plan: Plan, outcome: Outcome) -> Option<Vec<u8>>
-    requires reading { IsReading plan }
+    requires reading { HasReadOut plan }
     requires out { plan.out ≡ Some outcome.request.id }
     ensures { MatchOption result (is_done outcome.answer ≡ false)
         (λ buffer. (is_done outcome.answer ≡ true) × (buffer.items ≡ outcome.request.bytes)) }

@@ -3,7 +3,7 @@ ghost use Rattle.std.specs.Prelude.{◌≡◌, ◌↔◌, Err, None, Some, IsSom
 ghost use Rattle.std.specs.Option.{option_map};
 ghost use Rattle.sd_merge.specs.declared.work_error.WorkError.TheVariants.{Busy, Idle, Lost, OutOfMemory};
 ghost use Rattle.sd_merge.specs.Left.{left_of};
-ghost use Rattle.sd_merge.specs.Merger.{AreRunning, Hands, HasSoundCopy, IsBusy, Loses, Passes, TakesList, Works};
+ghost use Rattle.sd_merge.specs.Merger.{AreRunning, Hands, HasSoundCopy, IsBusy, Loses, MergePasses, TakesList, Works};
 ghost use Rattle.sd_merge.specs.Merger.{before_of, begun_merge, ends, list_of, slot_before, slot_of, source_of};
 
 use crate::closing::Closing;
@@ -169,7 +169,7 @@ impl Merger {
             self.old step self.new) }
         ensures idle { result ≡ Err Idle ↔ self.old ≡ None }
         ensures busy { result ≡ Err Busy ↔ IsBusy self.old }
-        ensures wanted { result ≡ Err OutOfMemory → Passes self.old }
+        ensures wanted { result ≡ Err OutOfMemory → MergePasses self.old }
         ensures lost { result ≡ Err Lost → Loses catalog.now self.old }
         ensures err { OnErr result (self.new ≡ self.old) }
     {

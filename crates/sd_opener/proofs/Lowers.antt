@@ -3,30 +3,30 @@ use Rattle.std.proofs.Common.{◌≡◌, ℕ, zero, suc, ◌+◌, ◌-◌, ◌<�
 use Rattle.sd_opener.specs.declared.stage.Stage.{Stage}
 use Rattle.sd_opener.specs.declared.stage.Stage.TheVariants.{Asking, Read, Broken}
 use Rattle.sd_gate.specs.declared.request_id.RequestId.{RequestId}
-use Rattle.sd_opener.specs.Left.{slots_left, stage_left}
-use Rattle.sd_opener.specs.Looking.{IsLooking, Looking, out_of}
+use Rattle.sd_opener.specs.Left.{slot_left, slots_left}
+use Rattle.sd_opener.specs.Looking.{IsLooking, Looking, out_of_look}
 use Rattle.sd_opener.specs.Sees.{IsOpenStage}
 
-pub some_left : (stage : Stage) → 0 < stage_left stage
+pub some_left : (stage : Stage) → 0 < slot_left stage
 some_left (Asking plan) = omega arith
 some_left (Read header table) = omega arith
 some_left (Broken reason) = omega arith
 
-pub open_left : (stage : Stage) → IsOpenStage stage → stage_left stage ≡ 1
+pub open_left : (stage : Stage) → IsOpenStage stage → slot_left stage ≡ 1
 open_left (Asking plan) is = absurd is
 open_left (Read header table) is = refl
 open_left (Broken reason) is = refl
 
 -- an opener with a request out has a slot to look at
 pub within_slots : (opener : Looking) (capacity : ℕ) (id : RequestId) → IsLooking opener.slots opener.told capacity opener.stage opener.scanned
-    → out_of opener.stage ≡ Some id → length opener.told < opener.slots
+    → out_of_look opener.stage ≡ Some id → length opener.told < opener.slots
 within_slots opener capacity id is out =
     let few = is.within in
     let other = (λ (same : length opener.told ≡ opener.slots). is.last same id out) in
     omega (arith, few, other)
 
 -- the slot that it looks at goes on
-pub stage_lowers : (slots told : ℕ) (old new : Stage) → told < slots → stage_left new < stage_left old
+pub stage_lowers : (slots told : ℕ) (old new : Stage) → told < slots → slot_left new < slot_left old
     → slots_left (slots - told) new < slots_left (slots - told) old
 stage_lowers slots told old new within less = by_count (slots - told) refl
   where
@@ -35,11 +35,11 @@ stage_lowers slots told old new within less = by_count (slots - told) refl
     by_count (suc n) is = omega (arith, less)
 
 -- it has come to the next slot
-pub slot_lowers : (slots told now : ℕ) (old new : Stage) → told < slots → now ≡ told + 1 → stage_left new ≡ 9
+pub slot_lowers : (slots told now : ℕ) (old new : Stage) → told < slots → now ≡ told + 1 → slot_left new ≡ 9
     → slots_left (slots - now) new < slots_left (slots - told) old
 slot_lowers slots told now old new within next first = by_count (slots - told) (slots - now) refl refl
   where
-    some : 0 < stage_left old
+    some : 0 < slot_left old
     some = some_left old
 
     by_count : (n m : ℕ) → slots - told ≡ n → slots - now ≡ m → slots_left m new < slots_left n old

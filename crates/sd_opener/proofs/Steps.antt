@@ -18,7 +18,7 @@ use Rattle.sd_restore.specs.Reading.{AreRightlyDigested}
 use Rattle.sd_restore.specs.Scanned.{IsScanned}
 use Rattle.sd_opener.specs.declared.stage.Stage.{Stage}
 use Rattle.sd_opener.specs.declared.stage.Stage.TheVariants.{Asking, Read, Broken}
-use Rattle.sd_opener.specs.Looking.{IsStageOf, Looking, out_of}
+use Rattle.sd_opener.specs.Looking.{IsStageOf, Looking, out_of_look}
 use Rattle.sd_opener.specs.Sees.{IsNoStore, IsOpenStage, IsToldOf, Sees, SeesSlot}
 
 -- ---- one slot more
@@ -81,7 +81,7 @@ none_left [] is = refl
 none_left (call ∷ calls) is = absurd (let no : More ≡ Finished = is in cc)
 
 -- a slot that is to be decoded has nothing out, and is any slot's stage
-pub open_out : (stage : Stage) → IsOpenStage stage → out_of stage ≡ None
+pub open_out : (stage : Stage) → IsOpenStage stage → out_of_look stage ≡ None
 open_out (Asking plan) is = absurd is
 open_out (Read header table) is = refl
 open_out (Broken reason) is = refl

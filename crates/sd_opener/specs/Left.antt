@@ -8,15 +8,15 @@ use Rattle.sd_opener.specs.declared.stage.Stage.TheVariants.{Asking, Read, Broke
 use Rattle.sd_opener.specs.Looking.{Looking}
 
 -- the slot that it looks at: its calls with their outcomes, and the step that decodes it
-abbrev pub stage_left : Stage → ℕ
-stage_left (Asking plan) = steps_left plan + 1
-stage_left (Read header table) = 1
-stage_left (Broken reason) = 1
+abbrev pub slot_left : Stage → ℕ
+slot_left (Asking plan) = steps_left plan + 1
+slot_left (Read header table) = 1
+slot_left (Broken reason) = 1
 
 -- each slot behind it has four calls at most, and the last step tells that all were read
 abbrev pub slots_left : ℕ → Stage → ℕ
 slots_left zero stage = 1
-slots_left (suc others) stage = 9 * others + stage_left stage + 1
+slots_left (suc others) stage = 9 * others + slot_left stage + 1
 
 abbrev pub looking_left : Looking → ℕ
 looking_left opener = slots_left (opener.slots - length opener.told) opener.stage

@@ -26,10 +26,10 @@ pub record Looking : Type 0 where
   pub scanned : Scanned
 
 -- the request that is out
-abbrev pub out_of : Stage → Option RequestId
-out_of (Asking plan) = plan.out
-out_of (Read header table) = None
-out_of (Broken reason) = None
+abbrev pub out_of_look : Stage → Option RequestId
+out_of_look (Asking plan) = plan.out
+out_of_look (Read header table) = None
+out_of_look (Broken reason) = None
 
 -- ---- how far an inspection has come
 
@@ -64,7 +64,7 @@ IsStageOf slot (Broken reason) = Unit {0}
 -- Nothing is asked behind the last slot, and there is room for each phase.
 pub record IsLooking (count : ℕ) (found : List Phase) (capacity : ℕ) (at : Stage) (images : Scanned) : Type 0 where
   pub within : length found ≤ count
-  pub last : length found ≡ count → (request : RequestId) → out_of at ≢ Some request
+  pub last : length found ≡ count → (request : RequestId) → out_of_look at ≢ Some request
   pub room : count ≤ capacity
   pub own : IsStageOf (length found) at
   pub few : images.images ≤ length found
@@ -80,7 +80,7 @@ abbrev pub LooksFurther : Looking → Looking → Type 0
 LooksFurther old new = (new.told ≡ old.told) ⊎ IsAtNext old new
 
 -- its plan's next call is asked for, with a ticket, of the slot that it looks at
-pub record IsAskedBy (number : ℕ) (old : Looking) (request : Asked) (new : Looking) : Type 0 where
+pub record OpenerAsks (number : ℕ) (old : Looking) (request : Asked) (new : Looking) : Type 0 where
   pub plan : Planned
   pub next : Planned
   pub was : old.stage ≡ Asking plan
@@ -94,14 +94,14 @@ pub record IsAskedBy (number : ℕ) (old : Looking) (request : Asked) (new : Loo
 
 -- an open slot was decoded
 pub record IsDecoded (old new : Looking) : Type 0 where
-  pub rests : out_of old.stage ≡ None
+  pub rests : out_of_look old.stage ≡ None
   pub read : (plan : Planned) → old.stage ≢ Asking plan
   pub next : IsAtNext old new
 
 abbrev pub StepMoves : ℕ → Looking → OpenerStep → Looking → Type 0
-StepMoves ticket old (Call request) new = IsAskedBy ticket old request new
+StepMoves ticket old (Call request) new = OpenerAsks ticket old request new
 StepMoves ticket old Decoded new = IsDecoded old new
-StepMoves ticket old (Damaged slot reason) new = out_of old.stage ≡ None
+StepMoves ticket old (Damaged slot reason) new = out_of_look old.stage ≡ None
 StepMoves ticket old AllRead new = (new ≡ old) × (length old.told ≡ old.slots)
 
 -- an outcome that is done, as its call asks: a length where one was asked for, and the whole of a header's bytes

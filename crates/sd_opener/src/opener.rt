@@ -13,8 +13,8 @@ ghost use Rattle.sd_opener.specs.declared.open_error.OpenError.TheVariants.{Busy
 ghost use Rattle.sd_opener.specs.declared.opener_progress.OpenerProgress.TheVariants.{Strange as IsStrange};
 ghost use Rattle.sd_opener.specs.declared.opener_progress.OpenerProgress.TheVariants.{Failed as HasFailed};
 ghost use Rattle.sd_opener.specs.declared.opener_progress.OpenerProgress.TheVariants.{More as GoesOn};
-ghost use Rattle.sd_opener.specs.Left.{LowersByStep, LowersLooking, looking_left, stage_left};
-ghost use Rattle.sd_opener.specs.Looking.{IsDoneAsAsked, Looking, LooksFurther, StepMoves, out_of};
+ghost use Rattle.sd_opener.specs.Left.{LowersByStep, LowersLooking, looking_left, slot_left};
+ghost use Rattle.sd_opener.specs.Looking.{IsDoneAsAsked, Looking, LooksFurther, StepMoves, out_of_look};
 ghost use Rattle.sd_opener.specs.Sees.{IsNoStore, IsToldOf, Sees, SeesAfter, StepNames, StoreIsRead};
 
 use crate::open_error::OpenError;
@@ -86,7 +86,7 @@ fn replace_stage(stage: &mut Stage, next: Stage) -> Option<Found>
 
 /// How many steps and outcomes the slot of a stage has before it, at most.
 fn stage_left(stage: &Stage) -> u128
-    ensures left { result ≡ stage_left stage.now }
+    ensures left { result ≡ slot_left stage.now }
     ensures few { result ≤ 2 ^ 64 }
 {
     match stage {
@@ -103,7 +103,7 @@ impl Opener {
     /// Out of memory where the list of phases finds no room.
     pub fn new(alloc: Global, slots: usize) -> Result<Opener, AllocError>
         ensures slots { IfOk result (λ opener. opener.slots ≡ slots) }
-        ensures free { IfOk result (λ opener. out_of opener.stage ≡ None) }
+        ensures free { IfOk result (λ opener. out_of_look opener.stage ≡ None) }
         ensures told { IfOk result (λ opener. opener.told ≡ []) }
         ensures stage { IfOk result (λ opener. opener.stage
             ≡ Stage.Asking (begun 0 first_looks the_length)) }
@@ -134,8 +134,8 @@ impl Opener {
         ensures moves { IfOk result (λ step. StepMoves ticket self.old step self.new) }
         ensures lowers { IfOk result (λ step. LowersByStep step self.old self.new) }
         ensures slots { self.new.slots ≡ self.old.slots }
-        ensures busy { result ≡ Err Busy → IsSome (out_of self.old.stage) }
-        ensures out { IsSome (out_of self.old.stage) → IsErr result }
+        ensures busy { result ≡ Err Busy → IsSome (out_of_look self.old.stage) }
+        ensures out { IsSome (out_of_look self.old.stage) → IsErr result }
         ensures err { OnErr result (self.new ≡ self.old) }
     {
         good_store_has_no_reason();
@@ -170,21 +170,21 @@ impl Opener {
 
     /// Takes the outcome of the request that is out.
     pub fn hand_in(&mut self, outcome: Outcome) -> OpenerProgress
-        ensures strange { out_of self.old.stage ≢ Some outcome.request.id
+        ensures strange { out_of_look self.old.stage ≢ Some outcome.request.id
             → (result ≡ IsStrange) × (self.new ≡ self.old) }
-        ensures failed { out_of self.old.stage ≡ Some outcome.request.id
+        ensures failed { out_of_look self.old.stage ≡ Some outcome.request.id
             → is_done outcome.answer ≡ false → result ≡ HasFailed }
-        ensures goes_on { out_of self.old.stage ≡ Some outcome.request.id → IsDoneAsAsked outcome
+        ensures goes_on { out_of_look self.old.stage ≡ Some outcome.request.id → IsDoneAsAsked outcome
             → result ≡ GoesOn }
         // Where it told the file as it is, the opener goes on.
         ensures sees { (files : List (List ℕ)) (request : Asked)
             → IsToldOf (file_at files (length self.old.told)) request outcome
             → Sees files (Some request) self.old → (result ≡ GoesOn) × Sees files None self.new }
         ensures moves { LooksFurther self.old self.new }
-        ensures lowers { out_of self.old.stage ≡ Some outcome.request.id → result ≡ GoesOn
+        ensures lowers { out_of_look self.old.stage ≡ Some outcome.request.id → result ≡ GoesOn
             → LowersLooking self.old self.new }
         ensures slots { self.new.slots ≡ self.old.slots }
-        ensures free { out_of self.old.stage ≡ Some outcome.request.id → out_of self.new.stage ≡ None }
+        ensures free { out_of_look self.old.stage ≡ Some outcome.request.id → out_of_look self.new.stage ≡ None }
     {
         inspection_finds();
         let slot = self.told.len();

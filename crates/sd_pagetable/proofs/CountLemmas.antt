@@ -5,7 +5,7 @@ use Rattle.std.specs.FinMap as finmap
 use Rattle.std.proofs.lemmas.Bool.{cond-false}
 use Rattle.std.proofs.lemmas.Bool.Decides.{nat_tests}
 use Rattle.sd_pagetable.specs.Nested.{Table, Nested, inside, total, total_within}
-use Rattle.sd_pagetable.specs.Law.{pages_below, CountLaw}
+use Rattle.sd_pagetable.specs.Law.{pages_below, PageLimitLaw}
 use Rattle.sd_pagetable.proofs.TableLemmas.{get_removed}
 use Rattle.sd_pagetable.proofs.TotalLemmas.{total-remove, total-empty}
 use Rattle.sd_pagetable.proofs.ForkCalls.{len_total}
@@ -35,5 +35,5 @@ within_total nested (suc n) =
       total-remove (total (λ _. 1)) nested n,
     )
 
-pub few_below : CountLaw
+pub few_below : PageLimitLaw
 few_below contents sound n = omega (arith, within_total contents.spaces n, sound.few)

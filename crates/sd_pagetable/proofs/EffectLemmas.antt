@@ -9,7 +9,7 @@ use Rattle.sd_pagetable.specs.Page.{PageState, plain_page, fresh_page, protected
 use Rattle.sd_pagetable.specs.Access.{stored_at}
 use Rattle.sd_pagetable.specs.Contents.{Contents, page_at, put_page, plain_of}
 use Rattle.sd_pagetable.specs.Tracking.{Mapped, Unmapped, Protected, Forked, Exited, Faulted, Tried, Stored, Cleared, Passed, with_space}
-use Rattle.sd_pagetable.specs.EventEffects.{after_write, EffectLaw}
+use Rattle.sd_pagetable.specs.EventEffects.{after_write, EventEffectLaw}
 use Rattle.sd_pagetable.proofs.PlainRanges.{map_set, map_remove, map_change, plain_with, plain_inside}
 use Rattle.sd_pagetable.proofs.MemoryLemmas.{plain_at, plain_put, plain_same, plain_made_writable}
 use Rattle.sd_pagetable.proofs.ForkCalls.{apart_from, plain_forked, plain_ended}
@@ -38,7 +38,7 @@ plain_written c s p offset bytes x y h e =
     plain_put c s p y ∙ ap (put_at (plain_of c) s p) e
     ∙ sym (ap (λ (o : Option plain.Page). option_map_or (λ (page : plain.Page). put_at (plain_of c) s p (record page { bytes = stored_at page.bytes offset bytes })) o (plain_of c)) (plain_at c s p ∙ ap (option_map plain_page) h))
 
-pub effect_law : EffectLaw
+pub effect_law : EventEffectLaw
 effect_law old new (Mapped s first count prot) step = ap plain_of step ∙ plain_set old s first count prot
 effect_law old new (Unmapped s first count) step = ap plain_of step ∙ plain_removed old s first count
 effect_law old new (Protected s first count prot) step = ap plain_of step ∙ plain_changed old s first count prot

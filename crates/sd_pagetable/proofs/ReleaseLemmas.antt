@@ -6,7 +6,7 @@ use Rattle.sd_tables.specs.declared.entry.Entry.{Entry}
 use Rattle.sd_pagetable.specs.Nested.{Nested, value_at, put_at, remove_at}
 use Rattle.sd_pagetable.specs.Page.{PageState, zeros}
 use Rattle.sd_pagetable.specs.Contents.{Contents, page_at, put_page, remove_page, members, share_of, page_count, IsSound}
-use Rattle.sd_frames.specs.Frames.{Pool, Cell, cell_at, count_at, bytes_at, frame_bytes}
+use Rattle.sd_frames.specs.Frames.{Pool, Cell, cell_at, count_at, cell_bytes, frame_bytes}
 use Rattle.sd_pagetable.specs.View.{page_of_entry, contents_of, IsKept}
 use Rattle.sd_pagetable.specs.Owning.{ReleasesFrame}
 use Rattle.sd_pagetable.proofs.NestedLemmas.{alive_at, alive-remove_same, value_at-remove}
@@ -16,7 +16,7 @@ use Rattle.sd_pagetable.proofs.KeptLemmas.{kept_put, apart_none, other_class, ne
 
 module _ (old new : Pool) (tables : Nested Entry) (n s p : ℕ) (e : Entry) (kept : IsKept old tables n) (h : value_at tables s p ≡ Some e) (released : ReleasesFrame old new e.frame) where
   -- a frame that another entry has keeps its bytes
-  rest_bytes : (k q r : ℕ) (y : Entry) (o : Option ℕ) → e.frame ≡ o → is_at s p q r ≡ false → value_at tables q r ≡ Some y → y.frame ≡ Some k → bytes_at new k ≡ bytes_at old k
+  rest_bytes : (k q r : ℕ) (y : Entry) (o : Option ℕ) → e.frame ≡ o → is_at s p q r ≡ false → value_at tables q r ≡ Some y → y.frame ≡ Some k → cell_bytes new k ≡ cell_bytes old k
   rest_bytes k q r y None f apart hy fy = ap (λ u. option_map_or (λ (c : Cell). c.bytes) u zeros) (released.others k (λ g. let x : ◌≡◌ {A = Option ℕ} None (Some k) = sym f ∙ g in cc))
   rest_bytes k q r y (Some j) f apart hy fy = elim (cases_eq j k) [
     | inl same ↦ released.bytes k (f ∙ ap Some same) (λ one.

@@ -90,8 +90,8 @@ weigh_ones [] = refl
 weigh_ones (e ∷ es) = (let a = weigh_ones es in omega (arith, a))
 
 -- ---- areas
-pub same_prots : (es : List (ℕ × SnapshotPage)) → areas_memory.prots_of es ≡ prots_in (space_of es)
-unfolding areas_memory.prots_of space_of
+pub same_prots : (es : List (ℕ × SnapshotPage)) → areas_memory.snapshot_prots es ≡ prots_in (space_of es)
+unfolding areas_memory.snapshot_prots space_of
 same_prots es = same_table _ _ (λ q. get-from_entries nat_cmp_total _ q ∙ find_seen (λ (x : SnapshotPage). x.prot) es q
     ∙ twice (find nat_cmp q es) ∙ ap (option_map (λ (page : plain.Page). page.prot)) (sym (get-from_entries nat_cmp_total _ q ∙ find_seen page_of_snapshot es q))
     ∙ sym (get-map_values (λ (page : plain.Page). page.prot) (finmap.from_entries (map (λ (e : ℕ × SnapshotPage). (e.0, page_of_snapshot e.1)) es)) q))

@@ -6,7 +6,7 @@ use Rattle.sd_tables.specs.declared.entry.Entry.{Entry}
 use Rattle.sd_pagetable.specs.Nested.{Nested, value_at}
 use Rattle.sd_pagetable.specs.Page.{PageState, zeros}
 use Rattle.sd_pagetable.specs.Contents.{AreWhole}
-use Rattle.sd_frames.specs.Frames.{Cell, Pool, cell_at, bytes_at, HasWholeFrames, frame_bytes}
+use Rattle.sd_frames.specs.Frames.{Cell, Pool, cell_at, cell_bytes, HasWholeFrames, frame_bytes}
 use Rattle.sd_pagetable.specs.View.{page_of_entry, contents_of, IsKept}
 use Rattle.sd_pagetable.proofs.TableLemmas.{some_of}
 use Rattle.sd_pagetable.proofs.ViewLemmas.{page_at-view}
@@ -14,7 +14,7 @@ use Rattle.sd_pagetable.proofs.KeptLemmas.{frame_used}
 use Rattle.sd_pagetable.proofs.LawEvents.{changed}
 
 -- a frame that is used has its bytes
-whole_at : (pool : Pool) (k : ℕ) → HasWholeFrames pool → IsSome (cell_at pool k) → length (bytes_at pool k) ≡ 4096
+whole_at : (pool : Pool) (k : ℕ) → HasWholeFrames pool → IsSome (cell_at pool k) → length (cell_bytes pool k) ≡ 4096
 whole_at pool k whole some =
     let c = some_of (cell_at pool k) some in
     ap (λ (o : Option Cell). length (option_map_or (λ (cell : Cell). cell.bytes) o zeros)) c.1 ∙ whole k c.0 c.1

@@ -36,6 +36,6 @@ after_event (Cleared space page) memory = memory
 after_event Passed memory = memory
 
 -- a memory's history makes its plain memory
-abbrev pub EffectLaw : Type 0
-EffectLaw =
+abbrev pub EventEffectLaw : Type 0
+EventEffectLaw =
     (old new : Contents) (event : MemoryEvent) → Step old event new → plain_of new ≡ after_event event (plain_of old)

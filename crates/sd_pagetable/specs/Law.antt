@@ -40,5 +40,5 @@ pages_below nested zero = 0
 pages_below nested (suc space) = pages_below nested space + finmap.len (inside nested space)
 
 -- the spaces have together at most 65,536 pages
-abbrev pub CountLaw : Type 0
-CountLaw = (contents : Contents) → IsSound contents → (space : ℕ) → pages_below contents.spaces space ≤ 65536
+abbrev pub PageLimitLaw : Type 0
+PageLimitLaw = (contents : Contents) → IsSound contents → (space : ℕ) → pages_below contents.spaces space ≤ 65536

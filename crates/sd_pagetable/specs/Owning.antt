@@ -5,7 +5,7 @@ use Rattle.sd_pagetable.specs.declared.memory_refusal.MemoryRefusal.TheVariants.
 use Rattle.sd_pagetable.specs.declared.access_error.AccessError.TheVariants.{Refused}
 use Rattle.sd_pagetable.specs.declared.memory_error.MemoryError.{MemoryError}
 use Rattle.sd_pagetable.specs.declared.memory_error.MemoryError.TheVariants.{Denied as DeniedError, OutOfMemory}
-use Rattle.sd_frames.specs.Frames.{Pool, Cell, cell_at, count_at, bytes_at, IsExhausted, HasFree, frame_bytes}
+use Rattle.sd_frames.specs.Frames.{Pool, Cell, cell_at, count_at, cell_bytes, IsExhausted, HasFree, frame_bytes}
 
 -- no other entry has the frame
 abbrev pub is_own : Pool → Option ℕ → Bool
@@ -18,7 +18,7 @@ pub record TakesFrame (old new : Pool) (frame : Option ℕ) (own : ℕ) : Type 0
   pub free : cell_at old own ≡ None
   pub here : cell_at new own ≡ Some (record { count = 1; bytes = frame_bytes old frame })
   pub count : (number : ℕ) → frame ≡ Some number → count_at new number + 1 ≡ count_at old number
-  pub bytes : (number : ℕ) → frame ≡ Some number → bytes_at new number ≡ bytes_at old number
+  pub bytes : (number : ℕ) → frame ≡ Some number → cell_bytes new number ≡ cell_bytes old number
   pub others : (number : ℕ) → number ≢ own → (frame ≡ Some number → ⊥) → cell_at new number ≡ cell_at old number
 
 -- the entry keeps its frame, or takes a free one
@@ -36,7 +36,7 @@ pub record ReleasesFrame (old new : Pool) (frame : Option ℕ) : Type 0 where
   pub size : new.size ≡ old.size
   pub count : (number : ℕ) → frame ≡ Some number → count_at new number + 1 ≡ count_at old number
   pub bytes : (number : ℕ) → frame ≡ Some number → (count_at old number ≡ 1 → ⊥)
-      → bytes_at new number ≡ bytes_at old number
+      → cell_bytes new number ≡ cell_bytes old number
   pub used : (number : ℕ) (cell : Cell) → frame ≡ Some number → cell_at new number ≡ Some cell → 0 < cell.count
   pub others : (number : ℕ) → (frame ≡ Some number → ⊥) → cell_at new number ≡ cell_at old number
 
@@ -44,6 +44,6 @@ pub record ReleasesFrame (old new : Pool) (frame : Option ℕ) : Type 0 where
 pub record SharesFrame (old new : Pool) (frame : Option ℕ) : Type 0 where
   pub size : new.size ≡ old.size
   pub count : (number : ℕ) → frame ≡ Some number → count_at new number ≡ count_at old number + 1
-  pub bytes : (number : ℕ) → bytes_at new number ≡ bytes_at old number
+  pub bytes : (number : ℕ) → cell_bytes new number ≡ cell_bytes old number
   pub used : (number : ℕ) (cell : Cell) → frame ≡ Some number → cell_at new number ≡ Some cell → 0 < cell.count
   pub others : (number : ℕ) → (frame ≡ Some number → ⊥) → cell_at new number ≡ cell_at old number

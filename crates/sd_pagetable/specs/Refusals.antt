@@ -11,25 +11,25 @@ use Rattle.sd_pagetable.specs.declared.access_error.AccessError.TheVariants.{Ref
 use Rattle.sd_pagetable.specs.declared.memory_error.MemoryError.{MemoryError}
 use Rattle.sd_pagetable.specs.declared.memory_error.MemoryError.TheVariants.{Denied as DeniedError, OutOfMemory}
 
-abbrev pub refusal_number : MemoryRefusal → ℕ
-refusal_number Einval = 1
-refusal_number Enomem = 2
-refusal_number NoSuchSpace = 3
-refusal_number TooManySpaces = 4
-refusal_number NoFrame = 5
-refusal_number LastSpace = 15
+abbrev pub memory_refusal_number : MemoryRefusal → ℕ
+memory_refusal_number Einval = 1
+memory_refusal_number Enomem = 2
+memory_refusal_number NoSuchSpace = 3
+memory_refusal_number TooManySpaces = 4
+memory_refusal_number NoFrame = 5
+memory_refusal_number LastSpace = 15
 
-abbrev pub refusal_name : MemoryRefusal → List ℕ
-refusal_name Einval = codes "EINVAL"
-refusal_name Enomem = codes "ENOMEM"
-refusal_name NoSuchSpace = codes "no-such-space"
-refusal_name TooManySpaces = codes "too-many-spaces"
-refusal_name NoFrame = codes "no-frame"
-refusal_name LastSpace = codes "last-space"
+abbrev pub memory_refusal_name : MemoryRefusal → List ℕ
+memory_refusal_name Einval = codes "EINVAL"
+memory_refusal_name Enomem = codes "ENOMEM"
+memory_refusal_name NoSuchSpace = codes "no-such-space"
+memory_refusal_name TooManySpaces = codes "too-many-spaces"
+memory_refusal_name NoFrame = codes "no-frame"
+memory_refusal_name LastSpace = codes "last-space"
 
 -- the number and the name, separated by a space
-abbrev pub refusal_text : MemoryRefusal → List ℕ
-refusal_text refusal = numbered_text (refusal_number refusal) (refusal_name refusal)
+abbrev pub memory_refusal_text : MemoryRefusal → List ℕ
+memory_refusal_text refusal = numbered_text (memory_refusal_number refusal) (memory_refusal_name refusal)
 
 abbrev pub segv_name : segv.Segv → List ℕ
 segv_name Maperr = codes "maperr"
@@ -37,7 +37,7 @@ segv_name Accerr = codes "accerr"
 
 -- what an access that failed prints
 abbrev pub access_error_text : AccessError → List ℕ
-access_error_text (Refused refusal) = refusal_text refusal
+access_error_text (Refused refusal) = memory_refusal_text refusal
 access_error_text (Stopped stop) = codes "segv " ++ segv_name stop
 
 -- what a call that failed prints

@@ -1,8 +1,8 @@
 //! Laws of memories, each the contract of a function that does nothing.
-ghost use Rattle.sd_pagetable.specs.Law.{TrackingLaw, ClearLaw, PlainLaw, CountLaw};
+ghost use Rattle.sd_pagetable.specs.Law.{TrackingLaw, ClearLaw, PlainLaw, PageLimitLaw};
 ghost use Rattle.sd_pagetable.specs.Tracking.{TracksLaw};
 ghost use Rattle.sd_pagetable.specs.PageLaw.{PageLaw, CleanLaw};
-ghost use Rattle.sd_pagetable.specs.EventEffects.{EffectLaw};
+ghost use Rattle.sd_pagetable.specs.EventEffects.{EventEffectLaw};
 
 /// After every list of calls and clears a mapped page is soft-dirty exactly where something since its last clear
 /// touched it, or it was never cleared; it is writable exactly where a fault or store was accepted at it and nothing
@@ -30,7 +30,7 @@ pub fn clean_law()
 
 /// What an event makes of the plain memory: a history gives it alone.
 pub fn effect_law()
-    ensures { EffectLaw }
+    ensures { EventEffectLaw }
 {}
 
 /// What a clear does to each page.
@@ -45,5 +45,5 @@ pub fn plain_law()
 
 /// The spaces have together at most 65,536 pages.
 pub fn count_law()
-    ensures { CountLaw }
+    ensures { PageLimitLaw }
 {}

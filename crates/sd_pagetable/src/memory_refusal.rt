@@ -1,5 +1,5 @@
 ghost use Rattle.std.specs.Prelude.{◌≡◌, Some};
-ghost use Rattle.sd_pagetable.specs.Refusals.{refusal_number, refusal_name, refusal_text};
+ghost use Rattle.sd_pagetable.specs.Refusals.{memory_refusal_number, memory_refusal_name, memory_refusal_text};
 
 use std::error::Error;
 use std::fmt;
@@ -27,7 +27,7 @@ impl MemoryRefusal {
     /// Its number: EINVAL 1, ENOMEM 2, no-such-space 3, too-many-spaces 4, no-frame 5 and
     /// last-space 15.
     pub fn number(self) -> u8
-        ensures { result ≡ refusal_number self }
+        ensures { result ≡ memory_refusal_number self }
     {
         match self {
             MemoryRefusal::Einval => 1,
@@ -41,7 +41,7 @@ impl MemoryRefusal {
 
     /// Its name, in POSIX.1-2017 where that has one.
     pub fn name(self) -> &'static str
-        ensures { result.now ≡ refusal_name self }
+        ensures { result.now ≡ memory_refusal_name self }
     {
         match self {
             MemoryRefusal::Einval => "EINVAL",
@@ -56,7 +56,7 @@ impl MemoryRefusal {
 
 /// Prints its number and its name, separated by a space.
 impl fmt::Display for MemoryRefusal {
-    ghost output = { λ refusal. Some (refusal_text refusal) };
+    ghost output = { λ refusal. Some (memory_refusal_text refusal) };
 
     fn fmt<W: fmt::Write>(&self, f: &mut fmt::Formatter<W>) -> fmt::Result {
         write!(f, "{} {}", self.number(), self.name())

@@ -8,14 +8,14 @@ use Rattle.sd_pagetable.specs.Page.{PageState}
 use Rattle.sd_pagetable.specs.Contents.{Contents, page_at}
 use Rattle.sd_pagetable.specs.Tracking.{MemoryEvent, Step, Cleared, Run}
 use Rattle.sd_pagetable.specs.Law.{IsClearedAt}
-use Rattle.sd_procfs.specs.Clears.{AreFalling, IsHistory, HasHistory, IsNextIn, is_among}
+use Rattle.sd_procfs.specs.Clears.{AreFalling, IsHistory, HasHistory, IsNextIn, lists_page}
 use Rattle.sd_procfs.proofs.ClearSteps.{ClearsBehind, is_behind, between, below_is, above_is, is_below, is_above}
 
 -- the mapped pages behind the cursor were cleared, one after the other
 pub record HistoryBehind (cursor : Option ℕ) (space : ℕ) (old now : Contents) (pages : List ℕ) : Type 0 where
   pub falls : AreFalling pages
   pub passed : AllByRecursion (λ page. is_behind cursor page ≡ true) pages
-  pub each : (page : ℕ) → is_among pages page ≡ (is_behind cursor page && is_some (page_at old space page))
+  pub each : (page : ℕ) → lists_page pages page ≡ (is_behind cursor page && is_some (page_at old space page))
   pub run : Run old (map (Cleared space) pages) now
 
 abbrev pub HasHistoryBehind : Option ℕ → ℕ → Contents → Contents → Type 0

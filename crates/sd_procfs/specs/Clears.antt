@@ -33,14 +33,14 @@ abbrev pub AreFalling : List ℕ → Type 0
 AreFalling [] = Unit {0}
 AreFalling (page ∷ pages) = AllByRecursion (λ other. other < page) pages × AreFalling pages
 
-abbrev pub is_among : List ℕ → ℕ → Bool
-is_among pages page = list_any (λ other. other == page) pages
+abbrev pub lists_page : List ℕ → ℕ → Bool
+lists_page pages page = list_any (λ other. other == page) pages
 
 -- One clear for each mapped page of the space, and nothing else, leads from one memory to the other. The clears rise by
 -- page: a history has the newest first, so the pages fall in it.
 pub record IsHistory (space : ℕ) (old new : Contents) (pages : List ℕ) : Type 0 where
   pub falls : AreFalling pages
-  pub each : (page : ℕ) → is_among pages page ≡ is_some (page_at old space page)
+  pub each : (page : ℕ) → lists_page pages page ≡ is_some (page_at old space page)
   pub run : Run old (map (Cleared space) pages) new
 
 abbrev pub HasHistory : ℕ → Contents → Contents → Type 0

@@ -2,16 +2,16 @@
 use Rattle.std.specs.Prelude.{ℕ, List, codes}
 use Rattle.sd_areas.specs.Refusals.{numbered_text}
 use Rattle.sd_pagetable.specs.declared.memory_refusal.MemoryRefusal.TheVariants.{NoSuchSpace as NoSuchSpaceRefusal}
-use Rattle.sd_pagetable.specs.Refusals.{refusal_number, refusal_name}
+use Rattle.sd_pagetable.specs.Refusals.{memory_refusal_number, memory_refusal_name}
 use Rattle.sd_procfs.specs.declared.clear_error.ClearError.{ClearError}
 use Rattle.sd_procfs.specs.declared.clear_error.ClearError.TheVariants.{NoSuchSpace, UnsupportedValue}
 
 abbrev pub clear_error_number : ClearError → ℕ
-clear_error_number NoSuchSpace = refusal_number NoSuchSpaceRefusal
+clear_error_number NoSuchSpace = memory_refusal_number NoSuchSpaceRefusal
 clear_error_number UnsupportedValue = 9
 
 abbrev pub clear_error_name : ClearError → List ℕ
-clear_error_name NoSuchSpace = refusal_name NoSuchSpaceRefusal
+clear_error_name NoSuchSpace = memory_refusal_name NoSuchSpaceRefusal
 clear_error_name UnsupportedValue = codes "unsupported-value"
 
 -- the number and the name, separated by a space

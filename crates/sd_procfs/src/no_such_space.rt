@@ -1,5 +1,5 @@
 ghost use Rattle.std.specs.Prelude.{Some};
-ghost use Rattle.sd_pagetable.specs.Refusals.{refusal_text};
+ghost use Rattle.sd_pagetable.specs.Refusals.{memory_refusal_text};
 ghost use Rattle.sd_pagetable.specs.declared.memory_refusal.MemoryRefusal.TheVariants.{NoSuchSpace as NoSuchSpaceRefusal};
 
 use sd_pagetable::MemoryRefusal;
@@ -12,7 +12,7 @@ pub struct NoSuchSpace;
 
 /// Prints what `MemoryRefusal::NoSuchSpace` prints.
 impl fmt::Display for NoSuchSpace {
-    ghost output = { λ _. Some (refusal_text NoSuchSpaceRefusal) };
+    ghost output = { λ _. Some (memory_refusal_text NoSuchSpaceRefusal) };
 
     fn fmt<W: fmt::Write>(&self, f: &mut fmt::Formatter<W>) -> fmt::Result {
         write!(f, "{}", MemoryRefusal::NoSuchSpace)

@@ -17,7 +17,7 @@ use Rattle.sd_readers.specs.declared.steady.Reader.{Reader}
 use Rattle.sd_readers.specs.declared.steady.Reader.TheVariants as reader
 use Rattle.sd_readers.specs.Printed.{Prints}
 use Rattle.sd_readers.specs.Texts.{memory_text, verdict_text}
-use Rattle.sd_readers.specs.Ending.{EndsWithOne, IsOutside, StandsAlone, is_of_store}
+use Rattle.sd_readers.specs.Ending.{EndsWithOne, IsOutsideStore, StandsAlone, is_of_store}
 
 pub on_ok : {A B : Type 0} {P : Type 0} (result : Result A B) → P → OnOk result P
 on_ok (Ok value) p = p
@@ -73,17 +73,17 @@ prints_then_nothing reader.Verify contents before a b none is = record {
 }
 
 -- a fault of the device or of the memory says nothing against the store
-pub outside : (fault : Fault) → FaultNames (λ _ _. ⊥) fault → fault ≢ EmptyChain → IsOutside (stop.Fault fault)
+pub outside : (fault : Fault) → FaultNames (λ _ _. ⊥) fault → fault ≢ EmptyChain → IsOutsideStore (stop.Fault fault)
 outside EmptyChain named some = absurd (some refl)
 outside (Damaged slot reason) named some = absurd named
 outside Device named some = refl
 outside OutOfMemory named some = refl
 
 -- a stop that says nothing against the store may come behind lines
-pub not_alone : (before after : Option (List ℕ)) (why : Stop) → IsOutside why → StandsAlone before after why
+pub not_alone : (before after : Option (List ℕ)) (why : Stop) → IsOutsideStore why → StandsAlone before after why
 not_alone before after why is = λ yes. absurd (let f : true ≡ false = sym yes ∙ is in cc)
 
-pub none_alone : (before after : Option (List ℕ)) (result : Result Unit Stop) → IfErr result IsOutside → IfErr result (StandsAlone before after)
+pub none_alone : (before after : Option (List ℕ)) (result : Result Unit Stop) → IfErr result IsOutsideStore → IfErr result (StandsAlone before after)
 none_alone before after (Ok value) is = record {}
 none_alone before after (Err why) is = not_alone before after why is
 

@@ -11,7 +11,7 @@ use Rattle.sd_exit.specs.declared.stop.Stop.{Stop}
 use Rattle.sd_exit.specs.declared.stop.Stop.TheVariants as stop
 use Rattle.sd_exit.specs.Ending.{OnFault}
 use Rattle.sd_exit.proofs.EndingLemmas.{on_fault}
-use Rattle.sd_readers.specs.Ending.{IsOutside, StandsAlone, writer_failed}
+use Rattle.sd_readers.specs.Ending.{IsOutsideStore, StandsAlone, writer_failed}
 use Rattle.sd_readers.specs.Printed.{BeginsToPrint, Prints}
 use Rattle.sd_readers.specs.Reading.{ReadsStore}
 use Rattle.sd_readers.specs.Texts.{memory_text, verdict_text}
@@ -67,7 +67,7 @@ module _ (by : Reader) (contents : List (List ℕ)) where
   any_part (Err (stop.Writer error)) before after fine whole begun = no_two fine
 
   -- a fault of the device or of the memory behind it
-  pub faulty_behind : (honest : Type 0) (ended : Result Unit Stop) (fault : Fault) (before after : Option (List ℕ)) → writer_failed ended ≡ false → IsOutside (stop.Fault fault)
+  pub faulty_behind : (honest : Type 0) (ended : Result Unit Stop) (fault : Fault) (before after : Option (List ℕ)) → writer_failed ended ≡ false → IsOutsideStore (stop.Fault fault)
       → fault ≢ EmptyChain → Reads honest ended before after → Reads honest (Err (stop.Fault fault)) before after
   faulty_behind honest ended fault before after fine outside other is = record {
     text = λ h. record {};

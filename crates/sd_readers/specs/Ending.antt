@@ -20,8 +20,8 @@ abbrev pub StandsAlone : Option (List ℕ) → Option (List ℕ) → Stop → Ty
 StandsAlone before after why = is_of_store why ≡ true → Keeps before after
 
 -- a stop that says nothing against the store: of its device, of the memory or of the writer
-abbrev pub IsOutside : Stop → Type 0
-IsOutside why = is_of_store why ≡ false
+abbrev pub IsOutsideStore : Stop → Type 0
+IsOutsideStore why = is_of_store why ≡ false
 
 -- nothing more can be printed
 abbrev pub writer_failed : Result Unit Stop → Bool

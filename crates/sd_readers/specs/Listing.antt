@@ -5,7 +5,7 @@ use Rattle.std.specs.Fmt.{decimal}
 use Rattle.sd_image.specs.declared.header.Kind.{Kind}
 use Rattle.sd_image.specs.declared.header.Kind.TheVariants.{PreDump, Dump, Merged}
 use Rattle.sd_exit.specs.Texts.{slot_text}
-use Rattle.sd_chain.specs.Catalog.{Opened, Places, IsRestored, IsTip, images}
+use Rattle.sd_chain.specs.Catalog.{Opened, Places, IsDumpOrMerged, IsTip, images}
 
 abbrev pub kind_text : Kind → List ℕ
 kind_text PreDump = codes "pre-dump"
@@ -22,7 +22,7 @@ image_line i = codes "slot " ++ slot_text i.slot ++ codes " " ++ kind_text i.hea
 -- the last line has the serial of the tip, if there is one
 abbrev pub IsTipLine : Places → List ℕ → Type 0
 IsTipLine places line = ((i : Opened) × IsTip places i × (line ≡ codes "tip " ++ decimal i.header.serial ++ 10 ∷ []))
-    ⊎ (All (λ i. IsRestored i → ⊥) (images places) × (line ≡ codes "tip none" ++ 10 ∷ []))
+    ⊎ (All (λ i. IsDumpOrMerged i → ⊥) (images places) × (line ≡ codes "tip none" ++ 10 ∷ []))
 
 -- a line for each image, rising by serial, and the line of the tip
 abbrev pub IsListing : Places → List ℕ → Type 0

@@ -32,14 +32,14 @@ unfoldable pub page_text : ℕ → List ℕ → List ℕ
 page_text address bytes = flat_map (part_text address bytes) (range_with_len 0 128)
 
 -- a space: its number, its areas, and the bytes of its pages, rising
-abbrev pub space_text : ℕ → Space → List ℕ
-space_text number space = codes "space " ++ decimal number ++ 10 ∷ [] ++ listing_text (prots_in space)
+abbrev pub printed_space : ℕ → Space → List ℕ
+printed_space number space = codes "space " ++ decimal number ++ 10 ∷ [] ++ listing_text (prots_in space)
     ++ flat_map (λ (entry : ℕ × Page). page_text (4096 * entry.0) entry.1.bytes) (finmap.entries space)
 
 -- a checkpoint and its memory: its spaces, rising
 abbrev pub memory_text : ℕ × PlainMemory → List ℕ
 memory_text moment = codes "checkpoint " ++ decimal moment.0 ++ 10 ∷ []
-    ++ flat_map (λ (entry : ℕ × Space). space_text entry.0 entry.1) (finmap.entries moment.1)
+    ++ flat_map (λ (entry : ℕ × Space). printed_space entry.0 entry.1) (finmap.entries moment.1)
 
 -- The same of pages that lie in the slots of a store.
 

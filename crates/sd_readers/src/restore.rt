@@ -13,7 +13,7 @@ ghost use Rattle.sd_exit.specs.declared.stop.Stop.TheVariants as stop;
 ghost use Rattle.sd_exit.specs.Ending.{OnFault, OnWriter};
 ghost use Rattle.sd_exit.specs.Texts.{PrintsBeginning, fault_line};
 ghost use Rattle.sd_readers.specs.declared.steady.Reader.TheVariants as reader;
-ghost use Rattle.sd_readers.specs.Ending.{IsOutside, ShowsMemory, StandsAlone};
+ghost use Rattle.sd_readers.specs.Ending.{IsOutsideStore, ShowsMemory, StandsAlone};
 ghost use Rattle.sd_readers.specs.Printed.{BeginsToPrint, PrintsMemory};
 ghost use Rattle.sd_readers.specs.Reading.{ReaderEnds};
 ghost use Rattle.sd_areas.specs.PlainMemory.{PlainMemory};
@@ -110,7 +110,7 @@ fn print_placed<D: Disk, W: Write>(
         (map listing_of placed.now.spaces.now) (placed_pages placed.now.runs.items))) }
     ensures reads { OnlyReads D.Disk disk.old disk.new }
     ensures empty { result ≢ Err (stop.Fault fault.EmptyChain) }
-    ensures outside { IfErr result IsOutside }
+    ensures outside { IfErr result IsOutsideStore }
     ensures writer { OnWriter result (out.new.refused ≡ true) }
 {
     writeln!(out, "checkpoint {}", placed.checkpoint)?;
@@ -151,7 +151,7 @@ fn print_space<D: Disk, W: Write>(
         (placed_space_text (D.contents disk.old) (placed_pages runs.now) (listing_of space.now))) }
     ensures reads { OnlyReads D.Disk disk.old disk.new }
     ensures empty { result ≢ Err (stop.Fault fault.EmptyChain) }
-    ensures outside { IfErr result IsOutside }
+    ensures outside { IfErr result IsOutsideStore }
     ensures writer { OnWriter result (out.new.refused ≡ true) }
 {
     writeln!(out, "space {}", space.space.number())?;
@@ -178,7 +178,7 @@ fn print_pages<D: Disk, W: Write>(
         (placed_lines (D.contents disk.old) space (placed_pages runs.now))) }
     ensures reads { OnlyReads D.Disk disk.old disk.new }
     ensures empty { result ≢ Err (stop.Fault fault.EmptyChain) }
-    ensures outside { IfErr result IsOutside }
+    ensures outside { IfErr result IsOutsideStore }
     ensures writer { OnWriter result (out.new.refused ≡ true) }
 {
     for run in runs {
@@ -206,7 +206,7 @@ fn print_in_space<D: Disk, W: Write>(
         (placed_lines (D.contents disk.old) space (pages_in run.now))) }
     ensures reads { OnlyReads D.Disk disk.old disk.new }
     ensures empty { result ≢ Err (stop.Fault fault.EmptyChain) }
-    ensures outside { IfErr result IsOutside }
+    ensures outside { IfErr result IsOutsideStore }
     ensures writer { OnWriter result (out.new.refused ≡ true) }
 {
     if run.space != space {
@@ -236,7 +236,7 @@ fn print_run<D: Disk, W: Write>(
         (flat_map (placed_text (D.contents disk.old)) (pages_in run.now))) }
     ensures reads { OnlyReads D.Disk disk.old disk.new }
     ensures empty { result ≢ Err (stop.Fault fault.EmptyChain) }
-    ensures outside { IfErr result IsOutside }
+    ensures outside { IfErr result IsOutsideStore }
     ensures writer { OnWriter result (out.new.refused ≡ true) }
 {
     let room = (buffer.len() / PAGE_SIZE) as u64;
@@ -278,7 +278,7 @@ fn print_some<D: Disk, W: Write>(
         (part_of_run (D.contents disk.old) run.now behind count)) }
     ensures reads { OnlyReads D.Disk disk.old disk.new }
     ensures empty { result ≢ Err (stop.Fault fault.EmptyChain) }
-    ensures outside { IfErr result IsOutside }
+    ensures outside { IfErr result IsOutsideStore }
     ensures writer { OnWriter result (out.new.refused ≡ true) }
 {
     read_placed_pages(disk, run.place(behind), buffer)?;

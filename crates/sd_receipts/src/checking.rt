@@ -1,6 +1,6 @@
 //! Checking a journal against what the seats and the worker were told.
 ghost use Rattle.std.specs.Prelude.{◌≡◌, ◌↔◌, ◌+◌, ◌<◌, ℕ, false, length, IsOk, IsTrue, IfErr, OnOk, MatchOption};
-ghost use Rattle.sd_journal.specs.Receipts.{Accounts, AllStand, AreRising, IsAt, IsFault, IsFaultAfter, IsFaultAt};
+ghost use Rattle.sd_journal.specs.Receipts.{Accounts, AllStand, AreRising, IsEntryAt, IsFault, IsFaultAfter, IsFaultAt};
 ghost use Rattle.sd_journal.specs.Receipts.{Stands, acked_numbers, command_count, is_command};
 ghost use Rattle.sd_journal.specs.declared.entry.Entry.{Entry as Told};
 ghost use Rattle.sd_receipts.specs.Noted.{AreNoted, Rises};
@@ -99,8 +99,8 @@ fn check_one(
 
 /// The entry with a number.
 fn entry_at(first: u64, entries: &[Entry], number: u64) -> Option<&Entry>
-    ensures { MatchOption result ((entry : _) → IsAt first entries.now number entry → ⊥)
-        (λ entry. IsAt first entries.now number entry.now) }
+    ensures { MatchOption result ((entry : _) → IsEntryAt first entries.now number entry → ⊥)
+        (λ entry. IsEntryAt first entries.now number entry.now) }
 {
     if number < first {
         return None;

@@ -7,7 +7,7 @@ use Rattle.sd_relay.specs.declared.hand.Hand.{Hand}
 use Rattle.sd_relay.specs.declared.message.Message.{Message}
 use Rattle.sd_relay.specs.Hands.{all_parts, hand, ticket_of, tickets, after_put, after_taking}
 use Rattle.sd_relay.specs.Relays.{Fits, Relays, IsSettled}
-use Rattle.sd_relay.specs.Tickets.{Rises, times}
+use Rattle.sd_relay.specs.Tickets.{TicketsRise, times}
 use Rattle.sd_relay.proofs.TicketLemmas.{times_append, tickets_append}
 use Rattle.sd_relay.proofs.TotalLemmas.{at_set, at_snoc, total_set, total_snoc, total_alone}
 
@@ -36,7 +36,7 @@ begins = record {
 }
 
 -- a message joins the queue, of the pass that puts: its ticket, if it has one, is above all
-pub puts : (n pass : ℕ) (v : Hand) (message : Message) → v.puts ≡ true → (Rises v.put → Rises (v.put ++ ticket_of message))
+pub puts : (n pass : ℕ) (v : Hand) (message : Message) → v.puts ≡ true → (TicketsRise v.put → TicketsRise (v.put ++ ticket_of message))
     → Pushes Relays n pass v message (λ w. w ≡ after_put v message)
 puts n pass v message may rising messages views room rule at =
     let w : Hand = after_put v message in
@@ -50,7 +50,7 @@ puts n pass v message may rising messages views room rule at =
         taken = rule.taken;
         left = ap (λ l. l ++ ticket_of message) rule.left ∙ append_assoc rule.taken (tickets messages) (ticket_of message)
             ∙ ap (λ l. rule.taken ++ l) (sym (tickets_append messages (message ∷ []) ∙ ap (λ l. tickets messages ++ l) (append-nil (ticket_of message))));
-        rises = subst (λ l. Rises (l ++ ticket_of message)) same (rising (subst Rises (sym same) rule.rises));
+        rises = subst (λ l. TicketsRise (l ++ ticket_of message)) same (rising (subst TicketsRise (sym same) rule.rises));
         fits = fit_set (Fits rule.front put) views pass w
             ((λ _. ((mine.0 may).0, ap (λ l. l ++ ticket_of message) same)), (λ p. absurd (true≢false (sym may ∙ p))), mine.2)
             (λ j u other e. let theirs = rule.fits j u e in ((λ p. absurd (other ((theirs.0 p).0 ∙ sym (mine.0 may).0))), theirs.1, theirs.2));
@@ -141,7 +141,7 @@ pub learns : (pass : ℕ) (v : Hand) → v.parts ≡ all_parts → v.puts ≡ tr
 learns pass v whole may messages views rule at =
     let mine = rule.fits pass v at in
     let same : v.put ≡ rule.put = (mine.0 may).1 in (
-      subst Rises (sym same) rule.rises,
+      subst TicketsRise (sym same) rule.rises,
       λ t.
           let alone = total_alone (λ u. times t u.taken) views pass v (λ j u e none. ap (λ l. times t l) ((rule.fits j u e).2 none)) at (rule.parts ∙ sym whole) in
           let s = rule.shared t in

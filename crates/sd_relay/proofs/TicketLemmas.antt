@@ -5,10 +5,10 @@ use Rattle.std.proofs.lemmas.Option.{none-some, same_Some}
 use Rattle.std.proofs.lemmas.List.Elements.{All-nil, All-head, All-tail, All-push, All-weaker}
 use Rattle.sd_relay.specs.declared.message.Message.{Message}
 use Rattle.sd_relay.specs.Hands.{ticket_of, tickets}
-use Rattle.sd_relay.specs.Tickets.{IsLast, Rises, times}
+use Rattle.sd_relay.specs.Tickets.{IsLast, TicketsRise, times}
 
 -- what rises still does with a greater one behind it
-pub rises_more : (xs : List ℕ) (t : ℕ) → Rises xs → All (λ x. x < t) xs → Rises (xs ++ t ∷ [])
+pub rises_more : (xs : List ℕ) (t : ℕ) → TicketsRise xs → All (λ x. x < t) xs → TicketsRise (xs ++ t ∷ [])
 rises_more [] t rises below = (All-nil (λ y. t < y), tt)
 rises_more (x ∷ xs) t rises below =
     (All-push (λ y. x < y) xs t rises.0 (All-head (λ y. y < t) x xs below), rises_more xs t rises.1 (All-tail (λ y. y < t) x xs below))

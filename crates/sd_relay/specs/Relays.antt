@@ -5,12 +5,12 @@ use lib.ListN.{get_elem?}
 use Rattle.sd_relay.specs.declared.hand.Hand.{Hand}
 use Rattle.sd_relay.specs.declared.message.Message.{Message}
 use Rattle.sd_relay.specs.Hands.{all_parts, tickets}
-use Rattle.sd_relay.specs.Tickets.{Rises, times}
+use Rattle.sd_relay.specs.Tickets.{TicketsRise, times}
 
 -- f of each view, added up
-abbrev pub total : (Hand → ℕ) → List Hand → ℕ
-total f [] = 0
-total f (v ∷ views) = f v + total f views
+abbrev pub total_of_hands : (Hand → ℕ) → List Hand → ℕ
+total_of_hands f [] = 0
+total_of_hands f (v ∷ views) = f v + total_of_hands f views
 
 -- only the pass with the number `front` puts, and it put these tickets; a pass with no part took nothing
 abbrev pub Fits : ℕ → List ℕ → ℕ → Hand → Type 0
@@ -27,13 +27,13 @@ pub record Relays (messages : List Message) (views : List Hand) : Type 0 where
   pub taken : List ℕ
   -- the queue holds what was put and not yet taken
   pub left : put ≡ taken ++ tickets messages
-  pub rises : Rises put
+  pub rises : TicketsRise put
   pub fits : (pass : ℕ) (v : Hand) → get_elem? views pass ≡ some v → Fits front put pass v
   -- each ticket was taken by the passes as often as from the queue
-  pub shared : (t : ℕ) → total (λ v. times t v.taken) views ≡ times t taken
+  pub shared : (t : ℕ) → total_of_hands (λ v. times t v.taken) views ≡ times t taken
   -- no part is lost
-  pub parts : total (λ v. v.parts) views ≡ all_parts
+  pub parts : total_of_hands (λ v. v.parts) views ≡ all_parts
 
 -- what was put rises, and each ticket that was put was taken or is left, as often as it was put
 abbrev pub IsSettled : List ℕ → List ℕ → List ℕ → Type 0
-IsSettled put taken left = Rises put × ((t : ℕ) → times t put ≡ times t taken + times t left)
+IsSettled put taken left = TicketsRise put × ((t : ℕ) → times t put ≡ times t taken + times t left)

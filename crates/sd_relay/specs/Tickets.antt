@@ -3,9 +3,9 @@ use Rattle.std.specs.Prelude.{◌≡◌, ℕ, ◌+◌, ◌<◌, ◌≤◌, ◌==
 use Rattle.std.specs.List.{All}
 
 -- each number is below all that stand behind it
-abbrev pub Rises : List ℕ → Type 0
-Rises [] = ⊤
-Rises (x ∷ xs) = All (λ y. x < y) xs × Rises xs
+abbrev pub TicketsRise : List ℕ → Type 0
+TicketsRise [] = ⊤
+TicketsRise (x ∷ xs) = All (λ y. x < y) xs × TicketsRise xs
 
 -- how often t stands in the list
 abbrev pub times : ℕ → List ℕ → ℕ

@@ -17,7 +17,7 @@ use Rattle.sd_pagetable.specs.Contents.{Contents, IsSound, page_at, plain_of}
 use Rattle.sd_pagetable.specs.Law.{PlainLaw}
 use Rattle.sd_pagetable.specs.Order.{IsNextPage, is_above}
 use Rattle.sd_pagetable.specs.Tracking.{is_page}
-use Rattle.sd_rounds.specs.Left.{mapped_pages, pages_ahead, pages_in}
+use Rattle.sd_rounds.specs.Left.{mapped_places, pages_ahead, space_places}
 use Rattle.sd_rounds.specs.Pass.{Place}
 use Rattle.sd_rounds.proofs.RoundLemmas.{alive_at}
 use Rattle.sd_rounds.proofs.Orders.{above_more, page_is, page_here}
@@ -208,9 +208,9 @@ none_below k b (e ∷ es) l h =
     apart a b l = grind (arith, nat_tests)
 
 abbrev pages_of_spaces : List (ℕ × Space) → List Place
-pages_of_spaces es = flat_map pages_in es
+pages_of_spaces es = flat_map space_places es
 
-in_entries : (s : Space) (space : ℕ) → pages_in (space, s) ≡ listed_in space (finmap.entries s)
+in_entries : (s : Space) (space : ℕ) → space_places (space, s) ≡ listed_in space (finmap.entries s)
 in_entries s space = refl
 
 behind_spaces : (above : ℕ) (es : List (ℕ × Space)) → below_all nat_cmp above es ≡ true → is_sorted nat_cmp es ≡ true → AllByRecursion (IsBehind above) (pages_of_spaces es)
@@ -227,15 +227,15 @@ rising_spaces (e ∷ es) sorted =
     let s = and_parts _ _ sorted in
     rising_in e.0 (finmap.entries e.1) (pages_of_spaces es) (of_T _ (entries_sorted e.1)) (behind_spaces e.0 es s.0 s.1) (rising_spaces es s.1)
 
-rising : (memory : PlainMemory) → Rising (mapped_pages memory)
-unfolding mapped_pages
+rising : (memory : PlainMemory) → Rising (mapped_places memory)
+unfolding mapped_places
 rising memory = rising_spaces (finmap.entries memory) (of_T _ (entries_sorted memory))
 
 has_spaces : (es : List (ℕ × Space)) (at : Place) → is_sorted nat_cmp es ≡ true → has at (pages_of_spaces es) ≡ is_some (finmap.get (unwrap_or (find nat_cmp at.0 es) finmap.empty) at.1)
 has_spaces [] at sorted = ap is_some (sym (finmap.get-empty nat_cmp at.1))
 has_spaces (e ∷ es) at sorted =
     let s = and_parts _ _ sorted in
-    list_any-append (λ q. is_page q.0 q.1 at.0 at.1) (pages_in e) (pages_of_spaces es)
+    list_any-append (λ q. is_page q.0 q.1 at.0 at.1) (space_places e) (pages_of_spaces es)
     ∙ ap (λ b. b || has at (pages_of_spaces es)) (has_in e.0 (finmap.entries e.1) at)
     ∙ ap (λ b. (nat_eq e.0 at.0 && is_some (find nat_cmp at.1 (finmap.entries e.1))) || b) (has_spaces es at s.1)
     ∙ ap (λ b. (b && is_some (find nat_cmp at.1 (finmap.entries e.1))) || is_some (finmap.get (unwrap_or (find nat_cmp at.0 es) finmap.empty) at.1)) (same_test at.0 e.0)
@@ -256,8 +256,8 @@ has_spaces (e ∷ es) at sorted =
         ∙ ap is_some (sym (get-entries e.1 at.1))
     by false is below = refl
 
-has_mapped : (memory : PlainMemory) (at : Place) → has at (mapped_pages memory) ≡ is_some (value_at memory at.0 at.1)
-unfolding mapped_pages
+has_mapped : (memory : PlainMemory) (at : Place) → has at (mapped_places memory) ≡ is_some (value_at memory at.0 at.1)
+unfolding mapped_places
 has_mapped memory at =
     has_spaces (finmap.entries memory) at (of_T _ (entries_sorted memory))
     ∙ ap (λ o. is_some (finmap.get (unwrap_or o finmap.empty) at.1)) (sym (get-entries memory at.0))
@@ -268,7 +268,7 @@ some_plain : (o : Option PageState) → is_some (option_map plain_page o) ≡ is
 some_plain None = refl
 some_plain (Some page) = refl
 
-has_page : PlainLaw → (contents : Contents) (at : Place) → has at (mapped_pages (plain_of contents)) ≡ is_some (page_at contents at.0 at.1)
+has_page : PlainLaw → (contents : Contents) (at : Place) → has at (mapped_places (plain_of contents)) ≡ is_some (page_at contents at.0 at.1)
 has_page law contents at = has_mapped (plain_of contents) at ∙ ap is_some (law.pages contents at.0 at.1) ∙ some_plain (page_at contents at.0 at.1)
 
 -- the next page is one of those ahead
@@ -276,13 +276,13 @@ pub next_ahead : PlainLaw → (contents : Contents) (after : Option Place) (at :
     → pages_ahead after (plain_of contents) ≡ pages_ahead (Some at) (plain_of contents) + 1
 unfolding pages_ahead
 next_ahead law contents after at next =
-    next_counts after at (mapped_pages (plain_of contents)) (rising (plain_of contents)) (has_page law contents at ∙ next.0) next.1
+    next_counts after at (mapped_places (plain_of contents)) (rising (plain_of contents)) (has_page law contents at ∙ next.0) next.1
     (λ q there ahead. next.2 q.0 q.1 (sym (has_page law contents q) ∙ there) ahead)
 
 pub none_ahead : PlainLaw → (contents : Contents) (after : Option Place) → IsNextPage contents.spaces after None → pages_ahead after (plain_of contents) ≡ 0
 unfolding pages_ahead
 none_ahead law contents after none =
-    none_counts after (mapped_pages (plain_of contents)) (λ q there. none q.0 q.1 (sym (has_page law contents q) ∙ there))
+    none_counts after (mapped_places (plain_of contents)) (λ q there. none q.0 q.1 (sym (has_page law contents q) ∙ there))
 
 -- ---- how many there are at most
 
@@ -310,8 +310,8 @@ few_places (at ∷ places) rising all = omega (arith, few_after at places all.0 
 pub few_ahead : PlainLaw → (contents : Contents) → IsSound contents → (after : Option Place) → pages_ahead after (plain_of contents) ≤ 2 ^ 40
 unfolding pages_ahead
 few_ahead law contents sound after =
-    let most = few_places (mapped_pages (plain_of contents)) (rising (plain_of contents)) (all_if_has InSpaces (mapped_pages (plain_of contents)) (λ at there. within at (page_at contents at.0 at.1) refl (sym (has_page law contents at) ∙ there))) in
-    let some = few_counted after (mapped_pages (plain_of contents)) in
+    let most = few_places (mapped_places (plain_of contents)) (rising (plain_of contents)) (all_if_has InSpaces (mapped_places (plain_of contents)) (λ at there. within at (page_at contents at.0 at.1) refl (sym (has_page law contents at) ∙ there))) in
+    let some = few_counted after (mapped_places (plain_of contents)) in
     omega (arith, most, some)
   where
     living : (at : Place) (page : PageState) → page_at contents at.0 at.1 ≡ Some page → at.0 ≤ 16

@@ -17,7 +17,7 @@ use Rattle.sd_pagetable.specs.Tracking.{is_page}
 use Rattle.sd_rounds.specs.Pass.{Place, ImageEntry}
 use Rattle.sd_rounds.specs.Made.{entries_listed, run_entries}
 use Rattle.sd_rounds.specs.Rises.{kind_at}
-use Rattle.sd_rounds.specs.SpaceTables.{IsSpaceOf, Rise, runs_in}
+use Rattle.sd_rounds.specs.SpaceTables.{IsSpaceOf, Rise, space_runs}
 use Rattle.sd_rounds.specs.Tables.{AreTables}
 use Rattle.sd_rounds.proofs.RisingNumbers.{Between, between_append, between_low, has, has_append, has_pages, pages_between, same_members}
 
@@ -77,16 +77,16 @@ none_above parent before (t ∷ source) at are low =
 
 -- the pages of a space that have entries are those of its runs
 pub runs_have_entries : (parent before : ℕ) (source : List Listed) (space page : ℕ) → AreTables parent before source
-    → is_some (kind_at (entries_listed source) (space, page)) ≡ has page (flat_map run_pages (runs_in source space))
+    → is_some (kind_at (entries_listed source) (space, page)) ≡ has page (flat_map run_pages (space_runs source space))
 runs_have_entries parent before [] space page are = refl
 runs_have_entries parent before (t ∷ source) space page are =
     kind_append (flat_map (run_entries t.space) t.runs) (entries_listed source) (space, page)
     ∙ ap (λ b. b || is_some (kind_at (entries_listed source) (space, page))) (runs_have t.space t.runs (space, page))
     ∙ by (runs_have_entries parent t.space source space page are.1) (nat_eq t.space space) refl
   where
-    by : is_some (kind_at (entries_listed source) (space, page)) ≡ has page (flat_map run_pages (runs_in source space))
+    by : is_some (kind_at (entries_listed source) (space, page)) ≡ has page (flat_map run_pages (space_runs source space))
         → (b : Bool) → nat_eq t.space space ≡ b → ((b && has page (flat_map run_pages t.runs)) || is_some (kind_at (entries_listed source) (space, page)))
-        ≡ has page (flat_map run_pages (if b then t.runs else runs_in source space))
+        ≡ has page (flat_map run_pages (if b then t.runs else space_runs source space))
     by tail true e =
         ap (λ b. has page (flat_map run_pages t.runs) || b) (none_above parent t.space source (space, page) are.1 (let f : t.space ≡ space = eqb-true t.space space e in omega arith))
         ∙ or_false (has page (flat_map run_pages t.runs))
@@ -140,11 +140,11 @@ runs_rise parent before (run ∷ runs) are low =
     (between_append run.first (run.first + run.count) (2 ^ 35) (run_pages run) (flat_map run_pages runs) (pages_between run.first run.count)
     (runs_rise parent (Some run) runs are.1 own.1))
 
-pub runs_of_space : (parent before : ℕ) (source : List Listed) (space : ℕ) → AreTables parent before source → AreRuns parent None (runs_in source space)
+pub runs_of_space : (parent before : ℕ) (source : List Listed) (space : ℕ) → AreTables parent before source → AreRuns parent None (space_runs source space)
 runs_of_space parent before [] space are = tt
 runs_of_space parent before (t ∷ source) space are = by (runs_of_space parent t.space source space are.1) (nat_eq t.space space)
   where
-    by : AreRuns parent None (runs_in source space) → (b : Bool) → AreRuns parent None (if b then t.runs else runs_in source space)
+    by : AreRuns parent None (space_runs source space) → (b : Bool) → AreRuns parent None (if b then t.runs else space_runs source space)
     by tail true = are.0.runs
     by tail false = tail
 
@@ -175,20 +175,20 @@ none_rising before space (s ∷ tables) rise low =
     ap (λ b. b || list_any (λ (s : Listed). nat_eq s.space space) tables) (differ space s.space (omega (arith, low, rise.0)))
     ∙ none_rising s.space space tables rise.1 (omega (arith, low, rise.0))
 
-none_in : (parent before space : ℕ) (source : List Listed) → AreTables parent before source → space ≤ before → runs_in source space ≡ []
+none_in : (parent before space : ℕ) (source : List Listed) → AreTables parent before source → space ≤ before → space_runs source space ≡ []
 none_in parent before space [] are low = refl
 none_in parent before space (t ∷ source) are low =
-    ap (λ b. if b then t.runs else runs_in source space) (differ space t.space (omega (arith, low, are.0.above)))
+    ap (λ b. if b then t.runs else space_runs source space) (differ space t.space (omega (arith, low, are.0.above)))
     ∙ none_in parent t.space space source are.1 (omega (arith, low, are.0.above))
 
 abbrev pub HaveRunsOf : List Listed → List Listed → Type 0
-HaveRunsOf source = AllByRecursion (λ (s : Listed). s.runs ≡ runs_in source s.space)
+HaveRunsOf source = AllByRecursion (λ (s : Listed). s.runs ≡ space_runs source s.space)
 
 -- above its first space, tables have the runs of the others
 have_others : (before : ℕ) (t : Listed) (source tables : List Listed) → Rise before tables → t.space ≤ before → HaveRunsOf (t ∷ source) tables → HaveRunsOf source tables
 have_others before t source [] rise low have = tt
 have_others before t source (s ∷ tables) rise low have = (
-  have.0 ∙ ap (λ b. if b then t.runs else runs_in source s.space) (differ_below t.space s.space (omega (arith, low, rise.0))),
+  have.0 ∙ ap (λ b. if b then t.runs else space_runs source s.space) (differ_below t.space s.space (omega (arith, low, rise.0))),
   have_others s.space t source tables rise.1 (omega (arith, low, rise.0)) have.1,
 )
   where
@@ -230,13 +230,13 @@ all_listed parent before (t ∷ source) (s ∷ tables) are rise have among = eli
     lifted : s.space < t.space → AreTables parent s.space (t ∷ source)
     lifted less = (record { above = less; within = are.0.within; no_areas = are.0.no_areas; runs = are.0.runs; some = are.0.some }, are.1)
 
-    none : (space : ℕ) → space < t.space → runs_in (t ∷ source) space ≡ []
-    none space less = ap (λ b. if b then t.runs else runs_in source space) (differ space t.space less) ∙ none_in parent t.space space source are.1 (omega arith)
+    none : (space : ℕ) → space < t.space → space_runs (t ∷ source) space ≡ []
+    none space less = ap (λ b. if b then t.runs else space_runs source space) (differ space t.space less) ∙ none_in parent t.space space source are.1 (omega arith)
 
     same : s.space ≡ t.space → entries_listed tables ≡ entries_listed source → entries_listed (s ∷ tables) ≡ entries_listed (t ∷ source)
     same e tail =
         ap (λ (r : List Run). flat_map (run_entries s.space) r ++ entries_listed tables)
-        (have.0 ∙ ap (λ b. if b then t.runs else runs_in source s.space) (ap (nat_eq t.space) e ∙ same_number t.space))
+        (have.0 ∙ ap (λ b. if b then t.runs else space_runs source s.space) (ap (nat_eq t.space) e ∙ same_number t.space))
         ∙ ap (λ n. flat_map (run_entries n) t.runs ++ entries_listed tables) e
         ∙ ap (λ (l : List ImageEntry). flat_map (run_entries t.space) t.runs ++ l) tail
       where

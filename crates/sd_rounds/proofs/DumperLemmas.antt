@@ -21,11 +21,11 @@ use Rattle.sd_rounds.specs.declared.progress.Progress.TheVariants.{Strange, Fail
 use Rattle.sd_rounds.specs.declared.stage.Stage.{Stage}
 use Rattle.std.specs.declared.alloc.AllocError.{AllocError}
 use Rattle.sd_rounds.specs.declared.stage.Stage.TheVariants.{Format, Freeze, Pass as PassStage, Close}
-use Rattle.sd_rounds.specs.Dumper.{AreRunning, AreCounted, Dumping, Hands, HandsTo, IsHanded, HasCounted, IsCounted, IsItsImage, IsRunning, Running, WorksOn, counted, ends, freezes, image_from, is_frozen_image, is_strange, order_of, running_of}
+use Rattle.sd_rounds.specs.Dumper.{AreRunning, AreCounted, Dumping, Hands, HandsTo, IsHanded, HasCounted, IsCounted, IsItsImage, IsRunning, Running, WorksOn, outcomes_since_freeze, ends, freezes, image_from, is_frozen_image, is_strange, order_of, running_of}
 use Rattle.sd_gate.specs.PlanUse.{outcomes_of}
 use Rattle.sd_rounds.specs.Making.{IsWritten, Making, PlanGoesOn, Steps, closing_outcomes, is_frozen_dump, is_past_freeze, outcomes_left, plan_of, stage_after, stage_behind, with_plan}
 use Rattle.sd_rounds.specs.Pass.{data_pages}
-use Rattle.sd_rounds.specs.PlanSteps.{is_freeze, is_to_freeze}
+use Rattle.sd_rounds.specs.PlanSteps.{is_freeze_next, is_to_freeze}
 use Rattle.sd_rounds.specs.Writes.{writes_out}
 use Rattle.sd_gate.proofs.UseLemmas.{one_plan}
 use Rattle.sd_rounds.proofs.MakingLemmas.{copy_counts, take_counts, visit_counts}
@@ -273,24 +273,24 @@ image_counts since running image e is = subst (AreCounted since) e is.counts
 image_own : (since : ℕ) (running : Running) (image : Making) → running.image ≡ Some image → IsRunning since running → image.order ≡ order_of running image.order.serial image.order.state
 image_own since running image e is = subst (IsItsImage running) e is.own
 
-counted_is : (since : ℕ) (running : Running) (image : Making) → running.image ≡ Some image → counted running since ≡ (if is_frozen_dump image then since + 1 else since)
+counted_is : (since : ℕ) (running : Running) (image : Making) → running.image ≡ Some image → outcomes_since_freeze running since ≡ (if is_frozen_dump image then since + 1 else since)
 counted_is since running image e = ap (λ (o : Option Making). if is_frozen_image o then since + 1 else since) e
 
 -- a checkpoint that goes on
 pub hands_running : (since : ℕ) (old new : Running) (made : Made) (progress : Progress) → IsRunning since old → HandsTo old made progress new
-    → is_strange progress ≡ false → ends progress ≡ false → IsRunning (counted old since) new
+    → is_strange progress ≡ false → ends progress ≡ false → IsRunning (outcomes_since_freeze old since) new
 hands_running since old new made Strange is hands strange ended = absurd (both_ways true strange refl)
 hands_running since old new made HasFailed is hands strange ended = absurd (both_ways true ended refl)
 hands_running since old new made GoesOnWith is hands strange ended =
     let same : hands.next.order ≡ hands.image.order = more_order hands.image hands.next made hands.hands in
-    subst (λ (r : Running). IsRunning (counted old since) r) (sym hands.is) (record {
+    subst (λ (r : Running). IsRunning (outcomes_since_freeze old since) r) (sym hands.is) (record {
       few = is.few;
       own = same ∙ image_own since old hands.image hands.was is ∙ ap (λ (o : ImageOrder). order_of old o.serial o.state) (sym same);
       counts = λ frozen. subst (λ n. IsCounted n hands.next) (sym (counted_is since old hands.image hands.was))
           (more_leaves since hands.image hands.next made hands.hands (image_counts since old hands.image hands.was is) frozen);
     })
 hands_running since old new made (PreDumpOpen opened) is hands strange ended =
-    subst (λ (r : Running). IsRunning (counted old since) r) (sym hands.2) (record {
+    subst (λ (r : Running). IsRunning (outcomes_since_freeze old since) r) (sym hands.2) (record {
       few = more old.opened (length old.pre_dumps) hands.1;
       own = tt;
       counts = tt;
@@ -301,7 +301,7 @@ hands_running since old new made (PreDumpOpen opened) is hands strange ended =
 hands_running since old new made (DumpOpen opened) is hands strange ended = absurd (both_ways true ended refl)
 
 -- the dump is followed by five outcomes and one for each of its data pages
-pub hands_counted : (since : ℕ) (old new : Running) (made : Made) (progress : Progress) → IsRunning since old → HandsTo old made progress new → HasCounted progress (counted old since)
+pub hands_counted : (since : ℕ) (old new : Running) (made : Made) (progress : Progress) → IsRunning since old → HandsTo old made progress new → HasCounted progress (outcomes_since_freeze old since)
 hands_counted since old new made Strange is hands = tt
 hands_counted since old new made HasFailed is hands = tt
 hands_counted since old new made GoesOnWith is hands = tt
@@ -321,7 +321,7 @@ hands_counted since old new made (DumpOpen opened) is hands =
     let all : since + outcomes_left image.stage + writes_out image.writes ≡ data_pages image.pass.entries + closing_outcomes image.stage = w.count in
     let out : writes_out image.writes ≡ 0 = none_count image.writes o.rests in
     let pages : opened.header.pages ≡ data_pages image.pass.entries = o.pages in
-    let now : counted old since ≡ since + 1 = counted_is since old image hands.0.was ∙ ap (λ b. if b then since + 1 else since) frozen in
+    let now : outcomes_since_freeze old since ≡ since + 1 = counted_is since old image hands.0.was ∙ ap (λ b. if b then since + 1 else since) frozen in
     omega arith
 
 -- an outcome that was awaited
@@ -333,21 +333,21 @@ handed old new made (PreDumpOpen opened) strange is = is
 handed old new made (DumpOpen opened) strange is = is
 
 -- a step freezes the memory exactly where the image is behind its format
-freezes_is : (ticket : ℕ) (old new : Making) (before after : Contents) (step : ImageStep) → Steps ticket old before step new after → freezes step ≡ is_freeze old.stage
+freezes_is : (ticket : ℕ) (old new : Making) (before after : Contents) (step : ImageStep) → Steps ticket old before step new after → freezes step ≡ is_freeze_next old.stage
 freezes_is ticket old new before after (Call request) s = sym (has_plan old.stage s.0.plan s.0.was)
   where
-    has_plan : (stage : Stage) (plan : Planned) → plan_of stage ≡ Some plan → is_freeze stage ≡ false
+    has_plan : (stage : Stage) (plan : Planned) → plan_of stage ≡ Some plan → is_freeze_next stage ≡ false
     has_plan (Format p) plan e = refl
     has_plan Freeze plan e = absurd (let f : None ≡ Some plan = e in cc)
     has_plan PassStage plan e = refl
     has_plan (Close p header tables) plan e = refl
-freezes_is ticket old new before after (PageCall lane request) s = sym (ap is_freeze s.0.stage)
-freezes_is ticket old new before after (TableCall request) s = sym (ap is_freeze s.0.stage)
-freezes_is ticket old new before after Frozen s = sym (ap is_freeze s.0.stage)
-freezes_is ticket old new before after (Visited visit) s = sym (ap is_freeze s.passes.0)
-freezes_is ticket old new before after (Copied c) s = sym (ap is_freeze s.0.passes.0)
+freezes_is ticket old new before after (PageCall lane request) s = sym (ap is_freeze_next s.0.stage)
+freezes_is ticket old new before after (TableCall request) s = sym (ap is_freeze_next s.0.stage)
+freezes_is ticket old new before after Frozen s = sym (ap is_freeze_next s.0.stage)
+freezes_is ticket old new before after (Visited visit) s = sym (ap is_freeze_next s.passes.0)
+freezes_is ticket old new before after (Copied c) s = sym (ap is_freeze_next s.0.passes.0)
 
-from_freeze : (running : Running) (serial : ℕ) (state : SlotState) (image : Option Making) → is_freeze (image_from running serial state image).stage ≡ is_to_freeze image
+from_freeze : (running : Running) (serial : ℕ) (state : SlotState) (image : Option Making) → is_freeze_next (image_from running serial state image).stage ≡ is_to_freeze image
 from_freeze running serial state None = refl
 from_freeze running serial state (Some image) = refl
 
@@ -357,7 +357,7 @@ freeze_counts None e = absurd (both_ways false refl e)
 freeze_counts (Some image) e =
     λ frozen. absurd (both_ways (is_past_freeze image.stage) (not_past image.stage e) (and_parts (nat_eq (kind_number image.order.kind) 2) (is_past_freeze image.stage) frozen).1)
   where
-    not_past : (stage : Stage) → is_freeze stage ≡ true → is_past_freeze stage ≡ false
+    not_past : (stage : Stage) → is_freeze_next stage ≡ true → is_past_freeze stage ≡ false
     not_past (Format plan) e = refl
     not_past Freeze e = refl
     not_past PassStage e = absurd (both_ways false refl e)
@@ -387,7 +387,7 @@ worked since now serial state ticket old checkpoint new before after (Err e) are
 pub same_dumping : (a b : Option Running) (m n : ℕ) → a ≡ b → m ≡ n → ◌≡◌ {A = Dumping} (record { running = a; since_freeze = m }) (record { running = b; since_freeze = n })
 same_dumping a b m n e f = ap (λ o. record { running = o; since_freeze = m }) e ∙ ap (λ k. record { running = b; since_freeze = k }) f
 
-pub counted_one : (running : Running) (since old : ℕ) → is_frozen_image running.image ≡ true → since ≡ old → since + 1 ≡ counted running old
+pub counted_one : (running : Running) (since old : ℕ) → is_frozen_image running.image ≡ true → since ≡ old → since + 1 ≡ outcomes_since_freeze running old
 counted_one running since old frozen same = ap (λ n. n + 1) same ∙ sym (ap (λ b. if b then old + 1 else old) frozen)
 
 pub ended : (next : Running) (b : Bool) → b ≡ true → ◌≡◌ {A = Option Running} None (if b then None else Some next)

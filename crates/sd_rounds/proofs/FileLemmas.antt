@@ -27,7 +27,7 @@ use Rattle.sd_rounds.specs.declared.new_image.NewImage.{NewImage}
 use Rattle.sd_rounds.specs.declared.stage.Stage.{Stage}
 use Rattle.sd_rounds.specs.declared.stage.Stage.TheVariants.{Format, Freeze, Pass as PassStage, Close}
 use Rattle.sd_rounds.specs.Dump.{IsDumped, kind_due}
-use Rattle.sd_rounds.specs.Files.{FileLaws, FilesImage, HasAreas, HasAreasIn, IsFiled, IsFiledIn}
+use Rattle.sd_rounds.specs.Files.{FileLaws, FilesImage, HasAreasAtFreeze, HasAreasIn, IsFiled, IsFiledIn}
 use Rattle.sd_rounds.specs.Keeps.{Chain, ChainWithin, Rests, Stored}
 use Rattle.sd_rounds.specs.Made.{HasTheAreas, IsImageOf, MadeLaws, listed_pages}
 use Rattle.sd_rounds.specs.Making.{AreThePages, HandsIn, HasTable, Making, Opens, PlanGoesOn, Steps, TablesEntries, TablesMemory, WritesTable, is_past_freeze, stage_after, stage_behind, with_plan}
@@ -104,10 +104,10 @@ pass_dumped stage cut pages chain pass memory e is = subst (λ (s : Stage). IsDu
 dump : TextIsImage → PlainLaw → MakingLaws → (ticket : ℕ) (cut : Contents) (pages : Pages) (chain : Chain) (old new : Making) (before after : Contents) (request : Asked)
     → Steps ticket old before (TableCall request) new after
     → old.order.kind ≡ Dump → AreItsNumbers old.order → IsRising old.pass → KeepsImage pages chain old before → DumpsImage cut pages chain old before
-    → FilesImage pages new × HasAreas cut new
+    → FilesImage pages new × HasAreasAtFreeze cut new
 dump law plain making ticket cut pages chain old new before after request s kind numbers rising kept dumps = (
   files_new pages old new before request s.0 (filed law pages chain old new before request s.0 (λ e. not_merged (sym kind ∙ e)) numbers kept has.table),
-  subst (λ (m : Making). HasAreas cut m) (sym s.0.is)
+  subst (λ (m : Making). HasAreasAtFreeze cut m) (sym s.0.is)
       (subst (λ m. HasTheAreas m s.0.tables) same has.areas),
 )
   where
@@ -144,10 +144,10 @@ asked_areas PassStage plan cut is = tt
 asked_areas (Close old header tables) plan cut is = is
 
 asks : (ticket : ℕ) (cut : Contents) (pages : Pages) (old new : Making) (before after : Contents) (request : Asked) → Steps ticket old before (Call request) new after
-    → FilesImage pages old × HasAreas cut old → FilesImage pages new × HasAreas cut new
+    → FilesImage pages old × HasAreasAtFreeze cut old → FilesImage pages new × HasAreasAtFreeze cut new
 asks ticket cut pages old new before after request s was = (
   subst (λ (m : Making). FilesImage pages m) (sym s.0.is) (asked_files old.stage s.0.next old.order old.pass pages was.0),
-  subst (λ (m : Making). HasAreas cut m) (sym s.0.is) (asked_areas old.stage s.0.next cut was.1),
+  subst (λ (m : Making). HasAreasAtFreeze cut m) (sym s.0.is) (asked_areas old.stage s.0.next cut was.1),
 )
 
 behind_files : (kind : Kind) (stage : Stage) (order : ImageOrder) (pass : Pass) (pages : Pages) → IsFiledIn (stage_behind kind stage) order pass pages
@@ -167,9 +167,9 @@ behind_areas kind PassStage cut = tt
 behind_areas kind (Close plan header tables) cut = tt
 
 goes_on : (cut : Contents) (pages : Pages) (old new : Making) (made : Made) → PlanGoesOn old made new
-    → FilesImage pages old × HasAreas cut old → FilesImage pages new × HasAreas cut new
+    → FilesImage pages old × HasAreasAtFreeze cut old → FilesImage pages new × HasAreasAtFreeze cut new
 goes_on cut pages old new made h was =
-    subst (λ (m : Making). FilesImage pages m × HasAreas cut m) (sym h.is) (by (plan_after h.plan made).calls)
+    subst (λ (m : Making). FilesImage pages m × HasAreasAtFreeze cut m) (sym h.is) (by (plan_after h.plan made).calls)
   where
     by : (calls : Calls)
         → IsFiledIn (stage_after old.order.kind old.stage (plan_after h.plan made) calls) old.order old.pass pages
@@ -178,9 +178,9 @@ goes_on cut pages old new made h was =
     by (call ∷ calls) = (asked_files old.stage (plan_after h.plan made) old.order old.pass pages was.0, asked_areas old.stage (plan_after h.plan made) cut was.1)
 
 hands : (cut : Contents) (pages : Pages) (old new : Making) (made : Made) → HandsIn old made More new
-    → FilesImage pages old × HasAreas cut old → FilesImage pages new × HasAreas cut new
+    → FilesImage pages old × HasAreasAtFreeze cut old → FilesImage pages new × HasAreasAtFreeze cut new
 hands cut pages old new made (inl g) was = goes_on cut pages old new made g was
-hands cut pages old new made (inr w) was = subst (λ (m : Making). FilesImage pages m × HasAreas cut m) (sym w.is) was
+hands cut pages old new made (inr w) was = subst (λ (m : Making). FilesImage pages m × HasAreasAtFreeze cut m) (sym w.is) was
 
 -- ---- the image is open
 
@@ -205,7 +205,7 @@ opens pages chain old made opened o number files =
     (is, has_entries pages chain old opened number is)
 
 shows : MadeLaws → (cut : Contents) (pages : Pages) (chain : Chain) (old : Making) (made : Made) (opened : NewImage) (memory : Contents) → Opens old made opened → chain.number ≡ old.order.parent
-    → FilesImage pages old → HasAreas cut old → DumpsImage cut pages chain old memory
+    → FilesImage pages old → HasAreasAtFreeze cut old → DumpsImage cut pages chain old memory
     → IsMemory chain.images (image_of opened.header pages opened.table) (plain_of cut)
 shows law cut pages chain old made opened memory o number files areas dumps =
     law.dumps (listed_pages pages) chain cut old.pass (image_of opened.header pages opened.table)

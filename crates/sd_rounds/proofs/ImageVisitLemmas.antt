@@ -20,17 +20,17 @@ use Rattle.sd_rounds.specs.Making.{HandsIn, Making, Opens, Steps, begun_image}
 use Rattle.sd_rounds.specs.MakingLaws.{Pages}
 use Rattle.sd_rounds.specs.Pass.{Pass, Place, visited}
 use Rattle.sd_rounds.specs.Rounds.{Copies, TakesPage, Tests}
-use Rattle.sd_rounds.specs.Visits.{AreMapped, IsPassOf, IsSwept, Visit, VisitLaws, left_pages, taken_pages, visited_page}
+use Rattle.sd_rounds.specs.Visits.{AreStillMapped, IsPassOf, PassSweeps, Visit, VisitLaws, left_pages, taken_pages, visited_page}
 
 -- a pass with its visits
 pub record Was (still : Place → Bool) (visits : List Visit) (pass : Pass) : Type 0 where
   pub is : IsPassOf visits pass
-  pub swept : IsSwept still visits pass
+  pub swept : PassSweeps still visits pass
 
 visited_as : (still : Place → Bool) (visits : List Visit) (image : Making) (pass : Pass) → image.pass ≡ pass → Was still visits pass → IsVisited still visits image
 visited_as still visits image pass e was = record {
   pass = subst (λ (p : Pass). IsPassOf visits p) (sym e) was.is;
-  swept = subst (λ (p : Pass). IsSwept still visits p) (sym e) was.swept;
+  swept = subst (λ (p : Pass). PassSweeps still visits p) (sym e) was.swept;
 }
 
 same_pass : (still : Place → Bool) (visits : List Visit) (old new : Making) → new.pass ≡ old.pass → IsVisited still visits old → IsVisited still visits new
@@ -43,7 +43,7 @@ begins laws still order = record {
 }
 
 pub copies : VisitLaws → (still : Place → Bool) (visits : List Visit) (old new : Pass) (memory : Contents) (c : copied.Copied) → Copies old memory c new
-    → IsPassOf visits old → IsSwept still visits old → Was still visits new
+    → IsPassOf visits old → PassSweeps still visits old → Was still visits new
 copies laws still visits old new memory MoreSectors m is swept =
     subst (λ (p : Pass). Was still visits p) (sym m.is) (record { is = laws.copies visits old m.taking _ m.next.is is; swept = swept })
 copies laws still visits old new memory ZeroPage z is swept =
@@ -52,12 +52,12 @@ copies laws still visits old new memory Gone g is swept =
     subst (λ (p : Pass). Was still visits p) (sym g.is) (record { is = laws.drops visits old is; swept = swept })
 
 pub takes : VisitLaws → (still : Place → Bool) (visits : List Visit) (old new : Pass) (bytes : List ℕ) → TakesPage old bytes new
-    → IsPassOf visits old → IsSwept still visits old → Was still visits new
+    → IsPassOf visits old → PassSweeps still visits old → Was still visits new
 takes laws still visits old new bytes t is swept =
     subst (λ (p : Pass). Was still visits p) (sym t.is) (record { is = laws.enters_data visits old t.taking t.was is; swept = swept })
 
 pub tests : VisitLaws → (still : Place → Bool) (visits : List Visit) (old new : Pass) (before after : Contents) (visit : visit.Visit) → Tests old before visit new after
-    → old.taking ≡ None → AreMapped still before → IsPassOf visits old → IsSwept still visits old
+    → old.taking ≡ None → AreStillMapped still before → IsPassOf visits old → PassSweeps still visits old
     → Was still (visits ++ (record { place = (visit.space, visit.page); soft_dirty = visit.soft_dirty }) ∷ []) new
 tests laws still visits old new before after visit t free mapped is swept =
     subst (λ (p : Pass). Was still (visits ++ (record { place = (visit.space, visit.page); soft_dirty = visit.soft_dirty }) ∷ []) p)
@@ -67,7 +67,7 @@ tests laws still visits old new before after visit t free mapped is swept =
     })
 
 steps : VisitLaws → (still : Place → Bool) (ticket : ℕ) (visits : List Visit) (old new : Making) (before after : Contents) (step : ImageStep) → Steps ticket old before step new after
-    → AreMapped still before → IsVisited still visits old → IsVisited still (visits_after step visits) new
+    → AreStillMapped still before → IsVisited still visits old → IsVisited still (visits_after step visits) new
 steps laws still ticket visits old new before after (Call request) s mapped was = same_pass still visits old new (ap (λ (m : Making). m.pass) s.0.is) was
 steps laws still ticket visits old new before after (PageCall lane request) s mapped was =
     visited_as still visits new new.pass refl (takes laws still visits old.pass new.pass request.bytes s.0.taken was.pass was.swept)
@@ -84,7 +84,7 @@ hands still visits old new made (inl g) was = same_pass still visits old new (ap
 hands still visits old new made (inr w) was = same_pass still visits old new (ap (λ (m : Making). m.pass) w.is) was
 
 all : VisitLaws → (still : Place → Bool) (ticket : ℕ) (visits : List Visit) (old new : Making) (before after : Contents) (request : Asked) → Steps ticket old before (TableCall request) new after
-    → AreMapped still before → IsVisited still visits old → (at : Place) → still at ≡ true → Contains (map visited_page visits) at
+    → AreStillMapped still before → IsVisited still visits old → (at : Place) → still at ≡ true → Contains (map visited_page visits) at
 all laws still ticket visits old new before after request s mapped was at here = laws.swept still visits old.pass before mapped s.0.over was.swept at here
 
 parents : (still : Place → Bool) (pages : Pages) (visits : List Visit) (old : Making) (made : Made) (opened : NewImage) → Opens old made opened

@@ -32,7 +32,7 @@ use Rattle.sd_rounds.specs.Pass.{ImageEntry, Pass, Place, Taking, begun_to_take,
 use Rattle.sd_rounds.specs.Rises.{IsRising, RisesLaws, kind_at}
 use Rattle.sd_rounds.specs.Rounds.{Copies, IsNextSector, TakesPage, Tests}
 use Rattle.sd_rounds.specs.Steps.{StepLaws}
-use Rattle.sd_rounds.specs.Visits.{AreMapped, IsPassOf, IsSwept, Visit, VisitLaws}
+use Rattle.sd_rounds.specs.Visits.{AreStillMapped, IsPassOf, PassSweeps, Visit, VisitLaws}
 use Rattle.sd_rounds.proofs.Clean.{no_some, one_some}
 use Rattle.sd_rounds.proofs.DumpLemmas.{ends_ways, enters_same, other_page, zeros_are_zero}
 use Rattle.sd_rounds.proofs.FileLemmas.{are_the_pages}
@@ -253,10 +253,10 @@ never at = false
 at_pass : (visits : List Visit) (image : Making) (stage : Stage) → image.stage ≡ stage → ListsIn stage image.pass.entries → IsPassOf visits image.pass → TakesVisited visits image
 at_pass visits image stage is lists pass = record { pass = pass; lists = subst (λ (s : Stage). ListsIn s image.pass.entries) (sym is) lists }
 
-none_swept : (visits : List Visit) (pass : Pass) → IsSwept never visits pass
+none_swept : (visits : List Visit) (pass : Pass) → PassSweeps never visits pass
 none_swept visits pass at here passed = absurd (both_ways false refl here)
 
-none_mapped : (memory : Contents) → AreMapped never memory
+none_mapped : (memory : Contents) → AreStillMapped never memory
 none_mapped memory at here = absurd (both_ways false refl here)
 
 visits_step : VisitLaws → (ticket : ℕ) (visits : List Visit) (old new : Making) (before after : Contents) (step : ImageStep) → Steps ticket old before step new after

@@ -6,7 +6,7 @@ use Rattle.sd_image.specs.declared.run.RunKind.TheVariants.{Parent}
 use Rattle.sd_pagetable.specs.Order.{is_above}
 use Rattle.sd_pagetable.specs.Tracking.{is_page}
 use Rattle.sd_rounds.specs.Pass.{Place, ImageEntry, Taking, Pass, has_passed, opened, visited, begun_to_take, left_to_parent, copied_more, dropped, with_entry}
-use Rattle.sd_rounds.specs.Rises.{AreRising, last_of, IsRising, kind_at, RisesLaws}
+use Rattle.sd_rounds.specs.Rises.{EntriesRise, last_of, IsRising, kind_at, RisesLaws}
 use Rattle.sd_rounds.proofs.Clean.{no_some, one_some}
 use Rattle.sd_rounds.proofs.Lists.{put_behind}
 use Rattle.sd_rounds.proofs.Orders.{page_here, apart_page, above_more, ahead_more, above_not_passed, not_passed_above, passed_here}
@@ -17,8 +17,8 @@ last_put : (before : Option Place) (entries : List ImageEntry) (at : Place) (kin
 last_put before [] at kind = refl
 last_put before (entry ∷ entries) at kind = last_put (Some entry.place) entries at kind
 
-rising_put : (before : Option Place) (entries : List ImageEntry) (at : Place) (kind : RunKind) → AreRising before entries
-    → is_above (last_of before entries) at.0 at.1 ≡ true → AreRising before (put_behind entries at kind)
+rising_put : (before : Option Place) (entries : List ImageEntry) (at : Place) (kind : RunKind) → EntriesRise before entries
+    → is_above (last_of before entries) at.0 at.1 ≡ true → EntriesRise before (put_behind entries at kind)
 rising_put before [] at kind rising above = (above, tt)
 rising_put before (entry ∷ entries) at kind rising above = (rising.0, rising_put (Some entry.place) entries at kind rising.1 above)
 
@@ -38,7 +38,7 @@ kind_put_here (entry ∷ entries) at kind none = by (is_page entry.place.0 entry
 
 -- ---- a page above the entries
 
-above_last : (before : Option Place) (entries : List ImageEntry) (at : Place) → AreRising before entries → is_above (last_of before entries) at.0 at.1 ≡ true
+above_last : (before : Option Place) (entries : List ImageEntry) (at : Place) → EntriesRise before entries → is_above (last_of before entries) at.0 at.1 ≡ true
     → is_above before at.0 at.1 ≡ true
 above_last before [] at rising above = above
 above_last before (entry ∷ entries) at rising above = above_more before entry.place at rising.0 (above_last (Some entry.place) entries at rising.1 above)
@@ -48,14 +48,14 @@ pub above_apart : (a b : Place) → is_above (Some a) b.0 b.1 ≡ true → a ≡
 above_apart a b above e =
     both_ways (has_passed (Some a) b) (above_not_passed (Some a) b above) (subst (λ (q : Place). has_passed (Some a) q ≡ true) e (passed_here a))
 
-missing_from : (before : Option Place) (entries : List ImageEntry) (at : Place) → AreRising before entries → is_above (last_of before entries) at.0 at.1 ≡ true
+missing_from : (before : Option Place) (entries : List ImageEntry) (at : Place) → EntriesRise before entries → is_above (last_of before entries) at.0 at.1 ≡ true
     → kind_at entries at ≡ None
 missing_from before [] at rising above = refl
 missing_from before (entry ∷ entries) at rising above =
     ap (λ b. cond b (Some entry.kind) (kind_at entries at)) (apart_page entry.place at (above_apart entry.place at (above_last (Some entry.place) entries at rising.1 above)))
     ∙ missing_from (Some entry.place) entries at rising.1 above
 
-pub missing : (entries : List ImageEntry) (at : Place) → AreRising None entries → is_above (last_of None entries) at.0 at.1 ≡ true → kind_at entries at ≡ None
+pub missing : (entries : List ImageEntry) (at : Place) → EntriesRise None entries → is_above (last_of None entries) at.0 at.1 ≡ true → kind_at entries at ≡ None
 missing = missing_from None
 
 -- ---- the steps
@@ -68,7 +68,7 @@ opens takes_all = record {
 }
 
 -- an entry at the cursor
-put_at_cursor : (pass : Pass) (at : Place) (kind : RunKind) → pass.after ≡ Some at → AreRising None pass.entries → is_above (last_of None pass.entries) at.0 at.1 ≡ true
+put_at_cursor : (pass : Pass) (at : Place) (kind : RunKind) → pass.after ≡ Some at → EntriesRise None pass.entries → is_above (last_of None pass.entries) at.0 at.1 ≡ true
     → IsRising (with_entry pass at kind)
 put_at_cursor pass at kind after rising above = record {
   rises = rising_put None pass.entries at kind rising above;

@@ -8,7 +8,7 @@ use Rattle.sd_pagetable.specs.Contents.{Contents}
 use Rattle.sd_pagetable.specs.Order.{IsNextPage}
 use Rattle.sd_image.proofs.Members.{contains_none}
 use Rattle.sd_rounds.specs.Pass.{Place, ImageEntry, Taking, Pass, pages_by, has_passed, opened, visited, begun_to_take, left_to_parent, copied_more, dropped, with_entry}
-use Rattle.sd_rounds.specs.Visits.{Visit, visited_page, is_taken, taken_pages, left_pages, IsPassOf, IsSwept, AreMapped, VisitLaws}
+use Rattle.sd_rounds.specs.Visits.{Visit, visited_page, is_taken, taken_pages, left_pages, IsPassOf, PassSweeps, AreStillMapped, VisitLaws}
 use Rattle.sd_rounds.proofs.Clean.{no_some, one_some}
 use Rattle.sd_rounds.proofs.Lists.{put_behind, pages_append}
 use Rattle.sd_rounds.proofs.Orders.{passed_next, passed_all}
@@ -141,8 +141,8 @@ cursor pass at soft_dirty = by (pass.takes_all || soft_dirty)
     by true = refl
     by false = refl
 
-sweeps : (still : Place → Bool) (visits : List Visit) (pass : Pass) (memory : Contents) (at : Place) (soft_dirty : Bool) → AreMapped still memory
-    → IsNextPage memory.spaces pass.after (Some at) → IsSwept still visits pass → IsSwept still (with_visit visits at soft_dirty) (visited pass at soft_dirty)
+sweeps : (still : Place → Bool) (visits : List Visit) (pass : Pass) (memory : Contents) (at : Place) (soft_dirty : Bool) → AreStillMapped still memory
+    → IsNextPage memory.spaces pass.after (Some at) → PassSweeps still visits pass → PassSweeps still (with_visit visits at soft_dirty) (visited pass at soft_dirty)
 sweeps still visits pass memory at soft_dirty mapped next was = λ q is passed.
     subst (λ l. Contains l q) (sym (visited_more visits at soft_dirty))
     (elim (passed_next memory.spaces pass.after at q next (mapped q is) (subst (λ (a : Option Place). has_passed a q ≡ true) (cursor pass at soft_dirty) passed)) [
@@ -150,8 +150,8 @@ sweeps still visits pass memory at soft_dirty mapped next was = λ q is passed.
       | inr before ↦ Contains-append_left (map visited_page visits) (at ∷ []) q (was q is before)
     ])
 
-swept : (still : Place → Bool) (visits : List Visit) (pass : Pass) (memory : Contents) → AreMapped still memory → IsNextPage memory.spaces pass.after None
-    → IsSwept still visits pass → (at : Place) → still at ≡ true → Contains (map visited_page visits) at
+swept : (still : Place → Bool) (visits : List Visit) (pass : Pass) (memory : Contents) → AreStillMapped still memory → IsNextPage memory.spaces pass.after None
+    → PassSweeps still visits pass → (at : Place) → still at ≡ true → Contains (map visited_page visits) at
 swept still visits pass memory mapped next was at is = was at is (passed_all memory.spaces pass.after at next (mapped at is))
 
 pub visit_laws : VisitLaws

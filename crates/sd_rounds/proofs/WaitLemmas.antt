@@ -13,7 +13,7 @@ use Rattle.sd_rounds.specs.declared.stage.Stage.TheVariants.{Pass as PassStage}
 use Rattle.sd_rounds.specs.Left.{pages_ahead}
 use Rattle.sd_rounds.specs.Making.{Making, out_of}
 use Rattle.sd_rounds.specs.Pass.{Pass, Place}
-use Rattle.sd_rounds.specs.Waits.{is_over, must_wait}
+use Rattle.sd_rounds.specs.Waits.{is_over, maker_must_wait}
 use Rattle.sd_gate.specs.Lanes.{is_any_out}
 use Rattle.sd_rounds.specs.Writes.{are_all_out, no_writes}
 use Rattle.sd_rounds.proofs.AheadLemmas.{next_ahead, none_ahead}
@@ -47,7 +47,7 @@ not_over pass memory taking = sym (ap (λ b. b && nat_eq (pages_ahead pass.after
 
 -- in the pass
 pub pass_waits : (image : Making) (memory : PlainMemory) (all any over : Bool) → image.stage ≡ PassStage → are_all_out image.writes ≡ all → is_any_out image.writes ≡ any
-    → is_over image.pass memory ≡ over → (all || (any && over)) ≡ must_wait image memory
+    → is_over image.pass memory ≡ over → (all || (any && over)) ≡ maker_must_wait image memory
 pass_waits image memory all any over stage a n o =
     sym (ap (λ (s : Stage). is_some (out_of s) || are_all_out image.writes || (is_any_out image.writes && is_over image.pass memory)) stage
     ∙ ap (λ b. b || (is_any_out image.writes && is_over image.pass memory)) a
@@ -55,7 +55,7 @@ pass_waits image memory all any over stage a n o =
     ∙ ap (λ b. all || (any && b)) o)
 
 -- outside the pass no write is out
-pub plan_waits : (image : Making) (memory : PlainMemory) → are_all_out image.writes ≡ false → is_any_out image.writes ≡ false → is_some (out_of image.stage) ≡ must_wait image memory
+pub plan_waits : (image : Making) (memory : PlainMemory) → are_all_out image.writes ≡ false → is_any_out image.writes ≡ false → is_some (out_of image.stage) ≡ maker_must_wait image memory
 plan_waits image memory a n =
     sym (ap (λ b. is_some (out_of image.stage) || b || (is_any_out image.writes && is_over image.pass memory)) a
     ∙ ap (λ b. is_some (out_of image.stage) || false || (b && is_over image.pass memory)) n
@@ -76,14 +76,14 @@ not_some : (o : Option RequestId) → is_some o ≡ false → o ≡ None
 not_some None e = refl
 not_some (Some id) e = absurd (both_ways true e refl)
 
-pub none_awaited : (image : Making) (memory : PlainMemory) → must_wait image memory ≡ false → out_of image.stage ≡ None
+pub none_awaited : (image : Making) (memory : PlainMemory) → maker_must_wait image memory ≡ false → out_of image.stage ≡ None
 none_awaited image memory e = not_some (out_of image.stage) (or_none (is_some (out_of image.stage)) (are_all_out image.writes) _ e).0
 
-pub has_lane : (image : Making) (memory : PlainMemory) → must_wait image memory ≡ false → are_all_out image.writes ≡ false
+pub has_lane : (image : Making) (memory : PlainMemory) → maker_must_wait image memory ≡ false → are_all_out image.writes ≡ false
 has_lane image memory e = (or_none (is_some (out_of image.stage)) (are_all_out image.writes) _ e).1
 
 -- where the pass is over all writes are done
-pub all_written : PlainLaw → (image : Making) (contents : Contents) → must_wait image (plain_of contents) ≡ false → length image.writes ≡ 8 → image.pass.taking ≡ None
+pub all_written : PlainLaw → (image : Making) (contents : Contents) → maker_must_wait image (plain_of contents) ≡ false → length image.writes ≡ 8 → image.pass.taking ≡ None
     → IsNextPage contents.spaces image.pass.after None → image.writes ≡ no_writes
 all_written law image contents e count free next = no_write image.writes count (by (is_any_out image.writes) refl)
   where

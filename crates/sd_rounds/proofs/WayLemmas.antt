@@ -10,7 +10,7 @@ use Rattle.sd_pagetable.specs.Order.{is_above}
 use Rattle.sd_pagetable.specs.Tracking.{is_page}
 use Rattle.sd_image.proofs.Members.{contains_later, contains_none}
 use Rattle.sd_rounds.specs.Pass.{ImageEntry, Place, has_kind, pages_by, place_of_entry}
-use Rattle.sd_rounds.specs.Rises.{AreRising, kind_at}
+use Rattle.sd_rounds.specs.Rises.{EntriesRise, kind_at}
 use Rattle.sd_rounds.proofs.Clean.{no_some, one_some}
 use Rattle.sd_rounds.proofs.Orders.{above_more, apart_page, page_here, page_is}
 use Rattle.sd_rounds.proofs.RisesLemmas.{above_apart}
@@ -69,13 +69,13 @@ found kind (entry ∷ entries) at e = by (is_page entry.place.0 entry.place.1 at
     by false here e rest = later (rest e) (has_kind kind entry) refl
 
 -- rising entries have no page twice
-not_again : (before at : Place) (entries : List ImageEntry) → AreRising (Some before) entries → ((q : Place) → is_above (Some before) q.0 q.1 ≡ true → q ≡ at → ⊥) → kind_at entries at ≡ None
+not_again : (before at : Place) (entries : List ImageEntry) → EntriesRise (Some before) entries → ((q : Place) → is_above (Some before) q.0 q.1 ≡ true → q ≡ at → ⊥) → kind_at entries at ≡ None
 not_again before at [] rising apart = refl
 not_again before at (entry ∷ entries) rising apart =
     ap (λ b. cond b (Some entry.kind) (kind_at entries at)) (apart_page entry.place at (apart entry.place rising.0))
     ∙ not_again entry.place at entries rising.1 (λ q above. apart q (above_more (Some before) entry.place q rising.0 above))
 
-one_way : (kind : RunKind) (before : Option Place) (entries : List ImageEntry) (at : Place) → AreRising before entries → Contains (pages_by kind entries) at → kind_at entries at ≡ Some kind
+one_way : (kind : RunKind) (before : Option Place) (entries : List ImageEntry) (at : Place) → EntriesRise before entries → Contains (pages_by kind entries) at → kind_at entries at ≡ Some kind
 one_way kind before [] at rising c = absurd (contains_none at c)
 one_way kind before (entry ∷ entries) at rising c = by (has_kind kind entry) refl (one_way kind (Some entry.place) entries at rising.1)
   where
@@ -96,5 +96,5 @@ one_way kind before (entry ∷ entries) at rising c = by (has_kind kind entry) r
     ]
     by false is rest = later (rest (subst (λ (l : List Place). Contains l at) (pages_one kind entry entries false is) c)) (is_page entry.place.0 entry.place.1 at.0 at.1) refl
 
-pub way : (kind : RunKind) (entries : List ImageEntry) (at : Place) → AreRising None entries → Contains (pages_by kind entries) at ↔ kind_at entries at ≡ Some kind
+pub way : (kind : RunKind) (entries : List ImageEntry) (at : Place) → EntriesRise None entries → Contains (pages_by kind entries) at ↔ kind_at entries at ≡ Some kind
 way kind entries at rising = (one_way kind None entries at rising, found kind entries at)

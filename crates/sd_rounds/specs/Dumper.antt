@@ -196,9 +196,9 @@ abbrev pub image_serial : Option Making → Option ℕ
 image_serial None = None
 image_serial (Some image) = Some image.order.serial
 
-abbrev pub serial_of : Option Running → Option ℕ
-serial_of None = None
-serial_of (Some running) = image_serial running.image
+abbrev pub serial_of_running : Option Running → Option ℕ
+serial_of_running None = None
+serial_of_running (Some running) = image_serial running.image
 
 -- ---- Outcomes
 
@@ -249,8 +249,8 @@ is_frozen_image None = false
 is_frozen_image (Some image) = is_frozen_dump image
 
 -- one outcome more, where the memory was frozen
-abbrev pub counted : Running → ℕ → ℕ
-counted running since = if is_frozen_image running.image then since + 1 else since
+abbrev pub outcomes_since_freeze : Running → ℕ → ℕ
+outcomes_since_freeze running since = if is_frozen_image running.image then since + 1 else since
 
 -- an outcome of a request that was out
 pub record IsHanded (old : Dumping) (made : Made) (progress : Progress) (new : Dumping) : Type 0 where
@@ -258,8 +258,11 @@ pub record IsHanded (old : Dumping) (made : Made) (progress : Progress) (new : D
   pub was : old.running ≡ Some running
   pub next : Running
   pub hands : HandsTo running made progress next
-  pub is : new ≡ record
-      { running = if ends progress then None else Some next; since_freeze = counted running old.since_freeze }
+  pub is : new ≡ record {
+    running = if ends progress then None
+        else Some next;
+    since_freeze = outcomes_since_freeze running old.since_freeze;
+  }
 
 pub record IsStrange (old : Dumping) (made : Made) (new : Dumping) : Type 0 where
   pub other : IsOutOfRunning old.running made.request.id → ⊥
@@ -297,9 +300,9 @@ abbrev pub pages_of_image : Option Making → ℕ
 pages_of_image None = 0
 pages_of_image (Some image) = data_pages image.pass.entries
 
-abbrev pub pages_of : Option Running → ℕ
-pages_of None = 0
-pages_of (Some running) = pages_of_image running.image
+abbrev pub pages_of_checkpoint : Option Running → ℕ
+pages_of_checkpoint None = 0
+pages_of_checkpoint (Some running) = pages_of_image running.image
 
 -- the dump of a frozen memory counts the outcomes since the freeze: one for each data page that is written, and five
 -- that close it

@@ -52,8 +52,8 @@ HasAreasIn Freeze cut = Unit {0}
 HasAreasIn PassStage cut = Unit {0}
 HasAreasIn (Close plan header tables) cut = HasTheAreas (plain_of cut) tables
 
-abbrev pub HasAreas : Contents → Making → Type 0
-HasAreas cut image = HasAreasIn image.stage cut
+abbrev pub HasAreasAtFreeze : Contents → Making → Type 0
+HasAreasAtFreeze cut image = HasAreasIn image.stage cut
 
 pub record FileLaws : Type 0 where
   -- the entries of a dump are exactly the mapped pages
@@ -68,7 +68,7 @@ pub record FileLaws : Type 0 where
       (request : Asked) → Steps ticket old before (TableCall request) new after
       → old.order.kind ≡ Dump → AreItsNumbers old.order → IsRising old.pass → KeepsImage pages chain old before
       → DumpsImage cut pages chain old before
-      → FilesImage pages new × HasAreas cut new
+      → FilesImage pages new × HasAreasAtFreeze cut new
   -- the calls that wrote the data pages, and those that write the table and the header, spell that file
   pub fills : (order : ImageOrder) (pass : Pass) (pages : Pages) (header : Header) (tables : List Listed)
       → IsFiled order pass pages header tables
@@ -76,9 +76,9 @@ pub record FileLaws : Type 0 where
   -- it stays so until the image is open
   pub asks : (ticket : ℕ) (cut : Contents) (pages : Pages) (old new : Making) (before after : Contents)
       (request : Asked) → Steps ticket old before (Call request) new after
-      → FilesImage pages old × HasAreas cut old → FilesImage pages new × HasAreas cut new
+      → FilesImage pages old × HasAreasAtFreeze cut old → FilesImage pages new × HasAreasAtFreeze cut new
   pub hands : (cut : Contents) (pages : Pages) (old new : Making) (made : Made) → HandsIn old made More new
-      → FilesImage pages old × HasAreas cut old → FilesImage pages new × HasAreas cut new
+      → FilesImage pages old × HasAreasAtFreeze cut old → FilesImage pages new × HasAreasAtFreeze cut new
   -- the image is open: its file has its entries, and that of a dump shows the memory at the freeze
   pub opens : (pages : Pages) (chain : Chain) (old : Making) (made : Made) (opened : NewImage) → Opens old made opened
       → chain.number ≡ old.order.parent
@@ -87,7 +87,7 @@ pub record FileLaws : Type 0 where
       × IsImageOf (listed_pages pages) chain old.pass.entries (image_of opened.header pages opened.table)
   pub shows : (cut : Contents) (pages : Pages) (chain : Chain) (old : Making) (made : Made) (opened : NewImage)
       (memory : Contents) → Opens old made opened → chain.number ≡ old.order.parent
-      → FilesImage pages old → HasAreas cut old → DumpsImage cut pages chain old memory
+      → FilesImage pages old → HasAreasAtFreeze cut old → DumpsImage cut pages chain old memory
       → IsMemory chain.images (image_of opened.header pages opened.table) (plain_of cut)
   -- the table of a dump has exactly the pages of the memory at the freeze, each in the way that is due
   pub ways : (cut : Contents) (pages : Pages) (chain : Chain) (old : Making) (made : Made) (opened : NewImage)

@@ -14,7 +14,7 @@ use Rattle.sd_rounds.specs.Files.{FilesImage}
 use Rattle.sd_rounds.specs.Making.{HandsIn, Making, Opens, Steps, begun_image}
 use Rattle.sd_rounds.specs.MakingLaws.{Pages}
 use Rattle.sd_rounds.specs.Pass.{Place}
-use Rattle.sd_rounds.specs.Visits.{AreMapped, IsPassOf, IsSwept, Visit, left_pages, taken_pages, visited_page}
+use Rattle.sd_rounds.specs.Visits.{AreStillMapped, IsPassOf, PassSweeps, Visit, left_pages, taken_pages, visited_page}
 
 -- the visits of an image with those of a step
 abbrev pub visits_after : ImageStep → List Visit → List Visit
@@ -30,19 +30,19 @@ visits_after (Copied copied) visits = visits
 -- mapped all the time is visited once the cursor passed it.
 pub record IsVisited (still : Place → Bool) (visits : List Visit) (image : Making) : Type 0 where
   pub pass : IsPassOf visits image.pass
-  pub swept : IsSwept still visits image.pass
+  pub swept : PassSweeps still visits image.pass
 
 pub record ImageVisitLaws : Type 0 where
   pub begins : (still : Place → Bool) (order : ImageOrder) → IsVisited still [] (begun_image order)
   pub steps : (still : Place → Bool) (ticket : ℕ) (visits : List Visit) (old new : Making) (before after : Contents)
       (step : ImageStep) → Steps ticket old before step new after
-      → AreMapped still before → IsVisited still visits old → IsVisited still (visits_after step visits) new
+      → AreStillMapped still before → IsVisited still visits old → IsVisited still (visits_after step visits) new
   pub hands : (still : Place → Bool) (visits : List Visit) (old new : Making) (made : Made) → HandsIn old made More new
       → IsVisited still visits old → IsVisited still visits new
   -- each page that is mapped from the image's start to its table is visited
   pub all : (still : Place → Bool) (ticket : ℕ) (visits : List Visit) (old new : Making) (before after : Contents)
       (request : Asked) → Steps ticket old before (TableCall request) new after
-      → AreMapped still before → IsVisited still visits old → (at : Place) → still at ≡ true
+      → AreStillMapped still before → IsVisited still visits old → (at : Place) → still at ≡ true
       → Contains (map visited_page visits) at
   -- exactly the visited pages that were clean are in the table as the parent's; of an image without a parent none is
   pub parents : (still : Place → Bool) (pages : Pages) (visits : List Visit) (old : Making) (made : Made)

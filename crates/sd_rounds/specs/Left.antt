@@ -18,16 +18,16 @@ use Rattle.sd_rounds.specs.Pass.{Pass, Place, Taking}
 use Rattle.sd_rounds.specs.Writes.{writes_out}
 
 -- the pages of a space
-abbrev pub pages_in : ℕ × Space → List Place
-pages_in e = map (λ page. (e.0, page)) (finmap.keys e.1)
+abbrev pub space_places : ℕ × Space → List Place
+space_places e = map (λ page. (e.0, page)) (finmap.keys e.1)
 
 -- the mapped pages, by space and then by page
-unfoldable pub mapped_pages : PlainMemory → List Place
-mapped_pages memory = flat_map pages_in (finmap.entries memory)
+unfoldable pub mapped_places : PlainMemory → List Place
+mapped_places memory = flat_map space_places (finmap.entries memory)
 
 -- how many pages are mapped ahead of the cursor
 unfoldable pub pages_ahead : Option Place → PlainMemory → ℕ
-pages_ahead after memory = count_by (λ at. is_above after at.0 at.1) (mapped_pages memory)
+pages_ahead after memory = count_by (λ at. is_above after at.0 at.1) (mapped_places memory)
 
 -- a page that is being taken: the sectors that aren't copied yet, the request for its write, and the outcome
 abbrev pub taking_left : Option Taking → ℕ

@@ -217,18 +217,18 @@ pub record WritesTable (old : Making) (memory : Contents) (request : Asked) (new
   pub is : new ≡ record old { stage = Close next header tables }
 
 -- a step of the pass
-abbrev pub Passes : Making → Pass → Making → Type 0
-Passes old pass new = (old.stage ≡ PassStage) × (new ≡ record old { pass = pass })
+abbrev pub StepsPass : Making → Pass → Making → Type 0
+StepsPass old pass new = (old.stage ≡ PassStage) × (new ≡ record old { pass = pass })
 
 pub record Visits (old : Making) (before : Contents) (visit : visit.Visit) (new : Making)
     (after : Contents) : Type 0 where
   pub free : old.pass.taking ≡ None
   pub tests : Tests old.pass before visit new.pass after
-  pub passes : Passes old new.pass new
+  pub passes : StepsPass old new.pass new
 
 pub record CopiesSector (old : Making) (memory : Contents) (copied : copied.Copied) (new : Making) : Type 0 where
   pub copies : Copies old.pass memory copied new.pass
-  pub passes : Passes old new.pass new
+  pub passes : StepsPass old new.pass new
 
 pub record MakerFreezes (old new : Making) : Type 0 where
   pub stage : old.stage ≡ Freeze

@@ -44,15 +44,15 @@ IsTableCallOf P (Visited visit) = ⊥
 IsTableCallOf P (Copied copied) = ⊥
 
 -- the next step freezes the memory
-abbrev pub is_freeze : Stage → Bool
-is_freeze (Format plan) = false
-is_freeze Freeze = true
-is_freeze PassStage = false
-is_freeze (Close plan header tables) = false
+abbrev pub is_freeze_next : Stage → Bool
+is_freeze_next (Format plan) = false
+is_freeze_next Freeze = true
+is_freeze_next PassStage = false
+is_freeze_next (Close plan header tables) = false
 
 abbrev pub is_to_freeze : Option Making → Bool
 is_to_freeze None = false
-is_to_freeze (Some image) = is_freeze image.stage
+is_to_freeze (Some image) = is_freeze_next image.stage
 
 -- a step of the pass, as one of an image
 abbrev pub image_step : PassStep → ImageStep

@@ -7,10 +7,10 @@ use Rattle.sd_rounds.specs.Pass.{Place, ImageEntry, Taking, Pass, has_passed, op
 use Rattle.sd_rounds.specs.Pass.{with_entry}
 
 -- each above the one before
-abbrev pub AreRising : Option Place → List ImageEntry → Type 0
-AreRising before [] = Unit {0}
-AreRising before (entry ∷ entries) =
-    (is_above before entry.place.0 entry.place.1 ≡ true) × AreRising (Some entry.place) entries
+abbrev pub EntriesRise : Option Place → List ImageEntry → Type 0
+EntriesRise before [] = Unit {0}
+EntriesRise before (entry ∷ entries) =
+    (is_above before entry.place.0 entry.place.1 ≡ true) × EntriesRise (Some entry.place) entries
 
 -- the last page that has an entry
 abbrev pub last_of : Option Place → List ImageEntry → Option Place
@@ -20,7 +20,7 @@ last_of before (entry ∷ entries) = last_of (Some entry.place) entries
 -- the entries rise, the cursor is at the last of them or above it, and a page that is being taken is the one at the
 -- cursor
 pub record IsRising (pass : Pass) : Type 0 where
-  pub rises : AreRising None pass.entries
+  pub rises : EntriesRise None pass.entries
   pub ahead : (at : Place) → has_passed pass.after at ≡ false → is_above (last_of None pass.entries) at.0 at.1 ≡ true
   pub taken : (taking : Taking) → pass.taking ≡ Some taking
       → (pass.after ≡ Some taking.place) × (is_above (last_of None pass.entries) taking.place.0 taking.place.1 ≡ true)
@@ -41,5 +41,5 @@ pub record RisesLaws : Type 0 where
   pub enters : (pass : Pass) (taking : Taking) (kind : RunKind) → pass.taking ≡ Some taking → IsRising pass
       → IsRising (with_entry pass taking.place kind)
   -- a page above the entries has none
-  pub missing : (entries : List ImageEntry) (at : Place) → AreRising None entries
+  pub missing : (entries : List ImageEntry) (at : Place) → EntriesRise None entries
       → is_above (last_of None entries) at.0 at.1 ≡ true → kind_at entries at ≡ None

@@ -137,7 +137,7 @@ pub record IsCopied (pass : Pass) : Type 0 where
   pub is : pass.taking ≡ Some taking
   pub whole : length taking.copied ≡ 4096
 
-abbrev pub Stands : Pass → Standing → Type 0
-Stands pass Free = pass.taking ≡ None
-Stands pass Copying = IsCopying pass
-Stands pass Copied = IsCopied pass
+abbrev pub PassStands : Pass → Standing → Type 0
+PassStands pass Free = pass.taking ≡ None
+PassStands pass Copying = IsCopying pass
+PassStands pass Copied = IsCopied pass

@@ -10,9 +10,9 @@ use Rattle.sd_image.specs.Shows.{page_in}
 use Rattle.sd_image.specs.Table.{Listed, mapped_count}
 
 -- the runs of a space
-abbrev pub runs_in : List Listed → ℕ → List Run
-runs_in [] space = []
-runs_in (t ∷ tables) space = if t.space == space then t.runs else runs_in tables space
+abbrev pub space_runs : List Listed → ℕ → List Run
+space_runs [] space = []
+space_runs (t ∷ tables) space = if t.space == space then t.runs else space_runs tables space
 
 -- without areas
 abbrev pub without_areas : Listed → Listed
@@ -24,7 +24,7 @@ pub record IsSpaceOf (memory : PlainMemory) (source : List Listed) (t : Listed) 
   pub few : length t.areas ≤ 1024
   pub maximal : AreMaximal None t.areas
   pub same : (page : ℕ) → prot_in t.areas page ≡ option_map (λ (found : Page). found.prot) (page_in memory t.space page)
-  pub runs : t.runs ≡ runs_in source t.space
+  pub runs : t.runs ≡ space_runs source t.space
 
 -- the spaces rise, above a number
 abbrev pub Rise : ℕ → List Listed → Type 0

@@ -34,13 +34,13 @@ pub record IsPassOf (visits : List Visit) (pass : Pass) : Type 0 where
 
 -- Every page that was mapped all the time since the pass began is visited, as soon as the cursor passed it. `still`
 -- tells which these are.
-abbrev pub IsSwept : (Place → Bool) → List Visit → Pass → Type 0
-IsSwept still visits pass =
+abbrev pub PassSweeps : (Place → Bool) → List Visit → Pass → Type 0
+PassSweeps still visits pass =
     (at : Place) → still at ≡ true → has_passed pass.after at ≡ true → Contains (map visited_page visits) at
 
 -- they are mapped
-abbrev pub AreMapped : (Place → Bool) → Contents → Type 0
-AreMapped still memory = (at : Place) → still at ≡ true → IsSome (page_at memory at.0 at.1)
+abbrev pub AreStillMapped : (Place → Bool) → Contents → Type 0
+AreStillMapped still memory = (at : Place) → still at ≡ true → IsSome (page_at memory at.0 at.1)
 
 pub record VisitLaws : Type 0 where
   pub opens : (takes_all : Bool) → IsPassOf [] (opened takes_all)
@@ -55,9 +55,10 @@ pub record VisitLaws : Type 0 where
   pub enters_zero : (visits : List Visit) (pass : Pass) (taking : Taking) → pass.taking ≡ Some taking
       → IsPassOf visits pass → IsPassOf visits (with_entry pass taking.place Zero)
   pub sweeps : (still : Place → Bool) (visits : List Visit) (pass : Pass) (memory : Contents) (at : Place)
-      (soft_dirty : Bool) → AreMapped still memory
-      → IsNextPage memory.spaces pass.after (Some at) → IsSwept still visits pass
-      → IsSwept still (visits ++ (record { place = at; soft_dirty = soft_dirty }) ∷ []) (visited pass at soft_dirty)
-  pub swept : (still : Place → Bool) (visits : List Visit) (pass : Pass) (memory : Contents) → AreMapped still memory
+      (soft_dirty : Bool) → AreStillMapped still memory
+      → IsNextPage memory.spaces pass.after (Some at) → PassSweeps still visits pass
+      → PassSweeps still (visits ++ (record { place = at; soft_dirty = soft_dirty }) ∷ []) (visited pass at soft_dirty)
+  pub swept : (still : Place → Bool) (visits : List Visit) (pass : Pass) (memory : Contents)
+      → AreStillMapped still memory
       → IsNextPage memory.spaces pass.after None
-      → IsSwept still visits pass → (at : Place) → still at ≡ true → Contains (map visited_page visits) at
+      → PassSweeps still visits pass → (at : Place) → still at ≡ true → Contains (map visited_page visits) at

@@ -13,13 +13,13 @@ abbrev pub is_over : Pass → PlainMemory → Bool
 is_over pass memory = is_none pass.taking && (pages_ahead pass.after memory == 0)
 
 -- that of the plan's call, that of one of eight writes, or those of all writes where the pass is over
-abbrev pub must_wait : Making → PlainMemory → Bool
-must_wait image memory =
+abbrev pub maker_must_wait : Making → PlainMemory → Bool
+maker_must_wait image memory =
     is_some (out_of image.stage) || are_all_out image.writes || (is_any_out image.writes && is_over image.pass memory)
 
 abbrev pub image_must_wait : Option Making → PlainMemory → Bool
 image_must_wait None memory = false
-image_must_wait (Some image) memory = must_wait image memory
+image_must_wait (Some image) memory = maker_must_wait image memory
 
 -- by the checkpoint that runs, if one does
 abbrev pub dumper_must_wait : Option Running → PlainMemory → Bool

@@ -9,7 +9,8 @@ ghost use Rattle.sd_rounds.specs.Room.{MakingWants};
 ghost use Rattle.sd_rounds.specs.Sound.{IsSoundMaking};
 ghost use Rattle.sd_rounds.specs.Waits.{image_must_wait};
 ghost use Rattle.sd_rounds.specs.Dumper.{HandsTo, HasFewPages, IsReserved, WorksOn, after_pre_dump, is_frozen_image};
-ghost use Rattle.sd_rounds.specs.Dumper.{is_last, kind_of, order_of, pages_of_image, running_of, serial_of, slot_of};
+ghost use Rattle.sd_rounds.specs.Dumper.{is_last, kind_of, order_of, pages_of_image, running_of, serial_of_running};
+ghost use Rattle.sd_rounds.specs.Dumper.{slot_of};
 
 use crate::image_maker::ImageMaker;
 use crate::image_order::ImageOrder;
@@ -82,7 +83,7 @@ impl Checkpoint {
 
     /// The serial of the image that is being made.
     pub(crate) fn serial(&self) -> Option<u64>
-        ensures { result ≡ serial_of (Some (running_of self.now)) }
+        ensures { result ≡ serial_of_running (Some (running_of self.now)) }
     {
         let maker = self.maker.as_ref()?;
         Some(maker.serial())

@@ -10,8 +10,9 @@ ghost use Rattle.sd_rounds.specs.Sound.{HasSoundImage};
 ghost use Rattle.sd_rounds.specs.Waits.{dumper_must_wait};
 ghost use Rattle.sd_rounds.specs.PassSteps.{Passes};
 ghost use Rattle.sd_rounds.specs.Dumper.{AreRunning, Dumping, Fills, Hands, HasCounted, Works, begun_checkpoint};
-ghost use Rattle.sd_rounds.specs.Dumper.{dump_slot, ends, idle, is_dumping, is_strange, next_slot, pages_of, parent_of};
-ghost use Rattle.sd_rounds.specs.Dumper.{pre_dump_slots, serial_of};
+ghost use Rattle.sd_rounds.specs.Dumper.{dump_slot, ends, idle, is_dumping, is_strange, next_slot, pages_of_checkpoint};
+ghost use Rattle.sd_rounds.specs.Dumper.{parent_of};
+ghost use Rattle.sd_rounds.specs.Dumper.{pre_dump_slots, serial_of_running};
 
 use crate::checkpoint::Checkpoint;
 use crate::image_step::ImageStep;
@@ -192,7 +193,7 @@ impl Dumper {
 
     /// The serial of the image that is being made.
     pub fn serial(&self) -> Option<u64>
-        ensures { result ≡ serial_of self.now.running }
+        ensures { result ≡ serial_of_running self.now.running }
     {
         match &self.checkpoint {
             Some(checkpoint) => checkpoint.serial(),
@@ -330,7 +331,7 @@ impl Dumper {
 
     /// How many data pages the image that is being made has so far: 0 while none is.
     pub fn pages(&self) -> usize
-        ensures { result ≡ pages_of self.now.running }
+        ensures { result ≡ pages_of_checkpoint self.now.running }
     {
         match &self.checkpoint {
             Some(checkpoint) => checkpoint.pages(),

@@ -12,12 +12,12 @@ ghost use Rattle.sd_gate.specs.PlanUse.{IsAskedBy};
 ghost use Rattle.sd_rounds.specs.Left.{image_left};
 ghost use Rattle.sd_rounds.specs.Making.{Steps, WritesPage, begun_image, header_of, is_frozen_dump};
 ghost use Rattle.sd_rounds.specs.Making.{out_of, stage_behind};
-ghost use Rattle.sd_rounds.specs.PlanSteps.{HasNoPage, IsPageCallOf, image_step, is_freeze};
+ghost use Rattle.sd_rounds.specs.PlanSteps.{HasNoPage, IsPageCallOf, image_step, is_freeze_next};
 ghost use Rattle.sd_rounds.specs.Pass.{data_pages};
 ghost use Rattle.sd_rounds.specs.Room.{ImageWants};
 ghost use Rattle.sd_rounds.specs.Rounds.{IsCopied};
 ghost use Rattle.sd_rounds.specs.Sound.{IsSoundImage};
-ghost use Rattle.sd_rounds.specs.Waits.{must_wait};
+ghost use Rattle.sd_rounds.specs.Waits.{maker_must_wait};
 
 use crate::digests::digest_page;
 use crate::image_order::ImageOrder;
@@ -174,7 +174,7 @@ impl ImageMaker {
         buffers: &mut PageBuffers,
     ) -> Result<ImageStep, AllocError>
         requires none { HasNoPage self.old memory.now }
-        requires rests { must_wait self.old (plain_of memory.now) ≡ false }
+        requires rests { maker_must_wait self.old (plain_of memory.now) ≡ false }
         ensures steps { IfOk result (λ step. Steps ticket self.old memory.now step self.new memory.now) }
         ensures wanted { IsErr result → ImageWants self.old memory.now }
         ensures err { OnErr result (self.new ≡ self.old) }
@@ -195,7 +195,7 @@ impl ImageMaker {
 
     /// Whether an outcome is awaited before the next step.
     pub(crate) fn must_wait(&self, memory: &Memory) -> bool
-        ensures { result ≡ must_wait self.now (plain_of memory.now) }
+        ensures { result ≡ maker_must_wait self.now (plain_of memory.now) }
     {
         match &self.stage {
             Stage::Format(plan) | Stage::Close { plan, .. } => plan.is_waiting(),
@@ -228,7 +228,7 @@ impl ImageMaker {
     /// Whether the next step freezes the memory.
     #[inline(always)]
     pub(crate) fn is_to_freeze(&self) -> bool
-        ensures { result ≡ is_freeze self.now.stage }
+        ensures { result ≡ is_freeze_next self.now.stage }
     {
         matches!(self.stage, Stage::Freeze)
     }

@@ -1,6 +1,6 @@
 //! Room for the data pages of a checkpoint.
 ghost use Rattle.std.specs.Prelude.{◌≡◌, ◌+◌, ◌-◌, ◌<◌, ◌≤◌, IfOk};
-ghost use Rattle.sd_rounds.specs.Buffers.{HasRoom};
+ghost use Rattle.sd_rounds.specs.Buffers.{HasRoomForPage};
 
 use crate::lanes::LANES;
 use sd_areas::PAGE_SIZE;
@@ -48,7 +48,7 @@ impl PageBuffers {
 
     /// One that is spare, with room for a page; or one without room, only where none is spare.
     pub(crate) fn take(&mut self) -> Vec<u8>
-        ensures room { 0 < self.old → HasRoom result }
+        ensures room { 0 < self.old → HasRoomForPage result }
         ensures taken { self.new ≡ self.old - 1 }
     {
         match self.spare.pop() {
@@ -59,7 +59,7 @@ impl PageBuffers {
 
     /// One is spare again, if it has room for a page. There is a place for each that was taken.
     pub(crate) fn give(&mut self, buffer: Vec<u8>)
-        ensures kept { self.old < 9 → HasRoom buffer → self.new ≡ self.old + 1 }
+        ensures kept { self.old < 9 → HasRoomForPage buffer → self.new ≡ self.old + 1 }
         ensures others { self.old ≤ self.new }
     {
         if buffer.capacity() >= PAGE_SIZE {

@@ -12,7 +12,7 @@ ghost use Rattle.sd_rounds.specs.Pass.{Taking, begun_to_take, copied_more, data_
 ghost use Rattle.sd_rounds.specs.Pass.{place_taken, visited, with_entry};
 ghost use Rattle.sd_rounds.specs.Rises.{IsRising};
 ghost use Rattle.sd_rounds.specs.Room.{LeavesNext};
-ghost use Rattle.sd_rounds.specs.Rounds.{Copies, IsCopied, IsCopying, IsOver, Stands, TakesPage, Tests};
+ghost use Rattle.sd_rounds.specs.Rounds.{Copies, IsCopied, IsCopying, IsOver, PassStands, TakesPage, Tests};
 ghost use Rattle.sd_rounds.specs.Rounds.{entry_parent, is_page_of_zeros};
 ghost use Rattle.sd_rounds.specs.Tables.{AreTables, entries_in, listed};
 ghost use Rattle.sd_rounds.specs.Waits.{is_over};
@@ -73,7 +73,7 @@ impl Round {
     /// How far the page is that is being taken.
     #[inline(always)]
     pub fn standing(&self) -> Standing
-        ensures { Stands self.now result }
+        ensures { PassStands self.now result }
     {
         match self.taking {
             None => Standing::Free,

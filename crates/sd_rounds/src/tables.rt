@@ -3,7 +3,7 @@ ghost use Rattle.std.specs.Prelude.{◌≡◌, ◌+◌, ◌≤◌, map, IfOk, On
 ghost use Rattle.sd_image.specs.Table.{listing_of, mapped_count};
 ghost use Rattle.sd_pagetable.specs.Contents.{plain_of};
 ghost use Rattle.sd_pagetable.specs.Law.{pages_below};
-ghost use Rattle.sd_rounds.specs.SpaceTables.{AreAllSpaces, AreSpacesBelow, runs_in, without_areas};
+ghost use Rattle.sd_rounds.specs.SpaceTables.{AreAllSpaces, AreSpacesBelow, space_runs, without_areas};
 ghost use Rattle.sd_rounds.specs.Tables.{listed};
 
 use sd_areas::{SPACE_LIMIT, SpaceId};
@@ -84,7 +84,7 @@ fn push_living(
 
 /// The runs of a space's entries.
 fn runs_in(tables: &[SpaceTable], space: SpaceId) -> &[Run]
-    ensures { result.now ≡ runs_in (listed tables.now) space }
+    ensures { result.now ≡ space_runs (listed tables.now) space }
 {
     for table in tables {
         if table.space.number() == space.number() {

@@ -14,7 +14,7 @@ use Rattle.sd_script.specs.Script.{IfUnfit}
 use Rattle.sd_world.specs.declared.open_fault.OpenFault.{OpenFault}
 use Rattle.sd_world.specs.declared.open_fault.OpenFault.TheVariants as opening
 use Rattle.sd_world.specs.Opens.{IsFaultOf}
-use Rattle.sd_run.specs.Ending.{IsEndOfMerge, IsUnprinted, fault_line, unfit, unopened}
+use Rattle.sd_run.specs.Ending.{IsEndOfMerge, IsUnprinted, script_fault_line, unfit, unopened}
 
 module _ (contents : List (List ℕ)) (before now : ℕ) where
   -- an end that says nothing against the store is no fault of it
@@ -96,9 +96,9 @@ unfit_is_seen why before after refused status (inr e) zero = let one : status �
 -- with status 2 the line that doesn't fit is the one that is blamed
 pub blamed_line : (told : ScriptError) (before after : Option (List ℕ)) (refused : Bool) (status : ℕ) (first : Option ℕ)
     → Exits before after refused (end_text (Err (unfit told))) (end_status (Err (unfit told))) status
-    → IfUnfit {T = Script} (Err told) (λ n. first ≡ Some n) → (number : ℕ) → first ≡ Some number → status ≡ 2 → Appends before after (fault_line number)
+    → IfUnfit {T = Script} (Err told) (λ n. first ≡ Some n) → (number : ℕ) → first ≡ Some number → status ≡ 2 → Appends before after (script_fault_line number)
 blamed_line (error.Line n) before after refused status first (inl e) blamed number is two =
     let same : n ≡ number = cc (sym blamed ∙ is) in
-    subst (λ k. Appends before after (fault_line k)) same e.1
+    subst (λ k. Appends before after (script_fault_line k)) same e.1
 blamed_line error.OutOfMemory before after refused status first (inl e) blamed number is two = let one : status ≡ 1 = e.2 in absurd (omega (arith, one, two))
 blamed_line told before after refused status first (inr e) blamed number is two = let one : status ≡ 1 = e.1 in absurd (omega (arith, one, two))

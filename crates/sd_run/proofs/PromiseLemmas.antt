@@ -20,7 +20,7 @@ use Rattle.sd_world.specs.View.{WorldView}
 use Rattle.sd_world.specs.Jobs.{Drives, IsJob, is_end}
 use Rattle.sd_world.proofs.PointLemmas.{drives_honest, drives_reach}
 use Rattle.sd_run.specs.Lines.{AnswersLine, AnswersLines, script_seat}
-use Rattle.sd_run.specs.Promise.{AreOf, EndsJob, GoesByLine, GoesByLines, IsAnswer, Promise, PromiseSoFar, RunsLine, Starts, Tells, begins_with, worker_of}
+use Rattle.sd_run.specs.Promise.{AreOf, EndsJob, GoesByLine, GoesByLines, IsAnswerToLine, Promise, PromiseSoFar, RunsLine, Starts, Tells, begins_with, worker_of}
 use Rattle.sd_run.specs.Whole.{AreTold, IsPartOfRun, IsWholeRun, RunIsOpened}
 
 module _ {D : Type 0} (g : Ghosts D) (follow : PointsFollow g) where
@@ -31,7 +31,7 @@ module _ {D : Type 0} (g : Ghosts D) (follow : PointsFollow g) where
   -- ---- a line
 
   by_event : (asked : Line) (event : Event) (first last : WorldView D) (reply : Reply) → begins_with asked ≡ event ∷ [] → AreOf (worker_of asked) []
-      → IsAnswer asked (reply ∷ []) (answer.Reply reply) → EndsJob asked (answer.Reply reply) → IsStep g event first reply last → g.is_honest last.disk
+      → IsAnswerToLine asked (reply ∷ []) (answer.Reply reply) → EndsJob asked (answer.Reply reply) → IsStep g event first reply last → g.is_honest last.disk
       → Reaches first last (λ from to. GoesByLine g asked from (answer.Reply reply) to)
   by_event asked event first last reply is none told ends step honest from stands =
       let one = follow event first reply last step honest from stands in (
@@ -48,7 +48,7 @@ module _ {D : Type 0} (g : Ghosts D) (follow : PointsFollow g) where
       )
 
   by_worker : (asked : Line) (worker : Worker) (first last : WorldView D) (before : List Reply) (reply : Reply) → begins_with asked ≡ []
-      → worker_of asked ≡ Some worker → IsAnswer asked (before ++ reply ∷ []) (answer.Reply reply) → EndsJob asked (answer.Reply reply)
+      → worker_of asked ≡ Some worker → IsAnswerToLine asked (before ++ reply ∷ []) (answer.Reply reply) → EndsJob asked (answer.Reply reply)
       → Drives g worker first (before ++ reply ∷ []) last → g.is_honest last.disk
       → Reaches first last (λ from to. GoesByLine g asked from (answer.Reply reply) to)
   by_worker asked worker first last before reply is whose told ends drives honest from stands =
@@ -66,7 +66,7 @@ module _ {D : Type 0} (g : Ghosts D) (follow : PointsFollow g) where
       )
 
   by_job : (asked : Line) (order : Event) (worker : Worker) (first last : WorldView D) (reply : Reply) → begins_with asked ≡ order ∷ []
-      → worker_of asked ≡ Some worker → ((before : List Reply) → IsAnswer asked (before ++ reply ∷ []) (answer.Reply reply))
+      → worker_of asked ≡ Some worker → ((before : List Reply) → IsAnswerToLine asked (before ++ reply ∷ []) (answer.Reply reply))
       → (is_end reply ≡ true → EndsJob asked (answer.Reply reply)) → IsJob g order worker first reply last → g.is_honest last.disk
       → Reaches first last (λ from to. GoesByLine g asked from (answer.Reply reply) to)
   by_job asked order worker first last reply is whose told ends (IsJob.refused ended step) honest from stands =

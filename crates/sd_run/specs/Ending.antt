@@ -35,5 +35,5 @@ IsEndOfMerge (stop.Writer _) = Unit {0}
 IsEndOfMerge _ = ⊥
 
 -- the line that blames a script's line
-abbrev pub fault_line : ℕ → List ℕ
-fault_line number = codes "script line " ++ decimal number ++ 10 ∷ []
+abbrev pub script_fault_line : ℕ → List ℕ
+script_fault_line number = codes "script line " ++ decimal number ++ 10 ∷ []

@@ -59,9 +59,9 @@ AreOf None events = events ≡ []
 AreOf (Some worker) events = AllByRecursion (λ event. (event ≡ Work worker) ⊎ (event ≡ Perform worker)) events
 
 -- the answer is the last reply; a line that asks for words makes no event
-abbrev pub IsAnswer : Line → List Reply → Answer → Type 0
-IsAnswer (line.Words space address count) replies given = Unit {0}
-IsAnswer _ replies given =
+abbrev pub IsAnswerToLine : Line → List Reply → Answer → Type 0
+IsAnswerToLine (line.Words space address count) replies given = Unit {0}
+IsAnswerToLine _ replies given =
     (before : List Reply) × (last : Reply) × (replies ≡ before ++ last ∷ []) × (given ≡ answer.Reply last)
 
 -- that of a whole job ends it, or is a refusal
@@ -81,7 +81,7 @@ pub record GoesByLine {D : Type 0} (g : Ghosts D) (asked : Line) (first : Point 
   pub replies : List Reply
   pub goes : Goes g first (begins_with asked ++ others) replies last
   pub others_are : AreOf (worker_of asked) others
-  pub answer : IsAnswer asked replies given
+  pub answer : IsAnswerToLine asked replies given
   pub ends : EndsJob asked given
 
 -- by lines, one after the other, each with its answer

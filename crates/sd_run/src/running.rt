@@ -5,7 +5,7 @@ ghost use Rattle.sd_exit.specs.Ending.{OnWriter};
 ghost use Rattle.sd_script.specs.Script.{first_unfit_line, requests_of};
 ghost use Rattle.sd_script.specs.declared.line.Line.TheVariants as asked;
 ghost use Rattle.sd_world.specs.Opens.{IsFaultOf};
-ghost use Rattle.sd_run.specs.Ending.{fault_line, unopened};
+ghost use Rattle.sd_run.specs.Ending.{script_fault_line, unopened};
 ghost use Rattle.sd_run.specs.Promise.{Promise, PromiseAnyway, PromiseToExit};
 ghost use Rattle.sd_run.specs.Whole.{IsLeftByRun, IsWholeRun};
 
@@ -38,7 +38,7 @@ pub fn run_script<D: Disk, W: Write>(
     ensures refused { IsSome (first_unfit_line script.now) → result.1 ≢ 0 }
     // With status 2 the first such line is blamed, and nothing else printed.
     ensures blamed { (number : ℕ) → first_unfit_line script.now ≡ Some number → result.1 ≡ 2
-        → Appends (W.contents out.old.writer) (W.contents out.new.writer) (fault_line number) }
+        → Appends (W.contents out.old.writer) (W.contents out.new.writer) (script_fault_line number) }
 
     // Status 0: the store was opened again, and the lines were answered, in order, each by its own events, and what was
     // printed is their answers. Whatever moment of it a crash comes, the journal of that moment allows what it leaves.

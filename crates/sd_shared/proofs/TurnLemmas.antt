@@ -9,9 +9,9 @@ use Rattle.sd_gate.specs.declared.worker.Worker.{Worker}
 use Rattle.sd_gate.specs.declared.worker.Worker.TheVariants.{Dumper}
 use Rattle.sd_core.specs.declared.taken.Taken.{Taken}
 use Rattle.sd_shared.specs.declared.jobs.Jobs.{Jobs}
-use Rattle.sd_shared.specs.Turns.{counted, job_number, WasHandedIn, IsCalled, IsLastOf, WorkerIsTold, IsToldBy, MakesJob, Orders, RelaysJob, Resumes, ResumesJob, WasRefused}
+use Rattle.sd_shared.specs.Turns.{counted, job_number, WasHandedIn, IsAnsweredCall, IsLastOf, WorkerIsTold, IsToldBy, MakesJob, Orders, RelaysJob, Resumes, ResumesJob, WasRefused}
 
-pub called_of : {D : Type 0} (contents : D → List (List ℕ)) (id own : RequestId) (answer : Reply) → own ≡ id → WasHandedIn own answer → IsCalled contents id answer
+pub called_of : {D : Type 0} (contents : D → List (List ℕ)) (id own : RequestId) (answer : Reply) → own ≡ id → WasHandedIn own answer → IsAnsweredCall contents id answer
 called_of contents id own answer same hands = inr (subst (λ (one : RequestId). WasHandedIn one answer) same hands)
 
 -- why an answer refuses
@@ -20,7 +20,7 @@ why_of (reply.Refused why) = why
 why_of _ = refusal.Device
 
 -- what a writer was answered that refuses is such a refusal
-pub refused_of : {D : Type 0} (contents : D → List (List ℕ)) (id : RequestId) (answer : Reply) → IsCalled contents id answer
+pub refused_of : {D : Type 0} (contents : D → List (List ℕ)) (id : RequestId) (answer : Reply) → IsAnsweredCall contents id answer
     → (why : Refusal) → answer ≡ reply.Refused why → WasRefused why
 refused_of contents id answer (inl other) why is = ∣ inl (ap why_of (sym is ∙ other.0)) ∣₁
 refused_of contents id answer (inr hands) why is = ∣ inr (id, subst (λ (one : Reply). WasHandedIn id one) is hands) ∣₁

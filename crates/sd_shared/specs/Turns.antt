@@ -101,8 +101,8 @@ abbrev pub AwaitsThaw : Thaw → Type 0
 AwaitsThaw ended = (booked : Booked) × (holds_waits booked ≡ false) × (ended ≡ thaw_of booked.core)
 
 -- a command of a seat was made, or was refused without an entry
-abbrev pub Makes : ℕ → Command → Result Receipt Refusal → Type 0
-Makes seat command result = (old : CoreView) × (new : CoreView) × IsApplied seat command (told result) old new
+abbrev pub SeatMakes : ℕ → Command → Result Receipt Refusal → Type 0
+SeatMakes seat command result = (old : CoreView) × (new : CoreView) × IsApplied seat command (told result) old new
 
 -- a command of a seat was made, or was refused without an entry, where whoever waits for the thaw goes on
 abbrev pub MakesThawed : ℕ → Command → Result Receipt Refusal → Type 0
@@ -144,14 +144,14 @@ abbrev pub LacksSlot : {D : Type 0} → (D → List (List ℕ)) → ℕ → Type
 LacksSlot {D} contents slot = (disk : D) × (length (contents disk) ≤ slot)
 
 -- Or its slot isn't one of the disk's, which is answered as a failed device.
-abbrev pub IsCalled : {D : Type 0} → (D → List (List ℕ)) → RequestId → Reply → Type 0
-IsCalled contents id answer =
+abbrev pub IsAnsweredCall : {D : Type 0} → (D → List (List ℕ)) → RequestId → Reply → Type 0
+IsAnsweredCall contents id answer =
     ((answer ≡ reply.Refused refusal.Device) × LacksSlot contents id.slot) ⊎ WasHandedIn id answer
 
 -- what a step that was taken up tells: its answer, or that of the call that it asks for
 abbrev pub IsToldBy : {D : Type 0} → (D → List (List ℕ)) → Taken → Reply → Type 0
 IsToldBy contents (taken.Step own) answer = answer ≡ own
-IsToldBy contents (taken.Call request) answer = IsCalled contents request.id answer
+IsToldBy contents (taken.Call request) answer = IsAnsweredCall contents request.id answer
 
 -- a worker was told so by a step of the job with this number, or of a call that one asked for
 abbrev pub WorkerIsTold : {D : Type 0} → (D → List (List ℕ)) → Worker → ℕ → Reply → Type 0

@@ -24,7 +24,7 @@ pub(crate) struct Crew<'a, R, D: Drop, H> {
 impl<'a, R: Wait, D: Disk + Drop, H: Hold> Crew<'a, R, D, H> {
     ghost use Rattle.sd_gate.specs.declared.worker.Worker.TheVariants as its;
     ghost use Rattle.std.specs.Prelude.{◌≡◌, IfSome};
-    ghost use Rattle.sd_shared.specs.Turns.{IsCalled, Orders, TakesStep, WasRefused, ordered, taken_of};
+    ghost use Rattle.sd_shared.specs.Turns.{IsAnsweredCall, Orders, TakesStep, WasRefused, ordered, taken_of};
 
     /// Writers who have nothing to tell yet.
     pub(crate) fn new(rt: &'a R, shared: &'a Shared<D>, hold: &'a H) -> Self {
@@ -59,7 +59,7 @@ impl<'a, R: Wait, D: Disk + Drop, H: Hold> Crew<'a, R, D, H> {
 
     /// Makes a device call, the hold's with this number, and hands its outcome in.
     pub(crate) fn call(&self, number: u64, request: Request) -> Reply
-        ensures { IsCalled D.contents request.id result }
+        ensures { IsAnsweredCall D.contents request.id result }
     {
         self.shared.call_device(self.rt, self.hold, number, request)
     }
@@ -88,10 +88,10 @@ impl<'a, R: Wait, D: Disk + Drop, H: Hold> Crew<'a, R, D, H> {
 
 impl<R: Wait, D: Disk + Drop, H: Hold> Writer for Crew<'_, R, D, H> {
     ghost use Rattle.sd_command.specs.declared.reply.Reply.{Reply as Told};
-    ghost use Rattle.sd_shared.specs.Turns.{IsCalled};
+    ghost use Rattle.sd_shared.specs.Turns.{IsAnsweredCall};
 
     fn write(&self, errand: Errand)
-        ensures called { (answer : Told) × IsCalled D.contents errand.request.id answer }
+        ensures called { (answer : Told) × IsAnsweredCall D.contents errand.request.id answer }
     {
         let reply = self.call(errand.call, errand.request);
         self.reports.lock(self.rt).take(&reply);

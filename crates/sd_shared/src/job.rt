@@ -21,7 +21,7 @@ pub(crate) struct Job<'a, R, D: Drop, H> {
 
 impl<'a, R: Wait, D: Disk + Drop, H: Hold> Job<'a, R, D, H> {
     ghost use Rattle.std.specs.Prelude.{◌≡◌};
-    ghost use Rattle.sd_shared.specs.Turns.{IsCalled, IsToldBy};
+    ghost use Rattle.sd_shared.specs.Turns.{IsAnsweredCall, IsToldBy};
 
     /// The job of a worker with this number, of which this was answered last.
     pub(crate) fn new(
@@ -50,7 +50,7 @@ impl<'a, R: Wait, D: Disk + Drop, H: Hold> Job<'a, R, D, H> {
     /// Makes a device call, and hands its outcome in.
     fn call(&mut self, request: Request) -> Reply
         ensures same { (self.new.worker ≡ self.old.worker) × (self.new.number ≡ self.old.number) }
-        ensures called { IsCalled D.contents request.id result }
+        ensures called { IsAnsweredCall D.contents request.id result }
     {
         self.calls = self.calls.saturating_add(1);
         self.shared

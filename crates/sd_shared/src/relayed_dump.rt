@@ -3,7 +3,8 @@ ghost use Rattle.std.specs.Prelude.{◌≡◌, ◌⊎◌, true, IfSome};
 ghost use Rattle.sd_gate.specs.declared.worker.Worker.TheVariants as its;
 ghost use Rattle.sd_relay.specs.Fronts.{StaysOnChannel};
 ghost use Rattle.sd_shared.specs.Told.{ends_job};
-ghost use Rattle.sd_shared.specs.Turns.{IsCalled, IsLastOf, IsToldBy, MakesJob, WasRefused, WorkerIsTold, ordered};
+ghost use Rattle.sd_shared.specs.Turns.{IsAnsweredCall, IsLastOf, IsToldBy, MakesJob, WasRefused, WorkerIsTold};
+ghost use Rattle.sd_shared.specs.Turns.{ordered};
 ghost use Rattle.sd_shared.specs.Turns.{taken_of};
 
 use crate::crew::Crew;
@@ -101,7 +102,7 @@ impl<'a, R: Wait, D: Disk + Drop, H: Hold> RelayedDump<'a, R, D, H> {
     fn put(&mut self, front: &mut Front, request: Request) -> Reply
         ensures stays { StaysOnChannel front.old front.new }
         ensures same { (self.new.number ≡ self.old.number) × (self.new.count ≡ self.old.count) }
-        ensures called { ends_job result ≡ true → IsCalled D.contents request.id result }
+        ensures called { ends_job result ≡ true → IsAnsweredCall D.contents request.id result }
     {
         self.calls = self.calls.saturating_add(1);
         let errand = Errand {

@@ -4,7 +4,7 @@ ghost use Rattle.sd_command.specs.declared.refusal.Refusal.TheVariants.{LockBusy
 ghost use Rattle.sd_crash_safety.specs.Calls.{IsUnjournaled};
 ghost use Rattle.sd_gate.specs.declared.worker.Worker.TheVariants as its;
 ghost use Rattle.sd_shared.specs.Told.{IsRefusedAtOnce};
-ghost use Rattle.sd_shared.specs.Turns.{AwaitsThaw, Cancels, IsCalled, LacksSlot, Makes, MakesThawed, Orders};
+ghost use Rattle.sd_shared.specs.Turns.{AwaitsThaw, Cancels, IsAnsweredCall, LacksSlot, MakesThawed, Orders, SeatMakes};
 ghost use Rattle.sd_shared.specs.Turns.{WasHandedIn};
 ghost use Rattle.sd_shared.specs.Turns.{Resumes, TakesStep, TrimsOnce, ordered, taken_of, turned};
 
@@ -65,7 +65,7 @@ impl<D: Disk + Drop> Shared<D> {
     ) -> Result<Receipt, Refusal>
         ensures seat { IfOk result (λ receipt. receipt.seat ≡ seat.old.number) }
         ensures command { IfOk result (λ receipt. receipt.command ≡ command) }
-        ensures turn { Makes seat.old.number command result }
+        ensures turn { SeatMakes seat.old.number command result }
         ensures refuses { IfErr result IsUnjournaled }
         ensures same { seat.new.number ≡ seat.old.number }
         ensures once { seat.new ≡ turned seat.old }
@@ -107,7 +107,7 @@ impl<D: Disk + Drop> Shared<D> {
     pub fn try_call(&self, seat: &mut Seat, command: Command) -> Result<Receipt, Refusal>
         ensures seat { IfOk result (λ receipt. receipt.seat ≡ seat.old.number) }
         ensures command { IfOk result (λ receipt. receipt.command ≡ command) }
-        ensures turn { (result ≡ Err LockBusy) ⊎ Makes seat.old.number command result }
+        ensures turn { (result ≡ Err LockBusy) ⊎ SeatMakes seat.old.number command result }
         ensures refuses { IfErr result IsRefusedAtOnce }
         ensures same { seat.new.number ≡ seat.old.number }
         ensures once { (seat.new ≡ turned seat.old) ⊎ ((seat.new ≡ seat.old) × (result ≡ Err LockBusy)) }
@@ -218,7 +218,7 @@ impl<D: Disk + Drop> Shared<D> {
         number: u64,
         request: Request,
     ) -> Reply
-        ensures called { IsCalled D.contents request.id result }
+        ensures called { IsAnsweredCall D.contents request.id result }
     {
         hold.before(number);
         match self.perform(rt, request) {

@@ -4,13 +4,13 @@ use Rattle.std.proofs.Common.{◌≡◌, ◌-◌, ◌+◌, ◌<◌, ◌≤◌, �
 use Rattle.std.proofs.lemmas.Bool.{cond-false, cond-true, le-leb, lt-leb}
 use Rattle.std.proofs.lemmas.List.{drop_more, length-drop, nil_from_length}
 use Rattle.sd_show.specs.Items.{behind_space, runs_in}
-use Rattle.sd_show.specs.Counts.{run_pages, runs_pages, spaces_pages}
+use Rattle.sd_show.specs.Counts.{run_page_count, runs_pages, spaces_pages}
 
 none_left : (xs : List (List ℕ)) (i : ℕ) → length xs ≤ i → drop i xs ≡ []
 none_left xs i all = nil_from_length (drop i xs) (length-drop i xs ∙ (let e : length xs - i ≡ 0 = omega (arith, all) in e))
 
 pub runs_more : (kind : ℕ) (runs : List (List ℕ)) (i : ℕ) → i < length runs
-    → run_pages kind (get_or runs i []) + runs_pages kind (drop (i + 1) runs) ≡ runs_pages kind (drop i runs)
+    → run_page_count kind (get_or runs i []) + runs_pages kind (drop (i + 1) runs) ≡ runs_pages kind (drop i runs)
 runs_more kind runs i less = sym (ap (runs_pages kind) (drop_more runs i [] less))
 
 pub runs_done : (kind : ℕ) (runs : List (List ℕ)) (i : ℕ) → length runs ≤ i → runs_pages kind (drop i runs) ≡ 0

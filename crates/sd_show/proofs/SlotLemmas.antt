@@ -17,7 +17,7 @@ use Rattle.sd_show.specs.declared.stop.Stop.{Stop}
 use Rattle.sd_show.specs.declared.stop.Stop.TheVariants as stop
 use Rattle.sd_show.specs.declared.state.State.TheVariants.{Raw, Closed, Open}
 use Rattle.sd_show.specs.Slots.{DamagedOrImage, OpenSlotIsRead, bytes_from, is_damaged, or_digest, reason_of, state_by, state_in, table_bytes}
-use Rattle.sd_show.specs.Texts.{opened_text, slot_line, slot_text}
+use Rattle.sd_show.specs.Texts.{opened_text, slot_line, slot_lines}
 
 -- ---- the state
 
@@ -106,12 +106,12 @@ others_named file table h fault other read is stands found differs =
 -- ---- the text
 
 pub text_of_open : (slot : ℕ) (file : List ℕ) (state : State) (opened : Opened) → state ≡ state_in file → is_open file ≡ true → OpenSlotIsRead file opened
-    → slot_line slot state ++ opened_text opened.fault opened.front opened.digest opened.table.items ≡ slot_text slot file
-unfolding slot_text
+    → slot_line slot state ++ opened_text opened.fault opened.front opened.digest opened.table.items ≡ slot_lines slot file
+unfolding slot_lines
 text_of_open slot file state opened at opens is = rw (at, opens, is.fault, is.front, is.digest, is.table) refl
 
-pub text_of_shut : (slot : ℕ) (file : List ℕ) (state : State) → state ≡ state_in file → is_open file ≡ false → slot_line slot state ++ [] ≡ slot_text slot file
-unfolding slot_text
+pub text_of_shut : (slot : ℕ) (file : List ℕ) (state : State) → state ≡ state_in file → is_open file ≡ false → slot_line slot state ++ [] ≡ slot_lines slot file
+unfolding slot_lines
 text_of_shut slot file state at shut = rw (at, shut) refl
 
 -- ---- damage

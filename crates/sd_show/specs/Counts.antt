@@ -4,13 +4,13 @@ use Rattle.sd_image.specs.Reading.{number_at}
 use Rattle.sd_show.specs.Items.{behind_space, runs_in}
 
 -- the pages of a run, if it is of a kind
-abbrev pub run_pages : ℕ → List ℕ → ℕ
-run_pages kind run = if number_at 4 16 run == kind then number_at 8 8 run else 0
+abbrev pub run_page_count : ℕ → List ℕ → ℕ
+run_page_count kind run = if number_at 4 16 run == kind then number_at 8 8 run else 0
 
 -- the pages of the runs of a kind
 abbrev pub runs_pages : ℕ → List (List ℕ) → ℕ
 runs_pages kind [] = 0
-runs_pages kind (run ∷ runs) = run_pages kind run + runs_pages kind runs
+runs_pages kind (run ∷ runs) = run_page_count kind run + runs_pages kind runs
 
 -- and of those of so many spaces, as far as the bytes go
 unfoldable pub spaces_pages : ℕ → ℕ → List ℕ → ℕ

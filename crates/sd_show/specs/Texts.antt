@@ -8,7 +8,7 @@ use Rattle.hex.specs.Hex.{encode_lower}
 use Rattle.sd_areas.specs.Prot.{prot_text}
 use Rattle.sd_image.specs.declared.reason.Reason.{Reason}
 use Rattle.sd_image.specs.Image.{is_open}
-use Rattle.sd_image.specs.Reading.{digest_of_file, number_at, prot_of}
+use Rattle.sd_image.specs.Reading.{digest_of_file, number_at, prot_of_number}
 use Rattle.sd_image.specs.ReasonLaws.{reason_number}
 use Rattle.sd_show.specs.declared.state.State.{State}
 use Rattle.sd_show.specs.Items.{areas_in, behind_run, behind_runs, behind_space, runs_in}
@@ -44,21 +44,21 @@ digest_line front digest =
     codes "digest " ++ (digest_word front digest ++ codes " ") ++ encode_lower (slice_range front 64 96) ++ newline
 
 -- the fields, in the order in which they stand
-unfoldable pub form_text : List ℕ → List ℕ
-form_text front = field_line (codes "version") (number_at 2 8 front) ++ kind_line (number_at 2 10 front)
+unfoldable pub form_lines : List ℕ → List ℕ
+form_lines front = field_line (codes "version") (number_at 2 8 front) ++ kind_line (number_at 2 10 front)
 
-unfoldable pub place_text : List ℕ → List ℕ
-place_text front =
+unfoldable pub place_lines : List ℕ → List ℕ
+place_lines front =
     field_line (codes "serial") (number_at 8 16 front) ++ field_line (codes "stands_for") (number_at 8 24 front)
     ++ field_line (codes "parent") (number_at 8 32 front)
 
-unfoldable pub sizes_text : List ℕ → List ℕ
-sizes_text front =
+unfoldable pub size_lines : List ℕ → List ℕ
+size_lines front =
     field_line (codes "checkpoint") (number_at 8 40 front) ++ field_line (codes "pages") (number_at 8 48 front)
     ++ field_line (codes "table_len") (number_at 8 56 front)
 
-unfoldable pub header_text : List ℕ → List ℕ → List ℕ
-header_text front digest = form_text front ++ place_text front ++ sizes_text front ++ digest_line front digest
+unfoldable pub header_lines : List ℕ → List ℕ → List ℕ
+header_lines front digest = form_lines front ++ place_lines front ++ size_lines front ++ digest_line front digest
 
 -- ---- the table
 
@@ -68,7 +68,7 @@ address_text address = codes "0x" ++ digits 16 false address
 
 -- the letters of permissions, or their number where it is over 7
 unfoldable pub permissions_text : ℕ → List ℕ
-permissions_text number = (if nat_le number 7 then prot_text (prot_of number) else decimal number) ++ newline
+permissions_text number = (if nat_le number 7 then prot_text (prot_of_number number) else decimal number) ++ newline
 
 -- the first address of pages and the first behind them, or their numbers where they go past page 2^35
 unfoldable pub range_text : ℕ → ℕ → List ℕ
@@ -78,8 +78,8 @@ range_text first count = if nat_le (first + count) (2 ^ 35)
     else codes "area page " ++ (decimal first ++ (codes " pages " ++ (decimal count ++ codes " ")))
 
 -- its pages, and its permissions
-unfoldable pub area_line : List ℕ → List ℕ
-area_line area = range_text (number_at 8 0 area) (number_at 8 8 area) ++ permissions_text (number_at 4 16 area)
+unfoldable pub area_item_line : List ℕ → List ℕ
+area_item_line area = range_text (number_at 8 0 area) (number_at 8 8 area) ++ permissions_text (number_at 4 16 area)
 
 abbrev pub run_kind_word : ℕ → List ℕ
 run_kind_word number = if number == 1 then codes "data" else if number == 2 then codes "parent" else codes "zero"
@@ -105,18 +105,18 @@ runs_text at [] = []
 runs_text at (run ∷ runs) = run_line at run ++ runs_text (behind_run at run) runs
 
 -- the space that bytes begin with: its number, its areas and its runs
-unfoldable pub space_text : Option ℕ → List ℕ → List ℕ
-space_text at bytes = field_line (codes "space") (number_at 4 0 bytes) ++ flat_map area_line
+unfoldable pub space_lines : Option ℕ → List ℕ → List ℕ
+space_lines at bytes = field_line (codes "space") (number_at 4 0 bytes) ++ flat_map area_item_line
     (areas_in bytes) ++ runs_text at (runs_in bytes)
 
 -- so many spaces, as far as the bytes go
 unfoldable pub spaces_text : ℕ → Option ℕ → List ℕ → List ℕ
 spaces_text zero at bytes = []
 spaces_text (suc n) at bytes = if nat_lt (length bytes) 16 then []
-    else space_text at bytes ++ spaces_text n (behind_runs at (runs_in bytes)) (behind_space bytes)
+    else space_lines at bytes ++ spaces_text n (behind_runs at (runs_in bytes)) (behind_space bytes)
 
-unfoldable pub table_text : List ℕ → List ℕ
-table_text table = if nat_lt (length table) 8 then [] else spaces_text (number_at 4 0 table) (Some 4096) (drop 8 table)
+unfoldable pub table_lines : List ℕ → List ℕ
+table_lines table = if nat_lt (length table) 8 then [] else spaces_text (number_at 4 0 table) (Some 4096) (drop 8 table)
 
 -- ---- the slot
 
@@ -133,15 +133,15 @@ fault_text (Some reason) =
 
 -- an open slot: why it is damaged, if it is, its header and its table
 unfoldable pub opened_text : Option Reason → List ℕ → List ℕ → List ℕ → List ℕ
-opened_text fault front digest table = fault_text fault ++ header_text front digest ++ table_text table
+opened_text fault front digest table = fault_text fault ++ header_lines front digest ++ table_lines table
 
 -- a slot's file, whatever is in it
-unfoldable pub slot_text : ℕ → List ℕ → List ℕ
-slot_text slot file = slot_line slot (state_in file)
+unfoldable pub slot_lines : ℕ → List ℕ → List ℕ
+slot_lines slot file = slot_line slot (state_in file)
     ++ (if is_open file then opened_text (fault_in file) (slice_range file 0 4096) (digest_of_file file)
     (table_bytes file) else [])
 
 -- slots, rising from one on
 abbrev pub slots_text : ℕ → List (List ℕ) → List ℕ
 slots_text slot [] = []
-slots_text slot (file ∷ files) = slot_text slot file ++ slots_text (slot + 1) files
+slots_text slot (file ∷ files) = slot_lines slot file ++ slots_text (slot + 1) files

@@ -1,7 +1,7 @@
 //! How many pages a table lists, by how its image has them.
 
 ghost use Rattle.std.specs.Prelude.{◌≡◌, ◌^◌, ◌-◌, min};
-ghost use Rattle.sd_show.specs.Counts.{run_pages, runs_pages, spaces_pages, table_pages};
+ghost use Rattle.sd_show.specs.Counts.{run_page_count, runs_pages, spaces_pages, table_pages};
 
 use crate::fields::{u32_at, u64_at};
 use crate::items::{ITEM_SIZE, SPACE_HEAD_SIZE, TABLE_HEAD_SIZE, behind_space, runs_in};
@@ -41,7 +41,7 @@ impl PageCounts {
 
 /// The pages of a run, if it is of this kind.
 fn count_run(kind: u32, run: &[u8; ITEM_SIZE]) -> u64
-    ensures { result ≡ run_pages kind run.now }
+    ensures { result ≡ run_page_count kind run.now }
 {
     if u32_at(run, 16) == kind {
         u64_at(run, 8)

@@ -1,8 +1,8 @@
 //! The lines of a header.
 ghost use Rattle.std.specs.Prelude.{◌≡◌, ◌⊎◌, ◌<◌, ◌≤◌, length, MatchOption, OnOk};
 ghost use Rattle.std.specs.Io.KnownBytes.{Appends};
-ghost use Rattle.sd_show.specs.Texts.{digest_line, digest_word, field_line, form_text, header_text, kind_line};
-ghost use Rattle.sd_show.specs.Texts.{kind_word, place_text, sizes_text};
+ghost use Rattle.sd_show.specs.Texts.{digest_line, digest_word, field_line, form_lines, header_lines, kind_line};
+ghost use Rattle.sd_show.specs.Texts.{kind_word, place_lines, size_lines};
 
 use crate::fields::{u16_at, u64_at};
 use sd_image::HEADER_SIZE;
@@ -74,20 +74,20 @@ fn print_digest<W: Write>(
 }
 
 /// Prints the version and the kind of an image.
-#[tactic(auto, unfolding(crate::specs::Texts::form_text))]
+#[tactic(auto, unfolding(crate::specs::Texts::form_lines))]
 fn print_form<W: Write>(front: &[u8; HEADER_SIZE], out: &mut W) -> io::Result<()>
     ensures { OnOk result
-        (Appends (W.contents out.old) (W.contents out.new) (form_text front.now)) }
+        (Appends (W.contents out.old) (W.contents out.new) (form_lines front.now)) }
 {
     print_field("version", u64::from(u16_at(front, 8)), out)?;
     print_kind(u16_at(front, 10), out)
 }
 
 /// Prints the place of an image among the others.
-#[tactic(auto, unfolding(crate::specs::Texts::place_text))]
+#[tactic(auto, unfolding(crate::specs::Texts::place_lines))]
 fn print_place<W: Write>(front: &[u8; HEADER_SIZE], out: &mut W) -> io::Result<()>
     ensures { OnOk result
-        (Appends (W.contents out.old) (W.contents out.new) (place_text front.now)) }
+        (Appends (W.contents out.old) (W.contents out.new) (place_lines front.now)) }
 {
     print_field("serial", u64_at(front, 16), out)?;
     print_field("stands_for", u64_at(front, 24), out)?;
@@ -95,10 +95,10 @@ fn print_place<W: Write>(front: &[u8; HEADER_SIZE], out: &mut W) -> io::Result<(
 }
 
 /// Prints the checkpoint of an image, and what it has.
-#[tactic(auto, unfolding(crate::specs::Texts::sizes_text))]
+#[tactic(auto, unfolding(crate::specs::Texts::size_lines))]
 fn print_sizes<W: Write>(front: &[u8; HEADER_SIZE], out: &mut W) -> io::Result<()>
     ensures { OnOk result
-        (Appends (W.contents out.old) (W.contents out.new) (sizes_text front.now)) }
+        (Appends (W.contents out.old) (W.contents out.new) (size_lines front.now)) }
 {
     print_field("checkpoint", u64_at(front, 40), out)?;
     print_field("pages", u64_at(front, 48), out)?;
@@ -106,14 +106,14 @@ fn print_sizes<W: Write>(front: &[u8; HEADER_SIZE], out: &mut W) -> io::Result<(
 }
 
 /// Prints the fields of a header, in the order in which they stand.
-#[tactic(auto, unfolding(crate::specs::Texts::header_text))]
+#[tactic(auto, unfolding(crate::specs::Texts::header_lines))]
 pub(crate) fn print_header<W: Write>(
     front: &[u8; HEADER_SIZE],
     digest: &[u8; 32],
     out: &mut W,
 ) -> io::Result<()>
     ensures { OnOk result
-        (Appends (W.contents out.old) (W.contents out.new) (header_text front.now digest.now)) }
+        (Appends (W.contents out.old) (W.contents out.new) (header_lines front.now digest.now)) }
 {
     print_form(front, out)?;
     print_place(front, out)?;

@@ -5,7 +5,7 @@ ghost use Rattle.std.specs.Io.KnownBytes.{Appends};
 ghost use Rattle.sd_disk.specs.Contents.{file_at};
 ghost use Rattle.sd_disk.specs.Reads.{OnlyReads};
 ghost use Rattle.sd_show.specs.Slots.{is_damaged};
-ghost use Rattle.sd_show.specs.Texts.{slot_text, slots_text};
+ghost use Rattle.sd_show.specs.Texts.{slot_lines, slots_text};
 ghost use Rattle.sd_show.specs.declared.stop.Stop.TheVariants as stop;
 
 use crate::seen::read_slot;
@@ -31,7 +31,7 @@ pub fn show_slot<D: Disk, W: Write>(
     // What is printed is the text of the slot's file, whatever is in it.
     ensures text { D.is_honest disk.new → OnOk result
         (Appends (W.contents out.old) (W.contents out.new)
-        (slot_text slot (file_at (D.contents disk.old) slot))) }
+        (slot_lines slot (file_at (D.contents disk.old) slot))) }
     // It is damaged exactly where it is open, and its file no image.
     ensures damaged { D.is_honest disk.new → IfOk result
         (λ damaged. damaged ≡ is_damaged (file_at (D.contents disk.old) slot)) }

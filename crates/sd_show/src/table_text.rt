@@ -2,10 +2,10 @@
 ghost use Rattle.std.specs.Prelude.{◌≡◌, ◌⊎◌, ◌+◌, ◌^◌, ◌≤◌, ◌<◌, nat_le, Some, length, MatchOption, IfOk, OnOk};
 ghost use Rattle.std.specs.List.{flat_map};
 ghost use Rattle.std.specs.Io.KnownBytes.{Appends};
-ghost use Rattle.sd_image.specs.Reading.{prot_of};
+ghost use Rattle.sd_image.specs.Reading.{prot_of_number};
 ghost use Rattle.sd_show.specs.Items.{behind_runs, runs_in};
-ghost use Rattle.sd_show.specs.Texts.{area_line, offset_text, permissions_text, range_text, run_kind_text};
-ghost use Rattle.sd_show.specs.Texts.{run_kind_word, run_line, runs_text, space_text, spaces_text, table_text};
+ghost use Rattle.sd_show.specs.Texts.{area_item_line, offset_text, permissions_text, range_text, run_kind_text};
+ghost use Rattle.sd_show.specs.Texts.{run_kind_word, run_line, runs_text, space_lines, spaces_text, table_lines};
 
 use crate::fields::{u32_at, u64_at};
 use crate::items::{
@@ -18,7 +18,7 @@ use std::io::Write;
 
 /// The permissions with this number, or none where it is over 7.
 pub(crate) fn prot_with(number: u32) -> Option<Prot>
-    ensures { MatchOption result (7 < number) (λ prot. (number ≤ 7) × (prot ≡ prot_of number)) }
+    ensures { MatchOption result (7 < number) (λ prot. (number ≤ 7) × (prot ≡ prot_of_number number)) }
 {
     if number > 7 {
         return None;
@@ -61,10 +61,10 @@ fn print_range<W: Write>(first: u64, count: u64, out: &mut W) -> io::Result<()>
 }
 
 /// Prints an area.
-#[tactic(auto, unfolding(crate::specs::Texts::area_line))]
+#[tactic(auto, unfolding(crate::specs::Texts::area_item_line))]
 fn print_area<W: Write>(area: &[u8; ITEM_SIZE], out: &mut W) -> io::Result<()>
     ensures { OnOk result
-        (Appends (W.contents out.old) (W.contents out.new) (area_line area.now)) }
+        (Appends (W.contents out.old) (W.contents out.new) (area_item_line area.now)) }
 {
     print_range(u64_at(area, 0), u64_at(area, 8), out)?;
     print_permissions(u32_at(area, 16), out)
@@ -73,7 +73,7 @@ fn print_area<W: Write>(area: &[u8; ITEM_SIZE], out: &mut W) -> io::Result<()>
 /// Prints areas, in their order.
 fn print_areas<W: Write>(areas: &[[u8; ITEM_SIZE]], out: &mut W) -> io::Result<()>
     ensures { OnOk result
-        (Appends (W.contents out.old) (W.contents out.new) (flat_map area_line areas.now)) }
+        (Appends (W.contents out.old) (W.contents out.new) (flat_map area_item_line areas.now)) }
 {
     for area in areas {
         print_area(area, out)?;
@@ -149,11 +149,11 @@ fn print_runs<W: Write>(
 }
 
 /// Prints the space that bytes begin with, and returns where the next data page stands behind it.
-#[tactic(auto, unfolding(crate::specs::Texts::space_text, crate::specs::Texts::field_line))]
+#[tactic(auto, unfolding(crate::specs::Texts::space_lines, crate::specs::Texts::field_line))]
 fn print_space<W: Write>(at: Option<u64>, bytes: &[u8], out: &mut W) -> io::Result<Option<u64>>
     requires { 16 ≤ length bytes.now }
     ensures text { OnOk result
-        (Appends (W.contents out.old) (W.contents out.new) (space_text at bytes.now)) }
+        (Appends (W.contents out.old) (W.contents out.new) (space_lines at bytes.now)) }
     ensures behind { IfOk result (λ next. next ≡ behind_runs at (runs_in bytes.now)) }
 {
     writeln!(out, "space {}", u32_at(bytes, 0))?;
@@ -178,10 +178,10 @@ fn print_spaces<W: Write>(count: u32, bytes: &[u8], out: &mut W) -> io::Result<(
 }
 
 /// Prints a table, as far as its bytes go.
-#[tactic(auto, unfolding(crate::specs::Texts::table_text))]
+#[tactic(auto, unfolding(crate::specs::Texts::table_lines))]
 pub(crate) fn print_table<W: Write>(table: &[u8], out: &mut W) -> io::Result<()>
     ensures { OnOk result
-        (Appends (W.contents out.old) (W.contents out.new) (table_text table.now)) }
+        (Appends (W.contents out.old) (W.contents out.new) (table_lines table.now)) }
 {
     if table.len() < TABLE_HEAD_SIZE {
         return Ok(());

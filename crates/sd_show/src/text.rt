@@ -2,7 +2,7 @@
 ghost use Rattle.std.specs.Prelude.{◌≡◌, ℕ, List, OnOk};
 ghost use Rattle.std.specs.Io.KnownBytes.{Appends};
 ghost use Rattle.sd_show.specs.Slots.{IsSeen};
-ghost use Rattle.sd_show.specs.Texts.{fault_text, opened_text, slot_line, slot_text};
+ghost use Rattle.sd_show.specs.Texts.{fault_text, opened_text, slot_line, slot_lines};
 
 use crate::header_text::print_header;
 use crate::opened::Opened;
@@ -48,7 +48,7 @@ pub(crate) fn print_opened<W: Write>(opened: &Opened, out: &mut W) -> io::Result
 /// Prints a slot: its number and its state, and what it has where it is open.
 pub(crate) fn print_slot<W: Write>(slot: usize, seen: &Seen, out: &mut W) -> io::Result<()>
     ensures { (file : List ℕ) → IsSeen file seen.now → OnOk result
-        (Appends (W.contents out.old) (W.contents out.new) (slot_text slot file)) }
+        (Appends (W.contents out.old) (W.contents out.new) (slot_lines slot file)) }
 {
     print_state(slot, seen.state, out)?;
     match &seen.opened {

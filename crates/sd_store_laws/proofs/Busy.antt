@@ -10,7 +10,7 @@ use Rattle.sd_image.proofs.Members.{contains_cases, contains_front, contains_lat
 use Rattle.sd_store_laws.specs.Store.{IsNextDump, IsSoundStore, IsTwin, Store, jobs}
 use Rattle.sd_store_laws.specs.Steps.{Adds, checkpoint_begun, committed, found_store, merging}
 use Rattle.sd_store_laws.specs.Beliefs.{AreSlotsOf, Belief, Kept, Closing, Opening, IsAdded, image_at}
-use Rattle.sd_store_laws.specs.Worked.{MergeBesideRound, busy, busy_slots, memory_of, merged, unchanged, whole}
+use Rattle.sd_store_laws.specs.Worked.{MergeBesideRound, busy, busy_slots, merged, one_page_memory, unchanged, whole}
 use Rattle.sd_store_laws.proofs.Cuts.{needed_in}
 use Rattle.sd_store_laws.proofs.OnePage.{page_memory}
 use Rattle.sd_store_laws.proofs.Slots.{left_images_show_lem}
@@ -179,7 +179,7 @@ module _ (bytes : List ℕ) where
   }
 
   -- what is shown
-  pub last : ImagesShow (a ∷ []) (Some (1, memory_of bytes))
+  pub last : ImagesShow (a ∷ []) (Some (1, one_page_memory bytes))
   last = (a, a_tip, refl, page_memory bytes Dump 1 1 0 1 Data (bytes ∷ []) (a ∷ []) (holds_whole (a ∷ []) Dump 1 1 0 1 bytes))
 
   a_named : IsNamed (d ∷ a ∷ []) 1 a
@@ -189,7 +189,7 @@ module _ (bytes : List ℕ) where
     greatest = λ j c. each_of_two (λ k. k.header.stands_for ≡ 1 → k.header.serial ≤ 1) d a (λ e. absurd (omega (arith, e))) (λ e. omega arith) j c;
   }
 
-  pub next : ImagesShow (d ∷ a ∷ []) (Some (2, memory_of bytes))
+  pub next : ImagesShow (d ∷ a ∷ []) (Some (2, one_page_memory bytes))
   next = (
     d,
     record {
@@ -206,5 +206,5 @@ module _ (bytes : List ℕ) where
     sound = busy_sound;
     slots = busy_are_slots;
     shows = λ images left.
-        left_images_show_lem.pending (busy bytes) d (busy_slots bytes) images (Some (1, memory_of bytes)) (Some (2, memory_of bytes)) busy_sound busy_are_slots left last next;
+        left_images_show_lem.pending (busy bytes) d (busy_slots bytes) images (Some (1, one_page_memory bytes)) (Some (2, one_page_memory bytes)) busy_sound busy_are_slots left last next;
   }

@@ -10,7 +10,7 @@ use Rattle.sd_chain.specs.Store.{HasTheImages, IsOpenedAs}
 use Rattle.sd_store_laws.specs.Reached.{Reaches, ReachesBySerial, itself, beyond}
 
 reached_image : (contents : List (List ℕ)) (places : Places) (all : List Image) (j i : Opened) (a : Image) → HasTheImages contents places all → IsOpenedAs contents i a
-    → catalog.Reaches places j i → (b : Image) × IsOpenedAs contents j b × Reaches all b a
+    → catalog.ReachesInCatalog places j i → (b : Image) × IsOpenedAs contents j b × Reaches all b a
 reached_image contents places all j i a has is (catalog.itself) = (a, is, itself)
 reached_image contents places all j i a has is (catalog.beyond _ parent names reaches) =
     let up = has.image parent names.member in
@@ -19,7 +19,7 @@ reached_image contents places all j i a has is (catalog.beyond _ parent names re
     (rest.0, rest.1, beyond a up.0 (subst (λ n. IsNamed all n up.0) number (has.named i.header.parent parent up.0 up.2 names)) rest.2)
 
 reached_opened : (contents : List (List ℕ)) (places : Places) (all : List Image) (b : Image) (i : Opened) (a : Image) → HasTheImages contents places all → IsOpenedAs contents i a
-    → Reaches all b a → (j : Opened) × IsOpenedAs contents j b × catalog.Reaches places j i
+    → Reaches all b a → (j : Opened) × IsOpenedAs contents j b × catalog.ReachesInCatalog places j i
 reached_opened contents places all b i a has is (itself) = (i, is, catalog.itself)
 reached_opened contents places all b i a has is (beyond _ parent named reaches) =
     let up = has.opened parent named.member in

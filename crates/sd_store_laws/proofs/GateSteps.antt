@@ -15,7 +15,7 @@ use Rattle.sd_gate.specs.Phases.{after, body_after, closing, filled, given_up, i
 use Rattle.sd_store_laws.specs.Beliefs.{Belief, Closed, Kept, Closing, Opening, FitsBelief}
 use Rattle.sd_store_laws.specs.SlotSteps.{IsFoundAs}
 use Rattle.sd_store_laws.specs.Gates.{BeliefsWeaken, GivenUpIsBelieved, IsBelievedAs, IsInDoubt, IsWeaker, MayBelieve}
-use Rattle.sd_store_laws.specs.GateSteps.{BeliefsFollowCalls, FoundIsBelieved, FoundIsExact, GivenUpSyncs, OneBeliefChanges, SyncedIsFound}
+use Rattle.sd_store_laws.specs.GateSteps.{BeliefsFollowCalls, FilesAreBelieved, FoundIsExact, GivenUpSyncs, OneBeliefChanges, SyncedIsFound}
 use Rattle.sd_store_laws.proofs.Slots.{image_opens}
 use Rattle.sd_store_laws.proofs.SlotSteps.{set_other}
 
@@ -366,7 +366,7 @@ found_is_exact_lem (file ∷ contents) (b ∷ beliefs) all zero phase belief at 
     (subst (IsBelievedAs (found_phase file) (drop 1 file)) (same_Some b belief has) (found_one file b all.0))
 found_is_exact_lem (file ∷ contents) (b ∷ beliefs) all (suc slot) phase belief at has = found_is_exact_lem contents beliefs all.1 slot phase belief at has
 
-pub found_is_believed_lem : FoundIsBelieved
+pub found_is_believed_lem : FilesAreBelieved
 found_is_believed_lem contents beliefs all = record { count = found_count contents beliefs all; each = found_each contents beliefs all }
 
 pub synced_is_found_lem : (contents : List (List ℕ)) (may_leave : List (List ℕ) → Type 0) → FoundFits contents may_leave → SyncedIsFound contents may_leave

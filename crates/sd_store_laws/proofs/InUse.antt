@@ -46,7 +46,7 @@ tells_lem places sound s pending beliefs are held = record {
 -- ---- what it reaches
 
 module _ (places : Places) (all : List Image) (tells : CatalogLists places all) (agrees : Agrees places all) where
-  reached_image : (j i : Opened) (a : Image) → Contains (images places) i → Contains all a → IsToldAs i a → catalog.Reaches places j i
+  reached_image : (j i : Opened) (a : Image) → Contains (images places) i → Contains all a → IsToldAs i a → catalog.ReachesInCatalog places j i
       → (b : Image) × IsToldAs j b × Reaches all b a
   reached_image j i a ci ca told (catalog.itself) = (a, told, itself)
   reached_image j i a ci ca told (catalog.beyond _ parent names reaches) =
@@ -57,7 +57,7 @@ module _ (places : Places) (all : List Image) (tells : CatalogLists places all) 
       (rest.0, rest.1, beyond a up.0 (subst (λ n. IsNamed all n up.0) number named) rest.2)
 
   reached_opened : (b : Image) (i : Opened) (a : Image) → Contains (images places) i → Contains all a → IsToldAs i a → Reaches all b a
-      → (j : Opened) × IsToldAs j b × catalog.Reaches places j i
+      → (j : Opened) × IsToldAs j b × catalog.ReachesInCatalog places j i
   reached_opened b i a ci ca told (itself) = (i, told, catalog.itself)
   reached_opened b i a ci ca told (beyond _ parent named reaches) =
       let up = tells.opened parent named.member in

@@ -8,7 +8,7 @@ use Rattle.sd_image.specs.Image.{Image}
 use Rattle.sd_image.specs.Table.{Listed}
 use Rattle.sd_image.specs.Shows.{Holds, IsMemory, page_in}
 use Rattle.sd_image.proofs.Members.{contains_map, from_map}
-use Rattle.sd_store_laws.specs.Cut.{areas_of}
+use Rattle.sd_store_laws.specs.Cut.{areas_of_spaces}
 
 spaces_any : (spaces : List Listed) (space : ℕ)
     → list_any (λ (s : Listed). eqb s.space space) spaces ≡ list_any (λ (p : ℕ × List Area). eqb p.0 space) (map (λ (s : Listed). (s.space, s.areas)) spaces)
@@ -29,7 +29,7 @@ page_moves images others i twin s t page (Some p) holds space areas was = (
   subst (λ n. Holds others n page p.bytes twin) space (holds.bytes s.space page p.bytes was.1),
 )
 
-pub memory_moves : (images others : List Image) (i twin : Image) (memory : PlainMemory) → areas_of twin ≡ areas_of i → HoldsAll images others i twin
+pub memory_moves : (images others : List Image) (i twin : Image) (memory : PlainMemory) → areas_of_spaces twin ≡ areas_of_spaces i → HoldsAll images others i twin
     → IsMemory images i memory → IsMemory others twin memory
 memory_moves images others i twin memory areas holds is = record {
   alive = λ space. is.alive space ∙ spaces_any i.spaces space

@@ -17,7 +17,7 @@ use Rattle.sd_image.specs.Table.{Listed}
 use Rattle.sd_image.specs.Image.{Image}
 use Rattle.sd_image.specs.Shows.{Holds, IsMemory, page_in}
 use Rattle.sd_image.proofs.Members.{contains_cases, contains_none}
-use Rattle.sd_store_laws.specs.Worked.{memory_of, one_page, prot}
+use Rattle.sd_store_laws.specs.Worked.{one_page, one_page_memory, prot}
 
 -- a number that finds a key is it
 tied : (q k : ℕ) → q ≡ k → eq_by_cmp nat_cmp q k ≡ true
@@ -33,7 +33,7 @@ module _ (bytes : List ℕ) where
   abbrev space_memory : Space
   space_memory = finmap.insert finmap.empty 16 (record { prot = prot; bytes = bytes })
 
-  alive : (k : ℕ) → finmap.contains_key (memory_of bytes) k ≡ (eqb 1 k || false)
+  alive : (k : ℕ) → finmap.contains_key (one_page_memory bytes) k ≡ (eqb 1 k || false)
   alive k =
       let found = get-insert nat_cmp_total (finmap.empty {X = Space} {R = nat_cmp}) 1 space_memory k in
       elim (cases_eq 1 k) [
@@ -41,7 +41,7 @@ module _ (bytes : List ℕ) where
         | inr other ↦ ap is_some (found ∙ cond-false _ _ _ (untied k 1 (λ e. other (sym e))) ∙ get-empty nat_cmp k) ∙ sym (rw (ne_eqb 1 k other) refl)
       ]
 
-  page_at : (q : ℕ) (test : Bool) → eqb q 16 ≡ test → page_in (memory_of bytes) 1 q ≡ cond test (Some (record { prot = prot; bytes = bytes })) None
+  page_at : (q : ℕ) (test : Bool) → eqb q 16 ≡ test → page_in (one_page_memory bytes) 1 q ≡ cond test (Some (record { prot = prot; bytes = bytes })) None
   page_at q test is =
       let outer = get-insert nat_cmp_total (finmap.empty {X = Space} {R = nat_cmp}) 1 space_memory 1 in
       let inner = get-insert nat_cmp_total (finmap.empty {X = Page} {R = nat_cmp}) 16 (record { prot = prot; bytes = bytes }) q in
@@ -51,7 +51,7 @@ module _ (bytes : List ℕ) where
   IsPage : List Image → Image → ℕ → Option Page → Type 0
   IsPage images i q o = MatchOption o (prot_in areas q ≡ None) (λ found. (prot_in areas q ≡ Some found.prot) × Holds images 1 q found.bytes i)
 
-  page_so : (images : List Image) (i : Image) (q : ℕ) → Holds images 1 16 bytes i → IsPage images i q (page_in (memory_of bytes) 1 q)
+  page_so : (images : List Image) (i : Image) (q : ℕ) → Holds images 1 16 bytes i → IsPage images i q (page_in (one_page_memory bytes) 1 q)
   unfolding IsPage
   page_so images i q held = elim (cases_eq q 16) [
     | inl e ↦ subst (IsPage images i q) (sym (page_at q true (eq-eqb q 16 e)))
@@ -65,14 +65,14 @@ module _ (bytes : List ℕ) where
   -- an image of that page alone stands for its memory
   pub page_memory : (kind : Kind) (serial stands_for parent checkpoint : ℕ) (way : RunKind) (pages : List (List ℕ)) (images : List Image)
       → Holds images 1 16 bytes (one_page kind serial stands_for parent checkpoint way pages)
-      → IsMemory images (one_page kind serial stands_for parent checkpoint way pages) (memory_of bytes)
+      → IsMemory images (one_page kind serial stands_for parent checkpoint way pages) (one_page_memory bytes)
   unfolding IsPage
   page_memory kind serial stands_for parent checkpoint way pages images held = record {
     alive = alive;
     pages = λ s among q.
         let i = one_page kind serial stands_for parent checkpoint way pages in
         elim (contains_cases (record { space = 1; areas = areas; runs = record { first = 16; count = 1; kind = way } ∷ [] }) s [] among) [
-          | inl e ↦ subst (λ (t : Listed). MatchOption (page_in (memory_of bytes) t.space q) (prot_in t.areas q ≡ None)
+          | inl e ↦ subst (λ (t : Listed). MatchOption (page_in (one_page_memory bytes) t.space q) (prot_in t.areas q ≡ None)
               (λ found. (prot_in t.areas q ≡ Some found.prot) × Holds images t.space q found.bytes i)) (sym e) (page_so images i q held)
           | inr c ↦ absurd (contains_none s c)
         ];

@@ -17,7 +17,7 @@ use Rattle.sd_image.proofs.Members.{contains_cases, contains_front, contains_lat
 use Rattle.sd_store_laws.specs.Cut.{HoldsAlike, Repeats}
 use Rattle.sd_store_laws.specs.Store.{IsSoundStore}
 use Rattle.sd_store_laws.specs.Steps.{checkpoint_begun, found_store}
-use Rattle.sd_store_laws.specs.Worked.{ChainRows, WhyItGrows, found, memory_of, merged, one_page, unchanged, whole, file_of}
+use Rattle.sd_store_laws.specs.Worked.{ChainRows, WhyItGrows, found, one_page_memory, merged, one_page, unchanged, whole, file_of}
 use Rattle.sd_store_laws.proofs.Choose.{one_named}
 use Rattle.sd_store_laws.proofs.OnePage.{page_memory}
 use Rattle.sd_store_laws.proofs.StepLemmas.{steps_keep_lem}
@@ -90,7 +90,7 @@ module _ (bytes other : List ℕ) where
   abbrev m : Image
   m = merged 3 1 1 other
 
-  first_row : ImagesShow (a ∷ []) (Some (1, memory_of bytes))
+  first_row : ImagesShow (a ∷ []) (Some (1, one_page_memory bytes))
   first_row = (
     a,
     record {
@@ -109,7 +109,7 @@ module _ (bytes other : List ℕ) where
     greatest = λ j c. each_of_two (λ k. k.header.stands_for ≡ 1 → k.header.serial ≤ 1) a b (λ e. omega arith) (λ e. absurd (omega (arith, e))) j c;
   }
 
-  second_row : ImagesShow (a ∷ b ∷ []) (Some (2, memory_of bytes))
+  second_row : ImagesShow (a ∷ b ∷ []) (Some (2, one_page_memory bytes))
   second_row = (
     b,
     record {
@@ -131,7 +131,7 @@ module _ (bytes other : List ℕ) where
     greatest = λ j c. each_of_three (λ k. k.header.stands_for ≡ 1 → k.header.serial ≤ 3) a b m (λ e. omega arith) (λ e. omega arith) (λ e. omega arith) j c;
   }
 
-  third_row : ImagesShow three (Some (2, memory_of other))
+  third_row : ImagesShow three (Some (2, one_page_memory other))
   third_row = (
     b,
     record {
@@ -189,7 +189,7 @@ module _ (bytes other : List ℕ) where
         ),
       )
 
-  file_rows : length bytes ≡ 4096 → length other ≡ 4096 → Shows (file_of a ∷ file_of b ∷ file_of m ∷ []) (Some (2, memory_of other))
+  file_rows : length bytes ≡ 4096 → length other ≡ 4096 → Shows (file_of a ∷ file_of b ∷ file_of m ∷ []) (Some (2, one_page_memory other))
   unfolding IsDistinct
   file_rows long long_too = record {
     images = three;
@@ -245,7 +245,7 @@ module _ (bytes other : List ℕ) where
     greatest = λ j c. each_of_three (λ k. k.header.stands_for ≡ 5 → k.header.serial ≤ 6) d t n (λ e. absurd (omega (arith, e))) (λ e. omega arith) (λ e. omega arith) j c;
   }
 
-  changed : ImagesShow (d ∷ found bytes other) (Some (3, memory_of other))
+  changed : ImagesShow (d ∷ found bytes other) (Some (3, one_page_memory other))
   changed = (
     d,
     record {
@@ -277,7 +277,7 @@ module _ (bytes other : List ℕ) where
     greatest = λ j c. each_of_four (λ k. k.header.stands_for ≡ 5 → k.header.serial ≤ 8) (λ e. omega arith) (λ e. omega arith) (λ e. omega arith) (λ e. omega arith) j c;
   }
 
-  otherwise : ImagesShow four (Some (3, memory_of bytes))
+  otherwise : ImagesShow four (Some (3, one_page_memory bytes))
   otherwise = (
     d,
     record {

@@ -8,7 +8,7 @@ use Rattle.sd_store_laws.specs.Needed.{IsCalled}
 use Rattle.sd_store_laws.specs.Store.{IsFresh, IsNextDump, IsSoundStore, IsTwin, jobs}
 use Rattle.sd_store_laws.specs.Steps.{cancelled, committed}
 use Rattle.sd_store_laws.specs.Beliefs.{AreSlotsOf, Belief, Closed, Kept, Closing, Opening, image_at}
-use Rattle.sd_store_laws.specs.Worked.{busy, busy_slots, memory_of, merged, unchanged, whole}
+use Rattle.sd_store_laws.specs.Worked.{busy, busy_slots, merged, one_page_memory, unchanged, whole}
 use Rattle.sd_store_laws.specs.WorkedSlots.{DumpInDoubt, MergeBehindTip, PreDumpGivenUp, in_round, outrun, pre_dump}
 use Rattle.sd_store_laws.proofs.Busy.{a_tip, busy_are_slots, busy_sound, last, next, restores, saved_sound, second_dump, started, twin}
 use Rattle.sd_store_laws.proofs.Cuts.{needed_in}
@@ -107,7 +107,7 @@ module _ (bytes : List ℕ) where
     pre_dump_given_up_lem = record {
       slots = p_slots;
       given_up = p_given_up;
-      shows = λ images left. left_images_show_lem.last (in_round bytes) (Kept a ∷ Opening p ∷ []) images (Some (1, memory_of bytes)) round_sound p_slots left (last bytes);
+      shows = λ images left. left_images_show_lem.last (in_round bytes) (Kept a ∷ Opening p ∷ []) images (Some (1, one_page_memory bytes)) round_sound p_slots left (last bytes);
       formatted = (slots_drop_lem (cancelled (in_round bytes)) None (Kept a ∷ Opening p ∷ []) 1 p p_given_up refl).0;
     }
 
@@ -149,7 +149,7 @@ module _ (bytes : List ℕ) where
     sound = round_sound;
     slots = d_slots;
     shows = λ images left.
-        left_images_show_lem.pending (in_round bytes) d (Kept a ∷ Opening d ∷ []) images (Some (1, memory_of bytes)) (Some (2, memory_of bytes)) round_sound d_slots left (last bytes) (next bytes);
+        left_images_show_lem.pending (in_round bytes) d (Kept a ∷ Opening d ∷ []) images (Some (1, one_page_memory bytes)) (Some (2, one_page_memory bytes)) round_sound d_slots left (last bytes) (next bytes);
     without_it = (
       steps_keep_lem.opens (a ∷ [])
           (λ i j c e same. each_of_one (λ k. k ≡ j) a (each_of_one (λ k. a ≡ k) a refl j e) i c)
@@ -211,7 +211,7 @@ module _ (bytes : List ℕ) where
     };
     twin = still_twin;
     slots = outrun_are_slots;
-    shows = λ images left. left_images_show_lem.last (outrun bytes) outrun_slots images (Some (2, memory_of bytes)) outrun_sound outrun_are_slots left (next bytes);
+    shows = λ images left. left_images_show_lem.last (outrun bytes) outrun_slots images (Some (2, one_page_memory bytes)) outrun_sound outrun_are_slots left (next bytes);
     entered = steps_keep_lem.replaces (outrun bytes) m all outrun_sound still_twin (adds_front (d ∷ a ∷ []) m);
     unneeded = record {
       member = contains_later m a (d ∷ a ∷ []) (contains_later d a (a ∷ []) (contains_front a []));

@@ -19,14 +19,14 @@ HoldsAlike images i twin = (others : List Image) (space page : ℕ) (bytes : Lis
     → Holds others space page bytes twin ↔ Holds images space page bytes i
 
 -- the areas of each space
-abbrev pub areas_of : Image → List (ℕ × List Area)
-areas_of i = map (λ (s : Listed). (s.space, s.areas)) i.spaces
+abbrev pub areas_of_spaces : Image → List (ℕ × List Area)
+areas_of_spaces i = map (λ (s : Listed). (s.space, s.areas)) i.spaces
 
 -- an image repeats another of these: the checkpoint, the number that it stands for, the areas, and what it holds
 pub record Repeats (images : List Image) (i twin : Image) : Type 0 where
   pub checkpoint : twin.header.checkpoint ≡ i.header.checkpoint
   pub stands : twin.header.stands_for ≡ i.header.stands_for
-  pub areas : areas_of twin ≡ areas_of i
+  pub areas : areas_of_spaces twin ≡ areas_of_spaces i
   pub bytes : HoldsAlike images i twin
 
 -- the image that its number names holds what this one holds, where that number is called for

@@ -43,8 +43,8 @@ OneBeliefChanges = (phases : List Phase) (bodies : List (List ℕ)) (beliefs : L
     → AreBelieved (slice_set phases slot phase) (slice_set bodies slot body) (slice_set beliefs slot belief)
 
 -- A slot that was found closed, or with its image, is believed so in the phase that its file tells.
-abbrev pub FoundIsBelieved : Type 0
-FoundIsBelieved = (contents : List (List ℕ)) (beliefs : List Belief) → AllZip IsFoundAs beliefs contents
+abbrev pub FilesAreBelieved : Type 0
+FilesAreBelieved = (contents : List (List ℕ)) (beliefs : List Belief) → AllZip IsFoundAs beliefs contents
     → AreBelieved (map found_phase contents) (map (drop 1) contents) beliefs
 
 -- It is exactly what its phase says.

@@ -39,7 +39,7 @@ pub record IsFreeSlot (s : Store) (beliefs : List Belief) (reserved listed : Lis
 
 -- The images that a merge closes: of those that were in the catalog as it began and still are, the ones that aren't in
 -- use and whose slots aren't reserved.
-pub record IsToRetire (before : List Image) (s : Store) (beliefs : List Belief) (reserved : List ℕ)
+pub record IsClosedByMerge (before : List Image) (s : Store) (beliefs : List Belief) (reserved : List ℕ)
     (i : Image) : Type 0 where
   pub was : Contains before i
   pub member : Contains s.catalog i
@@ -51,7 +51,7 @@ pub record RetiresUnneeded : Type 0 where
   pub unneeded : (before : List Image) (s : Store) (beliefs : List Belief) (reserved : List ℕ) (i : Image)
       → IsSoundStore s
       → HasItsWork s
-      → IsToRetire before s beliefs reserved i → IsUnneeded s i
+      → IsClosedByMerge before s beliefs reserved i → IsUnneeded s i
   pub free : (s : Store) (beliefs : List Belief) (reserved listed : List ℕ) (slot : ℕ) (i : Image) → IsSoundStore s
       → HasItsWork s
       → IsFreeSlot s beliefs reserved listed slot → image_at beliefs slot ≡ Some i → IsNeededIn s i → ⊥

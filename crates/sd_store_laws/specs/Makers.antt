@@ -10,7 +10,7 @@ use Rattle.sd_image.specs.Image.{Image}
 use Rattle.sd_image.specs.Shows.{Holds, ImagesShow, page_in, pages_of}
 use Rattle.sd_image.specs.Table.{Listed}
 use Rattle.sd_store_laws.specs.Below.{GivesByNumber}
-use Rattle.sd_store_laws.specs.Cut.{Repeats, areas_of}
+use Rattle.sd_store_laws.specs.Cut.{Repeats, areas_of_spaces}
 use Rattle.sd_store_laws.specs.Store.{IsFresh, IsNextDump, IsSoundStore, Store, jobs}
 
 -- an image has these bytes at a page: among its data pages, or as zeros
@@ -25,7 +25,7 @@ HasItself i space page bytes =
 pub record IsMergedOf (images : List Image) (source one : Image) : Type 0 where
   pub checkpoint : one.header.checkpoint ≡ source.header.checkpoint
   pub stands : one.header.stands_for ≡ source.header.stands_for
-  pub areas : areas_of one ≡ areas_of source
+  pub areas : areas_of_spaces one ≡ areas_of_spaces source
   pub whole : pages_of Parent one.spaces ≡ []
   pub bytes : (space page : ℕ) (bytes : List ℕ) → HasItself one space page bytes ↔ Holds images space page bytes source
 

@@ -20,8 +20,8 @@ use Rattle.sd_store_laws.specs.Beliefs.{AreSlotsOf, Belief, Kept, Opening, IsLef
 abbrev pub prot : Prot
 prot = record { read = true; write = true; execute = false }
 
-abbrev pub memory_of : List ℕ → PlainMemory
-memory_of bytes = first_memory 1 16 prot bytes
+abbrev pub one_page_memory : List ℕ → PlainMemory
+one_page_memory bytes = first_memory 1 16 prot bytes
 
 abbrev pub one_page : Kind → ℕ → ℕ → ℕ → ℕ → RunKind → List (List ℕ) → Image
 one_page kind serial stands_for parent checkpoint way pages = record {
@@ -61,16 +61,16 @@ file_of i = gate ∷ image_text i
 -- A dump; a second one that names it; and a merged image that takes the first one's place, with other bytes so that it
 -- is seen.
 pub record ChainRows (bytes other : List ℕ) : Type 0 where
-  pub first : ImagesShow (whole 1 1 bytes ∷ []) (Some (1, memory_of bytes))
-  pub second : ImagesShow (whole 1 1 bytes ∷ unchanged 2 1 2 ∷ []) (Some (2, memory_of bytes))
-  pub third : ImagesShow (whole 1 1 bytes ∷ unchanged 2 1 2 ∷ merged 3 1 1 other ∷ []) (Some (2, memory_of other))
+  pub first : ImagesShow (whole 1 1 bytes ∷ []) (Some (1, one_page_memory bytes))
+  pub second : ImagesShow (whole 1 1 bytes ∷ unchanged 2 1 2 ∷ []) (Some (2, one_page_memory bytes))
+  pub third : ImagesShow (whole 1 1 bytes ∷ unchanged 2 1 2 ∷ merged 3 1 1 other ∷ []) (Some (2, one_page_memory other))
   pub reaches : Reaches (whole 1 1 bytes ∷ unchanged 2 1 2 ∷ merged 3 1 1 other ∷ []) (merged 3 1 1 other)
       (unchanged 2 1 2)
   pub no_more : Reaches (whole 1 1 bytes ∷ unchanged 2 1 2 ∷ merged 3 1 1 other ∷ []) (whole 1 1 bytes)
       (unchanged 2 1 2) → ⊥
   pub files : length bytes ≡ 4096 → length other ≡ 4096
       → Shows (file_of (whole 1 1 bytes) ∷ file_of (unchanged 2 1 2) ∷ file_of (merged 3 1 1 other) ∷ [])
-      (Some (2, memory_of other))
+      (Some (2, one_page_memory other))
 
 -- a checkpoint beside a merge, the gates of both images being opened
 abbrev pub busy : List ℕ → Store
@@ -90,7 +90,7 @@ pub record MergeBesideRound (bytes : List ℕ) : Type 0 where
   pub sound : IsSoundStore (busy bytes)
   pub slots : AreSlotsOf (busy bytes) (Some (unchanged 3 1 2)) (busy_slots bytes)
   pub shows : (images : List Image) → IsLeft (busy_slots bytes) images
-      → ImagesShow images (Some (1, memory_of bytes)) ⊎ ImagesShow images (Some (2, memory_of bytes))
+      → ImagesShow images (Some (1, one_page_memory bytes)) ⊎ ImagesShow images (Some (2, one_page_memory bytes))
 
 -- a store that is read without a fault, whose tip isn't named by its own number
 abbrev pub found : List ℕ → List ℕ → List Image
@@ -102,9 +102,10 @@ found bytes other = whole 5 2 bytes ∷ merged 6 5 1 other ∷ []
 pub record WhyItGrows (bytes other : List ℕ) : Type 0 where
   pub sound : IsSoundStore (found_store (found bytes other))
   pub tip : IsTip (found bytes other) (whole 5 2 bytes)
-  pub shows : ImagesShow (found bytes other) (Some (2, memory_of bytes))
+  pub shows : ImagesShow (found bytes other) (Some (2, one_page_memory bytes))
   pub misnamed : IsNamed (found bytes other) 5 (merged 6 5 1 other)
-  pub changed : ImagesShow (unchanged 7 5 3 ∷ found bytes other) (Some (3, memory_of other))
+  pub changed : ImagesShow (unchanged 7 5 3 ∷ found bytes other) (Some (3, one_page_memory other))
   pub twin : Repeats (found bytes other) (whole 5 2 bytes) (merged 8 5 2 bytes)
-  pub otherwise : ImagesShow (unchanged 7 5 3 ∷ merged 8 5 2 bytes ∷ found bytes other) (Some (3, memory_of bytes))
+  pub otherwise : ImagesShow (unchanged 7 5 3 ∷ merged 8 5 2 bytes ∷ found bytes other)
+      (Some (3, one_page_memory bytes))
   pub unsound : IsSoundStore (checkpoint_begun (found_store (found bytes other)) 5) → ⊥

@@ -10,7 +10,7 @@ use Rattle.sd_store_laws.specs.Needs.{IsUnneeded}
 use Rattle.sd_store_laws.specs.Store.{IsSoundStore, IsTwin, Store}
 use Rattle.sd_store_laws.specs.Steps.{cancelled, found_store, replaced}
 use Rattle.sd_store_laws.specs.Beliefs.{AreSlotsOf, Closed, Kept, Opening, IsLeft}
-use Rattle.sd_store_laws.specs.Worked.{memory_of, merged, unchanged, whole}
+use Rattle.sd_store_laws.specs.Worked.{merged, one_page_memory, unchanged, whole}
 
 -- a store with one dump, and a checkpoint that began with its number
 abbrev pub in_round : List ℕ → Store
@@ -41,7 +41,7 @@ pub record PreDumpGivenUp (bytes other : List ℕ) : Type 0 where
   pub given_up : AreSlotsOf (cancelled (in_round bytes)) None
       (Kept (whole 1 1 bytes) ∷ Opening (pre_dump 2 1 2 other) ∷ [])
   pub shows : (images : List Image) → IsLeft (Kept (whole 1 1 bytes) ∷ Opening (pre_dump 2 1 2 other) ∷ []) images
-      → ImagesShow images (Some (1, memory_of bytes))
+      → ImagesShow images (Some (1, one_page_memory bytes))
   pub formatted : AreSlotsOf (cancelled (in_round bytes)) None (Kept (whole 1 1 bytes) ∷ Closed ∷ [])
 
 -- A store that goes down while its second dump's gate is being opened shows the first dump or the second; it is opened
@@ -51,11 +51,11 @@ pub record DumpInDoubt (bytes : List ℕ) : Type 0 where
   pub slots : AreSlotsOf (in_round bytes) (Some (unchanged 3 1 2))
       (Kept (whole 1 1 bytes) ∷ Opening (unchanged 3 1 2) ∷ [])
   pub shows : (images : List Image) → IsLeft (Kept (whole 1 1 bytes) ∷ Opening (unchanged 3 1 2) ∷ []) images
-      → ImagesShow images (Some (1, memory_of bytes)) ⊎ ImagesShow images (Some (2, memory_of bytes))
+      → ImagesShow images (Some (1, one_page_memory bytes)) ⊎ ImagesShow images (Some (2, one_page_memory bytes))
   pub without_it : IsSoundStore (found_store (whole 1 1 bytes ∷ []))
-      × ImagesShow (whole 1 1 bytes ∷ []) (Some (1, memory_of bytes))
+      × ImagesShow (whole 1 1 bytes ∷ []) (Some (1, one_page_memory bytes))
   pub with_it : IsSoundStore (found_store (unchanged 3 1 2 ∷ whole 1 1 bytes ∷ []))
-      × ImagesShow (unchanged 3 1 2 ∷ whole 1 1 bytes ∷ []) (Some (2, memory_of bytes))
+      × ImagesShow (unchanged 3 1 2 ∷ whole 1 1 bytes ∷ []) (Some (2, one_page_memory bytes))
 
 -- a merge of the first dump runs, and the second is the tip
 abbrev pub outrun : List ℕ → Store
@@ -76,7 +76,7 @@ pub record MergeBehindTip (bytes : List ℕ) : Type 0 where
       (Kept (whole 1 1 bytes) ∷ Opening (merged 2 1 1 bytes) ∷ Kept (unchanged 3 1 2) ∷ [])
   pub shows : (images : List Image)
       → IsLeft (Kept (whole 1 1 bytes) ∷ Opening (merged 2 1 1 bytes) ∷ Kept (unchanged 3 1 2) ∷ []) images
-      → ImagesShow images (Some (2, memory_of bytes))
+      → ImagesShow images (Some (2, one_page_memory bytes))
   pub entered : IsSoundStore (replaced (outrun bytes) (merged 2 1 1 bytes ∷ unchanged 3 1 2 ∷ whole 1 1 bytes ∷ []))
   pub unneeded : IsUnneeded (replaced (outrun bytes) (merged 2 1 1 bytes ∷ unchanged 3 1 2 ∷ whole 1 1 bytes ∷ []))
       (whole 1 1 bytes)

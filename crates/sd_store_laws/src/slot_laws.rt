@@ -1,6 +1,6 @@
 //! How the beliefs about slots follow the phases of the slots, and the catalog the beliefs.
 ghost use Rattle.sd_store_laws.specs.Gates.{BeliefsWeaken, GivenUpIsBelieved};
-ghost use Rattle.sd_store_laws.specs.GateSteps.{BeliefsFollowCalls, FoundIsBelieved, FoundIsExact, GivenUpSyncs};
+ghost use Rattle.sd_store_laws.specs.GateSteps.{BeliefsFollowCalls, FilesAreBelieved, FoundIsExact, GivenUpSyncs};
 ghost use Rattle.sd_store_laws.specs.GateSteps.{OneBeliefChanges, SyncedIsFound};
 ghost use Rattle.sd_store_laws.specs.InUse.{CatalogFollows, CatalogInUseTells, CatalogIsFound, ToldReachesSo};
 ghost use Rattle.sd_store_laws.specs.SlotSteps.{ClosingRetires, SlotsDrop};
@@ -44,7 +44,7 @@ pub fn given_up_is_believed()
 
 /// A slot that was found closed, or with its image, is believed so in the phase that its file tells.
 pub fn found_is_believed()
-    ensures { FoundIsBelieved }
+    ensures { FilesAreBelieved }
 {}
 
 /// A slot that was synced, or is shorter than a header for sure, is in the phase that its file tells, whatever was

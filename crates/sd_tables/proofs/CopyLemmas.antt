@@ -11,7 +11,7 @@ use Rattle.std.specs.FinMap as finmap
 use Rattle.sd_areas.specs.Pages.{is_within}
 use Rattle.sd_tables.specs.Copies.{bare_entry}
 use Rattle.sd_tables.specs.Tables.{Table}
-use Rattle.sd_tables.specs.Radix.{is_used, entry_in, leaf_at, slot_at, table_in, level_at, HasPage, IsNextUsed, IsSlot, IsLevel, table_of}
+use Rattle.sd_tables.specs.Radix.{is_used, entry_in, leaf_at, slot_at, inner_table, level_at, HasMappedPage, IsNextUsed, IsSlot, IsLevel, table_of}
 use Rattle.sd_tables.proofs.PlaceLemmas.{got_set, got_other}
 use Rattle.sd_tables.proofs.LevelLemmas.{kept_set, slot_got}
 use Rattle.sd_tables.proofs.TableLemmas.{none_of}
@@ -75,20 +75,20 @@ module _ (words : List ℕ) (entries : List LeafEntry) where
 -- ---- a table above the lowest level
 -- the tables of the places before one are copied, each at each of its pages
 abbrev pub AreCopied : {X : Type 0} → (X → ℕ → Option Entry) → List (Option X) → List (Option X) → ℕ → Type 0
-AreCopied at old new from = (page : ℕ) → CopiedTo (λ p. slot_at at (table_in old p) page) (λ p. slot_at at (table_in new p) page) from
+AreCopied at old new from = (page : ℕ) → CopiedTo (λ p. slot_at at (inner_table old p) page) (λ p. slot_at at (inner_table new p) page) from
 
 module _ {X : Type 0} (at : X → ℕ → Option Entry) (IsKept : X → Type 0) (span : ℕ) (words : List ℕ) (tables : List (Option X)) (kept : IsLevel at IsKept span words tables) where
-  slot_unused : (place page : ℕ) → is_used words place ≡ false → slot_at at (table_in tables place) page ≡ None
-  slot_unused place page e = ap (λ o. slot_at at o page) (none_of (table_in tables place) (sym (kept.used place) ∙ e))
+  slot_unused : (place page : ℕ) → is_used words place ≡ false → slot_at at (inner_table tables place) page ≡ None
+  slot_unused place page e = ap (λ o. slot_at at o page) (none_of (inner_table tables place) (sym (kept.used place) ∙ e))
 
-  pub level-none : (new : List (Option X)) → ((place : ℕ) → table_in new place ≡ None) → AreCopied at tables new 0
-  level-none new none page = copied-none (λ p. slot_at at (table_in tables p) page) (λ p. slot_at at (table_in new p) page) (λ p. ap (λ o. slot_at at o page) (none p))
+  pub level-none : (new : List (Option X)) → ((place : ℕ) → inner_table new place ≡ None) → AreCopied at tables new 0
+  level-none new none page = copied-none (λ p. slot_at at (inner_table tables p) page) (λ p. slot_at at (inner_table new p) page) (λ p. ap (λ o. slot_at at o page) (none p))
 
   pub level-all : (new : List (Option X)) (from : ℕ) → IsNextUsed words from None → AreCopied at tables new from → (page : ℕ) → level_at at span new page ≡ option_map bare_entry (level_at at span tables page)
-  level-all new from none so page = copied-all (λ p. slot_at at (table_in tables p) (page % span)) (λ p. slot_at at (table_in new p) (page % span)) from (so (page % span)) (λ q a. slot_unused q (page % span) (none q a)) (page / span)
+  level-all new from none so page = copied-all (λ p. slot_at at (inner_table tables p) (page % span)) (λ p. slot_at at (inner_table new p) (page % span)) from (so (page % span)) (λ q a. slot_unused q (page % span) (none q a)) (page / span)
 
   module _ (new : List (Option X)) (from place : ℕ) (next : IsNextUsed words from (Some place)) (d : Option X) where
-    old_slot : table_in tables place ≡ get_or tables place d
+    old_slot : inner_table tables place ≡ get_or tables place d
     old_slot = slot_got tables place d (let p = kept.places in let n = next.1 in omega arith)
 
     pub kept_place : IsSlot at IsKept span (get_or tables place d)
@@ -96,7 +96,7 @@ module _ {X : Type 0} (at : X → ℕ → Option Entry) (IsKept : X → Type 0) 
 
     module _ (o : Option X) where
       pub level-next : place < length new → AreCopied at tables new from → ((page : ℕ) → slot_at at o page ≡ option_map bare_entry (slot_at at (get_or tables place d) page)) → AreCopied at tables (set new place o) (place + 1)
-      level-next l so is page = copied-next (λ p. slot_at at (table_in tables p) page) (λ p. slot_at at (table_in new p) page) (λ p. slot_at at (table_in (set new place o) p) page) from place next.0 (so page)
+      level-next l so is page = copied-next (λ p. slot_at at (inner_table tables p) page) (λ p. slot_at at (inner_table new p) page) (λ p. slot_at at (inner_table (set new place o) p) page) from place next.0 (so page)
           (λ q a b. slot_unused q page (next.3 q a b))
           (ap (λ s. slot_at at (option_and_then (λ table. table) s) page) (got_set new place o l) ∙ is page ∙ ap (λ s. option_map bare_entry (slot_at at s page)) (sym old_slot))
           (λ q apart. ap (λ s. slot_at at (option_and_then (λ table. table) s) page) (got_other new place q o apart))
@@ -117,7 +117,7 @@ pub bare_seen : (o : Option Entry) → is_some (option_map bare_entry o) ≡ is_
 bare_seen None = refl
 bare_seen (Some e) = refl
 
-pub has_copy : (span : ℕ) (old new : ℕ → Option Entry) → ((page : ℕ) → new page ≡ option_map bare_entry (old page)) → HasPage span old → HasPage span new
+pub has_copy : (span : ℕ) (old new : ℕ → Option Entry) → ((page : ℕ) → new page ≡ option_map bare_entry (old page)) → HasMappedPage span old → HasMappedPage span new
 has_copy span old new is has = (has.0, has.1, ap is_some (is has.0) ∙ bare_seen (old has.0) ∙ has.2)
 
 -- ---- a page table

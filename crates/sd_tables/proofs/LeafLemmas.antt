@@ -5,7 +5,7 @@ use Rattle.std.specs.Option.{option_map}
 use Rattle.std.proofs.lemmas.Bool.{cases_eq, eq-eqb, ne_eqb, or_left, cond-true, cond-false}
 use Rattle.sd_tables.specs.declared.entry.Entry.{Entry}
 use Rattle.sd_tables.specs.declared.leaf_entry.LeafEntry.{LeafEntry}
-use Rattle.sd_tables.specs.Radix.{is_used, entry_in, leaf_at, HasPage, IsNextUsed}
+use Rattle.sd_tables.specs.Radix.{is_used, entry_in, leaf_at, HasMappedPage, IsNextUsed}
 use Rattle.sd_tables.proofs.PlaceLemmas.{got_set, got_other}
 
 module _ (words after : List ℕ) (entries : List LeafEntry) (place : ℕ) (within : place < length entries) (e : LeafEntry) (added : (other : ℕ) → is_used after other ≡ (nat_eq other place || is_used words other)) where
@@ -26,7 +26,7 @@ there (x ∷ xs) zero l = refl
 there (x ∷ xs) (suc place) l = there xs place (omega arith)
 
 -- a leaf with a used place has a page
-pub leaf_has : (words : List ℕ) (entries : List LeafEntry) → length entries ≡ 512 → (o : Option ℕ) → is_some o ≡ true → IsNextUsed words 0 o → HasPage 512 (leaf_at words entries)
+pub leaf_has : (words : List ℕ) (entries : List LeafEntry) → length entries ≡ 512 → (o : Option ℕ) → is_some o ≡ true → IsNextUsed words 0 o → HasMappedPage 512 (leaf_at words entries)
 leaf_has words entries l None e next = absurd (let f : false ≡ true = e in cc)
 leaf_has words entries l (Some place) e next = (
   place,

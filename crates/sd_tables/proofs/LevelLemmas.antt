@@ -7,7 +7,7 @@ use Rattle.std.proofs.lemmas.Nat.{div-mul-add, mod-mul-add, div-add-mod', mul-ad
 use Rattle.std.proofs.lemmas.Option.{slice_get-get_or}
 use Rattle.std.proofs.Math.Nat.{div-mul-le_self, mul-le-mul_right}
 use Rattle.sd_tables.specs.declared.entry.Entry.{Entry}
-use Rattle.sd_tables.specs.Radix.{is_used, slot_at, table_in, level_at, HasPage, IsFirstAt, IsFirstIn, IsNextUsed, IsSlot, IsLevel}
+use Rattle.sd_tables.specs.Radix.{is_used, slot_at, inner_table, level_at, HasMappedPage, IsFirstAt, IsFirstInTable, IsNextUsed, IsSlot, IsLevel}
 use Rattle.sd_tables.proofs.PlaceLemmas.{got_set, got_other}
 use Rattle.sd_tables.proofs.TableLemmas.{some_of, not_none, none_of}
 
@@ -56,30 +56,30 @@ module _ {X : Type 0} (at : X → ℕ → Option Entry) (span : ℕ) where
 
   -- a place was changed at one page
   pub changed : (tables : List (Option X)) (page : ℕ) (o : Option X) (x : Option Entry) → page / span < length tables
-      → ((other : ℕ) → slot_at at o other ≡ cond (nat_eq other (page % span)) x (slot_at at (table_in tables (page / span)) other))
+      → ((other : ℕ) → slot_at at o other ≡ cond (nat_eq other (page % span)) x (slot_at at (inner_table tables (page / span)) other))
       → (other : ℕ) → level_at at span (set tables (page / span) o) other ≡ cond (nat_eq other page) x (level_at at span tables other)
   changed tables page o x l is other = elim (cases_eq (other / span) (page / span)) [
-    | inl same ↦ ap (λ p. slot_at at (table_in (set tables (page / span) o) p) (other % span)) same
+    | inl same ↦ ap (λ p. slot_at at (inner_table (set tables (page / span) o) p) (other % span)) same
         ∙ ap (λ s. slot_at at (option_and_then (λ table. table) s) (other % span)) (got_set tables (page / span) o l)
         ∙ is (other % span)
-        ∙ ap (λ p. cond (nat_eq (other % span) (page % span)) x (slot_at at (table_in tables p) (other % span))) (sym same)
+        ∙ ap (λ p. cond (nat_eq (other % span) (page % span)) x (slot_at at (inner_table tables p) (other % span))) (sym same)
         ∙ ap (λ b. cond b x (level_at at span tables other)) (same_tests other page same)
     | inr apart ↦ ap (λ s. slot_at at (option_and_then (λ table. table) s) (other % span)) (got_other tables (page / span) (other / span) o apart)
         ∙ sym (cond-false (nat_eq other page) x (level_at at span tables other) (ne_eqb other page (λ e. apart (ap (λ k. k / span) e))))
   ]
 
   -- ---- a page of the table in a place is one of the whole
-  module _ (tables : List (Option X)) (place : ℕ) (slot : Option X) (there : table_in tables place ≡ slot) where
+  module _ (tables : List (Option X)) (place : ℕ) (slot : Option X) (there : inner_table tables place ≡ slot) where
     at_place : (page : ℕ) → page / span ≡ place → level_at at span tables page ≡ slot_at at slot (page % span)
-    at_place page q = ap (λ p. slot_at at (table_in tables p) (page % span)) q ∙ ap (λ o. slot_at at o (page % span)) there
+    at_place page q = ap (λ p. slot_at at (inner_table tables p) (page % span)) q ∙ ap (λ o. slot_at at o (page % span)) there
 
     at_page : (page : ℕ) → page < span → level_at at span tables (place * span + page) ≡ slot_at at slot page
     at_page page l = at_place (place * span + page) (div-mul-add place span page l) ∙ ap (slot_at at slot) (mod-mul-add place span page l)
 
-    pub first_in_none : (from : ℕ) → IsFirstAt span (slot_at at slot) from None → IsFirstIn span (level_at at span tables) place from None
+    pub first_in_none : (from : ℕ) → IsFirstAt span (slot_at at slot) from None → IsFirstInTable span (level_at at span tables) place from None
     first_in_none from none page q l = at_place page q ∙ none (page % span) l
 
-    pub first_in_some : (from first : ℕ) (entry : Entry) → IsFirstAt span (slot_at at slot) from (Some (first, entry)) → IsFirstIn span (level_at at span tables) place from (Some (place * span + first, entry))
+    pub first_in_some : (from first : ℕ) (entry : Entry) → IsFirstAt span (slot_at at slot) from (Some (first, entry)) → IsFirstInTable span (level_at at span tables) place from (Some (place * span + first, entry))
     first_in_some from first entry some =
         let m = mod-mul-add place span first some.1 in (
           div-mul-add place span first some.1,
@@ -89,7 +89,7 @@ module _ {X : Type 0} (at : X → ℕ → Option Entry) (span : ℕ) where
               (let e = div-add-mod' page span in let k : page / span * span ≡ place * span = ap (λ k. k * span) q in omega arith),
         )
 
-    pub has_page : 0 < span → place < 512 → HasPage span (slot_at at slot) → HasPage (512 * span) (level_at at span tables)
+    pub has_page : 0 < span → place < 512 → HasMappedPage span (slot_at at slot) → HasMappedPage (512 * span) (level_at at span tables)
     has_page pos within has = (
       place * span + has.0,
       spans span place (place * span + has.0) pos (div-mul-add place span has.0 has.1) within,
@@ -97,33 +97,33 @@ module _ {X : Type 0} (at : X → ℕ → Option Entry) (span : ℕ) where
     )
 
 module _ {X : Type 0} (at : X → ℕ → Option Entry) (IsKept : X → Type 0) (span : ℕ) (pos : 0 < span) (words : List ℕ) (tables : List (Option X)) (kept : IsLevel at IsKept span words tables) where
-  unused : (place : ℕ) → is_used words place ≡ false → table_in tables place ≡ None
-  unused place e = none_of (table_in tables place) (sym (kept.used place) ∙ e)
+  unused : (place : ℕ) → is_used words place ≡ false → inner_table tables place ≡ None
+  unused place e = none_of (inner_table tables place) (sym (kept.used place) ∙ e)
 
   unused_at : (page : ℕ) → is_used words (page / span) ≡ false → level_at at span tables page ≡ None
   unused_at page e = ap (λ o. slot_at at o (page % span)) (unused (page / span) e)
 
-  slot_of : (place : ℕ) (table : X) → table_in tables place ≡ Some table → IsKept table × HasPage span (at table)
+  slot_of : (place : ℕ) (table : X) → inner_table tables place ≡ Some table → IsKept table × HasMappedPage span (at table)
   slot_of place table e = kept.slots place table e
 
-  pub used_table : (place : ℕ) → is_used words place ≡ true → (table : X) × (table_in tables place ≡ Some table)
-  used_table place e = some_of (table_in tables place) (sym (kept.used place) ∙ e)
+  pub used_table : (place : ℕ) → is_used words place ≡ true → (table : X) × (inner_table tables place ≡ Some table)
+  used_table place e = some_of (inner_table tables place) (sym (kept.used place) ∙ e)
 
   pub none_used : IsNextUsed words 0 None → (page : ℕ) → level_at at span tables page ≡ None
   none_used none page = unused_at page (none (page / span) (omega arith))
 
-  pub some_used : (place : ℕ) → IsNextUsed words 0 (Some place) → HasPage (512 * span) (level_at at span tables)
+  pub some_used : (place : ℕ) → IsNextUsed words 0 (Some place) → HasMappedPage (512 * span) (level_at at span tables)
   some_used place next =
       let found = used_table place next.2 in
       has_page at span tables place (Some found.0) found.1 pos next.1 (slot_of place found.0 found.1).1
 
-  pub level_has : (o : Option ℕ) → is_some o ≡ true → IsNextUsed words 0 o → HasPage (512 * span) (level_at at span tables)
+  pub level_has : (o : Option ℕ) → is_some o ≡ true → IsNextUsed words 0 o → HasMappedPage (512 * span) (level_at at span tables)
   level_has None e next = absurd (let f : false ≡ true = e in cc)
   level_has (Some place) e next = some_used place next
 
   module _ (page place : ℕ) (here : page / span ≡ place) where
     -- it is found in the page's own table
-    pub first_here : (first : ℕ) (entry : Entry) → place < 512 → IsFirstIn span (level_at at span tables) place (page % span) (Some (first, entry)) → IsFirstAt (512 * span) (level_at at span tables) page (Some (first, entry))
+    pub first_here : (first : ℕ) (entry : Entry) → place < 512 → IsFirstInTable span (level_at at span tables) place (page % span) (Some (first, entry)) → IsFirstAt (512 * span) (level_at at span tables) page (Some (first, entry))
     first_here first entry within some = (
       place_le span page first (here ∙ sym some.0) some.1,
       spans span place first pos some.0 within,
@@ -136,7 +136,7 @@ module _ {X : Type 0} (at : X → ℕ → Option Entry) (IsKept : X → Type 0) 
           some.3 other q (le_place span page other (here ∙ sym q) l) b,
     )
 
-    module _ (none : IsFirstIn span (level_at at span tables) place (page % span) None) where
+    module _ (none : IsFirstInTable span (level_at at span tables) place (page % span) None) where
       not_here : (other : ℕ) → page ≤ other → other / span ≡ place → level_at at span tables other ≡ None
       not_here other l q = none other q (le_place span page other (here ∙ sym q) l)
 
@@ -149,7 +149,7 @@ module _ {X : Type 0} (at : X → ℕ → Option Entry) (IsKept : X → Type 0) 
 
       module _ (after : ℕ) (next : IsNextUsed words (place + 1) (Some after)) where
         -- it is the first page of the next table
-        pub first_after : (first : ℕ) (entry : Entry) → IsFirstIn span (level_at at span tables) after 0 (Some (first, entry)) → IsFirstAt (512 * span) (level_at at span tables) page (Some (first, entry))
+        pub first_after : (first : ℕ) (entry : Entry) → IsFirstInTable span (level_at at span tables) after 0 (Some (first, entry)) → IsFirstAt (512 * span) (level_at at span tables) page (Some (first, entry))
         first_after first entry some = (
           (let n = next.0 in let f = some.0 in elim (cases_lt page first) [
             | inl l ↦ omega arith
@@ -172,7 +172,7 @@ module _ {X : Type 0} (at : X → ℕ → Option Entry) (IsKept : X → Type 0) 
             ]
 
         -- the next table has a page
-        pub never_none : IsFirstIn span (level_at at span tables) after 0 None → ⊥
+        pub never_none : IsFirstInTable span (level_at at span tables) after 0 None → ⊥
         never_none none =
             let found = used_table after next.2 in
             let has = (slot_of after found.0 found.1).1 in
@@ -194,14 +194,14 @@ module _ {X : Type 0} (at : X → ℕ → Option Entry) (IsKept : X → Type 0) 
     ];
   }
     where
-      here : (other : ℕ) → other ≡ place → table_in (set tables place o) other ≡ o
-      here other same = ap (table_in (set tables place o)) same ∙ ap (option_and_then (λ table. table)) (got_set tables place o (let p = kept.places in omega arith))
+      here : (other : ℕ) → other ≡ place → inner_table (set tables place o) other ≡ o
+      here other same = ap (inner_table (set tables place o)) same ∙ ap (option_and_then (λ table. table)) (got_set tables place o (let p = kept.places in omega arith))
 
-      there : (other : ℕ) → (other ≡ place → ⊥) → table_in (set tables place o) other ≡ table_in tables other
+      there : (other : ℕ) → (other ≡ place → ⊥) → inner_table (set tables place o) other ≡ inner_table tables other
       there other apart = ap (option_and_then (λ table. table)) (got_other tables place other o apart)
 
 -- ---- as the code reads and writes a place
-pub slot_got : {X : Type 0} (tables : List (Option X)) (place : ℕ) (d : Option X) → place < length tables → table_in tables place ≡ get_or tables place d
+pub slot_got : {X : Type 0} (tables : List (Option X)) (place : ℕ) (d : Option X) → place < length tables → inner_table tables place ≡ get_or tables place d
 slot_got tables place d l = ap (option_and_then (λ table. table)) (slice_get-get_or tables place d l)
 
 -- what holds where an error is returned
@@ -214,17 +214,17 @@ below_512 span s page e pos l = subst (λ k. page / k < 512) (sym e) (place_with
 
 -- the table in a place, as the code reads it
 module _ {X : Type 0} (at : X → ℕ → Option Entry) (IsKept : X → Type 0) (span : ℕ) (words : List ℕ) (tables : List (Option X)) (kept : IsLevel at IsKept span words tables) (place : ℕ) (within : place < 512) (d : Option X) where
-  got_is : table_in tables place ≡ get_or tables place d
+  got_is : inner_table tables place ≡ get_or tables place d
   got_is = slot_got tables place d (let p = kept.places in omega arith)
 
   pub kept_got : IsSlot at IsKept span (get_or tables place d)
   kept_got = subst (λ (o : Option X). IsSlot at IsKept span o) got_is (kept.slots place)
 
-  pub first_got_none : (from : ℕ) → IsFirstAt span (slot_at at (get_or tables place d)) from None → IsFirstIn span (level_at at span tables) place from None
+  pub first_got_none : (from : ℕ) → IsFirstAt span (slot_at at (get_or tables place d)) from None → IsFirstInTable span (level_at at span tables) place from None
   first_got_none from none = first_in_none at span tables place (get_or tables place d) got_is from none
 
-  pub first_got_some : (s from first : ℕ) (entry : Entry) → s ≡ span → IsFirstAt span (slot_at at (get_or tables place d)) from (Some (first, entry)) → IsFirstIn span (level_at at span tables) place from (Some (place * s + first, entry))
-  first_got_some s from first entry e some = subst (λ k. IsFirstIn span (level_at at span tables) place from (Some (place * k + first, entry))) (sym e) (first_in_some at span tables place (get_or tables place d) got_is from first entry some)
+  pub first_got_some : (s from first : ℕ) (entry : Entry) → s ≡ span → IsFirstAt span (slot_at at (get_or tables place d)) from (Some (first, entry)) → IsFirstInTable span (level_at at span tables) place from (Some (place * s + first, entry))
+  first_got_some s from first entry e some = subst (λ k. IsFirstInTable span (level_at at span tables) place from (Some (place * k + first, entry))) (sym e) (first_in_some at span tables place (get_or tables place d) got_is from first entry some)
 
 -- the table in the place of a page, as the code reads it: s and t are the span of the tables below
 module _ {X : Type 0} (at : X → ℕ → Option Entry) (IsKept : X → Type 0) (span : ℕ) (pos : 0 < span) (words : List ℕ) (tables : List (Option X)) (kept : IsLevel at IsKept span words tables)
@@ -232,14 +232,14 @@ module _ {X : Type 0} (at : X → ℕ → Option Entry) (IsKept : X → Type 0) 
   below : page / s < length tables
   below = (let l = below_512 span s page e pos within in let p = kept.places in omega arith)
 
-  slot_is : table_in tables (page / s) ≡ get_or tables (page / s) d
+  slot_is : inner_table tables (page / s) ≡ get_or tables (page / s) d
   slot_is = slot_got tables (page / s) d below
 
   pub kept_slot : IsSlot at IsKept span (get_or tables (page / s) d)
   kept_slot = subst (λ (o : Option X). IsSlot at IsKept span o) slot_is (kept.slots (page / s))
 
   pub level_got : slot_at at (get_or tables (page / s) d) (page % t) ≡ level_at at span tables page
-  level_got = ap (λ o. slot_at at o (page % t)) (sym slot_is) ∙ ap (λ k. slot_at at (table_in tables (page / k)) (page % t)) e ∙ ap (λ k. slot_at at (table_in tables (page / span)) (page % k)) f
+  level_got = ap (λ o. slot_at at o (page % t)) (sym slot_is) ∙ ap (λ k. slot_at at (inner_table tables (page / k)) (page % t)) e ∙ ap (λ k. slot_at at (inner_table tables (page / span)) (page % k)) f
 
   -- ---- the slot is another
   module _ (o : Option X) where
@@ -247,14 +247,14 @@ module _ {X : Type 0} (at : X → ℕ → Option Entry) (IsKept : X → Type 0) 
         → (other : ℕ) → level_at at span (set tables (page / s) o) other ≡ cond (nat_eq other page) x (level_at at span tables other)
     level_changed x is other = ap (λ k. level_at at span (set tables (page / k) o) other) e
         ∙ changed at span tables page o x (subst (λ k. page / k < length tables) e below)
-        (λ q. is q ∙ ap (λ k. cond (nat_eq q (page % k)) x (slot_at at (get_or tables (page / s) d) q)) f ∙ ap (λ b. cond (nat_eq q (page % span)) x (slot_at at b q)) (sym slot_is ∙ ap (λ k. table_in tables (page / k)) e)) other
+        (λ q. is q ∙ ap (λ k. cond (nat_eq q (page % k)) x (slot_at at (get_or tables (page / s) d) q)) f ∙ ap (λ b. cond (nat_eq q (page % span)) x (slot_at at b q)) (sym slot_is ∙ ap (λ k. inner_table tables (page / k)) e)) other
 
     pub level_same : ((other : ℕ) → slot_at at o other ≡ slot_at at (get_or tables (page / s) d) other)
         → (other : ℕ) → level_at at span (set tables (page / s) o) other ≡ level_at at span tables other
     level_same is other = elim (cases_eq (other / span) (page / s)) [
-      | inl here ↦ ap (λ p. slot_at at (table_in (set tables (page / s) o) p) (other % span)) here
+      | inl here ↦ ap (λ p. slot_at at (inner_table (set tables (page / s) o) p) (other % span)) here
           ∙ ap (λ k. slot_at at (option_and_then (λ table. table) k) (other % span)) (got_set tables (page / s) o below)
-          ∙ is (other % span) ∙ ap (λ k. slot_at at k (other % span)) (sym slot_is) ∙ ap (λ p. slot_at at (table_in tables p) (other % span)) (sym here)
+          ∙ is (other % span) ∙ ap (λ k. slot_at at k (other % span)) (sym slot_is) ∙ ap (λ p. slot_at at (inner_table tables p) (other % span)) (sym here)
       | inr apart ↦ ap (λ k. slot_at at (option_and_then (λ table. table) k) (other % span)) (got_other tables (page / s) (other / span) o apart)
     ]
 
@@ -289,19 +289,19 @@ module _ {X : Type 0} (at : X → ℕ → Option Entry) (IsKept : X → Type 0) 
   own : page / span ≡ page / s
   own = ap (λ k. page / k) (sym e)
 
-  in_own : (o : Option (ℕ × Entry)) → IsFirstIn span (level_at at span tables) (page / s) (page % t) o → IsFirstIn span (level_at at span tables) (page / s) (page % span) o
-  in_own o first = subst (λ k. IsFirstIn span (level_at at span tables) (page / s) (page % k) o) f first
+  in_own : (o : Option (ℕ × Entry)) → IsFirstInTable span (level_at at span tables) (page / s) (page % t) o → IsFirstInTable span (level_at at span tables) (page / s) (page % span) o
+  in_own o first = subst (λ k. IsFirstInTable span (level_at at span tables) (page / s) (page % k) o) f first
 
-  pub found_here : (o : Option (ℕ × Entry)) → is_some o ≡ true → IsFirstIn span (level_at at span tables) (page / s) (page % t) o → IsFirstAt (512 * span) (level_at at span tables) page o
+  pub found_here : (o : Option (ℕ × Entry)) → is_some o ≡ true → IsFirstInTable span (level_at at span tables) (page / s) (page % t) o → IsFirstAt (512 * span) (level_at at span tables) page o
   found_here None g first = absurd (let h : false ≡ true = g in cc)
   found_here (Some first) g some = first_here at IsKept span pos words tables kept page (page / s) own first.0 first.1 (below_512 span s page e pos within) (in_own (Some first) some)
 
-  pub nowhere : (o : Option (ℕ × Entry)) → is_some o ≡ false → IsFirstIn span (level_at at span tables) (page / s) (page % t) o → IsNextUsed words (page / s + 1) None → IsFirstAt (512 * span) (level_at at span tables) page None
+  pub nowhere : (o : Option (ℕ × Entry)) → is_some o ≡ false → IsFirstInTable span (level_at at span tables) (page / s) (page % t) o → IsNextUsed words (page / s + 1) None → IsFirstAt (512 * span) (level_at at span tables) page None
   nowhere None g none next = first_nowhere at IsKept span pos words tables kept page (page / s) own (in_own None none) next
   nowhere (Some first) g none next = absurd (let h : true ≡ false = g in cc)
 
-  pub of_next : (o : Option (ℕ × Entry)) → is_some o ≡ false → IsFirstIn span (level_at at span tables) (page / s) (page % t) o → (after : ℕ) → IsNextUsed words (page / s + 1) (Some after)
-      → (r : Option (ℕ × Entry)) → IsFirstIn span (level_at at span tables) after 0 r → IsFirstAt (512 * span) (level_at at span tables) page r
+  pub of_next : (o : Option (ℕ × Entry)) → is_some o ≡ false → IsFirstInTable span (level_at at span tables) (page / s) (page % t) o → (after : ℕ) → IsNextUsed words (page / s + 1) (Some after)
+      → (r : Option (ℕ × Entry)) → IsFirstInTable span (level_at at span tables) after 0 r → IsFirstAt (512 * span) (level_at at span tables) page r
   of_next (Some first) g none after next r found = absurd (let h : true ≡ false = g in cc)
   of_next None g none after next None found = absurd (never_none at IsKept span pos words tables kept page (page / s) own (in_own None none) after next found)
   of_next None g none after next (Some first) found = first_after at IsKept span pos words tables kept page (page / s) own (in_own None none) after next first.0 first.1 found

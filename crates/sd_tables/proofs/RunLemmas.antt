@@ -15,7 +15,7 @@ use Rattle.sd_tables.specs.declared.entry.Entry.{Entry}
 use Rattle.sd_tables.specs.declared.leaf_entry.LeafEntry.{LeafEntry}
 use Rattle.sd_tables.specs.declared.run_change.RunChange.{RunChange}
 use Rattle.sd_tables.specs.Tables.{Table}
-use Rattle.sd_tables.specs.Radix.{is_used, entry_in, leaf_at, slot_at, table_in, level_at, HasPage, IsLevel, table_of}
+use Rattle.sd_tables.specs.Radix.{is_used, entry_in, leaf_at, slot_at, inner_table, level_at, HasMappedPage, IsLevel, table_of}
 use Rattle.sd_tables.specs.Runs.{takes, changed_entry, change_of, AreMapped, ChangesRun, FillsRun}
 use Rattle.sd_tables.proofs.PlaceLemmas.{got_set, got_other}
 use Rattle.sd_tables.proofs.LevelLemmas.{slot_got, place_within}
@@ -63,7 +63,7 @@ module _ (change : RunChange) where
     ]
   ]
 
-  pub changes-has : (span : ℕ) (a b : ℕ → Option Entry) (from to : ℕ) → ChangesRun change a b from to → HasPage span a → HasPage span b
+  pub changes-has : (span : ℕ) (a b : ℕ → Option Entry) (from to : ℕ) → ChangesRun change a b from to → HasMappedPage span a → HasMappedPage span b
   changes-has span a b from to run has = (has.0, has.1, changes-mapped a b from to has.0 run ∙ has.2)
 
   chosen : (t : Bool) (x y : Entry) → cond t (Some x) None ≡ Some y → (t ≡ true) × (y ≡ x)
@@ -95,10 +95,10 @@ module _ (change : RunChange) where
 
   -- ---- a table above the lowest level
   module _ {X : Type 0} (at : X → ℕ → Option Entry) (span : ℕ) (tables : List (Option X)) (place : ℕ) (o : Option X) (within : place < length tables) where
-    at_place : (ts : List (Option X)) (slot : Option X) (page : ℕ) → table_in ts place ≡ slot → page / span ≡ place → level_at at span ts page ≡ slot_at at slot (page % span)
-    at_place ts slot page there q = ap (λ p. slot_at at (table_in ts p) (page % span)) q ∙ ap (λ s. slot_at at s (page % span)) there
+    at_place : (ts : List (Option X)) (slot : Option X) (page : ℕ) → inner_table ts place ≡ slot → page / span ≡ place → level_at at span ts page ≡ slot_at at slot (page % span)
+    at_place ts slot page there q = ap (λ p. slot_at at (inner_table ts p) (page % span)) q ∙ ap (λ s. slot_at at s (page % span)) there
 
-    put : table_in (set tables place o) place ≡ o
+    put : inner_table (set tables place o) place ≡ o
     put = ap (option_and_then (λ table. table)) (got_set tables place o within)
 
     place_of : (page to : ℕ) → place * span ≤ page → page < place * span + to → to ≤ span → (page / span ≡ place) × (page % span ≡ page - place * span)
@@ -107,14 +107,14 @@ module _ (change : RunChange) where
         let is : place * span + (page - place * span) ≡ page = omega arith in
         (sym (ap (λ k. k / span) is) ∙ div-mul-add place span (page - place * span) r, sym (ap (λ k. k % span) is) ∙ mod-mul-add place span (page - place * span) r)
 
-    pub run_below : (from to : ℕ) → to ≤ span → ChangesRun change (slot_at at (table_in tables place)) (slot_at at o) from to
+    pub run_below : (from to : ℕ) → to ≤ span → ChangesRun change (slot_at at (inner_table tables place)) (slot_at at o) from to
         → ChangesRun change (level_at at span tables) (level_at at span (set tables place o)) (place * span + from) (place * span + to)
     run_below from to le run = record {
       taken = λ page l m.
           let p = place_of page to (omega arith) m le in
           let q = p.1 in
           let t = run.taken (page % span) (omega arith) (omega arith) in
-          (t.0, at_place tables (table_in tables place) page refl p.0 ∙ t.1, t.2, at_place (set tables place o) o page put p.0 ∙ t.3);
+          (t.0, at_place tables (inner_table tables place) page refl p.0 ∙ t.1, t.2, at_place (set tables place o) o page put p.0 ∙ t.3);
       others = λ page out. elim (cases_eq (page / span) place) [
         | inl q ↦
             let is : page / span * span + page % span ≡ page = div-add-mod' page span in
@@ -124,20 +124,20 @@ module _ (change : RunChange) where
               | inl below ↦ inl (omega arith)
               | inr above ↦ inr (omega arith)
             ])
-            ∙ sym (at_place tables (table_in tables place) page refl q)
+            ∙ sym (at_place tables (inner_table tables place) page refl q)
         | inr apart ↦ ap (λ k. slot_at at (option_and_then (λ table. table) k) (page % span)) (got_other tables place (page / span) o apart)
       ];
     }
 
 -- the mapped pages of the table in a place
-in_place : {X : Type 0} (at : X → ℕ → Option Entry) (span : ℕ) (tables : List (Option X)) (place from to : ℕ) → to ≤ span → AreMapped (slot_at at (table_in tables place)) from to
+in_place : {X : Type 0} (at : X → ℕ → Option Entry) (span : ℕ) (tables : List (Option X)) (place from to : ℕ) → to ≤ span → AreMapped (slot_at at (inner_table tables place)) from to
     → AreMapped (level_at at span tables) (place * span + from) (place * span + to)
 in_place at span tables place from to le mapped page l m =
     let r : page - place * span < span = omega arith in
     let is : place * span + (page - place * span) ≡ page = omega arith in
     let q : page / span ≡ place = sym (ap (λ k. k / span) is) ∙ div-mul-add place span (page - place * span) r in
     let rest : page % span ≡ page - place * span = sym (ap (λ k. k % span) is) ∙ mod-mul-add place span (page - place * span) r in
-    ap (λ p. is_some (slot_at at (table_in tables p) (page % span))) q ∙ mapped (page % span) (omega arith) (omega arith)
+    ap (λ p. is_some (slot_at at (inner_table tables p) (page % span))) q ∙ mapped (page % span) (omega arith) (omega arith)
 
 -- as the code reads and writes a place: s, t and u are the span of the tables below
 module _ {X : Type 0} (at : X → ℕ → Option Entry) (IsKept : X → Type 0) (span : ℕ) (pos : 0 < span) (words : List ℕ) (tables : List (Option X)) (kept : IsLevel at IsKept span words tables)
@@ -162,7 +162,7 @@ module _ {X : Type 0} (at : X → ℕ → Option Entry) (IsKept : X → Type 0) 
       omega arith
 
   module _ (d : Option X) where
-    slot_is : table_in tables (page / s) ≡ get_or tables (page / s) d
+    slot_is : inner_table tables (page / s) ≡ get_or tables (page / s) d
     slot_is = slot_got tables (page / s) d in_tables
 
     pub level_run : (change : RunChange) (o : Option X) (reached : ℕ) → reached ≤ span → ChangesRun change (slot_at at (get_or tables (page / s) d)) (slot_at at o) (page % t) reached
@@ -180,7 +180,7 @@ module _ {X : Type 0} (at : X → ℕ → Option Entry) (IsKept : X → Type 0) 
         let first = subst (λ k. AreMapped (level_at at span tables) k (page / s * span + reached)) begins all in
         subst (λ k. AreMapped (level_at at span tables) page (page / s * k + reached)) (sym g) first
       where
-        mapped_of : (place : ℕ) → AreMapped (slot_at at (table_in tables place)) (page % t) reached → AreMapped (level_at at span tables) (place * span + page % t) (place * span + reached)
+        mapped_of : (place : ℕ) → AreMapped (slot_at at (inner_table tables place)) (page % t) reached → AreMapped (level_at at span tables) (place * span + page % t) (place * span + reached)
         mapped_of place own = in_place at span tables place (page % t) reached l own
 
 -- ---- a page table
@@ -233,7 +233,7 @@ module _ (entry : Entry) where
   }
 
   -- those that were mapped are mapped
-  pub fills-has : (span : ℕ) (a b : ℕ → Option Entry) (from to : ℕ) → FillsRun entry a b from to → HasPage span a → HasPage span b
+  pub fills-has : (span : ℕ) (a b : ℕ → Option Entry) (from to : ℕ) → FillsRun entry a b from to → HasMappedPage span a → HasMappedPage span b
   fills-has span a b from to run has = (
     has.0,
     has.1,
@@ -251,9 +251,9 @@ module _ (entry : Entry) where
 
   -- the run is that of the table in a place
   pub fill_below : {X : Type 0} (at : X → ℕ → Option Entry) (span : ℕ) (tables : List (Option X)) (place : ℕ) (o : Option X) → place < length tables → (from to : ℕ) → to ≤ span
-      → FillsRun entry (slot_at at (table_in tables place)) (slot_at at o) from to → FillsRun entry (level_at at span tables) (level_at at span (set tables place o)) (place * span + from) (place * span + to)
+      → FillsRun entry (slot_at at (inner_table tables place)) (slot_at at o) from to → FillsRun entry (level_at at span tables) (level_at at span (set tables place o)) (place * span + from) (place * span + to)
   fill_below {X = X} at span tables place o within from to le run = record {
-    holes = λ page l m. (let p = in_run page l m in seen tables (table_in tables place) page refl p.0 ∙ (let q = p.1 in run.holes (page % span) (omega arith) (omega arith)));
+    holes = λ page l m. (let p = in_run page l m in seen tables (inner_table tables place) page refl p.0 ∙ (let q = p.1 in run.holes (page % span) (omega arith) (omega arith)));
     filled = λ page l m. (let p = in_run page l m in seen (set tables place o) o page put p.0 ∙ (let q = p.1 in run.filled (page % span) (omega arith) (omega arith)));
     others = λ page out. elim (cases_eq (page / span) place) [
       | inl q ↦
@@ -264,15 +264,15 @@ module _ (entry : Entry) where
             | inl below ↦ inl (omega arith)
             | inr above ↦ inr (omega arith)
           ])
-          ∙ sym (seen tables (table_in tables place) page refl q)
+          ∙ sym (seen tables (inner_table tables place) page refl q)
       | inr apart ↦ ap (λ k. slot_at at (option_and_then (λ table. table) k) (page % span)) (got_other tables place (page / span) o apart)
     ];
   }
     where
-      seen : (ts : List (Option X)) (slot : Option X) (page : ℕ) → table_in ts place ≡ slot → page / span ≡ place → level_at at span ts page ≡ slot_at at slot (page % span)
-      seen ts slot page there q = ap (λ p. slot_at at (table_in ts p) (page % span)) q ∙ ap (λ s. slot_at at s (page % span)) there
+      seen : (ts : List (Option X)) (slot : Option X) (page : ℕ) → inner_table ts place ≡ slot → page / span ≡ place → level_at at span ts page ≡ slot_at at slot (page % span)
+      seen ts slot page there q = ap (λ p. slot_at at (inner_table ts p) (page % span)) q ∙ ap (λ s. slot_at at s (page % span)) there
 
-      put : table_in (set tables place o) place ≡ o
+      put : inner_table (set tables place o) place ≡ o
       put = ap (option_and_then (λ table. table)) (got_set tables place o within)
 
       in_run : (page : ℕ) → place * span + from ≤ page → page < place * span + to → (page / span ≡ place) × (page % span ≡ page - place * span)
@@ -284,7 +284,7 @@ module _ (entry : Entry) where
 -- as the code writes a place: s, t and u are the span of the tables below
 module _ {X : Type 0} (at : X → ℕ → Option Entry) (IsKept : X → Type 0) (span : ℕ) (pos : 0 < span) (words : List ℕ) (tables : List (Option X)) (kept : IsLevel at IsKept span words tables)
     (page s t u : ℕ) (e : s ≡ span) (f : t ≡ span) (g : u ≡ span) (within : page < 512 * span) (d : Option X) where
-  own_slot : table_in tables (page / s) ≡ get_or tables (page / s) d
+  own_slot : inner_table tables (page / s) ≡ get_or tables (page / s) d
   own_slot = slot_got tables (page / s) d (in_tables at IsKept span pos words tables kept page s t u e f g within)
 
   pub level_fill : (entry : Entry) (o : Option X) (reached : ℕ) → reached ≤ span → FillsRun entry (slot_at at (get_or tables (page / s) d)) (slot_at at o) (page % t) reached
@@ -306,7 +306,7 @@ table_fill entry limit f g from to le run = record {
 pub fill_from : (entry : Entry) (a b c : ℕ → Option Entry) (from first to : ℕ) → ((q : ℕ) → c q ≡ a q) → from ≡ first → FillsRun entry a b from to → FillsRun entry c b first to
 fill_from entry a b c from first to e same run = subst (λ k. FillsRun entry c b k to) same (fills-seen entry a b c b from to e (λ q. refl) run)
 
-pub fill_after : {E : Type 0} (entry : Entry) (span : ℕ) (a b : ℕ → Option Entry) (from : ℕ) (r : Result ℕ E) → HasPage span a → IfOk r (λ to. FillsRun entry a b from to) → OnErr r ((q : ℕ) → b q ≡ a q) → HasPage span b
+pub fill_after : {E : Type 0} (entry : Entry) (span : ℕ) (a b : ℕ → Option Entry) (from : ℕ) (r : Result ℕ E) → HasMappedPage span a → IfOk r (λ to. FillsRun entry a b from to) → OnErr r ((q : ℕ) → b q ≡ a q) → HasMappedPage span b
 fill_after entry span a b from (Ok to) has run err = fills-has entry span a b from to run has
 fill_after entry span a b from (Err e) has run err = (has.0, has.1, ap is_some (err has.0) ∙ has.2)
 

@@ -3,10 +3,10 @@ use Rattle.std.proofs.Common.{◌≡◌, ℕ, ◌<◌, cond, nat_eq, IsSome, Opt
 use Rattle.std.specs.Prelude.{Result, Ok, Err, IfOk, OnErr}
 use Rattle.std.proofs.lemmas.Bool.{eq-eqb, cond-true}
 use Rattle.sd_tables.specs.declared.entry.Entry.{Entry}
-use Rattle.sd_tables.specs.Radix.{HasPage}
+use Rattle.sd_tables.specs.Radix.{HasMappedPage}
 
 -- a page that was put is there
-pub has_put : (span : ℕ) (before after : ℕ → Option Entry) (page : ℕ) (entry : Entry) → page < span → ((other : ℕ) → after other ≡ cond (nat_eq other page) (Some entry) (before other)) → HasPage span after
+pub has_put : (span : ℕ) (before after : ℕ → Option Entry) (page : ℕ) (entry : Entry) → page < span → ((other : ℕ) → after other ≡ cond (nat_eq other page) (Some entry) (before other)) → HasMappedPage span after
 has_put span before after page entry l is = (
   page,
   l,
@@ -14,7 +14,7 @@ has_put span before after page entry l is = (
 )
 
 -- and where it couldn't be put, those that were there are there
-pub has_after : {E : Type 0} (span : ℕ) (before after : ℕ → Option Entry) (page : ℕ) (entry : Entry) (r : Result (Option Entry) E) → page < span → HasPage span before
-    → IfOk r (λ _. (other : ℕ) → after other ≡ cond (nat_eq other page) (Some entry) (before other)) → OnErr r ((other : ℕ) → after other ≡ before other) → HasPage span after
+pub has_after : {E : Type 0} (span : ℕ) (before after : ℕ → Option Entry) (page : ℕ) (entry : Entry) (r : Result (Option Entry) E) → page < span → HasMappedPage span before
+    → IfOk r (λ _. (other : ℕ) → after other ≡ cond (nat_eq other page) (Some entry) (before other)) → OnErr r ((other : ℕ) → after other ≡ before other) → HasMappedPage span after
 has_after span before after page entry (Ok x) l has ok err = has_put span before after page entry l ok
 has_after span before after page entry (Err e) l has ok err = (has.0, has.1, subst (λ (o : Option Entry). IsSome o) (sym (err has.0)) has.2)

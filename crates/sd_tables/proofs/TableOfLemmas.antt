@@ -12,7 +12,7 @@ use Rattle.std.proofs.lemmas.Bool.{cases_Bool, cases_eq, cases_lt, cond-true, co
 use Rattle.std.proofs.lemmas.Bool.Decides.{nat_tests}
 use Rattle.sd_areas.specs.Pages.{pages_from, is_within}
 use Rattle.sd_tables.specs.declared.entry.Entry.{Entry}
-use Rattle.sd_tables.specs.Firsts.{is_from, start_of, IsFirstFrom}
+use Rattle.sd_tables.specs.Firsts.{is_from, first_allowed, IsFirstFrom}
 use Rattle.sd_tables.specs.Tables.{Table}
 use Rattle.sd_tables.specs.Radix.{table_of, IsFirstAt}
 use Rattle.sd_tables.proofs.TableLemmas.{same_table, same_test, get_put, get_removed, within_next, none_within, not_none}
@@ -184,7 +184,7 @@ module _ (limit : ℕ) (f : ℕ → Option Entry) (k page : ℕ) (same : k ≡ p
   some_there = ap is_some (sym (get_within f limit k l) ∙ ap (λ m. finmap.get m k) is ∙ ap (finmap.get t) same) ∙ there
 
 -- ---- the first page from a bound on
-from_is : (start : Bound ℕ) (page : ℕ) → is_from start page ≡ nat_le (start_of start) page
+from_is : (start : Bound ℕ) (page : ℕ) → is_from start page ≡ nat_le (first_allowed start) page
 from_is (Included first) page = refl
 from_is (Excluded before) page = grind (arith, nat_tests)
 from_is Unbounded page = grind (arith, nat_tests)
@@ -196,31 +196,31 @@ module _ (limit span : ℕ) (at : ℕ → Option Entry) (start : Bound ℕ) wher
     | inr g ↦ absurd (not_none (finmap.get (table_of limit at) page) (get_past at limit page g) some)
   ]
 
-  reached : (page : ℕ) → is_from start page ≡ true → start_of start ≤ page
-  reached page e = (let h : nat_le (start_of start) page ≡ true = sym (from_is start page) ∙ e in leb-true (start_of start) page h)
+  reached : (page : ℕ) → is_from start page ≡ true → first_allowed start ≤ page
+  reached page e = (let h : nat_le (first_allowed start) page ≡ true = sym (from_is start page) ∙ e in leb-true (first_allowed start) page h)
 
-  not_from : (page : ℕ) → (start_of start ≤ page → ⊥) → is_from start page ≡ false
-  not_from page n = from_is start page ∙ lt-leb (start_of start) page (omega arith)
+  not_from : (page : ℕ) → (first_allowed start ≤ page → ⊥) → is_from start page ≡ false
+  not_from page n = from_is start page ∙ lt-leb (first_allowed start) page (omega arith)
 
-  pub first_found : (first : ℕ) (entry : Entry) → first < limit → IsFirstAt span at (start_of start) (Some (first, entry)) → IsFirstFrom (table_of limit at) start (Some first)
+  pub first_found : (first : ℕ) (entry : Entry) → first < limit → IsFirstAt span at (first_allowed start) (Some (first, entry)) → IsFirstFrom (table_of limit at) start (Some first)
   first_found first entry l some = (
     ap is_some (get_within at limit first l ∙ some.2),
-    from_is start first ∙ le-leb (start_of start) first some.0,
+    from_is start first ∙ le-leb (first_allowed start) first some.0,
     λ page is from. elim (cases_lt page first) [
       | inl b ↦ absurd (not_none (finmap.get (table_of limit at) page) (get_within at limit page (some_below page is) ∙ some.3 page (reached page from) b) is)
       | inr g ↦ g
     ],
   )
 
-  pub first_none : IsFirstAt span at (start_of start) None → IsFirstFrom (table_of limit at) start None
+  pub first_none : IsFirstAt span at (first_allowed start) None → IsFirstFrom (table_of limit at) start None
   first_none none page is = not_from page (λ l. not_none (finmap.get (table_of limit at) page) (get_within at limit page (some_below page is) ∙ none page l) is)
 
-  pub first_past : (first : ℕ) (entry : Entry) → limit ≤ first → IsFirstAt span at (start_of start) (Some (first, entry)) → IsFirstFrom (table_of limit at) start None
+  pub first_past : (first : ℕ) (entry : Entry) → limit ≤ first → IsFirstAt span at (first_allowed start) (Some (first, entry)) → IsFirstFrom (table_of limit at) start None
   first_past first entry g some page is = not_from page (λ l. not_none (finmap.get (table_of limit at) page)
       (get_within at limit page (some_below page is) ∙ some.3 page l (let b = some_below page is in omega arith)) is)
 
 -- ---- as the code finds it
-module _ (limit span : ℕ) (at : ℕ → Option Entry) (start : Bound ℕ) (n : ℕ) (e : n ≡ start_of start) (t : Table Entry) (is : table_of limit at ≡ t) where
+module _ (limit span : ℕ) (at : ℕ → Option Entry) (start : Bound ℕ) (n : ℕ) (e : n ≡ first_allowed start) (t : Table Entry) (is : table_of limit at ≡ t) where
   pub from_none : IsFirstAt span at n None → IsFirstFrom t start None
   from_none none = subst (λ (m : Table Entry). IsFirstFrom m start None) is (first_none limit span at start (subst (λ k. IsFirstAt span at k None) e none))
 
@@ -235,7 +235,7 @@ module _ (limit span : ℕ) (at : ℕ → Option Entry) (start : Bound ℕ) (n :
     pub from_some : (page : ℕ) → first < limit → page ≡ first → IsFirstFrom t start (Some page)
     from_some page within value = subst (λ (m : Table Entry). IsFirstFrom m start (Some page)) is
         (first_found limit span at start page entry (subst (λ k. k < limit) (sym value) within)
-        (subst (λ k. IsFirstAt span at (start_of start) (Some (k, entry))) (sym value) (subst (λ k. IsFirstAt span at k (Some (first, entry))) e some)))
+        (subst (λ k. IsFirstAt span at (first_allowed start) (Some (k, entry))) (sym value) (subst (λ k. IsFirstAt span at k (Some (first, entry))) e some)))
 
     pub entry_from : (page : ℕ) → first < limit → page ≡ first → finmap.get t page ≡ Some entry
     entry_from page within value = ap (finmap.get t) value ∙ ap (λ m. finmap.get m first) (sym is) ∙ get_within at limit first within ∙ some.2

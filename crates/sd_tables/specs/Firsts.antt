@@ -11,10 +11,10 @@ is_from (Excluded before) page = nat_lt before page
 is_from Unbounded page = true
 
 -- the number of the first page that a bound allows
-abbrev pub start_of : Bound ℕ → ℕ
-start_of (Included first) = first
-start_of (Excluded before) = before + 1
-start_of Unbounded = 0
+abbrev pub first_allowed : Bound ℕ → ℕ
+first_allowed (Included first) = first
+first_allowed (Excluded before) = before + 1
+first_allowed Unbounded = 0
 
 abbrev pub IsFirstFrom : {X : Type 0} → Table X → Bound ℕ → Option ℕ → Type 0
 IsFirstFrom table start None = (page : ℕ) → IsSome (finmap.get table page) → is_from start page ≡ false

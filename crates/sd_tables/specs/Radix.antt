@@ -56,16 +56,16 @@ abbrev pub slot_at : {X : Type 0} → (X → ℕ → Option Entry) → Option X 
 slot_at at slot page = option_and_then (λ table. at table page) slot
 
 -- the table in a place
-abbrev pub table_in : {X : Type 0} → List (Option X) → ℕ → Option X
-table_in tables place = option_and_then (λ table. table) (slice_get tables place)
+abbrev pub inner_table : {X : Type 0} → List (Option X) → ℕ → Option X
+inner_table tables place = option_and_then (λ table. table) (slice_get tables place)
 
 -- what a table above the lowest level has at a page, where each table below spans so many pages
 abbrev pub level_at : {X : Type 0} → (X → ℕ → Option Entry) → ℕ → List (Option X) → ℕ → Option Entry
-level_at at span tables page = slot_at at (table_in tables (page / span)) (page % span)
+level_at at span tables page = slot_at at (inner_table tables (page / span)) (page % span)
 
 -- some page below a limit is mapped
-abbrev pub HasPage : ℕ → (ℕ → Option Entry) → Type 0
-HasPage limit at = (page : ℕ) × (page < limit) × IsSome (at page)
+abbrev pub HasMappedPage : ℕ → (ℕ → Option Entry) → Type 0
+HasMappedPage limit at = (page : ℕ) × (page < limit) × IsSome (at page)
 
 -- the first mapped page from one on, below a limit, with its entry
 abbrev pub IsFirstAt : ℕ → (ℕ → Option Entry) → ℕ → Option (ℕ × Entry) → Type 0
@@ -75,22 +75,22 @@ IsFirstAt limit at from (Some first) = (from ≤ first.0) × (first.0 < limit) �
 
 -- the first mapped page from one on, among those of the table in a place, with its entry; that one counts from the
 -- table's first page
-abbrev pub IsFirstIn : ℕ → (ℕ → Option Entry) → ℕ → ℕ → Option (ℕ × Entry) → Type 0
-IsFirstIn span at place from None = (page : ℕ) → page / span ≡ place → from ≤ page % span → at page ≡ None
-IsFirstIn span at place from (Some first) = (first.0 / span ≡ place) × (from ≤ first.0 % span)
+abbrev pub IsFirstInTable : ℕ → (ℕ → Option Entry) → ℕ → ℕ → Option (ℕ × Entry) → Type 0
+IsFirstInTable span at place from None = (page : ℕ) → page / span ≡ place → from ≤ page % span → at page ≡ None
+IsFirstInTable span at place from (Some first) = (first.0 / span ≡ place) × (from ≤ first.0 % span)
     × (at first.0 ≡ Some first.1)
     × ((page : ℕ) → page / span ≡ place → from ≤ page % span → page < first.0 → at page ≡ None)
 
 -- a place has no table, or one that is kept and has a page
 abbrev pub IsSlot : {X : Type 0} → (X → ℕ → Option Entry) → (X → Type 0) → ℕ → Option X → Type 0
-IsSlot at IsKept span slot = ForSome slot (λ table. IsKept table × HasPage span (at table))
+IsSlot at IsKept span slot = ForSome slot (λ table. IsKept table × HasMappedPage span (at table))
 
 -- a table above the lowest level has 512 places; its bits say which have a table
 pub record IsLevel {X : Type 0} (at : X → ℕ → Option Entry) (IsKept : X → Type 0) (span : ℕ) (words : List ℕ)
     (tables : List (Option X)) : Type 0 where
   pub places : length tables ≡ 512
-  pub used : (place : ℕ) → is_used words place ≡ is_some (table_in tables place)
-  pub slots : (place : ℕ) → IsSlot at IsKept span (table_in tables place)
+  pub used : (place : ℕ) → is_used words place ≡ is_some (inner_table tables place)
+  pub slots : (place : ℕ) → IsSlot at IsKept span (inner_table tables place)
 
 -- the table that has at each page below a limit what a function says
 unfoldable pub table_of : ℕ → (ℕ → Option Entry) → Table Entry

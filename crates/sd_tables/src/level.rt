@@ -2,7 +2,7 @@ ghost use Rattle.std.specs.Prelude.{◌≡◌, ℕ, ◌+◌, ◌*◌, ◌/◌, �
 ghost use Rattle.std.specs.Prelude.{OnOk};
 ghost use Rattle.std.specs.Option.{option_map};
 ghost use Rattle.sd_tables.specs.Copies.{bare_entry};
-ghost use Rattle.sd_tables.specs.Radix.{is_used, table_in, level_at, IsFirstIn, IsLevel};
+ghost use Rattle.sd_tables.specs.Radix.{is_used, inner_table, level_at, IsFirstInTable, IsLevel};
 
 use crate::entry::Entry;
 use crate::node::Node;
@@ -24,7 +24,7 @@ pub(crate) struct Level<T: Node> {
 impl<T: Node> Level<T> {
     /// A table without tables.
     fn new() -> Self
-        ensures tables { (place : ℕ) → table_in result.tables place ≡ None }
+        ensures tables { (place : ℕ) → inner_table result.tables place ≡ None }
         ensures used { (place : ℕ) → is_used result.used.words place ≡ false }
     {
         Level {
@@ -40,7 +40,7 @@ impl<T: Node> Level<T> {
     /// Out of memory where a table can't be allocated: some of them are there.
     fn put_bare(&mut self, alloc: Global, other: &Self) -> Result<(), AllocError>
         requires fits { T.span ≤ 2 ^ 36 }
-        requires empty { (place : ℕ) → table_in self.old.tables place ≡ None }
+        requires empty { (place : ℕ) → inner_table self.old.tables place ≡ None }
         requires own { IsLevel (λ table. T.at table.value)
             (λ table. T.IsKept table.value) T.span self.old.used.words self.old.tables }
         requires kept { IsLevel (λ table. T.at table.value)
@@ -67,7 +67,8 @@ impl<T: Node> Level<T> {
         requires page { page < T.span }
         requires kept { IsLevel (λ table. T.at table.value)
             (λ table. T.IsKept table.value) T.span self.now.used.words self.now.tables }
-        ensures { IsFirstIn T.span (level_at (λ table. T.at table.value) T.span self.now.tables) place page result }
+        ensures { IsFirstInTable T.span
+            (level_at (λ table. T.at table.value) T.span self.now.tables) place page result }
     {
         let (found, entry) = first_in(&self.tables[place], page)?;
         Some((place as u64 * T::span() + found, entry))

@@ -3,7 +3,7 @@ ghost use Rattle.std.specs.Prelude.{IsSome, IfSome, IfNone, true, false};
 ghost use Rattle.sd_tables.specs.declared.entry.Entry.{Entry as EntryValue};
 ghost use Rattle.std.specs.Option.{option_map};
 ghost use Rattle.sd_tables.specs.Copies.{bare_entry};
-ghost use Rattle.sd_tables.specs.Radix.{HasPage, IsFirstAt};
+ghost use Rattle.sd_tables.specs.Radix.{HasMappedPage, IsFirstAt};
 ghost use Rattle.sd_tables.specs.Runs.{AreMapped, ChangesRun, FillsRun};
 
 use crate::entry::Entry;
@@ -161,7 +161,7 @@ pub(crate) trait Node: Drop {
         requires fits { span ≤ 2 ^ 36 }
         requires kept { IsKept self.now }
         ensures empty { result ≡ true → (page : ℕ) → at self.now page ≡ None }
-        ensures some { result ≡ false → HasPage span (at self.now) };
+        ensures some { result ≡ false → HasMappedPage span (at self.now) };
 
     /// Every table spans some pages.
     ghost some_span: { 1 ≤ span };

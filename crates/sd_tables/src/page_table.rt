@@ -3,7 +3,7 @@ ghost use Rattle.std.specs.FinMap as finmap;
 ghost use Rattle.std.specs.Prelude.{IfSome};
 ghost use Rattle.std.specs.Option.{option_map};
 ghost use Rattle.sd_tables.specs.Copies.{bare_entry};
-ghost use Rattle.sd_tables.specs.Firsts.{start_of, IsFirstFrom};
+ghost use Rattle.sd_tables.specs.Firsts.{first_allowed, IsFirstFrom};
 ghost use Rattle.sd_tables.specs.Runs.{AreMapped, ChangesRun, FillsRun};
 
 use crate::entry::Entry;
@@ -198,7 +198,7 @@ impl PageTable {
 
 /// The number of the first page that a bound allows.
 fn start_of(start: Bound<PageNo>) -> u64
-    ensures value { result ≡ start_of start }
+    ensures value { result ≡ first_allowed start }
     ensures within { result ≤ 2 ^ 35 }
 {
     match start {

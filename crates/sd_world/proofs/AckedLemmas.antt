@@ -36,8 +36,8 @@ use Rattle.sd_world.specs.declared.kept.Kept.TheVariants.{Outcome, Request}
 use Rattle.sd_world.specs.Acked.{AcksThere, ArePreDumpsThere, DoesAck, HasPreDumpsThere, IsAckedThere, IsThere}
 use Rattle.sd_world.specs.Consistent.{IsConsistent, IsWorld}
 use Rattle.sd_world.specs.KeptCheckpoint.{KeepsCheckpoint, RanBefore}
-use Rattle.sd_world.specs.Steps.{Does, HandsInAt, HandsInIfAny, Performs, TakesUp, Works}
-use Rattle.sd_world.specs.View.{WorldView, asked_of, id_of}
+use Rattle.sd_world.specs.Steps.{Does, HandsInAt, HandsInIfAny, Performs, WorkerTakesUp, WorkerWorks}
+use Rattle.sd_world.specs.View.{WorldView, asked_of, kept_id}
 use Rattle.sd_world.proofs.KeptLemmas.{asked_id_of}
 use Rattle.sd_world.proofs.Lists.{get_map, map_get}
 use Rattle.sd_world.proofs.MergesLemmas.{reads_free}
@@ -106,7 +106,7 @@ module _ {D : Type 0} (g : Ghosts D) (world : WorldView D) (is : IsWorld g world
   none_at : (slot : ℕ) → IsFree world.core.outs slot → (worker : ℕ) (request : Asked) → slice_get (map asked_of world.kept) worker ≡ Some (Some request) → request.id.slot ≢ slot
   none_at slot free worker request out same =
       let k = map_get asked_of world.kept worker (Some request) out in
-      free worker request.id (ap (λ outs. slice_get outs worker) is.outs ∙ get_map id_of world.kept worker k.0 k.1 ∙ ap Some (asked_id_of k.0 request k.2)) same
+      free worker request.id (ap (λ outs. slice_get outs worker) is.outs ∙ get_map kept_id world.kept worker k.0 k.1 ∙ ap Some (asked_id_of k.0 request k.2)) same
 
   pub open_there : (serial : ℕ) (o : Opened) → IsOpenAt world.core o.slot → place_of world.core.catalog serial ≡ Some (Some o) → IsThere (g.contents world.disk) o
   open_there serial o opens is_in =
@@ -316,9 +316,9 @@ module _ {D : Type 0} (g : Ghosts D) (old new : WorldView D) (pre_new : HasItsPr
       by (reply.Refused why) is up = other (reply.Refused why) (λ m no. (let not : Step (reply.Refused why) ≡ Step (reply.Reopened m) = no in cc)) up
 
   takes_there : (worker : Worker) (answer : Reply) → g.contents new.disk ≡ contents → (old.core.opener ≢ None → old.core.dumper.running ≡ None)
-      → TakesUp worker old.core old.kept answer new.core new.kept → KeepsPreDumps g old new
-  takes_there worker answer still alone (TakesUp.step taken left) = step_there worker (Step answer) still alone taken
-  takes_there worker answer still alone (TakesUp.call request taken left worked) = step_there worker (Call request) still alone taken
+      → WorkerTakesUp worker old.core old.kept answer new.core new.kept → KeepsPreDumps g old new
+  takes_there worker answer still alone (WorkerTakesUp.step taken left) = step_there worker (Step answer) still alone taken
+  takes_there worker answer still alone (WorkerTakesUp.call request taken left worked) = step_there worker (Call request) still alone taken
 
   -- ---- an outcome
 
@@ -335,7 +335,7 @@ module _ {D : Type 0} (g : Ghosts D) (old new : WorldView D) (pre_new : HasItsPr
   module _ (world : IsWorld g old) (was : IsConsistent g old) (world_new : IsWorld g new) (was_new : IsConsistent g new) where
     module _ (worker : Worker) (place : ℕ) (answer : Reply) (hands : HandsInAt worker place old.core old.kept answer new.core new.kept) (still : g.contents new.disk ≡ contents) where
       abbrev out : IsOut old.core hands.made.request.id
-      out = record { lane = hands.lane; is = ap (λ outs. slice_get outs hands.lane) world.outs ∙ get_map id_of old.kept hands.lane (Outcome hands.made) hands.is }
+      out = record { lane = hands.lane; is = ap (λ outs. slice_get outs hands.lane) world.outs ∙ get_map kept_id old.kept hands.lane (Outcome hands.made) hands.is }
 
       asked_at : slice_get (map asked_of old.kept) hands.lane ≡ Some (Some hands.made.request)
       asked_at = get_map asked_of old.kept hands.lane (Outcome hands.made) hands.is
@@ -407,9 +407,9 @@ module _ {D : Type 0} (g : Ghosts D) (old new : WorldView D) (pre_new : HasItsPr
           AddsBy r = AddsByOutcome hands.made.request.id.worker r (history_of old.core) (history_of new.core)
 
     works_there : (worker : Worker) (answer : Reply) → g.contents new.disk ≡ contents → (old.core.opener ≢ None → old.core.dumper.running ≡ None)
-        → Works worker old.core old.kept answer new.core new.kept → KeepsPreDumps g old new
-    works_there worker answer still alone (Works.hands_in hands) = hands_there worker 0 answer hands still
-    works_there worker answer still alone (Works.takes_up none takes) = takes_there worker answer still alone takes
+        → WorkerWorks worker old.core old.kept answer new.core new.kept → KeepsPreDumps g old new
+    works_there worker answer still alone (WorkerWorks.hands_in hands) = hands_there worker 0 answer hands still
+    works_there worker answer still alone (WorkerWorks.takes_up none takes) = takes_there worker answer still alone takes
 
     hand_in_there : (worker : Worker) (place : ℕ) (answer : Reply) → g.contents new.disk ≡ contents → HandsInIfAny worker place old.core old.kept answer new.core new.kept → KeepsPreDumps g old new
     hand_in_there worker place answer still (HandsInIfAny.hands_in hands) = hands_there worker place answer hands still
@@ -426,7 +426,7 @@ module _ {D : Type 0} (g : Ghosts D) (old new : WorldView D) (pre_new : HasItsPr
         request = it.request
 
         at : slice_get old.core.outs it.lane ≡ Some (Some request.id)
-        at = ap (λ outs. slice_get outs it.lane) world.outs ∙ get_map id_of old.kept it.lane (Request request) it.is
+        at = ap (λ outs. slice_get outs it.lane) world.outs ∙ get_map kept_id old.kept it.lane (Request request) it.is
 
         file_stays : (running : Running) → old.core.dumper.running ≡ Some running → (k : ℕ) → k < running.opened
             → file_at (g.contents new.disk) (get_or running.pre_dumps k running.dump) ≡ file_at contents (get_or running.pre_dumps k running.dump)
@@ -466,14 +466,14 @@ module _ {D : Type 0} (g : Ghosts D) (old new : WorldView D) (pre_new : HasItsPr
 
     -- ---- the acknowledgement
 
-    none_taken : (worker : Worker) (answer : Reply) → TakesUp worker old.core old.kept answer new.core new.kept → AcksThere g old answer new
-    none_taken worker answer (TakesUp.step taken left) n is = absurd (subst (λ a. AddsByStep worker old.core a (history_of old.core) (history_of new.core)) is taken.takes.adds)
-    none_taken worker answer (TakesUp.call request taken left worked) n is = absurd (let no : reply.Worked ≡ reply.Acked n = sym worked ∙ is in cc)
+    none_taken : (worker : Worker) (answer : Reply) → WorkerTakesUp worker old.core old.kept answer new.core new.kept → AcksThere g old answer new
+    none_taken worker answer (WorkerTakesUp.step taken left) n is = absurd (subst (λ a. AddsByStep worker old.core a (history_of old.core) (history_of new.core)) is taken.takes.adds)
+    none_taken worker answer (WorkerTakesUp.call request taken left worked) n is = absurd (let no : reply.Worked ≡ reply.Acked n = sym worked ∙ is in cc)
 
     works_ack : (worker : Worker) (answer : Reply) → g.contents new.disk ≡ contents → HasFewOpen old.core.dumper.running → HasPreDumpsThere g old
-        → Works worker old.core old.kept answer new.core new.kept → AcksThere g old answer new
-    works_ack worker answer still few there (Works.hands_in hands) n is = acks_there worker 0 answer hands still few n is there
-    works_ack worker answer still few there (Works.takes_up none takes) n is = none_taken worker answer takes n is
+        → WorkerWorks worker old.core old.kept answer new.core new.kept → AcksThere g old answer new
+    works_ack worker answer still few there (WorkerWorks.hands_in hands) n is = acks_there worker 0 answer hands still few n is there
+    works_ack worker answer still few there (WorkerWorks.takes_up none takes) n is = none_taken worker answer takes n is
 
     hand_in_acks : (worker : Worker) (place : ℕ) (answer : Reply) → g.contents new.disk ≡ contents → HasFewOpen old.core.dumper.running → HasPreDumpsThere g old
         → HandsInIfAny worker place old.core old.kept answer new.core new.kept → AcksThere g old answer new
@@ -517,9 +517,9 @@ module _ {D : Type 0} (g : Ghosts D) (old new : WorldView D) (pre_new : HasItsPr
   core_ran : new.core ≡ old.core → Ran
   core_ran same = same_ran (same_dumper old.core new.core (ap (λ (v : CoreView). v.dumper) same))
 
-  takes_ran : (worker : Worker) (answer : Reply) → TakesUp worker old.core old.kept answer new.core new.kept → Ran
-  takes_ran worker answer (TakesUp.step taken left) = same_ran (taken_round g old new pre_new worker (Step answer) taken)
-  takes_ran worker answer (TakesUp.call request taken left worked) = same_ran (taken_round g old new pre_new worker (Call request) taken)
+  takes_ran : (worker : Worker) (answer : Reply) → WorkerTakesUp worker old.core old.kept answer new.core new.kept → Ran
+  takes_ran worker answer (WorkerTakesUp.step taken left) = same_ran (taken_round g old new pre_new worker (Step answer) taken)
+  takes_ran worker answer (WorkerTakesUp.call request taken left worked) = same_ran (taken_round g old new pre_new worker (Call request) taken)
 
   hands_ran : (worker : Worker) (place : ℕ) (answer : Reply) → HandsInAt worker place old.core old.kept answer new.core new.kept → Ran
   hands_ran worker place answer hands = elim (is_dumper hands.made.request.id.worker) [
@@ -528,11 +528,11 @@ module _ {D : Type 0} (g : Ghosts D) (old new : WorldView D) (pre_new : HasItsPr
   ]
     where
       out : IsOut old.core hands.made.request.id
-      out = record { lane = hands.lane; is = ap (λ outs. slice_get outs hands.lane) world.outs ∙ get_map id_of old.kept hands.lane (Outcome hands.made) hands.is }
+      out = record { lane = hands.lane; is = ap (λ outs. slice_get outs hands.lane) world.outs ∙ get_map kept_id old.kept hands.lane (Outcome hands.made) hands.is }
 
-  works_ran : (worker : Worker) (answer : Reply) → Works worker old.core old.kept answer new.core new.kept → Ran
-  works_ran worker answer (Works.hands_in hands) = hands_ran worker 0 answer hands
-  works_ran worker answer (Works.takes_up none takes) = takes_ran worker answer takes
+  works_ran : (worker : Worker) (answer : Reply) → WorkerWorks worker old.core old.kept answer new.core new.kept → Ran
+  works_ran worker answer (WorkerWorks.hands_in hands) = hands_ran worker 0 answer hands
+  works_ran worker answer (WorkerWorks.takes_up none takes) = takes_ran worker answer takes
 
   hand_in_ran : (worker : Worker) (place : ℕ) (answer : Reply) → HandsInIfAny worker place old.core old.kept answer new.core new.kept → Ran
   hand_in_ran worker place answer (HandsInIfAny.hands_in hands) = hands_ran worker place answer hands

@@ -20,8 +20,8 @@ use Rattle.sd_world.specs.declared.event.Event.TheVariants.{Command, Begin, Work
 use Rattle.sd_world.specs.declared.kept.Kept.TheVariants.{Outcome}
 use Rattle.sd_world.specs.Adds.{AddsByCommand, AddsByPerform, AddsByTrim, AddsByWork, AddsToJournal}
 use Rattle.sd_world.specs.Consistent.{IsWorld}
-use Rattle.sd_world.specs.Steps.{Does, HandsInAt, HandsInIfAny, IsCommand, Performs, TakesUp, Works, answer_of, reply_of_answer}
-use Rattle.sd_world.specs.View.{WorldView, id_of}
+use Rattle.sd_world.specs.Steps.{Does, HandsInAt, HandsInIfAny, IsCommand, Performs, WorkerTakesUp, WorkerWorks, answer_of, reply_of_answer}
+use Rattle.sd_world.specs.View.{WorldView, kept_id}
 use Rattle.sd_world.specs.Trims.{TrimsJournal}
 use Rattle.sd_world.proofs.KeptLemmas.{whose}
 use Rattle.sd_world.proofs.Lists.{get_map}
@@ -72,14 +72,14 @@ told_adds seat command (Err why) old new applies = inr (record { why = why; eith
 module _ {D : Type 0} (g : Ghosts D) (old new : WorldView D) (world : IsWorld g old) where
   -- the outcome that is kept in a lane is out in it
   pub is_out : (lane : ℕ) (made : Made) → slice_get old.kept lane ≡ Some (Outcome made) → IsOut old.core made.request.id
-  is_out lane made at = record { lane = lane; is = ap (λ outs. slice_get outs lane) world.outs ∙ get_map id_of old.kept lane (Outcome made) at }
+  is_out lane made at = record { lane = lane; is = ap (λ outs. slice_get outs lane) world.outs ∙ get_map kept_id old.kept lane (Outcome made) at }
 
   -- ---- the journal
 
-  taken_adds : (worker : Worker) (answer : Reply) → TakesUp worker old.core old.kept answer new.core new.kept
+  taken_adds : (worker : Worker) (answer : Reply) → WorkerTakesUp worker old.core old.kept answer new.core new.kept
       → AddsByWork worker old.core answer (history_of old.core) (history_of new.core)
-  taken_adds worker answer (TakesUp.step taken left) = adds_by_step worker old.core answer (history_of old.core) (history_of new.core) taken.takes.adds
-  taken_adds worker answer (TakesUp.call request taken left worked) =
+  taken_adds worker answer (WorkerTakesUp.step taken left) = adds_by_step worker old.core answer (history_of old.core) (history_of new.core) taken.takes.adds
+  taken_adds worker answer (WorkerTakesUp.call request taken left worked) =
       subst (λ a. AddsByWork worker old.core a (history_of old.core) (history_of new.core)) (sym worked) (inl taken.takes.history)
 
   handed_adds : (worker : Worker) (place : ℕ) (answer : Reply) → HandsInAt worker place old.core old.kept answer new.core new.kept
@@ -89,10 +89,10 @@ module _ {D : Type 0} (g : Ghosts D) (old new : WorldView D) (world : IsWorld g 
       adds_by_outcome worker old.core answer (history_of old.core) (history_of new.core)
       (subst (λ w. AddsByOutcome w answer (history_of old.core) (history_of new.core)) (whose old.kept worker place hands.lane hands.made hands.at hands.is) handed.adds)
 
-  work_adds : (worker : Worker) (answer : Reply) → Works worker old.core old.kept answer new.core new.kept
+  work_adds : (worker : Worker) (answer : Reply) → WorkerWorks worker old.core old.kept answer new.core new.kept
       → AddsByWork worker old.core answer (history_of old.core) (history_of new.core)
-  work_adds worker answer (Works.hands_in hands) = handed_adds worker 0 answer hands
-  work_adds worker answer (Works.takes_up none takes) = taken_adds worker answer takes
+  work_adds worker answer (WorkerWorks.hands_in hands) = handed_adds worker 0 answer hands
+  work_adds worker answer (WorkerWorks.takes_up none takes) = taken_adds worker answer takes
 
   hand_in_adds : (worker : Worker) (place : ℕ) (answer : Reply) → HandsInIfAny worker place old.core old.kept answer new.core new.kept
       → AddsByWork worker old.core answer (history_of old.core) (history_of new.core)
@@ -142,16 +142,16 @@ module _ {D : Type 0} (g : Ghosts D) (old new : WorldView D) (world : IsWorld g 
 
   -- ---- the base
 
-  taken_base : (worker : Worker) (answer : Reply) → TakesUp worker old.core old.kept answer new.core new.kept → new.core.base ≡ old.core.base
-  taken_base worker answer (TakesUp.step taken left) = elim taken.takes.keeps [ inl stays ↦ stays.base | inr anew ↦ anew.base ]
-  taken_base worker answer (TakesUp.call request taken left worked) = taken.takes.base
+  taken_base : (worker : Worker) (answer : Reply) → WorkerTakesUp worker old.core old.kept answer new.core new.kept → new.core.base ≡ old.core.base
+  taken_base worker answer (WorkerTakesUp.step taken left) = elim taken.takes.keeps [ inl stays ↦ stays.base | inr anew ↦ anew.base ]
+  taken_base worker answer (WorkerTakesUp.call request taken left worked) = taken.takes.base
 
   handed_base : (worker : Worker) (place : ℕ) (answer : Reply) → HandsInAt worker place old.core old.kept answer new.core new.kept → new.core.base ≡ old.core.base
   handed_base worker place answer hands = (hands.hands.does.handed (is_out hands.lane hands.made hands.is)).base
 
-  work_base : (worker : Worker) (answer : Reply) → Works worker old.core old.kept answer new.core new.kept → new.core.base ≡ old.core.base
-  work_base worker answer (Works.hands_in hands) = handed_base worker 0 answer hands
-  work_base worker answer (Works.takes_up none takes) = taken_base worker answer takes
+  work_base : (worker : Worker) (answer : Reply) → WorkerWorks worker old.core old.kept answer new.core new.kept → new.core.base ≡ old.core.base
+  work_base worker answer (WorkerWorks.hands_in hands) = handed_base worker 0 answer hands
+  work_base worker answer (WorkerWorks.takes_up none takes) = taken_base worker answer takes
 
   hand_in_base : (worker : Worker) (place : ℕ) (answer : Reply) → HandsInIfAny worker place old.core old.kept answer new.core new.kept → new.core.base ≡ old.core.base
   hand_in_base worker place answer (HandsInIfAny.hands_in hands) = handed_base worker place answer hands

@@ -15,7 +15,7 @@ use Rattle.sd_crash_safety.specs.View.{CoreView}
 use Rattle.sd_world.specs.declared.kept.Kept.{Kept}
 use Rattle.sd_world.specs.declared.kept.Kept.TheVariants.{Outcome}
 use Rattle.sd_world.specs.Consistent.{IsConsistent, IsWorld, SlotNow, slot_now}
-use Rattle.sd_world.specs.View.{asked_of, id_of}
+use Rattle.sd_world.specs.View.{asked_of, kept_id}
 use Rattle.sd_world.proofs.RestingLemmas as resting
 use Rattle.sd_world.proofs.Lists.{get_map, map_get}
 use Rattle.sd_world.proofs.Worlds.{Fits, slot_as}
@@ -25,7 +25,7 @@ module _ {D : Type 0} (g : Ghosts D) (disk : D) (old new : CoreView) (kept : Lis
   files : List (List ℕ)
   files = g.contents disk
 
-  idle : (worker : ℕ) (id : RequestId) → slice_get (map id_of kept) worker ≡ Some (Some id) → ⊥
+  idle : (worker : ℕ) (id : RequestId) → slice_get (map kept_id kept) worker ≡ Some (Some id) → ⊥
   idle = resting.idle g disk old kept anew.none world
 
   none_asked : NoneOut (map asked_of kept)
@@ -77,6 +77,6 @@ module _ {D : Type 0} (g : Ghosts D) (disk : D) (old new : CoreView) (kept : Lis
           bodies = map (drop 1) (g.contents disk);
           believes = anew.believes (map asked_of kept) was.bodies (g.contents disk) none_asked was.believes (left was as_read);
           stands = stands_anew was (refound was as_read) found phases;
-          told = λ worker made is. absurd (idle worker made.request.id (get_map id_of kept worker (Outcome made) is));
+          told = λ worker made is. absurd (idle worker made.request.id (get_map kept_id kept worker (Outcome made) is));
         };
   }

@@ -41,7 +41,7 @@ use Rattle.sd_world.specs.declared.event.Event.{Event}
 use Rattle.sd_world.specs.declared.event.Event.TheVariants.{Command, Begin, Work, TakeUp, HandInAt, Perform, PerformAt, Merge, Cancel, Reopen, Trim}
 use Rattle.sd_world.specs.Closing.{ClosesBehind, ComesToClose, EndsBehind, EndsIn, EntersIn, MergeCloses}
 use Rattle.sd_world.specs.Merges.{DoesMerge, MergesThere}
-use Rattle.sd_world.specs.Steps.{Does, HandsInAt, HandsInIfAny, IsCommand, Performs, TakesUp, Works, answer_of, reply_of_answer}
+use Rattle.sd_world.specs.Steps.{Does, HandsInAt, HandsInIfAny, IsCommand, Performs, WorkerTakesUp, WorkerWorks, answer_of, reply_of_answer}
 use Rattle.sd_world.specs.Consistent.{IsWorld}
 use Rattle.sd_world.specs.Trims.{TrimsJournal}
 use Rattle.sd_world.specs.View.{WorldView}
@@ -217,17 +217,17 @@ module _ {D : Type 0} (g : Ghosts D) (old new : WorldView D) (world : IsWorld g 
   same_core : new.core.merger ≡ old.core.merger → ClosesBehind g old new
   same_core same slot serial c = inl (closing_same old.core new.core slot serial same c)
 
-  taken_closes : (worker : Worker) (answer : Reply) → TakesUp worker old.core old.kept answer new.core new.kept → ClosesBehind g old new
-  taken_closes worker answer (TakesUp.step taken left) slot serial c = inl (taken_closing old.core new.core (StepTaken answer) worker taken slot serial c)
-  taken_closes worker answer (TakesUp.call request taken left worked) slot serial c = inl (taken_closing old.core new.core (CallTaken request) worker taken slot serial c)
+  taken_closes : (worker : Worker) (answer : Reply) → WorkerTakesUp worker old.core old.kept answer new.core new.kept → ClosesBehind g old new
+  taken_closes worker answer (WorkerTakesUp.step taken left) slot serial c = inl (taken_closing old.core new.core (StepTaken answer) worker taken slot serial c)
+  taken_closes worker answer (WorkerTakesUp.call request taken left worked) slot serial c = inl (taken_closing old.core new.core (CallTaken request) worker taken slot serial c)
 
   hand_in_closes : (worker : Worker) (place : ℕ) (answer : Reply) → MergesThere g worker place old answer new → HandsInIfAny worker place old.core old.kept answer new.core new.kept → ClosesBehind g old new
   hand_in_closes worker place answer there (HandsInIfAny.hands_in hands) slot serial c = handed_closes worker place answer hands there (is_done hands.made.answer) refl slot serial c
   hand_in_closes worker place answer there (HandsInIfAny.none none idle) slot serial c = same_core (ap (λ (v : CoreView). v.merger) idle.core) slot serial c
 
-  work_closes : (worker : Worker) (answer : Reply) → MergesThere g worker 0 old answer new → Works worker old.core old.kept answer new.core new.kept → ClosesBehind g old new
-  work_closes worker answer there (Works.hands_in hands) slot serial c = handed_closes worker 0 answer hands there (is_done hands.made.answer) refl slot serial c
-  work_closes worker answer there (Works.takes_up none takes) slot serial c = taken_closes worker answer takes slot serial c
+  work_closes : (worker : Worker) (answer : Reply) → MergesThere g worker 0 old answer new → WorkerWorks worker old.core old.kept answer new.core new.kept → ClosesBehind g old new
+  work_closes worker answer there (WorkerWorks.hands_in hands) slot serial c = handed_closes worker 0 answer hands there (is_done hands.made.answer) refl slot serial c
+  work_closes worker answer there (WorkerWorks.takes_up none takes) slot serial c = taken_closes worker answer takes slot serial c
 
   order_closes : (answer : Reply) → IsMergeOrder answer old.core new.core → ClosesBehind g old new
   order_closes answer order = by (merge_refusal old.core) refl
@@ -297,9 +297,9 @@ module _ {D : Type 0} (g : Ghosts D) (old new : WorldView D) (world : IsWorld g 
 
   -- ---- what ends one
 
-  take_up_ends : (worker : Worker) (answer : Reply) (serial : ℕ) → TakesUp worker old.core old.kept answer new.core new.kept → answer ≡ reply.Merged serial → ⊥
-  take_up_ends worker answer serial (TakesUp.step taken left) is = subst (λ a. AddsByStep worker old.core a (history_of old.core) (history_of new.core)) is taken.takes.adds
-  take_up_ends worker answer serial (TakesUp.call request taken left worked) is = (let no : reply.Worked ≡ reply.Merged serial = sym worked ∙ is in cc)
+  take_up_ends : (worker : Worker) (answer : Reply) (serial : ℕ) → WorkerTakesUp worker old.core old.kept answer new.core new.kept → answer ≡ reply.Merged serial → ⊥
+  take_up_ends worker answer serial (WorkerTakesUp.step taken left) is = subst (λ a. AddsByStep worker old.core a (history_of old.core) (history_of new.core)) is taken.takes.adds
+  take_up_ends worker answer serial (WorkerTakesUp.call request taken left worked) is = (let no : reply.Worked ≡ reply.Merged serial = sym worked ∙ is in cc)
 
   none_kept_ends : (answer : Reply) (serial : ℕ) → answer ≡ reply.Refused Idle → answer ≡ reply.Merged serial → ⊥
   none_kept_ends answer serial idle is = (let no : reply.Refused Idle ≡ reply.Merged serial = sym idle ∙ is in cc)
@@ -309,9 +309,9 @@ module _ {D : Type 0} (g : Ghosts D) (old new : WorldView D) (world : IsWorld g 
   hand_in_ends worker place answer there (HandsInIfAny.hands_in hands) serial is = handed_ends worker place answer hands there serial is
   hand_in_ends worker place answer there (HandsInIfAny.none none idle) serial is = absurd (none_kept_ends answer serial idle.refused is)
 
-  work_ends : (worker : Worker) (answer : Reply) → MergesThere g worker 0 old answer new → Works worker old.core old.kept answer new.core new.kept → EndsBehind g old answer new
-  work_ends worker answer there (Works.hands_in hands) serial is = handed_ends worker 0 answer hands there serial is
-  work_ends worker answer there (Works.takes_up none takes) serial is = absurd (take_up_ends worker answer serial takes is)
+  work_ends : (worker : Worker) (answer : Reply) → MergesThere g worker 0 old answer new → WorkerWorks worker old.core old.kept answer new.core new.kept → EndsBehind g old answer new
+  work_ends worker answer there (WorkerWorks.hands_in hands) serial is = handed_ends worker 0 answer hands there serial is
+  work_ends worker answer there (WorkerWorks.takes_up none takes) serial is = absurd (take_up_ends worker answer serial takes is)
 
   perform_ends : (worker : Worker) (place : ℕ) (answer : Reply) (serial : ℕ) → Performs g worker place old.disk old.kept answer new.disk new.kept → answer ≡ reply.Merged serial → ⊥
   perform_ends worker place answer serial (Performs.none none idle) is = none_kept_ends answer serial idle.refused is

@@ -25,7 +25,7 @@ use Rattle.sd_world.specs.declared.event.Event.TheVariants.{Command, Begin, Work
 use Rattle.sd_world.specs.Acked.{IsThere}
 use Rattle.sd_world.specs.Consistent.{IsConsistent, IsWorld}
 use Rattle.sd_world.specs.Copied.{CopiesStored, DoesCopy, EntersStored}
-use Rattle.sd_world.specs.Steps.{Does, HandsInAt, HandsInIfAny, Works}
+use Rattle.sd_world.specs.Steps.{Does, HandsInAt, HandsInIfAny, WorkerWorks}
 use Rattle.sd_world.specs.View.{WorldView}
 use Rattle.sd_world.proofs.AllowedLemmas.{fits_at}
 use Rattle.sd_world.proofs.KeptLemmas.{whose}
@@ -113,10 +113,10 @@ module _ {D : Type 0} (g : Ghosts D) (old new : WorldView D) (world : IsWorld g 
       → CopiesStored g worker place old new
   handed_copies worker place answer hands same was is_now lane is at merge serial opens = entered worker place answer hands was is_now same is merge serial opens
 
-  works_copies : (worker : Worker) (answer : Reply) → Works worker old.core old.kept answer new.core new.kept → new.disk ≡ old.disk → IsConsistent g old → IsConsistent g new
+  works_copies : (worker : Worker) (answer : Reply) → WorkerWorks worker old.core old.kept answer new.core new.kept → new.disk ≡ old.disk → IsConsistent g old → IsConsistent g new
       → CopiesStored g worker 0 old new
-  works_copies worker answer (Works.hands_in hands) same was is_now = handed_copies worker 0 answer hands same was is_now
-  works_copies worker answer (Works.takes_up none takes) same was is_now = λ lane is at. absurd (none lane at)
+  works_copies worker answer (WorkerWorks.hands_in hands) same was is_now = handed_copies worker 0 answer hands same was is_now
+  works_copies worker answer (WorkerWorks.takes_up none takes) same was is_now = λ lane is at. absurd (none lane at)
 
   hand_in_copies : (worker : Worker) (place : ℕ) (answer : Reply) → HandsInIfAny worker place old.core old.kept answer new.core new.kept → new.disk ≡ old.disk → IsConsistent g old → IsConsistent g new
       → CopiesStored g worker place old new

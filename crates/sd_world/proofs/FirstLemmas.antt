@@ -22,7 +22,7 @@ use Rattle.sd_world.specs.declared.kept.Kept.{Kept}
 use Rattle.sd_world.specs.declared.kept.Kept.TheVariants.{Request, Outcome}
 use Rattle.sd_world.specs.Steps.{IsAnsweredByDevice, IsPerform, Performs, reply_of_answer}
 use Rattle.sd_world.proofs.KeptLemmas.{asked_there, same_request}
-use Rattle.sd_world.specs.View.{IsAt, WorldView, asked_count, asked_id, id_in, is_asked, is_before, is_of}
+use Rattle.sd_world.specs.View.{IsAt, WorldView, asked_count, asked_id, id_in, is_asked, is_before, is_of_worker}
 
 -- ---- tests of lists
 
@@ -109,7 +109,7 @@ before_at worker ticket (Some id) is =
     let parts = both (index id.worker == index worker) (nat_lt id.ticket ticket) is in
     (id, refl, same_worker id.worker worker (same_index (index id.worker) (index worker) parts.0), lesser id.ticket ticket parts.1)
 
-of_at : (worker : Worker) (o : Option RequestId) → is_of worker o ≡ true → (id : RequestId) × (o ≡ Some id) × (id.worker ≡ worker)
+of_at : (worker : Worker) (o : Option RequestId) → is_of_worker worker o ≡ true → (id : RequestId) × (o ≡ Some id) × (id.worker ≡ worker)
 of_at worker None is = absurd (false≢true is)
 of_at worker (Some id) is = (id, refl, same_worker id.worker worker (same_index (index id.worker) (index worker) is))
 
@@ -127,13 +127,13 @@ first_at (suc more) kept state worker lane k id at is whose less = elim (count_h
 
 asked_first : (kept : List Kept) (worker : Worker) → is_asked kept worker ≡ true → (first : ℕ) × IsAt kept its.Asked worker 0 first
 asked_first kept worker is =
-    let some = any_has (λ k. is_of worker (asked_id k)) kept is in
+    let some = any_has (λ k. is_of_worker worker (asked_id k)) kept is in
     let it = of_at worker (asked_id some.1) some.3 in
     first_at (suc it.0.ticket) kept its.Asked worker some.0 some.1 it.0 some.2 it.1 it.2 (omega arith)
 
 asked_any : (kept : List Kept) (worker : Worker) (place lane : ℕ) → IsAt kept its.Asked worker place lane → is_asked kept worker ≡ true
-asked_any kept worker place lane at = any_at (λ k. is_of worker (asked_id k)) kept lane at.there at.is
-    (ap (is_of worker) at.id_is ∙ ap (λ w. index w == index worker) at.whose ∙ same_number (index worker))
+asked_any kept worker place lane at = any_at (λ k. is_of_worker worker (asked_id k)) kept lane at.there at.is
+    (ap (is_of_worker worker) at.id_is ∙ ap (λ w. index w == index worker) at.whose ∙ same_number (index worker))
 
 -- ---- how a device call is answered
 
@@ -165,7 +165,7 @@ module _ {D : Type 0} (g : Ghosts D) (old new : WorldView D) (worker : Worker) (
 
   made_by : is_asked old.kept worker ≡ true → Performs g worker 0 old.disk old.kept answer new.disk new.kept → asked_count new.kept worker < asked_count old.kept worker
   made_by asked (Performs.performs it) =
-      let less = count_set (λ k. is_of worker (asked_id k)) 0 old.kept it.lane (Request it.request) (Outcome it.keeps.made) it.is
+      let less = count_set (λ k. is_of_worker worker (asked_id k)) 0 old.kept it.lane (Request it.request) (Outcome it.keeps.made) it.is
       (let there = asked_there old.kept worker 0 it.lane it.at in
       ap (λ (r : Asked). index r.id.worker == index worker) (same_request it.request there.0 (sym it.is ∙ there.1))
       ∙ ap (λ w. index w == index worker) there.2 ∙ same_number (index worker)) refl in

@@ -19,7 +19,7 @@ use Rattle.sd_crash_safety.specs.View.{CoreView}
 use Rattle.sd_world.specs.declared.kept.Kept.{Kept}
 use Rattle.sd_world.specs.declared.kept.Kept.TheVariants.{Nothing, Outcome}
 use Rattle.sd_world.specs.Consistent.{AreInPlace, IsConsistent, IsWorld, slot_now}
-use Rattle.sd_world.specs.View.{asked_of, id_of}
+use Rattle.sd_world.specs.View.{asked_of, kept_id}
 use Rattle.sd_world.proofs.KeptLemmas.{alone_now, beside_of, cleared_places, handed_now, is_set, lane_cases, nothing_on, outcome_off, set_elsewhere}
 use Rattle.sd_world.proofs.Lists.{get_map, get_set_other, get_set_same, map_set}
 use Rattle.sd_world.proofs.Worlds.{Fits, Stand, slot_as, stand_given_up}
@@ -74,15 +74,15 @@ pub handed_stands : {D : Type 0} (g : Ghosts D) (disk : D) (old new : CoreView) 
     → WritesCommute → slice_get kept lane ≡ Some (Outcome made) → GivenUpFits (g.contents disk) (g.may_leave disk)
     → ((out : IsOut old made.request.id) → HandedIn old out.lane made answer new)
     → IsWorld g (record { core = old; disk = disk; kept = kept }) → (was : IsConsistent g (record { core = old; disk = disk; kept = kept }))
-    → (new.outs ≡ map id_of (slice_set kept lane Nothing))
+    → (new.outs ≡ map kept_id (slice_set kept lane Nothing))
     × Stand (g.contents disk) (g.may_leave disk) new.phases (slice_set kept lane Nothing) (bodies_after was.bodies made.request.id made.request.bytes)
 handed_stands g disk old new kept lane made answer law at gives handed world was =
     let id = made.request.id in
     let later = slice_set kept lane Nothing in
     let contents = g.contents disk in
-    let h = handed (record { lane = lane; is = ap (λ outs. slice_get outs lane) world.outs ∙ get_map id_of kept lane (Outcome made) at }) in
-    let outs : new.outs ≡ map id_of later =
-    h.outs ∙ ap (λ all. slice_set all lane None) world.outs ∙ sym (map_set id_of kept lane Nothing) in
+    let h = handed (record { lane = lane; is = ap (λ outs. slice_get outs lane) world.outs ∙ get_map kept_id kept lane (Outcome made) at }) in
+    let outs : new.outs ≡ map kept_id later =
+    h.outs ∙ ap (λ all. slice_set all lane None) world.outs ∙ sym (map_set kept_id kept lane Nothing) in
     let cover = was.believes.has.waiting lane made.request (get_map asked_of kept lane (Outcome made) at) in (
       outs,
       stand_given_up contents (g.may_leave disk) later (bodies_after was.bodies id made.request.bytes)
@@ -101,9 +101,9 @@ handed_world g disk old new kept lane made answer law at gives handed world =
     let id = made.request.id in
     let later = slice_set kept lane Nothing in
     let contents = g.contents disk in
-    let h = handed (record { lane = lane; is = ap (λ outs. slice_get outs lane) world.outs ∙ get_map id_of kept lane (Outcome made) at }) in
-    let outs : new.outs ≡ map id_of later =
-    h.outs ∙ ap (λ all. slice_set all lane None) world.outs ∙ sym (map_set id_of kept lane Nothing) in
+    let h = handed (record { lane = lane; is = ap (λ outs. slice_get outs lane) world.outs ∙ get_map kept_id kept lane (Outcome made) at }) in
+    let outs : new.outs ≡ map kept_id later =
+    h.outs ∙ ap (λ all. slice_set all lane None) world.outs ∙ sym (map_set kept_id kept lane Nothing) in
     record {
       count = world.count ∙ sym h.count;
       outs = outs;

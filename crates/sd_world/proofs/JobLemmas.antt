@@ -17,7 +17,7 @@ use Rattle.sd_world.specs.declared.kept.Kept.{Kept}
 use Rattle.sd_world.specs.Adds.{AddsBy, AddsByPerform, AddsByWork}
 use Rattle.sd_world.specs.Jobs.{Drives, EndsAs, IsJob, is_end, next_event}
 use Rattle.sd_world.specs.Runs.{IsStep, ShowsReply}
-use Rattle.sd_world.specs.Steps.{TakesUp, Works}
+use Rattle.sd_world.specs.Steps.{WorkerTakesUp, WorkerWorks}
 use Rattle.sd_world.specs.View.{WorldView, is_asked}
 use Rattle.sd_world.proofs.DriveLemmas.{call_next, step_next}
 use Rattle.sd_world.proofs.KeptLemmas.{whose}
@@ -78,17 +78,17 @@ by_work worker core (reply.Refused why) old new merger adds ends = Ends.refused 
 -- ---- a merge is ended by the merger alone
 
 never_merged : (worker : Worker) (old : CoreView) (kept : List Kept) (serial : ℕ) (new : CoreView) (later : List Kept) → (worker ≡ Merger → ⊥)
-    → Works worker old kept (reply.Merged serial) new later → ⊥
-never_merged worker old kept serial new later other (Works.hands_in it) =
+    → WorkerWorks worker old kept (reply.Merged serial) new later → ⊥
+never_merged worker old kept serial new later other (WorkerWorks.hands_in it) =
     let its = whose kept worker 0 it.lane it.made it.at it.is in
     let no : reply.Merged serial ≡ reply.Refused Idle = (it.hands.does.strange (λ out. other (sym its ∙ (it.hands.does.leaves out).0))).0 in
     absurd cc
-never_merged worker old kept serial new later other (Works.takes_up none (TakesUp.step up left)) = absurd up.takes.adds
-never_merged worker old kept serial new later other (Works.takes_up none (TakesUp.call request up keeps is)) =
+never_merged worker old kept serial new later other (WorkerWorks.takes_up none (WorkerTakesUp.step up left)) = absurd up.takes.adds
+never_merged worker old kept serial new later other (WorkerWorks.takes_up none (WorkerTakesUp.call request up keeps is)) =
     absurd (let no : reply.Merged serial ≡ reply.Worked = is in cc)
 
 merger_of : (worker : Worker) (old : CoreView) (kept : List Kept) (serial : ℕ) (new : CoreView) (later : List Kept)
-    → Works worker old kept (reply.Merged serial) new later → worker ≡ Merger
+    → WorkerWorks worker old kept (reply.Merged serial) new later → worker ≡ Merger
 merger_of Dumper old kept serial new later works =
     absurd (never_merged Dumper old kept serial new later (λ no. (let not : Dumper ≡ Merger = no in cc)) works)
 merger_of Merger old kept serial new later works = refl
@@ -119,7 +119,7 @@ module _ {D : Type 0} (g : Ghosts D) where
           let worked = subst (λ event. IsStep g event old answer new) (step_next g worker old is) step in
           by_work worker old.core answer _ _
           (λ serial told. merger_of worker old.core old.kept serial new.core new.kept
-          (subst (λ a. Works worker old.core old.kept a new.core new.kept) told worked.does.works))
+          (subst (λ a. WorkerWorks worker old.core old.kept a new.core new.kept) told worked.does.works))
           worked.adds ends
 
   job_ends : (order : Event) (worker : Worker) (first last : WorldView D) (answer : Reply)

@@ -19,8 +19,8 @@ use Rattle.sd_crash_safety.specs.InUse.{IsPageOf}
 use Rattle.sd_world.specs.declared.call_state.CallState.TheVariants as its
 use Rattle.sd_world.specs.declared.kept.Kept.{Kept}
 use Rattle.sd_world.specs.declared.kept.Kept.TheVariants.{Nothing, Request, Outcome}
-use Rattle.sd_world.specs.Consistent.{AreInPages, AreInPlace, SlotNow, slot_after, slot_now, slot_with}
-use Rattle.sd_world.specs.View.{IsAt, asked_id, asked_of, id_of, made_id}
+use Rattle.sd_world.specs.Consistent.{AreAskedInPages, AreInPlace, SlotNow, slot_after, slot_now, slot_with}
+use Rattle.sd_world.specs.View.{IsAt, asked_id, asked_of, kept_id, made_id}
 use Rattle.sd_world.proofs.Lists.{get_map, get_set_other, get_set_same}
 
 same_number : (n : ℕ) → (n == n) ≡ true
@@ -65,12 +65,12 @@ whose kept worker place lane made at is =
     ap (λ (m : Made). m.request.id.worker) (same_outcome made it.0 (sym is ∙ it.1)) ∙ it.2
 
 -- what is asked has an id
-pub asked_id_of : (k : Kept) (request : Asked) → asked_of k ≡ Some request → id_of k ≡ Some request.id
+pub asked_id_of : (k : Kept) (request : Asked) → asked_of k ≡ Some request → kept_id k ≡ Some request.id
 asked_id_of Nothing request is = absurd (let no : None ≡ Some request = is in cc)
 asked_id_of (Request r) request is = ap (λ (q : Asked). Some q.id) (same_Some r request is)
 asked_id_of (Outcome made) request is = ap (λ (q : Asked). Some q.id) (same_Some made.request request is)
 
-pub id_asked : (k : Kept) (id : RequestId) → id_of k ≡ Some id → (request : Asked) × (asked_of k ≡ Some request) × (request.id ≡ id)
+pub id_asked : (k : Kept) (id : RequestId) → kept_id k ≡ Some id → (request : Asked) × (asked_of k ≡ Some request) × (request.id ≡ id)
 id_asked Nothing id is = absurd (let no : None ≡ Some id = is in cc)
 id_asked (Request r) id is = (r, refl, same_Some r.id id is)
 id_asked (Outcome made) id is = (made.request, refl, same_Some made.request.id id is)
@@ -113,8 +113,8 @@ none_now (k ∷ kept) slot s none =
     ap (slot_now kept slot) (with_off k slot s (λ made is. none 0 made (ap Some is))) ∙ none_now kept slot s (λ lane made at. none (suc lane) made at)
 
 -- where no request is out on a slot, no outcome is kept on it
-pub free_now : (kept : List Kept) (slot : ℕ) (s : SlotNow) → IsFree (map id_of kept) slot → slot_now kept slot s ≡ s
-free_now kept slot s free = none_now kept slot s (λ lane made at. free lane made.request.id (get_map id_of kept lane (Outcome made) at))
+pub free_now : (kept : List Kept) (slot : ℕ) (s : SlotNow) → IsFree (map kept_id kept) slot → slot_now kept slot s ≡ s
+free_now kept slot s free = none_now kept slot s (λ lane made at. free lane made.request.id (get_map kept_id kept lane (Outcome made) at))
 
 -- a lane changes, and is on another slot before and after
 pub set_elsewhere : (kept : List Kept) (lane : ℕ) (old new : Kept) (slot : ℕ) (s : SlotNow) → slice_get kept lane ≡ Some old → IsNotOn old slot → IsNotOn new slot
@@ -331,7 +331,7 @@ cleared_places kept slots lane old at places = record {
 -- this is out in the lane, on a slot on which all others are in lanes of pages as it is, and write other ones
 pub filled_places : (kept : List Kept) (slots lane : ℕ) (old new : Kept) (request : Asked) → slice_get kept lane ≡ Some old → asked_of new ≡ Some request
     → request.id.slot < slots → (2 < lane → IsPageOf request.id.slot request)
-    → ((other : ℕ) (k : Kept) (b : Asked) → other ≢ lane → slice_get kept other ≡ Some k → asked_of k ≡ Some b → request.id.slot ≡ b.id.slot → AreInPages lane other request b)
+    → ((other : ℕ) (k : Kept) (b : Asked) → other ≢ lane → slice_get kept other ≡ Some k → asked_of k ≡ Some b → request.id.slot ≡ b.id.slot → AreAskedInPages lane other request b)
     → AreInPlace kept slots → AreInPlace (slice_set kept lane new) slots
 filled_places kept slots lane old new request at asks slot page beside places = record {
   count = length_set kept lane new ∙ places.count;
@@ -346,7 +346,7 @@ filled_places kept slots lane old new request at asks slot page beside places = 
   apart = λ one other j k a b at_one at_other has_a has_b on. elim (is_set kept lane old new at one j at_one).either [
     | inl (same_one, is_one) ↦ elim (is_set kept lane old new at other k at_other).either [
       | inl (same_other, is_other) ↦ inl (same_one ∙ sym same_other)
-      | inr (differs, was) ↦ inr (subst (λ n. AreInPages n other a b) (sym same_one) (subst (λ (q : Asked). AreInPages lane other q b) (sym (its_own j a is_one has_a))
+      | inr (differs, was) ↦ inr (subst (λ n. AreAskedInPages n other a b) (sym same_one) (subst (λ (q : Asked). AreAskedInPages lane other q b) (sym (its_own j a is_one has_a))
           (beside other k b differs was has_b (ap (λ (q : Asked). q.id.slot) (sym (its_own j a is_one has_a)) ∙ on))))
     ]
     | inr (differs_one, was_one) ↦ elim (is_set kept lane old new at other k at_other).either [

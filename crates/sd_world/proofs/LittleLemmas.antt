@@ -13,7 +13,7 @@ use Rattle.sd_world.specs.declared.event.Event.{Event}
 use Rattle.sd_world.specs.declared.event.Event.TheVariants.{Command, Begin, Work, TakeUp, HandInAt, Perform, PerformAt, Merge, Cancel, Reopen, Trim}
 use Rattle.sd_world.specs.Consistent.{IsWorld}
 use Rattle.sd_world.specs.Little.{DoesLittle, WorksLittle}
-use Rattle.sd_world.specs.Steps.{Does, HandsInAt, HandsInIfAny, TakesUp, Works}
+use Rattle.sd_world.specs.Steps.{Does, HandsInAt, HandsInIfAny, WorkerTakesUp, WorkerWorks}
 use Rattle.sd_world.specs.View.{WorldView}
 use Rattle.sd_world.proofs.AddsLemmas.{is_out}
 use Rattle.sd_world.proofs.KeptLemmas.{whose}
@@ -32,9 +32,9 @@ refused_apart : (why : Refusal) (n : ℕ) → reply.Refused why ≡ reply.Acked 
 refused_apart why n e = cc
 
 module _ {D : Type 0} (g : Ghosts D) (old new : WorldView D) (world : IsWorld g old) where
-  none_taken : (worker : Worker) (answer : Reply) (n : ℕ) → TakesUp worker old.core old.kept answer new.core new.kept → answer ≡ reply.Acked n → ⊥
-  none_taken worker answer n (TakesUp.step taken left) is = no_step worker old.core answer n (history_of old.core) (history_of new.core) is taken.takes.adds
-  none_taken worker answer n (TakesUp.call request taken left worked) is = not_acked answer reply.Worked n worked (worked_apart n) is
+  none_taken : (worker : Worker) (answer : Reply) (n : ℕ) → WorkerTakesUp worker old.core old.kept answer new.core new.kept → answer ≡ reply.Acked n → ⊥
+  none_taken worker answer n (WorkerTakesUp.step taken left) is = no_step worker old.core answer n (history_of old.core) (history_of new.core) is taken.takes.adds
+  none_taken worker answer n (WorkerTakesUp.call request taken left worked) is = not_acked answer reply.Worked n worked (worked_apart n) is
 
   handed_little : (worker : Worker) (place : ℕ) (answer : Reply) → HandsInAt worker place old.core old.kept answer new.core new.kept → WorksLittle worker place old answer new
   handed_little worker place answer hands = record {
@@ -46,9 +46,9 @@ module _ {D : Type 0} (g : Ghosts D) (old new : WorldView D) (world : IsWorld g 
       out : IsOut old.core hands.made.request.id
       out = is_out g old new world hands.lane hands.made hands.is
 
-  works_little : (worker : Worker) (answer : Reply) → Works worker old.core old.kept answer new.core new.kept → WorksLittle worker 0 old answer new
-  works_little worker answer (Works.hands_in hands) = handed_little worker 0 answer hands
-  works_little worker answer (Works.takes_up none takes) = record {
+  works_little : (worker : Worker) (answer : Reply) → WorkerWorks worker old.core old.kept answer new.core new.kept → WorksLittle worker 0 old answer new
+  works_little worker answer (WorkerWorks.hands_in hands) = handed_little worker 0 answer hands
+  works_little worker answer (WorkerWorks.takes_up none takes) = record {
     acked = λ n is. absurd (none_taken worker answer n takes is);
     little = λ n is. absurd (none_taken worker answer n takes is);
     round = λ lane running dumper at opens. absurd (none lane at);

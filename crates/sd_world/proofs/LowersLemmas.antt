@@ -13,7 +13,7 @@ use Rattle.sd_core.specs.Called.{IsTakenUp}
 use Rattle.sd_core.specs.Refusals.{work_refusal}
 use Rattle.sd_core.specs.Working.{LeavesByOutcome, LeavesByStep, left_by}
 use Rattle.sd_world.specs.Consistent.{IsWorld}
-use Rattle.sd_world.specs.Steps.{HandsInAt, HandsInIfAny, IsHandIn, IsTakeUp, IsWork, LeavesLess, TakesUp, Works}
+use Rattle.sd_world.specs.Steps.{HandsInAt, HandsInIfAny, IsHandIn, IsTakeUp, IsWork, LeavesLess, WorkerTakesUp, WorkerWorks}
 use Rattle.sd_world.specs.View.{WorldView}
 use Rattle.sd_world.proofs.AddsLemmas.{is_out}
 use Rattle.sd_world.proofs.KeptLemmas.{whose}
@@ -69,10 +69,10 @@ call_lowers old worker request answer new (Some why) is job worked =
     absurd (let no : CallTaken request ≡ StepTaken (reply.Refused why) = (job.refused why is).0 in cc)
 
 module _ {D : Type 0} (g : Ghosts D) (old new : WorldView D) (world : IsWorld g old) where
-  taken_lowers : (worker : Worker) (answer : Reply) → TakesUp worker old.core old.kept answer new.core new.kept
+  taken_lowers : (worker : Worker) (answer : Reply) → WorkerTakesUp worker old.core old.kept answer new.core new.kept
       → LeavesLess answer (left_by old.core worker) (left_by new.core worker)
-  taken_lowers worker answer (TakesUp.step job left) = step_lowers old.core worker answer new.core (work_refusal old.core worker) refl job
-  taken_lowers worker answer (TakesUp.call request job left worked) =
+  taken_lowers worker answer (WorkerTakesUp.step job left) = step_lowers old.core worker answer new.core (work_refusal old.core worker) refl job
+  taken_lowers worker answer (WorkerTakesUp.call request job left worked) =
       call_lowers old.core worker request answer new.core (work_refusal old.core worker) refl job worked
 
   handed_lowers : (worker : Worker) (place : ℕ) (answer : Reply) → HandsInAt worker place old.core old.kept answer new.core new.kept
@@ -82,10 +82,10 @@ module _ {D : Type 0} (g : Ghosts D) (old new : WorldView D) (world : IsWorld g 
       (subst (λ w. LeavesByOutcome old.core w answer new.core) (whose old.kept worker place hands.lane hands.made hands.at hands.is)
       (hands.hands.does.leaves (is_out g old new world hands.lane hands.made hands.is)))
 
-  works_lowers : (worker : Worker) (answer : Reply) → Works worker old.core old.kept answer new.core new.kept
+  works_lowers : (worker : Worker) (answer : Reply) → WorkerWorks worker old.core old.kept answer new.core new.kept
       → LeavesLess answer (left_by old.core worker) (left_by new.core worker)
-  works_lowers worker answer (Works.hands_in hands) = handed_lowers worker 0 answer hands
-  works_lowers worker answer (Works.takes_up none takes) = taken_lowers worker answer takes
+  works_lowers worker answer (WorkerWorks.hands_in hands) = handed_lowers worker 0 answer hands
+  works_lowers worker answer (WorkerWorks.takes_up none takes) = taken_lowers worker answer takes
 
   pub work_lowers : (worker : Worker) (answer : Reply) → IsWork worker old answer new → LeavesLess answer (left_by old.core worker) (left_by new.core worker)
   work_lowers worker answer work = works_lowers worker answer work.works

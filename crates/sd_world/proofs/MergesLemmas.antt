@@ -31,8 +31,8 @@ use Rattle.sd_world.specs.declared.kept.Kept.{Kept}
 use Rattle.sd_world.specs.declared.kept.Kept.TheVariants.{Request, Outcome}
 use Rattle.sd_world.specs.Consistent.{IsConsistent, IsWorld}
 use Rattle.sd_world.specs.Merges.{AreCutThere, DoesMerge, IsMergedThere, KeepsMerged, MergesThere}
-use Rattle.sd_world.specs.Steps.{Does, HandsInAt, HandsInIfAny, Performs, TakesUp, Works}
-use Rattle.sd_world.specs.View.{WorldView, asked_of, id_of}
+use Rattle.sd_world.specs.Steps.{Does, HandsInAt, HandsInIfAny, Performs, WorkerTakesUp, WorkerWorks}
+use Rattle.sd_world.specs.View.{WorldView, asked_of, kept_id}
 use Rattle.sd_world.proofs.AddsLemmas.{is_out}
 use Rattle.sd_world.proofs.HandInLemmas.{handed_stands}
 use Rattle.sd_world.proofs.KeptLemmas.{free_now, whose}
@@ -47,7 +47,7 @@ merger_lane (suc (suc (suc k))) is = absurd (let no : Dumper ≡ Merger = is in 
 
 -- a slot on which no request is out reads as its phase says
 pub reads_free : (contents : List (List ℕ)) (may_leave : List (List ℕ) → Type 0) (phases : List Phase) (kept : List Kept) (bodies : List (List ℕ)) (outs : List (Option RequestId))
-    (slot : ℕ) (phase : Phase) → outs ≡ map id_of kept → Stand contents may_leave phases kept bodies → IsFree outs slot → slice_get phases slot ≡ Some phase
+    (slot : ℕ) (phase : Phase) → outs ≡ map kept_id kept → Stand contents may_leave phases kept bodies → IsFree outs slot → slice_get phases slot ≡ Some phase
     → PhaseReads phase (file_at bodies slot) (file_at contents slot)
 reads_free contents may_leave phases kept bodies outs slot phase are stand free is =
     (subst (Fits contents may_leave slot) (free_now kept slot (slot_as phase (file_at bodies slot)) (subst (λ all. IsFree all slot) are free)) (stand slot phase is)).reads
@@ -60,24 +60,24 @@ same_opened a b e = cc
 
 module _ {D : Type 0} (g : Ghosts D) (old new : WorldView D) (world : IsWorld g old) (law : WritesCommute) (gives : GivenUpFits (g.contents old.disk) (g.may_leave old.disk))
     (own : AreOwnLanes old.core.outs) where
-  none_taken : (worker : Worker) (answer : Reply) (serial : ℕ) → TakesUp worker old.core old.kept answer new.core new.kept → answer ≡ reply.Merged serial → ⊥
-  none_taken worker answer serial (TakesUp.step taken left) is = no_step worker old.core answer serial (history_of old.core) (history_of new.core) is taken.takes.adds
-  none_taken worker answer serial (TakesUp.call request taken left worked) is = (let no : reply.Worked ≡ reply.Merged serial = sym worked ∙ is in cc)
+  none_taken : (worker : Worker) (answer : Reply) (serial : ℕ) → WorkerTakesUp worker old.core old.kept answer new.core new.kept → answer ≡ reply.Merged serial → ⊥
+  none_taken worker answer serial (WorkerTakesUp.step taken left) is = no_step worker old.core answer serial (history_of old.core) (history_of new.core) is taken.takes.adds
+  none_taken worker answer serial (WorkerTakesUp.call request taken left worked) is = (let no : reply.Worked ≡ reply.Merged serial = sym worked ∙ is in cc)
 
   module _ (worker : Worker) (place : ℕ) (answer : Reply) (hands : HandsInAt worker place old.core old.kept answer new.core new.kept) (was : IsConsistent g old) where
     pub out : IsOut old.core hands.made.request.id
     out = is_out g old new world hands.lane hands.made hands.is
 
-    pub stands : (new.core.outs ≡ map id_of new.kept)
+    pub stands : (new.core.outs ≡ map kept_id new.kept)
         × Stand (g.contents old.disk) (g.may_leave old.disk) new.core.phases new.kept (bodies_after was.bodies hands.made.request.id hands.made.request.bytes)
-    stands = subst (λ kept. (new.core.outs ≡ map id_of kept)
+    stands = subst (λ kept. (new.core.outs ≡ map kept_id kept)
         × Stand (g.contents old.disk) (g.may_leave old.disk) new.core.phases kept (bodies_after was.bodies hands.made.request.id hands.made.request.bytes)) (sym hands.hands.left)
         (handed_stands g old.disk old.core new.core old.kept hands.lane hands.made answer law hands.is gives hands.hands.does.handed world was)
 
     pub believed : hands.made.request.id.worker ≡ Merger → IsAsBelieved old.core hands.made.request was.bodies
     believed merger =
         let lane_is : hands.lane ≡ 1 = merger_lane hands.lane (sym (own hands.lane hands.made.request.id
-        (ap (λ outs. slice_get outs hands.lane) world.outs ∙ get_map id_of old.kept hands.lane (Outcome hands.made) hands.is)) ∙ merger) in
+        (ap (λ outs. slice_get outs hands.lane) world.outs ∙ get_map kept_id old.kept hands.lane (Outcome hands.made) hands.is)) ∙ merger) in
         record {
           asked = map asked_of old.kept;
           files = g.contents old.disk;
@@ -126,9 +126,9 @@ module _ {D : Type 0} (g : Ghosts D) (old new : WorldView D) (world : IsWorld g 
     cuts = λ serial is. subst (λ d. AreCutThere (g.contents d) (list_of old.core.merger)) (sym disk) (cuts_by worker place answer hands (world.consistent honest) serial is);
   }
 
-  works_merges : (worker : Worker) (answer : Reply) → Works worker old.core old.kept answer new.core new.kept → new.disk ≡ old.disk → g.is_honest old.disk → MergesThere g worker 0 old answer new
-  works_merges worker answer (Works.hands_in hands) disk honest = handed_merges worker 0 answer hands disk honest
-  works_merges worker answer (Works.takes_up none takes) disk honest = record {
+  works_merges : (worker : Worker) (answer : Reply) → WorkerWorks worker old.core old.kept answer new.core new.kept → new.disk ≡ old.disk → g.is_honest old.disk → MergesThere g worker 0 old answer new
+  works_merges worker answer (WorkerWorks.hands_in hands) disk honest = handed_merges worker 0 answer hands disk honest
+  works_merges worker answer (WorkerWorks.takes_up none takes) disk honest = record {
     enters = λ lane is at. absurd (none lane at);
     cuts = λ serial is. absurd (none_taken worker answer serial takes is);
   }
@@ -164,7 +164,7 @@ module _ {D : Type 0} (g : Ghosts D) (old new : WorldView D) (world : IsWorld g 
     perform_keeps worker place answer (Performs.none none idle) = same_file idle.disk
     perform_keeps worker place answer (Performs.performs it) = λ merge r was doing.
         it.keeps.performed.others merge.slot (λ on. (left merge r was doing).free it.lane it.request.id
-        (ap (λ outs. slice_get outs it.lane) world.outs ∙ get_map id_of old.kept it.lane (Request it.request) it.is) (sym on))
+        (ap (λ outs. slice_get outs it.lane) world.outs ∙ get_map kept_id old.kept it.lane (Request it.request) it.is) (sym on))
 
     pub step_keeps : (event : Event) (answer : Reply) → Does g event old answer new → KeepsMerged g old new
     step_keeps (Command seat command) answer does = same_file does.rest.disk

@@ -26,7 +26,7 @@ use Rattle.sd_core.specs.Working.{HasFallen, LeavesByOutcome, LeavesByStep, Leav
 use Rattle.sd_world.specs.declared.event.Event.{Event}
 use Rattle.sd_world.specs.declared.event.Event.TheVariants.{Command as CommandEvent, Begin, Work, TakeUp, HandInAt, Perform, PerformAt, Merge, Cancel, Reopen, Trim}
 use Rattle.sd_world.specs.Promise.{begun_after}
-use Rattle.sd_world.specs.Steps.{Does, HandsInIfAny, TakesUp, Works}
+use Rattle.sd_world.specs.Steps.{Does, HandsInIfAny, WorkerTakesUp, WorkerWorks}
 use Rattle.sd_world.specs.Trims.{TrimsJournal}
 use Rattle.sd_world.specs.View.{WorldView}
 use Rattle.sd_world.proofs.TrimLemmas.{trim_cases}
@@ -291,15 +291,15 @@ trim_number old answer new trims = elim (trim_cases old answer new trims) [
 -- ---- all events
 
 module _ {D : Type 0} (g : Ghosts D) where
-  takes_number : (worker : Worker) (old new : WorldView D) (answer : Reply) → TakesUp worker old.core old.kept answer new.core new.kept
+  takes_number : (worker : Worker) (old new : WorldView D) (answer : Reply) → WorkerTakesUp worker old.core old.kept answer new.core new.kept
       → KeepsNumber old.core new.core
-  takes_number worker old new answer (TakesUp.step taken left) = taken_number old.core new.core worker (Step answer) taken
-  takes_number worker old new answer (TakesUp.call request taken left worked) = taken_number old.core new.core worker (Call request) taken
+  takes_number worker old new answer (WorkerTakesUp.step taken left) = taken_number old.core new.core worker (Step answer) taken
+  takes_number worker old new answer (WorkerTakesUp.call request taken left worked) = taken_number old.core new.core worker (Call request) taken
 
-  works_number : (worker : Worker) (old new : WorldView D) (answer : Reply) → Works worker old.core old.kept answer new.core new.kept
+  works_number : (worker : Worker) (old new : WorldView D) (answer : Reply) → WorkerWorks worker old.core old.kept answer new.core new.kept
       → KeepsNumber old.core new.core
-  works_number worker old new answer (Works.hands_in hands) = handed_number old.core new.core hands.made answer hands.hands.does
-  works_number worker old new answer (Works.takes_up none takes) = takes_number worker old new answer takes
+  works_number worker old new answer (WorkerWorks.hands_in hands) = handed_number old.core new.core hands.made answer hands.hands.does
+  works_number worker old new answer (WorkerWorks.takes_up none takes) = takes_number worker old new answer takes
 
   hands_number : (worker : Worker) (place : ℕ) (old new : WorldView D) (answer : Reply)
       → HandsInIfAny worker place old.core old.kept answer new.core new.kept → KeepsNumber old.core new.core

@@ -26,7 +26,7 @@ use Rattle.sd_world.specs.Acked.{IsWorldThere}
 use Rattle.sd_world.specs.Consistent.{IsWorld}
 use Rattle.sd_world.specs.Merges.{DoesMerge}
 use Rattle.sd_world.specs.Runs.{IsStep}
-use Rattle.sd_world.specs.Steps.{IsWork, TakesUp, Works}
+use Rattle.sd_world.specs.Steps.{IsWork, WorkerTakesUp, WorkerWorks}
 use Rattle.sd_world.specs.View.{IsNowhere, WorldView}
 use Rattle.sd_world.proofs.AckedLemmas.{step_checkpoint, step_pre_dumps}
 use Rattle.sd_world.proofs.AddsLemmas.{step_adds, step_base, step_span}
@@ -59,7 +59,7 @@ module _ {D : Type 0} (g : Ghosts D) (old : WorldView D) (later : CoreView) (tak
   event = Work its.Dumper
 
   does : IsWork its.Dumper old reply.Worked new
-  does = record { works = Works.takes_up nowhere (TakesUp.step taken refl); disk = refl }
+  does = record { works = WorkerWorks.takes_up nowhere (WorkerTakesUp.step taken refl); disk = refl }
 
   is : IsWorld g new
   is = step_world g old new gives found as_read performed commute was.is event reply.Worked does

@@ -18,9 +18,9 @@ use Rattle.sd_crash_safety.specs.Laws.{PerformedIsBelieved}
 use Rattle.sd_crash_safety.specs.View.{CoreView}
 use Rattle.sd_world.specs.declared.kept.Kept.{Kept}
 use Rattle.sd_world.specs.declared.kept.Kept.TheVariants.{Request, Outcome}
-use Rattle.sd_world.specs.Consistent.{AreInPages, AreInPlace, IsConsistent, IsWorld, SlotNow, slot_after, slot_now}
+use Rattle.sd_world.specs.Consistent.{AreAskedInPages, AreInPlace, IsConsistent, IsWorld, SlotNow, slot_after, slot_now}
 use Rattle.sd_world.specs.Steps.{IsPerformed}
-use Rattle.sd_world.specs.View.{asked_of, id_of}
+use Rattle.sd_world.specs.View.{asked_of, kept_id}
 use Rattle.sd_world.proofs.Calls.{same_body, tells_now}
 use Rattle.sd_world.proofs.KeptLemmas.{IsWrite, WriteBeside, filled_places, is_set, made_now, outcome_off, ready_now, request_on, same_outcome, set_elsewhere}
 use Rattle.sd_world.proofs.Lists.{get_map, map_set, set_itself}
@@ -56,7 +56,7 @@ module _ (law : WritesCommute) {D : Type 0} (g : Ghosts D) (core : CoreView) (ke
 
   -- what is out on its slot beside it writes other pages
   others : (other : ℕ) (k : Kept) (b : Asked) → other ≢ lane → slice_get kept other ≡ Some k → asked_of k ≡ Some b → made.request.id.slot ≡ b.id.slot
-      → AreInPages lane other made.request b
+      → AreAskedInPages lane other made.request b
   others other k b differs there asks on = elim (world.places.apart lane other (Request request) k request b at there refl asks (sym (ap (λ (id : RequestId). id.slot) same_id) ∙ on)) [
     | inl own ↦ absurd (differs (sym own))
     | inr pages ↦ record { first = pages.first; second = pages.second; apart = λ same. pages.apart (sym (ap (λ (id : RequestId). id.call) same_id) ∙ same) }
@@ -70,9 +70,9 @@ module _ (law : WritesCommute) {D : Type 0} (g : Ghosts D) (core : CoreView) (ke
       (page_kept request.id.slot request made.request same_id p.made_of.bytes (world.places.pages lane (Request request) request at refl some)))
       others world.places)
 
-  later_outs : core.outs ≡ map id_of later
-  later_outs = world.outs ∙ sym (set_itself (map id_of kept) lane (Some request.id) (get_map id_of kept lane (Request request) at))
-      ∙ ap (λ id. slice_set (map id_of kept) lane (Some id)) (sym same_id) ∙ sym (map_set id_of kept lane (Outcome made))
+  later_outs : core.outs ≡ map kept_id later
+  later_outs = world.outs ∙ sym (set_itself (map kept_id kept) lane (Some request.id) (get_map kept_id kept lane (Request request) at))
+      ∙ ap (λ id. slice_set (map kept_id kept) lane (Some id)) (sym same_id) ∙ sym (map_set kept_id kept lane (Outcome made))
 
   beside : WriteBeside made lane request.id.slot kept
   beside other_lane other differs there on =

@@ -22,7 +22,7 @@ use Rattle.sd_world.specs.declared.event.Event.TheVariants.{Perform, Reopen, Tri
 use Rattle.sd_world.specs.Adds.{AddsByPerform, AddsByWork}
 use Rattle.sd_world.specs.Jobs.{Drives, IsJob, is_end, next_event}
 use Rattle.sd_world.specs.Runs.{IsStep}
-use Rattle.sd_world.specs.Steps.{TakesUp, Works}
+use Rattle.sd_world.specs.Steps.{WorkerTakesUp, WorkerWorks}
 use Rattle.sd_world.specs.View.{WorldView, is_asked}
 use Rattle.sd_world.proofs.DriveLemmas.{call_next, step_next}
 use Rattle.sd_world.proofs.JobLemmas.{last_event}
@@ -94,12 +94,12 @@ taken_opens old m new up = by (work_refusal old Opener) refl
     by (Some why) is = absurd (let no : Step (reply.Reopened m) ≡ Step (reply.Refused why) = (up.refused why is).0 in cc)
 
 module _ {D : Type 0} (g : Ghosts D) where
-  works_open : (old new : WorldView D) (m : Option ℕ) → Works Opener old.core old.kept (reply.Reopened m) new.core new.kept → Opens old.core m new.core
-  works_open old new m (Works.hands_in it) =
+  works_open : (old new : WorldView D) (m : Option ℕ) → WorkerWorks Opener old.core old.kept (reply.Reopened m) new.core new.kept → Opens old.core m new.core
+  works_open old new m (WorkerWorks.hands_in it) =
       let no : reply.Reopened m ≡ reply.Refused Idle = (it.hands.does.strange (λ out. it.hands.does.leaves out)).0 in
       absurd cc
-  works_open old new m (Works.takes_up none (TakesUp.step up left)) = taken_opens old.core m new.core up
-  works_open old new m (Works.takes_up none (TakesUp.call request up keeps is)) = absurd (let no : reply.Reopened m ≡ reply.Worked = is in cc)
+  works_open old new m (WorkerWorks.takes_up none (WorkerTakesUp.step up left)) = taken_opens old.core m new.core up
+  works_open old new m (WorkerWorks.takes_up none (WorkerTakesUp.call request up keeps is)) = absurd (let no : reply.Reopened m ≡ reply.Worked = is in cc)
 
   event_opens : (old new : WorldView D) (m : Option ℕ) → IsStep g (next_event old.kept Opener) old (reply.Reopened m) new → Opens old.core m new.core
   event_opens old new m step = by (is_asked old.kept Opener) refl

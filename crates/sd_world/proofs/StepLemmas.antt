@@ -13,7 +13,7 @@ use Rattle.sd_world.specs.declared.event.Event.{Event}
 use Rattle.sd_world.specs.declared.event.Event.TheVariants.{Command, Begin, Work, TakeUp, HandInAt, Perform, PerformAt, Merge, Cancel, Reopen, Trim}
 use Rattle.sd_world.specs.declared.kept.Kept.TheVariants.{Nothing, Request, Outcome}
 use Rattle.sd_world.specs.Consistent.{FitsNow, IsWorld, slot_now}
-use Rattle.sd_world.specs.Steps.{Does, HandsInAt, HandsInIfAny, IsOrder, IsTrim, Performs, TakesUp, Works}
+use Rattle.sd_world.specs.Steps.{ChangesCoreAlone, Does, HandsInAt, HandsInIfAny, IsTrim, Performs, WorkerTakesUp, WorkerWorks}
 use Rattle.sd_world.specs.View.{WorldView, asked_of}
 use Rattle.sd_world.proofs.AnewLemmas.{anew_world}
 use Rattle.sd_world.proofs.HandInLemmas.{handed_world}
@@ -28,7 +28,7 @@ module _ {D : Type 0} (g : Ghosts D) (old new : WorldView D) (gives : GivenUpFit
   same_rest disk kept it = subst (λ k. IsWorld g (record { core = new.core; disk = new.disk; kept = k })) (sym kept)
       (subst (λ d. IsWorld g (record { core = new.core; disk = d; kept = old.kept })) (sym disk) it)
 
-  order_world : IsOrder old new → Stays old.core new.core → IsWorld g new
+  order_world : ChangesCoreAlone old new → Stays old.core new.core → IsWorld g new
   order_world order stays = same_rest order.disk order.kept (stays_world g old.disk old.core new.core old.kept gives stays world)
 
   trim_world : (answer : Reply) → IsTrim old answer new → IsWorld g new
@@ -48,12 +48,12 @@ module _ {D : Type 0} (g : Ghosts D) (old new : WorldView D) (gives : GivenUpFit
         };
   })
 
-  takes_world : (worker : Worker) (answer : Reply) → TakesUp worker old.core old.kept answer new.core new.kept → new.disk ≡ old.disk → IsWorld g new
-  takes_world worker answer (TakesUp.step taken left) disk = same_rest disk left (elim taken.takes.keeps [
+  takes_world : (worker : Worker) (answer : Reply) → WorkerTakesUp worker old.core old.kept answer new.core new.kept → new.disk ≡ old.disk → IsWorld g new
+  takes_world worker answer (WorkerTakesUp.step taken left) disk = same_rest disk left (elim taken.takes.keeps [
     | inl stays ↦ stays_world g old.disk old.core new.core old.kept gives stays world
     | inr anew ↦ anew_world g old.disk old.core new.core old.kept anew world found as_read
   ])
-  takes_world worker answer (TakesUp.call request taken keeps worked) disk =
+  takes_world worker answer (WorkerTakesUp.call request taken keeps worked) disk =
       let hands : HandsOut old.core worker request new.core = taken.takes in
       let left = keeps.left ∙ ap (λ lane. slice_set old.kept lane (Request request)) (same_lane old.core new.core old.kept new.kept worker request hands keeps) in
       subst (λ k. IsWorld g (record { core = new.core; disk = new.disk; kept = k })) (sym left)
@@ -66,9 +66,9 @@ module _ {D : Type 0} (g : Ghosts D) (old new : WorldView D) (gives : GivenUpFit
       (subst (λ d. IsWorld g (record { core = new.core; disk = d; kept = slice_set old.kept hands.lane Nothing })) (sym disk)
       (handed_world g old.disk old.core new.core old.kept hands.lane hands.made answer law hands.is gives hands.hands.does.handed world))
 
-  works_world : (worker : Worker) (answer : Reply) → Works worker old.core old.kept answer new.core new.kept → new.disk ≡ old.disk → IsWorld g new
-  works_world worker answer (Works.hands_in hands) disk = handed_in_world worker 0 answer hands disk
-  works_world worker answer (Works.takes_up none takes) disk = takes_world worker answer takes disk
+  works_world : (worker : Worker) (answer : Reply) → WorkerWorks worker old.core old.kept answer new.core new.kept → new.disk ≡ old.disk → IsWorld g new
+  works_world worker answer (WorkerWorks.hands_in hands) disk = handed_in_world worker 0 answer hands disk
+  works_world worker answer (WorkerWorks.takes_up none takes) disk = takes_world worker answer takes disk
 
   hand_in_world : (worker : Worker) (place : ℕ) (answer : Reply) → HandsInIfAny worker place old.core old.kept answer new.core new.kept → new.disk ≡ old.disk → IsWorld g new
   hand_in_world worker place answer (HandsInIfAny.hands_in hands) disk = handed_in_world worker place answer hands disk

@@ -16,7 +16,7 @@ use Rattle.sd_core.specs.Called.{IsHandedIn, IsTakenUp}
 use Rattle.sd_core.specs.Flags.{AsksFlags, FlagsByBegin, FlagsByCancel, FlagsByOutcome, FlagsByReply, HasFlags, begins_image, numbers_asked, ticket_after}
 use Rattle.sd_world.specs.declared.event.Event.{Event}
 use Rattle.sd_world.specs.declared.event.Event.TheVariants.{Command as CommandEvent, Begin, Work, TakeUp, HandInAt, Perform, PerformAt, Merge, Cancel, Reopen, Trim}
-use Rattle.sd_world.specs.Steps.{Does, HandsInIfAny, TakesUp, Works}
+use Rattle.sd_world.specs.Steps.{Does, HandsInIfAny, WorkerTakesUp, WorkerWorks}
 use Rattle.sd_world.specs.Tickets.{HasOwnTickets, TicketsLast}
 use Rattle.sd_world.specs.Trims.{TrimsJournal}
 use Rattle.sd_world.specs.View.{WorldView}
@@ -238,15 +238,15 @@ handed_keeps old new made answer handed room has = (omega (arith, ticket), recor
 -- ---- all events
 
 module _ {D : Type 0} (g : Ghosts D) where
-  takes_keeps : (worker : Worker) (old : WorldView D) (answer : Reply) (new : WorldView D) → TakesUp worker old.core old.kept answer new.core new.kept
+  takes_keeps : (worker : Worker) (old : WorldView D) (answer : Reply) (new : WorldView D) → WorkerTakesUp worker old.core old.kept answer new.core new.kept
       → KeepsTickets old.core new.core
-  takes_keeps worker old answer new (TakesUp.step taken left) = taken_keeps old.core worker new.core answer taken
-  takes_keeps worker old answer new (TakesUp.call request taken left worked) = call_keeps old.core worker request new.core taken.takes taken.flags
+  takes_keeps worker old answer new (WorkerTakesUp.step taken left) = taken_keeps old.core worker new.core answer taken
+  takes_keeps worker old answer new (WorkerTakesUp.call request taken left worked) = call_keeps old.core worker request new.core taken.takes taken.flags
 
-  works_keeps : (worker : Worker) (old : WorldView D) (answer : Reply) (new : WorldView D) → Works worker old.core old.kept answer new.core new.kept
+  works_keeps : (worker : Worker) (old : WorldView D) (answer : Reply) (new : WorldView D) → WorkerWorks worker old.core old.kept answer new.core new.kept
       → KeepsTickets old.core new.core
-  works_keeps worker old answer new (Works.hands_in hands) = handed_keeps old.core new.core hands.made answer hands.hands.does
-  works_keeps worker old answer new (Works.takes_up none takes) = takes_keeps worker old answer new takes
+  works_keeps worker old answer new (WorkerWorks.hands_in hands) = handed_keeps old.core new.core hands.made answer hands.hands.does
+  works_keeps worker old answer new (WorkerWorks.takes_up none takes) = takes_keeps worker old answer new takes
 
   hands_keeps : (worker : Worker) (place : ℕ) (old : WorldView D) (answer : Reply) (new : WorldView D)
       → HandsInIfAny worker place old.core old.kept answer new.core new.kept → KeepsTickets old.core new.core

@@ -13,9 +13,9 @@ use Rattle.sd_crash_safety.specs.Calls.{AreGivenUp, HandsOut, Stays}
 use Rattle.sd_crash_safety.specs.View.{CoreView}
 use Rattle.sd_world.specs.declared.kept.Kept.{Kept}
 use Rattle.sd_world.specs.declared.kept.Kept.TheVariants.{Nothing, Request, Outcome}
-use Rattle.sd_world.specs.Consistent.{AreInPages, IsWorld, SlotNow, slot_now}
+use Rattle.sd_world.specs.Consistent.{AreAskedInPages, IsWorld, SlotNow, slot_now}
 use Rattle.sd_world.specs.Steps.{KeepsRequest}
-use Rattle.sd_world.specs.View.{asked_of, id_of}
+use Rattle.sd_world.specs.View.{asked_of, kept_id}
 use Rattle.sd_world.proofs.KeptLemmas.{asked_id_of, filled_places, free_now, is_set, nothing_on, request_on, set_elsewhere}
 use Rattle.sd_world.proofs.Lists.{get_map, get_set_other, map_get, map_set}
 
@@ -35,7 +35,7 @@ Stand contents may_leave phases kept bodies = (slot : ℕ) (phase : Phase) → s
 module _ (contents : List (List ℕ)) (may_leave : List (List ℕ) → Type 0) where
   -- jobs without a request are given up
   pub stand_given_up : (kept : List Kept) (bodies : List (List ℕ)) (old new : List Phase) → GivenUpFits contents may_leave
-      → AreGivenUp (map id_of kept) old new → Stand contents may_leave old kept bodies → Stand contents may_leave new kept bodies
+      → AreGivenUp (map kept_id kept) old new → Stand contents may_leave old kept bodies → Stand contents may_leave new kept bodies
   stand_given_up kept bodies old new gives up stand slot phase is =
       let from = up.each slot phase is in
       let body = file_at bodies slot in
@@ -85,17 +85,17 @@ module _ {D : Type 0} (g : Ghosts D) (disk : D) where
       (world : IsWorld g (record { core = old; disk = disk; kept = kept })) where
     -- nothing is kept in its lane
     idle : slice_get kept hands.lane ≡ Some Nothing
-    idle = (let at = map_get id_of kept hands.lane None (ap (λ outs. slice_get outs hands.lane) (sym world.outs) ∙ hands.free) in at.1 ∙ ap Some (nothing at.0 at.2))
+    idle = (let at = map_get kept_id kept hands.lane None (ap (λ outs. slice_get outs hands.lane) (sym world.outs) ∙ hands.free) in at.1 ∙ ap Some (nothing at.0 at.2))
       where
-        nothing : (k : Kept) → id_of k ≡ None → k ≡ Nothing
+        nothing : (k : Kept) → kept_id k ≡ None → k ≡ Nothing
         nothing Nothing is = refl
         nothing (Request r) is = absurd (let no : Some r.id ≡ None = is in cc)
         nothing (Outcome made) is = absurd (let no : Some made.request.id ≡ None = is in cc)
 
     beside : (other : ℕ) (k : Kept) (b : Asked) → other ≢ hands.lane → slice_get kept other ≡ Some k → asked_of k ≡ Some b → request.id.slot ≡ b.id.slot
-        → AreInPages hands.lane other request b
+        → AreAskedInPages hands.lane other request b
     beside other k b differs at asks on =
-        let out : slice_get old.outs other ≡ Some (Some b.id) = ap (λ outs. slice_get outs other) world.outs ∙ get_map id_of kept other k at ∙ ap Some (asked_id_of k b asks) in
+        let out : slice_get old.outs other ≡ Some (Some b.id) = ap (λ outs. slice_get outs other) world.outs ∙ get_map kept_id kept other k at ∙ ap Some (asked_id_of k b asks) in
         let lanes = hands.beside other b.id out (sym on) in
         record { first = lanes.0; second = lanes.1; apart = (hands.apart other b.id out (sym on)).apart }
 
@@ -106,7 +106,7 @@ module _ {D : Type 0} (g : Ghosts D) (disk : D) where
         set_elsewhere kept hands.lane Nothing (Request request) slot s idle (nothing_on slot) (request_on request slot) in
         record {
           count = world.count ∙ ap length (sym hands.phases);
-          outs = hands.outs ∙ ap (λ outs. slice_set outs hands.lane (Some request.id)) world.outs ∙ sym (map_set id_of kept hands.lane (Request request));
+          outs = hands.outs ∙ ap (λ outs. slice_set outs hands.lane (Some request.id)) world.outs ∙ sym (map_set kept_id kept hands.lane (Request request));
           places = filled_places kept (length (g.contents disk)) hands.lane Nothing (Request request) request idle refl
               (subst (λ n. request.id.slot < n) (sym world.count) hands.slot) hands.pages beside world.places;
           consistent = λ honest.

@@ -13,7 +13,7 @@ use Rattle.sd_crash_safety.specs.Believes.{Believes}
 use Rattle.sd_crash_safety.specs.InUse.{IsPageOf}
 use Rattle.sd_world.specs.declared.kept.Kept.{Kept}
 use Rattle.sd_world.specs.declared.kept.Kept.TheVariants.{Nothing, Request, Outcome}
-use Rattle.sd_world.specs.View.{WorldView, asked_of, id_of}
+use Rattle.sd_world.specs.View.{WorldView, asked_of, kept_id}
 
 -- a slot's phase, and its body
 pub record SlotNow : Type 0 where
@@ -53,7 +53,7 @@ pub record IsConsistent {D : Type 0} (g : Ghosts D) (world : WorldView D) : Type
       → IsTold (file_at (g.contents world.disk) made.request.id.slot) made
 
 -- both are in lanes of pages, and write different ones
-pub record AreInPages (one other : ℕ) (a b : Asked) : Type 0 where
+pub record AreAskedInPages (one other : ℕ) (a b : Asked) : Type 0 where
   pub first : 2 < one
   pub second : 2 < other
   pub apart : a.id.call ≢ b.id.call
@@ -68,11 +68,12 @@ pub record AreInPlace (kept : List Kept) (slots : ℕ) : Type 0 where
       → 2 < lane
       → IsPageOf request.id.slot request
   pub apart : (one other : ℕ) (j k : Kept) (a b : Asked) → slice_get kept one ≡ Some j → slice_get kept other ≡ Some k
-      → asked_of j ≡ Some a → asked_of k ≡ Some b → a.id.slot ≡ b.id.slot → (one ≡ other) ⊎ AreInPages one other a b
+      → asked_of j ≡ Some a → asked_of k ≡ Some b → a.id.slot ≡ b.id.slot
+      → (one ≡ other) ⊎ AreAskedInPages one other a b
 
 -- what is so of every world
 pub record IsWorld {D : Type 0} (g : Ghosts D) (world : WorldView D) : Type 0 where
   pub count : length (g.contents world.disk) ≡ length world.core.phases
-  pub outs : world.core.outs ≡ map id_of world.kept
+  pub outs : world.core.outs ≡ map kept_id world.kept
   pub places : AreInPlace world.kept (length (g.contents world.disk))
   pub consistent : g.is_honest world.disk → IsConsistent g world

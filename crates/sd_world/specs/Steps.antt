@@ -51,12 +51,12 @@ pub record KeepsRequest (outs : List (Option RequestId)) (kept : List Kept) (req
   pub left : later ≡ slice_set kept lane (Request request)
 
 -- its next step is made, or its next request is kept
-pub data TakesUp (worker : Worker) (old : CoreView) (kept : List Kept) (answer : Reply) (new : CoreView)
+pub data WorkerTakesUp (worker : Worker) (old : CoreView) (kept : List Kept) (answer : Reply) (new : CoreView)
     (later : List Kept) : Type 0 where
-  step : IsTakenUp worker old (StepTaken answer) new → later ≡ kept → TakesUp worker old kept answer new later
+  step : IsTakenUp worker old (StepTaken answer) new → later ≡ kept → WorkerTakesUp worker old kept answer new later
   call : (request : Asked) → IsTakenUp worker old (CallTaken request) new → KeepsRequest new.outs kept request later
       → answer ≡ reply.Worked
-      → TakesUp worker old kept answer new later
+      → WorkerTakesUp worker old kept answer new later
 
 -- the outcome in this lane is handed in, and not kept any more
 pub record HandsInKept (lane : ℕ) (old : CoreView) (kept : List Kept) (made : Made) (answer : Reply) (new : CoreView)
@@ -81,11 +81,11 @@ pub record IsUnasked (old : CoreView) (kept : List Kept) (answer : Reply) (new :
   pub left : later ≡ kept
 
 -- the first outcome of the worker is handed in, or else it takes up what is next
-pub data Works (worker : Worker) (old : CoreView) (kept : List Kept) (answer : Reply) (new : CoreView)
+pub data WorkerWorks (worker : Worker) (old : CoreView) (kept : List Kept) (answer : Reply) (new : CoreView)
     (later : List Kept) : Type 0 where
-  hands_in : HandsInAt worker 0 old kept answer new later → Works worker old kept answer new later
-  takes_up : IsNowhere kept its.Made worker 0 → TakesUp worker old kept answer new later
-      → Works worker old kept answer new later
+  hands_in : HandsInAt worker 0 old kept answer new later → WorkerWorks worker old kept answer new later
+  takes_up : IsNowhere kept its.Made worker 0 → WorkerTakesUp worker old kept answer new later
+      → WorkerWorks worker old kept answer new later
 
 -- the outcome of the worker at this place is handed in, where there is one
 pub data HandsInIfAny (worker : Worker) (place : ℕ) (old : CoreView) (kept : List Kept) (answer : Reply)
@@ -159,7 +159,7 @@ pub data Performs {D : Type 0} (g : Ghosts D) (worker : Worker) (place : ℕ) (o
 -- ---- all events
 
 -- a call of the core alone touches neither the disk nor what is kept
-pub record IsOrder {D : Type 0} (old new : WorldView D) : Type 0 where
+pub record ChangesCoreAlone {D : Type 0} (old new : WorldView D) : Type 0 where
   pub disk : new.disk ≡ old.disk
   pub kept : new.kept ≡ old.kept
 
@@ -174,7 +174,7 @@ pub record IsCommand {D : Type 0} (seat : ℕ) (command : CommandOf) (old : Worl
   pub told : Result (ℕ × Reply) Refusal
   pub applied : IsApplied seat command told old.core new.core
   pub answered : answer ≡ answer_of told
-  pub rest : IsOrder old new
+  pub rest : ChangesCoreAlone old new
 
 -- a trim touches the base and the journal of the core alone, and what that believes of the store stays
 pub record IsTrim {D : Type 0} (old : WorldView D) (answer : Reply) (new : WorldView D) : Type 0 where
@@ -184,12 +184,12 @@ pub record IsTrim {D : Type 0} (old : WorldView D) (answer : Reply) (new : World
   pub kept : new.kept ≡ old.kept
 
 pub record IsWork {D : Type 0} (worker : Worker) (old : WorldView D) (answer : Reply) (new : WorldView D) : Type 0 where
-  pub works : Works worker old.core old.kept answer new.core new.kept
+  pub works : WorkerWorks worker old.core old.kept answer new.core new.kept
   pub disk : new.disk ≡ old.disk
 
 pub record IsTakeUp {D : Type 0} (worker : Worker) (old : WorldView D) (answer : Reply)
     (new : WorldView D) : Type 0 where
-  pub takes : TakesUp worker old.core old.kept answer new.core new.kept
+  pub takes : WorkerTakesUp worker old.core old.kept answer new.core new.kept
   pub disk : new.disk ≡ old.disk
 
 pub record IsHandIn {D : Type 0} (worker : Worker) (place : ℕ) (old : WorldView D) (answer : Reply)
@@ -204,13 +204,13 @@ pub record IsPerform {D : Type 0} (g : Ghosts D) (worker : Worker) (place : ℕ)
 
 abbrev pub Does : {D : Type 0} → Ghosts D → Event → WorldView D → Reply → WorldView D → Type 0
 Does g (Command seat command) old answer new = IsCommand seat command old answer new
-Does g (Begin rounds) old answer new = IsOrder old new × IsBegun rounds answer old.core new.core
+Does g (Begin rounds) old answer new = ChangesCoreAlone old new × IsBegun rounds answer old.core new.core
 Does g (Work worker) old answer new = IsWork worker old answer new
 Does g (TakeUp worker) old answer new = IsTakeUp worker old answer new
 Does g (HandInAt worker place) old answer new = IsHandIn worker place old answer new
 Does g (Perform worker) old answer new = IsPerform g worker 0 old answer new
 Does g (PerformAt worker place) old answer new = IsPerform g worker place old answer new
-Does g Merge old answer new = IsOrder old new × IsMergeOrder answer old.core new.core
-Does g Cancel old answer new = IsOrder old new × IsCancelOrder answer old.core new.core
-Does g Reopen old answer new = IsOrder old new × IsReopenOrder answer old.core new.core
+Does g Merge old answer new = ChangesCoreAlone old new × IsMergeOrder answer old.core new.core
+Does g Cancel old answer new = ChangesCoreAlone old new × IsCancelOrder answer old.core new.core
+Does g Reopen old answer new = ChangesCoreAlone old new × IsReopenOrder answer old.core new.core
 Does g Trim old answer new = IsTrim old answer new

@@ -48,10 +48,10 @@ asked_of (Request request) = Some request
 asked_of (Outcome made) = Some made.request
 
 -- what tells it from every other request
-abbrev pub id_of : Kept → Option RequestId
-id_of Nothing = None
-id_of (Request request) = Some request.id
-id_of (Outcome made) = Some made.request.id
+abbrev pub kept_id : Kept → Option RequestId
+kept_id Nothing = None
+kept_id (Request request) = Some request.id
+kept_id (Outcome made) = Some made.request.id
 
 -- where its call wasn't made yet
 abbrev pub asked_id : Kept → Option RequestId
@@ -72,9 +72,9 @@ id_in its.Made kept = made_id kept
 
 -- ---- the calls of a worker
 
-abbrev pub is_of : Worker → Option RequestId → Bool
-is_of worker None = false
-is_of worker (Some id) = index id.worker == index worker
+abbrev pub is_of_worker : Worker → Option RequestId → Bool
+is_of_worker worker None = false
+is_of_worker worker (Some id) = index id.worker == index worker
 
 -- the worker's, with a lesser ticket than this
 abbrev pub is_before : Worker → ℕ → Option RequestId → Bool
@@ -100,8 +100,8 @@ IsNowhere kept state worker place = (lane : ℕ) → IsAt kept state worker plac
 
 -- a device call of the worker is out that wasn't made yet
 abbrev pub is_asked : List Kept → Worker → Bool
-is_asked kept worker = list_any (λ k. is_of worker (asked_id k)) kept
+is_asked kept worker = list_any (λ k. is_of_worker worker (asked_id k)) kept
 
 -- how many device calls of the worker are out that weren't made yet
 abbrev pub asked_count : List Kept → Worker → ℕ
-asked_count kept worker = count_by (λ k. is_of worker (asked_id k)) kept
+asked_count kept worker = count_by (λ k. is_of_worker worker (asked_id k)) kept

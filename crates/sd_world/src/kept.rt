@@ -2,7 +2,8 @@
 ghost use Rattle.std.specs.Prelude.{◌≡◌, ◌↔◌, ◌<◌, Some, IfSome, IsTrue, MatchOption, slice_get, slice_set};
 ghost use Rattle.sd_crash_safety.specs.View.{index};
 ghost use Rattle.sd_world.specs.declared.kept.Kept.TheVariants.{Nothing};
-ghost use Rattle.sd_world.specs.View.{IsAt, IsNowhere, asked_id, busy_of, earlier, id_in, is_asked, is_before, is_of};
+ghost use Rattle.sd_world.specs.View.{IsAt, IsNowhere, asked_id, busy_of, earlier, id_in, is_asked, is_before};
+ghost use Rattle.sd_world.specs.View.{is_of_worker};
 ghost use Rattle.sd_world.specs.View.{made_id, nothing_kept};
 
 use crate::call_state::CallState;
@@ -84,7 +85,7 @@ fn id_in(kept: &Kept, state: CallState) -> Option<RequestId>
 
 /// Whether a device call is a worker's.
 fn is_of(worker: Worker, id: Option<RequestId>) -> bool
-    ensures { result ≡ is_of worker id }
+    ensures { result ≡ is_of_worker worker id }
 {
     match id {
         Some(id) => number(id.worker) == number(worker),

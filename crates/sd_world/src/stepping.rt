@@ -3,8 +3,9 @@ ghost use Rattle.std.specs.Prelude.{◌≡◌, ◌<◌, ℕ, List, Option, Some,
 ghost use Rattle.sd_gate.specs.Requests.{Asked, Made};
 ghost use Rattle.sd_gate.specs.Lanes.{IsInLane};
 ghost use Rattle.sd_crash_safety.specs.Calls.{StaysBelieved};
-ghost use Rattle.sd_world.specs.Steps.{Does, HandsInIfAny, HandsInKept, KeepsOutcome, KeepsRequest, Performs, TakesUp};
-ghost use Rattle.sd_world.specs.Steps.{Works, answer_of, reply_of_answer};
+ghost use Rattle.sd_world.specs.Steps.{Does, HandsInIfAny, HandsInKept, KeepsOutcome, KeepsRequest, Performs};
+ghost use Rattle.sd_world.specs.Steps.{WorkerTakesUp};
+ghost use Rattle.sd_world.specs.Steps.{WorkerWorks, answer_of, reply_of_answer};
 ghost use Rattle.sd_world.specs.Trims.{TrimsJournal};
 ghost use Rattle.sd_world.specs.declared.kept.Kept.TheVariants.{Outcome as OutcomeKept, Request as RequestKept};
 
@@ -49,7 +50,7 @@ fn keep_request(core: &Core, kept: &mut Lanes, request: Request)
 
 /// Makes a worker's next step, or keeps the request for its next device call.
 fn take_up(core: &mut Core, kept: &mut Lanes, worker: Worker) -> Reply
-    ensures { TakesUp worker core.old kept.old result core.new kept.new }
+    ensures { WorkerTakesUp worker core.old kept.old result core.new kept.new }
 {
     match core.take_up(worker) {
         Taken::Step(answer) => answer,
@@ -75,7 +76,7 @@ fn hand_in(core: &mut Core, kept: &mut Lanes, lane: usize) -> Reply
 /// A worker's event: its outcome with the least ticket is handed in; else it makes its next step, or its next request
 /// is kept.
 fn work(core: &mut Core, kept: &mut Lanes, worker: Worker) -> Reply
-    ensures { Works worker core.old kept.old result core.new kept.new }
+    ensures { WorkerWorks worker core.old kept.old result core.new kept.new }
 {
     match kept.lane_at(CallState::Made, worker, 0) {
         Some(lane) => hand_in(core, kept, lane),

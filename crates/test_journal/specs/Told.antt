@@ -6,7 +6,7 @@ use Rattle.sd_journal.specs.History.{memory_after, pending}
 use Rattle.sd_journal.specs.Legal.{IsLegal}
 use Rattle.sd_journal.specs.Worked.{empty_base}
 
-pub record IsTold (entries : List Entry) (contents : Contents) : Type 0 where
+pub record TellsMemory (entries : List Entry) (contents : Contents) : Type 0 where
   pub legal : IsLegal empty_base (reverse entries)
   pub memory : plain_of contents ≡ memory_after empty_base (reverse entries)
   pub thawed : pending (reverse entries) ≡ None

@@ -1,5 +1,5 @@
 //! Commands on a memory and the replay of their entries give one memory.
-ghost use Rattle.test_journal.specs.Told.{IsTold};
+ghost use Rattle.test_journal.specs.Told.{TellsMemory};
 
 use crate::told::{beginning, made, tell};
 use sd_areas::{PageNo, Prot, Snapshot, SnapshotPage, SpaceId};

@@ -2,7 +2,7 @@
 ghost use Rattle.std.specs.Prelude.{◌≡◌, [], OnOk, IfOk, reverse};
 ghost use Rattle.std.specs.FinMap as finmap;
 ghost use Rattle.sd_areas.specs.Memory.{memory_of};
-ghost use Rattle.test_journal.specs.Told.{IsTold};
+ghost use Rattle.test_journal.specs.Told.{TellsMemory};
 
 use sd_areas::{Snapshot, SpaceId};
 use sd_command::{Command, apply_to};
@@ -13,7 +13,7 @@ use std::test::Fail;
 
 /// A memory as a run begins without a store: space 1 alone.
 pub fn beginning(alloc: Global) -> Result<Memory, Fail>
-    ensures { IfOk result (IsTold []) }
+    ensures { IfOk result (TellsMemory []) }
 {
     Ok(Memory::new(alloc, 65536)?)
 }
@@ -25,8 +25,8 @@ pub fn tell(
     entries: &mut Vec<Entry>,
     command: Command,
 ) -> Result<(), Fail>
-    requires { IsTold entries.old.items memory.old }
-    ensures { OnOk result (IsTold entries.new.items memory.new) }
+    requires { TellsMemory entries.old.items memory.old }
+    ensures { OnOk result (TellsMemory entries.new.items memory.new) }
 {
     let reply = apply_to(alloc, memory, &command)?;
     entries.push(Entry::Applied {
@@ -39,7 +39,7 @@ pub fn tell(
 
 /// The memory that the entries make of the beginning.
 pub fn made(alloc: Global, memory: &Memory, entries: &[Entry]) -> Result<Snapshot, Fail>
-    requires { IsTold entries.now memory.now }
+    requires { TellsMemory entries.now memory.now }
 {
     let mut base = Snapshot::new(alloc, 0);
     base.add_space(alloc, SpaceId::new(1))?;

@@ -9,7 +9,7 @@ ghost use Rattle.sd_chain.specs.Reaches.{IsChain, ReachesSerial, ParentsFall};
 ghost use Rattle.sd_chain.specs.Store.{IsCatalogOf, IsInFile, FindsHeld};
 ghost use Rattle.sd_chain.specs.Ways.{AreImages, LiesBySerial, BreaksBySerial, IsAbsent, IsTraceOf, found_in};
 ghost use Rattle.sd_chain.specs.Catalog.{images};
-ghost use Rattle.sd_chain.specs.Passes.{IsNextPage};
+ghost use Rattle.sd_chain.specs.Passes.{IsNextPageOfImage};
 
 use super::Catalog;
 use crate::chain::Chain;
@@ -142,7 +142,7 @@ impl Catalog {
         serial: u64,
         after: Option<(SpaceId, PageNo)>,
     ) -> Option<(SpaceId, PageNo)>
-        ensures { AreImages self.now → IsNextPage self.now serial after result }
+        ensures { AreImages self.now → IsNextPageOfImage self.now serial after result }
     {
         self.sound();
         self.image(serial)?.next_page(after)

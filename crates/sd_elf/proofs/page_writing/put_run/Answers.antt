@@ -4,7 +4,7 @@ use Rattle.std.specs.Io.KnownBytes.{Appends}
 use Rattle.std.proofs.KnownBytes.{Appends-nil, Appends-trans}
 use Rattle.sd_disk.specs.Reads.{nothing_read, reads_join}
 use Rattle.sd_restore.proofs.RunLemmas.{first_pages}
-use Rattle.sd_elf.specs.Texts.{part_of_run, placed_bytes}
+use Rattle.sd_elf.specs.Texts.{placed_bytes, run_part_bytes}
 use Rattle.sd_elf.proofs.PageLemmas.{first_more, none_of_run}
 use Rattle.sd_elf.proofs.page_writing.put_run.Goals as goal
 
@@ -33,6 +33,6 @@ loop-done-preserved g c =
       reads = reads_join g.D.Disk c.args.disk.now c.loop-done.disk c.put_some.new.disk was.reads now.reads;
       written = λ honest.
           subst (Appends from to) (sym (first_more contents run done count))
-          (Appends-trans from mid to (flat_map (placed_bytes contents) (first_pages run done)) (part_of_run contents run done count) (was.written (now.reads.honest honest))
-          (subst (λ contents. Appends mid to (part_of_run contents run done count)) was.reads.same (now.text honest)));
+          (Appends-trans from mid to (flat_map (placed_bytes contents) (first_pages run done)) (run_part_bytes contents run done count) (was.written (now.reads.honest honest))
+          (subst (λ contents. Appends mid to (run_part_bytes contents run done count)) was.reads.same (now.text honest)));
     }

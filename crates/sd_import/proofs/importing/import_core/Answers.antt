@@ -1,6 +1,6 @@
 use Rattle.std.proofs.Common.{◌≡◌, ◌∙◌, ◌^◌, ◌<◌, IfSome, ap, length, refl, subst, sym}
 use Rattle.sd_crash_safety.specs.View.{CoreView}
-use Rattle.sd_elf.specs.Cores.{IsCore}
+use Rattle.sd_elf.specs.Cores.{IsCoreFile}
 use Rattle.sd_pagetable.specs.Contents.{plain_of}
 use Rattle.sd_pagetable.specs.Nested.{inside}
 use Rattle.sd_import.specs.Changes.{ChangesOnly}
@@ -16,9 +16,9 @@ returns-then-branch-clause-memory g c =
     let last = c.take_core.new.world in
     let memory : c.memory-3.result.now ≡ last.core.memory = c.memory-3.ensures.same ∙ ap (λ (core : CoreView). core.memory) c.core-3.ensures in
     let found = core_imported _ bytes c.deref.result.now (inside (plain_of c.memory-3.result.now) c.args.space) c.in_ok-has_core.field-0 c.if-branch.true c.in_ok-has_core.ensures in
-    subst (λ segments. IfSome bytes (λ held. length held < 2 ^ 64 → IsCore held segments → HasCore held segments (inside (plain_of last.core.memory) c.args.space)))
+    subst (λ segments. IfSome bytes (λ held. length held < 2 ^ 64 → IsCoreFile held segments → HasCore held segments (inside (plain_of last.core.memory) c.args.space)))
     c.deref.ensures.value
-    (subst (λ m. IfSome bytes (λ held. length held < 2 ^ 64 → IsCore held c.deref.result.now → HasCore held c.deref.result.now (inside (plain_of m) c.args.space))) memory found)
+    (subst (λ m. IfSome bytes (λ held. length held < 2 ^ 64 → IsCoreFile held c.deref.result.now → HasCore held c.deref.result.now (inside (plain_of m) c.args.space))) memory found)
 
 pub returns-then-branch-clause-changes : goal.returns-then-branch-clause-changes
 returns-then-branch-clause-changes g c =

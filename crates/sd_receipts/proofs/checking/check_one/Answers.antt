@@ -1,7 +1,7 @@
 use Rattle.std.proofs.Common.{refl, sym, subst, ◌∙◌}
 use Rattle.sd_journal.specs.declared.entry.Entry.{Entry}
 use Rattle.sd_journal.specs.declared.entry.Entry.TheVariants.{Applied}
-use Rattle.sd_journal.specs.Receipts.{IsAt}
+use Rattle.sd_journal.specs.Receipts.{IsEntryAt}
 use Rattle.sd_receipts.proofs.EntryLemmas.{has_command, never, one_entry}
 use Rattle.sd_receipts.proofs.checking.check_one.Goals as goal
 
@@ -17,5 +17,5 @@ returns-then-not-tells-clause-fault c = (
 
 pub returns-then-not-rises-clause-fault : goal.returns-then-not-rises-clause-fault
 returns-then-not-rises-clause-fault c =
-    let stands = subst (λ (e : Entry). IsAt c.args.first c.args.entries.now c.args.receipt.now.number e) (c.if-not-tells.ensures.0 refl) c.in-Some.ensures in
+    let stands = subst (λ (e : Entry). IsEntryAt c.args.first c.args.entries.now c.args.receipt.now.number e) (c.if-not-tells.ensures.0 refl) c.in-Some.ensures in
     (refl, stands, c.if-not-rises.ensures.other refl)

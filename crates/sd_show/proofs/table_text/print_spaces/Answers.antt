@@ -1,7 +1,7 @@
 use Rattle.std.proofs.Common.{◌≡◌, ◌-◌, ℕ, List, Option, arith, subst}
 use Rattle.std.specs.Io.KnownBytes.{Appends}
 use Rattle.sd_show.specs.Items.{behind_runs, behind_space, runs_in}
-use Rattle.sd_show.specs.Texts.{space_text, spaces_text}
+use Rattle.sd_show.specs.Texts.{space_lines, spaces_text}
 use Rattle.sd_show.proofs.PrintLemmas.{all_printed, no_spaces, part_printed, short_spaces, spaces_more}
 use Rattle.sd_show.proofs.table_text.print_spaces.Goals as goal
 
@@ -13,7 +13,7 @@ loop-left-preserved g c = λ after rest.
     let from = g.W.Write.contents c.loop-left.out in
     let to = g.W.Write.contents c.print_space.new.out in
     c.loop-left.invariant after
-    (part_printed from to after (space_text at bytes) (spaces_text (left - 1) (behind_runs at (runs_in bytes)) (behind_space bytes)) (spaces_text left at bytes)
+    (part_printed from to after (space_lines at bytes) (spaces_text (left - 1) (behind_runs at (runs_in bytes)) (behind_space bytes)) (spaces_text left at bytes)
     (spaces_more left at bytes c.loop-left-test.true c.if-rest-ge-SPACE_HEAD_SIZE.true) c.in_ok-at.ensures.text
     (subst (λ next. Appends to after (spaces_text (left - 1) next (behind_space bytes))) c.in_ok-at.ensures.behind
     (subst (λ behind. Appends to after (spaces_text (left - 1) c.in_ok-at.at behind)) c.behind_space-rest.ensures rest)))

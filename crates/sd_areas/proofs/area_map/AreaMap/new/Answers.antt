@@ -1,7 +1,7 @@
 use Rattle.std.proofs.Common.{ap}
-use Rattle.sd_areas.specs.Areas.{pages_of}
+use Rattle.sd_areas.specs.Areas.{page_map_of}
 use Rattle.sd_areas.proofs.area_map.AreaMap.new.Goals as goal
 
 pub returns : goal.returns
-unfolding pages_of
-returns c = ap pages_of c.new.ensures.items
+unfolding page_map_of
+returns c = ap page_map_of c.new.ensures.items

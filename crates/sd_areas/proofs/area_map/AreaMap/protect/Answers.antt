@@ -2,7 +2,7 @@ use Rattle.std.proofs.Common.{List, subst, sym, ◌∙◌, ◌≡◌, true, fals
 use Rattle.std.specs.Prelude.{slice_range, None}
 use Rattle.sd_areas.specs.declared.area.Area.{Area}
 use Rattle.sd_areas.specs.Pages.{page_of, pages_for}
-use Rattle.sd_areas.specs.Areas.{AreMaximal, pages_of}
+use Rattle.sd_areas.specs.Areas.{AreMaximal, page_map_of}
 use Rattle.sd_areas.specs.Calls.{protect_result, within_areas, set_pages, has_hole}
 use Rattle.sd_areas.proofs.Calls.{protected_invalid, protected_nothing, protected_outside, protected_hole, set_by_range, hole_test}
 use Rattle.sd_areas.proofs.Around.{middle_maximal, hole_around_at}
@@ -34,9 +34,9 @@ full c = hole_test _ _ _ _ _ _ false c.self.view_is c.in-Some.ensures.first c.in
     ∙ hole_around_at c.self.inside.areas.items _ _ _ _ c.in-Some.range.first c.in-Some.range.count c.deref.ensures.value c.deref-2.ensures.value c.self.invariant.0
     c.neighbours-from.ensures.ordered c.neighbours-from.ensures.within c.neighbours-from.ensures.below c.neighbours-from.ensures.above)
 
-gives : (c : goal.After-set_between) → protect_result c.args.self.now c.args.address c.args.bytes c.args.prot ≡ within_areas (set_pages (pages_of c.self.inside.areas.items) c.with.result.first c.with.result.count c.with.result.prot)
+gives : (c : goal.After-set_between) → protect_result c.args.self.now c.args.address c.args.bytes c.args.prot ≡ within_areas (set_pages (page_map_of c.self.inside.areas.items) c.with.result.first c.with.result.count c.with.result.prot)
 gives c =
-    set_by_range c.args.self.now (pages_of c.self.inside.areas.items) _ _ c.args.prot _ _ c.with.result.prot c.self.view_is (sym c.if-not-is_page_start.ensures) c.if-bytes-eq0.false (sym c.in-Some.ensures.within)
+    set_by_range c.args.self.now (page_map_of c.self.inside.areas.items) _ _ c.args.prot _ _ c.with.result.prot c.self.view_is (sym c.if-not-is_page_start.ensures) c.if-bytes-eq0.false (sym c.in-Some.ensures.within)
     (full c) (c.with.ensures.first ∙ c.in-Some.ensures.first) (c.with.ensures.count ∙ c.in-Some.ensures.count) c.with.ensures.prot
 
 pub returns-clause-ok : goal.returns-clause-ok

@@ -14,7 +14,7 @@ use Rattle.sd_journal.specs.Marked.{Noted, entries_of}
 use Rattle.sd_merge.specs.Merger as merger
 use Rattle.sd_rounds.specs.declared.image_order.ImageOrder.{ImageOrder}
 use Rattle.sd_crash_safety.specs.Merges.{IsSpared, MakesOther}
-use Rattle.sd_rounds.specs.Dumper.{AreRunning, HasSlot, is_dumping, is_frozen_image, is_last, next_slot, order_of, serial_of, slot_of}
+use Rattle.sd_rounds.specs.Dumper.{AreRunning, HasSlot, is_dumping, is_frozen_image, is_last, next_slot, order_of, serial_of_running, slot_of}
 use Rattle.sd_rounds.specs.Making.{Making, begun_image, out_of}
 use Rattle.sd_rounds.specs.Writes.{no_writes}
 use Rattle.sd_crash_safety.specs.DumperSteps.{opens_gate}
@@ -24,7 +24,7 @@ use Rattle.sd_core.specs.Grown.{IsGatedStage, has_grown, has_swept}
 use Rattle.sd_core.specs.declared.numbers.Numbers.{Numbers}
 use Rattle.sd_core.specs.Images.{begun_as}
 use Rattle.sd_core.specs.LittleWork.{TakesLittle}
-use Rattle.sd_core.specs.Sound.{AreOuts, AreSoundNumbers, IsImageOf, IsJournal, MergeRuns, begun_images, due_serials}
+use Rattle.sd_core.specs.Sound.{AreOuts, AreSoundNumbers, IsImageInMaking, IsJournal, MergeRuns, begun_images, due_serials}
 use Rattle.sd_core.specs.Starts.{base_of}
 use Rattle.sd_core.specs.declared.taken.Taken.TheVariants.{Call as CallTaken}
 use Rattle.sd_core.specs.Noted.{marks_of}
@@ -153,7 +153,7 @@ invariant_of-self-2 c =
         asked = asked;
         whose = whose;
         writes = writes;
-        image = subst (λ all. IsImageOf all c.hold.new.self c.tick.new.self w.next) (sym c.note.ensures.items) t.image_is;
+        image = subst (λ all. IsImageInMaking all c.hold.new.self c.tick.new.self w.next) (sym c.note.ensures.items) t.image_is;
       };
       little = subst (λ all. TakesLittle base all c.begin_next-request.new.memory w.running.number w.next) (sym c.note.ensures.items)
           (begun_little c.little_law.ensures base c.reserve_mark.new.self.items c.self.inside.memory c.begin_next-request.new.memory w.running.number _ (order_of w.running serial c.state.result) w.next
@@ -287,7 +287,7 @@ returns-clause-beside c =
       others = (refl, refl);
       notes = notes_start _ _ (next_slot c.self.inside.dumper.running) c.args.slot _ (ap (λ v. next_slot v.dumper.running) c.self.view_is ∙ c.requires.next) (record {
         serial = serial;
-        own = ap serial_of w.is ∙ ap (λ (m : Making). Some m.order.serial) w.steps.0.is;
+        own = ap serial_of_running w.is ∙ ap (λ (m : Making). Some m.order.serial) w.steps.0.is;
         noted = ap marks_of items;
       });
       images = λ none. keeps_changed c.self.inside.catalog c.hold.new.self serial (Some None) c.in-Ok-hold.ensures.held

@@ -20,7 +20,7 @@ use Rattle.sd_core.specs.Grown.{IsGatedStage, has_grown, has_swept}
 use Rattle.sd_core.specs.Dumping.{StepsOn}
 use Rattle.sd_core.specs.Images.{begun_as}
 use Rattle.sd_core.specs.LittleWork.{TakesLittle}
-use Rattle.sd_core.specs.Sound.{AreSoundNumbers, IsImageOf, IsJournal, MergeRuns, begun_images, due_serials, held_for}
+use Rattle.sd_core.specs.Sound.{AreSoundNumbers, IsImageInMaking, IsJournal, MergeRuns, begun_images, due_serials, held_for}
 use Rattle.sd_core.specs.Starts.{base_of}
 use Rattle.sd_core.specs.Visited.{HasSwept}
 use Rattle.sd_core.proofs.ImageLemmas.{image_asked, image_frozen, image_page, image_table}
@@ -195,7 +195,7 @@ invariant_of-self-in-TableCall c =
       writes = sound_writes w.running w.next (ap (λ (o : ImageOrder). o.slot) t.order ∙ own_slot c.self.inside.dumper.since_freeze _ w.running w.image c.sound.ensures.running w.was w.making) (sound_image _ (record w.running { image = Some w.next }) w.next c.sound-2.ensures.image w.is refl);
       stay = same_stay (begun_as w.running) c.self.inside.catalog w.running.opened;
       asked = asked_on w.running w.image w.next _ t.out_is t.slot (own_slot c.self.inside.dumper.since_freeze _ w.running w.image c.sound.ensures.running w.was w.making);
-      image_is = subst (λ all. IsImageOf all c.self.inside.catalog c.tick-in-TableCall.new.self w.next) (sym items) t.image_is;
+      image_is = subst (λ all. IsImageInMaking all c.self.inside.catalog c.tick-in-TableCall.new.self w.next) (sym items) t.image_is;
       still = t.still;
       little = subst (λ all. TakesLittle base all c.step_on.new.memory w.running.number w.next) (sym items)
           (step_little c.little_law.ensures base c.reserve_mark.new.self.items (Noted (Table w.image.order.serial) ∷ c.reserve_mark.new.self.items) c.self.inside.memory c.step_on.new.memory w.running.number c.self.inside.numbers.ticket w.image w.next (TableCall c.in-TableCall.request) w.steps
@@ -254,7 +254,7 @@ invariant_of-self-in-Frozen c =
         asked = subst (λ o. IfSome o (λ id. id.slot ≡ slot_of w.running)) (sym t.out_is) tt;
         whose = subst (λ o. IfSome o (λ i. i.worker ≡ its.Dumper)) (sym t.out_is) tt;
         writes = sound_writes w.running w.next (ap (λ (o : ImageOrder). o.slot) t.order ∙ own_slot c.self.inside.dumper.since_freeze _ w.running w.image c.sound.ensures.running w.was w.making) (sound_image _ (record w.running { image = Some w.next }) w.next c.sound-2.ensures.image w.is refl);
-        image = subst (λ all. IsImageOf all c.self.inside.catalog c.self.inside.numbers w.next) (sym c.append_held.ensures.items) t.image_is;
+        image = subst (λ all. IsImageInMaking all c.self.inside.catalog c.self.inside.numbers w.next) (sym c.append_held.ensures.items) t.image_is;
       };
       little = subst (λ all. TakesLittle base all c.step_on.new.memory w.running.number w.next) (sym c.append_held.ensures.items)
           (subst (λ n. TakesLittle base (Told (Freeze n) ∷ c.reserve_mark.new.self.items) c.step_on.new.memory w.running.number w.next) work.number

@@ -1,7 +1,7 @@
 use Rattle.std.proofs.Common.{◌≡◌, false, None, IfSome, refl, sym, ◌∙◌, ap, subst, arith}
 use Rattle.sd_journal.specs.History.{Base}
 use Rattle.sd_journal.specs.Kept.{JournalView}
-use Rattle.sd_rounds.specs.Dumper.{Dumping, serial_of}
+use Rattle.sd_rounds.specs.Dumper.{Dumping, serial_of_running}
 use Rattle.sd_journal.specs.Marked.{entries_of}
 use Rattle.sd_core.proofs.FlagLemmas.{set_flags}
 use Rattle.sd_core.specs.Grown.{IsGated, has_grown, has_swept}
@@ -37,7 +37,7 @@ invariant_of-self c =
       opening = c.self.invariant.opening;
       numbers_are = subst (λ all. AreSoundNumbers base all None c.self.inside.last c.self.inside.numbers) (sym (items ∙ c.append_held.ensures.items))
           (cancelled_numbers base c.self.inside.journal.items c.self.inside.pending c.self.inside.last c.self.inside.numbers c.self.invariant.numbers_are);
-      counted = counted_released c.self.inside.numbers c.self.inside.catalog c.release_place.new.catalog (serial_of c.self.inside.dumper.running) released c.self.invariant.counted;
+      counted = counted_released c.self.inside.numbers c.self.inside.catalog c.release_place.new.catalog (serial_of_running c.self.inside.dumper.running) released c.self.invariant.counted;
       rests = λ none stands. refl;
       work = subst (λ r. IfSome r (CheckpointRuns base c.release.new.self.items None c.self.inside.standing c.self.inside.phases.items c.release_place.new.catalog c.self.inside.merger c.self.inside.opener c.self.inside.numbers)) (sym gone) tt;
       little = subst (λ r. IfSome r (HasLittle base c.release.new.self.items c.self.inside.memory)) (sym gone) tt;
@@ -69,7 +69,7 @@ returns-clause-keeps c =
         written = written_of _ c.self.invariant may.pages;
         sure = may.sure;
         merger = refl;
-        images = images_same (serial_of c.self.inside.dumper.running) c.self.inside.catalog c.release_place.new.catalog released;
+        images = images_same (serial_of_running c.self.inside.dumper.running) c.self.inside.catalog c.release_place.new.catalog released;
         grows = refl;
         is = gone;
       }) b;

@@ -7,7 +7,7 @@ use Rattle.sd_command.specs.declared.refusal.Refusal.TheVariants.{Damaged as Dam
 use Rattle.sd_command.specs.declared.reply.Reply.TheVariants as reply
 use Rattle.sd_journal.specs.History.{Base}
 use Rattle.sd_journal.specs.History.{last, pending}
-use Rattle.sd_opener.specs.Looking.{Looking, out_of}
+use Rattle.sd_opener.specs.Looking.{Looking, out_of_look}
 use Rattle.sd_opener.specs.Sees.{Sees}
 use Rattle.sd_crash_safety.specs.declared.standing.Standing.TheVariants.{Open}
 use Rattle.sd_crash_safety.specs.View.{CoreView}
@@ -35,7 +35,7 @@ invariant_of-self-2 c =
     let o = c.in-Some.opener in
     let is : c.self.inside.opener ≡ Some o = sym c.take_opener.ensures.taken ∙ c.in-Some.is in
     let same : c.requires.looking ≡ o = same_Some c.requires.looking o (sym c.requires.is ∙ sym (ap (λ (v : CoreView). v.opener) c.self.view_is) ∙ is) in
-    let rests : out_of_opener c.self.inside.opener ≡ None = ap out_of_opener is ∙ subst (λ (l : Looking). out_of l.stage ≡ None) same c.requires.rests in
+    let rests : out_of_opener c.self.inside.opener ≡ None = ap out_of_opener is ∙ subst (λ (l : Looking). out_of_look l.stage ≡ None) same c.requires.rests in
     let opening = subst (λ x. IfSome x (IsOpening c.self.inside.standing c.self.inside.phases.items)) is c.self.invariant.opening in
     let none = none_closed _ c.self.invariant opening.closed in
     let expected = expected_may c.self.inside.pending c.self.inside.last c.in-Some-read_by.found c.self.inside.swept
@@ -86,7 +86,7 @@ returns-clause-takes c =
     let same : c.requires.looking ≡ o = same_Some c.requires.looking o (sym c.requires.is ∙ sym (ap (λ (v : CoreView). v.opener) c.self.view_is) ∙ is) in
     let opening = subst (λ x. IfSome x (IsOpening c.self.inside.standing c.self.inside.phases.items)) is c.self.invariant.opening in
     let none = none_closed _ c.self.invariant opening.closed in
-    let rests : out_of_opener c.self.inside.opener ≡ None = ap out_of_opener is ∙ subst (λ (l : Looking). out_of l.stage ≡ None) same c.requires.rests in
+    let rests : out_of_opener c.self.inside.opener ≡ None = ap out_of_opener is ∙ subst (λ (l : Looking). out_of_look l.stage ≡ None) same c.requires.rests in
     let all : length o.told ≡ o.slots = subst (λ (l : Looking). length l.told ≡ l.slots) same c.requires.all in
     let slots : o.slots ≡ length c.self.inside.phases.items = (subst (λ x. IfSome x (IsOpening c.self.inside.standing c.self.inside.phases.items)) is c.self.invariant.opening).slots in
     let opens = c.in-Some-read_by.ensures.opens in

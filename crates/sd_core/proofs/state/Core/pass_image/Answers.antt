@@ -15,7 +15,7 @@ use Rattle.sd_core.specs.Grown.{IsGatedStage, has_grown, has_swept}
 use Rattle.sd_core.specs.Dumping.{StepsOn}
 use Rattle.sd_core.specs.Images.{begun_as}
 use Rattle.sd_core.specs.LittleWork.{TakesLittle}
-use Rattle.sd_core.specs.Sound.{AreSoundNumbers, IsImageOf, IsJournal}
+use Rattle.sd_core.specs.Sound.{AreSoundNumbers, IsImageInMaking, IsJournal}
 use Rattle.sd_core.specs.Starts.{base_of}
 use Rattle.sd_core.proofs.ImageLemmas.{image_visited, image_copied}
 use Rattle.sd_core.proofs.LaneLemmas.{outs_kept}
@@ -116,7 +116,7 @@ invariant_of-self-in-Visited c =
       writes = sound_writes w.running w.next (ap (λ (o : ImageOrder). o.slot) t.order ∙ own_slot c.self.inside.dumper.since_freeze _ w.running w.image c.sound.ensures.running w.was w.making) (sound_image _ (record w.running { image = Some w.next }) w.next c.sound-2.ensures.image w.is refl);
       stay = same_stay (begun_as w.running) c.self.inside.catalog w.running.opened;
       asked = asked_on w.running w.image w.next _ t.out_is t.slot (own_slot c.self.inside.dumper.since_freeze _ w.running w.image c.sound.ensures.running w.was w.making);
-      image_is = subst (λ all. IsImageOf all c.self.inside.catalog c.self.inside.numbers w.next) (sym items) t.image_is;
+      image_is = subst (λ all. IsImageInMaking all c.self.inside.catalog c.self.inside.numbers w.next) (sym items) t.image_is;
       still = t.still;
       little = subst (λ all. TakesLittle base all c.pass_on.new.memory w.running.number w.next) (sym items)
           (step_little c.little_law.ensures base c.reserve_mark.new.self.items (Noted (Visit w.image.order.serial c.in-Visited.visit.space c.in-Visited.visit.page) ∷ c.reserve_mark.new.self.items) c.self.inside.memory c.pass_on.new.memory w.running.number c.self.inside.numbers.ticket w.image w.next (Visited c.in-Visited.visit) w.steps

@@ -5,7 +5,7 @@ use Rattle.sd_command.specs.declared.reply.Reply.TheVariants as reply
 use Rattle.sd_command.specs.declared.refusal.Refusal.TheVariants.{Damaged as DamagedStore}
 use Rattle.sd_journal.specs.History.{Base}
 use Rattle.sd_crash_safety.specs.OpenerSteps.{opener_alone}
-use Rattle.sd_opener.specs.Looking.{out_of}
+use Rattle.sd_opener.specs.Looking.{out_of_look}
 use Rattle.sd_opener.specs.Sees.{Sees}
 use Rattle.sd_core.specs.contracts.state.Core.{the_view}
 use Rattle.sd_core.specs.declared.taken.Taken.TheVariants.{Step}
@@ -35,7 +35,7 @@ invariant_of-self-in-Call c =
       journal_is = inside.journal_is;
       held = inside.held ∙ ap (held_for c.self.inside.pending c.self.inside.dumper.running) w.was ∙ held_opening c.self.inside.pending c.self.inside.dumper.running w.opener none
           ∙ sym (held_opening c.self.inside.pending c.self.inside.dumper.running w.next none) ∙ ap (held_for c.self.inside.pending c.self.inside.dumper.running) (sym w.is);
-      outs_are = one_out c.self.inside.standing c.put_out.new.outs c.self.inside.phases.items c.self.inside.dumper.running c.self.inside.merger c.step_opener.new.opener w.next c.in-Call.request.id opening.closed w.is (ap out_of_opener w.is ∙ ap out_of w.moves.is ∙ w.moves.gives.out)
+      outs_are = one_out c.self.inside.standing c.put_out.new.outs c.self.inside.phases.items c.self.inside.dumper.running c.self.inside.merger c.step_opener.new.opener w.next c.in-Call.request.id opening.closed w.is (ap out_of_opener w.is ∙ ap out_of_look w.moves.is ∙ w.moves.gives.out)
           (c.put_out.ensures ∙ set_alone c.self.inside.outs c.id.result nobody_out ∙ ap opener_alone c.id.ensures) (omega (arith, slot, within, slots)) w.moves.worker;
       opening = subst (λ x. IfSome x (IsOpening c.self.inside.standing c.self.inside.phases.items)) (sym w.is) (record { closed = opening.closed; slots = w.slots ∙ opening.slots });
       numbers_are = numbers_same base c.self.inside.journal.items c.self.inside.pending c.self.inside.last c.self.inside.numbers c.tick.new.self numbers inside.numbers_are;

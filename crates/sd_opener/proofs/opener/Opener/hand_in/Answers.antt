@@ -9,9 +9,9 @@ use Rattle.sd_gate.specs.Sequences.{first_looks}
 use Rattle.sd_image.specs.Image.{is_open}
 use Rattle.sd_restore.specs.Scanned.{IsScanned}
 use Rattle.sd_opener.specs.declared.stage.Stage.TheVariants.{Asking}
-use Rattle.sd_opener.specs.Looking.{IsStageOf, Looking, out_of}
+use Rattle.sd_opener.specs.Looking.{IsStageOf, Looking, out_of_look}
 use Rattle.sd_opener.specs.Sees.{InspectionEndsAs, InspectionHasEnded, IsToldOf, Sees, SeesSlot}
-use Rattle.sd_opener.specs.Left.{LowersLooking, stage_left}
+use Rattle.sd_opener.specs.Left.{LowersLooking, slot_left}
 use Rattle.sd_opener.proofs.Inspecting.{begins, ends, goes}
 use Rattle.sd_opener.proofs.Lowers.{open_left, slot_lowers, stage_lowers, within_slots}
 use Rattle.sd_opener.proofs.Steps.{back_count, cant_fail, finds_file, looks_on, open_out, open_stage, passes, within_files}
@@ -51,7 +51,7 @@ invariant_of-self-in-Some-Open c =
     let is_open = c.in-Some-Open.ensures.open c.in-Some-Open.stage c.in-Some-Open.field-0-is in
     record {
       within = c.self.invariant.within;
-      last = λ same id out. (let none : None ≡ Some id = sym (ap out_of put ∙ open_out c.in-Some-Open.stage is_open) ∙ out in cc);
+      last = λ same id out. (let none : None ≡ Some id = sym (ap out_of_look put ∙ open_out c.in-Some-Open.stage is_open) ∙ out in cc);
       room = c.self.invariant.room;
       own = subst (IsStageOf (length c.self.inside.told.items)) (sym put) (open_stage c.in-Some-Open.stage (length c.self.inside.told.items) is_open);
       few = c.self.invariant.few;
@@ -59,7 +59,7 @@ invariant_of-self-in-Some-Open c =
 
 pub returns-in-Some-Open-clause-free : goal.returns-in-Some-Open-clause-free
 returns-in-Some-Open-clause-free c was =
-    ap out_of c.put_stage-in-Some-Open.ensures ∙ open_out c.in-Some-Open.stage (c.in-Some-Open.ensures.open c.in-Some-Open.stage c.in-Some-Open.field-0-is)
+    ap out_of_look c.put_stage-in-Some-Open.ensures ∙ open_out c.in-Some-Open.stage (c.in-Some-Open.ensures.open c.in-Some-Open.stage c.in-Some-Open.field-0-is)
 
 pub returns-in-Some-Open-clause-sees : goal.returns-in-Some-Open-clause-sees
 returns-in-Some-Open-clause-sees c files request told sees =
@@ -91,7 +91,7 @@ returns-in-Some-Closed-clause-sees c files request told sees =
     let long : c.len-slot.result ≡ n = c.len-slot.ensures ∙ c.self.inside.told.ok.0 in
     let within = within_files c.inspection_finds.ensures files request _ c.in-Asking.plan c.settle.new.self c.args.outcome c.settle.result c.in-Asking.is c.settle.ensures.settled was is
     was.count c.self.invariant.within
-    (λ last out. c.self.invariant.last last c.args.outcome.request.id (ap out_of c.in-Asking.is ∙ out)) in (
+    (λ last out. c.self.invariant.last last c.args.outcome.request.id (ap out_of_look c.in-Asking.is ∙ out)) in (
       refl,
       passes c.inspection_finds.ensures files (Some request) _ _ c.in-Some-Closed.phase was (record {
         within = within;
@@ -107,10 +107,10 @@ returns-in-Some-Closed-clause-sees c files request told sees =
 
 pub returns-in-Some-Open-clause-lowers : goal.returns-in-Some-Open-clause-lowers
 returns-in-Some-Open-clause-lowers c out goes =
-    let own : out_of c.self.inside.stage ≡ Some c.args.outcome.request.id = ap (λ (v : Looking). out_of v.stage) c.self.view_is ∙ out in
-    let fewer = c.settle.ensures.fewer (ap out_of (sym c.in-Asking.is) ∙ own) in
-    let before = ap stage_left c.in-Asking.is in
-    let one = ap stage_left c.put_stage-in-Some-Open.ensures ∙ open_left c.in-Some-Open.stage (c.in-Some-Open.ensures.open c.in-Some-Open.stage c.in-Some-Open.field-0-is) in
+    let own : out_of_look c.self.inside.stage ≡ Some c.args.outcome.request.id = ap (λ (v : Looking). out_of_look v.stage) c.self.view_is ∙ out in
+    let fewer = c.settle.ensures.fewer (ap out_of_look (sym c.in-Asking.is) ∙ own) in
+    let before = ap slot_left c.in-Asking.is in
+    let one = ap slot_left c.put_stage-in-Some-Open.ensures ∙ open_left c.in-Some-Open.stage (c.in-Some-Open.ensures.open c.in-Some-Open.stage c.in-Some-Open.field-0-is) in
     let within = within_slots _ _ c.args.outcome.request.id c.self.invariant own in
     let next : Looking = record { slots = c.self.inside.slots; told = c.self.inside.told.items; stage = c.put_stage-in-Some-Open.new.stage; scanned = c.self.inside.scanned } in
     subst (λ v. LowersLooking v next) c.self.view_is
@@ -118,14 +118,14 @@ returns-in-Some-Open-clause-lowers c out goes =
 
 pub returns-in-Some-Closed-clause-lowers : goal.returns-in-Some-Closed-clause-lowers
 returns-in-Some-Closed-clause-lowers c out goes =
-    let own : out_of c.self.inside.stage ≡ Some c.args.outcome.request.id = ap (λ (v : Looking). out_of v.stage) c.self.view_is ∙ out in
+    let own : out_of_look c.self.inside.stage ≡ Some c.args.outcome.request.id = ap (λ (v : Looking). out_of_look v.stage) c.self.view_is ∙ out in
     let within = within_slots _ _ c.args.outcome.request.id c.self.invariant own in
     let more = ap length c.push.ensures.items ∙ ap (λ r. length (if is_ok r then c.self.inside.told.items ++ c.in-Some-Closed.phase ∷ [] else c.self.inside.told.items)) c.unwrap.ensures
     ∙ back_count c.self.inside.told.items c.in-Some-Closed.phase in
     let next : Looking = record { slots = c.self.inside.slots; told = c.push.new.self.items; stage = c.put_stage-in-Some-Closed.new.stage; scanned = c.self.inside.scanned } in
     subst (λ v. LowersLooking v next) c.self.view_is
     (slot_lowers c.self.inside.slots (length c.self.inside.told.items) (length c.push.new.self.items) c.self.inside.stage c.put_stage-in-Some-Closed.new.stage within
-    (omega (arith, more)) (ap stage_left (c.put_stage-in-Some-Closed.ensures ∙ c.first_stage-in-Some-Closed.ensures)))
+    (omega (arith, more)) (ap slot_left (c.put_stage-in-Some-Closed.ensures ∙ c.first_stage-in-Some-Closed.ensures)))
 
 pub invariant_of-self-in-More : goal.invariant_of-self-in-More
 invariant_of-self-in-More c =
@@ -146,7 +146,7 @@ invariant_of-self-in-More c =
 pub returns-in-None-clause-strange : goal.returns-in-None-clause-strange
 returns-in-None-clause-strange c strange =
     let out = c.is_out.ensures.0 c.if-not-is_out.false ∙ ap Some c.id.ensures in
-    absurd (strange (ap (λ (v : Looking). out_of v.stage) (sym c.self.view_is) ∙ ap out_of c.in-Asking.is ∙ out))
+    absurd (strange (ap (λ (v : Looking). out_of_look v.stage) (sym c.self.view_is) ∙ ap out_of_look c.in-Asking.is ∙ out))
 
 pub returns-in-None-clause-goes_on : goal.returns-in-None-clause-goes_on
 returns-in-None-clause-goes_on c own as_asked =
@@ -161,7 +161,7 @@ returns-in-None-clause-goes_on c own as_asked =
 pub invariant_of-self-in-Some-Closed : goal.invariant_of-self-in-Some-Closed
 invariant_of-self-in-Some-Closed c =
     let out = c.is_out.ensures.0 c.if-not-is_out.false ∙ ap Some c.id.ensures in
-    let within = within_slots _ _ c.args.outcome.request.id c.self.invariant (ap out_of c.in-Asking.is ∙ out) in
+    let within = within_slots _ _ c.args.outcome.request.id c.self.invariant (ap out_of_look c.in-Asking.is ∙ out) in
     let more = ap length c.push.ensures.items ∙ ap (λ r. length (if is_ok r then c.self.inside.told.items ++ c.in-Some-Closed.phase ∷ [] else c.self.inside.told.items)) c.unwrap.ensures
     ∙ back_count c.self.inside.told.items c.in-Some-Closed.phase in
     let stage_is = c.put_stage-in-Some-Closed.ensures ∙ c.first_stage-in-Some-Closed.ensures in
@@ -169,7 +169,7 @@ invariant_of-self-in-Some-Closed c =
     let at : c.len-slot.result + 1 ≡ length c.push.new.self.items = (let long = c.len-slot.ensures ∙ c.self.inside.told.ok.0 in omega (arith, more, long)) in
     record {
       within = omega (arith, within, more);
-      last = λ same id is_out. (let none : None ≡ Some id = sym (ap out_of stage_is) ∙ is_out in cc);
+      last = λ same id is_out. (let none : None ≡ Some id = sym (ap out_of_look stage_is) ∙ is_out in cc);
       room = search rules;
       own = subst (IsStageOf (length c.push.new.self.items)) (sym stage_is) (at, begins (c.len-slot.result + 1));
       few = omega (arith, few, more);

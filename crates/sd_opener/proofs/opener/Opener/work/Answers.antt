@@ -11,7 +11,7 @@ use Rattle.sd_restore.specs.Scanned.{IsScanned}
 use Rattle.sd_opener.specs.declared.stage.Stage.TheVariants.{Asking}
 use Rattle.sd_opener.specs.Sees.{Sees, SeesSlot}
 use Rattle.sd_opener.proofs.Ends.{broken_is_faulty, whole_phase}
-use Rattle.sd_opener.specs.Left.{LowersLooking, stage_left}
+use Rattle.sd_opener.specs.Left.{LowersLooking, slot_left}
 use Rattle.sd_opener.specs.Looking.{Looking}
 use Rattle.sd_opener.proofs.Lowers.{slot_lowers}
 use Rattle.sd_opener.proofs.Steps.{back_count, faulty_is_no_store, passes}
@@ -66,4 +66,4 @@ returns-in_ok-take_in-in-Ok-clause-lowers c =
     let next : Looking = record { slots = c.self.inside.slots; told = c.push.new.self.items; stage = c.put_stage.new.stage; scanned = c.take_in.new.self } in
     subst (λ v. LowersLooking v next) c.self.view_is
     (slot_lowers c.self.inside.slots (length c.self.inside.told.items) (length c.push.new.self.items) c.self.inside.stage c.put_stage.new.stage within
-    (omega (arith, more)) (ap stage_left (c.put_stage.ensures ∙ c.first_stage.ensures)))
+    (omega (arith, more)) (ap slot_left (c.put_stage.ensures ∙ c.first_stage.ensures)))
