@@ -9,7 +9,8 @@ ghost use Rattle.sd_audit.specs.ShowsOne.{base_from_snapshot};
 
 use crate::copying::copy_of;
 use sd_areas::Snapshot;
-use sd_journal::{Entry, replay};
+use sd_fold::replay;
+use sd_journal::Entry;
 use std::alloc::{AllocError, Global};
 
 /// The memory at the freeze of a checkpoint: what the entries before its freeze make of the memory that the run started

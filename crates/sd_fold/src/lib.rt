@@ -1,4 +1,4 @@
-//! The memory that a run goes on from, taken forward by the entries of its journal.
+//! The memory that a run goes on from, taken forward by the entries of its journal: in place, or as a replay.
 #![tactic(auto)]
 
 mod added;
@@ -7,7 +7,9 @@ mod copying;
 mod effects;
 mod folding;
 mod overlay;
+mod replaying;
 mod room;
 mod settling;
 
 pub use folding::fold;
+pub use replaying::replay;

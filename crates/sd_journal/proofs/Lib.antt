@@ -8,9 +8,9 @@ pub mod KeptLemmas
 pub mod LegalLemmas
 pub mod MappedLemmas
 pub mod MarkedLemmas
+pub mod MovedLemmas
 pub mod PlainLemmas
 pub mod TakenLemmas
 pub mod TrimLemmas
 pub mod TrimmedMarks
 pub mod VisitedLemmas
-pub mod MovedLemmas

@@ -1,28 +1,24 @@
 -- Finite maps by number: the code's maps seen as such, and runs of pages that change one after the other.
-use Rattle.std.proofs.Common.{◌≡◌, ℕ, zero, suc, ◌+◌, ◌-◌, ◌%◌, ◌<◌, ◌≤◌, Bool, true, false, not, cond, nat_eq, nat_le, ◌||◌, is_some, List, [], ◌∷◌, ◌++◌, map, length, Option, Some, None, IsSome, unwrap_or, refl, sym, ◌∙◌, ap, subst, inl, inr, arith}
+use Rattle.std.proofs.Common.{◌≡◌, ℕ, zero, suc, ◌+◌, ◌-◌, ◌%◌, ◌<◌, ◌≤◌, Bool, true, false, not, cond, nat_eq, ◌||◌, List, [], ◌∷◌, ◌++◌, map, Option, Some, None, IsSome, refl, sym, ◌∙◌, ap, subst, inl, inr, arith}
 use Rattle.std.proofs.lemmas.Bool.Decides.{nat_tests}
 use Rattle.std.proofs.lemmas.Bool.{cases_Bool, cond-false}
 use Rattle.std.specs.Option.{option_map, option_map_or}
-use Rattle.std.specs.Ordering.{nat_cmp, eq_by_cmp, is_lt}
+use Rattle.std.specs.Ordering.{nat_cmp, eq_by_cmp}
 use Rattle.std.specs.Cmp.{nat_cmp_total}
 use Rattle.std.specs.FinMap as finmap
 use Rattle.std.specs.FinMap.{find, same_map, get-insert, get-remove, get-empty, get-from_entries, get-entries, get-retain_keys, nat_cmp-IsAntisymmetric}
-use Rattle.std.specs.Prelude.{Result, Ok, Err, OnOk, IfOk}
 use Rattle.std.specs.declared.cmp.Ordering.TheVariants.{Less}
 use Rattle.std.specs.Map.{lookup, keys_of}
 use Rattle.std.specs.List.Sorted.{IsStrictlySortedBy}
 use Rattle.std.specs.BTreeMap.{BTreeMap, is_at}
-use Rattle.std.specs.BTreeMap.Range.{IsFromStart, IsLeBy}
-use Rattle.std.specs.declared.ops.Bound.TheVariants.{Included}
 use Rattle.sd_areas.specs.declared.snapshot_page.SnapshotPage.{SnapshotPage}
 use Rattle.sd_areas.specs.declared.snapshot.Snapshot.{Snapshot}
 use Rattle.sd_areas.specs.Memory.{memory_of, space_of, page_of_snapshot}
-use Rattle.sd_areas.specs.declared.prot.Prot.{Prot}
-use Rattle.sd_areas.specs.Pages.{page_of, pages_for, pages_from, is_within}
+use Rattle.sd_areas.specs.Pages.{page_of, pages_from, is_within}
 use Rattle.sd_areas.specs.PlainMemory.{Page, Space, PlainMemory}
 use Rattle.sd_pagetable.specs.Access.{stored_at}
-use Rattle.sd_pagetable.specs.Effects.{after_mprotect, after_store}
-use Rattle.sd_pagetable.specs.Nested.{Table, inside, is_alive, value_at, put_at, map_entries, set_within, remove_within, change_within}
+use Rattle.sd_pagetable.specs.Effects.{after_store}
+use Rattle.sd_pagetable.specs.Nested.{Table, inside, value_at, put_at, map_entries, set_within, remove_within, change_within}
 
 same_test : (a b : ℕ) → eq_by_cmp nat_cmp a b ≡ nat_eq a b
 same_test a b = grind (arith, nat_tests)
@@ -275,59 +271,6 @@ module _ {X : Type 0} where
       apart : nat_eq q p ≡ true → ⊥
       apart here = absurd (let f : true ≡ false = sym within ∙ ap (is_within first count) (sym (same_of q p here)) ∙ outside in cc)
 
-pub not_none : {A : Type 0} (o : Option A) → o ≡ None → IsSome o → ⊥
-not_none None e some = (let f : false ≡ true = some in cc)
-not_none (Some a) e some = cc
-
-pub from_start : (start q : ℕ) → nat_le start q ≡ true → IsFromStart nat_cmp (Included start) q
-from_start start q e = grind (arith, nat_tests)
-
-pub is_from_start : (start q : ℕ) → IsFromStart nat_cmp (Included start) q → nat_le start q ≡ true
-is_from_start start q e = grind (arith, nat_tests)
-
-pub in_run : (first end page : ℕ) → nat_le first page ≡ true → page < end → is_within first (end - first) page ≡ true
-in_run first end page from below = grind (arith, nat_tests)
-
-pub from_first : (first end q : ℕ) → is_within first (end - first) q ≡ true → nat_le first q ≡ true
-from_first first end q within = grind (arith, nat_tests)
-
-pub below_end : (first end q : ℕ) → is_within first (end - first) q ≡ true → q < end
-below_end first end q within = grind (arith, nat_tests)
-
-pub le_by : (a b : ℕ) → IsLeBy nat_cmp a b → a ≤ b
-le_by a b h = grind (arith, nat_tests)
-
-pub some_within : {A B : Type 0} (f : A → B) (o : Option A) → IsSome (option_map f o) → IsSome o
-some_within f None some = absurd (let e : false ≡ true = some in cc)
-some_within f (Some a) some = refl
-
-pub on_ok : {A E : Type 0} (r : Result A E) (P Q : Type 0) → (P → Q) → OnOk r P → OnOk r Q
-on_ok (Ok x) P Q f p = f p
-on_ok (Err e) P Q f p = p
-
-some_is : {A : Type 0} (a b : A) → Some a ≡ Some b → a ≡ b
-some_is a b e = cc
-
--- a page that was taken out, changed and put back
-pub put_changed : (old mid new : Space) (k : ℕ) (change : Page → Page) (found : Page) → mid ≡ finmap.remove old k → Some found ≡ finmap.get old k
-    → new ≡ finmap.insert mid k (change found) → (before : Page) → finmap.get old k ≡ Some before → new ≡ finmap.insert old k (change before)
-put_changed old mid new k change found taken there put before e =
-    put ∙ ap (λ m. finmap.insert m k (change found)) taken ∙ put_back old k (change found)
-    ∙ ap (λ page. finmap.insert old k (change page)) (some_is found before (there ∙ e))
-
--- a page of a run was changed, where it is there
-pub changed_step : (change : Page → Page) (old now new : Space) (first k : ℕ) → first ≤ k → now ≡ change_within change old first (k - first)
-    → ((before : Page) → finmap.get now k ≡ Some before → new ≡ finmap.insert now k (change before)) → (finmap.get now k ≡ None → new ≡ now)
-    → new ≡ change_within change old first (k + 1 - first)
-changed_step change old now new first k le done mapped hole = go (finmap.get old k) refl
-  where
-    here : finmap.get now k ≡ finmap.get old k
-    here = ap (λ m. finmap.get m k) done ∙ change_outside change old first k
-
-    go : (o : Option Page) → finmap.get old k ≡ o → new ≡ change_within change old first (k + 1 - first)
-    go None e = hole (here ∙ e) ∙ done ∙ change_skips change old first k le e
-    go (Some y) e = mapped y (here ∙ e) ∙ ap (λ m. finmap.insert m k (change y)) done ∙ change_more change old first k y le e
-
 -- ---- a copy, page by page
 
 abbrev pub Entries : Type 0
@@ -403,51 +346,11 @@ all_copied all rest copy copied none = same_table _ _ (λ q. sym (copied.same q 
 
 -- ---- spaces of a memory
 
-pub taken_pages : (memory : Snapshot) (s : ℕ) (found : Option (BTreeMap ℕ SnapshotPage)) (none result : BTreeMap ℕ SnapshotPage)
-    → found ≡ lookup (is_at (nat_cmp s)) memory.spaces.entries → none.entries ≡ [] → result ≡ unwrap_or found none
-    → space_of result.entries ≡ inside (memory_of memory) s
-taken_pages memory s None none result e empty is =
-    ap pages_in is ∙ no_pages none.entries empty ∙ sym (ap (λ o. unwrap_or o finmap.empty) (get_memory memory s ∙ ap (option_map pages_in) (sym e)))
-taken_pages memory s (Some pages) none result e empty is =
-    ap pages_in is ∙ sym (ap (λ o. unwrap_or o finmap.empty) (get_memory memory s ∙ ap (option_map pages_in) (sym e)))
-
 -- a space whose pages were taken out, changed and put back
 pub changed_space : (old mid new : PlainMemory) (s : ℕ) (pages changed : Space) → mid ≡ finmap.remove old s → changed ≡ pages
     → new ≡ finmap.insert mid s changed → new ≡ finmap.insert old s pages
 changed_space old mid new s pages changed taken is put =
     put ∙ ap (λ p. finmap.insert mid s p) is ∙ ap (λ m. finmap.insert m s pages) taken ∙ put_back old s pages
-
-pub same_run : (change : Space → ℕ → ℕ → Space) (now old result : Space) (first end start count : ℕ) → result ≡ change now first (end - first)
-    → now ≡ old → first ≡ start → end ≡ start + count → result ≡ change old start count
-same_run change now old result first end start count run is at to =
-    let long : end - first ≡ count = omega arith in
-    run ∙ ap (λ p. change p first (end - first)) is ∙ ap (λ n. change old first n) long ∙ ap (λ n. change old n count) at
-
-zero_within : (first q : ℕ) → is_within first 0 q ≡ false
-zero_within first q = grind (arith, nat_tests)
-
-change_zero : (change : Page → Page) (pages : Space) (first : ℕ) → change_within change pages first 0 ≡ pages
-change_zero change pages first = same_table _ _ (λ q. get-change_within change pages first 0 q
-    ∙ ap (λ b. option_map (λ x. cond b (change x) x) (finmap.get pages q)) (zero_within first q) ∙ mapped_itself (finmap.get pages q))
-
-itself : (memory : PlainMemory) (s : ℕ) → is_some (finmap.get memory s) ≡ true → finmap.insert memory s (inside memory s) ≡ memory
-itself memory s alive = same_table _ _ (λ q. get_put memory s (inside memory s) q ∙ at (finmap.get memory s) refl alive q (nat_eq q s) refl)
-  where
-    at : (o : Option Space) → finmap.get memory s ≡ o → is_some o ≡ true → (q : ℕ) (b : Bool) → nat_eq q s ≡ b
-        → cond b (Some (inside memory s)) (finmap.get memory q) ≡ finmap.get memory q
-    at o e alive q false is = refl
-    at None e alive q true is = absurd (let f : false ≡ true = alive in cc)
-    at (Some pages) e alive q true is = ap (λ o. Some (unwrap_or o finmap.empty)) e ∙ sym e ∙ ap (finmap.get memory) (sym (same_of q s is))
-
-none_long : pages_for 0 ≡ 0
-none_long = refl
-
-pub none_protected : (memory : PlainMemory) (s address bytes : ℕ) (prot : Prot) → is_alive memory s ≡ true → bytes ≡ 0
-    → memory ≡ after_mprotect memory s address bytes prot
-none_protected memory s address bytes prot alive none =
-    let change : Page → Page = λ page. record page { prot = prot } in
-    sym (ap (λ n. finmap.insert memory s (change_within change (inside memory s) (page_of address) (pages_for n))) none
-    ∙ ap (finmap.insert memory s) (change_zero change (inside memory s) (page_of address)) ∙ itself memory s alive)
 
 pub stored_space : (old mid new : PlainMemory) (s address : ℕ) (bytes : List ℕ) (pages changed : Space)
     → mid ≡ finmap.remove old s → pages ≡ inside old s
@@ -464,31 +367,3 @@ stored_space old mid new s address bytes pages changed taken is mapped there put
         let page : Page = record before { bytes = stored_at before.bytes (address % 4096) bytes } in
         changed_space old mid new s (finmap.insert (inside old s) (page_of address) page) changed taken
         (mapped before (ap (λ (p : Space). finmap.get p (page_of address)) is ∙ e) ∙ ap (λ (p : Space). finmap.insert p (page_of address) page) is) put
-
-pub if_ok : {A E : Type 0} (r : Result A E) (P Q : A → Type 0) → ((a : A) → P a → Q a) → IfOk r P → IfOk r Q
-if_ok (Ok a) P Q f p = f a p
-if_ok (Err e) P Q f p = p
-
-pub found_pages : (memory : Snapshot) (s : ℕ) (pages : BTreeMap ℕ SnapshotPage) → Some pages ≡ lookup (is_at (nat_cmp s)) memory.spaces.entries
-    → space_of pages.entries ≡ inside (memory_of memory) s
-found_pages memory s pages e = sym (ap (λ o. unwrap_or o finmap.empty) (get_memory memory s ∙ ap (option_map pages_in) (sym e)))
-
-pub missing_pages : (memory : Snapshot) (s : ℕ) (none : BTreeMap ℕ SnapshotPage) → none.entries ≡ [] → None ≡ lookup (is_at (nat_cmp s)) memory.spaces.entries
-    → space_of none.entries ≡ inside (memory_of memory) s
-missing_pages memory s none empty e =
-    no_pages none.entries empty ∙ sym (ap (λ o. unwrap_or o finmap.empty) (get_memory memory s ∙ ap (option_map pages_in) (sym e)))
-
-pub no_page : (es : Entries) (q : ℕ) → (0 < length es → ⊥) → finmap.get (space_of es) q ≡ None
-no_page [] q none = get_space [] q
-no_page (e ∷ es) q none = absurd (none (omega arith))
-
-is_below : (a b : ℕ) → a < b → is_lt (nat_cmp a b) ≡ true
-is_below a b less = grind (arith, nat_tests)
-
-pub past_last : (es : Entries) (last number : ℕ) → last < number → ((q : ℕ) → IsSome (lookup (is_at (nat_cmp q)) es) → is_lt (nat_cmp last q) ≡ false)
-    → finmap.get (space_of es) number ≡ None
-past_last es last number past greatest = get_space es number ∙ ap (option_map page_of_snapshot) (gone (lookup (is_at (nat_cmp number)) es) refl)
-  where
-    gone : (o : Option SnapshotPage) → lookup (is_at (nat_cmp number)) es ≡ o → o ≡ None
-    gone None e = refl
-    gone (Some page) e = absurd (let f : false ≡ true = sym (greatest number (subst IsSome (sym e) refl)) ∙ is_below last number past in cc)

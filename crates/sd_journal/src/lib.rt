@@ -8,7 +8,6 @@ mod laws;
 mod mark;
 mod origin;
 mod placed_mark;
-mod plain_memory;
 mod plain_pages;
 mod receipt;
 
@@ -20,6 +19,5 @@ pub use laws::{
 };
 pub use mark::Mark;
 pub use origin::Origin;
-pub use plain_memory::replay;
 pub use plain_pages::{Pages, copy_of_pages, zero_page};
 pub use receipt::Receipt;

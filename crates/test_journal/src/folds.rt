@@ -1,13 +1,13 @@
-//! Folds of commands that were applied to a memory, against the replay of their entries.
+//! Folds of commands that were applied to a memory, against that memory.
 ghost use Rattle.std.specs.Prelude.{◌≡◌, IfOk};
 ghost use Rattle.sd_areas.specs.Memory.{memory_of};
 ghost use Rattle.sd_journal.specs.Worked.{empty_base};
 
+use crate::replays::has_just;
 use crate::told::{beginning, tell};
 use sd_areas::{Prot, Snapshot, SpaceId};
 use sd_command::{Bytes, Command};
 use sd_fold::fold;
-use sd_journal::replay;
 use std::alloc::{AllocError, Global};
 use std::test::Fail;
 
@@ -118,7 +118,7 @@ fn is_same(one: &Snapshot, other: &Snapshot) -> bool {
 }
 
 #[test]
-fn a_fold_makes_what_a_replay_makes(rt: HostRuntime) -> Result<(), Fail> {
+fn a_fold_makes_the_memory_of_its_commands(rt: HostRuntime) -> Result<(), Fail> {
     let alloc = rt.alloc();
     let mut base = start(alloc)?;
     let mut memory = beginning(alloc)?;
@@ -130,8 +130,7 @@ fn a_fold_makes_what_a_replay_makes(rt: HostRuntime) -> Result<(), Fail> {
         assert!(rt; is_same(&base, &start(alloc)?));
         fold(alloc, &mut base, &entries)?;
     }
-    let wanted = replay(alloc, start(alloc)?, &entries)?;
-    assert!(rt; is_same(&base, &wanted));
+    assert!(rt; has_just(&memory, &base));
     assert_eq!(rt; (base.spaces.len(), base.checkpoint), (2, 7));
     Ok(())
 }

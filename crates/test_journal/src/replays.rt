@@ -99,7 +99,7 @@ fn page_count(memory: &Memory) -> u32 {
 }
 
 /// Whether the memory has exactly the pages of a snapshot.
-fn is_same(memory: &Memory, made: &Snapshot) -> bool {
+pub(crate) fn has_just(memory: &Memory, made: &Snapshot) -> bool {
     let mut count: u32 = 0;
     for (space, pages) in &made.spaces {
         for (page, found) in pages {
@@ -125,6 +125,6 @@ fn random_commands(rt: HostRuntime) -> Result<(), Fail> {
     }
     let made = made(alloc, &memory, &entries)?;
     assert!(rt; page_count(&memory) > 0);
-    assert!(rt; is_same(&memory, &made));
+    assert!(rt; has_just(&memory, &made));
     Ok(())
 }

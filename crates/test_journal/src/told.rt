@@ -6,7 +6,8 @@ ghost use Rattle.test_journal.specs.Told.{TellsMemory};
 
 use sd_areas::{Snapshot, SpaceId};
 use sd_command::{Command, apply_to};
-use sd_journal::{Entry, replay};
+use sd_fold::replay;
+use sd_journal::Entry;
 use sd_pagetable::Memory;
 use std::alloc::Global;
 use std::test::Fail;

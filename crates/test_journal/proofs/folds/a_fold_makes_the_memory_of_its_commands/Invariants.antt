@@ -1,5 +1,5 @@
 use Rattle.test_journal.specs.Told.{TellsMemory}
-use Rattle.test_journal.proofs.folds.a_fold_makes_what_a_replay_makes.Given as goal
+use Rattle.test_journal.proofs.folds.a_fold_makes_the_memory_of_its_commands.Given as goal
 
 -- the entries so far led to the memory
 abbrev pub invariant-loop-command : goal.invariant-loop-command

@@ -3,7 +3,7 @@ use Rattle.sd_journal.specs.declared.entry.Entry.{Entry}
 use Rattle.sd_journal.specs.Legal.{IsLegal}
 use Rattle.sd_journal.specs.Worked.{empty_base}
 use Rattle.test_journal.proofs.Failures.{on_failure}
-use Rattle.test_journal.proofs.folds.a_fold_makes_what_a_replay_makes.Goals as goal
+use Rattle.test_journal.proofs.folds.a_fold_makes_the_memory_of_its_commands.Goals as goal
 
 pub fold-requires : goal.fold-requires
 fold-requires g c = record {
@@ -17,9 +17,4 @@ fold-requires-then-is_err g c = record {
     sym (on_failure c.fold.result _ (sym c.is_err.ensures.value ∙ c.if-is_err.true) c.fold.ensures.err ∙ c.in_ok-base.ensures),
     subst (λ (es : List Entry). IsLegal empty_base (reverse es)) (sym c.deref-then-is_err.ensures.value) c.loop-command.invariant.legal,
   );
-}
-
-pub replay-requires : goal.replay-requires
-replay-requires g c = record {
-  legal = (empty_base, sym c.in_ok-start-2.ensures, subst (λ (es : List Entry). IsLegal empty_base (reverse es)) (sym c.deref-2.ensures.value) c.loop-command.invariant.legal);
 }
