@@ -9,8 +9,8 @@ use sd_areas::Snapshot;
 use sd_journal::Entry;
 use std::alloc::{AllocError, Global};
 
-/// The memory that the entries of a legal journal make of the one that a run started from, which is given away: one that
-/// is still wanted is copied first, and else [`fold`] does the same in place.
+/// The memory that the entries of a legal journal make of the one that a run started from, which is given away: one
+/// that is still wanted is copied first, and else [`fold`] does the same in place.
 ///
 /// # Errors
 ///
