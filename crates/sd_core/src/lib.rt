@@ -7,6 +7,7 @@ mod base;
 mod beginning;
 mod dumping;
 mod lanes;
+mod laws;
 mod merging;
 mod numbers;
 mod opening;

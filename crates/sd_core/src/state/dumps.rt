@@ -27,14 +27,14 @@ use crate::dumping::{
     release_unfrozen, step_on,
 };
 use crate::lanes::{DUMPER, page_lane, put_out};
+use crate::laws::{outcome_laws, step_laws};
 use crate::opening::follow_call;
 use crate::taken::Taken;
 use sd_command::{Refusal, Reply};
-use sd_crash_safety::{Standing, core_steps, dumper_outcomes, dumper_steps, merger_outcomes};
+use sd_crash_safety::{Standing, core_steps, dumper_outcomes, merger_outcomes};
 use sd_gate::Outcome;
-use sd_journal::{Entry, Mark, due_laws, tracked_laws};
-use sd_pagetable::plain_law;
-use sd_rounds::{ImageStep, NextImage, Progress, left_law, little_law, rises_law};
+use sd_journal::{Entry, Mark};
+use sd_rounds::{ImageStep, NextImage, Progress, rises_law};
 use std::alloc::AllocError;
 
 impl Core {
@@ -69,11 +69,8 @@ impl Core {
         ensures round { SameRound self.old.dumper.running self.new.dumper.running }
         ensures merger { self.new.merger ≡ self.old.merger }
     {
-        core_steps();
-        dumper_steps();
+        step_laws();
         rises_law();
-        tracked_laws();
-        little_law();
         self.dumper.sound();
         let Ok(()) = self.journal.reserve_mark() else {
             return Taken::Step(Reply::Refused(Refusal::OutOfMemory));
@@ -145,11 +142,7 @@ impl Core {
         ensures round { SameRound self.old.dumper.running self.new.dumper.running }
         ensures merger { self.new.merger ≡ self.old.merger }
     {
-        core_steps();
-        dumper_steps();
-        tracked_laws();
-        due_laws();
-        little_law();
+        step_laws();
         self.dumper.sound();
         let Ok(()) = self.journal.reserve_mark() else {
             return Taken::Step(Reply::Refused(Refusal::OutOfMemory));
@@ -233,12 +226,7 @@ impl Core {
         ensures rounds { TurnsRound self.old.dumper.running self.new.dumper.running self.new.catalog }
         ensures gates { OpensItsGate self.old lane outcome.request result self.new }
     {
-        dumper_outcomes();
-        tracked_laws();
-        due_laws();
-        little_law();
-        left_law();
-        plain_law();
+        outcome_laws();
         self.dumper.sound();
         let id = outcome.id();
         let done = outcome.answer().is_done();

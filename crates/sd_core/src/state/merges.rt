@@ -21,6 +21,7 @@ use super::Core;
 use crate::beginning::{first_of, has_tip, is_down, is_not_open};
 use crate::dumping::{closes_for_sure, enter_catalog, leave_catalog};
 use crate::lanes::{MERGER, put_out};
+use crate::laws::merging_laws;
 use crate::merging::{
     StepFault, begin_copy, begin_merge, end_checkpoint, fix_list, may_read, serials_in,
     step_merger, take_room,
@@ -31,7 +32,7 @@ use sd_command::{Refusal, Reply};
 use sd_crash_safety::{Standing, core_steps, merge_beginning_law, merger_outcomes, merger_steps};
 use sd_free_slots::{ListRoom, free_law};
 use sd_gate::{Outcome, Worker};
-use sd_merge::{MergeProgress, MergeStep, NextImage, Source, left_law};
+use sd_merge::{MergeProgress, MergeStep, NextImage, Source};
 
 impl Core {
     /// Why a merge can't begin, before its slot is looked for.
@@ -205,9 +206,7 @@ impl Core {
         ensures rests { EntersAtRest self.old outcome.request self.new }
         ensures cuts { (serial : ℕ) → result ≡ reply.Merged serial → EndsCut self.old outcome.request self.new }
     {
-        self.merger.sound();
-        self.dumper.sound();
-        left_law();
+        merging_laws(&self.merger, &self.dumper);
         let id = outcome.id();
         let done = outcome.answer().is_done();
         let closed = closes_for_sure(self.phases[id.slot], id.call);

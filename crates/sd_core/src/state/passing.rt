@@ -15,11 +15,12 @@ ghost use Rattle.sd_core.specs.Working.{LeavesByWork};
 use super::Core;
 use crate::dumping::pass_on;
 use crate::lanes::is_resting;
-use sd_crash_safety::{core_steps, dumper_steps};
+use crate::laws::step_laws;
+use sd_crash_safety::core_steps;
 use sd_gate::Worker;
-use sd_journal::{Mark, due_laws, tracked_laws};
+use sd_journal::Mark;
 use sd_pagetable::clear_law;
-use sd_rounds::{PassStep, little_law};
+use sd_rounds::PassStep;
 use std::alloc::AllocError;
 
 impl Core {
@@ -62,11 +63,7 @@ impl Core {
         ensures other { result ≡ Ok false → HasNoPassStep self.old × (self.new ≡ self.old) }
         ensures err { OnErr result (self.new ≡ self.old) }
     {
-        core_steps();
-        dumper_steps();
-        tracked_laws();
-        due_laws();
-        little_law();
+        step_laws();
         clear_law();
         self.dumper.sound();
         let Ok(()) = self.journal.reserve_mark() else {

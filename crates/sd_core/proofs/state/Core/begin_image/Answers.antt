@@ -73,7 +73,7 @@ pub returns-in_default-hold-clause-takes : goal.returns-in_default-hold-clause-t
 returns-in_default-hold-clause-takes c =
     let same = c.in_default-hold.ensures.err in
     step_seen its.Dumper (reply.Refused OutOfMemory) _ _ _ c.self.view_is (record {
-      keeps = inl (stays_same c.core_steps.ensures _ _ (record {
+      keeps = inl (stays_same c.step_laws.ensures.core _ _ (record {
         store = record { base = refl; phases = refl; outs = refl; opener = refl; standing = refl; catalog = same; grows = refl; committing = refl; dumper = refl; merger = refl; serial = refl };
         history = ap entries_of c.in-Ok.ensures.grown.items;
         memory = refl;
@@ -110,7 +110,7 @@ invariant_of-self-2 c =
       journal_is = subst (λ m. IsJournal base c.note.new.self m c.self.inside.pending c.self.inside.last) (sym w.steps.2)
           (noted_journal base c.reserve_mark.new.self c.note.new.self c.self.inside.memory c.self.inside.memory c.self.inside.pending c.self.inside.last (Start serial)
           c.note.ensures.items c.note.ensures.numbers.first c.note.ensures.numbers.limit
-          (c.tracked_laws.ensures.started base c.reserve_mark.new.self.items c.self.inside.memory serial core.journal_is.tracked fresh) core.journal_is);
+          (c.step_laws.ensures.tracked.started base c.reserve_mark.new.self.items c.self.inside.memory serial core.journal_is.tracked fresh) core.journal_is);
       held = c.note.ensures.held ∙ held_at_work _ w.running core w.was ∙ held_same c.self.inside.pending w.running (record w.running { image = Some w.next }) None;
       outs_are = subst (λ st. AreOuts st c.put_out.new.outs c.self.inside.phases.items (Some (record w.running { image = Some w.next })) c.self.inside.merger None) (sym work.stands)
           (open_outs c.put_out.new.outs c.self.inside.phases.items (Some (record w.running { image = Some w.next })) c.self.inside.merger
@@ -156,7 +156,7 @@ invariant_of-self-2 c =
         image = subst (λ all. IsImageInMaking all c.hold.new.self c.tick.new.self w.next) (sym c.note.ensures.items) t.image_is;
       };
       little = subst (λ all. TakesLittle base all c.begin_next-request.new.memory w.running.number w.next) (sym c.note.ensures.items)
-          (begun_little c.little_law.ensures base c.reserve_mark.new.self.items c.self.inside.memory c.begin_next-request.new.memory w.running.number _ (order_of w.running serial c.state.result) w.next
+          (begun_little c.step_laws.ensures.little base c.reserve_mark.new.self.items c.self.inside.memory c.begin_next-request.new.memory w.running.number _ (order_of w.running serial c.state.result) w.next
           c.begin_next-request.result w.steps fresh (t.still ∙ and-false _));
       merging = subst (λ r. IfSome c.self.inside.merger (MergeRuns c.self.inside.standing c.self.inside.phases.items c.hold.new.self c.self.inside.opener c.tick.new.self c.self.inside.room r)) w.is
           (merging_stays (record {
@@ -244,7 +244,7 @@ returns-clause-takes c =
       committing = c.self.inside.committing;
     } in
     hands_seen its.Dumper c.begin_next-request.result _ _ _ c.self.view_is
-    (begins_asking c.dumper_steps.ensures _ mid _ w.running phase (begun_image order) w.next c.self.inside.numbers.ticket c.begin_next-request.result (record {
+    (begins_asking c.step_laws.ensures.steps _ mid _ w.running phase (begun_image order) w.next c.self.inside.numbers.ticket c.begin_next-request.result (record {
       rest = record { stands = work.stands; base = refl; closed = work.closed; grows = refl; merger = refl };
       history = ap entries_of c.note.ensures.items ∙ ap entries_of c.in-Ok.ensures.grown.items;
       memory = refl;

@@ -87,7 +87,7 @@ invariant_of-self-in-Call c =
       asked = asked_on w.running w.image w.next _ t.out_is t.slot (own_slot c.self.inside.dumper.since_freeze _ w.running w.image c.sound.ensures.running w.was w.making);
       image_is = t.image_is;
       still = t.still;
-      little = step_little c.little_law.ensures base c.reserve_mark.new.self.items c.reserve_mark.new.self.items c.self.inside.memory c.step_on.new.memory w.running.number c.self.inside.numbers.ticket w.image w.next (Call c.in-Call.request) w.steps
+      little = step_little c.step_laws.ensures.little base c.reserve_mark.new.self.items c.reserve_mark.new.self.items c.self.inside.memory c.step_on.new.memory w.running.number c.self.inside.numbers.ticket w.image w.next (Call c.in-Call.request) w.steps
           (sound_image _ w.running w.image c.sound.ensures.image w.was w.making).rising t.still refl refl (little_of base c.reserve_mark.new.self.items c.self.inside.memory c.self.inside.dumper.running w.running w.image core.little w.was w.making);
     }))
 
@@ -132,7 +132,7 @@ invariant_of-self-in-PageCall c =
       asked = asked_on w.running w.image w.next _ t.out_is t.slot (own_slot c.self.inside.dumper.since_freeze _ w.running w.image c.sound.ensures.running w.was w.making);
       image_is = t.image_is;
       still = t.still;
-      little = step_little c.little_law.ensures base c.reserve_mark.new.self.items c.reserve_mark.new.self.items c.self.inside.memory c.step_on.new.memory w.running.number c.self.inside.numbers.ticket w.image w.next (PageCall c.in-PageCall.lane c.in-PageCall.request) w.steps
+      little = step_little c.step_laws.ensures.little base c.reserve_mark.new.self.items c.reserve_mark.new.self.items c.self.inside.memory c.step_on.new.memory w.running.number c.self.inside.numbers.ticket w.image w.next (PageCall c.in-PageCall.lane c.in-PageCall.request) w.steps
           (sound_image _ w.running w.image c.sound.ensures.image w.was w.making).rising t.still refl refl (little_of base c.reserve_mark.new.self.items c.self.inside.memory c.self.inside.dumper.running w.running w.image core.little w.was w.making);
     }))
 
@@ -167,7 +167,7 @@ invariant_of-self-in-TableCall c =
       entries = ap entries_of items;
       held = c.note.ensures.held;
       journal_is = subst (λ m. IsJournal base c.note.new.self m c.self.inside.pending c.self.inside.last) (sym w.steps.2)
-          (table_journal c.tracked_laws.ensures _ w.running w.image w.next c.in-TableCall.request c.note.new.self core w.was w.making w.steps.0 items c.note.ensures.numbers.first c.note.ensures.numbers.limit);
+          (table_journal c.step_laws.ensures.tracked _ w.running w.image w.next c.in-TableCall.request c.note.new.self core w.was w.making w.steps.0 items c.note.ensures.numbers.first c.note.ensures.numbers.limit);
       numbers_are = subst (λ all. AreSoundNumbers base all c.self.inside.pending c.self.inside.last c.tick-in-TableCall.new.self) (sym items)
           (numbers_same base _ c.self.inside.pending c.self.inside.last c.self.inside.numbers c.tick-in-TableCall.new.self numbers
           (numbers_noted base c.reserve_mark.new.self.items c.self.inside.pending c.self.inside.last c.self.inside.numbers (Table w.image.order.serial) (omega (arith, given)) core.numbers_are));
@@ -186,7 +186,7 @@ invariant_of-self-in-TableCall c =
           (table_gated (is_last w.running) c.self.inside.swept c.is_swept-self-inside.result (c.is_swept-self-inside.ensures ∙ ap (λ r. c.self.inside.swept || is_dumping r) w.is));
       swept_is = subst (λ now. HasSwept now c.self.inside.pending c.step_on.new.memory) (sym (c.is_swept-self-inside.ensures ∙ ap (λ r. c.self.inside.swept || is_dumping r) w.is))
           (table_swept _ w.running w.image w.next c.in-TableCall.request c.step_on.new.memory _ core w.was w.making (own_order c.self.inside.dumper.since_freeze _ w.running w.image c.sound.ensures.running w.was w.making) w.steps.0 w.steps.2 t.still
-          (step_little c.little_law.ensures base c.reserve_mark.new.self.items (Noted (Table w.image.order.serial) ∷ c.reserve_mark.new.self.items) c.self.inside.memory c.step_on.new.memory w.running.number c.self.inside.numbers.ticket w.image w.next (TableCall c.in-TableCall.request) w.steps
+          (step_little c.step_laws.ensures.little base c.reserve_mark.new.self.items (Noted (Table w.image.order.serial) ∷ c.reserve_mark.new.self.items) c.self.inside.memory c.step_on.new.memory w.running.number c.self.inside.numbers.ticket w.image w.next (TableCall c.in-TableCall.request) w.steps
           (sound_image _ w.running w.image c.sound.ensures.image w.was w.making).rising t.still refl refl (little_of base c.reserve_mark.new.self.items c.self.inside.memory c.self.inside.dumper.running w.running w.image core.little w.was w.making)));
       counted = counted_same c.self.inside.catalog c.self.inside.numbers c.tick-in-TableCall.new.self numbers core.counted;
       outs = c.put_out-in-TableCall.ensures ∙ ap (λ id. slice_set c.self.inside.outs 0 (Some id)) c.id-in-TableCall.ensures
@@ -198,7 +198,7 @@ invariant_of-self-in-TableCall c =
       image_is = subst (λ all. IsImageInMaking all c.self.inside.catalog c.tick-in-TableCall.new.self w.next) (sym items) t.image_is;
       still = t.still;
       little = subst (λ all. TakesLittle base all c.step_on.new.memory w.running.number w.next) (sym items)
-          (step_little c.little_law.ensures base c.reserve_mark.new.self.items (Noted (Table w.image.order.serial) ∷ c.reserve_mark.new.self.items) c.self.inside.memory c.step_on.new.memory w.running.number c.self.inside.numbers.ticket w.image w.next (TableCall c.in-TableCall.request) w.steps
+          (step_little c.step_laws.ensures.little base c.reserve_mark.new.self.items (Noted (Table w.image.order.serial) ∷ c.reserve_mark.new.self.items) c.self.inside.memory c.step_on.new.memory w.running.number c.self.inside.numbers.ticket w.image w.next (TableCall c.in-TableCall.request) w.steps
           (sound_image _ w.running w.image c.sound.ensures.image w.was w.making).rising t.still refl refl (little_of base c.reserve_mark.new.self.items c.self.inside.memory c.self.inside.dumper.running w.running w.image core.little w.was w.making));
     }))
 
@@ -220,7 +220,7 @@ invariant_of-self-in-Frozen c =
     let serials = subst (λ i. c.self.inside.numbers.serial + due_serials c.self.inside.merger ≤ 2 ^ 63 + begun_images w.running i) w.making work.serials in
     core_working _ _ w.is (record {
       journal_is = subst (λ m. IsJournal base c.append_held.new.self m (Some c.self.inside.numbers.begun) c.self.inside.last) (sym w.steps.1)
-          (freeze_journal c.tracked_laws.ensures _ w.running c.append_held.new.self core w.was b.none c.append_held.ensures.items c.append_held.ensures.numbers.first c.append_held.ensures.numbers.limit);
+          (freeze_journal c.step_laws.ensures.tracked _ w.running c.append_held.new.self core w.was b.none c.append_held.ensures.items c.append_held.ensures.numbers.first c.append_held.ensures.numbers.limit);
       held = omega (arith, held, two);
       outs_are = record {
         count = core.outs_are.count;
@@ -258,7 +258,7 @@ invariant_of-self-in-Frozen c =
       };
       little = subst (λ all. TakesLittle base all c.step_on.new.memory w.running.number w.next) (sym c.append_held.ensures.items)
           (subst (λ n. TakesLittle base (Told (Freeze n) ∷ c.reserve_mark.new.self.items) c.step_on.new.memory w.running.number w.next) work.number
-          (freeze_little c.little_law.ensures base c.reserve_mark.new.self.items c.self.inside.memory c.step_on.new.memory w.running.number c.self.inside.numbers.ticket w.image w.next w.steps b.kind core.journal_is.tracked));
+          (freeze_little c.step_laws.ensures.little base c.reserve_mark.new.self.items c.self.inside.memory c.step_on.new.memory w.running.number c.self.inside.numbers.ticket w.image w.next w.steps b.kind core.journal_is.tracked));
       merging = subst (λ r. IfSome c.self.inside.merger (MergeRuns c.self.inside.standing c.self.inside.phases.items c.self.inside.catalog c.self.inside.opener c.self.inside.numbers c.self.inside.room r)) w.is
           (merging_turned _ (record {
             base = base;
@@ -303,11 +303,11 @@ returns-in-Frozen-clause-takes c =
     let b = before_freeze _ w.running w.image w.next c.self.invariant w.was w.making c.sound.ensures.image w.steps.0 in
     let items = c.self.inside.journal.items in
     let tracked = c.self.invariant.journal_is.tracked in
-    step_seen its.Dumper reply.Worked _ _ _ c.self.view_is (freezes_it c.dumper_steps.ensures _ _ w.running w.image w.next c.self.inside.numbers.ticket (record {
+    step_seen its.Dumper reply.Worked _ _ _ c.self.view_is (freezes_it c.step_laws.ensures.steps _ _ w.running w.image w.next c.self.inside.numbers.ticket (record {
       rest = record { stands = work.stands; base = refl; closed = work.closed; grows = refl; merger = refl };
       items = c.append_held.ensures.items ∙ ap (λ all. Told (Freeze c.self.inside.numbers.begun) ∷ all) c.in-Ok.ensures.grown.items ∙ ap (λ n. Told (Freeze n) ∷ items) (sym work.number);
       legal = subst (λ n. IsLegal base (Freeze n ∷ entries_of items)) (sym work.number)
-          (may_freeze _ w.running c.self.invariant w.was b.none, c.tracked_laws.ensures.legal base items tracked.marked);
+          (may_freeze _ w.running c.self.invariant w.was b.none, c.step_laws.ensures.tracked.legal base items tracked.marked);
       made = tracked.memory;
       catalog = refl;
       memory = w.steps.1;
@@ -348,7 +348,7 @@ returns-in-TableCall-clause-takes c =
       committing = c.is_committing-self-inside-in-TableCall.ensures ∙ ap (λ r. c.self.inside.committing || is_dumping r && opens_gate c.id-in-TableCall-2.result.call) w.is
           ∙ ap (λ (i : RequestId). c.self.inside.committing || is_last w.running && opens_gate i.call) c.id-in-TableCall-2.ensures;
       is = w.is;
-    }) w.steps.1 (subst (λ slot. slot < length c.self.inside.phases.items) (sym slot) within) (λ asked bodies files. c.dumper_steps.ensures.writes_table _ _ w.running w.image w.next c.self.inside.numbers.ticket c.in-TableCall.request asked bodies files))
+    }) w.steps.1 (subst (λ slot. slot < length c.self.inside.phases.items) (sym slot) within) (λ asked bodies files. c.step_laws.ensures.steps.writes_table _ _ w.running w.image w.next c.self.inside.numbers.ticket c.in-TableCall.request asked bodies files))
 
 pub returns-in-Call-clause-takes : goal.returns-in-Call-clause-takes
 returns-in-Call-clause-takes c =
@@ -379,7 +379,7 @@ returns-in-Call-clause-takes c =
       committing = c.is_committing-self-inside.ensures ∙ ap (λ r. c.self.inside.committing || is_dumping r && opens_gate c.id-in-Call-2.result.call) w.is
           ∙ ap (λ (i : RequestId). c.self.inside.committing || is_last w.running && opens_gate i.call) c.id-in-Call-2.ensures;
       is = w.is;
-    }) w.steps.1 (subst (λ slot. slot < length c.self.inside.phases.items) (sym slot) within) (λ asked bodies files. c.dumper_steps.ensures.asks _ _ w.running w.image w.next c.self.inside.numbers.ticket c.in-Call.request asked bodies files))
+    }) w.steps.1 (subst (λ slot. slot < length c.self.inside.phases.items) (sym slot) within) (λ asked bodies files. c.step_laws.ensures.steps.asks _ _ w.running w.image w.next c.self.inside.numbers.ticket c.in-Call.request asked bodies files))
 
 pub returns-in-PageCall-clause-takes : goal.returns-in-PageCall-clause-takes
 returns-in-PageCall-clause-takes c =
@@ -391,7 +391,7 @@ returns-in-PageCall-clause-takes c =
     let within = image_within _ c.self.inside.dumper.since_freeze w.running w.image c.self.invariant c.sound.ensures.running w.was w.making in
     let slot = w.steps.0.slot in
     let own = own_slot c.self.inside.dumper.since_freeze _ w.running w.image c.sound.ensures.running w.was w.making in
-    hands_seen its.Dumper c.in-PageCall.request _ _ _ c.self.view_is (hands_page c.dumper_steps.ensures _ _ w.running w.image w.next c.self.inside.numbers.ticket c.in-PageCall.lane c.in-PageCall.request (record {
+    hands_seen its.Dumper c.in-PageCall.request _ _ _ c.self.view_is (hands_page c.step_laws.ensures.steps _ _ w.running w.image w.next c.self.inside.numbers.ticket c.in-PageCall.lane c.in-PageCall.request (record {
       rest = record { stands = work.stands; base = refl; closed = work.closed; grows = refl; merger = refl };
       history = ap entries_of c.in-Ok.ensures.grown.items;
       catalog = refl;

@@ -123,7 +123,7 @@ invariant_of-self-in-More c =
           (sound_image _ (record h.running { image = Some h.hands.next }) h.hands.next c.sound-in-More.ensures.image now_is refl);
       image_is = t.image_is;
       still = t.still;
-      little = more_little c.little_law.ensures base c.self.inside.journal.items c.self.inside.memory h.running.number h.hands.image h.hands.next made h.hands.hands t.still
+      little = more_little c.outcome_laws.ensures.little base c.self.inside.journal.items c.self.inside.memory h.running.number h.hands.image h.hands.next made h.hands.hands t.still
           (little_of base c.self.inside.journal.items c.self.inside.memory c.self.inside.dumper.running h.running h.hands.image c.self.invariant.little h.was h.hands.was);
     }))
 
@@ -259,7 +259,7 @@ invariant_of-self-in-Dump c =
     let one = held_at_work _ h.running c.self.invariant h.was ∙ ap (λ f. held_for f (Some h.running) None) pends in
     let free : c.append_held.new.self.held ≡ 0 = omega (arith, held, one) in
     record {
-      journal_is = acked_journal c.tracked_laws.ensures c.plain_law.ensures _ c.append_held.new.self c.self.invariant pends c.append_held.ensures.items c.append_held.ensures.numbers.first c.append_held.ensures.numbers.limit
+      journal_is = acked_journal c.outcome_laws.ensures.tracked c.outcome_laws.ensures.plain _ c.append_held.new.self c.self.invariant pends c.append_held.ensures.items c.append_held.ensures.numbers.first c.append_held.ensures.numbers.limit
           c.sound-in-Dump.ensures clean;
       held = free ∙ ap (λ r. held_for None r None) (sym gone) ∙ ap (held_for None c.hand_in.new.self.running) (sym work.closed);
       outs_are = subst (λ st. AreOuts st c.put_out.new.outs c.follow_call.new.phases.items c.hand_in.new.self.running c.self.inside.merger c.self.inside.opener) (sym work.stands)
@@ -342,7 +342,7 @@ returns-in-Failed-clause-handed c =
       phases = follows phase phase_is;
     } in
     handed_seen c.args.lane made (reply.Refused StoreDown) _ _ _ c.self.view_is (handed_dumper _ _ c.args.lane made phase (reply.Refused StoreDown) outcome count
-    (λ asked bodies files. c.dumper_outcomes.ensures.fails _ _ c.args.lane made phase asked bodies files (record {
+    (λ asked bodies files. c.outcome_laws.ensures.outcomes.fails _ _ c.args.lane made phase asked bodies files (record {
       outcome = outcome;
       history = ap entries_of c.release_unfrozen.ensures.items;
       down = refl;
@@ -388,7 +388,7 @@ returns-in-More-clause-handed c =
       | inl goes ↦
           let zero_is = plan_lane _ h.running h.hands.image c.args.lane id c.self.invariant h.was h.hands.was own (goes_out h.hands.image h.hands.next made goes) in
           handed_at _ _ c.args.lane 0 made reply.Worked zero_is (handed_dumper _ _ 0 made phase reply.Worked (outcome_at _ _ c.args.lane 0 made phase zero_is outcome) count
-          (λ asked bodies files. c.dumper_outcomes.ensures.goes_on _ _ h.running h.hands.image h.hands.next made phase asked bodies files (record {
+          (λ asked bodies files. c.outcome_laws.ensures.outcomes.goes_on _ _ h.running h.hands.image h.hands.next made phase asked bodies files (record {
             outcome = outcome_at _ _ c.args.lane 0 made phase zero_is outcome;
             alone = free_after _ c.self.inside.outs _ _ _ _ 0 id c.self.invariant.outs_are (ap (slice_get c.self.inside.outs) (sym zero_is) ∙ own) (omega arith);
             rest = record { stands = work.stands; base = refl; closed = work.closed; grows = refl; merger = refl };
@@ -407,7 +407,7 @@ returns-in-More-clause-handed c =
           let page_is = write_lane _ h.running h.hands.image c.args.lane written.lane id c.self.invariant h.was h.hands.was own written.out ∙ sym (far written.lane) in
           handed_at _ _ c.args.lane (page_lane written.lane) made reply.Worked page_is (handed_dumper _ _ (page_lane written.lane) made phase reply.Worked
           (outcome_at _ _ c.args.lane (page_lane written.lane) made phase page_is outcome) count
-          (λ asked bodies files. c.dumper_outcomes.ensures.written _ _ h.running h.hands.image h.hands.next made phase asked bodies files (record {
+          (λ asked bodies files. c.outcome_laws.ensures.outcomes.written _ _ h.running h.hands.image h.hands.next made phase asked bodies files (record {
             hands = written;
             outcome = outcome_at _ _ c.args.lane (page_lane written.lane) made phase page_is outcome;
             rest = record { stands = work.stands; base = refl; closed = work.closed; grows = refl; merger = refl };
@@ -458,7 +458,7 @@ returns-in-PreDump-clause-handed c =
       phases = follows phase phase_is;
     } in
     handed_seen c.args.lane made reply.Worked _ _ _ c.self.view_is (handed_at _ _ c.args.lane 0 made reply.Worked zero_is (handed_dumper _ _ 0 made phase reply.Worked (outcome_at _ _ c.args.lane 0 made phase zero_is outcome) count
-    (λ asked bodies files. c.dumper_outcomes.ensures.opens_pre_dump _ _ h.running h.hands.0.image made phase opened asked bodies files (record {
+    (λ asked bodies files. c.outcome_laws.ensures.outcomes.opens_pre_dump _ _ h.running h.hands.0.image made phase opened asked bodies files (record {
       opens_it = record {
         outcome = outcome_at _ _ c.args.lane 0 made phase zero_is outcome;
         alone = free_after _ c.self.inside.outs _ _ _ _ 0 id c.self.invariant.outs_are (ap (slice_get c.self.inside.outs) (sym zero_is) ∙ own) (omega arith);
@@ -514,7 +514,7 @@ returns-in-Dump-clause-handed c =
     } in
     let number = c.self.inside.numbers.begun in
     handed_seen c.args.lane made (reply.Acked number) _ _ _ c.self.view_is (handed_at _ _ c.args.lane 0 made (reply.Acked number) zero_is (handed_dumper _ _ 0 made phase (reply.Acked number) (outcome_at _ _ c.args.lane 0 made phase zero_is outcome) count
-    (λ asked bodies files. c.dumper_outcomes.ensures.opens_dump _ _ h.running h.hands.0.image made phase opened asked bodies files (record {
+    (λ asked bodies files. c.outcome_laws.ensures.outcomes.opens_dump _ _ h.running h.hands.0.image made phase opened asked bodies files (record {
       opens_it = record {
         outcome = outcome_at _ _ c.args.lane 0 made phase zero_is outcome;
         alone = free_after _ c.self.inside.outs _ _ _ _ 0 id c.self.invariant.outs_are (ap (slice_get c.self.inside.outs) (sym zero_is) ∙ own) (omega arith);
@@ -530,7 +530,7 @@ returns-in-Dump-clause-handed c =
         opens = h.hands.0.hands;
       };
       items = c.append_held.ensures.items ∙ ap (λ n. Told (Acked n) ∷ c.self.inside.journal.items) (sym work.number);
-      legal = c.tracked_laws.ensures.legal base c.self.inside.journal.items c.self.invariant.journal_is.tracked.marked;
+      legal = c.outcome_laws.ensures.tracked.legal base c.self.inside.journal.items c.self.invariant.journal_is.tracked.marked;
       grows = refl;
       last = h.hands.1;
       is = ap (λ d. d.running) h.is;
@@ -576,7 +576,7 @@ returns-in-Dump-clause-little c n is =
     let has = has_image c.self.inside.dumper.since_freeze c.self.inside.dumper.running h.running h.hands.0.image made opened c.self.inside.catalog c.enter_catalog-in-Dump.new.catalog c.sound.ensures.running h.was h.hands.0.was now h.hands.0.hands
     c.enter_catalog-in-Dump.ensures in
     let named : c.self.inside.numbers.begun ≡ n = cc in
-    let d = dump_ways c.little_law.ensures c.plain_law.ensures c.due_laws.ensures base c.self.inside.journal.items c.self.inside.memory h.running h.hands.0.image made opened h.hands.1
+    let d = dump_ways c.outcome_laws.ensures.little c.outcome_laws.ensures.plain c.outcome_laws.ensures.due base c.self.inside.journal.items c.self.inside.memory h.running h.hands.0.image made opened h.hands.1
     (own_order c.self.inside.dumper.since_freeze _ h.running h.hands.0.image c.sound.ensures.running h.was h.hands.0.was) h.hands.0.hands
     (sound_image _ h.running h.hands.0.image c.sound.ensures.image h.was h.hands.0.was) now
     (little_of base c.self.inside.journal.items c.self.inside.memory c.self.inside.dumper.running h.running h.hands.0.image c.self.invariant.little h.was h.hands.0.was) in
@@ -604,7 +604,7 @@ returns-in-PreDump-clause-round c running opens =
     let has = has_image c.self.inside.dumper.since_freeze c.self.inside.dumper.running h.running h.hands.0.image made opened c.self.inside.catalog c.enter_catalog.new.catalog c.sound.ensures.running h.was h.hands.0.was now h.hands.0.hands
     c.enter_catalog.ensures in
     let same : h.running ≡ running = same_Some h.running running (sym h.was ∙ ap (λ (v : CoreView). v.dumper.running) c.self.view_is ∙ opens.was) in
-    let took = round_took c.little_law.ensures base c.self.inside.journal.items c.self.inside.memory h.running h.hands.0.image made opened h.hands.1
+    let took = round_took c.outcome_laws.ensures.little base c.self.inside.journal.items c.self.inside.memory h.running h.hands.0.image made opened h.hands.1
     (own_order c.self.inside.dumper.since_freeze _ h.running h.hands.0.image c.sound.ensures.running h.was h.hands.0.was) h.hands.0.hands
     (sound_image _ h.running h.hands.0.image c.sound.ensures.image h.was h.hands.0.was) now
     (little_of base c.self.inside.journal.items c.self.inside.memory c.self.inside.dumper.running h.running h.hands.0.image c.self.invariant.little h.was h.hands.0.was) in
@@ -653,7 +653,7 @@ returns-in-PreDump-clause-gates c =
     record {
       stands = work.stands;
       whole = subst (λ n. slice_get c.follow_call.new.phases.items n ≡ Some Whole) own_slot_is
-          (c.dumper_outcomes.ensures.enters_open _ (the_view (record c.self.inside { phases = c.follow_call.new.phases; outs = c.put_out.new.outs; catalog = c.enter_catalog.new.catalog })) h.running h.hands.0.image made phase opened asked bodies files (record {
+          (c.outcome_laws.ensures.outcomes.enters_open _ (the_view (record c.self.inside { phases = c.follow_call.new.phases; outs = c.put_out.new.outs; catalog = c.enter_catalog.new.catalog })) h.running h.hands.0.image made phase opened asked bodies files (record {
             outcome = outcome_at _ _ c.args.lane 0 made phase zero_is outcome;
             alone = free_after _ c.self.inside.outs _ _ _ _ 0 id c.self.invariant.outs_are (ap (slice_get c.self.inside.outs) (sym zero_is) ∙ own) (omega arith);
             stands = work.stands;
@@ -710,7 +710,7 @@ returns-in-Dump-clause-gates c =
     record {
       stands = work.stands;
       whole = subst (λ n. slice_get c.follow_call.new.phases.items n ≡ Some Whole) own_slot_is
-          (c.dumper_outcomes.ensures.enters_open _ (the_view (record c.self.inside { phases = c.follow_call.new.phases; outs = c.put_out.new.outs; catalog = c.enter_catalog-in-Dump.new.catalog })) h.running h.hands.0.image made phase opened asked bodies files (record {
+          (c.outcome_laws.ensures.outcomes.enters_open _ (the_view (record c.self.inside { phases = c.follow_call.new.phases; outs = c.put_out.new.outs; catalog = c.enter_catalog-in-Dump.new.catalog })) h.running h.hands.0.image made phase opened asked bodies files (record {
             outcome = outcome_at _ _ c.args.lane 0 made phase zero_is outcome;
             alone = free_after _ c.self.inside.outs _ _ _ _ 0 id c.self.invariant.outs_are (ap (slice_get c.self.inside.outs) (sym zero_is) ∙ own) (omega arith);
             stands = work.stands;
@@ -793,5 +793,5 @@ returns-in-More-clause-leaves c =
       stands = ap (λ (v : CoreView). v.standing) c.self.view_is;
       job = ap job_of (ap (λ d. d.running) hands.is ∙ ap Some hands.hands.is) ∙ sym (ap job_of hands.was) ∙ ap (λ (v : CoreView). job_of v.dumper.running) c.self.view_is;
       lowers = subst (λ (v : CoreView). left_of c.hand_in.new.self.running (plain_of c.self.inside.memory) < left_of v.dumper.running (plain_of v.memory)) c.self.view_is
-          (c.left_law.ensures.hands c.self.inside.dumper made More c.hand_in.new.self (plain_of c.self.inside.memory) hands refl);
+          (c.outcome_laws.ensures.left.hands c.self.inside.dumper made More c.hand_in.new.self (plain_of c.self.inside.memory) hands refl);
     }

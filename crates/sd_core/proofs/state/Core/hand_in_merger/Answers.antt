@@ -154,12 +154,12 @@ returns-in-More-clause-handed c =
     handed_seen 1 made reply.Worked _ _ _ c.self.view_is (handed_merger _ _ made phase reply.Worked outcome refl count
     (goes_on_believed _ c.merger_outcomes.ensures _ _ h.merge made phase c.hand_in-progress.result h.doing (record {
       outcome = outcome;
-      rest = record { stands = m.stands; base = refl; history = refl; memory = refl; closed = m.closed; grows = refl; committing = refl; dumper = refl; makes = makes_in c.self.inside.dumper.since_freeze c.self.inside.dumper.running c.sound-2.ensures.running };
+      rest = record { stands = m.stands; base = refl; history = refl; memory = refl; closed = m.closed; grows = refl; committing = refl; dumper = refl; makes = makes_in c.self.inside.dumper.since_freeze c.self.inside.dumper.running c.merging_laws.ensures.makes };
       serial = refl;
       catalog = leaves;
       was = h.was;
-      running = subst AreRunning h.was c.sound.ensures.running;
-      copied = subst HasSoundCopy h.was c.sound.ensures.copy;
+      running = subst AreRunning h.was c.merging_laws.ensures.running;
+      copied = subst HasSoundCopy h.was c.merging_laws.ensures.copy;
       free = list_free _ h.merge c.self.invariant h.was;
     }) more h.hands h.is) refl)
 
@@ -194,12 +194,12 @@ returns-in-Merged-clause-handed c =
     handed_seen 1 made (reply.Merged c.in-Merged.serial) _ _ _ c.self.view_is (handed_merger _ _ made phase (reply.Merged c.in-Merged.serial) outcome refl count
     (merged_believed _ c.merger_outcomes.ensures _ _ h.running made phase c.in-Merged.serial (record {
       outcome = outcome;
-      rest = record { stands = m.stands; base = refl; history = refl; memory = refl; closed = m.closed; grows = refl; committing = refl; dumper = refl; makes = makes_in c.self.inside.dumper.since_freeze c.self.inside.dumper.running c.sound-2.ensures.running };
+      rest = record { stands = m.stands; base = refl; history = refl; memory = refl; closed = m.closed; grows = refl; committing = refl; dumper = refl; makes = makes_in c.self.inside.dumper.since_freeze c.self.inside.dumper.running c.merging_laws.ensures.makes };
       serial = refl;
       catalog = leaves;
       was = h.was;
-      running = subst AreRunning h.was c.sound.ensures.running;
-      copied = subst HasSoundCopy h.was c.sound.ensures.copy;
+      running = subst AreRunning h.was c.merging_laws.ensures.running;
+      copied = subst HasSoundCopy h.was c.merging_laws.ensures.copy;
       free = list_free _ h.running c.self.invariant h.was;
     }) (ends_list h.running made c.in-Merged.serial _ h.hands.hands) h.is) refl)
 
@@ -218,7 +218,7 @@ invariant_of-self-in-Opened c =
     let phase = slice_index_or phases id.slot c.index.result.now in
     let phase_is = slice_get-get_or phases id.slot c.index.result.now within in
     let h = subst (λ p. Hands c.self.inside.merger made p c.hand_in-progress.new.self) c.in-Opened.is c.hand_in-progress.ensures in
-    let o = opens_beside _ h.running made c.in-Opened.image h.next.doing c.self.invariant h.was (subst AreRunning h.was c.sound.ensures.running) (subst HasSoundCopy h.was c.sound.ensures.copy) h.hands.hands in
+    let o = opens_beside _ h.running made c.in-Opened.image h.next.doing c.self.invariant h.was (subst AreRunning h.was c.merging_laws.ensures.running) (subst HasSoundCopy h.was c.merging_laws.ensures.copy) h.hands.hands in
     core_opened _ c.put_out.new.outs c.follow_call.new.phases.items c.enter_catalog.new.catalog c.take_room-room.new.room h.running made c.in-Opened.image h.next.doing c.hand_in-progress.new.self
     c.fix_list.new.merger c.fix_list.result c.self.invariant h.was o (h.is ∙ ap Some h.hands.is) c.enter_catalog.ensures count c.put_out.ensures
     (subst (λ n. FixesList c.enter_catalog.new.catalog c.self.inside.dumper.running c.put_out.new.outs n c.hand_in-progress.new.self c.fix_list.result c.fix_list.new.merger) c.take_room-room.ensures c.fix_list.ensures.fixes)
@@ -239,7 +239,7 @@ returns-after-fix_list-clause-handed c =
     let phase_is = slice_get-get_or phases id.slot c.index.result.now within in
     let h = subst (λ p. Hands c.self.inside.merger made p c.hand_in-progress.new.self) c.in-Opened.is c.hand_in-progress.ensures in
     let m = merger_works _ h.running c.self.invariant h.was in
-    let o = opens_beside _ h.running made c.in-Opened.image h.next.doing c.self.invariant h.was (subst AreRunning h.was c.sound.ensures.running) (subst HasSoundCopy h.was c.sound.ensures.copy) h.hands.hands in
+    let o = opens_beside _ h.running made c.in-Opened.image h.next.doing c.self.invariant h.was (subst AreRunning h.was c.merging_laws.ensures.running) (subst HasSoundCopy h.was c.merging_laws.ensures.copy) h.hands.hands in
     let outcome : IsMergersOutcome _ made phase _ = record {
       out = own;
       outs = c.put_out.ensures;
@@ -250,7 +250,7 @@ returns-after-fix_list-clause-handed c =
     let believed = opened_believed _ c.merger_outcomes-in-Opened.ensures _ (the_view c.self.inside) _ h.running made phase c.in-Opened.image h.next.doing c.hand_in-progress.new.self c.fix_list.result
     c.take_room-room.result (record {
       outcome = outcome;
-      rest = record { stands = m.stands; base = refl; history = refl; memory = refl; closed = m.closed; grows = refl; committing = refl; dumper = refl; makes = makes_in c.self.inside.dumper.since_freeze c.self.inside.dumper.running c.sound-2.ensures.running };
+      rest = record { stands = m.stands; base = refl; history = refl; memory = refl; closed = m.closed; grows = refl; committing = refl; dumper = refl; makes = makes_in c.self.inside.dumper.since_freeze c.self.inside.dumper.running c.merging_laws.ensures.makes };
       serial = refl;
       old_places = refl;
       old_running = refl;
@@ -414,12 +414,12 @@ returns-in-Merged-clause-cuts c =
     } in
     λ serial is bodies b. cut_seen _ _ _ c.self.view_is (ended_cut _ c.merger_outcomes.ensures _ _ h.running made phase c.in-Merged.serial bodies (record {
       outcome = outcome;
-      rest = record { stands = m.stands; base = refl; history = refl; memory = refl; closed = m.closed; grows = refl; committing = refl; dumper = refl; makes = makes_in c.self.inside.dumper.since_freeze c.self.inside.dumper.running c.sound-2.ensures.running };
+      rest = record { stands = m.stands; base = refl; history = refl; memory = refl; closed = m.closed; grows = refl; committing = refl; dumper = refl; makes = makes_in c.self.inside.dumper.since_freeze c.self.inside.dumper.running c.merging_laws.ensures.makes };
       serial = refl;
       catalog = leaves;
       was = h.was;
-      running = subst AreRunning h.was c.sound.ensures.running;
-      copied = subst HasSoundCopy h.was c.sound.ensures.copy;
+      running = subst AreRunning h.was c.merging_laws.ensures.running;
+      copied = subst HasSoundCopy h.was c.merging_laws.ensures.copy;
       free = list_free _ h.running c.self.invariant h.was;
     }) (ends_list h.running made c.in-Merged.serial _ h.hands.hands) (believed_seen made.request bodies _ _ c.self.view_is b) _ c.self.invariant h.was c.put_out.ensures)
 
@@ -439,7 +439,7 @@ returns-after-fix_list-clause-lists c =
     let phase_is = slice_get-get_or phases id.slot c.index.result.now within in
     let h = subst (λ p. Hands c.self.inside.merger made p c.hand_in-progress.new.self) c.in-Opened.is c.hand_in-progress.ensures in
     let m = merger_works _ h.running c.self.invariant h.was in
-    let o = opens_beside _ h.running made c.in-Opened.image h.next.doing c.self.invariant h.was (subst AreRunning h.was c.sound.ensures.running) (subst HasSoundCopy h.was c.sound.ensures.copy) h.hands.hands in
+    let o = opens_beside _ h.running made c.in-Opened.image h.next.doing c.self.invariant h.was (subst AreRunning h.was c.merging_laws.ensures.running) (subst HasSoundCopy h.was c.merging_laws.ensures.copy) h.hands.hands in
     let outcome : IsMergersOutcome _ made phase _ = record {
       out = own;
       outs = c.put_out.ensures;
@@ -449,7 +449,7 @@ returns-after-fix_list-clause-lists c =
     } in
     λ merge serial opens. opened_list _ c.merger_outcomes-in-Opened.ensures _ (the_view c.self.inside) _ h.running made phase c.in-Opened.image h.next.doing c.hand_in-progress.new.self c.fix_list.result c.self.invariant h.was (record {
       outcome = outcome;
-      rest = record { stands = m.stands; base = refl; history = refl; memory = refl; closed = m.closed; grows = refl; committing = refl; dumper = refl; makes = makes_in c.self.inside.dumper.since_freeze c.self.inside.dumper.running c.sound-2.ensures.running };
+      rest = record { stands = m.stands; base = refl; history = refl; memory = refl; closed = m.closed; grows = refl; committing = refl; dumper = refl; makes = makes_in c.self.inside.dumper.since_freeze c.self.inside.dumper.running c.merging_laws.ensures.makes };
       serial = refl;
       old_places = refl;
       old_running = refl;
@@ -475,7 +475,7 @@ returns-after-fix_list-clause-retires c =
     let phase_is = slice_get-get_or phases id.slot c.index.result.now within in
     let h = subst (λ p. Hands c.self.inside.merger made p c.hand_in-progress.new.self) c.in-Opened.is c.hand_in-progress.ensures in
     let m = merger_works _ h.running c.self.invariant h.was in
-    let o = opens_beside _ h.running made c.in-Opened.image h.next.doing c.self.invariant h.was (subst AreRunning h.was c.sound.ensures.running) (subst HasSoundCopy h.was c.sound.ensures.copy) h.hands.hands in
+    let o = opens_beside _ h.running made c.in-Opened.image h.next.doing c.self.invariant h.was (subst AreRunning h.was c.merging_laws.ensures.running) (subst HasSoundCopy h.was c.merging_laws.ensures.copy) h.hands.hands in
     let outcome : IsMergersOutcome _ made phase _ = record {
       out = own;
       outs = c.put_out.ensures;
@@ -485,7 +485,7 @@ returns-after-fix_list-clause-retires c =
     } in
     λ merge serial bodies opens b. opened_retires _ c.merger_outcomes-in-Opened.ensures _ (the_view c.self.inside) _ h.running made phase c.in-Opened.image h.next.doing c.hand_in-progress.new.self c.fix_list.result c.self.invariant h.was (record {
       outcome = outcome;
-      rest = record { stands = m.stands; base = refl; history = refl; memory = refl; closed = m.closed; grows = refl; committing = refl; dumper = refl; makes = makes_in c.self.inside.dumper.since_freeze c.self.inside.dumper.running c.sound-2.ensures.running };
+      rest = record { stands = m.stands; base = refl; history = refl; memory = refl; closed = m.closed; grows = refl; committing = refl; dumper = refl; makes = makes_in c.self.inside.dumper.since_freeze c.self.inside.dumper.running c.merging_laws.ensures.makes };
       serial = refl;
       old_places = refl;
       old_running = refl;
@@ -511,7 +511,7 @@ returns-after-fix_list-clause-copies c =
     let phase_is = slice_get-get_or phases id.slot c.index.result.now within in
     let h = subst (λ p. Hands c.self.inside.merger made p c.hand_in-progress.new.self) c.in-Opened.is c.hand_in-progress.ensures in
     let m = merger_works _ h.running c.self.invariant h.was in
-    let o = opens_beside _ h.running made c.in-Opened.image h.next.doing c.self.invariant h.was (subst AreRunning h.was c.sound.ensures.running) (subst HasSoundCopy h.was c.sound.ensures.copy) h.hands.hands in
+    let o = opens_beside _ h.running made c.in-Opened.image h.next.doing c.self.invariant h.was (subst AreRunning h.was c.merging_laws.ensures.running) (subst HasSoundCopy h.was c.merging_laws.ensures.copy) h.hands.hands in
     let outcome : IsMergersOutcome _ made phase _ = record {
       out = own;
       outs = c.put_out.ensures;
@@ -522,7 +522,7 @@ returns-after-fix_list-clause-copies c =
     λ merge serial bodies opens b. enters_seen merge serial (bodies_after bodies id made.request.bytes) _ _ _ c.self.view_is
     (opened_enters _ c.merger_outcomes-in-Opened.ensures _ (the_view c.self.inside) _ h.running made phase c.in-Opened.image h.next.doing c.hand_in-progress.new.self c.fix_list.result c.self.invariant h.was (record {
       outcome = outcome;
-      rest = record { stands = m.stands; base = refl; history = refl; memory = refl; closed = m.closed; grows = refl; committing = refl; dumper = refl; makes = makes_in c.self.inside.dumper.since_freeze c.self.inside.dumper.running c.sound-2.ensures.running };
+      rest = record { stands = m.stands; base = refl; history = refl; memory = refl; closed = m.closed; grows = refl; committing = refl; dumper = refl; makes = makes_in c.self.inside.dumper.since_freeze c.self.inside.dumper.running c.merging_laws.ensures.makes };
       serial = refl;
       old_places = refl;
       old_running = refl;
@@ -548,7 +548,7 @@ returns-after-fix_list-clause-rests c =
     let phase_is = slice_get-get_or phases id.slot c.index.result.now within in
     let h = subst (λ p. Hands c.self.inside.merger made p c.hand_in-progress.new.self) c.in-Opened.is c.hand_in-progress.ensures in
     let m = merger_works _ h.running c.self.invariant h.was in
-    let o = opens_beside _ h.running made c.in-Opened.image h.next.doing c.self.invariant h.was (subst AreRunning h.was c.sound.ensures.running) (subst HasSoundCopy h.was c.sound.ensures.copy) h.hands.hands in
+    let o = opens_beside _ h.running made c.in-Opened.image h.next.doing c.self.invariant h.was (subst AreRunning h.was c.merging_laws.ensures.running) (subst HasSoundCopy h.was c.merging_laws.ensures.copy) h.hands.hands in
     let outcome : IsMergersOutcome _ made phase _ = record {
       out = own;
       outs = c.put_out.ensures;
@@ -561,7 +561,7 @@ returns-after-fix_list-clause-rests c =
       rests_seen merge serial (bodies_after bodies id made.request.bytes) _ _ _ c.self.view_is
           (opened_rests _ c.merger_outcomes-in-Opened.ensures _ (the_view c.self.inside) _ h.running made phase c.in-Opened.image h.next.doing c.hand_in-progress.new.self c.fix_list.result c.self.invariant h.was (record {
             outcome = outcome;
-            rest = record { stands = m.stands; base = refl; history = refl; memory = refl; closed = m.closed; grows = refl; committing = refl; dumper = refl; makes = makes_in c.self.inside.dumper.since_freeze c.self.inside.dumper.running c.sound-2.ensures.running };
+            rest = record { stands = m.stands; base = refl; history = refl; memory = refl; closed = m.closed; grows = refl; committing = refl; dumper = refl; makes = makes_in c.self.inside.dumper.since_freeze c.self.inside.dumper.running c.merging_laws.ensures.makes };
             serial = refl;
             old_places = refl;
             old_running = refl;
@@ -576,7 +576,7 @@ pub returns-after-fix_list-clause-cuts : goal.returns-after-fix_list-clause-cuts
 returns-after-fix_list-clause-cuts c =
     let made = c.args.outcome in
     let h = subst (λ p. Hands c.self.inside.merger made p c.hand_in-progress.new.self) c.in-Opened.is c.hand_in-progress.ensures in
-    let o = opens_beside _ h.running made c.in-Opened.image h.next.doing c.self.invariant h.was (subst AreRunning h.was c.sound.ensures.running) (subst HasSoundCopy h.was c.sound.ensures.copy) h.hands.hands in
+    let o = opens_beside _ h.running made c.in-Opened.image h.next.doing c.self.invariant h.was (subst AreRunning h.was c.merging_laws.ensures.running) (subst HasSoundCopy h.was c.merging_laws.ensures.copy) h.hands.hands in
     λ serial is bodies b. cut_seen _ _ _ c.self.view_is (none_cut (the_view c.self.inside) _ h.running o.copy h.was o.was)
 
 pub returns-in-Failed-clause-opens : goal.returns-in-Failed-clause-opens
@@ -612,7 +612,7 @@ returns-after-fix_list-clause-opens c =
     let phase_is = slice_get-get_or phases id.slot c.index.result.now within in
     let h = subst (λ p. Hands c.self.inside.merger made p c.hand_in-progress.new.self) c.in-Opened.is c.hand_in-progress.ensures in
     let m = merger_works _ h.running c.self.invariant h.was in
-    let o = opens_beside _ h.running made c.in-Opened.image h.next.doing c.self.invariant h.was (subst AreRunning h.was c.sound.ensures.running) (subst HasSoundCopy h.was c.sound.ensures.copy) h.hands.hands in
+    let o = opens_beside _ h.running made c.in-Opened.image h.next.doing c.self.invariant h.was (subst AreRunning h.was c.merging_laws.ensures.running) (subst HasSoundCopy h.was c.merging_laws.ensures.copy) h.hands.hands in
     let outcome : IsMergersOutcome _ made phase _ = record {
       out = own;
       outs = c.put_out.ensures;
@@ -623,7 +623,7 @@ returns-after-fix_list-clause-opens c =
     λ merge copy was copies none other. opens_seen merge copy.order.serial _ _ _ (sym c.self.view_is)
     (opened_now _ c.merger_outcomes-in-Opened.ensures _ (the_view c.self.inside) _ h.running made phase c.in-Opened.image h.next.doing c.hand_in-progress.new.self c.fix_list.result c.self.invariant h.was (record {
       outcome = outcome;
-      rest = record { stands = m.stands; base = refl; history = refl; memory = refl; closed = m.closed; grows = refl; committing = refl; dumper = refl; makes = makes_in c.self.inside.dumper.since_freeze c.self.inside.dumper.running c.sound-2.ensures.running };
+      rest = record { stands = m.stands; base = refl; history = refl; memory = refl; closed = m.closed; grows = refl; committing = refl; dumper = refl; makes = makes_in c.self.inside.dumper.since_freeze c.self.inside.dumper.running c.merging_laws.ensures.makes };
       serial = refl;
       old_places = refl;
       old_running = refl;

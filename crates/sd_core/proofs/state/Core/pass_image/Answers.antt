@@ -71,7 +71,7 @@ invariant_of-self-in-Copied c =
       asked = asked_on w.running w.image w.next _ t.out_is t.slot (own_slot c.self.inside.dumper.since_freeze _ w.running w.image c.sound.ensures.running w.was w.making);
       image_is = t.image_is;
       still = t.still;
-      little = step_little c.little_law.ensures base c.reserve_mark.new.self.items c.reserve_mark.new.self.items c.self.inside.memory c.pass_on.new.memory w.running.number c.self.inside.numbers.ticket w.image w.next (Copied c.in-Copied.field-0) w.steps
+      little = step_little c.step_laws.ensures.little base c.reserve_mark.new.self.items c.reserve_mark.new.self.items c.self.inside.memory c.pass_on.new.memory w.running.number c.self.inside.numbers.ticket w.image w.next (Copied c.in-Copied.field-0) w.steps
           (sound_image _ w.running w.image c.sound.ensures.image w.was w.making).rising t.still refl refl (little_of base c.reserve_mark.new.self.items c.self.inside.memory c.self.inside.dumper.running w.running w.image core.little w.was w.making);
     }))
 
@@ -104,7 +104,7 @@ invariant_of-self-in-Visited c =
       numbers = same_numbers _;
       entries = ap entries_of items;
       held = c.note.ensures.held;
-      journal_is = visit_journal c.tracked_laws.ensures _ w.running w.image w.next _ _ c.note.new.self core w.was w.making w.steps items c.note.ensures.numbers.first c.note.ensures.numbers.limit;
+      journal_is = visit_journal c.step_laws.ensures.tracked _ w.running w.image w.next _ _ c.note.new.self core w.was w.making w.steps items c.note.ensures.numbers.first c.note.ensures.numbers.limit;
       numbers_are = subst (λ all. AreSoundNumbers base all c.self.inside.pending c.self.inside.last c.self.inside.numbers) (sym items)
           (numbers_noted base c.reserve_mark.new.self.items c.self.inside.pending c.self.inside.last c.self.inside.numbers (Visit w.image.order.serial c.in-Visited.visit.space c.in-Visited.visit.page) (omega (arith, given)) core.numbers_are);
       flags_are = record { grown = core.flags_are.grown ∙ ap (λ all. has_grown base (entries_of all)) (sym items); swept_by = core.flags_are.swept_by ∙ ap has_swept (sym items); sure = core.flags_are.sure };
@@ -119,8 +119,8 @@ invariant_of-self-in-Visited c =
       image_is = subst (λ all. IsImageInMaking all c.self.inside.catalog c.self.inside.numbers w.next) (sym items) t.image_is;
       still = t.still;
       little = subst (λ all. TakesLittle base all c.pass_on.new.memory w.running.number w.next) (sym items)
-          (step_little c.little_law.ensures base c.reserve_mark.new.self.items (Noted (Visit w.image.order.serial c.in-Visited.visit.space c.in-Visited.visit.page) ∷ c.reserve_mark.new.self.items) c.self.inside.memory c.pass_on.new.memory w.running.number c.self.inside.numbers.ticket w.image w.next (Visited c.in-Visited.visit) w.steps
-          (sound_image _ w.running w.image c.sound.ensures.image w.was w.making).rising t.still (visit_more c.due_laws.ensures base c.reserve_mark.new.self.items c.self.inside.memory c.pass_on.new.memory w.image w.next c.in-Visited.visit w.image.order.serial core.journal_is.tracked w.steps) refl (little_of base c.reserve_mark.new.self.items c.self.inside.memory c.self.inside.dumper.running w.running w.image core.little w.was w.making));
+          (step_little c.step_laws.ensures.little base c.reserve_mark.new.self.items (Noted (Visit w.image.order.serial c.in-Visited.visit.space c.in-Visited.visit.page) ∷ c.reserve_mark.new.self.items) c.self.inside.memory c.pass_on.new.memory w.running.number c.self.inside.numbers.ticket w.image w.next (Visited c.in-Visited.visit) w.steps
+          (sound_image _ w.running w.image c.sound.ensures.image w.was w.making).rising t.still (visit_more c.step_laws.ensures.due base c.reserve_mark.new.self.items c.self.inside.memory c.pass_on.new.memory w.image w.next c.in-Visited.visit w.image.order.serial core.journal_is.tracked w.steps) refl (little_of base c.reserve_mark.new.self.items c.self.inside.memory c.self.inside.dumper.running w.running w.image core.little w.was w.making));
     }))
 
 pub returns-in-Copied-clause-takes : goal.returns-in-Copied-clause-takes
@@ -130,7 +130,7 @@ returns-in-Copied-clause-takes c =
     let rests = ap (λ v. slice_get v.outs 0) c.self.view_is ∙ c.requires.rests in
     let out = out_at_work _ w.running None c.self.invariant w.was rests in
     let work = at_work _ w.running c.self.invariant w.was in
-    λ _. step_seen its.Dumper reply.Worked _ _ _ c.self.view_is (works_on c.dumper_steps.ensures _ _ w.running w.image w.next c.self.inside.numbers.ticket (Copied c.in-Copied.field-0) tt (record {
+    λ _. step_seen its.Dumper reply.Worked _ _ _ c.self.view_is (works_on c.step_laws.ensures.steps _ _ w.running w.image w.next c.self.inside.numbers.ticket (Copied c.in-Copied.field-0) tt (record {
       rest = record { stands = work.stands; base = refl; closed = work.closed; grows = refl; merger = refl };
       history = ap entries_of c.in-Ok.ensures.grown.items;
       catalog = refl;
@@ -153,7 +153,7 @@ returns-in-Visited-clause-takes c =
     let rests = ap (λ v. slice_get v.outs 0) c.self.view_is ∙ c.requires.rests in
     let out = out_at_work _ w.running None c.self.invariant w.was rests in
     let work = at_work _ w.running c.self.invariant w.was in
-    λ _. step_seen its.Dumper reply.Worked _ _ _ c.self.view_is (works_on c.dumper_steps.ensures _ _ w.running w.image w.next c.self.inside.numbers.ticket (Visited c.in-Visited.visit) tt (record {
+    λ _. step_seen its.Dumper reply.Worked _ _ _ c.self.view_is (works_on c.step_laws.ensures.steps _ _ w.running w.image w.next c.self.inside.numbers.ticket (Visited c.in-Visited.visit) tt (record {
       rest = record { stands = work.stands; base = refl; closed = work.closed; grows = refl; merger = refl };
       history = ap entries_of (c.note.ensures.items) ∙ ap entries_of c.in-Ok.ensures.grown.items;
       catalog = refl;
