@@ -8,13 +8,13 @@ ghost use Rattle.sd_run.specs.Ending.{IsUnprinted};
 
 use sd_exit::{Output, Stop};
 use sd_restore::Fault;
-use sd_script::{Answer, print_answer};
+use sd_script::{Answer, SHORT_LINE, print_answer, put_short_line};
 use std::io::Write;
 
 /// The length of the longest line of an answer: the words of 512 pages, and room beside them.
 pub(crate) const LINE_BYTES: usize = 16_384;
 
-/// Prints an answer as one line, which it makes in the buffer.
+/// Prints an answer as one line. A short line takes no memory; another is made in the buffer.
 ///
 /// # Errors
 ///
@@ -31,6 +31,11 @@ pub(crate) fn print_line<W: Write>(
     ensures stops { IfErr result IsUnprinted }
     ensures writer { OnWriter result (out.new.refused ≡ true) }
 {
+    let mut room = [0; SHORT_LINE];
+    if let Some(count) = put_short_line(given, &mut room) {
+        out.write_all(&room[..count])?;
+        return Ok(());
+    }
     buffer.clear();
     if print_answer(given, buffer).is_err() {
         return Err(Stop::Fault(Fault::OutOfMemory));

@@ -1,5 +1,5 @@
 -- The lines that answers are printed as.
-use Rattle.std.specs.Prelude.{ℕ, List, [], ◌∷◌, ◌++◌, codes, Some, None}
+use Rattle.std.specs.Prelude.{ℕ, ◌<◌, List, [], ◌∷◌, ◌++◌, codes, length, Some, None}
 use Rattle.std.specs.Fmt.{decimal}
 use Rattle.std.specs.Int.{to_be_bytes, w64}
 use Rattle.std.specs.List.{flat_map}
@@ -39,3 +39,11 @@ reply_line reply = reply_text reply ++ 10 ∷ []
 abbrev pub answer_line : Answer → List ℕ
 answer_line (answer.Reply reply) = reply_line reply
 answer_line (answer.Words words) = codes "words" ++ flat_map word_text words.items ++ 10 ∷ []
+
+-- the line of an answer isn't one of those that are short: of a load of up to 64 bytes, or of the replies `done` and
+-- `needs-fault`
+abbrev pub IsLong : Answer → Type 0
+IsLong (answer.Reply Done) = ⊥
+IsLong (answer.Reply NeedsFault) = ⊥
+IsLong (answer.Reply (Bytes bytes)) = 64 < length bytes
+IsLong _ = Unit {0}

@@ -19,7 +19,7 @@ pub use blame::{Blame, Blank, blame_line};
 pub use forms::{Field, LINE_FORMS, LineForm, form_of};
 pub use line::Line;
 pub use line_fault::{FieldKind, LineFault};
-pub use print::print_answer;
+pub use print::{SHORT_LINE, print_answer, put_short_line};
 pub use script::Script;
 pub use script_error::ScriptError;
 pub use unfit::unfit_line;

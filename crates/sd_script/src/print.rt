@@ -1,9 +1,9 @@
 //! Printing the line of an answer.
-ghost use Rattle.std.specs.Prelude.{◌≡◌, ◌≤◌, ◌+◌, ◌*◌, ◌++◌, [], ◌∷◌, length, codes, OnOk};
+ghost use Rattle.std.specs.Prelude.{◌≡◌, ◌≤◌, ◌<◌, ◌+◌, ◌*◌, ◌++◌, [], ◌∷◌, length, take, codes, OnOk, MatchOption};
 ghost use Rattle.std.specs.List.{flat_map};
 ghost use Rattle.std.specs.Io.KnownBytes.{Appends};
 ghost use Rattle.hex.specs.Hex.{encode_lower};
-ghost use Rattle.sd_script.specs.Texts.{answer_line, reply_line, word_text};
+ghost use Rattle.sd_script.specs.Texts.{IsLong, answer_line, reply_line, word_text};
 
 use crate::answer::Answer;
 use sd_command::Reply;
@@ -12,6 +12,49 @@ use std::io::Write;
 
 /// How many bytes are turned into digits at a time.
 const PART: usize = 64;
+
+/// The length of the longest line that [`put_short_line`] makes: that of a load of 64 bytes.
+pub const SHORT_LINE: usize = 2 * PART + 7;
+
+/// Puts the line of an answer into room of its caller's, and returns how long it is: that of a load, of a command that
+/// was done, or of a store that needs a fault. None for another answer, whose line [`print_answer`] makes.
+pub fn put_short_line(answer: &Answer, room: &mut [u8; SHORT_LINE]) -> Option<usize>
+    ensures { MatchOption result (IsLong answer.now)
+        (λ count. (count ≤ 135) × (take count room.new ≡ answer_line answer.now)) }
+{
+    let Answer::Reply(reply) = answer else {
+        return None;
+    };
+    match reply {
+        Reply::Done => Some(put_text(b"done\n", room)),
+        Reply::NeedsFault => Some(put_text(b"needs-fault\n", room)),
+        Reply::Bytes(bytes) => put_few_bytes(bytes.as_slice(), room),
+        _ => None,
+    }
+}
+
+/// Puts a text at the front of the room, and returns its length.
+fn put_text(text: &[u8], room: &mut [u8; SHORT_LINE]) -> usize
+    requires { length text.now ≤ 135 }
+    ensures length { result ≡ length text.now }
+    ensures text { take result room.new ≡ text.now }
+{
+    room[..text.len()].copy_from_slice(text);
+    text.len()
+}
+
+/// Puts the line of so few bytes as a load has at the front of the room, and returns its length. None for more bytes.
+fn put_few_bytes(bytes: &[u8], room: &mut [u8; SHORT_LINE]) -> Option<usize>
+    ensures { MatchOption result (64 < length bytes.now) (λ count. (count ≤ 135)
+        × (take count room.new ≡ codes "bytes " ++ encode_lower bytes.now ++ 10 ∷ [])) }
+{
+    if bytes.len() > PART {
+        return None;
+    }
+    let count = 2 * bytes.len() + 7;
+    put_bytes(bytes, &mut room[..count]);
+    Some(count)
+}
 
 /// Prints an answer as one line.
 ///
