@@ -256,7 +256,7 @@ returns-after-fix_list-clause-handed c =
       old_running = refl;
       its_catalog = refl;
       was = h.was;
-    }) o (h.is ∙ ap Some h.hands.is) c.sound-in-Opened.ensures c.enter_catalog.ensures c.fix_list.ensures.fixes in
+    }) o (h.is ∙ ap Some h.hands.is) c.sound.ensures c.enter_catalog.ensures c.fix_list.ensures.fixes in
     elim c.match-fix_list.branch [
       | in-None w ↦ handed_seen 1 made c.match-fix_list.result _ _ _ c.self.view_is (handed_merger _ _ made phase c.match-fix_list.result outcome refl count believed
           (subst (λ a. AddsByOutcome id.worker a (entries_of c.self.inside.journal.items) (entries_of c.self.inside.journal.items)) (sym w.result-is) refl))
@@ -455,7 +455,7 @@ returns-after-fix_list-clause-lists c =
       old_running = refl;
       its_catalog = refl;
       was = h.was;
-    }) o (h.is ∙ ap Some h.hands.is) c.sound-in-Opened.ensures c.enter_catalog.ensures
+    }) o (h.is ∙ ap Some h.hands.is) c.sound.ensures c.enter_catalog.ensures
     (subst (λ n. FixesList c.enter_catalog.new.catalog c.self.inside.dumper.running c.put_out.new.outs n c.hand_in-progress.new.self c.fix_list.result c.fix_list.new.merger) c.take_room-room.ensures c.fix_list.ensures.fixes)
     refl refl count merge serial (opens_seen merge serial _ _ _ c.self.view_is opens)
 
@@ -491,7 +491,7 @@ returns-after-fix_list-clause-retires c =
       old_running = refl;
       its_catalog = refl;
       was = h.was;
-    }) o (h.is ∙ ap Some h.hands.is) c.sound-in-Opened.ensures c.enter_catalog.ensures
+    }) o (h.is ∙ ap Some h.hands.is) c.sound.ensures c.enter_catalog.ensures
     (subst (λ n. FixesList c.enter_catalog.new.catalog c.self.inside.dumper.running c.put_out.new.outs n c.hand_in-progress.new.self c.fix_list.result c.fix_list.new.merger) c.take_room-room.ensures c.fix_list.ensures.fixes)
     refl refl count merge serial bodies (opens_seen merge serial _ _ _ c.self.view_is opens) (believed_seen made.request bodies _ _ c.self.view_is b)
 
@@ -528,7 +528,7 @@ returns-after-fix_list-clause-copies c =
       old_running = refl;
       its_catalog = refl;
       was = h.was;
-    }) o (h.is ∙ ap Some h.hands.is) c.sound-in-Opened.ensures c.enter_catalog.ensures
+    }) o (h.is ∙ ap Some h.hands.is) c.sound.ensures c.enter_catalog.ensures
     (subst (λ n. FixesList c.enter_catalog.new.catalog c.self.inside.dumper.running c.put_out.new.outs n c.hand_in-progress.new.self c.fix_list.result c.fix_list.new.merger) c.take_room-room.ensures c.fix_list.ensures.fixes)
     refl refl count merge serial bodies (opens_seen merge serial _ _ _ c.self.view_is opens) (believed_seen made.request bodies _ _ c.self.view_is b))
 
@@ -567,7 +567,7 @@ returns-after-fix_list-clause-rests c =
             old_running = refl;
             its_catalog = refl;
             was = h.was;
-          }) o (h.is ∙ ap Some h.hands.is) c.sound-in-Opened.ensures c.enter_catalog.ensures
+          }) o (h.is ∙ ap Some h.hands.is) c.sound.ensures c.enter_catalog.ensures
           (subst (λ n. FixesList c.enter_catalog.new.catalog c.self.inside.dumper.running c.put_out.new.outs n c.hand_in-progress.new.self c.fix_list.result c.fix_list.new.merger) c.take_room-room.ensures c.fix_list.ensures.fixes)
           refl refl count merge serial bodies (opens_seen merge serial _ _ _ c.self.view_is opens) (believed_seen made.request bodies _ _ c.self.view_is b)),
     )
@@ -629,6 +629,6 @@ returns-after-fix_list-clause-opens c =
       old_running = refl;
       its_catalog = refl;
       was = h.was;
-    }) o (h.is ∙ ap Some h.hands.is) c.sound-in-Opened.ensures c.enter_catalog.ensures
+    }) o (h.is ∙ ap Some h.hands.is) c.sound.ensures c.enter_catalog.ensures
     (subst (λ n. FixesList c.enter_catalog.new.catalog c.self.inside.dumper.running c.put_out.new.outs n c.hand_in-progress.new.self c.fix_list.result c.fix_list.new.merger) c.take_room-room.ensures c.fix_list.ensures.fixes)
     refl refl count merge copy (ap (λ (v : CoreView). v.merger) c.self.view_is ∙ was) copies)

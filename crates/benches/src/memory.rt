@@ -1,11 +1,7 @@
-//! `memory_bench`: makes many calls on a memory, to be timed from outside.
-#![tactic(auto)]
-
+//! Many calls on a memory.
 use sd_areas::{PageNo, Prot, SpaceId};
 use sd_pagetable::{Memory, MemoryError};
-use std::alloc::Global;
-use std::io;
-use std::process::ExitCode;
+use std::alloc::{AllocError, Global};
 
 /// How many stores, loads or words are asked for.
 const CALLS: u64 = 1_000_000;
@@ -223,8 +219,8 @@ fn sparse_walk(alloc: Global) -> Result<(), MemoryError> {
     Ok(())
 }
 
-/// Makes the calls that a word names, and tells how they ended.
-fn timed(alloc: Global, word: &str) -> Result<&'static str, MemoryError> {
+/// Makes the calls that a word names. Returns whether it names some.
+fn make(alloc: Global, word: &str) -> Result<bool, MemoryError> {
     match word {
         "stores" => stores(alloc)?,
         "random" => random_stores(alloc)?,
@@ -239,26 +235,19 @@ fn timed(alloc: Global, word: &str) -> Result<&'static str, MemoryError> {
         "walk" => walk(alloc)?,
         "sparse" => sparse(alloc)?,
         "sparse_walk" => sparse_walk(alloc)?,
-        _ => {
-            return Ok(
-                "usage: memory_bench stores|random|loads|words|pages|fork|child|ranges|anew|protects|walk|\
-                sparse|sparse_walk",
-            );
-        }
+        _ => return Ok(false),
     }
-    Ok("done")
+    Ok(true)
 }
 
-fn main(rt: HostRuntime) -> io::Result<ExitCode> {
-    let alloc = rt.alloc();
-    let words: Vec<String> = std::env::args(&rt)?.collect(alloc)?;
-    let word = match words.get(1) {
-        Some(word) => word.as_str(),
-        None => "",
-    };
-    match timed(alloc, word) {
-        Ok(ending) => println!(rt; "{ending}")?,
-        Err(error) => println!(rt; "{error}")?,
+/// Makes the calls that a word names, and tells how they ended.
+pub(crate) fn timed(alloc: Global, word: &str) -> Result<String, AllocError> {
+    match make(alloc, word) {
+        Ok(true) => format!(in alloc; "done"),
+        Ok(false) => format!(in alloc;
+            "usage: benches memory stores|random|loads|words|pages|fork|child|ranges|anew|protects|walk|sparse|\
+            sparse_walk"
+        ),
+        Err(error) => format!(in alloc; "{error}"),
     }
-    Ok(ExitCode::from(0))
 }

@@ -1,8 +1,8 @@
 //! A dump over a disk whose writes take time, by one writer or more. What they share isn't dropped: the process ends
 //! with it.
-use crate::beside::{Free, prepare};
-use crate::fault::BenchFault;
-use crate::slow::Slow;
+use super::beside::{Free, prepare};
+use super::fault::BenchFault;
+use super::slow::Slow;
 use sd_command::Reply;
 use sd_disk::MemDisk;
 use sd_shared::{Seat, Shared};

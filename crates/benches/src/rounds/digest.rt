@@ -1,5 +1,5 @@
 //! The digest of as many bytes as a dump has, alone.
-use crate::bench::TOUCHED;
+use super::bench::TOUCHED;
 use sd_areas::PAGE_SIZE;
 use sha2::{Digest, Sha256};
 

@@ -1,14 +1,10 @@
-//! `rounds_bench`: dumps of a memory, step by step, to be timed from outside.
-#![tactic(auto)]
-
+//! Dumps of a memory, step by step.
 mod bench;
 mod digest;
 
-use crate::bench::{Bench, BenchError};
-use crate::digest::digest;
-use std::alloc::Global;
-use std::io;
-use std::process::ExitCode;
+use bench::{Bench, BenchError};
+use digest::digest;
+use std::alloc::{AllocError, Global};
 
 /// How often a case is repeated.
 const TURNS: u64 = 20;
@@ -84,30 +80,18 @@ fn act(alloc: Global, bench: &mut Bench, word: &str) -> Result<bool, BenchError>
 }
 
 /// Makes a bench, and does what a word names. Returns whether it names something.
-fn timed(alloc: Global, word: &str) -> Result<bool, BenchError> {
+fn make(alloc: Global, word: &str) -> Result<bool, BenchError> {
     let mut bench = Bench::new(alloc)?;
     act(alloc, &mut bench, word)
 }
 
-/// Does what the first argument names.
-fn timed_argument(alloc: Global, words: &[String]) -> Result<bool, BenchError> {
-    match words.get(1) {
-        Some(word) => timed(alloc, word.as_str()),
-        None => timed(alloc, ""),
+/// Does what a word names, and tells how it ended.
+pub(crate) fn timed(alloc: Global, word: &str) -> Result<String, AllocError> {
+    match make(alloc, word) {
+        Ok(true) => format!(in alloc; "done"),
+        Ok(false) => format!(in alloc;
+            "usage: benches rounds made|touched|plain|dumps|digests|walks|emptied|rounds"
+        ),
+        Err(error) => format!(in alloc; "{error:?}"),
     }
-}
-
-fn main(rt: HostRuntime) -> io::Result<ExitCode> {
-    let alloc = rt.alloc();
-    let words: Vec<String> = std::env::args(&rt)?.collect(alloc)?;
-    match timed_argument(alloc, &words) {
-        Ok(true) => println!(rt; "done")?,
-        Ok(false) => {
-            println!(rt;
-                "usage: rounds_bench made|touched|plain|dumps|digests|walks|emptied|rounds"
-            )?;
-        }
-        Err(error) => println!(rt; "{error:?}")?,
-    }
-    Ok(ExitCode::from(0))
 }

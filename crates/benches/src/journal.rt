@@ -1,12 +1,8 @@
-//! `journal_bench`: fills a journal, to be timed and weighed from outside.
-#![tactic(auto)]
-
+//! A journal that is filled.
 use sd_areas::SpaceId;
 use sd_command::{Bytes, Command, Reply};
 use sd_journal::{Entry, Journal};
 use std::alloc::{AllocError, Global};
-use std::io;
-use std::process::ExitCode;
 
 /// An entry of a store of 8 bytes.
 fn entry(alloc: Global, number: u64) -> Result<Entry, AllocError> {
@@ -35,10 +31,8 @@ fn fill(alloc: Global) -> Result<u64, AllocError> {
     Ok(journal.next_number())
 }
 
-fn main(rt: HostRuntime) -> io::Result<ExitCode> {
-    match fill(rt.alloc()) {
-        Ok(count) => println!(rt; "{count} entries")?,
-        Err(AllocError) => println!(rt; "out of memory")?,
-    }
-    Ok(ExitCode::from(0))
+/// Fills a journal, and tells how many entries it has.
+pub(crate) fn timed(alloc: Global) -> Result<String, AllocError> {
+    let count = fill(alloc)?;
+    format!(in alloc; "{count} entries")
 }

@@ -1,6 +1,6 @@
 //! Calls of one seat, and the same commands as events of a world. Neither is dropped: the process ends with it.
-use crate::fault::BenchFault;
-use crate::place::{mmap, store};
+use super::fault::BenchFault;
+use super::place::{mmap, store};
 use sd_command::{Command, Refusal, Reply};
 use sd_disk::MemDisk;
 use sd_shared::{Seat, Shared};

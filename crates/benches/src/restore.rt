@@ -1,6 +1,4 @@
-//! `restore_bench`: restores a memory from a chain of images on a disk in memory, to be timed from outside.
-#![tactic(auto)]
-
+//! A memory that is restored from a chain of images, on a disk in memory.
 ghost use Rattle.std.specs.Prelude.{◌≤◌};
 
 use sd_areas::{Area, PAGE_SIZE, PageNo, Prot, SpaceId};
@@ -10,8 +8,6 @@ use sd_image::{
 };
 use sd_restore::{Fault, restore};
 use std::alloc::{AllocError, Global};
-use std::io;
-use std::process::ExitCode;
 
 /// How many pages the memory has.
 const PAGES: u64 = 20_010;
@@ -107,8 +103,8 @@ fn copy(alloc: Global) -> Result<(), AllocError> {
     Ok(())
 }
 
-/// Makes what the words name, and tells how it ended.
-fn timed(alloc: Global, case: &str, images: u64) -> Result<&'static str, Fault>
+/// Makes what a word names. Returns whether it names something.
+fn make(alloc: Global, case: &str, images: u64) -> Result<bool, Fault>
     requires some { 1 ≤ images }
     requires few { images ≤ 64 }
 {
@@ -120,26 +116,16 @@ fn timed(alloc: Global, case: &str, images: u64) -> Result<&'static str, Fault>
         "restored" => {
             restore(alloc, &mut store(alloc, images)?)?;
         }
-        _ => return Ok("usage: restore_bench copied|made|restored IMAGES"),
+        _ => return Ok(false),
     }
-    Ok("done")
+    Ok(true)
 }
 
-/// A word of the command line.
-fn word(words: &[String], place: usize) -> &str {
-    match words.get(place) {
-        Some(word) => word.as_str(),
-        None => "",
+/// Makes what a word names over 1 to 64 images, and tells how it ended.
+pub(crate) fn timed(alloc: Global, case: &str, images: u64) -> Result<String, AllocError> {
+    match make(alloc, case, images.clamp(1, 64)) {
+        Ok(true) => format!(in alloc; "done"),
+        Ok(false) => format!(in alloc; "usage: benches restore copied|made|restored IMAGES"),
+        Err(fault) => format!(in alloc; "{fault}"),
     }
-}
-
-fn main(rt: HostRuntime) -> io::Result<ExitCode> {
-    let alloc = rt.alloc();
-    let words: Vec<String> = std::env::args(&rt)?.collect(alloc)?;
-    let images = word(&words, 2).parse::<u64>().unwrap_or(1).clamp(1, 64);
-    match timed(alloc, word(&words, 1), images) {
-        Ok(ending) => println!(rt; "{ending}")?,
-        Err(fault) => println!(rt; "{fault}")?,
-    }
-    Ok(ExitCode::from(0))
 }

@@ -1,6 +1,6 @@
 //! Seats that store beside a dumper. What they share isn't dropped: the process ends with it.
-use crate::fault::BenchFault;
-use crate::place::{mmap, store};
+use super::fault::BenchFault;
+use super::place::{mmap, store};
 use sd_command::{Refusal, Reply};
 use sd_disk::{Disk, MemDisk};
 use sd_shared::{Hold, Seat, Shared};
