@@ -10,8 +10,9 @@ use std::sync::Wait;
 use std::time::{Clock, Duration};
 use std::{io, thread};
 
-/// How long a writer waits before each try to open a store, in milliseconds: a reader asks for its lock for a moment.
-const PAUSES: [u64; 4] = [0, 1, 5, 20];
+/// How long a writer waits behind each try to open a store whose lock is taken, in milliseconds: a reader asks for it
+/// for a moment.
+const PAUSES: [u64; 3] = [1, 5, 20];
 
 /// Opens the files of a folder that may be written, also where a reader asks for its lock just then.
 fn open_folder<R: Clock + Wait>(
@@ -20,9 +21,10 @@ fn open_folder<R: Clock + Wait>(
     folder: &str,
 ) -> Result<Folder, OpenError> {
     for pause in PAUSES {
-        thread::sleep(clock, Duration::from_millis(pause));
         match Folder::open(rt, folder, true) {
-            Err(OpenError::Folder(fault)) if fault.error.kind() == io::ErrorKind::WouldBlock => {}
+            Err(OpenError::Folder(fault)) if fault.error.kind() == io::ErrorKind::WouldBlock => {
+                thread::sleep(clock, Duration::from_millis(pause));
+            }
             ended => return ended,
         }
     }
