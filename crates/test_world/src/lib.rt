@@ -1,8 +1,10 @@
-//! Tests of worlds and openers by their public names.
+//! Tests of cores, worlds and openers by their public names.
 #![tactic(auto)]
 
 #[cfg(test)]
 mod again;
+#[cfg(test)]
+mod by_hand;
 #[cfg(test)]
 mod checkpoints;
 #[cfg(test)]

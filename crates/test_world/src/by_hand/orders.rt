@@ -1,7 +1,7 @@
 //! When orders are refused.
-use crate::cases::{Case, run};
-use crate::driving::{Answer, Order, Row};
-use crate::start::{Store, THREE};
+use crate::by_hand::cases::{Case, run};
+use crate::by_hand::driving::{Answer, Order, Row};
+use crate::by_hand::start::{Store, THREE};
 use sd_command::Refusal;
 use sd_gate::Worker;
 use std::alloc::{AllocError, Global};

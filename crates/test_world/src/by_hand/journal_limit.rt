@@ -1,7 +1,7 @@
 //! A journal that is full.
-use crate::cases::{Case, run};
-use crate::driving::{Answer, Order, Row};
-use crate::start::THREE;
+use crate::by_hand::cases::{Case, run};
+use crate::by_hand::driving::{Answer, Order, Row};
+use crate::by_hand::start::THREE;
 use sd_command::Refusal;
 use sd_gate::Worker;
 use std::test::Fail;

@@ -1,9 +1,9 @@
 //! Cores over stores, and what is done with them. Only this file owns them. Cores aren't dropped: the process of a test
 //! ends with them, and a drop of one takes the prover minutes.
-use crate::driving::{Row, answers};
-use crate::other_disk::knows_its_own;
-use crate::outcomes::drops_the_outcome_of_another;
-use crate::start::{Store, empty, fresh};
+use crate::by_hand::driving::{Row, answers};
+use crate::by_hand::other_disk::knows_its_own;
+use crate::by_hand::outcomes::drops_the_outcome_of_another;
+use crate::by_hand::start::{Store, empty, fresh};
 use sd_core::Core;
 use sd_disk::{Fused, MemDisk};
 use std::alloc::{AllocError, Global};

@@ -1,7 +1,7 @@
 //! A store that isn't the run's own.
-use crate::cases::{Case, run};
-use crate::driving::{Answer, Order, obey};
-use crate::start::Store;
+use crate::by_hand::cases::{Case, run};
+use crate::by_hand::driving::{Answer, Order, obey};
+use crate::by_hand::start::Store;
 use sd_command::Refusal;
 use sd_core::Core;
 use sd_disk::Disk;

@@ -1,7 +1,7 @@
 //! Outcomes of calls that aren't out.
-use crate::cases::{Case, run};
-use crate::driving::{Answer, finish};
-use crate::start::THREE;
+use crate::by_hand::cases::{Case, run};
+use crate::by_hand::driving::{Answer, finish};
+use crate::by_hand::start::THREE;
 use sd_command::{Refusal, Reply};
 use sd_core::{Core, Taken};
 use sd_disk::Disk;
