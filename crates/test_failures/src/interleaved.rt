@@ -1,7 +1,7 @@
 //! Merges that are cut in at each place of a checkpoint in rounds, with a stop behind each call.
-use crate::crashes::shown_by_stops;
 use crate::line::{HELLO, Line};
 use crate::picks::FOUR;
+use crate::stops::shown_by_stops;
 use crate::told::{Ended, Told};
 use crate::worlds::{MOST, Run, fused, make};
 use sd_command::Reply;

@@ -1,4 +1,4 @@
-//! Tests of worlds whose memory is refused, whose device fails, and that stop at each call.
+//! Tests of worlds whose memory is refused, whose device fails, that stop at each call, and that crash there.
 #![tactic(auto)]
 
 #[cfg(test)]
@@ -10,7 +10,11 @@ mod interleaved;
 #[cfg(test)]
 mod line;
 #[cfg(test)]
+mod orders;
+#[cfg(test)]
 mod picks;
+#[cfg(test)]
+mod stops;
 #[cfg(test)]
 mod tests;
 #[cfg(test)]

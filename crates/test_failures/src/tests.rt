@@ -1,7 +1,7 @@
 //! Scripts under refused memory, with a device call that fails, and with a stop at each call.
-use crate::crashes::shown_by_stops;
 use crate::line::{HELLO, Line, MERGE_BESIDE_ROUND, MERGED, REOPENED, STALE_BITS, TRIMMED, TWO};
 use crate::picks::ALL;
+use crate::stops::shown_by_stops;
 use crate::told::{Ended, Told};
 use crate::worlds::{MOST, Run, empty, fused, make};
 use sd_command::{Refusal, Reply};
