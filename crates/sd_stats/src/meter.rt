@@ -97,18 +97,14 @@ impl Meter {
         let _ = self.done.push(record);
     }
 
-    fn count(&mut self) {
+    /// A call was made.
+    pub(crate) fn called(&mut self) {
         self.calls = self.calls.saturating_add(1);
-    }
-
-    /// A call of a length was made.
-    pub(crate) fn measured(&mut self) {
-        self.count();
     }
 
     /// Bytes of a slot were read.
     pub(crate) fn read(&mut self, slot: usize, at: usize, bytes: &[u8]) {
-        self.count();
+        self.called();
         let calls = self.calls;
         let Some(seen) = self.slots.get_mut(slot) else {
             return;
@@ -156,7 +152,7 @@ impl Meter {
 
     /// Bytes were written into a slot's file.
     pub(crate) fn wrote(&mut self, slot: usize, at: usize, bytes: &[u8], now: Duration) {
-        self.count();
+        self.called();
         if at == 0 && bytes.first() != Some(&GATE) {
             self.close(slot, now);
             return;
@@ -172,7 +168,7 @@ impl Meter {
 
     /// A slot's file was cut.
     pub(crate) fn cut(&mut self, slot: usize, now: Duration) {
-        self.count();
+        self.called();
         let fresh = Making::new(now, self.calls, self.reads);
         let Some(seen) = self.slots.get_mut(slot) else {
             return;
@@ -188,7 +184,7 @@ impl Meter {
 
     /// A slot's file was synced. An image whose gate is open is there.
     pub(crate) fn synced(&mut self, slot: usize, now: Duration) {
-        self.count();
+        self.called();
         let Some(seen) = self.slots.get_mut(slot) else {
             return;
         };

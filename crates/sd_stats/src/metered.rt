@@ -64,7 +64,7 @@ impl<R: Clock, D: Disk> Disk for Metered<'_, R, D> {
     fn len(&mut self, slot: usize) -> Result<usize, DeviceError> {
         let answer = self.disk.len(slot);
         if let Ok(mut meter) = self.meter.try_borrow_mut() {
-            meter.measured();
+            meter.called();
         }
         answer
     }
@@ -72,7 +72,11 @@ impl<R: Clock, D: Disk> Disk for Metered<'_, R, D> {
     fn read(&mut self, slot: usize, at: usize, buffer: &mut [u8]) -> Result<(), DeviceError> {
         let answer = self.disk.read(slot, at, buffer);
         if let Ok(mut meter) = self.meter.try_borrow_mut() {
-            meter.read(slot, at, buffer);
+            if answer.is_ok() {
+                meter.read(slot, at, buffer);
+            } else {
+                meter.called();
+            }
         }
         answer
     }
@@ -81,7 +85,11 @@ impl<R: Clock, D: Disk> Disk for Metered<'_, R, D> {
         let answer = self.disk.write_at(slot, at, bytes);
         let now = self.now();
         if let Ok(mut meter) = self.meter.try_borrow_mut() {
-            meter.wrote(slot, at, bytes, now);
+            if answer.is_ok() {
+                meter.wrote(slot, at, bytes, now);
+            } else {
+                meter.called();
+            }
         }
         answer
     }
@@ -90,7 +98,11 @@ impl<R: Clock, D: Disk> Disk for Metered<'_, R, D> {
         let answer = self.disk.cut(slot, len);
         let now = self.now();
         if let Ok(mut meter) = self.meter.try_borrow_mut() {
-            meter.cut(slot, now);
+            if answer.is_ok() {
+                meter.cut(slot, now);
+            } else {
+                meter.called();
+            }
         }
         answer
     }
@@ -99,7 +111,11 @@ impl<R: Clock, D: Disk> Disk for Metered<'_, R, D> {
         let answer = self.disk.sync(slot);
         let now = self.now();
         if let Ok(mut meter) = self.meter.try_borrow_mut() {
-            meter.synced(slot, now);
+            if answer.is_ok() {
+                meter.synced(slot, now);
+            } else {
+                meter.called();
+            }
         }
         answer
     }
