@@ -132,6 +132,26 @@ export_into_a_file_is_refused() {
   same "the file" "$(cat cores)" file
 }
 
+# An import whose first line can't be printed saves nothing.
+import_that_is_not_printed_saves_nothing() {
+  one_area_core 7 > core
+  "$ckpt" import store core > /dev/full 2> err
+  same "the status" $? 1 || return 1
+  has "its cause" "$(cat err)" "ckpt: standard output: " || return 1
+  same "the store" "$("$ckpt" verify store)" "ok empty"
+}
+
+# A folder into which another export writes, as its lock tells, is left alone.
+exports_into_one_folder_exclude_each_other() {
+  command -v flock > found || { echo "needs flock"; return 77; }
+  make_store store || return 1
+  mkdir cores
+  (flock 9; ends_with 1 "cannot write OUT" "ckpt: cores: another export writes into this folder" "$ckpt" export store cores) \
+    9< cores || return 1
+  same "the files" "$(ls -A cores)" "" || return 1
+  ends_with 0 "" "" "$ckpt" export store cores
+}
+
 import_changes_one_space() {
   needs_python || return
   make_spaces || return 1
@@ -338,6 +358,8 @@ try gdb_reads_an_export
 try export_replaces_nothing_without_force
 try export_ends_as_restore_does
 try export_into_a_file_is_refused
+try import_that_is_not_printed_saves_nothing
+try exports_into_one_folder_exclude_each_other
 try import_changes_one_space
 try import_makes_the_least_free_space
 try second_import_changes_what_differs

@@ -32,6 +32,14 @@ shell_needs_a_store() {
   same "the status of a full device" $? 1
 }
 
+# An input that can't be read has its cause told.
+shell_tells_why_its_input_is_not_read() {
+  same "the status" "$("$ckpt" shell store < / > out 2> err; echo $?)" 1 || return 1
+  same "the output" "$(cat out)" "reopened none
+cannot read SCRIPT" || return 1
+  has "the cause" "$(cat err)" "ckpt: -: "
+}
+
 # Who asks through two pipes has the answer before the next request.
 shell_answers_at_once() {
   command -v python3 > found || { echo "needs python3"; return 77; }
@@ -74,5 +82,6 @@ try shell_answers_as_run_does
 try shell_goes_on_behind_a_line_that_does_not_fit
 try shell_ends_with_quit
 try shell_needs_a_store
+try shell_tells_why_its_input_is_not_read
 try shell_answers_at_once
 try client_that_is_killed_loses_nothing

@@ -75,6 +75,24 @@ counts_may_be_the_standard_error() {
 {"bytes":8264,"calls":9,"checkpoint":1,"data":1,"frozen_calls":6,"frozen_seconds":S,"in_parent":0,"of":"checkpoint","pages":1,"rounds":0,"seconds":S,"serial":1,"slot":0,"zeros":0}'
 }
 
+# A call that failed has made nothing: as many checkpoints are told as were acknowledged, whichever of the last calls fails.
+failed_calls_make_no_record() {
+  command -v cc > which || { echo "no C compiler"; return 77; }
+  cc -O2 -shared -fPIC -o fail.so "$here/fail_call.c" || return 1
+  export ASAN_OPTIONS=verify_asan_link_order=0
+  printf 'mmap 1 0x10000 4096 rw\nstore 1 0x10000 61\ncheckpoint 0\n' > script
+  COUNTED=count LD_PRELOAD=./fail.so "$ckpt" run --quiet --stats - store script > out 2> err || return 1
+  local calls number refused=0
+  calls=$(($(cat count)))
+  for number in $(seq $((calls - 9)) "$calls"); do
+    rm -rf store
+    FAILED=$number HOW=made LD_PRELOAD=./fail.so "$ckpt" run --quiet --stats - store script > out 2> err
+    grep -q '^acked' out || refused=$((refused + 1))
+    same "the checkpoints, call $number of $calls" "$(grep -c '"of":"checkpoint"' err)" "$(grep -c '^acked' out)" || return 1
+  done
+  [ "$refused" -gt 0 ] || { echo "no call of $calls was refused"; return 1; }
+}
+
 summary_is_a_table() {
   printf 'mmap 1 0x10000 0x4000 rw\nstore 1 0x10000 01\ncheckpoint 1\nmerge\n' > script
   same "the status" "$(ends "$ckpt" run --strict --summary store script)" 0 || return 1
@@ -107,5 +125,6 @@ try counts_are_those_of_the_images
 try images_of_a_merge_are_counted
 try counts_of_jobs_beside_each_other
 try counts_may_be_the_standard_error
+try failed_calls_make_no_record
 try summary_is_a_table
 try counts_that_cannot_be_written

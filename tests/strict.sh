@@ -42,6 +42,8 @@ run_checks_a_script_alone() {
   printf 'mmap 1 0x10000 4096 wr\n' > unfit
   ends_with 2 "script line 1" "ckpt: unfit: line 1: field 5 has to be none, or some of rwx in this order, not \"wr\"" "$ckpt" run --check unfit || return 1
   same "the status of two words" "$(ends "$ckpt" run --check unfit store)" 2 || return 1
+  same "the status of two options" "$(ends "$ckpt" run --check unfit --stats counts)" 2 || return 1
+  [ ! -e counts ] || { echo "counts were made"; return 1; }
   same "the status without a script" "$(ends "$ckpt" run store)" 2 || return 1
   [ ! -e store ] || { echo "a store was made"; return 1; }
 }

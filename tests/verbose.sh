@@ -16,7 +16,12 @@ acked 1" "[INFO  ckpt] opener: a job has begun
     "$ckpt" $program store > wanted || return 1
     ends_with 0 "$(cat wanted)" "[INFO  ckpt] img-000: open, 8264 bytes" "$ckpt" $program -v store || return 1
     ends_with 0 "$(cat wanted)" "" "$ckpt" $program --quiet store || return 1
+    "$ckpt" $program --json store > wanted || return 1
+    ends_with 0 "$(cat wanted)" "[INFO  ckpt] img-000: open, 8264 bytes" "$ckpt" $program --json -v store || return 1
   done
+  ends_with 0 "" "[INFO  ckpt] img-000: open, 8264 bytes" "$ckpt" export -v store cores || return 1
+  same "the status" "$(ends "$ckpt" import -vv imported cores/space-1.core)" 0 || return 1
+  has "its calls" "$(cat err)" "[DEBUG ckpt] img-000: sync: done" || return 1
   ends_with 0 "merged 2" "[INFO  ckpt] img-000: open, 8264 bytes
 [INFO  ckpt] opener: a job has begun
 [INFO  ckpt] opener: the job has ended

@@ -164,7 +164,7 @@ fn has_request(line: &[u8]) -> bool {
     !line.is_empty() && !line.starts_with(b"#")
 }
 
-/// A writer of answers, each of which is noted.
+/// A writer of answers, each of which is noted once it is written, or its last part is.
 #[derive(Drop)]
 pub struct Noted<'a, W> {
     course: &'a Course<'a>,
@@ -182,7 +182,9 @@ impl<W: Write> Write for Noted<'_, W> {
 
     fn write(&mut self, bytes: &[u8]) -> io::Result<usize> {
         let ended = self.writer.write(bytes);
-        self.course.note(bytes);
+        if matches!(ended, Ok(count) if count == bytes.len()) {
+            self.course.note(bytes);
+        }
         ended
     }
 

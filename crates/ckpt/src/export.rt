@@ -2,24 +2,26 @@
 
 use crate::cause::{Causes, tell, tell_device};
 use crate::folders::open_store;
+use crate::reading::tell_beside;
+use crate::verbose::{is_watched, logger_for, seen_by, unseen};
 use clap::ArgMatches;
 use sd_areas::SpaceId;
-use sd_disk::{DirDisk, is_being_written};
+use sd_disk::Disk;
 use sd_elf::{CoreFiles, HoleFile, WriteError, image_fronts, write_shown};
 use sd_exit::{Output, Stop, exit};
 use sd_image::SpaceTable;
 use sd_restore::Fault;
 use std::alloc::{AllocError, Global};
-use std::fs::File;
+use std::fs::{File, TryLockError};
 use std::io::Write;
 use std::rt::Files;
 use std::{fs, io};
 
-/// What is told of a store that changed meanwhile.
-const BESIDE: &str = "a run is writing this store; try again when it has ended";
-
 /// What is told of files that stand where some are to be written.
 const IS_THERE: &str = "the file is there already; with --force it is replaced";
+
+/// What is told of a folder that another export has locked.
+const IS_LOCKED: &str = "another export writes into this folder";
 
 /// What is told of a space that the store doesn't show.
 const NO_SPACE: &str = "the store shows no such space";
@@ -34,6 +36,8 @@ struct Export<'a, R> {
     wanted: Option<u64>,
     /// Whether files that are there are replaced.
     replaces: bool,
+    /// The lock of the folder, while files are written there.
+    lock: Option<File>,
     /// The spaces whose files were begun.
     begun: Vec<SpaceId>,
 }
@@ -48,6 +52,16 @@ fn core_name(alloc: Global, folder: &str, space: SpaceId) -> Result<String, Allo
 fn part_name(alloc: Global, folder: &str, space: SpaceId) -> Result<String, AllocError> {
     let number = space.number();
     format!(in alloc; "{folder}/.space-{number}.core.part")
+}
+
+/// Takes the advisory lock of a folder, or fails where another export has it.
+fn lock_folder(rt: &impl Files<File = File>, folder: &str) -> io::Result<File> {
+    let lock = File::open(rt, folder)?;
+    match lock.try_lock() {
+        Ok(()) => Ok(lock),
+        Err(TryLockError::WouldBlock) => Err(io::Error::new(io::ErrorKind::WouldBlock, IS_LOCKED)),
+        Err(TryLockError::Error(error)) => Err(error),
+    }
 }
 
 /// Makes an empty file, in place of one that an export left that was cut off.
@@ -104,17 +118,17 @@ impl<R: Files<File = File>> CoreFiles for Export<'_, R> {
     ghost wanted = { λ _ _. true };
 
     fn check(&mut self, spaces: &[SpaceTable]) -> io::Result<()> {
-        let mut count = 0u64;
+        if !spaces.iter().any(|space| self.is_wanted(space.space)) {
+            return Err(io::Error::new(io::ErrorKind::NotFound, NO_SPACE));
+        }
+        fs::create_dir_all(self.rt, self.folder)?;
+        self.lock = Some(lock_folder(self.rt, self.folder)?);
         for space in spaces {
             if self.is_wanted(space.space) {
                 self.check_free(space.space)?;
-                count = count.saturating_add(1);
             }
         }
-        if count == 0 {
-            return Err(io::Error::new(io::ErrorKind::NotFound, NO_SPACE));
-        }
-        fs::create_dir_all(self.rt, self.folder)
+        Ok(())
     }
 
     fn begin(&mut self, space: SpaceId) -> io::Result<Option<HoleFile>> {
@@ -132,8 +146,8 @@ impl<R: Files<File = File>> CoreFiles for Export<'_, R> {
 }
 
 /// Writes the files of a store whose images stay the same meanwhile.
-fn write_files<R: Files<File = File>>(
-    disk: &mut DirDisk,
+fn write_files<D: Disk, R: Files<File = File>>(
+    disk: &mut D,
     export: &mut Export<'_, R>,
 ) -> Result<(), WriteError> {
     let before = image_fronts(export.alloc, disk)?;
@@ -166,29 +180,33 @@ fn ended_with<W: Write>(
 
 /// `ckpt export`: it only reads the store.
 pub fn export_program<W: Write>(
-    rt: &(impl Files<File = File> + Eprint + AllocGlobal),
+    rt: &HostRuntime,
     causes: Causes,
     words: &ArgMatches<'_>,
     out: &mut Output<W>,
 ) -> Result<u8, Stop> {
     let store = words.get_str("DIR").unwrap_or("");
     let folder = words.get_str("OUT").unwrap_or("");
-    let mut disk = open_store(rt, causes, store)?;
+    let disk = open_store(rt, causes, store)?;
+    let log = logger_for(rt, words);
+    let seen = seen_by(rt, &log, words, is_watched(rt, causes));
+    let mut disk = seen.disk("export", disk);
     let mut export = Export {
         rt,
         alloc: rt.alloc(),
         folder,
         wanted: words.get_one::<u64>("space"),
         replaces: words.get_flag("force"),
+        lock: None,
         begun: Vec::new(rt.alloc()),
     };
     let ended = write_files(&mut disk, &mut export);
     if ended.is_err() {
         export.remove_all();
     }
-    tell_device(rt, causes, store, &disk);
-    if matches!(ended, Err(WriteError::Fault(_))) && is_being_written(rt, store) {
-        tell(rt, causes, store, &BESIDE);
+    tell_device(rt, causes, store, &unseen(disk));
+    if matches!(ended, Err(WriteError::Fault(_))) {
+        tell_beside(rt, causes, store);
     }
     Ok(exit(&ended_with(rt, causes, folder, ended, out), out))
 }

@@ -21,7 +21,7 @@ that is refused or answered segv; 2 where a line of SCRIPT doesn't fit the langu
 line N: nothing is run) or the command line doesn't; with --restore, 3 where the store shows
 no checkpoint afterwards.
 
-Only one run at a time can have a store open.";
+Only one of run, shell, merge, mutate and import can have a store open at a time.";
 
 pub const SHELL: &str = "Example:
   printf 'mmap 1 0x10000 4096 rw\\ncheckpoint 0\\n' | ckpt shell store
@@ -35,7 +35,7 @@ Status: 0 at the end of the input, also where requests were refused; 1 where the
 device, memory, the input or the printing failed (damaged SSS WHY, device, out-of-memory,
 cannot open DIR, cannot read SCRIPT); 2 for a fault of the command line.
 
-Only one program at a time can have a store open that is run, merged or mutated.";
+Only one of run, shell, merge, mutate and import can have a store open at a time.";
 
 pub const RESTORE: &str = "Example:
   ckpt restore store
@@ -86,7 +86,7 @@ Status: 0 where the chain was merged; 1 where the merge was refused, or the stor
 device, memory or the printing failed (damaged SSS WHY, device, out-of-memory, cannot open
 DIR); 2 for a fault of the command line.
 
-Only one program at a time can have a store open that is run or merged.";
+Only one of run, shell, merge, mutate and import can have a store open at a time.";
 
 pub const MUTATE: &str = "Example:
   ckpt mutate store 4
@@ -102,7 +102,7 @@ the store has an image (store not empty), or the store, its device, memory or th
 failed (damaged SSS WHY, device, out-of-memory, cannot open DIR); 2 for a fault of the command
 line.
 
-Only one program at a time can have a store open that is run, merged or mutated.";
+Only one of run, shell, merge, mutate and import can have a store open at a time.";
 
 pub const EXPORT: &str = "Example:
   ckpt export store cores
@@ -128,6 +128,7 @@ kernel's addresses are left out; what a segment doesn't have in the file is zero
 Status: 0 where the checkpoint was acknowledged; 1 where CORE isn't read (not a core, core too large,
 cannot read CORE), another program changed it meanwhile (core changed), a request was refused (refused
 N NAME), or the store, its device, memory or the printing failed (damaged SSS WHY, device,
-out-of-memory, cannot open DIR): nothing is saved then; 2 for a fault of the command line.
+out-of-memory, cannot open DIR); 2 for a fault of the command line. With status 1 nothing is saved, but
+where the device failed at the checkpoint's last step or acked N wasn't printed: verify tells then.
 
-Only one program at a time can have a store open that is run, merged or mutated.";
+Only one of run, shell, merge, mutate and import can have a store open at a time.";

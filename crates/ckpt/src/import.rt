@@ -2,13 +2,14 @@
 
 use crate::cause::{Causes, tell, tell_device};
 use crate::folders::make_store;
+use crate::verbose::{is_watched, logger_for, seen_by, unseen};
 use clap::ArgMatches;
 use sd_areas::SpaceId;
 use sd_command::Reply;
 use sd_disk::Disk;
 use sd_elf::{Core, ReadError, read_core};
 use sd_exit::{Output, Stop, exit};
-use sd_import::{ImportError, import_core};
+use sd_import::{ImportError, Tally, import_core};
 use sd_restore::Fault;
 use sd_run::{FRAMES, unopened};
 use sd_script::{Answer, print_answer};
@@ -31,6 +32,12 @@ fn replied<W: Write>(reply: Reply, out: &mut Output<W>) -> Stop {
     stopped(print_answer(&Answer::Reply(reply), out))
 }
 
+/// Prints what was imported, also where the output is held back, before the checkpoint is made.
+fn print_tally<W: Write>(tally: &Tally, out: &mut Output<W>) -> io::Result<()> {
+    writeln!(out, "{tally}")?;
+    out.flush()
+}
+
 /// Gives a space the memory of a core, and makes a checkpoint.
 fn import_into<D: Disk, W: Write>(
     rt: &(impl Eprint + AllocGlobal),
@@ -44,7 +51,7 @@ fn import_into<D: Disk, W: Write>(
         return Err(replied(Reply::Refused(why), out));
     }
     match import_core(rt.alloc(), world, &source.file, &source.core, order.space) {
-        Ok(tally) => writeln!(out, "{tally}")?,
+        Ok(tally) => print_tally(&tally, out)?,
         Err(error) => return Err(ended_with(rt, causes, source.name, error, out)),
     }
     match world.checkpoint(order.rounds) {
@@ -143,14 +150,17 @@ pub fn import_program<R: Clock + Wait, W: Write>(
         Err(error) => return Err(core_ended_with(rt, causes, name, error, out)),
     };
     let disk = make_store(rt, clock, causes, folder)?;
+    let log = logger_for(rt, words);
+    let seen = seen_by(rt, &log, words, is_watched(rt, causes));
+    let disk = seen.disk("opening", disk);
     match World::open(rt.alloc(), disk, FRAMES) {
         Ok(mut world) => {
             let ended = import_into(rt, causes, &mut world, &source, &order, out);
-            tell_device(rt, causes, folder, &world.close());
+            tell_device(rt, causes, folder, &unseen(world.close()));
             Ok(exit(&ended, out))
         }
         Err(OpenError { fault, disk }) => {
-            tell_device(rt, causes, folder, &disk);
+            tell_device(rt, causes, folder, &unseen(disk));
             Err(unopened(fault))
         }
     }

@@ -2,26 +2,26 @@
 
 use crate::cause::{Causes, tell, tell_device};
 use crate::folders::open_store;
-use crate::reading::{BESIDE, PAUSES};
-use sd_disk::is_being_written;
+use crate::reading::{BESIDE, PAUSES, deed_of, tell_beside};
+use crate::verbose::{Seen, unseen};
+use sd_disk::{DirDisk, is_being_written};
 use sd_exit::{Output, Stop, exit, exit_told};
 use sd_json::{Subject, fault_document, steady_document};
+use sd_readers::Reader;
 use sd_restore::Fault;
 use serde_json::Value;
 use std::alloc::Global;
-use std::fs::File;
 use std::io::Write;
-use std::rt::Files;
 use std::sync::Wait;
+use std::thread;
 use std::time::{Clock, Duration};
-use std::{io, thread};
 
-/// What a program's document tells of a store, by the program's name.
-pub fn subject_of(name: &str) -> Subject {
-    match name {
-        "list" => Subject::Images,
-        "verify" => Subject::Verdict,
-        _ => Subject::Memory,
+/// What a program's document tells of a store.
+fn subject_of(reader: Reader) -> Subject {
+    match reader {
+        Reader::Restore => Subject::Memory,
+        Reader::List => Subject::Images,
+        Reader::Verify => Subject::Verdict,
     }
 }
 
@@ -30,48 +30,63 @@ fn may_change(read: &Result<Value, Fault>) -> bool {
     matches!(read, Err(Fault::Device | Fault::Damaged { .. }))
 }
 
-/// Reads a store once. The outer error is a folder that isn't opened.
-fn read_once(
-    rt: &(impl Files<File = File> + Eprint + AllocGlobal),
-    causes: Causes,
-    subject: Subject,
-    folder: &str,
-) -> Result<Result<Value, Fault>, Stop> {
-    let mut disk = open_store(rt, causes, folder)?;
-    let read = steady_document(rt.alloc(), subject, &mut disk);
-    tell_device(rt, causes, folder, &disk);
-    Ok(read)
+/// Which program reads, which store, and what is to be seen of it.
+#[derive(Clone, Copy)]
+pub struct Asked<'a> {
+    pub seen: Seen<'a>,
+    pub causes: Causes,
+    pub reader: Reader,
+    pub folder: &'a str,
 }
 
-/// Reads a store, and while a run writes it again where that came between.
-fn read_steadily<R: Clock + Wait>(
-    rt: &(impl Files<File = File> + Eprint + AllocGlobal),
-    clock: &R,
-    causes: Causes,
-    subject: Subject,
-    folder: &str,
-) -> Result<Result<Value, Fault>, Stop> {
-    if !is_being_written(rt, folder) {
-        return read_once(rt, causes, subject, folder);
+impl Asked<'_> {
+    /// Reads the store once. The outer error is a folder that isn't opened.
+    fn read_once(self, rt: &HostRuntime) -> Result<(DirDisk, Result<Value, Fault>), Stop> {
+        let disk = open_store(rt, self.causes, self.folder)?;
+        let mut disk = self.seen.disk(deed_of(self.reader), disk);
+        let read = steady_document(rt.alloc(), subject_of(self.reader), &mut disk);
+        Ok((unseen(disk), read))
     }
-    let mut read = read_once(rt, Causes::Kept, subject, folder)?;
-    for pause in PAUSES {
-        if !may_change(&read) {
-            return Ok(read);
+
+    /// Reads a store that no run is writing.
+    fn read_alone(self, rt: &HostRuntime) -> Result<Result<Value, Fault>, Stop> {
+        let (disk, read) = self.read_once(rt)?;
+        tell_device(rt, self.causes, self.folder, &disk);
+        if may_change(&read) {
+            tell_beside(rt, self.causes, self.folder);
         }
-        thread::sleep(clock, Duration::from_millis(pause));
-        read = read_once(rt, Causes::Kept, subject, folder)?;
+        Ok(read)
     }
-    if may_change(&read) {
-        tell(rt, causes, folder, &BESIDE);
+
+    /// Reads a store that a run is writing: again where that came between.
+    fn read_beside<R: Clock + Wait>(
+        self,
+        rt: &HostRuntime,
+        clock: &R,
+    ) -> Result<Result<Value, Fault>, Stop> {
+        let (_, mut read) = self.read_once(rt)?;
+        for pause in PAUSES {
+            if !may_change(&read) {
+                return Ok(read);
+            }
+            thread::sleep(clock, Duration::from_millis(pause));
+            let (_, again) = self.read_once(rt)?;
+            read = again;
+        }
+        if may_change(&read) {
+            tell(rt, self.causes, self.folder, &BESIDE);
+        }
+        Ok(read)
     }
-    Ok(read)
 }
 
 /// Prints a document on one line.
-fn print_value<W: Write>(alloc: Global, document: &Value, out: &mut Output<W>) -> io::Result<()> {
-    let text = document.to_string(alloc)?;
-    writeln!(out, "{text}")
+fn print_value<W: Write>(alloc: Global, document: &Value, out: &mut Output<W>) -> Result<(), Stop> {
+    let Ok(text) = document.to_string(alloc) else {
+        return Err(Stop::Fault(Fault::OutOfMemory));
+    };
+    writeln!(out, "{text}")?;
+    Ok(())
 }
 
 /// Prints the document of a fault, and returns the exit status that the fault's line has.
@@ -85,14 +100,17 @@ fn print_fault<W: Write>(alloc: Global, fault: Fault, out: &mut Output<W>) -> Re
 
 /// `ckpt list`, `ckpt verify` and `ckpt restore` with `--json`.
 pub fn json_program<R: Clock + Wait, W: Write>(
-    rt: &(impl Files<File = File> + Eprint + AllocGlobal),
+    rt: &HostRuntime,
     clock: &R,
-    causes: Causes,
-    subject: Subject,
-    folder: &str,
+    asked: Asked<'_>,
     out: &mut Output<W>,
 ) -> Result<u8, Stop> {
-    match read_steadily(rt, clock, causes, subject, folder)? {
+    let read = if is_being_written(rt, asked.folder) {
+        asked.read_beside(rt, clock)?
+    } else {
+        asked.read_alone(rt)?
+    };
+    match read {
         Ok(document) => {
             print_value(rt.alloc(), &document, out)?;
             Ok(exit(&Ok(()), out))

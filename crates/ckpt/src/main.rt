@@ -36,6 +36,7 @@ use std::thread::Threads;
 use std::time::Clock;
 use verbose::{is_watched, logger_for, seen_by};
 
+mod arguments;
 mod cause;
 mod command_line;
 mod counted;
@@ -223,11 +224,17 @@ fn reader_program<R: Clock + Wait, W: Write>(
 ) -> Result<u8, Stop> {
     let folder = words.get_str("DIR").unwrap_or("");
     let causes = causes_asked(words);
-    if words.get_flag("json") {
-        return json::json_program(rt, threads, causes, json::subject_of(name), folder, out);
-    }
     let log = logger_for(rt, words);
     let seen = seen_by(rt, &log, words, is_watched(rt, causes));
+    if words.get_flag("json") {
+        let asked = json::Asked {
+            seen,
+            causes,
+            reader: reader_of(name),
+            folder,
+        };
+        return json::json_program(rt, threads, asked, out);
+    }
     if seen.is_asked() {
         return read_seen(rt, threads, seen, causes, reader_of(name), folder, out);
     }

@@ -27,7 +27,14 @@ pub type Reading = (DirDisk, u8);
 /// How long a reader waits before each further try, in milliseconds, while a run writes the store.
 pub const PAUSES: [u64; 9] = [1, 2, 5, 10, 20, 50, 100, 200, 400];
 
-/// What is told of an answer that a run may have disturbed.
+/// Tells of an answer that a run may have disturbed, where one is writing the store.
+pub fn tell_beside(rt: &(impl Files<File = File> + Eprint), causes: Causes, folder: &str) {
+    if is_being_written(rt, folder) {
+        tell(rt, causes, folder, &BESIDE);
+    }
+}
+
+/// What is told of such an answer.
 pub const BESIDE: &str = "a run is writing this store; try again when it has ended";
 
 /// What was printed of a store into a vector, with the exit status.
@@ -147,8 +154,8 @@ fn read_alone<W: Write>(
     let mut disk = open_store(rt, causes, folder)?;
     let status = read_to(rt.alloc(), reader, &mut disk, out);
     tell_device(rt, causes, folder, &disk);
-    if status == FAILED && !out.is_refused() && is_being_written(rt, folder) {
-        tell(rt, causes, folder, &BESIDE);
+    if status == FAILED && !out.is_refused() {
+        tell_beside(rt, causes, folder);
     }
     Ok((disk, status))
 }
@@ -179,7 +186,7 @@ pub fn read_store<R: Clock + Wait, W: Write>(
 }
 
 /// What is done with a store by a program that reads it.
-fn deed_of(reader: Reader) -> &'static str {
+pub fn deed_of(reader: Reader) -> &'static str {
     match reader {
         Reader::Restore => "restore",
         Reader::List => "list",
@@ -187,7 +194,7 @@ fn deed_of(reader: Reader) -> &'static str {
     }
 }
 
-/// Reads a store once, and has seen what is done. Returns the exit status.
+/// Reads a store once, and has seen what is done.
 fn read_seen_once<W: Write>(
     rt: &HostRuntime,
     seen: Seen<'_>,
@@ -195,11 +202,27 @@ fn read_seen_once<W: Write>(
     reader: Reader,
     folder: &str,
     out: &mut Output<W>,
-) -> Result<u8, Stop> {
+) -> Result<Reading, Stop> {
     let disk = open_store(rt, causes, folder)?;
     let mut disk = seen.disk(deed_of(reader), disk);
     let status = read_to(rt.alloc(), reader, &mut disk, out);
-    tell_device(rt, causes, folder, &unseen(disk));
+    Ok((unseen(disk), status))
+}
+
+/// Reads a store that no run is writing, and has seen what is done. Returns the exit status.
+fn read_seen_alone<W: Write>(
+    rt: &HostRuntime,
+    seen: Seen<'_>,
+    causes: Causes,
+    reader: Reader,
+    folder: &str,
+    out: &mut Output<W>,
+) -> Result<u8, Stop> {
+    let (disk, status) = read_seen_once(rt, seen, causes, reader, folder, out)?;
+    tell_device(rt, causes, folder, &disk);
+    if status == FAILED && !out.is_refused() {
+        tell_beside(rt, causes, folder);
+    }
     Ok(status)
 }
 
@@ -215,14 +238,15 @@ fn read_seen_beside<R: Clock + Wait, W: Write>(
     out: &mut Output<W>,
 ) -> Result<u8, Stop> {
     let mut held = Output::new(Vec::new(rt.alloc()));
-    let mut status = read_seen_once(rt, seen, causes, reader, folder, &mut held)?;
+    let (_, mut status) = read_seen_once(rt, seen, causes, reader, folder, &mut held)?;
     for pause in PAUSES {
         if status != FAILED || held.is_refused() {
             break;
         }
         thread::sleep(clock, Duration::from_millis(pause));
         held = Output::new(Vec::new(rt.alloc()));
-        status = read_seen_once(rt, seen, causes, reader, folder, &mut held)?;
+        let (_, again) = read_seen_once(rt, seen, causes, reader, folder, &mut held)?;
+        status = again;
     }
     if held.is_refused() {
         return Err(Stop::Fault(Fault::OutOfMemory));
@@ -248,7 +272,7 @@ pub fn read_seen<R: Clock + Wait, W: Write>(
     if is_being_written(rt, folder) {
         read_seen_beside(rt, clock, seen, causes, reader, folder, out)
     } else {
-        read_seen_once(rt, seen, causes, reader, folder, out)
+        read_seen_alone(rt, seen, causes, reader, folder, out)
     }
 }
 

@@ -9,7 +9,7 @@ use std::io;
 use std::io::{Input, Read};
 
 /// The name of the standard input, as a script.
-const STANDARD_INPUT: &str = "-";
+pub const STANDARD_INPUT: &str = "-";
 
 /// The bytes of a script, which is the standard input where it is named so.
 fn bytes_of(rt: &HostRuntime, script: &str) -> io::Result<Vec<u8>> {
@@ -23,13 +23,16 @@ fn bytes_of(rt: &HostRuntime, script: &str) -> io::Result<Vec<u8>> {
 
 /// Reads a script.
 pub fn read_script(rt: &HostRuntime, causes: Causes, script: &str) -> Result<Vec<u8>, Stop> {
-    bytes_of(rt, script).map_err(|error| match error.kind() {
-        io::ErrorKind::OutOfMemory => Stop::Fault(Fault::OutOfMemory),
-        _ => {
-            tell(rt, causes, script, &error);
-            Stop::CannotReadScript
-        }
-    })
+    bytes_of(rt, script).map_err(|error| unread(rt, causes, script, &error))
+}
+
+/// Why a program ends that can't read its script, with the cause.
+pub fn unread(rt: &impl Eprint, causes: Causes, script: &str, error: &io::Error) -> Stop {
+    if error.kind() == io::ErrorKind::OutOfMemory {
+        return Stop::Fault(Fault::OutOfMemory);
+    }
+    tell(rt, causes, script, error);
+    Stop::CannotReadScript
 }
 
 /// Parses a script.

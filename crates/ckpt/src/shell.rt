@@ -2,6 +2,7 @@
 
 use crate::cause::Causes;
 use crate::ends::{FewSlots, tell_few_slots, wanted_slots};
+use crate::scripts::{STANDARD_INPUT, unread};
 use sd_command::{Refusal, Reply};
 use sd_disk::Disk;
 use sd_exit::{Output, Stop};
@@ -79,8 +80,9 @@ fn answer_all<D: Disk, I: BufRead + Drop, W: Write, S: Watch>(
     prompt(asked.asking, out)?;
     let mut number = 0usize;
     for line in input.split(asked.rt.alloc(), b'\n') {
-        let Ok(line) = line else {
-            return Err(Stop::CannotReadScript);
+        let line = match line {
+            Ok(line) => line,
+            Err(error) => return Err(unread(asked.rt, asked.causes, STANDARD_INPUT, &error)),
         };
         if line.as_slice() == QUIT {
             return Ok(());

@@ -1,6 +1,7 @@
 //! How far the reading of a store is that takes long, as a line on a terminal.
 
 use crate::progress::{CLEAR, Done, Pace};
+use crate::verbose::is_open;
 use sd_disk::{DeviceError, Disk};
 use sd_image::HEADER_SIZE;
 use std::io;
@@ -107,9 +108,9 @@ pub struct Shown<'a, D> {
     disk: D,
 }
 
-/// What a slot's file has behind the header of an image, in bytes.
+/// What the file of an open slot has behind the header of an image, in bytes. A closed one isn't read.
 fn body_len<D: Disk>(disk: &mut D, slot: usize) -> u64 {
-    if slot >= disk.slots() {
+    if slot >= disk.slots() || !is_open(disk, slot) {
         return 0;
     }
     let length = disk.len(slot).unwrap_or(0);

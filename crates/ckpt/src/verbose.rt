@@ -35,7 +35,7 @@ pub fn logger_for<'a>(rt: &'a HostRuntime, words: &ArgMatches<'_>) -> Logger<'a>
 }
 
 /// Whether the gate of a slot is open.
-fn is_open<D: Disk>(disk: &mut D, slot: usize) -> bool {
+pub fn is_open<D: Disk>(disk: &mut D, slot: usize) -> bool {
     let mut gate = [0];
     slot < disk.slots() && disk.read(slot, 0, &mut gate).is_ok() && gate[0] == GATE
 }
