@@ -7,9 +7,10 @@ use crate::verbose::{is_watched, logger_for, seen_by, unseen};
 use clap::ArgMatches;
 use sd_areas::SpaceId;
 use sd_disk::Disk;
-use sd_elf::{CoreFiles, HoleFile, WriteError, image_fronts, write_shown};
+use sd_elf::{CoreFiles, HoleFile, WriteError, write_shown};
 use sd_exit::{Output, Stop, exit};
 use sd_image::SpaceTable;
+use sd_readers::fronts;
 use sd_restore::Fault;
 use std::alloc::{AllocError, Global};
 use std::fs::{File, TryLockError};
@@ -150,9 +151,9 @@ fn write_files<D: Disk, R: Files<File = File>>(
     disk: &mut D,
     export: &mut Export<'_, R>,
 ) -> Result<(), WriteError> {
-    let before = image_fronts(export.alloc, disk)?;
+    let before = fronts(export.alloc, disk)?;
     write_shown(export.alloc, disk, export)?;
-    if image_fronts(export.alloc, disk)? != before {
+    if fronts(export.alloc, disk)? != before {
         return Err(WriteError::Fault(Fault::Device));
     }
     export.rename_all()?;

@@ -6,7 +6,7 @@ use crate::reading::{BESIDE, PAUSES, deed_of, tell_beside};
 use crate::verbose::{Seen, unseen};
 use sd_disk::{DirDisk, is_being_written};
 use sd_exit::{Output, Stop, exit, exit_told};
-use sd_json::{Subject, fault_document, steady_document};
+use sd_json::{fault_document, steady_document};
 use sd_readers::Reader;
 use sd_restore::Fault;
 use serde_json::Value;
@@ -15,15 +15,6 @@ use std::io::Write;
 use std::sync::Wait;
 use std::thread;
 use std::time::{Clock, Duration};
-
-/// What a program's document tells of a store.
-fn subject_of(reader: Reader) -> Subject {
-    match reader {
-        Reader::Restore => Subject::Memory,
-        Reader::List => Subject::Images,
-        Reader::Verify => Subject::Verdict,
-    }
-}
 
 /// Whether another try may answer otherwise while a run writes the store.
 fn may_change(read: &Result<Value, Fault>) -> bool {
@@ -44,7 +35,7 @@ impl Asked<'_> {
     fn read_once(self, rt: &HostRuntime) -> Result<(DirDisk, Result<Value, Fault>), Stop> {
         let disk = open_store(rt, self.causes, self.folder)?;
         let mut disk = self.seen.disk(deed_of(self.reader), disk);
-        let read = steady_document(rt.alloc(), subject_of(self.reader), &mut disk);
+        let read = steady_document(rt.alloc(), self.reader, &mut disk);
         Ok((unseen(disk), read))
     }
 

@@ -11,5 +11,5 @@ mod verdict;
 pub use fault::fault_document;
 pub use images::images_document;
 pub use memory::memory_document;
-pub use moment::{Subject, steady_document};
+pub use moment::steady_document;
 pub use verdict::verdict_document;

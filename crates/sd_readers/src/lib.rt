@@ -12,5 +12,5 @@ mod verify;
 pub use held::print_held;
 pub use list::list_to;
 pub use restore::restore_to;
-pub use steady::Reader;
+pub use steady::{Front, Reader, fronts};
 pub use verify::verify_to;

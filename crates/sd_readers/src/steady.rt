@@ -30,7 +30,7 @@ pub enum Reader {
 const FRONT: usize = 96;
 
 /// The front of an open image's file. None of a slot that is closed, or in which an image is being made.
-type Front = Option<[u8; FRONT]>;
+pub type Front = Option<[u8; FRONT]>;
 
 /// Prints what a program prints of a store.
 fn print_by<D: Disk, W: Write>(
@@ -82,8 +82,13 @@ fn front_of<D: Disk>(disk: &mut D, slot: usize) -> Result<Front, DeviceError>
     Ok((bytes[0] == GATE).then_some(bytes))
 }
 
-/// The fronts of all slots' files. As long as they stay the same, so do the images.
-fn fronts<D: Disk>(alloc: Global, disk: &mut D) -> Result<Vec<Front>, Fault>
+/// The fronts of all slots' files. As long as they stay the same, so do the open images, since a serial is never given
+/// twice: who reads a store beside a run asks before and behind what it reads, and gives up where they differ.
+///
+/// # Errors
+///
+/// Where a call of the device failed or memory was refused.
+pub fn fronts<D: Disk>(alloc: Global, disk: &mut D) -> Result<Vec<Front>, Fault>
     ensures unnamed { IfErr result (FaultNames (λ _ _. ⊥)) }
     ensures empty { result ≢ Err fault.EmptyChain }
     ensures reads { OnlyReads D.Disk disk.old disk.new }
