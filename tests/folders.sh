@@ -71,7 +71,7 @@ slots_that_share_a_file_are_not_written() {
   ln -s ../copied/img-000 linked/img-000
   ln -s ../copied/img-000 linked/img-001
   same "the status of two links to a file" "$(ends "$ckpt" run linked script)" 1 || return 1
-  has "its cause" "$(cat err)" "linked: img-001: this file has another name"
+  has "its cause" "$(cat err)" "linked: img-001: this file has another name" || return 1
   same "the files that were made" "$(ls linked | wc -l)" 2
 }
 
