@@ -18,7 +18,13 @@ in_memory() {
   cd "$room" || return 1
 }
 
-# Makes the library, the answers of a run without failures, and what is restored behind each checkpoint: memory-0 to memory-3.
+# Checks that so many calls at least were counted: without the library none is, and no case would be tried.
+were_counted() {  # were_counted LEAST
+  [ "$(($(cat count)))" -ge "$1" ] || { echo "fewer than $1 calls were counted"; return 1; }
+}
+
+# Makes the library, the answers of a run without failures, and what is restored behind each checkpoint: memory-0 to
+# memory-3.
 prepare_calls() {
   local number=0 line
   command -v cc > /dev/null || { echo "no C compiler"; return 77; }
@@ -37,6 +43,7 @@ prepare_calls() {
   done < calls.ckpt
   rm -rf store
   COUNTED=count LD_PRELOAD=./fail.so "$ckpt" run store calls.ckpt > whole.out || return 1
+  were_counted 1 || return 1
   same "the last answer" "$(tail -n 1 whole.out)" "merged 5"
 }
 

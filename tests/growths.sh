@@ -1,8 +1,8 @@
 #!/usr/bin/env bash
 # Memory that is refused, growth by growth, to tests that were built beside the program (crates/test_failures and
 # crates/test_shared): they give what was refused once more, and pass all the same.
-# `tests/growths.sh all` refuses every growth of the threads' tests, in a quarter of an hour; the gate every 97th, and every
-# 13th.
+# `tests/growths.sh all` refuses every growth of the threads' tests, in a quarter of an hour; the gate every 97th, and
+# every 13th.
 
 # Makes the library that refuses a growth.
 growths_can_be_refused() {
@@ -10,15 +10,20 @@ growths_can_be_refused() {
   cc -O2 -shared -fPIC -o refuse.so "$here/refuse_growth.c"
 }
 
-# Whether a run ended since no thread could be made: the mutators then come behind the dumper, which has waited for them in vain.
+# Whether a run ended since no thread could be made: the mutators then come behind the dumper, which has waited for them
+# in vain.
 lacks_a_thread() { grep -q '^  left: (Err(Idle), Err(Idle))$' out err; }
 
 # Runs a test once for each growth, or once for so many of them, which is refused. Growths are counted from 1.
 pass_without() {  # pass_without CRATE TEST STEP [FIRST]
   local program=$here/../crates/$1/out/$1_tests number=${4:-1}
   [ -x "$program" ] || { echo "$1 isn't built"; return 77; }
-  while REFUSED=$number LD_PRELOAD=./refuse.so timeout 60 "$program" "$2" > out 2> err || lacks_a_thread; do
-    grep -q '^growth refused$' err || { echo "$number" > ended; return 0; }
+  while timeout 60 env REFUSED="$number" LD_PRELOAD=./refuse.so "$program" "$2" > out 2> err || lacks_a_thread; do
+    if ! grep -q '^growth refused$' err; then
+      [ "$number" -gt 1 ] || { echo "$2: no growth was refused"; return 1; }
+      echo "$number" > ended
+      return 0
+    fi
     number=$((number + $3))
   done
   echo "$2, growth $number"
@@ -60,6 +65,7 @@ refuse_all() {
   here=$(cd "$(dirname "${BASH_SOURCE[0]}")" && pwd)
   local room status jobs
   jobs=${JOBS:-$(nproc)}
+  [ "$jobs" -ge 1 ] || jobs=1
   room=$(mktemp -d) && cd "$room" || return
   growths_can_be_refused && refuse_each threads "$jobs" && refuse_each twenty_pages "$jobs"
   status=$?

@@ -125,6 +125,7 @@ a_failing_device_is_a_document() {
   export ASAN_OPTIONS=verify_asan_link_order=0
   make_store store || return 1
   COUNTED=count LD_PRELOAD=./fail.so "$ckpt" restore store --json > out || return 1
+  were_counted 5 || return 1
   local calls number
   calls=$(($(cat count)))
   for number in $(seq 5 $((calls / 20 + 1)) "$calls"); do

@@ -1,5 +1,11 @@
 # The man page and the completion have the options that the program has.
 
+# The programs that the help names, one a line: the file programs. It names some.
+find_programs() {
+  "$ckpt" --help | sed -n '/^Commands:/,/^$/s/^  \([a-z]*\) .*/\1/p' > programs
+  [ -s programs ] || { echo "the help names no program"; return 1; }
+}
+
 # The options of a program, as its help has them.
 options_of() {  # options_of PROGRAM
   "$ckpt" "$1" --help | grep -oE '^ +(-., )?--[a-z]+' | grep -oE -- '--[a-z]+' | sort -u
@@ -15,10 +21,13 @@ manual_is_shown_without_a_warning() {
 manual_has_each_program_and_option() {
   local program option
   sed 's/\\-/-/g' "$here/../docs/ckpt.1" > page
-  for program in $("$ckpt" --help | sed -n '/^Commands:/,/^$/s/^  \([a-z]*\) .*/\1/p'); do
+  find_programs || return 1
+  for program in $(cat programs); do
     [ "$program" = help ] && continue
     has "$program" "$(cat page)" ".B $program" || return 1
-    for option in $(options_of "$program"); do
+    options_of "$program" > options
+    [ -s options ] || { echo "the help of $program names no option"; return 1; }
+    for option in $(cat options); do
       has "$program" "$(cat page)" "$option" || return 1
     done
   done
@@ -36,7 +45,8 @@ offered() {  # offered WORD..
 completion_offers_programs_options_and_folders() {
   . "$here/../docs/ckpt.bash"
   local program
-  for program in $("$ckpt" --help | sed -n '/^Commands:/,/^$/s/^  \([a-z]*\) .*/\1/p'); do
+  find_programs || return 1
+  for program in $(cat programs); do
     has "the programs" " $(offered "") " " $program " || return 1
   done
   for program in run shell merge mutate restore list verify show export import; do

@@ -9,17 +9,17 @@ memory_of() {  # memory_of THREADS
   done
 }
 
-# The images of the store's chain, from the newest one back along their parents, each with its kind and its checkpoint; and how
-# many images are open.
+# The images of the store's chain, from the newest one back along their parents, each with its kind and its checkpoint;
+# and how many images are open.
 chain() {
   awk '/^slot / { image[$7] = $3 " " $11; parent[$7] = $9; open++ }
     /^tip / { at = $2 }
     END { while (at != 0 && ++seen <= open) { printf "%s, ", image[at]; at = parent[at] } print open " open" }' "$@"
 }
 
-# Looks at what a run of so many threads left: eight images were made, three for each of the first two checkpoints, one by the
-# merge, and the last one for the third checkpoint. The merged one stands for the first checkpoint's dump, and its two rounds
-# are gone; or, where the merge came late, for the second one's.
+# Looks at what a run of so many threads left: eight images were made, three for each of the first two checkpoints, one
+# by the merge, and the last one for the third checkpoint. The merged one stands for the first checkpoint's dump, and
+# its two rounds are gone; or, where the merge came late, for the second one's.
 is_whole() {  # is_whole THREADS
   same "the memory of $1" "$("$ckpt" restore store)" "$(memory_of "$1")" || return 1
   "$ckpt" list store > list
@@ -47,7 +47,8 @@ a_hundred_runs_of_threads_end_so() {
   for run in $(seq $runs); do
     threads=$((2 + run % 7))
     rm -rf store
-    same "run $run of $threads threads" "$("$ckpt" mutate store $threads)" "threads $threads stores ${threads}000 acked 3
+    same "run $run of $threads threads" "$("$ckpt" mutate store $threads)" \
+      "threads $threads stores ${threads}000 acked 3
 close ok" || return 1
     is_whole "$threads" || return 1
   done
@@ -76,7 +77,8 @@ threads_are_one_to_eight() {
   same "the status of 8" "$(ends "$ckpt" mutate store 8)" 0
 }
 
-# Checks what a run of four threads ended with: it wasn't stopped, and it says that it ended well only where nothing is missing.
+# Checks what a run of four threads ended with: it wasn't stopped, and it says that it ended well only where nothing is
+# missing.
 mutate_ended() {  # mutate_ended STATUS
   case $1 in
     0) same "the output" "$(cat out)" "threads 4 stores 4000 acked 3
@@ -91,22 +93,24 @@ mutate_without() {  # mutate_without THREAD STEP COUNT
   local number=1
   while :; do
     rm -rf store
-    REFUSED=$number REFUSED_THREAD=$1 REFUSED_COUNT=$3 LD_PRELOAD=./refuse.so timeout 10 "$ckpt" mutate store 4 > out 2> err
+    timeout 10 env REFUSED="$number" REFUSED_THREAD="$1" REFUSED_COUNT="$3" LD_PRELOAD=./refuse.so \
+      "$ckpt" mutate store 4 > out 2> err
     mutate_ended $? || { echo "thread $1, growth $number, $3 refused"; return 1; }
-    grep -q '^growth refused$' err || return 0
+    grep -q '^growth refused$' err || break
     number=$((number + $2))
   done
+  [ "$number" -gt 1 ] || { echo "thread $1: no growth was refused"; return 1; }
 }
 
-# Of the first thread, which opens the store and makes the last checkpoint, of the one that makes the others, and of a mutator.
-# Of a build with checks fewer growths.
+# Of the first thread, which opens the store and makes the last checkpoint, of the one that makes the others, and of a
+# mutator.
 mutate_is_refused_memory() {
+  [ -z "${CHECKED:-}" ] || { echo "a build with checks has an allocator of its own"; return 77; }
   growths_can_be_refused || return
-  local thread few=7 many=97
-  [ -z "${CHECKED:-}" ] || few=23 many=397
-  mutate_without 1 $few 1 && mutate_without 1 $few 1000000 || return
+  local thread
+  mutate_without 1 7 1 && mutate_without 1 7 1000000 || return
   for thread in 0 2; do
-    mutate_without "$thread" $many 1 && mutate_without "$thread" $many 1000000 || return
+    mutate_without "$thread" 97 1 && mutate_without "$thread" 97 1000000 || return
   done
 }
 
