@@ -8,10 +8,11 @@ write_calls_script() {
 }
 
 # Every answer that the script may give where calls fail.
-answers_of_calls='reopened none|done|acked [123]|merged [345]|refused (6 frozen|10 not-open|11 busy|13 store-down|14 idle|22 device)|device'
-answers_of_calls="$answers_of_calls|cannot open DIR|cannot read SCRIPT"
+answers_of_calls='reopened none|done|acked [123]|merged [345]|device|cannot open DIR|cannot read SCRIPT'
+answers_of_calls="$answers_of_calls|refused (6 frozen|10 not-open|11 busy|13 store-down|14 idle|22 device)"
 
-# Goes to a folder in memory where there is one: how a call ends is what matters here, and a real disk's syncs take minutes.
+# Goes to a folder in memory where there is one: how a call ends is what matters here, and a real disk's syncs take
+# minutes.
 in_memory() {
   room=$(mktemp -d -p /dev/shm 2> /dev/null || mktemp -d -p "$PWD") || return 1
   trap 'rm -rf "$room"' EXIT
@@ -82,7 +83,8 @@ keeps_what_was_acknowledged() {
 
 # An answer tells that a call failed. Without the limits of the process a run goes on.
 tells_of_failure() {
-  [ "$(cat called)" = /proc/self/limits ] || ! cmp -s out whole.out || { echo "no answer tells that $(cat called) failed"; return 1; }
+  [ "$(cat called)" = /proc/self/limits ] || ! cmp -s out whole.out \
+    || { echo "no answer tells that $(cat called) failed"; return 1; }
 }
 
 # One call fails: an answer tells of it, each is a named one, and nothing that was acknowledged is lost.

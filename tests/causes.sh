@@ -1,9 +1,10 @@
-# What is told on the standard error behind a fixed line: the cause, and what may help. The standard output stays as it is.
+# What is told on the standard error behind a fixed line: the cause, and what may help. The standard output stays as it
+# is.
 
 # A damaged slot in words, by each program that opens the store; and nothing with --quiet.
 damage_is_told_in_words() {
-  local told="ckpt: store: img-000 is damaged: the digest is not that of the file; ckpt show store 0 tells more, and an older \
-copy of the file may help"
+  local told="ckpt: store: img-000 is damaged: the digest is not that of the file; ckpt show store 0 tells more, and \
+an older copy of the file may help"
   hello_store 2 || return 1
   flip 5000
   echo 'mmap 1 0 4096 r' > script
@@ -17,16 +18,18 @@ copy of the file may help"
 # A broken chain is told with the list, which still has the images.
 broken_chains_are_told() {
   store_of "2 2 2 2 1 1 parent"
-  ends_with 1 "damaged 000 18" "ckpt: store: img-000 is damaged: a page is in a parent that does not have it; ckpt show store 0 \
-tells more, ckpt list store has the images that are there, and an older copy of the file may help" "$ckpt" verify store
+  ends_with 1 "damaged 000 18" "ckpt: store: img-000 is damaged: a page is in a parent that does not have it; \
+ckpt show store 0 tells more, ckpt list store has the images that are there, and an older copy of the file may help" \
+    "$ckpt" verify store
 }
 
 # A store of 63 images, or of 64.
 fill_store() {  # fill_store COUNT
-  local serial made
+  local serial first=7
   rm -rf store
   for ((serial = 1; serial <= $1; serial++)); do
-    one_page "store/img-$(printf %03d $((serial - 1)))" "2 2 $serial $serial $((serial - 1)) $serial" "$([ $serial = 1 ] && echo 7 || echo parent)"
+    one_page "store/img-$(printf %03d $((serial - 1)))" "2 2 $serial $serial $((serial - 1)) $serial" "$first"
+    first=parent
   done
 }
 
@@ -64,7 +67,8 @@ begun 65" "ckpt: store: script line 1: no-slot: free slots: 1, wanted: 2; $few_s
 # A merge and a shell tell it at once.
 few_slots_are_told_at_once() {
   fill_store 64
-  ends_with 1 "refused 12 no-slot" "ckpt: store: no-slot: free slots: 0, wanted: 1; $few_slots" "$ckpt" merge store || return 1
+  ends_with 1 "refused 12 no-slot" "ckpt: store: no-slot: free slots: 0, wanted: 1; $few_slots" "$ckpt" merge store \
+    || return 1
   fill_store 63
   printf 'checkpoint 1\nmerge\ncheckpoint 0\n' > script
   ends_with 0 "reopened 63
@@ -91,7 +95,8 @@ files_that_are_no_files_are_told() {
 
 folders_without_files_are_told() {
   mkdir store
-  ends_with 0 "ok empty" "ckpt: store: it has none of the files img-000 to img-063; is it the folder that is meant?" "$ckpt" verify store || return 1
+  ends_with 0 "ok empty" "ckpt: store: it has none of the files img-000 to img-063; is it the folder that is meant?" \
+    "$ckpt" verify store || return 1
   ends_with 0 "ok empty" "" "$ckpt" verify -q store || return 1
   : > store/img-063
   ends_with 0 "ok empty" "" "$ckpt" verify store

@@ -1,4 +1,5 @@
-# The two versions of the format: the digest of each image that is written, and an image of version 1, which is read and merged.
+# The two versions of the format: the digest of each image that is written, and an image of version 1, which is read and
+# merged.
 
 # Prints bytes of a file in hexadecimal.
 bytes_of() {  # bytes_of FILE PLACE COUNT

@@ -10,8 +10,8 @@ words_are_up_to_date() { made_by words; }
 lines_are_short() { made_by wrap; }
 calls_are_up_to_date() { made_by api; }
 
-# Each file of the repository that a document names in backticks or by a link is there: in its crate, in the repository, or
-# in some crate. NAME and WHAT stand for any name.
+# Each file of the repository that a document names in backticks or by a link is there: in its crate, in the repository,
+# or in some crate. NAME and WHAT stand for any name.
 documents_name_files_that_are_there() {
   command -v python3 > found || { echo "needs python3"; return 77; }
   python3 - "$here/.." << 'PYTHON'
@@ -20,12 +20,14 @@ from pathlib import Path
 
 top = Path(sys.argv[1]).resolve()
 pages = [*top.glob("*.md"), *top.glob("docs/*.md"), *top.glob("crates/*/README.md")]
-named = re.compile(r"`((?:crates|docs|tests|bench|examples|specs|src|proofs|sd_\w+|test_\w+)/[\w./-]*[\w])`|\]\(([^)#:\s]+)[^)]*\)")
+first = r"(?:crates|docs|tests|bench|examples|specs|src|proofs|sd_\w+|test_\w+)"
+named = re.compile(rf"`({first}/[\w./-]*[\w])`|\]\(([^)#:\s]+)[^)]*\)")
 crates = sorted(path for path in (top / "crates").iterdir())
 
 def is_there(page, name):
     folders = [page.parent] if page.parent.parent.name == "crates" else crates
-    return any(next(folder.glob(name + end), None) for folder in [page.parent, top, top / "crates", *folders] for end in ("", ".*"))
+    folders = [page.parent, top, top / "crates", *folders]
+    return any(next(folder.glob(name + end), None) for folder in folders for end in ("", ".*"))
 
 wrong = [
     f"{page.relative_to(top)} names {name}"

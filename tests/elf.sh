@@ -114,7 +114,8 @@ export_ends_as_restore_does() {
   ends_with 3 "empty chain" "" "$ckpt" export store cores || return 1
   ends_with 1 "cannot open DIR" "$(ends "$ckpt" restore none > status; cat err)" "$ckpt" export none cores || return 1
   make_spaces || return 1
-  ends_with 1 "cannot write OUT" "ckpt: cores: the store shows no such space" "$ckpt" export store cores --space 9 || return 1
+  ends_with 1 "cannot write OUT" "ckpt: cores: the store shows no such space" "$ckpt" export store cores --space 9 \
+    || return 1
   put_byte store/img-000 100 1
   same "the status" "$(ends "$ckpt" export store cores)" 1 || return 1
   same "the fault" "$(cat out)" "$("$ckpt" restore store)" || return 1
@@ -146,8 +147,8 @@ exports_into_one_folder_exclude_each_other() {
   command -v flock > found || { echo "needs flock"; return 77; }
   make_store store || return 1
   mkdir cores
-  (flock 9; ends_with 1 "cannot write OUT" "ckpt: cores: another export writes into this folder" "$ckpt" export store cores) \
-    9< cores || return 1
+  (flock 9; ends_with 1 "cannot write OUT" "ckpt: cores: another export writes into this folder" \
+    "$ckpt" export store cores) 9< cores || return 1
   same "the files" "$(ls -A cores)" "" || return 1
   ends_with 0 "" "" "$ckpt" export store cores
 }
@@ -211,8 +212,8 @@ is_refused() {  # is_refused CORE LINE CAUSE
 }
 
 # Each read of an import in turn gives another first byte, as where somebody else writes the file meanwhile: what is
-# acknowledged is the memory of the file, or nothing is saved. A page that is read in two ways is told as `core changed`.
-# A build with checks tries every second read.
+# acknowledged is the memory of the file, or nothing is saved. A page that is read in two ways is told as
+# `core changed`. A build with checks tries every second read.
 core_that_changes_is_not_saved() {
   local number count said=0 step=1
   [ -z "${CHECKED:-}" ] || step=2
@@ -231,7 +232,8 @@ core_that_changes_is_not_saved() {
       acked*) same "what read $number leaves" "$("$ckpt" restore store)" "$(cat whole)" || return 1 ;;
       "core changed") said=$((said + 1)) ;;
     esac
-    [ "$(tail -n 1 out)" = "acked 1" ] || [ ! -e store ] || same "the store of read $number" "$("$ckpt" verify store)" "ok empty" || return 1
+    [ "$(tail -n 1 out)" = "acked 1" ] || [ ! -e store ] \
+      || same "the store of read $number" "$("$ckpt" verify store)" "ok empty" || return 1
   done
   [ "$said" -ge $((3 - step)) ] || { echo "core changed was told $said times of $count"; return 1; }
 }
@@ -270,7 +272,8 @@ cut_headers_are_told() {
   is_refused cut "not a core" "segment 1 ends behind the file"
 }
 
-# Fields of the second program header, which begins at byte 120: its offset 8, address 16, size in the file 32, in memory 40.
+# Fields of the second program header, which begins at byte 120: its offset 8, address 16, size in the file 32, in
+# memory 40.
 segments_that_no_space_has_are_told() {
   needs_python || return
   one_area_core 1 > core

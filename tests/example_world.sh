@@ -20,7 +20,8 @@ ledger_that_is_killed_loses_nothing() {
     [ ! -s err ] || { cat err; return 1; }
     acked=$(sed -n '$s/^acked //p' told | grep . || echo "$acked")
     had=$(ledger_had)
-    [ "$had" = "$acked" ] || [ "$had" = $((acked + 100)) ] || { echo "$acked was acknowledged, and there is $had"; return 1; }
+    [ "$had" = "$acked" ] || [ "$had" = $((acked + 100)) ] \
+      || { echo "$acked was acknowledged, and there is $had"; return 1; }
     acked=$had
   done
 }

@@ -33,8 +33,8 @@ files_are_synced_before_the_store_is_opened() {
     END { exit !(made == 64 && synced) }' calls-of-run || { grep -c O_CREAT calls-of-run; return 1; }
 }
 
-# The calls on a slot's file, a letter each: z a 0 and o an open gate at its first byte, h the header, d what stands behind
-# it, t a cut, s a sync.
+# The calls on a slot's file, a letter each: z a 0 and o an open gate at its first byte, h the header, d what stands
+# behind it, t a cut, s a sync.
 calls_on() {  # calls_on SLOT
   awk -v file="img-$1>" '
     !index($0, file) { next }
@@ -45,8 +45,8 @@ calls_on() {  # calls_on SLOT
     /^pwrite64/ { printf "d" }' calls-of-run
 }
 
-# The opening syncs each file twice. Then a file is closed, synced and cut, its body written and synced, and it is opened and
-# synced; one that isn't needed any more is closed, synced and cut.
+# The opening syncs each file twice. Then a file is closed, synced and cut, its body written and synced, and it is
+# opened and synced; one that isn't needed any more is closed, synced and cut.
 calls_on_a_slot_have_their_order() {
   printf '%s\n' 'mmap 1 0x10000 8192 rw' 'store 1 0x10000 61' 'store 1 0x11000 62' 'checkpoint 0' 'store 1 0x11000 63' \
     'checkpoint 0' merge > script
@@ -78,9 +78,10 @@ slots_that_share_a_file_are_not_written() {
 a_link_that_leads_nowhere_is_told() {
   make_store store || return 1
   ln -s missing store/img-001 2> /dev/null || { rm store/img-001; ln -s missing store/img-001; }
-  local program
+  local program script
   for program in restore list verify merge "run --quiet"; do
-    same "the status of $program" "$(ends "$ckpt" $program store $([ "$program" != "run --quiet" ] || echo script))" 1 || return 1
+    script=$([ "$program" != "run --quiet" ] || echo script)
+    same "the status of $program" "$(ends "$ckpt" $program store $script)" 1 || return 1
     same "$program" "$(cat out)" "cannot open DIR" || return 1
   done
   ends "$ckpt" verify store > status

@@ -100,7 +100,8 @@ faults_are_documents() {
     hello_store 2 || return 1
     change $changes
     agree || return
-    grep -qF "{\"fault\":\"damaged\",\"reason\":${fault%% *},\"slot\":0,\"why\":\"${fault#* }\"}" verify.json || { cat verify.json; return 1; }
+    grep -qF "{\"fault\":\"damaged\",\"reason\":${fault%% *},\"slot\":0,\"why\":\"${fault#* }\"}" verify.json \
+      || { cat verify.json; return 1; }
   done <<< "1=0|1 bytes 1 to 7 are not SDCHAIN
 8=3|2 the version is neither 1 nor 2
 8256=3|16 bytes remain behind the table, or its pages are not as many as they have to be"
@@ -150,10 +151,11 @@ documents_beside_a_run() {
     done; } > script
   "$ckpt" run store script > answers &
   local run=$! reads=0 last=0
+  local shape='^\{"checkpoint":([0-9]+),"pages":2,"spaces":\[\{"areas":\[\{"count":2,"first":16,"permissions":3\}\].*'
   while kill -0 $run 2> /dev/null; do
     "$ckpt" restore --json store > shown 2> err
     case $(cat shown) in
-      '{"checkpoint":'*) number=$(sed -nE 's/^\{"checkpoint":([0-9]+),"pages":2,"spaces":\[\{"areas":\[\{"count":2,"first":16,"permissions":3\}\].*/\1/p' shown)
+      '{"checkpoint":'*) number=$(sed -nE "s/$shape/\1/p" shown)
         [ -n "$number" ] && [ "$number" -ge "$last" ] || { kill $run; echo "behind $last"; cat shown; return 1; }
         last=$number
         reads=$((reads + 1)) ;;

@@ -50,7 +50,8 @@ completion_offers_programs_options_and_folders() {
     has "the programs" " $(offered "") " " $program " || return 1
   done
   for program in run shell merge mutate restore list verify show export import; do
-    same "the options of $program" "$(offered "$program" -- | tr ' ' '\n' | sort)" "$(options_of "$program")" || return 1
+    same "the options of $program" "$(offered "$program" -- | tr ' ' '\n' | sort)" "$(options_of "$program")" \
+      || return 1
   done
   mkdir stores
   same "a folder" "$(offered restore st)" stores

@@ -51,7 +51,8 @@ a_job_that_takes_long_is_shown() {
   slow_writes || return
   of_pages 100 > script
   on_terminal "$ckpt" run store script > shown || { cat shown; return 1; }
-  is_shown 'script line 102 of 102: checkpoint: [0-9]+ %, [0-9]+ s left, [0-9]+ of 100 pages written into this image, frozen' || return 1
+  is_shown 'script line 102 of 102: checkpoint: [0-9]+ %, [0-9]+ s left, [0-9]+ of 100 pages written into this image, '\
+'frozen' || return 1
   rm -rf store
   on_terminal "$ckpt" run --quiet store script > shown || { cat shown; return 1; }
   same "what a quiet run shows" "$(cat shown)" ""
@@ -70,7 +71,9 @@ a_merge_that_takes_long_is_shown() {
 a_script_that_takes_long_is_shown() {
   slow_writes || return
   local step
-  { of_pages 100 | grep -v checkpoint; echo 'begin 0'; for ((step = 0; step < 500; step++)); do echo 'step dumper 1'; done; } > script
+  { of_pages 100 | grep -v checkpoint
+    echo 'begin 0'
+    for ((step = 0; step < 500; step++)); do echo 'step dumper 1'; done; } > script
   on_terminal "$ckpt" run store script > shown || { cat shown; return 1; }
   is_shown 'script line [0-9]+ of 602: [0-9]+ %, [0-9]+ s left'
 }

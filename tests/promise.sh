@@ -1,4 +1,5 @@
-# docs/PROMISE.md, docs/BELIEVED.md, docs/CLAUSES.md and the README: what they quote, link to and list stands in the sources.
+# docs/PROMISE.md, docs/BELIEVED.md, docs/CLAUSES.md and the README: what they quote, link to and list stands in the
+# sources.
 
 sources=$(cd "$here/.." && pwd)
 headline=(sd_run run_lines promise so_far + sd_world restore_left restored)

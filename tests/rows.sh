@@ -4,7 +4,8 @@
 #   rows/NAME.list, NAME.restore, NAME.verify     what these programs print of the store then
 #   rows/NAME.bytes    what its files hold: lines `FILE OFFSET HEX`, the bytes from there on, `FILE OFFSET zeros N`, or
 #                      `FILE size N`
-#   rows/NAME.before   shell commands that are run in the store's folder before the script (put_bytes; those of images.sh)
+#   rows/NAME.before   shell commands that are run in the store's folder before the script (put_bytes; those of
+#                      images.sh)
 # Several runs over one store are NAME.1.ckpt, NAME.2.ckpt, each with files of its own.
 
 # The status that goes with what a program prints, by its last line.

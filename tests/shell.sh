@@ -43,7 +43,8 @@ cannot read SCRIPT" || return 1
 # Who asks through two pipes has the answer before the next request.
 shell_answers_at_once() {
   command -v python3 > found || { echo "needs python3"; return 77; }
-  same "the checkpoint" "$(python3 "$here/../examples/client.py" "$ckpt" store put colour green shape round)" "acked 1" || return 1
+  same "the checkpoint" "$(python3 "$here/../examples/client.py" "$ckpt" store put colour green shape round)" \
+    "acked 1" || return 1
   same "the value" "$(python3 "$here/../examples/client.py" "$ckpt" store get shape)" round || return 1
   same "a key that isn't there" "$(python3 "$here/../examples/client.py" "$ckpt" store get size)" none
 }

@@ -335,8 +335,8 @@ show_into_a_closed_descriptor() {
   same "the cause" "$(cat err)" "ckpt: standard output: No space left on device (os error 28)"
 }
 
-# Each file call that fails ends the lines of the slots before with `device`, or keeps the folder closed, or comes before the
-# program has its descriptors; and no JSON is printed then.
+# Each file call that fails ends the lines of the slots before with `device`, or keeps the folder closed, or comes
+# before the program has its descriptors; and no JSON is printed then.
 a_failing_device_ends_the_lines() {
   command -v cc > which || { echo "no C compiler"; return 77; }
   cc -O2 -shared -fPIC -o fail.so "$here/fail_call.c" || return 1

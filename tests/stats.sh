@@ -1,4 +1,5 @@
-# `run --stats` and `run --summary`: what each image, checkpoint and merge took, beside the answers, which stay as they are.
+# `run --stats` and `run --summary`: what each image, checkpoint and merge took, beside the answers, which stay as they
+# are.
 
 # The lines of a run agree with what `show` finds in the images that are left, and with each other.
 counts_agree() {  # counts_agree SCRIPT
@@ -16,7 +17,8 @@ shown = {s['header']['serial']: s for s in json.load(open('show.json'))['slots']
 kinds = {1: 'pre-dump', 2: 'dump', 3: 'merged'}
 for serial, slot in shown.items():
     line, header = images[serial], slot['header']
-    pages = {kind: sum(r['count'] for s in slot['spaces'] for r in s['runs'] if r['kind'] == kind) for kind in (1, 2, 3)}
+    runs = [r for s in slot['spaces'] for r in s['runs']]
+    pages = {kind: sum(r['count'] for r in runs if r['kind'] == kind) for kind in (1, 2, 3)}
     assert (line['data'], line['in_parent'], line['zeros']) == (pages[1], pages[2], pages[3]), (line, pages)
     assert line['pages'] == sum(pages.values()) and line['data'] == header['pages']
     assert line['slot'] == slot['slot'] and line['kind'] == kinds[header['kind']]
@@ -50,7 +52,8 @@ counts_are_those_of_the_images() {
 
 # A checkpoint of two images and one of one, merged: pages of two of the images are read, and the three are closed.
 images_of_a_merge_are_counted() {
-  printf 'mmap 1 0x10000 0x4000 rw\nstore 1 0x10000 01\ncheckpoint 1\nstore 1 0x11000 02\ncheckpoint 0\nmerge\ncheckpoint 0\n' > script
+  printf '%s\n' 'mmap 1 0x10000 0x4000 rw' 'store 1 0x10000 01' 'checkpoint 1' 'store 1 0x11000 02' 'checkpoint 0' \
+    merge 'checkpoint 0' > script
   counts_agree script || return
   grep '"of":"merge"' counts > merge
   has "the merge" "$(cat merge)" '"closed":3,"of":"merge","read":2,' || return 1
@@ -75,7 +78,8 @@ counts_may_be_the_standard_error() {
 {"bytes":8264,"calls":9,"checkpoint":1,"data":1,"frozen_calls":6,"frozen_seconds":S,"in_parent":0,"of":"checkpoint","pages":1,"rounds":0,"seconds":S,"serial":1,"slot":0,"zeros":0}'
 }
 
-# A call that failed has made nothing: as many checkpoints are told as were acknowledged, whichever of the last calls fails.
+# A call that failed has made nothing: as many checkpoints are told as were acknowledged, whichever of the last calls
+# fails.
 failed_calls_make_no_record() {
   command -v cc > which || { echo "no C compiler"; return 77; }
   cc -O2 -shared -fPIC -o fail.so "$here/fail_call.c" || return 1
@@ -88,7 +92,8 @@ failed_calls_make_no_record() {
     rm -rf store
     FAILED=$number HOW=made LD_PRELOAD=./fail.so "$ckpt" run --quiet --stats - store script > out 2> err
     grep -q '^acked' out || refused=$((refused + 1))
-    same "the checkpoints, call $number of $calls" "$(grep -c '"of":"checkpoint"' err)" "$(grep -c '^acked' out)" || return 1
+    same "the checkpoints, call $number of $calls" "$(grep -c '"of":"checkpoint"' err)" "$(grep -c '^acked' out)" \
+      || return 1
   done
   [ "$refused" -gt 0 ] || { echo "no call of $calls was refused"; return 1; }
 }
@@ -116,7 +121,8 @@ counts_that_cannot_be_written() {
   has "the cause" "$(cat err)" "ckpt: missing/counts: No such file or directory" || return 1
   [ ! -e store ] || { echo "a store was made"; return 1; }
   [ -w /dev/full ] || return 0
-  same "the status of a full device" "$(ends "$ckpt" run --stats /dev/full store "$here/../examples/first.ckpt")" 1 || return 1
+  same "the status of a full device" "$(ends "$ckpt" run --stats /dev/full store "$here/../examples/first.ckpt")" 1 \
+    || return 1
   same "the output" "$(cat out)" "$(cat "$here/../examples/first.out")" || return 1
   has "the cause" "$(cat err)" "ckpt: the counts: No space left on device"
 }

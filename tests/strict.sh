@@ -1,4 +1,5 @@
-# `run --strict`, which ends at the first request that isn't answered as it was meant; `run --check`, and a script from the standard input.
+# `run --strict`, which ends at the first request that isn't answered as it was meant; `run --check`, and a script from
+# the standard input.
 
 strict_run_ends_at_a_refusal() {
   printf '# a comment\nmmap 1 0x10000 4096 rw\ncancel\nstore 1 0x10000 68\n' > script
@@ -40,7 +41,8 @@ try strict_run_takes_no_part_of_a_script
 run_checks_a_script_alone() {
   ends_with 0 "ok 4 requests" "" "$ckpt" run --check "$here/../examples/first.ckpt" || return 1
   printf 'mmap 1 0x10000 4096 wr\n' > unfit
-  ends_with 2 "script line 1" "ckpt: unfit: line 1: field 5 has to be none, or some of rwx in this order, not \"wr\"" "$ckpt" run --check unfit || return 1
+  ends_with 2 "script line 1" "ckpt: unfit: line 1: field 5 has to be none, or some of rwx in this order, not \"wr\"" \
+    "$ckpt" run --check unfit || return 1
   same "the status of two words" "$(ends "$ckpt" run --check unfit store)" 2 || return 1
   same "the status of two options" "$(ends "$ckpt" run --check unfit --stats counts)" 2 || return 1
   [ ! -e counts ] || { echo "counts were made"; return 1; }

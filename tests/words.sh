@@ -54,7 +54,8 @@ forms_of_help() {
 
 # A line of a form, each field with a value that fits.
 line_of_form() {  # line_of_form FORM
-  sed -E 's/ SPACE/ 1/; s/ ADDRESS/ 0x10000/; s/ LENGTH/ 4096/; s/ PROT/ rw/; s/ HEX/ 6a/; s/ ROUNDS/ 0/; s/ WORKER/ dumper/; s/ [NK]$/ 1/' <<< "$1"
+  sed -E 's/ SPACE/ 1/; s/ ADDRESS/ 0x10000/; s/ LENGTH/ 4096/; s/ PROT/ rw/; s/ HEX/ 6a/
+    s/ ROUNDS/ 0/; s/ WORKER/ dumper/; s/ [NK]$/ 1/' <<< "$1"
 }
 
 # What the parser says of a line.
@@ -62,7 +63,8 @@ checked() {  # checked LINE
   "$ckpt" run --check - <<< "$1" 2> why
 }
 
-# The parser takes a line of each form of the table, and none with a field more or less, which is explained by the table's count.
+# The parser takes a line of each form of the table, and none with a field more or less, which is explained by the
+# table's count.
 help_of_run_has_the_language() {
   local form line fields
   forms_of_help > forms
@@ -73,27 +75,34 @@ help_of_run_has_the_language() {
     case $line in *[A-Z]*) echo "$line has an unknown field"; return 1 ;; esac
     same "$line" "$(checked "$line")" "ok 1 requests" || return 1
     same "$line 1" "$(checked "$line 1")" "script line 1" || return 1
-    has "$line 1" "$(cat why)" "it has $((fields + 1)) fields, separated by single spaces, and needs $fields" || return 1
+    has "$line 1" "$(cat why)" "it has $((fields + 1)) fields, separated by single spaces, and needs $fields" \
+      || return 1
     [ "$fields" = 1 ] && continue
     same "${line% *}" "$(checked "${line% *}")" "script line 1" || return 1
-    has "${line% *}" "$(cat why)" "it has $((fields - 1)) fields, separated by single spaces, and needs $fields" || return 1
+    has "${line% *}" "$(cat why)" "it has $((fields - 1)) fields, separated by single spaces, and needs $fields" \
+      || return 1
   done < forms
 }
 
 # The table of docs/SCRIPTS.md has the same forms.
 page_has_the_language() {
-  sed -n '/^| Line | Does |/,/^$/p' "$here/../docs/SCRIPTS.md" | sed -nE 's/^\| (`.*`) \| .*/\1/p' | grep -oE '`[^`]+`' | tr -d '`' | sort > readme
+  sed -n '/^| Line | Does |/,/^$/p' "$here/../docs/SCRIPTS.md" | sed -nE 's/^\| (`.*`) \| .*/\1/p' \
+    | grep -oE '`[^`]+`' | tr -d '`' | sort > readme
   forms_of_help | sort > forms
   same "the table of docs/SCRIPTS.md" "$(cat readme)" "$(cat forms)"
 }
 
 # The man page has each form with what it does.
 manual_has_the_language() {
-  sed 's/\\-/-/g' "$here/../docs/ckpt.1" | sed -n '/^.SH REQUESTS/,/^.SH EXIT/p' | sed '1,/^.TP/d' | grep -vE '^\.(TP|SH)' > page
-  "$ckpt" run --help | sed -n '/^hexadecimal; empty lines/,/^Status/p' | sed -nE 's/^  (.{36})(.)(.*)/\1|\2|\3/p' | while IFS='|' read -r form first rest; do
+  local form first rest
+  sed 's/\\-/-/g' "$here/../docs/ckpt.1" | sed -n '/^.SH REQUESTS/,/^.SH EXIT/p' | sed '1,/^.TP/d' \
+    | grep -vE '^\.(TP|SH)' > page
+  "$ckpt" run --help | sed -n '/^hexadecimal; empty lines/,/^Status/p' \
+    | sed -nE 's/^  (.{36})(.)(.*)/\1|\2|\3/p' > forms
+  while IFS='|' read -r form first rest; do
     echo ".B ${form%"${form##*[! ]}"}"
     echo "${first^^}$rest."
-  done > wanted
+  done < forms > wanted
   same "the requests of the manual" "$(cat page)" "$(cat wanted)"
 }
 
@@ -105,8 +114,10 @@ quiet_tells_no_cause() {
 }
 
 version_is_printed() {
-  same "the version" "$("$ckpt" --version)" "ckpt $(sed -nE 's/^## ([0-9.]+),.*/\1/p' "$here/../docs/CHANGELOG.md" | head -n 1), writes images \
-of version 2 and reads 1 and 2, rattle-kit-13f"
+  local number
+  number=$(sed -nE 's/^## ([0-9.]+),.*/\1/p' "$here/../docs/CHANGELOG.md" | head -n 1)
+  same "the version" "$("$ckpt" --version)" \
+    "ckpt $number, writes images of version 2 and reads 1 and 2, rattle-kit-13f"
 }
 
 unfit_line_is_explained() {
