@@ -5,7 +5,7 @@
 
 mod ledger;
 
-use anyhow::{Error, Result, anyhow};
+use anyhow::{Error, Result, anyhow, bail};
 use ledger::{open_ledger, transfer};
 use sd_command::Refusal;
 use sd_disk::{DirDisk, Disk, Folder, MemDisk};
@@ -52,6 +52,7 @@ fn main(rt: HostRuntime) -> Result<()> {
         (Some(folder), Some(count)) => {
             keep_ledger(&rt, folder_disk(&rt, folder)?, count.parse::<u64>()?)
         }
+        (Some(_), None) => bail!("usage: example_world [DIR COUNT]"),
         _ => keep_ledger(&rt, MemDisk::new(rt.alloc(), 16, 100_000, 10_000)?, 1250),
     }
 }
