@@ -10,6 +10,9 @@ use std::thread::Threads;
 /// How many rounds copy the memory beside the threads, before each checkpoint freezes it for what changed since.
 const ROUNDS: u64 = 2;
 
+/// How often a checkpoint is gone on with where memory is refused, before it is given up.
+const TRIES: u64 = 100;
+
 /// A hold is told of each device call before it is made. This one does nothing.
 struct Free;
 
@@ -17,20 +20,55 @@ impl Hold for Free {
     fn before(&self, _call: u64) {}
 }
 
-/// Makes a checkpoint. Returns its number, from where on no crash takes it away.
+/// Whether a checkpoint may stand behind this reply, with all frozen for it: memory was refused.
+fn may_stand(reply: &Reply) -> bool {
+    matches!(reply, Reply::Refused(Refusal::OutOfMemory))
+}
+
+/// Goes on with the checkpoint that stands, or begins it again where none does.
+fn go_on<D: Disk + Drop>(rt: &impl Wait, shared: &Shared<D>, rounds: u64) -> Reply {
+    match shared.go_on_dumper(rt, &Free) {
+        Reply::Refused(Refusal::Idle) => shared.run_dumper(rt, rounds, &Free),
+        reply => reply,
+    }
+}
+
+/// Cancels the checkpoint that stands, or ends all waits for its thaw where it is too late for that.
+fn give_up<D: Disk + Drop>(rt: &impl Wait, shared: &Shared<D>) {
+    match shared.cancel(rt) {
+        Reply::Cancelled(_) | Reply::Refused(Refusal::Idle) => {}
+        _ => {
+            let _ = shared.end_waits(rt);
+        }
+    }
+}
+
+/// Makes a checkpoint. Returns its number, from where on no crash takes it away. Where memory is refused again and
+/// again it is given up, so that nobody waits for a thaw that doesn't come.
 pub fn save<D: Disk + Drop>(
     rt: &impl Wait,
     shared: &Shared<D>,
     rounds: u64,
 ) -> Result<u64, Refusal> {
-    match shared.run_dumper(rt, rounds, &Free) {
+    let mut reply = shared.run_dumper(rt, rounds, &Free);
+    for _ in 0..TRIES {
+        if !may_stand(&reply) {
+            break;
+        }
+        reply = go_on(rt, shared, rounds);
+    }
+    if may_stand(&reply) {
+        give_up(rt, shared);
+    }
+    match reply {
         Reply::Acked(number) => Ok(number),
         Reply::Refused(why) => Err(why),
         _ => Err(Refusal::Idle),
     }
 }
 
-/// Merges the images that make the newest checkpoint into one, and gives the room of the others back.
+/// Merges the images that make the newest checkpoint into one, and gives the room of the others back. Where memory is
+/// refused it is left: nobody waits for a merge.
 fn merge<D: Disk + Drop>(rt: &impl Wait, shared: &Shared<D>) -> Result<(), Refusal> {
     match shared.run_merger(rt, &Free) {
         Reply::Refused(why) => Err(why),
