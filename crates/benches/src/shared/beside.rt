@@ -1,4 +1,5 @@
 //! Seats that store beside a dumper. What they share isn't dropped: the process ends with it.
+use super::calls::done;
 use super::fault::BenchFault;
 use super::place::{mmap, store};
 use sd_command::{Refusal, Reply};
@@ -43,6 +44,7 @@ struct Mutator {
     done: u64,
     frozen: u64,
     longest: Duration,
+    /// Why it stopped before the dumper ended, if it did.
     refused: Option<Refusal>,
 }
 
@@ -111,7 +113,7 @@ impl Mutator {
         Ok(())
     }
 
-    /// Stores until the dumper has ended, or the journal is full.
+    /// Stores until the dumper has ended, or a store is refused.
     fn run<R: Wait + Clock>(&mut self, rt: &R, shared: &Shared<MemDisk>, over: &AtomicU64) {
         for _ in rt.forever() {
             if over.load(Ordering::SeqCst) != 0 {
@@ -144,22 +146,32 @@ pub(crate) fn prepare<D: Disk + Drop>(
     if let Reply::Refused(why) = shared.run_opener(rt, &Free) {
         return Err(BenchFault::Refused(why));
     }
-    let _ = shared.call(rt, seat, mmap(PAGES))?;
+    done(shared.call(rt, seat, mmap(PAGES))?.reply)?;
     for page in 0..PAGES {
-        let _ = shared.call(rt, seat, store(alloc, page, 1)?)?;
+        let command = store(alloc, page, 1)?;
+        done(shared.call(rt, seat, command)?.reply)?;
     }
     Ok(())
 }
 
-/// Makes the checkpoint, tells the seats that it has ended, and returns how long it took.
-fn save<R: Wait + Clock>(rt: &R, shared: &Shared<MemDisk>, over: &AtomicU64) -> (Reply, Duration) {
+/// Makes the checkpoint, tells the seats that it has ended, and returns how long it took, where the clock can be read.
+fn save<R: Wait + Clock>(
+    rt: &R,
+    shared: &Shared<MemDisk>,
+    over: &AtomicU64,
+) -> (Reply, Option<Duration>) {
     let from = Instant::now(rt);
     let reply = shared.run_dumper(rt, ROUNDS, &Free);
     over.store(1, Ordering::SeqCst);
     match (from, Instant::now(rt)) {
-        (Ok(from), Ok(now)) => (reply, now.duration_since(from)),
-        _ => (reply, Duration::ZERO),
+        (Ok(from), Ok(now)) => (reply, Some(now.duration_since(from))),
+        _ => (reply, None),
     }
+}
+
+/// Why the first seat that stopped before the dumper ended did so.
+fn refused_in(mutators: &[Mutator]) -> Option<Refusal> {
+    mutators.iter().find_map(|mutator| mutator.refused)
 }
 
 /// What the seats were answered, all together.
@@ -178,7 +190,7 @@ fn sum(mutators: &[Mutator], took: Duration) -> Beside {
     beside
 }
 
-/// Makes a checkpoint of many rounds beside these seats, which store.
+/// Makes a checkpoint of many rounds beside these seats, all of which store until it has ended.
 fn save_shared<R: Threads + Wait + Clock + Sync>(
     rt: &R,
     alloc: Global,
@@ -202,9 +214,11 @@ fn save_shared<R: Threads + Wait + Clock + Sync>(
             )
         },
     );
-    match reply {
-        Reply::Refused(why) => Err(BenchFault::Refused(why)),
-        _ => Ok(sum(&mutators, took)),
+    match (reply, refused_in(&mutators), took) {
+        (Reply::Refused(why), _, _) => Err(BenchFault::Refused(why)),
+        (_, Some(why), _) => Err(BenchFault::Refused(why)),
+        (_, None, Some(took)) => Ok(sum(&mutators, took)),
+        _ => Err(BenchFault::NotTimed),
     }
 }
 

@@ -15,7 +15,7 @@ fn small(alloc: Global) -> Result<MemDisk, AllocError> {
 }
 
 /// A command that wasn't carried out ends a bench.
-fn done(reply: Reply) -> Result<(), Refusal> {
+pub(crate) fn done(reply: Reply) -> Result<(), Refusal> {
     match reply {
         Reply::Done => Ok(()),
         Reply::Refused(why) => Err(why),
