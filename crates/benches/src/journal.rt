@@ -1,4 +1,5 @@
 //! A journal that is filled.
+use crate::ended::Ended;
 use sd_areas::SpaceId;
 use sd_command::{Bytes, Command, Reply};
 use sd_journal::{Entry, Journal};
@@ -32,7 +33,7 @@ fn fill(alloc: Global) -> Result<u64, AllocError> {
 }
 
 /// Fills a journal, and tells how many entries it has.
-pub(crate) fn timed(alloc: Global) -> Result<String, AllocError> {
+pub(crate) fn timed(alloc: Global) -> Result<Ended, AllocError> {
     let count = fill(alloc)?;
-    format!(in alloc; "{count} entries")
+    Ok(Ended::Done(format!(in alloc; "{count} entries")?))
 }

@@ -1,6 +1,8 @@
-//! `benches`: makes many calls of one part of the house, to be timed from outside.
+//! `benches`: makes many calls of one part of the house, to be timed from outside. The exit status is 0 where they came
+//! to their end and all went right, 1 where they didn't, and 2 where the words name no case.
 #![tactic(auto)]
 
+mod ended;
 mod journal;
 mod memory;
 mod restore;
@@ -8,6 +10,7 @@ mod rounds;
 mod shared;
 mod world;
 
+use ended::Ended;
 use std::alloc::{AllocError, Global};
 use std::io;
 use std::process::ExitCode;
@@ -16,8 +19,14 @@ use std::thread::Threads;
 use std::time::Clock;
 
 const USAGE: &str =
-    "usage: benches journal | memory CASE | restore CASE IMAGES | rounds CASE | shared CASE [N] |\
+    "usage: benches journal | memory CASE | restore CASE IMAGES | rounds CASE | shared CASE [N] | \
     world SEED LISTS [figures] | all";
+
+/// The exit status of a case that failed.
+const FAILED: u8 = 1;
+
+/// The exit status of words that name no case.
+const UNNAMED: u8 = 2;
 
 /// A word of the command line.
 fn word(words: &[String], place: usize) -> &str {
@@ -32,23 +41,48 @@ fn number(words: &[String], place: usize) -> u64 {
     word(words, place).parse::<u64>().unwrap_or(0)
 }
 
-/// One case of each part: the gate runs these.
-fn each<R: Threads + Wait + Clock + Sync>(rt: &R, alloc: Global) -> Result<String, AllocError> {
-    let journal = journal::timed(alloc)?;
-    let memory = memory::timed(alloc, "child")?;
-    let restore = restore::timed(alloc, "restored", 30)?;
-    let rounds = rounds::timed(alloc, "dumps")?;
-    let shared = shared::timed(rt, alloc, "calls", 10)?;
-    let world = world::timed(alloc, 1, 10, false)?;
-    format!(in alloc; "{journal}\n{memory}\n{restore}\n{rounds}\n{shared}\n{world}")
+/// Prints what is told of a case, on the standard error where it wasn't made. Returns the exit status.
+fn tell(rt: &(impl Print + Eprint), ended: Result<Ended, AllocError>) -> io::Result<u8> {
+    match ended {
+        Ok(Ended::Done(told)) => {
+            println!(rt; "{told}")?;
+            Ok(0)
+        }
+        Ok(Ended::Failed(why)) => {
+            eprintln!(rt; "{why}")?;
+            Ok(FAILED)
+        }
+        Ok(Ended::Unnamed(usage)) => {
+            eprintln!(rt; "{usage}")?;
+            Ok(UNNAMED)
+        }
+        Err(AllocError) => {
+            eprintln!(rt; "out of memory")?;
+            Ok(FAILED)
+        }
+    }
 }
 
-/// Makes the calls that the words name, and tells how they ended.
+/// One case of each part: the gate runs these. Returns the greatest exit status.
+fn each<R: Threads + Wait + Clock + Sync + Print + Eprint>(
+    rt: &R,
+    alloc: Global,
+) -> io::Result<u8> {
+    let mut status = tell(rt, journal::timed(alloc))?;
+    status = status.max(tell(rt, memory::timed(alloc, "child"))?);
+    status = status.max(tell(rt, restore::timed(alloc, "restored", 30))?);
+    status = status.max(tell(rt, rounds::timed(alloc, "dumps"))?);
+    status = status.max(tell(rt, shared::timed(rt, alloc, "calls", 10))?);
+    status = status.max(tell(rt, world::timed(alloc, 1, 10, false))?);
+    Ok(status)
+}
+
+/// Makes the calls that the words name.
 fn timed<R: Threads + Wait + Clock + Sync>(
     rt: &R,
     alloc: Global,
     words: &[String],
-) -> Result<String, AllocError> {
+) -> Result<Ended, AllocError> {
     match word(words, 1) {
         "journal" => journal::timed(alloc),
         "memory" => memory::timed(alloc, word(words, 2)),
@@ -61,17 +95,16 @@ fn timed<R: Threads + Wait + Clock + Sync>(
             number(words, 3),
             words.get(4).is_some(),
         ),
-        "all" => each(rt, alloc),
-        _ => format!(in alloc; "{USAGE}"),
+        _ => Ok(Ended::Unnamed(format!(in alloc; "{USAGE}")?)),
     }
 }
 
 fn main(rt: HostRuntime) -> io::Result<ExitCode> {
     let alloc = rt.alloc();
     let words: Vec<String> = std::env::args(&rt)?.collect(alloc)?;
-    match timed(&rt, alloc, &words) {
-        Ok(told) => println!(rt; "{told}")?,
-        Err(AllocError) => println!(rt; "out of memory")?,
-    }
-    Ok(ExitCode::from(0))
+    let status = match word(&words, 1) {
+        "all" => each(&rt, alloc)?,
+        _ => tell(&rt, timed(&rt, alloc, &words))?,
+    };
+    Ok(ExitCode::from(status))
 }

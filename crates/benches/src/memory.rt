@@ -1,4 +1,5 @@
 //! Many calls on a memory.
+use crate::ended::Ended;
 use sd_areas::{PageNo, Prot, SpaceId};
 use sd_pagetable::{Memory, MemoryError};
 use std::alloc::{AllocError, Global};
@@ -34,6 +35,9 @@ const READ_WRITE: Prot = Prot {
     write: true,
     execute: false,
 };
+
+const USAGE: &str =
+    "usage: benches memory stores|random|loads|words|pages|fork|child|ranges|anew|protects|walk|sparse|sparse_walk";
 
 /// A memory whose only space has so many pages, from address 0 on.
 fn mapped(alloc: Global, pages: u64) -> Result<Memory, MemoryError> {
@@ -241,13 +245,10 @@ fn make(alloc: Global, word: &str) -> Result<bool, MemoryError> {
 }
 
 /// Makes the calls that a word names, and tells how they ended.
-pub(crate) fn timed(alloc: Global, word: &str) -> Result<String, AllocError> {
+pub(crate) fn timed(alloc: Global, word: &str) -> Result<Ended, AllocError> {
     match make(alloc, word) {
-        Ok(true) => format!(in alloc; "done"),
-        Ok(false) => format!(in alloc;
-            "usage: benches memory stores|random|loads|words|pages|fork|child|ranges|anew|protects|walk|sparse|\
-            sparse_walk"
-        ),
-        Err(error) => format!(in alloc; "{error}"),
+        Ok(true) => Ok(Ended::Done(format!(in alloc; "done")?)),
+        Ok(false) => Ok(Ended::Unnamed(format!(in alloc; "{USAGE}")?)),
+        Err(error) => Ok(Ended::Failed(format!(in alloc; "{error}")?)),
     }
 }

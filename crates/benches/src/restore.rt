@@ -1,6 +1,7 @@
 //! A memory that is restored from a chain of images, on a disk in memory.
 ghost use Rattle.std.specs.Prelude.{◌≤◌};
 
+use crate::ended::Ended;
 use sd_areas::{Area, PAGE_SIZE, PageNo, Prot, SpaceId};
 use sd_disk::{Disk, MemDisk};
 use sd_image::{
@@ -17,6 +18,8 @@ const READ_WRITE: Prot = Prot {
     write: true,
     execute: false,
 };
+
+const USAGE: &str = "usage: benches restore copied|made|restored IMAGES";
 
 /// A run of pages.
 fn run(first: u64, count: u64, kind: RunKind) -> Run
@@ -122,10 +125,10 @@ fn make(alloc: Global, case: &str, images: u64) -> Result<bool, Fault>
 }
 
 /// Makes what a word names over 1 to 64 images, and tells how it ended.
-pub(crate) fn timed(alloc: Global, case: &str, images: u64) -> Result<String, AllocError> {
+pub(crate) fn timed(alloc: Global, case: &str, images: u64) -> Result<Ended, AllocError> {
     match make(alloc, case, images.clamp(1, 64)) {
-        Ok(true) => format!(in alloc; "done"),
-        Ok(false) => format!(in alloc; "usage: benches restore copied|made|restored IMAGES"),
-        Err(fault) => format!(in alloc; "{fault}"),
+        Ok(true) => Ok(Ended::Done(format!(in alloc; "done")?)),
+        Ok(false) => Ok(Ended::Unnamed(format!(in alloc; "{USAGE}")?)),
+        Err(fault) => Ok(Ended::Failed(format!(in alloc; "{fault}")?)),
     }
 }

@@ -2,12 +2,15 @@
 mod bench;
 mod digest;
 
+use crate::ended::Ended;
 use bench::{Bench, BenchError};
 use digest::digest;
 use std::alloc::{AllocError, Global};
 
 /// How often a case is repeated.
 const TURNS: u64 = 20;
+
+const USAGE: &str = "usage: benches rounds made|touched|plain|dumps|digests|walks|emptied|rounds";
 
 /// Touches pages, some times.
 fn touched(bench: &mut Bench) -> Result<(), BenchError> {
@@ -86,12 +89,10 @@ fn make(alloc: Global, word: &str) -> Result<bool, BenchError> {
 }
 
 /// Does what a word names, and tells how it ended.
-pub(crate) fn timed(alloc: Global, word: &str) -> Result<String, AllocError> {
+pub(crate) fn timed(alloc: Global, word: &str) -> Result<Ended, AllocError> {
     match make(alloc, word) {
-        Ok(true) => format!(in alloc; "done"),
-        Ok(false) => format!(in alloc;
-            "usage: benches rounds made|touched|plain|dumps|digests|walks|emptied|rounds"
-        ),
-        Err(error) => format!(in alloc; "{error:?}"),
+        Ok(true) => Ok(Ended::Done(format!(in alloc; "done")?)),
+        Ok(false) => Ok(Ended::Unnamed(format!(in alloc; "{USAGE}")?)),
+        Err(error) => Ok(Ended::Failed(format!(in alloc; "{error:?}")?)),
     }
 }

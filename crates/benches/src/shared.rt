@@ -6,6 +6,7 @@ mod place;
 mod slow;
 mod writers;
 
+use crate::ended::Ended;
 use beside::save_beside;
 use calls::{make_calls, make_steps};
 use fault::BenchFault;
@@ -18,23 +19,24 @@ use writers::write_pages;
 const USAGE: &str =
     "usage: benches shared calls N, benches shared steps N, benches shared beside, or benches shared writers N";
 
-/// Makes what a word names, and tells how it went.
+/// Makes what a word names, and tells how it went. Returns nothing where it names none.
 fn make<R: Threads + Wait + Clock + Sync>(
     rt: &R,
     alloc: Global,
     word: &str,
     count: u64,
-) -> Result<String, BenchFault> {
-    match word {
-        "calls" => Ok(format!(in alloc; "{} calls", make_calls(rt, alloc, count)?)?),
-        "steps" => Ok(format!(in alloc; "{} steps", make_steps(alloc, count)?)?),
+) -> Result<Option<String>, BenchFault> {
+    let told = match word {
+        "calls" => format!(in alloc; "{} calls", make_calls(rt, alloc, count)?)?,
+        "steps" => format!(in alloc; "{} steps", make_steps(alloc, count)?)?,
         "writers" => {
             let took = write_pages(rt, alloc, count as usize)?;
-            Ok(format!(in alloc; "{} us", took.as_micros())?)
+            format!(in alloc; "{} us", took.as_micros())?
         }
-        "beside" => Ok(format!(in alloc; "{}", save_beside(rt, alloc)?)?),
-        _ => Ok(format!(in alloc; "{USAGE}")?),
-    }
+        "beside" => format!(in alloc; "{}", save_beside(rt, alloc)?)?,
+        _ => return Ok(None),
+    };
+    Ok(Some(told))
 }
 
 /// Makes what a word names, and tells how it went, or why it didn't.
@@ -43,9 +45,10 @@ pub(crate) fn timed<R: Threads + Wait + Clock + Sync>(
     alloc: Global,
     word: &str,
     count: u64,
-) -> Result<String, AllocError> {
+) -> Result<Ended, AllocError> {
     match make(rt, alloc, word, count) {
-        Ok(told) => Ok(told),
-        Err(fault) => format!(in alloc; "{fault:?}"),
+        Ok(Some(told)) => Ok(Ended::Done(told)),
+        Ok(None) => Ok(Ended::Unnamed(format!(in alloc; "{USAGE}")?)),
+        Err(fault) => Ok(Ended::Failed(format!(in alloc; "{fault:?}")?)),
     }
 }

@@ -1,4 +1,5 @@
 //! Lists of events by chance, with a crash behind each of their device calls.
+use crate::ended::Ended;
 use std::alloc::{AllocError, Global};
 use world_trials::{Figures, Trouble, try_by_chance};
 
@@ -22,17 +23,20 @@ pub(crate) fn timed(
     first: u64,
     lists: u64,
     counts: bool,
-) -> Result<String, AllocError> {
+) -> Result<Ended, AllocError> {
     let (figures, wrong) = match search(alloc, first, lists) {
         Ok(found) => found,
-        Err(trouble) => return format!(in alloc; "{trouble:?}"),
+        Err(trouble) => return Ok(Ended::Failed(format!(in alloc; "{trouble:?}")?)),
     };
-    let ended = match wrong {
+    let mut told = match wrong {
         None => format!(in alloc; "right")?,
         Some(seed) => format!(in alloc; "wrong at seed {seed}")?,
     };
     if counts {
-        return format!(in alloc; "{ended}\n{figures:#?}");
+        told = format!(in alloc; "{told}\n{figures:#?}")?;
     }
-    Ok(ended)
+    match wrong {
+        None => Ok(Ended::Done(told)),
+        Some(_) => Ok(Ended::Failed(told)),
+    }
 }
