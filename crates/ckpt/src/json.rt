@@ -23,14 +23,14 @@ fn may_change(read: &Result<Value, Fault>) -> bool {
 
 /// Which program reads, which store, and what is to be seen of it.
 #[derive(Clone, Copy)]
-pub struct Asked<'a> {
-    pub seen: Seen<'a>,
+pub struct Asked<'s, 'f> {
+    pub seen: Seen<'s>,
     pub causes: Causes,
     pub reader: Reader,
-    pub folder: &'a str,
+    pub folder: &'f str,
 }
 
-impl Asked<'_> {
+impl Asked<'_, '_> {
     /// Reads the store once. The outer error is a folder that isn't opened.
     fn read_once(self, rt: &HostRuntime) -> Result<(DirDisk, Result<Value, Fault>), Stop> {
         let disk = open_store(rt, self.causes, self.folder)?;
@@ -93,7 +93,7 @@ fn print_fault<W: Write>(alloc: Global, fault: Fault, out: &mut Output<W>) -> Re
 pub fn json_program<R: Clock + Wait, W: Write>(
     rt: &HostRuntime,
     clock: &R,
-    asked: Asked<'_>,
+    asked: Asked<'_, '_>,
     out: &mut Output<W>,
 ) -> Result<u8, Stop> {
     let read = if is_being_written(rt, asked.folder) {
