@@ -26,4 +26,13 @@ ledger_that_is_killed_loses_nothing() {
   done
 }
 
+# A folder alone isn't taken for a ledger in memory.
+ledger_without_a_count_is_refused() {
+  [ -x "$ledger" ] || { echo "needs crates/example_world/out/example_world"; return 77; }
+  same "the status" "$(ends "$ledger" store)" 1 || return 1
+  has "the usage" "$(cat err)" "usage: example_world [DIR COUNT]" || return 1
+  [ ! -e store ] || { echo "a store was made"; return 1; }
+}
+
 try ledger_that_is_killed_loses_nothing
+try ledger_without_a_count_is_refused
