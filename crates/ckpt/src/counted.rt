@@ -17,6 +17,18 @@ use std::alloc::Global;
 use std::io;
 use std::io::{Input, Write};
 
+/// What a program does over a store, with a watch over its jobs.
+pub trait Job {
+    /// Does it, and returns the store with the exit status.
+    fn run<D: Disk, W: Write, S: Watch>(
+        self,
+        rt: &HostRuntime,
+        disk: D,
+        out: &mut Output<W>,
+        watch: &mut S,
+    ) -> (D, u8);
+}
+
 /// How a script is to be run.
 #[derive(Clone, Copy)]
 pub struct RunAsked<'a> {
@@ -25,6 +37,62 @@ pub struct RunAsked<'a> {
     pub restores: bool,
     pub strict: bool,
     pub causes: Causes,
+}
+
+/// A script that is run.
+#[derive(Drop)]
+pub struct ScriptJob<'a> {
+    pub asked: RunAsked<'a>,
+    pub script: Script,
+}
+
+impl Job for ScriptJob<'_> {
+    fn run<D: Disk, W: Write, S: Watch>(
+        self,
+        rt: &HostRuntime,
+        disk: D,
+        out: &mut Output<W>,
+        watch: &mut S,
+    ) -> (D, u8) {
+        run_asked(rt, self.asked, disk, self.script, out, watch)
+    }
+}
+
+/// The merge of the newest chain.
+#[derive(Clone, Copy)]
+pub struct MergeJob<'a> {
+    pub course: &'a Course<'a>,
+}
+
+impl Job for MergeJob<'_> {
+    fn run<D: Disk, W: Write, S: Watch>(
+        self,
+        rt: &HostRuntime,
+        disk: D,
+        out: &mut Output<W>,
+        watch: &mut S,
+    ) -> (D, u8) {
+        merge_gated(rt.alloc(), self.course, disk, out, watch)
+    }
+}
+
+/// A shell over the standard input.
+#[derive(Clone, Copy)]
+pub struct ShellJob<'r, 'f, 'g> {
+    pub asked: Asked<'r, 'f, 'g>,
+}
+
+impl Job for ShellJob<'_, '_, '_> {
+    fn run<D: Disk, W: Write, S: Watch>(
+        self,
+        rt: &HostRuntime,
+        disk: D,
+        out: &mut Output<W>,
+        watch: &mut S,
+    ) -> (D, u8) {
+        let (disk, ended) = run_shell(self.asked, disk, rt.reader(), out, watch);
+        (disk, exit(&ended, out))
+    }
 }
 
 /// Runs the lines of a script over a store up to the first that isn't answered as it was meant, and returns the store
@@ -51,7 +119,7 @@ fn run_strict<D: Disk, W: Write, S: Watch>(
 }
 
 /// Runs a script over a store as the words ask for, and returns the store with the exit status.
-pub fn run_asked<D: Disk, W: Write, S: Watch>(
+fn run_asked<D: Disk, W: Write, S: Watch>(
     rt: &HostRuntime,
     asked: RunAsked<'_>,
     disk: D,
@@ -77,31 +145,8 @@ pub fn run_asked<D: Disk, W: Write, S: Watch>(
     (gated.into_inner(), status)
 }
 
-/// Runs a script over a store, and tells what its images, checkpoints and merges took.
-pub fn run_counted<W: Write, S: Watch + Drop>(
-    rt: &HostRuntime,
-    seen: Seen<'_>,
-    asked: RunAsked<'_>,
-    counts: Counts,
-    disk: DirDisk,
-    script: Script,
-    out: &mut Output<W>,
-    watch: S,
-) -> (DirDisk, u8) {
-    let meter = match meter_for(rt, disk.slots()) {
-        Ok(meter) => meter,
-        Err(stop) => return (disk, exit(&Err(stop), out)),
-    };
-    let mut counting = Counting::new(rt, seen.log, &meter, counts, watch);
-    let metered = Metered::new(rt, &meter, seen.disk("opening", disk));
-    let (metered, status) = run_asked(rt, asked, metered, script, out, &mut counting);
-    let counted = counting.finish();
-    let disk = unseen(metered.into_inner());
-    (disk, told_counts(rt, asked.causes, status, counted))
-}
-
 /// Merges the newest chain of a store, and sees its gates.
-pub fn merge_gated<D: Disk, W: Write, S: Watch>(
+fn merge_gated<D: Disk, W: Write, S: Watch>(
     alloc: Global,
     course: &Course<'_>,
     disk: D,
@@ -113,13 +158,14 @@ pub fn merge_gated<D: Disk, W: Write, S: Watch>(
     (gated.into_inner(), status)
 }
 
-/// Merges the newest chain of a store, and logs what is done.
-pub fn merge_counted<W: Write, S: Watch + Drop>(
+/// Does a job over a store that a meter sees, and tells what its images, checkpoints and merges took.
+fn run_counted<J: Job + Drop, W: Write, S: Watch + Drop>(
     rt: &HostRuntime,
     seen: Seen<'_>,
-    course: &Course<'_>,
+    causes: Causes,
     counts: Counts,
     disk: DirDisk,
+    job: J,
     out: &mut Output<W>,
     watch: S,
 ) -> (DirDisk, u8) {
@@ -129,33 +175,29 @@ pub fn merge_counted<W: Write, S: Watch + Drop>(
     };
     let mut counting = Counting::new(rt, seen.log, &meter, counts, watch);
     let metered = Metered::new(rt, &meter, seen.disk("opening", disk));
-    let (metered, status) = merge_gated(rt.alloc(), course, metered, out, &mut counting);
+    let (metered, status) = job.run(rt, metered, out, &mut counting);
     let counted = counting.finish();
     let disk = unseen(metered.into_inner());
-    (disk, told_counts(rt, Causes::Told, status, counted))
+    (disk, told_counts(rt, causes, status, counted))
 }
 
-/// Answers the requests of the standard input, and logs what is done.
-pub fn shell_counted<W: Write, S: Watch + Drop>(
+/// Does a job over a store, and returns the store with the exit status. Where counts are asked for, what its images,
+/// checkpoints and merges took is told.
+pub fn run_job<J: Job + Drop, W: Write, S: Watch + Drop>(
     rt: &HostRuntime,
     seen: Seen<'_>,
-    counts: Counts,
+    causes: Causes,
+    counts: Option<Counts>,
     disk: DirDisk,
-    asked: Asked<'_, '_, '_>,
+    job: J,
     out: &mut Output<W>,
     watch: S,
 ) -> (DirDisk, u8) {
-    let meter = match meter_for(rt, disk.slots()) {
-        Ok(meter) => meter,
-        Err(stop) => return (disk, exit(&Err(stop), out)),
-    };
-    let mut counting = Counting::new(rt, seen.log, &meter, counts, watch);
-    let metered = Metered::new(rt, &meter, seen.disk("opening", disk));
-    let (metered, ended) = run_shell(asked, metered, rt.reader(), out, &mut counting);
-    let counted = counting.finish();
-    let disk = unseen(metered.into_inner());
-    let status = exit(&ended, out);
-    (disk, told_counts(rt, Causes::Told, status, counted))
+    let mut watch = watch;
+    match counts {
+        Some(counts) => run_counted(rt, seen, causes, counts, disk, job, out, watch),
+        None => job.run(rt, disk, out, &mut watch),
+    }
 }
 
 /// The exit status of a run whose counts were printed, or not all of them.

@@ -10,7 +10,7 @@ ghost use Rattle.ckpt.specs.Reading.{RunsScript};
 
 use cause::{Causes, causes_asked, tell, tell_device};
 use clap::ArgMatches;
-use counted::{RunAsked, merge_counted, merge_gated, run_asked, run_counted, shell_counted};
+use counted::{MergeJob, RunAsked, ScriptJob, ShellJob, run_job};
 use course::{Course, FewAt, Noted};
 use ends::{FewSlots, tell_end, tell_few_slots};
 use folders::make_store;
@@ -23,7 +23,7 @@ use sd_exit::{Output, Stop, exit};
 use sd_readers::restore_to;
 use sd_run::{Watch, run_lines};
 use sd_script::Script;
-use shell::{Asked, Asking, run_shell};
+use shell::{Asked, Asking};
 use stats::{counts_asked, counts_seen};
 use std::alloc::Global;
 use std::fs::File;
@@ -132,7 +132,7 @@ fn run_program<R: Clock + Wait, W: Write>(
     let counts = counts_asked(rt, causes, words, seen)?;
     let disk = make_store(rt, threads, causes, folder)?;
     course.begin(bytes, seen.shows && !rt.stdout().is_terminal());
-    let mut watch = ProgressLine::new(rt, course, rt.stderr().lock(), seen.shows);
+    let watch = ProgressLine::new(rt, course, rt.stderr().lock(), seen.shows);
     let asked = RunAsked {
         folder,
         course,
@@ -140,10 +140,8 @@ fn run_program<R: Clock + Wait, W: Write>(
         strict: words.get_flag("strict"),
         causes,
     };
-    let (disk, status) = match counts {
-        Some(counts) => run_counted(rt, seen, asked, counts, disk, script, out, watch),
-        None => run_asked(rt, asked, disk, script, out, &mut watch),
-    };
+    let job = ScriptJob { asked, script };
+    let (disk, status) = run_job(rt, seen, causes, counts, disk, job, out, watch);
     tell_device(rt, causes, folder, &disk);
     Ok(status)
 }
@@ -161,7 +159,7 @@ fn shell_program<R: Clock + Wait, W: Write>(
     let disk = make_store(rt, threads, causes, folder)?;
     let log = logger_for(rt, words);
     let seen = seen_by(rt, &log, words, is_watched(rt, causes));
-    let mut watch = ProgressLine::new(rt, course, rt.stderr().lock(), seen.shows);
+    let watch = ProgressLine::new(rt, course, rt.stderr().lock(), seen.shows);
     let asked = Asked {
         rt,
         causes,
@@ -169,13 +167,8 @@ fn shell_program<R: Clock + Wait, W: Write>(
         gates: course.gates(),
         asking: asking_of(rt.stdin().is_terminal()),
     };
-    let (disk, status) = match counts_seen(seen) {
-        Some(counts) => shell_counted(rt, seen, counts, disk, asked, out, watch),
-        None => {
-            let (disk, ended) = run_shell(asked, disk, rt.reader(), out, &mut watch);
-            (disk, exit(&ended, out))
-        }
-    };
+    let (counts, job) = (counts_seen(seen), ShellJob { asked });
+    let (disk, status) = run_job(rt, seen, causes, counts, disk, job, out, watch);
     tell_device(rt, causes, folder, &disk);
     Ok(status)
 }
@@ -202,11 +195,9 @@ fn merge_program<R: Clock + Wait, W: Write>(
     let disk = make_store(rt, threads, causes, folder)?;
     let log = logger_for(rt, words);
     let seen = seen_by(rt, &log, words, is_watched(rt, causes));
-    let mut watch = ProgressLine::new(rt, course, rt.stderr().lock(), seen.shows);
-    let (disk, status) = match counts_seen(seen) {
-        Some(counts) => merge_counted(rt, seen, course, counts, disk, out, watch),
-        None => merge_gated(rt.alloc(), course, disk, out, &mut watch),
-    };
+    let watch = ProgressLine::new(rt, course, rt.stderr().lock(), seen.shows);
+    let (counts, job) = (counts_seen(seen), MergeJob { course });
+    let (disk, status) = run_job(rt, seen, causes, counts, disk, job, out, watch);
     tell_device(rt, causes, folder, &disk);
     if let Some(FewAt { free, .. }) = course.few() {
         tell_few_slots(rt, causes, folder, FewSlots { free, wanted: 1 });

@@ -21,7 +21,10 @@ pub type Ended = Result<Option<Failure>, Stop>;
 
 /// Whether an answer ends a strict run: it is a refusal, a failed device among them, or `segv`.
 fn is_failure(answer: &Answer) -> bool {
-    matches!(answer, Answer::Reply(Reply::Refused(_) | Reply::Segv(_)))
+    match answer {
+        Answer::Reply(reply) => matches!(reply, Reply::Refused(_) | Reply::Segv(_)),
+        _ => false,
+    }
 }
 
 /// Runs the lines of a script, which all fit the language, over a store, up to the first request that is refused or
