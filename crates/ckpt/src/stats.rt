@@ -35,16 +35,18 @@ pub struct Counts {
 
 /// Opens the file of counts.
 fn open_lines(rt: &HostRuntime, causes: Causes, name: Option<&str>) -> Result<Lines, Stop> {
-    match name {
-        None => Ok(Lines::Nowhere),
-        Some(STANDARD_ERROR) => Ok(Lines::StandardError),
-        Some(name) => match File::create(rt, name) {
-            Ok(file) => Ok(Lines::File(file)),
-            Err(error) => {
-                tell(rt, causes, name, &error);
-                Err(Stop::Refused)
-            }
-        },
+    let Some(name) = name else {
+        return Ok(Lines::Nowhere);
+    };
+    if name == STANDARD_ERROR {
+        return Ok(Lines::StandardError);
+    }
+    match File::create(rt, name) {
+        Ok(file) => Ok(Lines::File(file)),
+        Err(error) => {
+            tell(rt, causes, name, &error);
+            Err(Stop::Refused)
+        }
     }
 }
 
