@@ -110,11 +110,15 @@ pub struct Shown<'a, D> {
 
 /// What the file of an open slot has behind the header of an image, in bytes. A closed one isn't read.
 fn body_len<D: Disk>(disk: &mut D, slot: usize) -> u64 {
-    if slot >= disk.slots() || !is_open(disk, slot) {
+    if slot >= disk.slots() {
         return 0;
     }
     let length = disk.len(slot).unwrap_or(0);
-    length.saturating_sub(HEADER_SIZE) as u64
+    if is_open(disk, slot) {
+        length.saturating_sub(HEADER_SIZE) as u64
+    } else {
+        0
+    }
 }
 
 impl<'a, D: Disk> Shown<'a, D> {
