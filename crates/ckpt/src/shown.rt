@@ -114,8 +114,8 @@ fn body_len<D: Disk>(disk: &mut D, slot: usize) -> u64 {
         return 0;
     }
     let length = disk.len(slot).unwrap_or(0);
-    if is_open(disk, slot) {
-        length.saturating_sub(HEADER_SIZE) as u64
+    if length > HEADER_SIZE && is_open(disk, slot) {
+        (length - HEADER_SIZE) as u64
     } else {
         0
     }
