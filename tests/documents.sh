@@ -49,9 +49,30 @@ each_crate_is_named() {
   done
 }
 
+# Each text that an edit or a plant replaces stands once in its file: else it would try nothing.
+wrong_bodies_fit_their_files() {
+  command -v python3 > found || { echo "needs python3"; return 77; }
+  python3 - "$here/../crates" << 'PYTHON'
+import sys
+from pathlib import Path
+
+wrong, crates = [], Path(sys.argv[1])
+for edit in sorted([*crates.glob("*/must-fail/*.edit"), *crates.glob("*/plants/*.edit")]):
+    source = ""
+    for line in edit.read_text().splitlines():
+        if line.startswith("file: "):
+            source = (edit.parent.parent / line.removeprefix("file: ")).read_text()
+        if line.startswith("old: ") and source.count(line.removeprefix("old: ")) != 1:
+            wrong.append(f"{edit.relative_to(crates)}: {line}")
+print("\n".join(wrong))
+sys.exit(1 if wrong else 0)
+PYTHON
+}
+
 try pictures_of_crates_are_up_to_date
 try words_are_up_to_date
 try lines_are_short
 try calls_are_up_to_date
 try documents_name_files_that_are_there
 try each_crate_is_named
+try wrong_bodies_fit_their_files
