@@ -53,6 +53,16 @@ $told" "$ckpt" run --strict store script || return 1
   done
 }
 
+# The line is the right one also behind answers that are longer than the output's buffer.
+few_slots_are_told_behind_long_answers() {
+  { echo 'mmap 1 0x10000 0x200000 rw'
+    for number in 1 2 3 4 5 6 7; do echo 'checkpoint 8'; done
+    printf 'words 1 0x10000 512\nwords 1 0x10000 512\ncheckpoint 8\n'; } > script
+  same "the status" "$(ends "$ckpt" run store script)" 0 || return 1
+  same "the last answer" "$(tail -n 1 out)" "refused 12 no-slot" || return 1
+  same "what is told" "$(cat err)" "ckpt: store: script line 11: no-slot: free slots: 1, wanted: 10; $few_slots"
+}
+
 # The first of them is told, with the slots that were free then, also where a merge has freed some since.
 the_first_request_with_few_slots_is_told() {
   fill_store 63
@@ -126,6 +136,7 @@ unfit_lines_are_explained() {
 try damage_is_told_in_words
 try broken_chains_are_told
 try few_slots_are_told
+try few_slots_are_told_behind_long_answers
 try the_first_request_with_few_slots_is_told
 try few_slots_are_told_at_once
 try other_refusals_have_no_slots

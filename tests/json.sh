@@ -140,6 +140,27 @@ a_failing_device_is_a_document() {
   done
 }
 
+# Where a growth is refused, a document is whole, or something is told.
+a_refused_growth_is_told() {
+  [ -z "${CHECKED:-}" ] || { echo "a build with checks has an allocator of its own"; return 77; }
+  growths_can_be_refused || return
+  make_store store || return 1
+  "$ckpt" restore store --json > whole || return 1
+  local number=1 status
+  while :; do
+    REFUSED=$number LD_PRELOAD=./refuse.so "$ckpt" restore store --json > out 2> err
+    status=$?
+    grep -q '^growth refused$' err || break
+    sed -i '/^growth refused$/d' err
+    case $status in
+      0) cmp out whole || return 1 ;;
+      *) [ -s out ] || [ -s err ] || { echo "nothing is told at growth $number"; return 1; } ;;
+    esac
+    number=$((number + 1))
+  done
+  [ "$number" -gt 10 ] || { echo "$number growths"; return 1; }
+}
+
 # Beside a run each document is of one moment: a checkpoint no older than the last, with its areas.
 documents_beside_a_run() {
   local number count=150
@@ -175,4 +196,5 @@ try documents_of_a_store_without_a_checkpoint
 try faults_are_documents
 try a_missing_folder_has_no_document
 try a_failing_device_is_a_document
+try a_refused_growth_is_told
 try documents_beside_a_run
