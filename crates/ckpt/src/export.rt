@@ -6,14 +6,14 @@ use crate::reading::tell_beside;
 use crate::verbose::{is_watched, logger_for, seen_by, unseen};
 use clap::ArgMatches;
 use sd_areas::SpaceId;
-use sd_disk::Disk;
+use sd_disk::{Disk, lock_folder, make_folders};
 use sd_elf::{CoreFiles, HoleFile, WriteError, write_shown};
 use sd_exit::{Output, Stop, exit};
 use sd_image::SpaceTable;
 use sd_readers::fronts;
 use sd_restore::Fault;
 use std::alloc::{AllocError, Global};
-use std::fs::{File, TryLockError};
+use std::fs::File;
 use std::io::Write;
 use std::rt::Files;
 use std::{fs, io};
@@ -53,16 +53,6 @@ fn core_name(alloc: Global, folder: &str, space: SpaceId) -> Result<String, Allo
 fn part_name(alloc: Global, folder: &str, space: SpaceId) -> Result<String, AllocError> {
     let number = space.number();
     format!(in alloc; "{folder}/.space-{number}.core.part")
-}
-
-/// Takes the advisory lock of a folder, or fails where another export has it.
-fn lock_folder(rt: &impl Files<File = File>, folder: &str) -> io::Result<File> {
-    let lock = File::open(rt, folder)?;
-    match lock.try_lock() {
-        Ok(()) => Ok(lock),
-        Err(TryLockError::WouldBlock) => Err(io::Error::new(io::ErrorKind::WouldBlock, IS_LOCKED)),
-        Err(TryLockError::Error(error)) => Err(error),
-    }
 }
 
 /// Makes an empty file, in place of one that an export left that was cut off.
@@ -122,8 +112,8 @@ impl<R: Files<File = File>> CoreFiles for Export<'_, R> {
         if !spaces.iter().any(|space| self.is_wanted(space.space)) {
             return Err(io::Error::new(io::ErrorKind::NotFound, NO_SPACE));
         }
-        fs::create_dir_all(self.rt, self.folder)?;
-        self.lock = Some(lock_folder(self.rt, self.folder)?);
+        make_folders(self.rt, self.folder)?;
+        self.lock = Some(lock_folder(self.rt, self.folder, IS_LOCKED)?);
         for space in spaces {
             if self.is_wanted(space.space) {
                 self.check_free(space.space)?;

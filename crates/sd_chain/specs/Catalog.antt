@@ -38,6 +38,7 @@ abbrev pub SerialsRise : List Opened → Type 0
 SerialsRise [] = Unit {0}
 SerialsRise (i ∷ all) = AllByRecursion (λ (j : Opened). i.header.serial < j.header.serial) all × SerialsRise all
 
+-- the catalog keeps a place for an image of this serial, which isn't open yet
 abbrev pub IsHeld : Places → ℕ → Type 0
 IsHeld places serial = place_of places serial ≡ Some None
 
@@ -62,6 +63,7 @@ pub record IsNamedAmong (all : List Opened) (number : ℕ) (i : Opened) : Type 0
   pub stands : i.header.stands_for ≡ number
   pub greatest : (j : Opened) → Contains all j → j.header.stands_for ≡ number → j.header.serial ≤ i.header.serial
 
+-- the number names this image: the newest of those that stand for it
 abbrev pub Names : Places → ℕ → Opened → Type 0
 Names places = IsNamedAmong (images places)
 
@@ -80,6 +82,7 @@ pub record IsNewestAmong (all : List Opened) (i : Opened) : Type 0 where
   pub restored : IsDumpOrMerged i
   pub greatest : (j : Opened) → Contains all j → IsDumpOrMerged j → IsNotNewer j i
 
+-- the image is the newest of the dumps and merged images
 abbrev pub IsTip : Places → Opened → Type 0
 IsTip places = IsNewestAmong (images places)
 
@@ -95,6 +98,7 @@ IsNamedChoice number all chosen =
 abbrev pub serial_of : Opened → ℕ
 serial_of i = i.header.serial
 
+-- the number of the checkpoint to which an image belongs
 abbrev pub checkpoint_number : Opened → ℕ
 checkpoint_number i = i.header.checkpoint
 

@@ -39,6 +39,7 @@ refusal_of due.TooManySpaces = refusal.TooManySpaces
 refusal_of due.NoFrame = refusal.NoFrame
 refusal_of due.LastSpace = refusal.LastSpace
 
+-- the reply to a command that is refused or faults
 abbrev pub reply_of : AccessError → Reply
 reply_of (Refused why) = reply.Refused (refusal_of why)
 reply_of (Segv why) = reply.Segv why

@@ -26,6 +26,7 @@ is_not_open standing.NotOpen = true
 is_not_open standing.Open = false
 is_not_open standing.Down = false
 
+-- the store has fallen: no call is made on it any more
 abbrev pub is_down : Standing → Bool
 is_down standing.NotOpen = false
 is_down standing.Open = false

@@ -129,13 +129,6 @@ works_lem making old new running image next number step asked bodies files on s 
 
 -- ---- the freeze
 
-fresh_image : (image : Making) → image.stage ≡ FreezeStage → is_frozen_dump image ≡ true → ⊥
-fresh_image image stage is = false_last (kind_number image.order.kind == 2) (ap (λ past. (kind_number image.order.kind == 2) && past) (sym (ap is_past_freeze stage)) ∙ is)
-  where
-    false_last : (k : Bool) → (k && false) ≡ true → ⊥
-    false_last true same = false≢true same
-    false_last false same = false≢true same
-
 pub freezes_lem : QuietSteps → MakingLaws → (old new : CoreView) (running : Running) (image next : Making) (number : ℕ) (asked : List (Option Asked)) (bodies files : List (List ℕ))
     → FreezesMemory old running image number next new → Believes old asked bodies files → Believes new asked bodies files
 freezes_lem quiet making old new running image next number asked bodies files s b =

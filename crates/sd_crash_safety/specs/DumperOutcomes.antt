@@ -47,6 +47,7 @@ is_sync Open = false
 is_sync Cut = false
 is_sync Sync = true
 
+-- the call is the sync behind which a body that is being closed is closed
 abbrev pub closes_for_sure : Phase → Call → Bool
 closes_for_sure phase call = is_being_closed phase && is_sync call
 
@@ -142,6 +143,7 @@ pub record DumpOpens (old : CoreView) (running : Running) (image : Making) (made
   pub last : is_last running ≡ true
   pub is : new.dumper.running ≡ None
 
+-- each outcome of a dumper's call keeps what is believed of the slots
 pub record DumperOutcomes : Type 0 where
   pub fails : (old new : CoreView) (lane : ℕ) (made : Made) (phase : Phase) (asked : List (Option Asked))
       (bodies files : List (List ℕ))

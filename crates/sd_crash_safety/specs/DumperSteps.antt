@@ -48,6 +48,7 @@ pub record BeginsImage (old : CoreView) (running : Running) (phase : Phase) (new
       ≡ Some (record running
       { image = Some (begun_image (order_of running (old.numbers.serial + 1) (state_of phase))) })
 
+-- the call writes the gate, which opens the image
 abbrev pub opens_gate : DeviceCall → Bool
 opens_gate call.Len = false
 opens_gate (call.Read at) = false
@@ -146,6 +147,7 @@ IsOnPages Frozen = ⊥
 IsOnPages (Visited visit) = Unit {0}
 IsOnPages (Copied copied) = Unit {0}
 
+-- each step of the dumper keeps what is believed of the slots
 pub record DumperSteps : Type 0 where
   pub begins_image : (old new : CoreView) (running : Running) (phase : Phase) (asked : List (Option Asked))
       (bodies files : List (List ℕ))

@@ -45,6 +45,7 @@ abbrev pub IsOtherImage : Option Making → ℕ → Type 0
 IsOtherImage None serial = Unit {0}
 IsOtherImage (Some image) serial = image.order.serial ≢ serial
 
+-- the image that the checkpoint is making, if it makes one, has another serial
 abbrev pub MakesOther : Option Running → ℕ → Type 0
 MakesOther None serial = Unit {0}
 MakesOther (Some running) serial = IsOtherImage running.image serial

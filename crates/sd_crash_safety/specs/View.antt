@@ -30,6 +30,7 @@ pub record Numbers : Type 0 where
   -- the ticket of the next request
   pub ticket : ℕ
 
+-- the state of a core
 pub record CoreView : Type 0 where
   -- what the run started from
   pub base : Base
@@ -74,6 +75,7 @@ Rest = (Origin × ℕ) × (Marked × (ℕ × (ℕ × (Standing × (List Phase ×
 abbrev pub rest_of : CoreView → Rest
 rest_of c = ((c.base.origin, c.base.folded), (c.items, (c.held, (c.limit, (c.standing, (c.phases, workers_of c))))))
 
+-- how a view of a core is stored, where its rest is stored by the code given
 abbrev pub core_code : Coded Rest → Coded CoreView
 core_code rest = code_by ((Option ℕ × PlainMemory) × (Contents × Rest)) (coded× saved_code (coded× contents_code rest))
     (λ c. ((c.base.number, c.base.memory), (c.memory, rest_of c)))

@@ -32,4 +32,4 @@ pub use laws::crash_outcomes;
 pub use mem_disk::MemDisk;
 pub use open_error::OpenError;
 pub use pick::Pick;
-pub use slot_files::is_being_written;
+pub use slot_files::{is_being_written, lock_folder, make_folders};

@@ -12,6 +12,9 @@ use std::os::unix::fs::MetadataExt;
 use std::rt::Files;
 use std::{fs, io};
 
+/// What is told of a store's folder that another run has locked.
+const STORE_IS_OPEN: &str = "another run has this store open";
+
 pub(crate) fn of_folder(error: io::Error) -> OpenError {
     OpenError::Folder(FileFault::of_folder(error))
 }
@@ -29,7 +32,7 @@ pub(crate) fn prepare(
     if make {
         make_folders(rt, folder)?;
         sync_folder(rt, parent_of(folder))?;
-        return lock_folder(rt, folder).map(Some);
+        return lock_folder(rt, folder, STORE_IS_OPEN).map(Some);
     }
     if look(rt, folder)?.is_dir() {
         Ok(None)
@@ -44,7 +47,11 @@ fn look(rt: &impl Files, path: &str) -> io::Result<Metadata> {
 }
 
 /// Makes each folder of a path that is missing, and waits until its name is on the device.
-fn make_folders(rt: &impl Files<File = File>, path: &str) -> io::Result<()> {
+///
+/// # Errors
+///
+/// What the system answered for the first folder that can't be made, or whose name can't be synced.
+pub fn make_folders(rt: &impl Files<File = File>, path: &str) -> io::Result<()> {
     for (end, byte) in path.bytes().enumerate() {
         if byte == b'/' && end > 0 {
             make_folder(rt, path.get(..end).unwrap_or(path))?;
@@ -61,15 +68,20 @@ fn make_folder(rt: &impl Files<File = File>, path: &str) -> io::Result<()> {
     }
 }
 
-/// Takes the advisory lock of a folder, or fails where another program has it.
-fn lock_folder(rt: &impl Files<File = File>, folder: &str) -> io::Result<File> {
+/// Takes the advisory lock of a folder, which ends with the file that is returned (`flock`).
+///
+/// # Errors
+///
+/// `WouldBlock` with the text `taken` where another program has the lock; else what the system answered.
+pub fn lock_folder(
+    rt: &impl Files<File = File>,
+    folder: &str,
+    taken: &'static str,
+) -> io::Result<File> {
     let lock = uninterrupted(|| File::open(rt, folder))?;
     match lock.try_lock() {
         Ok(()) => Ok(lock),
-        Err(TryLockError::WouldBlock) => Err(io::Error::new(
-            io::ErrorKind::WouldBlock,
-            "another run has this store open",
-        )),
+        Err(TryLockError::WouldBlock) => Err(io::Error::new(io::ErrorKind::WouldBlock, taken)),
         Err(TryLockError::Error(error)) => Err(error),
     }
 }
@@ -85,7 +97,7 @@ pub fn is_being_written(rt: &impl Files<File = File>, folder: &str) -> bool {
 /// The folder in which a path's last name stands.
 fn parent_of(path: &str) -> &str {
     match path.trim_end_matches('/').rsplit_once('/') {
-        Some(("", _)) => "/",
+        Some((parent, _)) if parent.is_empty() => "/",
         Some((parent, _)) => parent,
         None => ".",
     }
@@ -121,25 +133,38 @@ pub(crate) fn open_present(
 
 /// Opens a slot's file, or tells that it is missing.
 fn open_image(rt: &impl Files<File = File>, path: &str, write: bool) -> io::Result<Option<File>> {
-    match look(rt, path) {
-        Ok(found) if found.is_file() => open_found(rt, path, write).map(Some),
-        Ok(_) => Err(io::Error::new(io::ErrorKind::Unsupported, "not a regular file")),
-        Err(error) if error.kind() != io::ErrorKind::NotFound => Err(error),
-        Err(_) if is_link(rt, path)? => Err(io::Error::new(
-            io::ErrorKind::NotFound,
-            "a symbolic link to a file that is missing",
-        )),
-        Err(_) => Ok(None),
+    match entry_of(rt, path)? {
+        None => Ok(None),
+        Some(entry) if entry.is_file() => open_found(rt, path, write).map(Some),
+        Some(entry) if entry.is_symlink() => open_linked(rt, path, write).map(Some),
+        Some(_) => Err(not_regular()),
     }
 }
 
-/// Whether something is there under a path whose file is missing: a symbolic link that leads nowhere.
-fn is_link(rt: &impl Files, path: &str) -> io::Result<bool> {
+/// What the system tells of a path itself, if it is there.
+fn entry_of(rt: &impl Files, path: &str) -> io::Result<Option<Metadata>> {
     match uninterrupted(|| fs::symlink_metadata(rt, path)) {
-        Ok(_) => Ok(true),
-        Err(error) if error.kind() == io::ErrorKind::NotFound => Ok(false),
+        Ok(entry) => Ok(Some(entry)),
+        Err(error) if error.kind() == io::ErrorKind::NotFound => Ok(None),
         Err(error) => Err(error),
     }
+}
+
+/// Opens the file to which a symbolic link leads.
+fn open_linked(rt: &impl Files<File = File>, path: &str, write: bool) -> io::Result<File> {
+    match look(rt, path) {
+        Ok(found) if found.is_file() => open_found(rt, path, write),
+        Ok(_) => Err(not_regular()),
+        Err(error) if error.kind() == io::ErrorKind::NotFound => Err(io::Error::new(
+            io::ErrorKind::NotFound,
+            "a symbolic link to a file that is missing",
+        )),
+        Err(error) => Err(error),
+    }
+}
+
+fn not_regular() -> io::Error {
+    io::Error::new(io::ErrorKind::Unsupported, "not a regular file")
 }
 
 /// Opens a file that is there, for reading alone unless it may be written.

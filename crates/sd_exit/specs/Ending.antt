@@ -33,6 +33,7 @@ abbrev pub end_status : Result Unit Stop → ℕ
 end_status (Ok _) = 0
 end_status (Err why) = status_of why
 
+-- the last line that a program prints, or nothing where all went well
 abbrev pub end_text : Result Unit Stop → List ℕ
 end_text (Ok _) = []
 end_text (Err why) = stop_text why

@@ -231,9 +231,6 @@ used_at size slots pool k v s = let f = some_cell (cell_at pool k) s in (f.0, f.
 pub within_slots : (size : ℕ) (slots : List FrameCell) (pool : Pool) (k : ℕ) → frames_of size slots ≡ pool → IsSome (cell_at pool k) → k < length slots
 within_slots size slots pool k v s = let u = used_at size slots pool k v s in got_within slots k (Used u.0) u.2
 
-same_used : (c d : Cell) → ◌≡◌ {A = Option FrameCell} (Some (Used c)) (Some (Used d)) → c ≡ d
-same_used c d e = cc
-
 same_slot : (s t : FrameCell) → ◌≡◌ {A = Option FrameCell} (Some s) (Some t) → s ≡ t
 same_slot s t e = cc
 

@@ -22,6 +22,7 @@ abbrev pub pool_code : Coded Pool
 pool_code = code_by (ℕ × List (Option Cell)) (coded× coded_ℕ (coded_list (coded_option cell_code)))
     (λ p. (p.size, p.cells)) (λ t. record { size = t.0; cells = t.1 }) (λ _. refl)
 
+-- the frame of a number, if it is in use
 abbrev pub cell_at : Pool → ℕ → Option Cell
 cell_at pool number = slice_index_or pool.cells number None
 

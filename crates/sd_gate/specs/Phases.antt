@@ -173,5 +173,6 @@ pub record Waits (phases : List Phase) (id : RequestId) (phase : Phase) : Type 0
 abbrev pub phases_after : List Phase → RequestId → Phase → Bool → List Phase
 phases_after phases id phase done = slice_set phases id.slot (after phase id.call done)
 
+-- the bodies of all slots behind a call that was carried out
 abbrev pub bodies_after : List (List ℕ) → RequestId → List ℕ → List (List ℕ)
 bodies_after bodies id bytes = slice_set bodies id.slot (body_after (file_at bodies id.slot) id.call bytes)

@@ -39,6 +39,7 @@ pub record Back : Type 0 where
   pub first : Option (List ℕ)
   pub second : Option (List ℕ)
 
+-- what the calls of a plan have found in a slot's file
 abbrev pub found_of : Found → Back
 found_of found = record
     { len = found.len; first = option_map (λ b. b.items) found.first; second = option_map (λ b. b.items) found.second }
@@ -113,6 +114,7 @@ calls_after plan made =
     then calls_then plan.calls plan.awaits made.answer (buffer_back made.request.id.call made.request.bytes)
     else ([], nothing)
 
+-- a plan behind the outcome of its call
 abbrev pub plan_after : Planned → Made → Planned
 plan_after plan made = record {
   slot = plan.slot;

@@ -12,6 +12,7 @@ use Rattle.sd_image.specs.Table.{Listed, table_text, IsTable}
 abbrev pub gate : ℕ
 gate = 165
 
+-- the text of an image
 pub record Image : Type 0 where
   pub header : Header
   pub pages : List (List ℕ)  -- the data pages

@@ -56,6 +56,7 @@ rules_kept breaks (rule ∷ rules) = if breaks rule then Err rule else rules_kep
 unfoldable pub number_at : ℕ → ℕ → List ℕ → ℕ
 number_at n place bytes = little_number n (drop place bytes)
 
+-- all of the bytes are zero
 unfoldable pub are_zero : List ℕ → Bool
 are_zero bytes = list_all (λ b. b == 0) bytes
 

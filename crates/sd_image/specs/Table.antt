@@ -19,6 +19,7 @@ pub record Listed : Type 0 where
   pub areas : List Area
   pub runs : List Run
 
+-- the table of a space by its lists
 abbrev pub listing_of : SpaceTable → Listed
 listing_of t = record { space = t.space; areas = t.areas.items; runs = t.runs.items }
 
@@ -42,6 +43,7 @@ space_text s = concat (
     ∷ flat_map run_text s.runs
     ∷ [])
 
+-- the bytes of the tables of an image
 unfoldable pub table_text : List Listed → List ℕ
 table_text spaces = concat (number_bytes 4 (length spaces) ∷ zero_bytes 4 ∷ flat_map space_text spaces ∷ [])
 
@@ -95,6 +97,7 @@ AreSpaces h before (s ∷ spaces) = IsSpace h before s × AreSpaces h s.space sp
 abbrev pub mapped_count : List Listed → ℕ
 mapped_count = sum_by (λ s. sum_by (λ (a : Area). a.count) s.areas)
 
+-- the pages of the run are in the image
 abbrev pub is_data : Run → Bool
 is_data run = run_kind_number run.kind == 1
 
@@ -102,6 +105,7 @@ is_data run = run_kind_number run.kind == 1
 abbrev pub data_count : List Listed → ℕ
 data_count = sum_by (λ s. sum_by (λ (r : Run). if is_data r then r.count else 0) s.runs)
 
+-- the tables of an image with this header
 pub record IsTable (h : Header) (spaces : List Listed) : Type 0 where
   pub few : length spaces ≤ 16
   pub each : AreSpaces h 0 spaces

@@ -20,11 +20,13 @@ abbrev pub version_number : Version → ℕ
 version_number One = 1
 version_number Two = 2
 
+-- the kind of an image as its header has it
 abbrev pub kind_number : Kind → ℕ
 kind_number PreDump = 1
 kind_number Dump = 2
 kind_number Merged = 3
 
+-- the kind of a run as its table has it
 abbrev pub run_kind_number : RunKind → ℕ
 run_kind_number Data = 1
 run_kind_number Parent = 2

@@ -4,6 +4,7 @@ use Rattle.sd_journal.specs.declared.placed_mark.PlacedMark.{PlacedMark}
 use Rattle.sd_journal.specs.History.{History}
 use Rattle.sd_journal.specs.Marked.{Told, Noted, Marked, entries_of}
 
+-- the state of a journal
 pub record JournalView : Type 0 where
   -- the number of the first entry
   pub first : ℕ
@@ -17,6 +18,7 @@ pub record JournalView : Type 0 where
   pub room : ℕ
   pub mark_room : ℕ
 
+-- how many entries a journal has
 abbrev pub entry_count : JournalView → ℕ
 entry_count journal = length (entries_of journal.items)
 

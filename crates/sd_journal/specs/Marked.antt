@@ -24,6 +24,7 @@ pub data Item : Type 0 where
   Told : Entry → Item
   Noted : Mark → Item
 
+-- a journal with the marks of the workers, the newest item first
 abbrev pub Marked : Type 0
 Marked = List Item
 
@@ -73,6 +74,7 @@ mark_serial (Start serial) = serial
 mark_serial (Visit serial space page) = serial
 mark_serial (Table serial) = serial
 
+-- the item is a mark of the image of this serial
 abbrev pub is_of : ℕ → Item → Bool
 is_of serial (Told entry) = false
 is_of serial (Noted mark) = mark_serial mark == serial

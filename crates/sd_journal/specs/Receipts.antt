@@ -24,6 +24,7 @@ abbrev pub HasCommand : ℕ → List Entry → ℕ → Type 0
 HasCommand first journal number =
     (seat : ℕ) × (command : Command) × (reply : Reply) × IsEntryAt first journal number (Applied seat command reply)
 
+-- each of the receipts stands in the journal
 abbrev pub AllStand : ℕ → List Entry → List Receipt → Type 0
 AllStand first journal receipts =
     (k : ℕ) (receipt : Receipt) → slice_get receipts k ≡ Some receipt → Stands first journal receipt
@@ -34,6 +35,7 @@ AreRising receipts = (j k : ℕ) (earlier later : Receipt) → j < k
     → slice_get receipts j ≡ Some earlier → slice_get receipts k ≡ Some later
     → earlier.seat ≡ later.seat → earlier.number < later.number
 
+-- the entry is a command, and no mark of a checkpoint
 abbrev pub is_command : Entry → Bool
 is_command (Applied seat command reply) = true
 is_command (Freeze n) = false

@@ -21,6 +21,7 @@ use Rattle.sd_journal.specs.Marked.{Item, Told, Noted, Marked, entries_of, is_du
 use Rattle.sd_journal.specs.Marked.{visiting, IsMarked, IsTracked}
 use Rattle.sd_journal.specs.Receipts.{is_command}
 
+-- the marked journal tells each page's soft-dirty bit, step by step
 pub record TrackedLaws : Type 0 where
   -- a marked journal without its marks is legal
   pub legal : (base : Base) (items : Marked) → IsMarked base items → IsLegal base (entries_of items)
@@ -74,6 +75,7 @@ visited_since (item ∷ earlier) n space page =
     if is_freeze n item then false
     else if clears space page (item_event item) then true else visited_since earlier n space page
 
+-- when a page is due, which is when the next image has to hold it
 pub record DueLaws : Type 0 where
   -- the soft-dirty bit that a visit finds is whether the page is due
   pub bit : (base : Base) (items : Marked) (contents : Contents) (space number : ℕ) (page : PageState)

@@ -275,6 +275,7 @@ pub record Opens (old : Copying) (made : Made) (image : NewImage) : Type 0 where
   pub pages : image.header.pages ≡ data_pages old.entries
   pub slot : image.slot ≡ old.order.slot
 
+-- what the outcome of a call on the merged image changes
 abbrev pub HandsIn : Copying → Made → CopyProgress → Copying → Type 0
 HandsIn old made progress.Strange new = (out_of old.stage ≢ Some made.request.id) × (new ≡ old)
 HandsIn old made progress.Failed new = Fails old made

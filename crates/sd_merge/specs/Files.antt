@@ -50,6 +50,7 @@ IsFiledIn (PageRead plan) order source entries pages = Unit {0}
 IsFiledIn (PageWrite plan) order source entries pages = Unit {0}
 IsFiledIn (Close plan header tables) order source entries pages = IsFiled order source entries pages header tables
 
+-- what the file of a merged image in the making will say of its source
 abbrev pub FilesCopy : Image → Pages → Copying → Type 0
 FilesCopy source pages copy = IsFiledIn copy.stage copy.order source copy.entries pages
 

@@ -43,6 +43,7 @@ doing_left running (retiring r) = retiring_left r
 abbrev pub running_left : Running → ℕ
 running_left running = doing_left running running.doing
 
+-- how many steps and outcomes a merge has left at most
 abbrev pub left_of : Option Running → ℕ
 left_of None = 0
 left_of (Some running) = running_left running

@@ -117,6 +117,7 @@ out_in (copying copy) = out_of copy.stage
 out_in (opened serial) = None
 out_in (retiring r) = r.plan.out
 
+-- the request of the merge that is out
 abbrev pub out_of_merge : Option Running → Option RequestId
 out_of_merge None = None
 out_of_merge (Some running) = out_in running.doing
@@ -150,6 +151,7 @@ LosesPage places (copying copy) = IsLost places copy
 LosesPage places (opened serial) = ⊥
 LosesPage places (retiring r) = ⊥
 
+-- the source of the merge has a page that its chain doesn't hold
 abbrev pub Loses : Places → Option Running → Type 0
 Loses places None = ⊥
 Loses places (Some running) = LosesPage places running.doing
@@ -161,6 +163,7 @@ slot_due running (copying copy) = None
 slot_due running (opened serial) = None
 slot_due running (retiring r) = None
 
+-- the slot of the merged image, where the merge hasn't begun it
 abbrev pub slot_before : Option Running → Option ℕ
 slot_before None = None
 slot_before (Some running) = slot_due running running.doing
@@ -231,6 +234,7 @@ pub record FailsClosing (old : Retiring) (made : Made) : Type 0 where
   pub out : old.plan.out ≡ Some made.request.id
   pub failed : is_done made.answer ≡ false
 
+-- what the outcome of a call that closes an image changes
 abbrev pub HandsClosing : Retiring → Made → MergeProgress → Retiring → Type 0
 HandsClosing old made progress.Strange new = (old.plan.out ≢ Some made.request.id) × (new ≡ old)
 HandsClosing old made progress.Failed new = FailsClosing old made
@@ -317,6 +321,7 @@ awaited_in (copying copy) = None
 awaited_in (opened serial) = Some serial
 awaited_in (retiring r) = None
 
+-- the serial of the merged image behind which the list of images to close is awaited
 abbrev pub awaited : Option Running → Option ℕ
 awaited None = None
 awaited (Some running) = awaited_in running.doing
@@ -340,6 +345,7 @@ pub record EndsAtOnce (old : Option Running) (list : List Retired) (serial : ℕ
   pub none : list ≡ []
   pub is : new ≡ None
 
+-- what a merge does with the list of images that it has to close
 abbrev pub TakesList : Option Running → List Retired → MergeProgress → Option Running → Type 0
 TakesList old list progress.Strange new = (awaited old ≡ None) × (new ≡ old)
 TakesList old list progress.Failed new = ⊥
@@ -355,6 +361,7 @@ list_in (copying copy) = []
 list_in (opened serial) = []
 list_in (retiring r) = r.list
 
+-- the images that a merge has to close
 abbrev pub list_of : Option Running → List Retired
 list_of None = []
 list_of (Some running) = list_in running.doing
@@ -366,6 +373,7 @@ source_in running (copying copy) = Some running.source
 source_in running (opened serial) = None
 source_in running (retiring r) = None
 
+-- the image whose chain the merge copies
 abbrev pub source_of : Option Running → Option Source
 source_of None = None
 source_of (Some running) = source_in running running.doing
@@ -402,10 +410,12 @@ HasSoundCopyIn (copying copy) = IsSoundCopying copy
 HasSoundCopyIn (opened serial) = Unit {0}
 HasSoundCopyIn (retiring r) = Unit {0}
 
+-- the merged image that a merge makes, if it makes one, is sound
 abbrev pub HasSoundCopy : Option Running → Type 0
 HasSoundCopy None = Unit {0}
 HasSoundCopy (Some running) = HasSoundCopyIn running.doing
 
+-- what holds of the merge that runs, if one does
 abbrev pub AreRunning : Option Running → Type 0
 AreRunning None = Unit {0}
 AreRunning (Some running) = IsRunning running

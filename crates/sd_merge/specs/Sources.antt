@@ -16,6 +16,7 @@ runs_count = sum_by (λ (r : Run). r.count)
 abbrev pub listed_count : List Listed → ℕ
 listed_count = sum_by (λ (s : Listed). runs_count s.runs)
 
+-- the source of a merge, by the open image that it copies
 abbrev pub source_from : Opened → Source
 source_from i = record {
   serial = i.header.serial;

@@ -18,9 +18,11 @@ abbrev pub slots_left : ℕ → Stage → ℕ
 slots_left zero stage = 1
 slots_left (suc others) stage = 9 * others + slot_left stage + 1
 
+-- how many steps and outcomes an opener has left at most
 abbrev pub looking_left : Looking → ℕ
 looking_left opener = slots_left (opener.slots - length opener.told) opener.stage
 
+-- the opener has less left than before
 abbrev pub LowersLooking : Looking → Looking → Type 0
 LowersLooking old new = looking_left new < looking_left old
 

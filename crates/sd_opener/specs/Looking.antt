@@ -17,6 +17,7 @@ use Rattle.sd_opener.specs.declared.opener_step.OpenerStep.TheVariants.{Call, De
 use Rattle.sd_opener.specs.declared.stage.Stage.{Stage}
 use Rattle.sd_opener.specs.declared.stage.Stage.TheVariants.{Asking, Read, Broken}
 
+-- the state of the opener
 pub record Looking : Type 0 where
   pub slots : ℕ
   -- the phases of the first slots; the next is the one that it looks at
@@ -76,6 +77,7 @@ pub record IsAtNext (old new : Looking) : Type 0 where
   pub told : length new.told ≡ length old.told + 1
   pub stage : new.stage ≡ Asking (begun (length new.told) first_looks the_length)
 
+-- the opener goes on in its slot, or looks at the next one
 abbrev pub LooksFurther : Looking → Looking → Type 0
 LooksFurther old new = (new.told ≡ old.told) ⊎ IsAtNext old new
 
@@ -98,6 +100,7 @@ pub record IsDecoded (old new : Looking) : Type 0 where
   pub read : (plan : Planned) → old.stage ≢ Asking plan
   pub next : IsAtNext old new
 
+-- what a step of the opener changes
 abbrev pub StepMoves : ℕ → Looking → OpenerStep → Looking → Type 0
 StepMoves ticket old (Call request) new = OpenerAsks ticket old request new
 StepMoves ticket old Decoded new = IsDecoded old new

@@ -47,9 +47,6 @@ pub get-parted : {Y : Type 0} (later done : PageState → Y) (start : Bound ℕ)
 unfolding parted
 get-parted later done start t q = get-map_entries (λ q x. cond (is_from start q) (later x) (done x)) t q
 
-some_value : {Y : Type 0} (f : PageState → Y) (o : Option PageState) (x : PageState) → o ≡ Some x → option_map f o ≡ Some (f x)
-some_value f o x e = ap (option_map f) e
-
 next_at : {Y : Type 0} (later done : PageState → Y) (start : Bound ℕ) (t : Table PageState) (page : ℕ) (x : PageState) → IsFirstFrom t start (Some page) → finmap.get t page ≡ Some x
     → (q : ℕ) (here : Bool) → nat_eq q page ≡ here → (o : Option PageState) → finmap.get t q ≡ o
     → option_map (λ y. cond (is_from (Excluded page) q) (later y) (done y)) o ≡ cond here (Some (done x)) (option_map (λ y. cond (is_from start q) (later y) (done y)) o)

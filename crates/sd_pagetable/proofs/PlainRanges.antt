@@ -161,9 +161,6 @@ run_is_mapped c s first count x =
     let inner = total_within-remove_space (λ (_ : PageState). 1) c.spaces s in
     omega (arith, enough, more, inner)
 
-hole_in : Table PageState → ℕ → Bool
-hole_in t q = not (is_some (finmap.get t q))
-
 pub set_counted : (t : Table PageState) (first count : ℕ) (x : PageState)
     → total (λ (_ : PageState). 1) (set_within t first (first + count - first) x) ≡ total (λ (_ : PageState). 1) t + count_by (λ q. not (is_some (finmap.get t q))) (pages_from first (first + count - first))
 set_counted t first zero x =

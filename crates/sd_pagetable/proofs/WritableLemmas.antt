@@ -14,9 +14,6 @@ use Rattle.sd_pagetable.proofs.TotalLemmas.{total_within-put, total_within_ge}
 use Rattle.sd_pagetable.proofs.ViewLemmas.{view_put, same_pool, SameOthers, entry_there, is_alone_in, one_share}
 use Rattle.sd_pagetable.proofs.KeptLemmas.{kept_put, apart_same, apart_new, frame_counted, share_class, other_class}
 
-opened_entry : Entry → ℕ → Entry
-opened_entry e own = record { prot = e.prot; frame = Some own; writable = true; soft_dirty = true }
-
 count_none : (pool : Pool) (k : ℕ) → cell_at pool k ≡ None → count_at pool k ≡ 0
 count_none pool k h = ap (λ o. option_map_or (λ (c : Cell). c.count) o 0) h
 

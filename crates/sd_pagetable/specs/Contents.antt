@@ -14,6 +14,7 @@ pub record Contents : Type 0 where
   pub pool : ℕ
   pub spaces : Nested PageState
 
+-- how the contents of a memory are stored as a value
 abbrev pub contents_code : Coded Contents
 contents_code = code_by (ℕ × Nested PageState) (coded× coded_ℕ (finmap.code coded_ℕ (finmap.code coded_ℕ page_code)))
     (λ c. (c.pool, c.spaces)) (λ t. record { pool = t.0; spaces = t.1 }) (λ _. refl)

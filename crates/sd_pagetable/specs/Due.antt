@@ -85,6 +85,7 @@ abbrev pub try_answer : Bool → StoreOutcome
 try_answer true = Done
 try_answer false = NeedsFault
 
+-- what a store that takes no fault answers: done, that it needs a fault, or why it is refused
 abbrev pub try_outcome : Contents → ℕ → ℕ → ℕ → Result StoreOutcome AccessError
 try_outcome contents space address bytes = answer (access_due (plain_of contents) space address bytes Write)
     (try_answer (option_map_or (λ (page : full.PageState). page.writable)
@@ -109,10 +110,12 @@ mmap_due memory space address bytes prot = in_space memory space
     (or_else (area_due (map_result (prots_in (inside memory space)) address bytes prot))
     (if nat_lt 65536 (page_count (after_mmap memory space address bytes prot)) then Some (Refused Enomem) else None))
 
+-- why `munmap` is refused, if it is
 abbrev pub munmap_due : PlainMemory → ℕ → ℕ → ℕ → Option AccessError
 munmap_due memory space address bytes =
     in_space memory space (area_due (unmap_result (prots_in (inside memory space)) address bytes))
 
+-- why `mprotect` is refused, if it is
 abbrev pub mprotect_due : PlainMemory → ℕ → ℕ → ℕ → Prot → Option AccessError
 mprotect_due memory space address bytes prot =
     in_space memory space (area_due (protect_result (prots_in (inside memory space)) address bytes prot))

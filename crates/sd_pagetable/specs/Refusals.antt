@@ -11,6 +11,7 @@ use Rattle.sd_pagetable.specs.declared.access_error.AccessError.TheVariants.{Ref
 use Rattle.sd_pagetable.specs.declared.memory_error.MemoryError.{MemoryError}
 use Rattle.sd_pagetable.specs.declared.memory_error.MemoryError.TheVariants.{Denied as DeniedError, OutOfMemory}
 
+-- the number of a refusal, as answers have it
 abbrev pub memory_refusal_number : MemoryRefusal → ℕ
 memory_refusal_number Einval = 1
 memory_refusal_number Enomem = 2
@@ -19,6 +20,7 @@ memory_refusal_number TooManySpaces = 4
 memory_refusal_number NoFrame = 5
 memory_refusal_number LastSpace = 15
 
+-- the name of a refusal, as answers have it
 abbrev pub memory_refusal_name : MemoryRefusal → List ℕ
 memory_refusal_name Einval = codes "EINVAL"
 memory_refusal_name Enomem = codes "ENOMEM"
@@ -31,6 +33,7 @@ memory_refusal_name LastSpace = codes "last-space"
 abbrev pub memory_refusal_text : MemoryRefusal → List ℕ
 memory_refusal_text refusal = numbered_text (memory_refusal_number refusal) (memory_refusal_name refusal)
 
+-- the name of a fault's code, as answers have it
 abbrev pub segv_name : segv.Segv → List ℕ
 segv_name Maperr = codes "maperr"
 segv_name Accerr = codes "accerr"

@@ -76,6 +76,7 @@ Step old Passed new = new ≡ old
 
 -- ---- whole histories, the newest event first
 
+-- the two places are the same page of the same space
 abbrev pub is_page : ℕ → ℕ → ℕ → ℕ → Bool
 is_page space page other_space other_page = space == other_space && page == other_page
 
@@ -88,6 +89,7 @@ touches space page (Tried s p offset bytes) = is_page s p space page
 touches space page (Stored s p offset bytes) = is_page s p space page
 touches space page _ = false
 
+-- the event clears the soft-dirty bit of this page
 abbrev pub clears : ℕ → ℕ → MemoryEvent → Bool
 clears space page (Cleared s p) = is_page s p space page
 clears space page _ = false

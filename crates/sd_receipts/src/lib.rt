@@ -5,8 +5,6 @@ mod checking;
 mod folded;
 mod laws;
 mod rising;
-#[cfg(test)]
-mod tests;
 
 pub use checking::check_receipts;
 pub use folded::Folded;

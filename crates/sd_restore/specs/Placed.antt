@@ -33,9 +33,11 @@ pub record PlacedPage : Type 0 where
 abbrev pub page_behind : PlacedRun → ℕ → PlacedPage
 page_behind r k = record { space = r.space; page = r.first + k; prot = r.prot; there = found_on r.there k }
 
+-- the pages of a run, each with where its bytes are found
 abbrev pub pages_in : PlacedRun → List PlacedPage
 pages_in r = map (page_behind r) (pages_from 0 r.count)
 
+-- the pages of these runs, each with where its bytes are found
 abbrev pub placed_pages : List PlacedRun → List PlacedPage
 placed_pages = flat_map pages_in
 

@@ -210,9 +210,6 @@ none_below k b (e ∷ es) l h =
 abbrev pages_of_spaces : List (ℕ × Space) → List Place
 pages_of_spaces es = flat_map space_places es
 
-in_entries : (s : Space) (space : ℕ) → space_places (space, s) ≡ listed_in space (finmap.entries s)
-in_entries s space = refl
-
 behind_spaces : (above : ℕ) (es : List (ℕ × Space)) → below_all nat_cmp above es ≡ true → is_sorted nat_cmp es ≡ true → AllByRecursion (IsBehind above) (pages_of_spaces es)
 behind_spaces above [] below sorted = tt
 behind_spaces above (e ∷ es) below sorted =

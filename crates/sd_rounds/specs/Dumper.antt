@@ -46,6 +46,7 @@ running_of c = record {
   image = c.maker;
 }
 
+-- the state of the dumper
 pub record Dumping : Type 0 where
   -- none while it is idle
   pub running : Option Running
@@ -60,9 +61,11 @@ idle since = record { running = None; since_freeze = since }
 abbrev pub is_last : Running → Bool
 is_last running = nat_le (length running.pre_dumps) running.opened
 
+-- the slot of the image that the checkpoint makes next or is making
 abbrev pub slot_of : Running → ℕ
 slot_of running = get_or running.pre_dumps running.opened running.dump
 
+-- the kind of the image that the checkpoint makes next or is making
 abbrev pub kind_of : Running → Kind
 kind_of running = if is_last running then Dump else PreDump
 
@@ -94,6 +97,7 @@ abbrev pub image_from : Running → ℕ → SlotState → Option Making → Maki
 image_from running serial state None = begun_image (order_of running serial state)
 image_from running serial state (Some image) = image
 
+-- the step freezes the memory
 abbrev pub freezes : ImageStep → Bool
 freezes (Call request) = false
 freezes (PageCall lane request) = false
@@ -125,6 +129,7 @@ abbrev pub out_of_image : Option Making → Option RequestId
 out_of_image None = None
 out_of_image (Some image) = out_of image.stage
 
+-- the request of the checkpoint's own lane that is out
 abbrev pub out_of_running : Option Running → Option RequestId
 out_of_running None = None
 out_of_running (Some running) = out_of_image running.image
@@ -134,6 +139,7 @@ abbrev pub writes_of_image : Option Making → List (Option RequestId)
 writes_of_image None = no_writes
 writes_of_image (Some image) = image.writes
 
+-- the page writes that are out
 abbrev pub writes_of_running : Option Running → List (Option RequestId)
 writes_of_running None = no_writes
 writes_of_running (Some running) = writes_of_image running.image
@@ -152,6 +158,7 @@ abbrev pub slot_before : Running → Option Making → Option ℕ
 slot_before running None = Some (slot_of running)
 slot_before running (Some image) = None
 
+-- the slot of the image that the checkpoint makes next, where it is making none
 abbrev pub next_slot : Option Running → Option ℕ
 next_slot None = None
 next_slot (Some running) = slot_before running running.image
@@ -196,6 +203,7 @@ abbrev pub image_serial : Option Making → Option ℕ
 image_serial None = None
 image_serial (Some image) = Some image.order.serial
 
+-- the serial of the image that the checkpoint is making
 abbrev pub serial_of_running : Option Running → Option ℕ
 serial_of_running None = None
 serial_of_running (Some running) = image_serial running.image
@@ -217,6 +225,7 @@ pub record HandsImage (old : Running) (made : Made) (opened : NewImage) : Type 0
   pub next : Making
   pub hands : HandsIn image made (Opened opened) next
 
+-- a checkpoint whose pre-dump has opened: the next image has it as its parent
 abbrev pub after_pre_dump : Running → NewImage → Running
 after_pre_dump old image = record old { opened = old.opened + 1; parent = image.header.serial; image = None }
 
@@ -244,6 +253,7 @@ is_strange GoesOn = false
 is_strange (PreDumpOpen image) = false
 is_strange (DumpOpen image) = false
 
+-- the image that is being made, if one is, is a dump that has frozen the memory
 abbrev pub is_frozen_image : Option Making → Bool
 is_frozen_image None = false
 is_frozen_image (Some image) = is_frozen_dump image
@@ -300,6 +310,7 @@ abbrev pub pages_of_image : Option Making → ℕ
 pages_of_image None = 0
 pages_of_image (Some image) = data_pages image.pass.entries
 
+-- how many data pages the image that the checkpoint is making has so far
 abbrev pub pages_of_checkpoint : Option Running → ℕ
 pages_of_checkpoint None = 0
 pages_of_checkpoint (Some running) = pages_of_image running.image
@@ -320,6 +331,7 @@ pub record IsRunning (since : ℕ) (running : Running) : Type 0 where
   pub own : IsItsImage running running.image
   pub counts : AreCounted since running.image
 
+-- what holds of the checkpoint that runs, if one does
 abbrev pub AreRunning : ℕ → Option Running → Type 0
 AreRunning since None = Unit {0}
 AreRunning since (Some running) = IsRunning since running

@@ -42,6 +42,7 @@ IsFiledIn Freeze order pass pages = Unit {0}
 IsFiledIn PassStage order pass pages = Unit {0}
 IsFiledIn (Close plan header tables) order pass pages = IsFiled order pass pages header tables
 
+-- what the file of an image in the making will say
 abbrev pub FilesImage : Pages → Making → Type 0
 FilesImage pages image = IsFiledIn image.stage image.order image.pass pages
 
@@ -52,6 +53,7 @@ HasAreasIn Freeze cut = Unit {0}
 HasAreasIn PassStage cut = Unit {0}
 HasAreasIn (Close plan header tables) cut = HasTheAreas (plain_of cut) tables
 
+-- the tables have the areas that the memory had at the freeze
 abbrev pub HasAreasAtFreeze : Contents → Making → Type 0
 HasAreasAtFreeze cut image = HasAreasIn image.stage cut
 

@@ -62,6 +62,7 @@ abbrev pub running_left : Running → PlainMemory → ℕ
 running_left running memory =
     making_left running.image memory + (length running.pre_dumps - running.opened) * next_left memory + 1
 
+-- how many steps and outcomes a checkpoint has left at most, over this memory
 abbrev pub left_of : Option Running → PlainMemory → ℕ
 left_of None memory = 0
 left_of (Some running) memory = running_left running memory

@@ -74,6 +74,7 @@ pub record TookVisited (takes_all : Bool) (visits : List Visit) (table : List Li
 
 -- ---- what steps and outcomes leave of both
 
+-- of a frozen memory a dump copies no more than the pages that are due
 pub record LittleLaws : Type 0 where
   pub freezes : (ticket : ℕ) (old new : Making) (before after : Contents) → Steps ticket old before Frozen new after
       → TakesDue before new after

@@ -260,6 +260,7 @@ abbrev pub stage_after : Kind → Stage → Planned → Calls → Stage
 stage_after kind stage plan [] = stage_behind kind stage
 stage_after kind stage plan (call ∷ calls) = with_plan stage plan
 
+-- what the outcome of a call of the plan changes, where the image isn't opened by it
 pub record PlanGoesOn (old : Making) (made : Made) (new : Making) : Type 0 where
   pub plan : Planned
   pub awaited : IsAwaited old made plan

@@ -34,6 +34,7 @@ IsKeptIn Freeze pages chain pass memory = Keeps (listed_pages pages) chain pass 
 IsKeptIn PassStage pages chain pass memory = Keeps (listed_pages pages) chain pass memory
 IsKeptIn (Close plan header tables) pages chain pass memory = Gave (listed_pages pages) chain pass.entries memory
 
+-- what an image in the making keeps of the pages that were copied for it
 pub record KeepsImage (pages : Pages) (chain : Chain) (making : Making) (memory : Contents) : Type 0 where
   pub count : length pages ≡ data_pages making.pass.entries
   pub whole : AllByRecursion (λ page. length page ≡ 4096) pages
@@ -47,6 +48,7 @@ IsDumpedIn Freeze cut pages chain pass memory = Unit {0}
 IsDumpedIn PassStage cut pages chain pass memory = IsDumping cut pass memory
 IsDumpedIn (Close plan header tables) cut pages chain pass memory = IsDumped (listed_pages pages) chain cut pass
 
+-- an image in the making holds what the memory at the freeze had
 abbrev pub DumpsImage : Contents → Pages → Chain → Making → Contents → Type 0
 DumpsImage cut pages chain making memory = IsDumpedIn making.stage cut pages chain making.pass memory
 
@@ -59,6 +61,7 @@ pages_after Frozen pages = pages
 pages_after (Visited visit) pages = pages
 pages_after (Copied copied) pages = pages
 
+-- the image of a header, its data pages and its tables
 abbrev pub image_of : Header → Pages → List Listed → Image
 image_of header pages tables = record { header = header; pages = pages; spaces = tables }
 

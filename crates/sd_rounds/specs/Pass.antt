@@ -16,6 +16,7 @@ pub record ImageEntry : Type 0 where
   pub place : Place
   pub kind : RunKind
 
+-- the space and page of an entry
 abbrev pub place_of_entry : ImageEntry → Place
 place_of_entry entry = entry.place
 

@@ -25,6 +25,7 @@ AreTables parent before (t ∷ tables) = IsTableAfter parent before t × AreTabl
 abbrev pub EndsBefore : Place → Listed → Type 0
 EndsBefore limit t = (t.space < limit.0) ⊎ ((t.space ≡ limit.0) × (end_of t.runs ≤ limit.1))
 
+-- all runs of these tables end before a place
 abbrev pub EndBefore : Place → List Listed → Type 0
 EndBefore limit = AllByRecursion (EndsBefore limit)
 
@@ -32,6 +33,7 @@ EndBefore limit = AllByRecursion (EndsBefore limit)
 abbrev pub listed : List SpaceTable → List Listed
 listed = map listing_of
 
+-- the pages of the tables of an image, each with its kind
 abbrev pub entries_in : List SpaceTable → List ImageEntry
 entries_in tables = entries_listed (listed tables)
 

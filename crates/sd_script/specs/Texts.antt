@@ -32,6 +32,7 @@ reply_text (Refused why) = codes "refused " ++ refusal_text why
 abbrev pub word_text : ℕ → List ℕ
 word_text word = codes " " ++ encode_lower (to_be_bytes w64 word)
 
+-- the line that a reply is printed as, with its newline
 abbrev pub reply_line : Reply → List ℕ
 reply_line reply = reply_text reply ++ 10 ∷ []
 

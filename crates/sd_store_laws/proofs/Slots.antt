@@ -208,9 +208,6 @@ is_there b one beliefs contents file images has is only others distinct rest = r
     mine (inr (inl e)) = inr (inl (subst (Contains (b ∷ beliefs)) e (contains_front b beliefs)))
     mine (inr (inr e)) = inr (inr (subst (Contains (b ∷ beliefs)) e (contains_front b beliefs)))
 
-no_file : (b : Belief) (beliefs : List Belief) → AllZip FitsBelief (b ∷ beliefs) [] → {A : Type 0} → A
-no_file b beliefs never = absurd never
-
 left_of : (beliefs : List Belief) (contents : List (List ℕ)) → AllZip FitsBelief beliefs contents → (images : List Image) × Left beliefs contents images
 unfolding IsDistinct
 left_of [] [] fits = (

@@ -22,6 +22,7 @@ image_in (Kept i) = Some i
 image_in (Closing i) = Some i
 image_in (Opening i) = Some i
 
+-- the image that a slot is believed to have
 abbrev pub image_at : List Belief → ℕ → Option Image
 image_at beliefs slot = option_and_then image_in (slice_get beliefs slot)
 

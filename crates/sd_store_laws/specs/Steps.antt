@@ -28,6 +28,7 @@ added s new number = record { catalog = new; chain = number ∷ []; work = s.wor
 abbrev pub committed : Store → List Image → Store
 committed s new = record { catalog = new; chain = []; work = s.work; source = s.source; grows = true }
 
+-- a checkpoint is given up: its images stay, and belong to nothing that runs
 abbrev pub cancelled : Store → Store
 cancelled s = record { catalog = s.catalog; chain = []; work = s.work; source = s.source; grows = false }
 

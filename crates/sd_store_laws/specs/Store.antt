@@ -7,6 +7,7 @@ use Rattle.sd_image.specs.Laws.{SerialsDiffer}
 use Rattle.sd_store_laws.specs.Cut.{Repeats}
 use Rattle.sd_store_laws.specs.Harmless.{IsSource, IsUnused}
 
+-- the open images of a store, and what its workers need of them
 pub record Store : Type 0 where
   pub catalog : List Image  -- the open images, and those that are being closed
   pub chain : List ℕ  -- the number that the next image of the running checkpoint has as its parent
@@ -45,6 +46,7 @@ pub record IsNext (s : Store) (i : Image) : Type 0 where
   pub fresh : IsFresh s i
   pub parent : Contains s.chain i.header.parent
 
+-- an image that may be the next pre-dump of the running checkpoint
 pub record IsNextPreDump (s : Store) (i : Image) : Type 0 where
   pub next : IsNext s i
   pub kind : i.header.kind ≡ PreDump

@@ -16,6 +16,7 @@ first_allowed (Included first) = first
 first_allowed (Excluded before) = before + 1
 first_allowed Unbounded = 0
 
+-- the lowest page of a table from a bound on, if it has one there
 abbrev pub IsFirstFrom : {X : Type 0} → Table X → Bound ℕ → Option ℕ → Type 0
 IsFirstFrom table start None = (page : ℕ) → IsSome (finmap.get table page) → is_from start page ≡ false
 IsFirstFrom table start (Some first) = IsSome (finmap.get table first) × (is_from start first ≡ true)

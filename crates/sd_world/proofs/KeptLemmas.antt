@@ -135,20 +135,6 @@ pub record WritePages (slot : ℕ) (a b : Made) : Type 0 where
 wrote : Phase → Bool → Phase
 wrote p done = cond done (filled p) phase.Shut
 
-filled_twice : (p : Phase) → filled (filled p) ≡ filled p
-filled_twice phase.Raw = refl
-filled_twice phase.RawClosing = refl
-filled_twice phase.Whole = refl
-filled_twice phase.Closing = refl
-filled_twice phase.Shut = refl
-filled_twice phase.ShutSynced = refl
-filled_twice phase.Bare = refl
-filled_twice phase.Writing = refl
-filled_twice phase.Ready = refl
-filled_twice phase.Opening = refl
-filled_twice phase.Doubt = refl
-filled_twice phase.DoubtSynced = refl
-
 wrote_twice : (p : Phase) (one other : Bool) → wrote (wrote p one) other ≡ wrote (wrote p other) one
 unfolding wrote
 wrote_twice p true true = refl

@@ -12,6 +12,7 @@ use Rattle.sd_world.specs.declared.call_state.CallState.TheVariants as its
 use Rattle.sd_world.specs.declared.kept.Kept.{Kept}
 use Rattle.sd_world.specs.declared.kept.Kept.TheVariants.{Nothing, Request, Outcome}
 
+-- the state of a world: a core, its disk, and what is kept of the calls between them
 pub record WorldView (D : Type 0) : Type 0 where
   pub core : CoreView
   pub disk : D

@@ -1,4 +1,5 @@
-//! Tests of journals, of the commands that they hold, and of folds of their entries, by their public names.
+//! Tests of journals, of the commands that they hold, of receipts against them, and of folds of their entries, by their
+//! public names.
 #![tactic(auto)]
 
 #[cfg(test)]
@@ -9,6 +10,8 @@ mod copies;
 mod folds;
 #[cfg(test)]
 mod journals;
+#[cfg(test)]
+mod receipts;
 #[cfg(test)]
 mod replays;
 #[cfg(test)]

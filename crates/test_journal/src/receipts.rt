@@ -1,9 +1,9 @@
 //! Receipts against a journal.
 
-use crate::{CloseFault, Receipt, check_receipts};
 use sd_areas::SpaceId;
 use sd_command::{Command, Reply};
-use sd_journal::{Entry, Journal};
+use sd_journal::{CloseFault, Entry, Journal, Receipt};
+use sd_receipts::check_receipts;
 use std::alloc::Global;
 use std::process::Abort;
 use std::test::Fail;
