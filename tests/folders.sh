@@ -1,18 +1,16 @@
 # How the folder of a store and its files are made and opened: what is synced, in which order, and what is refused.
 
-# The file calls of a run, one a line, as strace tells them with the paths of descriptors: the file calls-of-run.
-trace_run() {  # trace_run STORE SCRIPT
+# The file calls of a program, one a line, as strace tells them with the paths of descriptors: the file calls-of-run.
+trace() {  # trace PROGRAM WORD..
   command -v strace > /dev/null || { echo "needs strace"; return 77; }
   strace -y -o calls-of-run -e trace=mkdir,openat,open,pwrite64,ftruncate,fsync,fdatasync,write \
-    "$ckpt" run "$1" "$2" > answers 2> err || { echo "strace can't run here"; return 77; }
+    "$ckpt" "$@" > answers 2> err || { echo "strace can't run here"; return 77; }
 }
 
-# Each folder that is made is synced into the one in which it stands.
-folders_are_synced_into_their_parents() {
-  echo 'checkpoint 0' > script
-  trace_run x1/x2/x3 script || return
+# Whether each of these folders was made, and synced into the one in which it stands.
+are_synced_into_their_parents() {  # are_synced_into_their_parents FOLDER..
   local made parent
-  for made in x1 x1/x2 x1/x2/x3; do
+  for made in "$@"; do
     parent=$(dirname "$made")
     parent=$([ "$parent" = . ] && pwd || echo "$(pwd)/$parent")
     awk -v made="mkdir(\"$made\"" -v parent="<$parent>" '
@@ -22,10 +20,24 @@ folders_are_synced_into_their_parents() {
   done
 }
 
+# Each folder that a run makes is synced into the one in which it stands.
+folders_are_synced_into_their_parents() {
+  echo 'checkpoint 0' > script
+  trace run x1/x2/x3 script || return
+  are_synced_into_their_parents x1 x1/x2 x1/x2/x3
+}
+
+# So is each that an export makes.
+folders_of_an_export_are_synced_into_their_parents() {
+  make_store store || return 1
+  trace export store y1/y2 || return
+  are_synced_into_their_parents y1 y1/y2
+}
+
 # The names of the files are on the device before the store is said to be opened.
 files_are_synced_before_the_store_is_opened() {
   echo 'checkpoint 0' > script
-  trace_run store script || return
+  trace run store script || return
   awk -v folder="<$(pwd)/store>" '
     /O_CREAT/ && /img-[0-9]+"/ { made++; synced = 0 }
     /^fsync/ && index($0, folder) { synced = 1 }
@@ -50,7 +62,7 @@ calls_on() {  # calls_on SLOT
 calls_on_a_slot_have_their_order() {
   printf '%s\n' 'mmap 1 0x10000 8192 rw' 'store 1 0x10000 61' 'store 1 0x11000 62' 'checkpoint 0' 'store 1 0x11000 63' \
     'checkpoint 0' merge > script
-  trace_run store script || return
+  trace run store script || return
   same "the last answer" "$(tail -n 1 answers)" "merged 3" || return 1
   same "the first image, which the merge closes" "$(calls_on 000)" "sszstdddhsoszst" || return 1
   same "the second image, which the merge closes" "$(calls_on 001)" "sszstddhsoszst" || return 1
@@ -98,6 +110,7 @@ a_slot_that_is_no_file_is_told() {
 }
 
 try folders_are_synced_into_their_parents
+try folders_of_an_export_are_synced_into_their_parents
 try files_are_synced_before_the_store_is_opened
 try calls_on_a_slot_have_their_order
 try slots_that_share_a_file_are_not_written

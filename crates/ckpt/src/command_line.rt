@@ -15,7 +15,7 @@ use std::fmt::Write;
 
 /// What `--version` prints: the version of the program, the images that it writes and reads, and the kit it is proved
 /// with.
-const VERSION: &str = "1.4.0, writes images of version 2 and reads 1 and 2, rattle-kit-13f";
+const VERSION: &str = "1.4.1, writes images of version 2 and reads 1 and 2, rattle-kit-13f";
 
 /// One of the programs.
 #[derive(Clone, Copy)]

@@ -1,4 +1,5 @@
 pub mod Ending
+pub mod Fronts
 pub mod Listing
 pub mod Texts
 pub mod Printed

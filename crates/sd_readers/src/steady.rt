@@ -1,11 +1,13 @@
 //! What a program that reads a store prints, by the program's name; and answers that are of one moment of the store.
-ghost use Rattle.std.specs.Prelude.{◌≡◌, ◌≢◌, ◌<◌, true, length, IfErr, OnOk};
+ghost use Rattle.std.specs.Prelude.{◌≡◌, ◌≢◌, ◌<◌, true, length, map, slice_range, IfErr, IfOk, OnOk};
+ghost use Rattle.sd_disk.specs.Contents.{file_at};
 ghost use Rattle.sd_disk.specs.Reads.{OnlyReads};
 ghost use Rattle.sd_restore.specs.declared.fault.Fault.TheVariants as fault;
 ghost use Rattle.sd_restore.specs.Faulty.{FaultNames};
 ghost use Rattle.sd_exit.specs.Ending.{OnWriter};
 ghost use Rattle.sd_readers.specs.declared.steady.Reader.TheVariants.{Restore, List};
 ghost use Rattle.sd_readers.specs.Ending.{EndsWithOne, IsReadable, writer_failed};
+ghost use Rattle.sd_readers.specs.Fronts.{front};
 ghost use Rattle.sd_readers.specs.Reading.{ReadsStore};
 
 use crate::list::print_list;
@@ -56,7 +58,9 @@ fn print_by<D: Disk, W: Write>(
 /// The length of a slot's file, in bytes.
 fn file_len<D: Disk>(disk: &mut D, slot: usize) -> Result<usize, DeviceError>
     requires { slot < length (D.contents disk.old) }
-    ensures { OnlyReads D.Disk disk.old disk.new }
+    ensures length { D.is_honest disk.new
+        → IfOk result (λ n. n ≡ length (file_at (D.contents disk.old) slot)) }
+    ensures reads { OnlyReads D.Disk disk.old disk.new }
 {
     disk.len(slot)
 }
@@ -64,7 +68,9 @@ fn file_len<D: Disk>(disk: &mut D, slot: usize) -> Result<usize, DeviceError>
 /// Fills the buffer from the start of a slot's file.
 fn read_start<D: Disk>(disk: &mut D, slot: usize, buffer: &mut [u8]) -> Result<(), DeviceError>
     requires { slot < length (D.contents disk.old) }
-    ensures { OnlyReads D.Disk disk.old disk.new }
+    ensures bytes { D.is_honest disk.new → OnOk result (buffer.new
+        ≡ slice_range (file_at (D.contents disk.old) slot) 0 (length buffer.old)) }
+    ensures reads { OnlyReads D.Disk disk.old disk.new }
 {
     disk.read(slot, 0, buffer)
 }
@@ -72,14 +78,16 @@ fn read_start<D: Disk>(disk: &mut D, slot: usize, buffer: &mut [u8]) -> Result<(
 /// The front of a slot's file.
 fn front_of<D: Disk>(disk: &mut D, slot: usize) -> Result<Front, DeviceError>
     requires { slot < length (D.contents disk.old) }
-    ensures { OnlyReads D.Disk disk.old disk.new }
+    ensures exact { D.is_honest disk.new
+        → IfOk result (λ found. found ≡ front (file_at (D.contents disk.old) slot)) }
+    ensures reads { OnlyReads D.Disk disk.old disk.new }
 {
     if file_len(disk, slot)? < HEADER_SIZE {
         return Ok(None);
     }
     let mut bytes = [0; FRONT];
     read_start(disk, slot, &mut bytes)?;
-    Ok((bytes[0] == GATE).then_some(bytes))
+    Ok(if bytes[0] == GATE { Some(bytes) } else { None })
 }
 
 /// The fronts of all slots' files. As long as they stay the same, so do the open images, since a serial is never given
@@ -89,6 +97,8 @@ fn front_of<D: Disk>(disk: &mut D, slot: usize) -> Result<Front, DeviceError>
 ///
 /// Where a call of the device failed or memory was refused.
 pub fn fronts<D: Disk>(alloc: Global, disk: &mut D) -> Result<Vec<Front>, Fault>
+    ensures exact { D.is_honest disk.new
+        → IfOk result (λ fronts. fronts.items ≡ map front (D.contents disk.old)) }
     ensures unnamed { IfErr result (FaultNames (λ _ _. ⊥)) }
     ensures empty { result ≢ Err fault.EmptyChain }
     ensures reads { OnlyReads D.Disk disk.old disk.new }

@@ -41,10 +41,10 @@ abbrev pub answer_line : Answer → List ℕ
 answer_line (answer.Reply reply) = reply_line reply
 answer_line (answer.Words words) = codes "words" ++ flat_map word_text words.items ++ 10 ∷ []
 
--- the line of an answer isn't one of those that are short: of a load of up to 64 bytes, or of the replies `done` and
+-- the answer has none of the short lines, which are those of a load of up to 64 bytes and of the replies `done` and
 -- `needs-fault`
-abbrev pub IsLong : Answer → Type 0
-IsLong (answer.Reply Done) = ⊥
-IsLong (answer.Reply NeedsFault) = ⊥
-IsLong (answer.Reply (Bytes bytes)) = 64 < length bytes
-IsLong _ = Unit {0}
+abbrev pub HasNoShortLine : Answer → Type 0
+HasNoShortLine (answer.Reply Done) = ⊥
+HasNoShortLine (answer.Reply NeedsFault) = ⊥
+HasNoShortLine (answer.Reply (Bytes bytes)) = 64 < length bytes
+HasNoShortLine _ = Unit {0}

@@ -3,7 +3,7 @@ ghost use Rattle.std.specs.Prelude.{◌≡◌, ◌≤◌, ◌<◌, ◌+◌, ◌*
 ghost use Rattle.std.specs.List.{flat_map};
 ghost use Rattle.std.specs.Io.KnownBytes.{Appends};
 ghost use Rattle.hex.specs.Hex.{encode_lower};
-ghost use Rattle.sd_script.specs.Texts.{IsLong, answer_line, reply_line, word_text};
+ghost use Rattle.sd_script.specs.Texts.{HasNoShortLine, answer_line, reply_line, word_text};
 
 use crate::answer::Answer;
 use sd_command::Reply;
@@ -19,7 +19,7 @@ pub const SHORT_LINE: usize = 2 * PART + 7;
 /// Puts the line of an answer into room of its caller's, and returns how long it is: that of a load, of a command that
 /// was done, or of a store that needs a fault. None for another answer, whose line [`print_answer`] makes.
 pub fn put_short_line(answer: &Answer, room: &mut [u8; SHORT_LINE]) -> Option<usize>
-    ensures { MatchOption result (IsLong answer.now)
+    ensures { MatchOption result (HasNoShortLine answer.now)
         (λ count. (count ≤ 135) × (take count room.new ≡ answer_line answer.now)) }
 {
     let Answer::Reply(reply) = answer else {
