@@ -1,12 +1,13 @@
 //! `--json` of the programs that read a store: one document on one line.
 
-use crate::cause::{tell, tell_device};
+use crate::cause::{Causes, tell, tell_device};
 use crate::folders::open_store;
-use crate::reading::{BESIDE, PAUSES, ReadAsked, deed_of, tell_beside};
+use crate::reading::{BESIDE, PAUSES, deed_of, tell_beside};
 use crate::verbose::{Seen, unseen};
 use sd_disk::{DirDisk, is_being_written};
 use sd_exit::{Output, Stop, exit, exit_told};
 use sd_json::{fault_document, steady_document};
+use sd_readers::Reader;
 use sd_restore::Fault;
 use serde_json::Value;
 use std::alloc::Global;
@@ -20,28 +21,30 @@ fn may_change(read: &Result<Value, Fault>) -> bool {
     matches!(read, Err(Fault::Device | Fault::Damaged { .. }))
 }
 
-/// The document of which program and store, and what is to be seen of it.
+/// Which program reads, which store, and what is to be seen of it.
 #[derive(Clone, Copy)]
 pub struct DocumentAsked<'s, 'f> {
     pub seen: Seen<'s>,
-    pub read: ReadAsked<'f>,
+    pub causes: Causes,
+    pub reader: Reader,
+    pub folder: &'f str,
 }
 
 impl DocumentAsked<'_, '_> {
     /// Reads the store once. The outer error is a folder that isn't opened.
     fn read_once(self, rt: &HostRuntime) -> Result<(DirDisk, Result<Value, Fault>), Stop> {
-        let disk = open_store(rt, self.read.causes, self.read.folder)?;
-        let mut disk = self.seen.disk(deed_of(self.read.reader), disk);
-        let read = steady_document(rt.alloc(), self.read.reader, &mut disk);
+        let disk = open_store(rt, self.causes, self.folder)?;
+        let mut disk = self.seen.disk(deed_of(self.reader), disk);
+        let read = steady_document(rt.alloc(), self.reader, &mut disk);
         Ok((unseen(disk), read))
     }
 
     /// Reads a store that no run is writing.
     fn read_alone(self, rt: &HostRuntime) -> Result<Result<Value, Fault>, Stop> {
         let (disk, read) = self.read_once(rt)?;
-        tell_device(rt, self.read.causes, self.read.folder, &disk);
+        tell_device(rt, self.causes, self.folder, &disk);
         if may_change(&read) {
-            tell_beside(rt, self.read.causes, self.read.folder);
+            tell_beside(rt, self.causes, self.folder);
         }
         Ok(read)
     }
@@ -62,7 +65,7 @@ impl DocumentAsked<'_, '_> {
             read = again;
         }
         if may_change(&read) {
-            tell(rt, self.read.causes, self.read.folder, &BESIDE);
+            tell(rt, self.causes, self.folder, &BESIDE);
         }
         Ok(read)
     }
@@ -93,7 +96,7 @@ pub fn json_program<R: Clock + Wait, W: Write>(
     asked: DocumentAsked<'_, '_>,
     out: &mut Output<W>,
 ) -> Result<u8, Stop> {
-    let read = if is_being_written(rt, asked.read.folder) {
+    let read = if is_being_written(rt, asked.folder) {
         asked.read_beside(rt, clock)?
     } else {
         asked.read_alone(rt)?

@@ -14,10 +14,9 @@ use counted::{MergeJob, RunAsked, ScriptJob, ShellJob, run_job};
 use course::{Course, FewAt, Noted};
 use ends::{FewSlots, tell_end, tell_few_slots};
 use folders::make_store;
-use json::{DocumentAsked, json_program};
 use mutating::mutate_program;
 use progress::ProgressLine;
-use reading::{ReadAsked, read_seen, read_store, reader_of};
+use reading::{read_seen, read_store, reader_of};
 use scripts::{parse_script, read_script};
 use sd_disk::Disk;
 use sd_exit::{Output, Stop, exit};
@@ -218,19 +217,19 @@ fn reader_program<R: Clock + Wait, W: Write>(
     let causes = causes_asked(words);
     let log = logger_for(rt, words);
     let seen = seen_by(rt, &log, words, is_watched(rt, causes));
-    let read = ReadAsked {
-        causes,
-        reader: reader_of(name),
-        folder,
-    };
     if words.get_flag("json") {
-        let asked = DocumentAsked { seen, read };
-        return json_program(rt, threads, asked, out);
+        let asked = json::DocumentAsked {
+            seen,
+            causes,
+            reader: reader_of(name),
+            folder,
+        };
+        return json::json_program(rt, threads, asked, out);
     }
     if seen.is_asked() {
-        return read_seen(rt, threads, seen, read, out);
+        return read_seen(rt, threads, seen, causes, reader_of(name), folder, out);
     }
-    let (_, status) = read_store(rt, threads, read, out)?;
+    let (_, status) = read_store(rt, threads, causes, reader_of(name), folder, out)?;
     Ok(status)
 }
 

@@ -21,14 +21,6 @@ use std::sync::Wait;
 use std::thread;
 use std::time::{Clock, Duration};
 
-/// Which program reads, which store, and how much is told of it.
-#[derive(Clone, Copy)]
-pub struct ReadAsked<'f> {
-    pub causes: Causes,
-    pub reader: Reader,
-    pub folder: &'f str,
-}
-
 /// The disk that was read at last, and the exit status.
 pub type Reading = (DirDisk, u8);
 
@@ -76,14 +68,16 @@ fn read_to<D: Disk, W: Write>(
 #[tactic(auto, using(crate::proofs::ReadingLemmas::answers_folder))]
 fn try_to_read(
     rt: &(impl Files<File = File> + Eprint + AllocGlobal),
-    asked: ReadAsked<'_>,
+    causes: Causes,
+    reader: Reader,
+    folder: &str,
 ) -> Result<Tried, Stop>
-    ensures { IfOk result (λ tried. ReaderEnds asked.reader (IsFolderHonest tried.disk) (folder_files tried.disk)
+    ensures { IfOk result (λ tried. ReaderEnds reader (IsFolderHonest tried.disk) (folder_files tried.disk)
         (Some []) (Some tried.text.items) false tried.status) }
 {
-    let mut disk = open_store(rt, asked.causes, asked.folder)?;
+    let mut disk = open_store(rt, causes, folder)?;
     let mut out = Output::new(Vec::new(rt.alloc()));
-    let status = read_to(rt.alloc(), asked.reader, &mut disk, &mut out);
+    let status = read_to(rt.alloc(), reader, &mut disk, &mut out);
     if out.is_refused() {
         return Err(Stop::Fault(Fault::OutOfMemory));
     }
@@ -101,34 +95,38 @@ fn try_to_read(
 fn try_often<R: Clock + Wait>(
     rt: &(impl Files<File = File> + Eprint + AllocGlobal),
     clock: &R,
-    asked: ReadAsked<'_>,
+    causes: Causes,
+    reader: Reader,
+    folder: &str,
 ) -> Result<Tried, Stop>
-    ensures { IfOk result (λ tried. ReaderEnds asked.reader (IsFolderHonest tried.disk) (folder_files tried.disk)
+    ensures { IfOk result (λ tried. ReaderEnds reader (IsFolderHonest tried.disk) (folder_files tried.disk)
         (Some []) (Some tried.text.items) false tried.status) }
 {
     for pause in PAUSES {
-        let tried = try_to_read(rt, asked)?;
+        let tried = try_to_read(rt, causes, reader, folder)?;
         if tried.status != FAILED {
             return Ok(tried);
         }
         thread::sleep(clock, Duration::from_millis(pause));
     }
-    try_to_read(rt, asked)
+    try_to_read(rt, causes, reader, folder)
 }
 
 /// Reads a store while a run writes it. What is printed is whole, or why there is nothing.
 fn read_beside<R: Clock + Wait, W: Write>(
     rt: &(impl Files<File = File> + Eprint + AllocGlobal),
     clock: &R,
-    asked: ReadAsked<'_>,
+    causes: Causes,
+    reader: Reader,
+    folder: &str,
     out: &mut Output<W>,
 ) -> Result<Reading, Stop>
-    ensures { IfOk result (λ read. ReadsFolder asked.reader read
+    ensures { IfOk result (λ read. ReadsFolder reader read
         (W.contents out.old.writer) (W.contents out.new.writer) out.new.refused) }
 {
-    let tried = try_often(rt, clock, asked)?;
+    let tried = try_often(rt, clock, causes, reader, folder)?;
     if let (FAILED, Some(fault)) = (tried.status, tried.fault) {
-        tell(rt, asked.causes, asked.folder, &BESIDE);
+        tell(rt, causes, folder, &BESIDE);
         return Err(Stop::Fault(fault));
     }
     let Tried {
@@ -145,17 +143,19 @@ fn read_beside<R: Clock + Wait, W: Write>(
 #[tactic(auto, using(crate::proofs::ReadingLemmas::answers_folder))]
 fn read_alone<W: Write>(
     rt: &(impl Files<File = File> + Eprint + AllocGlobal),
-    asked: ReadAsked<'_>,
+    causes: Causes,
+    reader: Reader,
+    folder: &str,
     out: &mut Output<W>,
 ) -> Result<Reading, Stop>
-    ensures { IfOk result (λ read. ReadsFolder asked.reader read
+    ensures { IfOk result (λ read. ReadsFolder reader read
         (W.contents out.old.writer) (W.contents out.new.writer) out.new.refused) }
 {
-    let mut disk = open_store(rt, asked.causes, asked.folder)?;
-    let status = read_to(rt.alloc(), asked.reader, &mut disk, out);
-    tell_device(rt, asked.causes, asked.folder, &disk);
+    let mut disk = open_store(rt, causes, folder)?;
+    let status = read_to(rt.alloc(), reader, &mut disk, out);
+    tell_device(rt, causes, folder, &disk);
     if status == FAILED && !out.is_refused() {
-        tell_beside(rt, asked.causes, asked.folder);
+        tell_beside(rt, causes, folder);
     }
     Ok((disk, status))
 }
@@ -169,17 +169,19 @@ fn read_alone<W: Write>(
 pub fn read_store<R: Clock + Wait, W: Write>(
     rt: &(impl Files<File = File> + Eprint + AllocGlobal),
     clock: &R,
-    asked: ReadAsked<'_>,
+    causes: Causes,
+    reader: Reader,
+    folder: &str,
     out: &mut Output<W>,
 ) -> Result<Reading, Stop>
     // The whole text of what the store shows is written, or a beginning of it, with the last line and the exit status.
-    ensures { IfOk result (λ read. ReadsFolder asked.reader read
+    ensures { IfOk result (λ read. ReadsFolder reader read
         (W.contents out.old.writer) (W.contents out.new.writer) out.new.refused) }
 {
-    if is_being_written(rt, asked.folder) {
-        read_beside(rt, clock, asked, out)
+    if is_being_written(rt, folder) {
+        read_beside(rt, clock, causes, reader, folder, out)
     } else {
-        read_alone(rt, asked, out)
+        read_alone(rt, causes, reader, folder, out)
     }
 }
 
@@ -196,12 +198,14 @@ pub fn deed_of(reader: Reader) -> &'static str {
 fn read_seen_once<W: Write>(
     rt: &HostRuntime,
     seen: Seen<'_>,
-    asked: ReadAsked<'_>,
+    causes: Causes,
+    reader: Reader,
+    folder: &str,
     out: &mut Output<W>,
 ) -> Result<Reading, Stop> {
-    let disk = open_store(rt, asked.causes, asked.folder)?;
-    let mut disk = seen.disk(deed_of(asked.reader), disk);
-    let status = read_to(rt.alloc(), asked.reader, &mut disk, out);
+    let disk = open_store(rt, causes, folder)?;
+    let mut disk = seen.disk(deed_of(reader), disk);
+    let status = read_to(rt.alloc(), reader, &mut disk, out);
     Ok((unseen(disk), status))
 }
 
@@ -209,13 +213,15 @@ fn read_seen_once<W: Write>(
 fn read_seen_alone<W: Write>(
     rt: &HostRuntime,
     seen: Seen<'_>,
-    asked: ReadAsked<'_>,
+    causes: Causes,
+    reader: Reader,
+    folder: &str,
     out: &mut Output<W>,
 ) -> Result<u8, Stop> {
-    let (disk, status) = read_seen_once(rt, seen, asked, out)?;
-    tell_device(rt, asked.causes, asked.folder, &disk);
+    let (disk, status) = read_seen_once(rt, seen, causes, reader, folder, out)?;
+    tell_device(rt, causes, folder, &disk);
     if status == FAILED && !out.is_refused() {
-        tell_beside(rt, asked.causes, asked.folder);
+        tell_beside(rt, causes, folder);
     }
     Ok(status)
 }
@@ -226,25 +232,27 @@ fn read_seen_beside<R: Clock + Wait, W: Write>(
     rt: &HostRuntime,
     clock: &R,
     seen: Seen<'_>,
-    asked: ReadAsked<'_>,
+    causes: Causes,
+    reader: Reader,
+    folder: &str,
     out: &mut Output<W>,
 ) -> Result<u8, Stop> {
     let mut held = Output::new(Vec::new(rt.alloc()));
-    let (_, mut status) = read_seen_once(rt, seen, asked, &mut held)?;
+    let (_, mut status) = read_seen_once(rt, seen, causes, reader, folder, &mut held)?;
     for pause in PAUSES {
         if status != FAILED || held.is_refused() {
             break;
         }
         thread::sleep(clock, Duration::from_millis(pause));
         held = Output::new(Vec::new(rt.alloc()));
-        let (_, again) = read_seen_once(rt, seen, asked, &mut held)?;
+        let (_, again) = read_seen_once(rt, seen, causes, reader, folder, &mut held)?;
         status = again;
     }
     if held.is_refused() {
         return Err(Stop::Fault(Fault::OutOfMemory));
     }
     if let (FAILED, Some(fault)) = (status, held.fault()) {
-        tell(rt, asked.causes, asked.folder, &BESIDE);
+        tell(rt, causes, folder, &BESIDE);
         return Err(Stop::Fault(fault));
     }
     out.write_all(&held.into_writer())?;
@@ -256,13 +264,15 @@ pub fn read_seen<R: Clock + Wait, W: Write>(
     rt: &HostRuntime,
     clock: &R,
     seen: Seen<'_>,
-    asked: ReadAsked<'_>,
+    causes: Causes,
+    reader: Reader,
+    folder: &str,
     out: &mut Output<W>,
 ) -> Result<u8, Stop> {
-    if is_being_written(rt, asked.folder) {
-        read_seen_beside(rt, clock, seen, asked, out)
+    if is_being_written(rt, folder) {
+        read_seen_beside(rt, clock, seen, causes, reader, folder, out)
     } else {
-        read_seen_alone(rt, seen, asked, out)
+        read_seen_alone(rt, seen, causes, reader, folder, out)
     }
 }
 
