@@ -46,7 +46,9 @@ def add_imports(line, imports):
 
 
 def head_of(line, inside):
-    """The kind and the name of the definition that begins in a line, if one does; `inside` a module it is indented by two."""
+    """The kind and the name of the definition that begins in a line, if one does.
+
+    `inside` a module it is indented by two."""
     if is_comment(line) or line.startswith("}") or not line.strip():
         return None
     if line.startswith(" ") and not (inside and re.match(r"  \S", line)):

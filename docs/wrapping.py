@@ -8,7 +8,10 @@ USE = re.compile(r"^(\s*(?:(?:pub|ghost) )*use [^{]*\{)(.*)(\};?)$")
 NAMED = re.compile(r"^(\s*(?:abbrev |pub )*[^=\s][^=]*? =) (.*)$")
 NO_TERM = ("pub record", "pub data", "ensures", "requires", "use", "ghost")
 # Where a term is broken, the loosest first: before these.
-BREAKS = [(" → ",), (" ⊎ ",), (" × ",), (" else ",), (" then ",), (" ∧ ",), (" ≡ ", " ≤ ", " < "), (", ", "; "), (" (", " {"), (" ",)]
+BREAKS = [
+    (" → ",), (" ⊎ ",), (" × ",), (" else ",), (" then ",), (" ∧ ",), (" ≡ ", " ≤ ", " < "), (", ", "; "), (" (", " {"),
+    (" ",),
+]
 
 
 def indent_of(line):

@@ -43,7 +43,7 @@ pub record JournalsCommand (old : CoreView) (seat : ℕ) (command : Command) (to
   pub items : new.items ≡ Told (Applied seat command told) ∷ old.items
   pub memory : IsCommanded (pending (history_of old)) command told old.memory new.memory
 
--- each step of a core that makes no device call keeps what is believed of the slots
+-- what is believed of the slots stays where a core stays as it is, and where it journals a command
 pub record CoreSteps : Type 0 where
   pub same : (old new : CoreView) (asked : List (Option Asked)) (bodies files : List (List ℕ)) → SameCore old new
       → Believes old asked bodies files → Believes new asked bodies files

@@ -75,7 +75,7 @@ visited_since (item ∷ earlier) n space page =
     if is_freeze n item then false
     else if clears space page (item_event item) then true else visited_since earlier n space page
 
--- when a page is due, which is when the next image has to hold it
+-- the soft-dirty bit of a page says whether it is due, and what is due at a freeze stays so until its visit
 pub record DueLaws : Type 0 where
   -- the soft-dirty bit that a visit finds is whether the page is due
   pub bit : (base : Base) (items : Marked) (contents : Contents) (space number : ℕ) (page : PageState)

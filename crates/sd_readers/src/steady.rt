@@ -1,6 +1,7 @@
 //! What a program that reads a store prints, by the program's name; and answers that are of one moment of the store.
-ghost use Rattle.std.specs.Prelude.{◌≡◌, ◌≢◌, ◌<◌, true, length, map, slice_range, IfErr, IfOk, OnOk};
+ghost use Rattle.std.specs.Prelude.{◌≡◌, ◌≢◌, ◌<◌, true, length, map, slice_range, IfErr, IfOk, IsErrOf, OnOk};
 ghost use Rattle.sd_disk.specs.Contents.{file_at};
+ghost use Rattle.sd_disk.specs.Failures.{HasCause};
 ghost use Rattle.sd_disk.specs.Reads.{OnlyReads};
 ghost use Rattle.sd_restore.specs.declared.fault.Fault.TheVariants as fault;
 ghost use Rattle.sd_restore.specs.Faulty.{FaultNames};
@@ -61,6 +62,7 @@ fn file_len<D: Disk>(disk: &mut D, slot: usize) -> Result<usize, DeviceError>
     ensures length { D.is_honest disk.new
         → IfOk result (λ n. n ≡ length (file_at (D.contents disk.old) slot)) }
     ensures reads { OnlyReads D.Disk disk.old disk.new }
+    ensures cause { HasCause (D.failed disk.old) (D.failed disk.new) result }
 {
     disk.len(slot)
 }
@@ -71,6 +73,7 @@ fn read_start<D: Disk>(disk: &mut D, slot: usize, buffer: &mut [u8]) -> Result<(
     ensures bytes { D.is_honest disk.new → OnOk result (buffer.new
         ≡ slice_range (file_at (D.contents disk.old) slot) 0 (length buffer.old)) }
     ensures reads { OnlyReads D.Disk disk.old disk.new }
+    ensures cause { HasCause (D.failed disk.old) (D.failed disk.new) result }
 {
     disk.read(slot, 0, buffer)
 }
@@ -81,6 +84,7 @@ fn front_of<D: Disk>(disk: &mut D, slot: usize) -> Result<Front, DeviceError>
     ensures exact { D.is_honest disk.new
         → IfOk result (λ found. found ≡ front (file_at (D.contents disk.old) slot)) }
     ensures reads { OnlyReads D.Disk disk.old disk.new }
+    ensures cause { HasCause (D.failed disk.old) (D.failed disk.new) result }
 {
     if file_len(disk, slot)? < HEADER_SIZE {
         return Ok(None);
@@ -102,6 +106,8 @@ pub fn fronts<D: Disk>(alloc: Global, disk: &mut D) -> Result<Vec<Front>, Fault>
     ensures unnamed { IfErr result (FaultNames (λ _ _. ⊥)) }
     ensures empty { result ≢ Err fault.EmptyChain }
     ensures reads { OnlyReads D.Disk disk.old disk.new }
+    ensures device { IsErrOf result fault.Device → D.failed disk.old < D.failed disk.new }
+    ensures stops { D.failed disk.old < D.failed disk.new → IsErrOf result fault.Device }
 {
     let mut fronts = Vec::new(alloc);
     for slot in 0..disk.slots() {

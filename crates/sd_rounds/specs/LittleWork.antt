@@ -48,7 +48,7 @@ TakesDueIn Freeze cut pass memory = Unit {0}
 TakesDueIn PassStage cut pass memory = IsTaking cut pass memory
 TakesDueIn (Close plan header tables) cut pass memory = HasWays cut pass × Lists pass.entries tables
 
--- the dump of a memory that was frozen as `cut` takes the pages that are due, and no other
+-- the dump of a memory that was frozen as `cut` has each page of it in the way that is due
 abbrev pub TakesDue : Contents → Making → Contents → Type 0
 TakesDue cut image memory = TakesDueIn image.stage cut image.pass memory
 
@@ -74,7 +74,7 @@ pub record TookVisited (takes_all : Bool) (visits : List Visit) (table : List Li
 
 -- ---- what steps and outcomes leave of both
 
--- of a frozen memory a dump copies no more than the pages that are due
+-- a dump has each page of the memory at the freeze in the way that is due, and a pre-dump those that its visits found
 pub record LittleLaws : Type 0 where
   pub freezes : (ticket : ℕ) (old new : Making) (before after : Contents) → Steps ticket old before Frozen new after
       → TakesDue before new after

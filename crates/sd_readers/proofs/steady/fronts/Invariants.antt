@@ -8,6 +8,7 @@ abbrev pub invariant-loop-slot : goal.invariant-loop-slot
 invariant-loop-slot g l = record {
   reads : OnlyReads g.D.Disk l.fn.disk l.disk;
   count : l.slot-end ≡ length (g.D.Disk.contents l.fn.disk);
+  stays : g.D.Disk.failed l.disk ≡ g.D.Disk.failed l.fn.disk;
   many : length l.fronts.items ≡ l.slot;
   exact : g.D.Disk.is_honest l.disk → l.fronts.items ≡ map front (take l.slot (g.D.Disk.contents l.fn.disk));
 }
