@@ -1,4 +1,5 @@
 pub mod ByteLemmas
+pub mod ItemLemmas
 pub mod PrintLemmas
 pub mod CountLemmas
 pub mod SlotLemmas

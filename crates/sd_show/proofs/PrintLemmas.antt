@@ -1,15 +1,14 @@
 -- What is printed in parts.
-use Rattle.std.proofs.Common.{◌≡◌, ◌≤◌, ◌<◌, ◌+◌, ◌-◌, ◌^◌, false, codes, replicate, append-nil, ℕ, zero, suc, List, [], ◌∷◌, ◌++◌, drop, length, get_or, Option, Result, Ok, Err, OnOk, refl, sym, ◌∙◌, ap, subst, arith}
+use Rattle.std.proofs.Common.{◌≡◌, ◌≤◌, ◌<◌, ◌+◌, ◌-◌, ◌^◌, false, codes, replicate, append-nil, ℕ, List, [], ◌∷◌, ◌++◌, drop, length, get_or, Option, Result, Ok, Err, OnOk, refl, sym, ◌∙◌, ap, subst, arith}
 use Rattle.std.specs.Fmt.{decimal, char_count, shown_prefix, padded_integral, format_spec}
 use Rattle.std.specs.Io.KnownBytes.{Appends}
 use Rattle.std.proofs.KnownBytes.{Appends-nil, Appends-trans}
-use Rattle.std.proofs.lemmas.Bool.{cond-false, cond-true, le-leb, lt-leb}
 use Rattle.std.proofs.lemmas.List.{drop_more, length-drop, nil_from_length}
-use Rattle.sd_disk.specs.Contents.{file_at}
 use Rattle.sd_show.specs.declared.state.State.{State}
 use Rattle.sd_show.specs.Slots.{state_word}
-use Rattle.sd_show.specs.Items.{behind_run, behind_runs, behind_space, runs_in}
-use Rattle.sd_show.specs.Texts.{run_line, runs_text, slot_line, slot_lines, slots_text, space_lines, spaces_text}
+use Rattle.sd_show.specs.Items.{behind_run, behind_runs, behind_space, runs_in, spaces_in}
+use Rattle.sd_show.specs.Texts.{run_line, runs_text, slot_line, space_lines, spaces_text}
+use Rattle.sd_show.proofs.ItemLemmas.{spaces_more}
 
 -- where a part was printed of what is left, the rest makes it whole
 pub part_printed : (a b c : Option (List ℕ)) (part rest whole : List ℕ) → part ++ rest ≡ whole → Appends a b part → Appends b c rest → Appends a c whole
@@ -62,29 +61,6 @@ behind_done at runs i all = ap (behind_runs at) (none_left runs i all)
 
 -- ---- spaces
 
-pub spaces_more : (left : ℕ) (at : Option ℕ) (bytes : List ℕ) → 0 < left → 16 ≤ length bytes
-    → space_lines at bytes ++ spaces_text (left - 1) (behind_runs at (runs_in bytes)) (behind_space bytes) ≡ spaces_text left at bytes
-unfolding spaces_text
-spaces_more zero at bytes some long = absurd (omega (arith, some))
-spaces_more (suc n) at bytes some long =
-    ap (λ k. space_lines at bytes ++ spaces_text k (behind_runs at (runs_in bytes)) (behind_space bytes)) (let e : suc n - 1 ≡ n = omega arith in e)
-    ∙ sym (cond-false _ _ _ (lt-leb (suc (length bytes)) 16 (omega (arith, long))))
-
-pub no_spaces : (left : ℕ) (at : Option ℕ) (bytes : List ℕ) → left ≡ 0 → spaces_text left at bytes ≡ []
-unfolding spaces_text
-no_spaces zero at bytes none = refl
-no_spaces (suc n) at bytes none = absurd (omega (arith, none))
-
-pub short_spaces : (left : ℕ) (at : Option ℕ) (bytes : List ℕ) → length bytes < 16 → spaces_text left at bytes ≡ []
-unfolding spaces_text
-short_spaces zero at bytes short = refl
-short_spaces (suc n) at bytes short = cond-true _ _ _ (le-leb (suc (length bytes)) 16 (omega (arith, short)))
-
--- ---- slots
-
-pub slots_more : (contents : List (List ℕ)) (slot : ℕ) → slot < length contents
-    → slot_lines slot (file_at contents slot) ++ slots_text (slot + 1) (drop (slot + 1) contents) ≡ slots_text slot (drop slot contents)
-slots_more contents slot less = sym (ap (slots_text slot) (drop_more contents slot [] less))
-
-pub slots_done : (contents : List (List ℕ)) (slot : ℕ) → length contents ≤ slot → slots_text slot (drop slot contents) ≡ []
-slots_done contents slot all = ap (slots_text slot) (none_left contents slot all)
+pub spaces_text_more : (left : ℕ) (at : Option ℕ) (bytes : List ℕ) → 0 < left → 16 ≤ length bytes
+    → space_lines at bytes ++ spaces_text (behind_runs at (runs_in bytes)) (spaces_in (left - 1) (behind_space bytes)) ≡ spaces_text at (spaces_in left bytes)
+spaces_text_more left at bytes some long = sym (ap (spaces_text at) (spaces_more left bytes some long))

@@ -1,7 +1,7 @@
 -- The pages that a table lists, by how its image has them.
-use Rattle.std.specs.Prelude.{ℕ, zero, suc, ◌+◌, ◌==◌, nat_lt, if◌then◌else◌, List, [], ◌∷◌, length, drop}
+use Rattle.std.specs.Prelude.{ℕ, ◌==◌, if◌then◌else◌, List, sum_by}
 use Rattle.sd_image.specs.Reading.{number_at}
-use Rattle.sd_show.specs.Items.{behind_space, runs_in}
+use Rattle.sd_show.specs.Items.{runs_in, table_spaces}
 
 -- the pages of a run, if it is of a kind
 abbrev pub run_page_count : ℕ → List ℕ → ℕ
@@ -9,15 +9,12 @@ run_page_count kind run = if number_at 4 16 run == kind then number_at 8 8 run e
 
 -- the pages of the runs of a kind
 abbrev pub runs_pages : ℕ → List (List ℕ) → ℕ
-runs_pages kind [] = 0
-runs_pages kind (run ∷ runs) = run_page_count kind run + runs_pages kind runs
+runs_pages kind = sum_by (run_page_count kind)
 
--- and of those of so many spaces, as far as the bytes go
-unfoldable pub spaces_pages : ℕ → ℕ → List ℕ → ℕ
-spaces_pages kind zero bytes = 0
-spaces_pages kind (suc n) bytes =
-    if nat_lt (length bytes) 16 then 0 else runs_pages kind (runs_in bytes) + spaces_pages kind n (behind_space bytes)
+-- and of those of spaces, each the bytes from it on
+abbrev pub spaces_pages : ℕ → List (List ℕ) → ℕ
+spaces_pages kind = sum_by (λ space. runs_pages kind (runs_in space))
 
 -- and of those of a table
 abbrev pub table_pages : ℕ → List ℕ → ℕ
-table_pages kind table = if nat_lt (length table) 8 then 0 else spaces_pages kind (number_at 4 0 table) (drop 8 table)
+table_pages kind table = spaces_pages kind (table_spaces table)

@@ -1,6 +1,6 @@
 -- The items of a table, as they stand there, as far as its bytes go.
-use Rattle.std.specs.Prelude.{ℕ, ◌+◌, ◌*◌, ◌/◌, ◌^◌, ◌==◌, nat_lt, if◌then◌else◌, List, [], ◌∷◌, length, take, drop}
-use Rattle.std.specs.Prelude.{Option, None, Some}
+use Rattle.std.specs.Prelude.{ℕ, zero, suc, ◌+◌, ◌*◌, ◌/◌, ◌^◌, ◌==◌, nat_lt, if◌then◌else◌}
+use Rattle.std.specs.Prelude.{List, [], ◌∷◌, length, take, drop, Option, None, Some}
 use Rattle.std.specs.Simd.{first_chunks}
 use Rattle.sd_image.specs.Reading.{number_at}
 
@@ -17,6 +17,15 @@ runs_in bytes = items_in (number_at 8 8 bytes) (drop (24 * number_at 4 4 bytes) 
 
 unfoldable pub behind_space : List ℕ → List ℕ
 behind_space bytes = drop (24 * number_at 8 8 bytes) (drop (24 * number_at 4 4 bytes) (drop 16 bytes))
+
+-- the bytes from each of so many spaces on, as far as they go
+unfoldable pub spaces_in : ℕ → List ℕ → List (List ℕ)
+spaces_in zero bytes = []
+spaces_in (suc n) bytes = if nat_lt (length bytes) 16 then [] else bytes ∷ spaces_in n (behind_space bytes)
+
+-- and from each space of a table on
+abbrev pub table_spaces : List ℕ → List (List ℕ)
+table_spaces table = if nat_lt (length table) 8 then [] else spaces_in (number_at 4 0 table) (drop 8 table)
 
 -- where the bytes behind so many data pages begin in the file, if that is below 2^64
 abbrev pub behind : Option ℕ → ℕ → Option ℕ

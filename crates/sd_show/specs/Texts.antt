@@ -1,7 +1,7 @@
 -- The text of a slot.
-use Rattle.std.specs.Prelude.{ℕ, zero, suc, ◌+◌, ◌*◌, ◌-◌, ◌^◌, ◌==◌, ◌&&◌, not, nat_lt, nat_le, false, if◌then◌else◌}
-use Rattle.std.specs.Prelude.{List, [], ◌∷◌, ◌++◌, codes, length, drop, replicate, slice_range, Option, None, Some}
-use Rattle.std.specs.List.{flat_map}
+use Rattle.std.specs.Prelude.{ℕ, ◌+◌, ◌*◌, ◌-◌, ◌^◌, ◌==◌, ◌&&◌, not, nat_lt, nat_le, false, if◌then◌else◌}
+use Rattle.std.specs.Prelude.{List, [], ◌∷◌, ◌++◌, codes, length, replicate, slice_range, Option, None, Some}
+use Rattle.std.specs.List.{enumerate_from, flat_map}
 use Rattle.std.specs.Fmt.{decimal, digits}
 use Rattle.std.specs.Str.{bytes_eq}
 use Rattle.hex.specs.Hex.{encode_lower}
@@ -11,7 +11,7 @@ use Rattle.sd_image.specs.Image.{is_open}
 use Rattle.sd_image.specs.Reading.{digest_of_file, number_at, prot_of_number}
 use Rattle.sd_image.specs.ReasonLaws.{reason_number}
 use Rattle.sd_show.specs.declared.state.State.{State}
-use Rattle.sd_show.specs.Items.{areas_in, behind_run, behind_runs, behind_space, runs_in}
+use Rattle.sd_show.specs.Items.{areas_in, behind_run, behind_runs, runs_in, table_spaces}
 use Rattle.sd_show.specs.Phrases.{reason_phrase}
 use Rattle.sd_show.specs.Slots.{fault_in, state_in, state_word, table_bytes}
 
@@ -109,14 +109,13 @@ unfoldable pub space_lines : Option ℕ → List ℕ → List ℕ
 space_lines at bytes = field_line (codes "space") (number_at 4 0 bytes) ++ flat_map area_item_line
     (areas_in bytes) ++ runs_text at (runs_in bytes)
 
--- so many spaces, as far as the bytes go
-unfoldable pub spaces_text : ℕ → Option ℕ → List ℕ → List ℕ
-spaces_text zero at bytes = []
-spaces_text (suc n) at bytes = if nat_lt (length bytes) 16 then []
-    else space_lines at bytes ++ spaces_text n (behind_runs at (runs_in bytes)) (behind_space bytes)
+-- spaces, the data pages of each behind those of the one before
+abbrev pub spaces_text : Option ℕ → List (List ℕ) → List ℕ
+spaces_text at [] = []
+spaces_text at (space ∷ spaces) = space_lines at space ++ spaces_text (behind_runs at (runs_in space)) spaces
 
 unfoldable pub table_lines : List ℕ → List ℕ
-table_lines table = if nat_lt (length table) 8 then [] else spaces_text (number_at 4 0 table) (Some 4096) (drop 8 table)
+table_lines table = spaces_text (Some 4096) (table_spaces table)
 
 -- ---- the slot
 
@@ -141,7 +140,6 @@ slot_lines slot file = slot_line slot (state_in file)
     ++ (if is_open file then opened_text (fault_in file) (slice_range file 0 4096) (digest_of_file file)
     (table_bytes file) else [])
 
--- slots, rising from one on
-abbrev pub slots_text : ℕ → List (List ℕ) → List ℕ
-slots_text slot [] = []
-slots_text slot (file ∷ files) = slot_lines slot file ++ slots_text (slot + 1) files
+-- all slots, rising
+abbrev pub slots_text : List (List ℕ) → List ℕ
+slots_text contents = flat_map (λ (slot : ℕ × List ℕ). slot_lines slot.0 slot.1) (enumerate_from 0 contents)

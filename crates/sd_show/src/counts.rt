@@ -1,7 +1,8 @@
 //! How many pages a table lists, by how its image has them.
 
-ghost use Rattle.std.specs.Prelude.{◌≡◌, ◌^◌, ◌-◌, min};
+ghost use Rattle.std.specs.Prelude.{◌≡◌, ◌+◌, ◌-◌, ◌^◌, min};
 ghost use Rattle.sd_show.specs.Counts.{run_page_count, runs_pages, spaces_pages, table_pages};
+ghost use Rattle.sd_show.specs.Items.{spaces_in};
 
 use crate::fields::{u32_at, u64_at};
 use crate::items::{ITEM_SIZE, SPACE_HEAD_SIZE, TABLE_HEAD_SIZE, behind_space, runs_in};
@@ -22,15 +23,21 @@ impl PageCounts {
         zeros: 0,
     };
 
-    /// How many pages in all.
-    pub fn all(self) -> u64 {
+    /// How many pages in all. The number stops at 2^64 - 1.
+    pub fn all(self) -> u64
+        ensures { result ≡ min (self.data + self.parent + self.zeros) (2 ^ 64 - 1) }
+    {
         self.data
             .saturating_add(self.parent)
             .saturating_add(self.zeros)
     }
 
-    /// These pages and others.
-    pub fn and(self, others: PageCounts) -> PageCounts {
+    /// These pages and others. Each number stops at 2^64 - 1.
+    pub fn and(self, others: PageCounts) -> PageCounts
+        ensures data { result.data ≡ min (self.data + others.data) (2 ^ 64 - 1) }
+        ensures parent { result.parent ≡ min (self.parent + others.parent) (2 ^ 64 - 1) }
+        ensures zeros { result.zeros ≡ min (self.zeros + others.zeros) (2 ^ 64 - 1) }
+    {
         PageCounts {
             data: self.data.saturating_add(others.data),
             parent: self.parent.saturating_add(others.parent),
@@ -63,7 +70,7 @@ fn count_runs(kind: u32, runs: &[[u8; ITEM_SIZE]]) -> u64
 
 /// The pages of the runs of this kind in so many spaces, as far as the bytes go.
 fn count_spaces(kind: u32, count: u32, bytes: &[u8]) -> u64
-    ensures { result ≡ min (spaces_pages kind count bytes.now) (2 ^ 64 - 1) }
+    ensures { result ≡ min (spaces_pages kind (spaces_in count bytes.now)) (2 ^ 64 - 1) }
 {
     let mut pages = 0u64;
     let mut left = count;

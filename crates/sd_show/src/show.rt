@@ -52,7 +52,7 @@ pub fn show_slot<D: Disk, W: Write>(
 pub fn show_slots<D: Disk, W: Write>(alloc: Global, disk: &mut D, out: &mut W) -> Result<bool, Stop>
     // What is printed is the text of each slot's file, one behind the other.
     ensures text { D.is_honest disk.new → OnOk result
-        (Appends (W.contents out.old) (W.contents out.new) (slots_text 0 (D.contents disk.old))) }
+        (Appends (W.contents out.old) (W.contents out.new) (slots_text (D.contents disk.old))) }
     ensures damaged { D.is_honest disk.new → IfOk result
         (λ damaged. damaged ≡ list_any is_damaged (D.contents disk.old)) }
     ensures reads { OnlyReads D.Disk disk.old disk.new }

@@ -3,7 +3,7 @@ ghost use Rattle.std.specs.Prelude.{◌≡◌, ◌⊎◌, ◌+◌, ◌^◌, ◌�
 ghost use Rattle.std.specs.List.{flat_map};
 ghost use Rattle.std.specs.Io.KnownBytes.{Appends};
 ghost use Rattle.sd_image.specs.Reading.{prot_of_number};
-ghost use Rattle.sd_show.specs.Items.{behind_runs, runs_in};
+ghost use Rattle.sd_show.specs.Items.{behind_runs, runs_in, spaces_in};
 ghost use Rattle.sd_show.specs.Texts.{area_item_line, offset_text, permissions_text, range_text, run_kind_text};
 ghost use Rattle.sd_show.specs.Texts.{run_kind_word, run_line, runs_text, space_lines, spaces_text, table_lines};
 
@@ -164,7 +164,7 @@ fn print_space<W: Write>(at: Option<u64>, bytes: &[u8], out: &mut W) -> io::Resu
 /// Prints so many spaces, as far as the bytes go.
 fn print_spaces<W: Write>(count: u32, bytes: &[u8], out: &mut W) -> io::Result<()>
     ensures { OnOk result (Appends (W.contents out.old) (W.contents out.new)
-        (spaces_text count (Some 4096) bytes.now)) }
+        (spaces_text (Some 4096) (spaces_in count bytes.now))) }
 {
     let mut left = count;
     let mut rest = bytes;

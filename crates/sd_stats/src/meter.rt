@@ -23,6 +23,7 @@ struct Running {
 #[derive(Drop)]
 pub struct Meter {
     alloc: Global,
+    /// How many device calls were made.
     calls: u64,
     /// How many of the calls read pages.
     reads: u64,
@@ -64,11 +65,6 @@ impl Meter {
             merge_begun: Duration::ZERO,
             done: Vec::new(alloc),
         })
-    }
-
-    /// How many device calls were made.
-    pub fn calls(&self) -> u64 {
-        self.calls
     }
 
     /// The records that were made since this was asked before.
