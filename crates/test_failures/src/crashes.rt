@@ -11,7 +11,7 @@ const MOST: u64 = 500;
 /// How many lists of events are run by chance.
 const LISTS: u64 = 5;
 
-/// Each how manyth call fails, and each how manyth list is run. tests/quick raises it in its copy.
+/// Of so many calls, one fails, and of so many lists, one is run. tests/quick raises it in its copy.
 const EACH: usize = 1;
 
 /// No line.
@@ -203,5 +203,6 @@ fn lists_by_chance(rt: HostRuntime) -> Result<(), Fail> {
         is_right_by_chance(&rt, rt.alloc(), seed, &mut figures)?;
     }
     assert_eq!(rt; figures.lists, LISTS.div_ceil(EACH as u64));
+    assert!(rt; figures.events > 0, "{figures:?}");
     Ok(())
 }

@@ -2,8 +2,8 @@
 use crate::line::{HELLO, Line};
 use crate::picks::FOUR;
 use crate::stops::shown_by_stops;
-use crate::told::{Ended, Told};
-use crate::worlds::{MOST, Run, fused, make};
+use crate::told::Ended;
+use crate::worlds::{MOST, made_of};
 use sd_command::Reply;
 use sd_gate::Worker;
 use std::process::Abort;
@@ -15,7 +15,7 @@ const BELLO: &[u8] = b"bello";
 /// Bytes of zeros.
 const ZEROS: &[u8] = &[0; 5];
 
-/// At each how manyth place a merge is cut in. tests/quick raises it in its copy.
+/// A merge is cut in at the first place, and at each that is so many behind. tests/quick raises it in its copy.
 const EACH: u64 = 1;
 
 /// How many places there are.
@@ -48,20 +48,12 @@ fn calls_of(
     least: u64,
 ) -> Result<u64, Fail> {
     for calls in least..MOST {
-        let mut told = Told::new(rt.alloc())?;
-        let run = Run { lines, then: None };
-        drop(make(
-            rt,
-            rt.alloc(),
-            fused(rt.alloc(), calls, false)?,
-            run,
-            &mut told,
-        ));
+        let (_, told) = made_of(rt, lines, calls)?;
         if told.end() == Ended::Done {
             return Ok(calls);
         }
     }
-    Err("lines that end".into())
+    Err("the lines never end".into())
 }
 
 /// Stops a run behind this call. What is shown is the checkpoint that was acknowledged last, or the one behind it.
@@ -72,15 +64,7 @@ fn stops(
     saved: &[&[u8]],
     calls: u64,
 ) -> Result<bool, Fail> {
-    let mut told = Told::new(rt.alloc())?;
-    let run = Run { lines, then: None };
-    let disk = make(
-        rt,
-        rt.alloc(),
-        fused(rt.alloc(), calls, false)?,
-        run,
-        &mut told,
-    );
+    let (disk, told) = made_of(rt, lines, calls)?;
     let (least, greatest) = shown_by_stops(rt, &disk, &FOUR, saved)?;
     let last = told.last();
     assert!(rt; last <= least && greatest <= last.saturating_add(1));
@@ -99,7 +83,7 @@ fn stops_everywhere(
             return Ok(());
         }
     }
-    Err("a call that isn't made".into())
+    Err("a call fails however many come before it".into())
 }
 
 /// A merge is cut in at each place of the checkpoint. A run that stops before its merge is the one that stops there
@@ -115,20 +99,12 @@ fn cuts_in(rt: &(impl Abort + Eprint + AllocGlobal), first: &'static [u8]) -> Re
         }
         behind = calls_of(rt, &lines[..BEFORE_THE_MERGE], behind)?;
     }
-    Err("a checkpoint that ends".into())
+    Err("the checkpoint never ends".into())
 }
 
 /// Whether the checkpoint is over before the merge begins.
 fn is_over(rt: &(impl Abort + Eprint + AllocGlobal), lines: &[Line]) -> Result<bool, Fail> {
-    let mut told = Told::new(rt.alloc())?;
-    let run = Run { lines, then: None };
-    drop(make(
-        rt,
-        rt.alloc(),
-        fused(rt.alloc(), u64::MAX, false)?,
-        run,
-        &mut told,
-    ));
+    let (_, told) = made_of(rt, lines, u64::MAX)?;
     let mut merged = false;
     for reply in &told.replies {
         match reply {

@@ -6,7 +6,7 @@ use std::process::Abort;
 use std::test::Fail;
 use world_trials::{Failing, Line, Trouble, store_of, try_lines};
 
-/// Each how manyth order is tried. tests/quick raises it in its copy.
+/// Of so many orders, one is tried. tests/quick raises it in its copy.
 const EACH: usize = 1;
 
 /// The events that format a slot which was never written, and the freeze.

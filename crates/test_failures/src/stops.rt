@@ -6,10 +6,12 @@ use sd_restore::{Fault, restore};
 use std::process::Abort;
 use std::test::Fail;
 
-/// The page begins with these bytes.
+/// The space has one page, which begins with these bytes.
 fn begins_with(snapshot: &Snapshot, bytes: &[u8]) -> bool {
     match snapshot.spaces.get(&SpaceId::new(1)) {
-        Some(pages) => pages.values().all(|page| page.bytes.starts_with(bytes)),
+        Some(pages) => {
+            pages.len() == 1 && pages.values().all(|page| page.bytes.starts_with(bytes))
+        }
         None => false,
     }
 }
@@ -23,12 +25,14 @@ fn shown(
 ) -> Result<u64, Fail> {
     match restore(rt.alloc(), disk) {
         Ok(snapshot) => {
-            let bytes = saved.get(snapshot.checkpoint as usize).ok_or("a number")?;
+            let bytes = saved
+                .get(snapshot.checkpoint as usize)
+                .ok_or("a checkpoint that wasn't saved is shown")?;
             assert!(rt; begins_with(&snapshot, bytes));
             Ok(snapshot.checkpoint)
         }
         Err(Fault::EmptyChain) => Ok(0),
-        Err(_) => Err("a store that isn't restored".into()),
+        Err(_) => Err("a store isn't restored".into()),
     }
 }
 

@@ -3,7 +3,7 @@ use crate::line::{HELLO, Line, MERGE_BESIDE_ROUND, MERGED, REOPENED, STALE_BITS,
 use crate::picks::ALL;
 use crate::stops::shown_by_stops;
 use crate::told::{Ended, Told};
-use crate::worlds::{MOST, Run, empty, fused, make};
+use crate::worlds::{MOST, Run, empty, fused, made_of, make};
 use sd_command::{Refusal, Reply};
 use sd_disk::{Fused, MemDisk};
 use sd_gate::Worker;
@@ -121,7 +121,7 @@ fn fails(
             Ended::Done => return Ok(count),
         }
     }
-    Err("a call that isn't made".into())
+    Err("a call fails however many come before it".into())
 }
 
 /// Each call of two checkpoints, and of a checkpoint with a merge, fails in turn.
@@ -152,10 +152,7 @@ fn stops_everywhere(
 ) -> Result<(), Fail> {
     let mut call: u64 = 0;
     for calls in 0..MOST {
-        let mut told = Told::new(rt.alloc())?;
-        let run = Run { lines, then: None };
-        let disk = fused(rt.alloc(), calls, false)?;
-        let disk = make(rt, rt.alloc(), disk, run, &mut told);
+        let (disk, told) = made_of(rt, lines, calls)?;
         match told.end() {
             Ended::Opening => {}
             Ended::Failed => {
@@ -166,7 +163,7 @@ fn stops_everywhere(
             Ended::Done => return Ok(()),
         }
     }
-    Err("a call that isn't made".into())
+    Err("a call fails however many come before it".into())
 }
 
 #[test]

@@ -93,3 +93,16 @@ pub(crate) fn make(
     let _ = eprintln!(rt; "refused: open");
     try_run(rt, alloc, disk, run, told).0.into_inner()
 }
+
+/// Makes lines over an empty store of which a call fails behind so many. Returns the disk, and what was told.
+pub(crate) fn made_of(
+    rt: &(impl Eprint + AllocGlobal),
+    lines: &[Line],
+    calls: u64,
+) -> Result<(MemDisk, Told), AllocError> {
+    let mut told = Told::new(rt.alloc())?;
+    let run = Run { lines, then: None };
+    let disk = fused(rt.alloc(), calls, false)?;
+    let disk = make(rt, rt.alloc(), disk, run, &mut told);
+    Ok((disk, told))
+}

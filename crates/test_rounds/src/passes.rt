@@ -96,8 +96,9 @@ pub(crate) fn drops_unmapped(alloc: Global, memory: &mut Memory) -> Result<bool,
     }
     round.visit(memory)?;
     memory.munmap(SpaceId::new(SPACE), FIRST, PAGE)?;
-    if let Standing::Copying = round.standing() {
-        round.copy_sector(memory)?;
-    }
+    let Standing::Copying = round.standing() else {
+        return Ok(false);
+    };
+    round.copy_sector(memory)?;
     Ok(round.standing() == Standing::Free)
 }

@@ -41,7 +41,7 @@ pub(crate) fn empty(alloc: Global) -> Result<MemDisk, Fail> {
     Ok(MemDisk::new(alloc, 8, ROOM, 4_000)?)
 }
 
-/// A path in the system's folder for temporary files that no other process uses.
+/// A path in /tmp that no other process uses.
 pub(crate) fn path(rt: &HostRuntime, name: &str) -> Result<String, Fail> {
     let id = process::id(rt.process());
     let path = format!(in rt.alloc(); "/tmp/test_scripts-{id}-{name}")?;

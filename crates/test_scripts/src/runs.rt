@@ -98,7 +98,7 @@ fn agrees_with_memory<D: Disk + Drop>(
 #[test]
 fn folder_and_memory_agree(rt: HostRuntime) -> Result<(), Fail> {
     let path = path(&rt, "agree")?;
-    agrees_with_memory(&rt, folder(&rt, path.as_str())?)?;
-    fs::remove_dir_all(&rt, path.as_str())?;
-    Ok(())
+    let agrees = agrees_with_memory(&rt, folder(&rt, path.as_str())?);
+    let _ = fs::remove_dir_all(&rt, path.as_str());
+    agrees
 }

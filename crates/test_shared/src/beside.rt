@@ -134,7 +134,8 @@ impl<R: Wait + Clock> Place<'_, R> {
         Err(Refusal::Busy)
     }
 
-    /// Waits for the beginning, and then stores each number into the page, and loads it back.
+    /// Waits for the beginning, and then stores each number into the page, and loads it back: `Damaged` where other
+    /// bytes are loaded.
     fn mutate(&self, mutator: &mut Mutator<'_>, flags: &Flags) -> Result<(), Refusal> {
         if !await_flag(self.rt, &flags.begun) {
             return Err(Refusal::Idle);
@@ -143,6 +144,9 @@ impl<R: Wait + Clock> Place<'_, R> {
             self.make(mutator, Some(number))?;
             flags.answered.store(1, Ordering::SeqCst);
             self.make(mutator, None)?;
+            if !mutator.has_loaded(number) {
+                return Err(Refusal::Damaged);
+            }
         }
         Ok(())
     }

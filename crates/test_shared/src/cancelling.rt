@@ -28,16 +28,17 @@ fn make_room<R: Wait>(rt: &R, shared: &Shared<Store>) -> bool {
     matches!(shared.run_merger(rt, &Free), Reply::Merged(_))
 }
 
-/// Makes checkpoints of so many pre-dumps until one is refused, not for want of a slot alone. Returns the refusal, and
-/// keeps the numbers that were acknowledged.
+/// Makes so many checkpoints at most, of so many pre-dumps each, until one is refused, not for want of a slot alone.
+/// Returns the refusal, and keeps the numbers that were acknowledged.
 pub(crate) fn save_until_refused<R: Wait>(
     rt: &R,
     shared: &Shared<Store>,
+    most: u64,
     pre_dumps: u64,
     hold: &impl Hold,
     acks: &mut Vec<u64>,
 ) -> Option<Refusal> {
-    for _ in 0..CHECKPOINTS {
+    for _ in 0..most {
         match shared.run_dumper(rt, pre_dumps, hold) {
             Reply::Acked(number) => {
                 if acks.push(number).is_err() {
@@ -112,7 +113,7 @@ fn cancel_beside<R: Threads + Wait + Clock + Sync>(
     let over = AtomicU64::new(0);
     let (ended, (reply, waited)) = thread::join(
         rt,
-        || save_until_refused(rt, shared, pre_dumps, &Free, acks),
+        || save_until_refused(rt, shared, CHECKPOINTS, pre_dumps, &Free, acks),
         || {
             thread::join(
                 rt,

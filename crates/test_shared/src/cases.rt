@@ -195,7 +195,7 @@ fn room_for_acks(alloc: Global) -> Result<Vec<u64>, AllocError> {
     }
 }
 
-/// Opens the store of a shared core, maps a page or two, and does what a case says.
+/// Opens the store of a shared core, maps its pages, and does what a case says.
 fn work<R: Threads + Wait + Clock + Files + Alloc + Abort + Sync>(
     rt: &R,
     alloc: Global,

@@ -1,4 +1,5 @@
 //! A store that goes down while a thread waits for the thaw.
+use crate::beside::await_flag;
 use crate::cases::Store;
 use crate::holds::Free;
 use crate::jobs::Job;
@@ -11,9 +12,6 @@ use std::sync::atomic::{AtomicU64, Ordering};
 use std::thread;
 use std::thread::Threads;
 use std::time::{Clock, Duration};
-
-/// How many turns of a millisecond a thread waits for another.
-const TURNS: u64 = 10_000;
 
 /// A hold that tells of the first page's write, which is made while all is frozen, and gives the other thread time to
 /// wait.
@@ -38,13 +36,7 @@ fn wait_frozen<R: Wait + Clock>(
     shared: &Shared<Store>,
     frozen: &AtomicU64,
 ) -> Option<Thaw> {
-    for _ in 0..TURNS {
-        if frozen.load(Ordering::SeqCst) != 0 {
-            return Some(shared.wait_thaw(rt));
-        }
-        thread::sleep(rt, Duration::from_millis(1));
-    }
-    None
+    await_flag(rt, frozen).then(|| shared.wait_thaw(rt))
 }
 
 /// The device fails at the first page's write, in a checkpoint without pre-dumps: whoever waits for the thaw is told

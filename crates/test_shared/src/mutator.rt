@@ -44,6 +44,19 @@ impl Mutator<'_> {
         }
     }
 
+    /// Whether the last reply has a number's bytes.
+    pub(crate) fn has_loaded(&self, number: u64) -> bool {
+        match self.receipts.last() {
+            Some(
+                Receipt {
+                    reply: Reply::Bytes(bytes),
+                    ..
+                },
+            ) => bytes.as_slice() == number.to_le_bytes().as_slice(),
+            _ => false,
+        }
+    }
+
     /// Makes a command. Returns why it was refused, if it was.
     ///
     /// # Errors

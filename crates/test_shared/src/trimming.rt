@@ -62,7 +62,7 @@ fn make(
     Err(Refusal::Busy)
 }
 
-/// Stores each number into a page, and loads it back.
+/// Stores each number into a page, and loads it back: `Damaged` where other bytes are loaded.
 fn mutate(
     rt: &impl Wait,
     alloc: Global,
@@ -73,6 +73,9 @@ fn mutate(
     for number in 1..=STORES {
         make(rt, alloc, shared, mutator, page, Some(number))?;
         make(rt, alloc, shared, mutator, page, None)?;
+        if !mutator.has_loaded(number) {
+            return Err(Refusal::Damaged);
+        }
     }
     Ok(())
 }

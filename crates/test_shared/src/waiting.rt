@@ -26,8 +26,11 @@ const ROUNDS: u64 = 10;
 /// How many turns of a millisecond a thread waits for another.
 const TURNS: u64 = 10_000;
 
-/// How often a cancel, or a load, is tried.
-const TRIES: u64 = 100_000_000;
+/// How often a cancel is tried, a tenth of a millisecond apart.
+const TRIES: u64 = 100_000;
+
+/// How many checkpoints are made at most until one is cancelled. Each is frozen for 20 milliseconds or more.
+const CHECKPOINTS: u64 = 1_000;
 
 /// The device call that writes the first page, or else the table, in a checkpoint without pre-dumps: all is frozen.
 const FIRST_PAGE: u64 = 4;
@@ -167,7 +170,7 @@ fn wait_for_thaws<R: Wait + Clock>(
     mutator: &mut Mutator<'_>,
     flags: &Flags,
 ) -> Result<(), Refusal> {
-    for _ in 0..TRIES {
+    for _ in 0..TURNS {
         if flags.over.load(Ordering::SeqCst) != 0 {
             return Ok(());
         }
@@ -199,13 +202,14 @@ fn await_woken<R: Clock>(rt: &R, flags: &Flags) -> bool {
 }
 
 /// Tries to cancel a checkpoint while the other thread waits, until one was cancelled.
-fn cancel_one<R: Wait>(rt: &R, shared: &Shared<Store>, flags: &Flags) -> bool {
+fn cancel_one<R: Wait + Clock>(rt: &R, shared: &Shared<Store>, flags: &Flags) -> bool {
     for _ in 0..TRIES {
-        if flags.waits.load(Ordering::SeqCst) == 0 {
-            thread::yield_now();
-        } else if let Reply::Cancelled(_) = shared.cancel(rt) {
+        if flags.waits.load(Ordering::SeqCst) != 0
+            && let Reply::Cancelled(_) = shared.cancel(rt)
+        {
             return true;
         }
+        thread::sleep(rt, Duration::from_micros(100));
     }
     false
 }
@@ -235,7 +239,7 @@ pub(crate) fn wakes_by_a_cancel<R: Threads + Wait + Clock + Abort + Sync>(
         let hold = Awaiting { rt, flags: &flags };
         let ended = thread::join(
             rt,
-            || save_until_refused(rt, shared, 0, &hold, acks),
+            || save_until_refused(rt, shared, CHECKPOINTS, 0, &hold, acks),
             || {
                 thread::join(
                     rt,

@@ -1,4 +1,5 @@
 //! Checkpoints whose pages are written by several threads.
+use crate::beside::await_flag;
 use crate::cases::Store;
 use crate::holds::Free;
 use crate::jobs::Job;
@@ -10,9 +11,6 @@ use std::sync::atomic::{AtomicU64, Ordering};
 use std::thread;
 use std::thread::Threads;
 use std::time::{Clock, Duration};
-
-/// How many turns of a millisecond a thread waits for another.
-const TURNS: u64 = 10_000;
 
 /// How often a checkpoint is gone on with.
 const TRIES: u64 = 10;
@@ -52,19 +50,6 @@ struct Keeping<'a, R> {
     seen: &'a Seen,
 }
 
-impl<R: Clock> Keeping<'_, R> {
-    /// Waits for the second page's write. Returns whether it came.
-    fn await_second(&self) -> bool {
-        for _ in 0..TURNS {
-            if self.seen.second.load(Ordering::SeqCst) != 0 {
-                return true;
-            }
-            thread::sleep(self.rt, Duration::from_millis(1));
-        }
-        false
-    }
-}
-
 impl<R: Clock> Hold for Keeping<'_, R> {
     fn before(&self, call: u64) {
         self.seen.calls.fetch_add(1, Ordering::SeqCst);
@@ -72,7 +57,7 @@ impl<R: Clock> Hold for Keeping<'_, R> {
         if call == 5 {
             self.seen.second.store(1, Ordering::SeqCst);
         }
-        if call == 4 && !self.await_second() {
+        if call == 4 && !await_flag(self.rt, &self.seen.second) {
             self.seen.missed.store(1, Ordering::SeqCst);
         }
     }

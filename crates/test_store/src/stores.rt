@@ -37,7 +37,7 @@ const STORES: [(Files, Deed); 5] = [
 ];
 
 #[test]
-fn each_page_is_read_once(rt: HostRuntime) -> Result<(), Fail> {
+fn reads_are_counted(rt: HostRuntime) -> Result<(), Fail> {
     for (files, deed) in &STORES {
         assert!(rt; run(rt.alloc(), *files, *deed)?);
     }
