@@ -1,16 +1,18 @@
-//! `benches`: makes many calls of one part of the house, to be timed from outside. The exit status is 0 where they came
+//! `benches`: makes many calls of one part, to be timed from outside. The exit status is 0 where they came
 //! to their end and all went right, 1 where they didn't, and 2 where the words name no case.
 #![tactic(auto)]
 
 mod ended;
 mod journal;
 mod memory;
+mod named;
 mod restore;
 mod rounds;
 mod shared;
 mod world;
 
-use ended::Ended;
+use ended::{Ended, unnamed};
+use named::named;
 use std::alloc::{AllocError, Global};
 use std::io;
 use std::process::ExitCode;
@@ -25,8 +27,31 @@ const USAGE: &str =
 /// The exit status of a case that failed.
 const FAILED: u8 = 1;
 
-/// The exit status of words that name no case.
+/// The exit status of words that don't fit the usage.
 const UNNAMED: u8 = 2;
+
+/// The word that asks for one case of each part.
+const ALL: &str = "all";
+
+/// A part of which calls are made.
+#[derive(Clone, Copy, PartialEq, Eq)]
+enum Part {
+    Journal,
+    Memory,
+    Restore,
+    Rounds,
+    Shared,
+    World,
+}
+
+const PARTS: [(&str, Part); 6] = [
+    ("journal", Part::Journal),
+    ("memory", Part::Memory),
+    ("restore", Part::Restore),
+    ("rounds", Part::Rounds),
+    ("shared", Part::Shared),
+    ("world", Part::World),
+];
 
 /// A word of the command line.
 fn word(words: &[String], place: usize) -> &str {
@@ -36,9 +61,9 @@ fn word(words: &[String], place: usize) -> &str {
     }
 }
 
-/// The number that a word spells, or 0.
-fn number(words: &[String], place: usize) -> u64 {
-    word(words, place).parse::<u64>().unwrap_or(0)
+/// The number that a word spells, if it spells one.
+fn number(words: &[String], place: usize) -> Option<u64> {
+    word(words, place).parse::<u64>().ok()
 }
 
 /// Prints what is told of a case, on the standard error where it wasn't made. Returns the exit status.
@@ -70,11 +95,19 @@ fn each<R: Threads + Wait + Clock + Sync + Print + Eprint>(
 ) -> io::Result<u8> {
     let mut status = tell(rt, journal::timed(alloc))?;
     status = status.max(tell(rt, memory::timed(alloc, "child"))?);
-    status = status.max(tell(rt, restore::timed(alloc, "restored", 30))?);
+    status = status.max(tell(rt, restore::timed(alloc, "restored", Some(30)))?);
     status = status.max(tell(rt, rounds::timed(alloc, "dumps"))?);
-    status = status.max(tell(rt, shared::timed(rt, alloc, "calls", 10))?);
+    status = status.max(tell(rt, shared::timed(rt, alloc, "calls", Some(10)))?);
     status = status.max(tell(rt, world::timed(alloc, 1, 10, false))?);
     Ok(status)
+}
+
+/// Tries lists of events, where both numbers are there.
+fn tried(alloc: Global, words: &[String]) -> Result<Ended, AllocError> {
+    let (Some(seed), Some(lists)) = (number(words, 2), number(words, 3)) else {
+        return unnamed(alloc, USAGE);
+    };
+    world::timed(alloc, seed, lists, word(words, 4) == "figures")
 }
 
 /// Makes the calls that the words name.
@@ -83,28 +116,26 @@ fn timed<R: Threads + Wait + Clock + Sync>(
     alloc: Global,
     words: &[String],
 ) -> Result<Ended, AllocError> {
-    match word(words, 1) {
-        "journal" => journal::timed(alloc),
-        "memory" => memory::timed(alloc, word(words, 2)),
-        "restore" => restore::timed(alloc, word(words, 2), number(words, 3)),
-        "rounds" => rounds::timed(alloc, word(words, 2)),
-        "shared" => shared::timed(rt, alloc, word(words, 2), number(words, 3)),
-        "world" => world::timed(
-            alloc,
-            number(words, 2),
-            number(words, 3),
-            words.get(4).is_some(),
-        ),
-        _ => Ok(Ended::Unnamed(format!(in alloc; "{USAGE}")?)),
+    let Some(part) = named(&PARTS, word(words, 1)) else {
+        return unnamed(alloc, USAGE);
+    };
+    match part {
+        Part::Journal => journal::timed(alloc),
+        Part::Memory => memory::timed(alloc, word(words, 2)),
+        Part::Restore => restore::timed(alloc, word(words, 2), number(words, 3)),
+        Part::Rounds => rounds::timed(alloc, word(words, 2)),
+        Part::Shared => shared::timed(rt, alloc, word(words, 2), number(words, 3)),
+        Part::World => tried(alloc, words),
     }
 }
 
 fn main(rt: HostRuntime) -> io::Result<ExitCode> {
     let alloc = rt.alloc();
     let words: Vec<String> = std::env::args(&rt)?.collect(alloc)?;
-    let status = match word(&words, 1) {
-        "all" => each(&rt, alloc)?,
-        _ => tell(&rt, timed(&rt, alloc, &words))?,
+    let status = if word(&words, 1) == ALL {
+        each(&rt, alloc)?
+    } else {
+        tell(&rt, timed(&rt, alloc, &words))?
     };
     Ok(ExitCode::from(status))
 }

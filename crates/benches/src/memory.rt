@@ -1,5 +1,6 @@
 //! Many calls on a memory.
-use crate::ended::Ended;
+use crate::ended::{Ended, done, unnamed};
+use crate::named::named;
 use sd_areas::{PageNo, Prot, SpaceId};
 use sd_pagetable::{Memory, MemoryError};
 use std::alloc::{AllocError, Global};
@@ -35,6 +36,40 @@ const READ_WRITE: Prot = Prot {
     write: true,
     execute: false,
 };
+
+/// What is done.
+#[derive(Clone, Copy)]
+enum Case {
+    Stores,
+    Random,
+    Loads,
+    Words,
+    Pages,
+    Fork,
+    Child,
+    Ranges,
+    Anew,
+    Protects,
+    Walk,
+    Sparse,
+    SparseWalk,
+}
+
+const CASES: [(&str, Case); 13] = [
+    ("stores", Case::Stores),
+    ("random", Case::Random),
+    ("loads", Case::Loads),
+    ("words", Case::Words),
+    ("pages", Case::Pages),
+    ("fork", Case::Fork),
+    ("child", Case::Child),
+    ("ranges", Case::Ranges),
+    ("anew", Case::Anew),
+    ("protects", Case::Protects),
+    ("walk", Case::Walk),
+    ("sparse", Case::Sparse),
+    ("sparse_walk", Case::SparseWalk),
+];
 
 const USAGE: &str =
     "usage: benches memory stores|random|loads|words|pages|fork|child|ranges|anew|protects|walk|sparse|sparse_walk";
@@ -175,13 +210,18 @@ fn protects(alloc: Global) -> Result<(), MemoryError> {
     Ok(())
 }
 
+/// Walks over all pages once.
+fn walk_once(memory: &Memory) {
+    let mut after = None;
+    for _ in 0..ALL_PAGES {
+        after = memory.next_page(after);
+    }
+}
+
 /// Walks over all pages, some times.
 fn walk_over(memory: &Memory) {
     for _ in 0..TURNS {
-        let mut after = None;
-        for _ in 0..ALL_PAGES {
-            after = memory.next_page(after);
-        }
+        walk_once(memory);
     }
 }
 
@@ -192,21 +232,28 @@ fn walk(alloc: Global) -> Result<(), MemoryError> {
     Ok(())
 }
 
-/// Spaces of lone pages.
-fn lone(alloc: Global) -> Result<Memory, MemoryError> {
+/// Maps the lone pages of a space.
+fn map_lone(memory: &mut Memory, space: SpaceId) -> Result<(), MemoryError> {
+    for page in 0..LONE_PAGES {
+        memory.mmap(space, page.saturating_mul(LONE_STEP), 4096, READ_WRITE)?;
+    }
+    Ok(())
+}
+
+/// Spaces without a page.
+fn bare(alloc: Global) -> Result<Memory, MemoryError> {
     let mut memory = Memory::new(alloc, FRAMES)?;
     for _ in 1..LONE_SPACES {
         memory.fork(SpaceId::new(1))?;
     }
+    Ok(memory)
+}
+
+/// Spaces of lone pages.
+fn lone(alloc: Global) -> Result<Memory, MemoryError> {
+    let mut memory = bare(alloc)?;
     for number in 1..LONE_SPACES + 1 {
-        for page in 0..LONE_PAGES {
-            memory.mmap(
-                SpaceId::new(number),
-                page.saturating_mul(LONE_STEP),
-                4096,
-                READ_WRITE,
-            )?;
-        }
+        map_lone(&mut memory, SpaceId::new(number))?;
     }
     Ok(memory)
 }
@@ -223,32 +270,32 @@ fn sparse_walk(alloc: Global) -> Result<(), MemoryError> {
     Ok(())
 }
 
-/// Makes the calls that a word names. Returns whether it names some.
-fn make(alloc: Global, word: &str) -> Result<bool, MemoryError> {
-    match word {
-        "stores" => stores(alloc)?,
-        "random" => random_stores(alloc)?,
-        "loads" => random_loads(alloc)?,
-        "words" => random_words(alloc)?,
-        "pages" => pages(alloc)?,
-        "fork" => fork(alloc)?,
-        "child" => child(alloc)?,
-        "ranges" => ranges(alloc)?,
-        "anew" => anew(alloc)?,
-        "protects" => protects(alloc)?,
-        "walk" => walk(alloc)?,
-        "sparse" => sparse(alloc)?,
-        "sparse_walk" => sparse_walk(alloc)?,
-        _ => return Ok(false),
+/// Makes the calls of a case.
+fn make(alloc: Global, case: Case) -> Result<(), MemoryError> {
+    match case {
+        Case::Stores => stores(alloc),
+        Case::Random => random_stores(alloc),
+        Case::Loads => random_loads(alloc),
+        Case::Words => random_words(alloc),
+        Case::Pages => pages(alloc),
+        Case::Fork => fork(alloc),
+        Case::Child => child(alloc),
+        Case::Ranges => ranges(alloc),
+        Case::Anew => anew(alloc),
+        Case::Protects => protects(alloc),
+        Case::Walk => walk(alloc),
+        Case::Sparse => sparse(alloc),
+        Case::SparseWalk => sparse_walk(alloc),
     }
-    Ok(true)
 }
 
 /// Makes the calls that a word names, and tells how they ended.
 pub(crate) fn timed(alloc: Global, word: &str) -> Result<Ended, AllocError> {
-    match make(alloc, word) {
-        Ok(true) => Ok(Ended::Done(format!(in alloc; "done")?)),
-        Ok(false) => Ok(Ended::Unnamed(format!(in alloc; "{USAGE}")?)),
+    let Some(case) = named(&CASES, word) else {
+        return unnamed(alloc, USAGE);
+    };
+    match make(alloc, case) {
+        Ok(()) => done(alloc),
         Err(error) => Ok(Ended::Failed(format!(in alloc; "{error}")?)),
     }
 }

@@ -1,7 +1,8 @@
 //! A memory that is restored from a chain of images, on a disk in memory.
 ghost use Rattle.std.specs.Prelude.{◌≤◌};
 
-use crate::ended::Ended;
+use crate::ended::{Ended, done, unnamed};
+use crate::named::named;
 use sd_areas::{Area, PAGE_SIZE, PageNo, Prot, SpaceId};
 use sd_disk::{Disk, MemDisk};
 use sd_image::{
@@ -19,7 +20,21 @@ const READ_WRITE: Prot = Prot {
     execute: false,
 };
 
-const USAGE: &str = "usage: benches restore copied|made|restored IMAGES";
+/// What is done.
+#[derive(Clone, Copy)]
+enum Case {
+    Copied,
+    Made,
+    Restored,
+}
+
+const CASES: [(&str, Case); 3] = [
+    ("copied", Case::Copied),
+    ("made", Case::Made),
+    ("restored", Case::Restored),
+];
+
+const USAGE: &str = "usage: benches restore copied|made|restored IMAGES, 1 to 64 of them";
 
 /// A run of pages.
 fn run(first: u64, count: u64, kind: RunKind) -> Run
@@ -106,29 +121,33 @@ fn copy(alloc: Global) -> Result<(), AllocError> {
     Ok(())
 }
 
-/// Makes what a word names. Returns whether it names something.
-fn make(alloc: Global, case: &str, images: u64) -> Result<bool, Fault>
+/// Makes what a case says.
+fn make(alloc: Global, case: Case, images: u64) -> Result<(), Fault>
     requires some { 1 ≤ images }
     requires few { images ≤ 64 }
 {
     match case {
-        "copied" => copy(alloc)?,
-        "made" => {
+        Case::Copied => copy(alloc)?,
+        Case::Made => {
             store(alloc, images)?;
         }
-        "restored" => {
+        Case::Restored => {
             restore(alloc, &mut store(alloc, images)?)?;
         }
-        _ => return Ok(false),
     }
-    Ok(true)
+    Ok(())
 }
 
 /// Makes what a word names over 1 to 64 images, and tells how it ended.
-pub(crate) fn timed(alloc: Global, case: &str, images: u64) -> Result<Ended, AllocError> {
-    match make(alloc, case, images.clamp(1, 64)) {
-        Ok(true) => Ok(Ended::Done(format!(in alloc; "done")?)),
-        Ok(false) => Ok(Ended::Unnamed(format!(in alloc; "{USAGE}")?)),
+pub(crate) fn timed(alloc: Global, word: &str, images: Option<u64>) -> Result<Ended, AllocError> {
+    let (Some(case), Some(images)) = (named(&CASES, word), images) else {
+        return unnamed(alloc, USAGE);
+    };
+    if images < 1 || images > 64 {
+        return unnamed(alloc, USAGE);
+    }
+    match make(alloc, case, images) {
+        Ok(()) => done(alloc),
         Err(fault) => Ok(Ended::Failed(format!(in alloc; "{fault}")?)),
     }
 }

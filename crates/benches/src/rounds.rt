@@ -2,13 +2,38 @@
 mod bench;
 mod digest;
 
-use crate::ended::Ended;
+use crate::ended::{Ended, done, unnamed};
+use crate::named::named;
 use bench::{Bench, BenchError};
 use digest::digest;
 use std::alloc::{AllocError, Global};
 
 /// How often a case is repeated.
 const TURNS: u64 = 20;
+
+/// What is done with a bench that was made.
+#[derive(Clone, Copy)]
+enum Case {
+    Made,
+    Touched,
+    Plain,
+    Dumps,
+    Digests,
+    Walks,
+    Emptied,
+    Rounds,
+}
+
+const CASES: [(&str, Case); 8] = [
+    ("made", Case::Made),
+    ("touched", Case::Touched),
+    ("plain", Case::Plain),
+    ("dumps", Case::Dumps),
+    ("digests", Case::Digests),
+    ("walks", Case::Walks),
+    ("emptied", Case::Emptied),
+    ("rounds", Case::Rounds),
+];
 
 const USAGE: &str = "usage: benches rounds made|touched|plain|dumps|digests|walks|emptied|rounds";
 
@@ -66,33 +91,34 @@ fn digests(bench: &mut Bench) -> Result<(), BenchError> {
     Ok(())
 }
 
-/// Does what a word names. Returns whether it names something.
-fn act(alloc: Global, bench: &mut Bench, word: &str) -> Result<bool, BenchError> {
-    match word {
-        "made" => {}
-        "touched" => touched(bench)?,
-        "plain" => plain(bench)?,
-        "dumps" => dumps(alloc, bench)?,
-        "digests" => digests(bench)?,
-        "walks" => walks(bench),
-        "emptied" => emptied(bench)?,
-        "rounds" => rounds(alloc, bench)?,
-        _ => return Ok(false),
+/// Does what a case says.
+fn act(alloc: Global, bench: &mut Bench, case: Case) -> Result<(), BenchError> {
+    match case {
+        Case::Made => {}
+        Case::Touched => touched(bench)?,
+        Case::Plain => plain(bench)?,
+        Case::Dumps => dumps(alloc, bench)?,
+        Case::Digests => digests(bench)?,
+        Case::Walks => walks(bench),
+        Case::Emptied => emptied(bench)?,
+        Case::Rounds => rounds(alloc, bench)?,
     }
-    Ok(true)
+    Ok(())
 }
 
-/// Makes a bench, and does what a word names. Returns whether it names something.
-fn make(alloc: Global, word: &str) -> Result<bool, BenchError> {
+/// Makes a bench, and does what a case says.
+fn make(alloc: Global, case: Case) -> Result<(), BenchError> {
     let mut bench = Bench::new(alloc)?;
-    act(alloc, &mut bench, word)
+    act(alloc, &mut bench, case)
 }
 
 /// Does what a word names, and tells how it ended.
 pub(crate) fn timed(alloc: Global, word: &str) -> Result<Ended, AllocError> {
-    match make(alloc, word) {
-        Ok(true) => Ok(Ended::Done(format!(in alloc; "done")?)),
-        Ok(false) => Ok(Ended::Unnamed(format!(in alloc; "{USAGE}")?)),
+    let Some(case) = named(&CASES, word) else {
+        return unnamed(alloc, USAGE);
+    };
+    match make(alloc, case) {
+        Ok(()) => done(alloc),
         Err(error) => Ok(Ended::Failed(format!(in alloc; "{error:?}")?)),
     }
 }

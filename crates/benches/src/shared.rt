@@ -6,7 +6,8 @@ mod place;
 mod slow;
 mod writers;
 
-use crate::ended::Ended;
+use crate::ended::{Ended, unnamed};
+use crate::named::named;
 use beside::save_beside;
 use calls::{make_calls, make_steps};
 use fault::BenchFault;
@@ -16,27 +17,51 @@ use std::thread::Threads;
 use std::time::Clock;
 use writers::write_pages;
 
+/// What is made.
+#[derive(Clone, Copy, PartialEq, Eq)]
+enum Case {
+    Calls,
+    Steps,
+    Writers,
+    Beside,
+}
+
+const CASES: [(&str, Case); 4] = [
+    ("calls", Case::Calls),
+    ("steps", Case::Steps),
+    ("writers", Case::Writers),
+    ("beside", Case::Beside),
+];
+
 const USAGE: &str =
     "usage: benches shared calls N, benches shared steps N, benches shared beside, or benches shared writers N";
 
-/// Makes what a word names, and tells how it went. Returns nothing where it names none.
+/// Makes what a case says, so many, and tells how it went.
 fn make<R: Threads + Wait + Clock + Sync>(
     rt: &R,
     alloc: Global,
-    word: &str,
+    case: Case,
     count: u64,
-) -> Result<Option<String>, BenchFault> {
-    let told = match word {
-        "calls" => format!(in alloc; "{} calls", make_calls(rt, alloc, count)?)?,
-        "steps" => format!(in alloc; "{} steps", make_steps(alloc, count)?)?,
-        "writers" => {
+) -> Result<String, BenchFault> {
+    let told = match case {
+        Case::Calls => format!(in alloc; "{} calls", make_calls(rt, alloc, count)?)?,
+        Case::Steps => format!(in alloc; "{} steps", make_steps(alloc, count)?)?,
+        Case::Writers => {
             let took = write_pages(rt, alloc, count as usize)?;
             format!(in alloc; "{} us", took.as_micros())?
         }
-        "beside" => format!(in alloc; "{}", save_beside(rt, alloc)?)?,
-        _ => return Ok(None),
+        Case::Beside => format!(in alloc; "{}", save_beside(rt, alloc)?)?,
     };
-    Ok(Some(told))
+    Ok(told)
+}
+
+/// The case that a word names, and its number, which all but `beside` need.
+fn asked(word: &str, count: Option<u64>) -> Option<(Case, u64)> {
+    let case = named(&CASES, word)?;
+    if case == Case::Beside {
+        return Some((case, 0));
+    }
+    Some((case, count?))
 }
 
 /// Makes what a word names, and tells how it went, or why it didn't.
@@ -44,11 +69,13 @@ pub(crate) fn timed<R: Threads + Wait + Clock + Sync>(
     rt: &R,
     alloc: Global,
     word: &str,
-    count: u64,
+    count: Option<u64>,
 ) -> Result<Ended, AllocError> {
-    match make(rt, alloc, word, count) {
-        Ok(Some(told)) => Ok(Ended::Done(told)),
-        Ok(None) => Ok(Ended::Unnamed(format!(in alloc; "{USAGE}")?)),
+    let Some((case, count)) = asked(word, count) else {
+        return unnamed(alloc, USAGE);
+    };
+    match make(rt, alloc, case, count) {
+        Ok(told) => Ok(Ended::Done(told)),
         Err(fault) => Ok(Ended::Failed(format!(in alloc; "{fault:?}")?)),
     }
 }

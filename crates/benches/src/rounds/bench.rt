@@ -2,6 +2,7 @@
 use sd_areas::{PAGE_BYTES, PAGE_SIZE, PageNo, Prot, SpaceId};
 use sd_disk::{DeviceError, Disk, MemDisk};
 use sd_gate::{Request, SlotState, perform};
+use sd_image::GATE;
 use sd_pagetable::{Memory, MemoryError, SECTOR_SIZE, SECTORS};
 use sd_rounds::{Dumper, ImageStep, NextImage, PageBuffers, Progress, WorkError};
 use std::alloc::{AllocError, Global};
@@ -160,7 +161,7 @@ fn clear_slot(disk: &mut MemDisk) -> Result<(), DeviceError> {
 /// Makes the slot's pages durable, and opens it.
 fn open_slot(disk: &mut MemDisk) -> Result<(), DeviceError> {
     sync(disk)?;
-    write(disk, 0, &[1])?;
+    write(disk, 0, &[GATE])?;
     sync(disk)
 }
 
