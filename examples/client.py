@@ -5,9 +5,9 @@
     client.py CKPT DIR get KEY                         prints the value of a key
     client.py CKPT DIR count TO                        counts on to a number, with a checkpoint every hundred changes
 
-Each entry has 64 bytes of 16 pages of space 1: a length and a key, a length and a value. `count` puts number N under the
-key `number N % 300`, and N under `last`; it prints a line for each checkpoint that was acknowledged. Killed at any moment,
-it goes on from the last of these, or from the one that was being written.
+Each entry has 64 bytes of 16 pages of space 1: a length and a key, a length and a value. `count` puts number N under
+the key `number N % 300`, and N under `last`; it prints a line for each checkpoint that was acknowledged. Killed at any
+moment, it goes on from the last of these, or from the one that was being written.
 """
 import subprocess
 import sys

@@ -30,7 +30,8 @@ def read_image(path):
         return None
     version, kind, serial, stands_for, parent, checkpoint, pages, _ = struct.unpack_from("<HH4x6Q", data, 8)
     if version == 2 and hashlib.sha256(data[PAGE:] + data[1:64]).digest() != data[64:96]:
-        sys.exit(f"damaged {path.name[4:]} 17")
+        print(f"damaged {path.name[4:]} 17")
+        sys.exit(1)
     return Image(data, kind, serial, stands_for, parent, checkpoint, read_table(data, PAGE + pages * PAGE))
 
 

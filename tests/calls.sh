@@ -19,18 +19,56 @@ in_memory() {
   cd "$room" || return 1
 }
 
+# Makes the library by which file calls fail.
+calls_can_fail() {
+  command -v cc > /dev/null || { echo "no C compiler"; return 77; }
+  cc -O2 -shared -fPIC -o fail.so "$here/fail_call.c" || return 1
+  export ASAN_OPTIONS=verify_asan_link_order=0
+}
+
 # Checks that so many calls at least were counted: without the library none is, and no case would be tried.
 were_counted() {  # were_counted LEAST
   [ "$(($(cat count)))" -ge "$1" ] || { echo "fewer than $1 calls were counted"; return 1; }
+}
+
+# One call of a program that only reads fails: the status is 1, its cause is told, and LINE stands alone where a
+# document is asked for, and else behind lines that are in the file whole too; or the folder isn't opened. Counts in
+# `told` how often LINE came.
+reader_fails_at() {  # reader_fails_at NUMBER LINE WORD..
+  local number=$1 line=$2 lines
+  shift 2
+  FAILED=$number HOW=unmade LD_PRELOAD=./fail.so "$ckpt" "$@" > out 2> err
+  same "the status of $*, call $number" $? 1 || return 1
+  has "the cause of call $number" "$(cat err)" "ckpt: store: " || return 1
+  lines=$(wc -l < out)
+  case $(tail -n 1 out),$* in
+    "$line,"*--json | "cannot open DIR,"*) same "the lines of $*, call $number" "$lines" 1 || return 1 ;;
+    "$line,"*) head -n -1 out | cmp - <(head -n $((lines - 1)) whole) || return 1 ;;
+    *) echo "$*, call $number, ends with:"; tail -n 3 out; return 1 ;;
+  esac
+  [ "$(tail -n 1 out)" != "$line" ] || told=$((told + 1))
+}
+
+# Every 20th or so of a reader's calls fails in turn, from FIRST on, and LINE comes of some. The last call of verify is
+# no call of the device: it looks whether the folder has a file at all.
+reader_tells_of_failures() {  # reader_tells_of_failures FIRST LINE WORD..
+  local first=$1 line=$2 calls number told=0
+  shift 2
+  COUNTED=count LD_PRELOAD=./fail.so "$ckpt" "$@" > whole || return 1
+  were_counted "$first" || return 1
+  calls=$(($(cat count)))
+  [ "$1" != verify ] || calls=$((calls - 1))
+  for number in $(seq "$first" $((calls / 20 + 1)) "$calls") $((calls - 1)) "$calls"; do
+    reader_fails_at "$number" "$line" "$@" || return 1
+  done
+  [ "$told" -gt 0 ] || { echo "$* told $line at no call of $calls"; return 1; }
 }
 
 # Makes the library, the answers of a run without failures, and what is restored behind each checkpoint: memory-0 to
 # memory-3.
 prepare_calls() {
   local number=0 line
-  command -v cc > /dev/null || { echo "no C compiler"; return 77; }
-  cc -O2 -shared -fPIC -o fail.so "$here/fail_call.c" || return 1
-  export ASAN_OPTIONS=verify_asan_link_order=0
+  calls_can_fail || return
   write_calls_script
   echo "empty chain" > memory-0
   : > part.ckpt

@@ -98,9 +98,26 @@ other_refusals_have_no_slots() {
   ends_with 1 "refused 14 idle" "" "$ckpt" merge store
 }
 
-files_that_are_no_files_are_told() {
-  mkdir -p store/img-005
-  ends_with 1 "cannot open DIR" "ckpt: store: img-005: not a regular file" "$ckpt" list store
+# Folders that no program that reads opens, and why.
+unopened_folders="\
+missing|missing: No such file or directory (os error 2)
+empty|empty: img-005: not a regular file
+store|store: img-005: not a regular file"
+
+# Each is told with its cause, also where a document is asked for; and nothing of it with --quiet.
+folders_that_are_not_opened_are_told() {
+  local folder cause words
+  mkdir -p empty/img-005
+  make_store store || return 1
+  rm -f store/img-005
+  mkdir store/img-005
+  while IFS='|' read -r folder cause; do
+    for words in restore list verify show "restore --json" "list --json" "verify --json" "show --json"; do
+      ends_with 1 "cannot open DIR" "ckpt: $cause" "$ckpt" $words "$folder" || return 1
+      ends_with 1 "cannot open DIR" "" "$ckpt" $words --quiet "$folder" || return 1
+    done
+    ends_with 1 "cannot open DIR" "ckpt: $cause" "$ckpt" export "$folder" cores || return 1
+  done <<< "$unopened_folders"
 }
 
 folders_without_files_are_told() {
@@ -112,11 +129,13 @@ folders_without_files_are_told() {
   ends_with 0 "ok empty" "" "$ckpt" verify store
 }
 
-# Lines that don't fit, and what is told of them.
-unfit_lines='mmap 1 0x10000 4096 wr|field 5 has to be none, or some of rwx in this order, not "wr"
-mmap 1 0x10000 4096 rw\r|field 5 has to be none, or some of rwx in this order, not "rw\\r"; the line has a carriage return; lines end with a newline alone
-load 1\t0x10000 1|field 2 has to be a number below 2^64, decimal or 0x and hexadecimal, not "1\\t0x10000"; the line has a tab; fields are separated by single spaces
-load 1  0x10000 1|field 3 has to be a number below 2^64, decimal or 0x and hexadecimal, not ""; the line has two spaces side by side
+# Lines that don't fit, and what is told of them. NUMBER and RWX stand for what has to be there.
+a_number="a number below 2^64, decimal or 0x and hexadecimal"
+some_of_rwx="none, or some of rwx in this order"
+unfit_lines='mmap 1 0x10000 4096 wr|field 5 has to be RWX, not "wr"
+mmap 1 0 4096 rw\r|field 5 has to be RWX, not "rw\\r"; the line has a carriage return; lines end with a newline alone
+load 1\t0x10000 1|field 2 has to be NUMBER, not "1\\t0x10000"; the line has a tab; fields are separated by single spaces
+load 1  0x10000 1|field 3 has to be NUMBER, not ""; the line has two spaces side by side
 \x20load 1 0x10000 1|field 1 is no request of the language, not ""; the line begins with a space
 load 1 0x10000 1\x20|it has 5 fields, separated by single spaces, and needs 4; the line ends with a space
 store 1 0x10000 abc|field 4 has to be hexadecimal digits, two for each byte, not "abc"
@@ -126,10 +145,13 @@ load 1 2|it has 3 fields, separated by single spaces, and needs 4
 #\xff|it isn'"'"'t UTF-8'
 
 unfit_lines_are_explained() {
-  local row
+  local row cause
   while IFS= read -r row; do
     printf %b "${row%%|*}" > script
-    ends_with 2 "script line 1" "ckpt: script: line 1: $(printf %b "${row#*|}")" "$ckpt" run --check script || return 1
+    cause=${row#*|}
+    cause=${cause/NUMBER/$a_number}
+    cause=$(printf %b "${cause/RWX/$some_of_rwx}")
+    ends_with 2 "script line 1" "ckpt: script: line 1: $cause" "$ckpt" run --check script || return 1
   done <<< "$unfit_lines"
 }
 
@@ -140,6 +162,6 @@ try few_slots_are_told_behind_long_answers
 try the_first_request_with_few_slots_is_told
 try few_slots_are_told_at_once
 try other_refusals_have_no_slots
-try files_that_are_no_files_are_told
+try folders_that_are_not_opened_are_told
 try folders_without_files_are_told
 try unfit_lines_are_explained

@@ -1,7 +1,7 @@
 #!/usr/bin/env python3
 """ELF core files of x86-64, apart from the crate that reads and writes them; standard library alone.
 
-core_files.py make SEED FILE    makes a core by chance: areas, holes, permissions, sizes in the file, places of the pages
+core_files.py make SEED FILE    makes a core by chance: areas, holes, permissions, sizes in the file, places of pages
 core_files.py same FILE FILE    ends with 0 where two cores say the same memory
 core_files.py pages FILE        prints how many pages of memory a core has
 core_files.py trial CKPT COUNT  imports so many cores by chance, 40 into each store, exports each, and compares
@@ -93,7 +93,8 @@ def make(seed, name):
         body += held
     table.append(struct.pack("<IIQQQQQQ", 1, 5, 0, 0xffffffffff600000, 0, 0, PAGE, 1))
     phoff = 64 if table_first else 64 + len(body)
-    head = b"\x7fELF\x02\x01\x01".ljust(16, b"\0") + struct.pack("<HHIQQQIHHHHHH", 4, 62, 1, 0, phoff, 0, 0, 64, 56, count, 0, 0, 0)
+    head = b"\x7fELF\x02\x01\x01".ljust(16, b"\0")
+    head += struct.pack("<HHIQQQIHHHHHH", 4, 62, 1, 0, phoff, 0, 0, 64, 56, count, 0, 0, 0)
     rest = b"".join(table) + body if table_first else bytes(body) + b"".join(table)
     open(name, "wb").write(head + rest)
 

@@ -1,7 +1,7 @@
 # The documents: what is made of the sources is up to date, and what they name is there.
 
 made_by() {  # made_by TOOL
-  command -v python3 > found || { echo "needs python3"; return 77; }
+  needs_python || return
   "$here/../docs/$1"
 }
 
@@ -13,7 +13,7 @@ calls_are_up_to_date() { made_by api; }
 # Each file of the repository that a document names in backticks or by a link is there: in its crate, in the repository,
 # or in some crate. NAME and WHAT stand for any name.
 documents_name_files_that_are_there() {
-  command -v python3 > found || { echo "needs python3"; return 77; }
+  needs_python || return
   python3 - "$here/.." << 'PYTHON'
 import re, sys
 from pathlib import Path
@@ -51,7 +51,7 @@ each_crate_is_named() {
 
 # Each text that an edit or a plant replaces stands once in its file: else it would try nothing.
 wrong_bodies_fit_their_files() {
-  command -v python3 > found || { echo "needs python3"; return 77; }
+  needs_python || return
   python3 - "$here/../crates" << 'PYTHON'
 import sys
 from pathlib import Path

@@ -1,11 +1,13 @@
-/* Put before the C library (LD_PRELOAD), this counts the file calls of a program (open, statx, pread, pwrite, ftruncate,
-   fsync, fdatasync), from 1, and makes some fail. It takes from the environment:
+/* Put before the C library (LD_PRELOAD), this counts the file calls of a program (open, statx, pread, pwrite,
+   ftruncate, fsync, fdatasync), from 1, and makes some fail. It takes from the environment:
+     ONLY      the name of the calls that are counted, or a path whose opening is; else all of them are
      COUNTED   a file to which the count is written at each call, since a program may end by _exit
      FAILED    the number of the call that fails
      NAMED     a file to which the name of that call is written, or the path that it opens
-     HOW       how it fails: `unmade` (EIO, and nothing is done), `made` (done, and then EIO), `full` (ENOSPC, and all later
-               calls that make or change a file too), `interrupted` (EINTR once, and nothing is done), `short` (a read or a
-               write of half the bytes), `other` (a read whose first byte is another one: somebody else wrote it) */
+     HOW       how it fails: `unmade` (EIO, and nothing is done), `made` (done, and then EIO), `full` (ENOSPC, and all
+               later calls that make or change a file too), `interrupted` (EINTR once, and nothing is done), `short` (a
+               read or a write of half the bytes), `other` (a read whose first byte is another one: somebody else
+               wrote it) */
 #define _GNU_SOURCE
 #include <dlfcn.h>
 #include <errno.h>
@@ -21,6 +23,7 @@ enum how { UNMADE, MADE, FULL, INTERRUPTED, SHORT, OTHER };
 
 static const char *const ways[] = {"unmade", "made", "full", "interrupted", "short", "other"};
 
+static const char *only;
 static unsigned long calls, failed;
 static enum how how;
 static int counted = -1;
@@ -42,6 +45,7 @@ __attribute__((constructor)) static void begin(void) {
   next_ftruncate = dlsym(RTLD_NEXT, "ftruncate");
   next_fsync = dlsym(RTLD_NEXT, "fsync");
   next_fdatasync = dlsym(RTLD_NEXT, "fdatasync");
+  only = getenv("ONLY");
   failed = number ? strtoul(number, NULL, 10) : 0;
   for (size_t at = 0; way && at < sizeof ways / sizeof *ways; at++)
     if (strcmp(way, ways[at]) == 0)
@@ -60,9 +64,17 @@ static void tell(const char *name) {
   close(named);
 }
 
+/* Whether calls of a name are counted. */
+static int counts(const char *name) { return !only || strcmp(only, name) == 0; }
+
+/* Whether the call that is made now, of a name, is the one that is to fail. */
+static int is_next(const char *name) { return counts(name) && calls + 1 == failed; }
+
 /* Counts a call. Returns whether it is to fail; `changes` tells whether it makes or changes a file. */
 static int fails(const char *name, int changes) {
   char text[24];
+  if (!counts(name))
+    return 0;
   calls++;
   if (counted >= 0)
     next_pwrite(counted, text, snprintf(text, sizeof text, "%20lu\n", calls), 0);
@@ -87,7 +99,7 @@ static int forget(void) {
 
 #define FAIL_OR(name, changes, call)                                                                                   \
   do {                                                                                                                 \
-    if (!fails(name, changes) || how == SHORT || how == OTHER)                                                                         \
+    if (!fails(name, changes) || how == SHORT || how == OTHER)                                                         \
       return call;                                                                                                     \
     if (how != MADE)                                                                                                   \
       return refuse();                                                                                                 \
@@ -128,14 +140,14 @@ static ssize_t other_pread(int file, void *bytes, size_t length, off_t at) {
 }
 
 ssize_t pread(int file, void *bytes, size_t length, off_t at) {
-  int is_it = calls + 1 == failed;
+  int is_it = is_next("pread");
   if (how == OTHER && is_it)
     FAIL_OR("pread", 0, other_pread(file, bytes, length, at));
   FAIL_OR("pread", 0, next_pread(file, bytes, how == SHORT && is_it ? half(length) : length, at));
 }
 
 ssize_t pwrite(int file, const void *bytes, size_t length, off_t at) {
-  int is_short = how == SHORT && calls + 1 == failed;
+  int is_short = how == SHORT && is_next("pwrite");
   FAIL_OR("pwrite", 1, next_pwrite(file, bytes, is_short ? half(length) : length, at));
 }
 

@@ -17,25 +17,33 @@ on_small() {  # on_small FUNCTION
 
 readers_pass_a_read_only_file_system() { on_small read_read_only; }
 
+# Each program that reads has the store of one checkpoint.
+is_read() {  # is_read STORE
+  same "restore" "$("$ckpt" restore "$1" | head -n 1)" "checkpoint 1" || return 1
+  same "list" "$("$ckpt" list "$1" | tail -n 1)" "tip 1" || return 1
+  same "verify" "$("$ckpt" verify "$1")" "ok checkpoint 1 images 1"
+}
+
 read_read_only() {  # read_read_only DIR
   make_store "$1/store" || return 1
   mount -o remount,ro "$1" || return 1
-  same "restore" "$("$ckpt" restore "$1/store" | head -n 1)" "checkpoint 1" || return 1
-  same "list" "$("$ckpt" list "$1/store" | tail -n 1)" "tip 1" || return 1
-  same "verify" "$("$ckpt" verify "$1/store")" "ok checkpoint 1 images 1" || return 1
+  is_read "$1/store" || return 1
   same "the status of run" "$(ends "$ckpt" run "$1/store" script)" 1 || return 1
   same "run" "$(cat out)" "cannot open DIR" || return 1
   has "its cause" "$(cat err)" "Read-only file system (os error 30)"
 }
 
+# The superuser may write there all the same, so nothing would be tried.
 readers_pass_a_read_only_folder() {
+  [ "$(id -u)" != 0 ] || { echo "needs a user who isn't root"; return 77; }
   make_store store || return 1
   chmod 444 store/img-*
   chmod 555 store
-  same "restore" "$("$ckpt" restore store | head -n 1)" "checkpoint 1" || return 1
-  same "list" "$("$ckpt" list store | tail -n 1)" "tip 1" || return 1
-  same "verify" "$("$ckpt" verify store)" "ok checkpoint 1 images 1" || return 1
+  local status=0
+  is_read store || status=1
+  same "the status of run" "$(ends "$ckpt" run store script)" 1 || status=1
   chmod 755 store
+  return $status
 }
 
 full_device_is_told() { on_small fill_up; }
@@ -57,14 +65,7 @@ long_file_is_told() {
   same "verify" "$("$ckpt" verify store)" "ok checkpoint 1 images 1"
 }
 
-missing_folder_is_told() {
-  same "the status" "$(ends "$ckpt" restore missing)" 1 || return 1
-  same "the line" "$(cat out)" "cannot open DIR" || return 1
-  has "its cause" "$(cat err)" "ckpt: missing: No such file or directory (os error 2)"
-}
-
 try readers_pass_a_read_only_file_system
 try readers_pass_a_read_only_folder
 try full_device_is_told
 try long_file_is_told
-try missing_folder_is_told

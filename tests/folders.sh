@@ -1,10 +1,18 @@
 # How the folder of a store and its files are made and opened: what is synced, in which order, and what is refused.
 
+# A run makes the folders that are missing on the way to its store.
+new_folder_stands_in_its_parent() {
+  printf 'checkpoint 0\n' > script
+  same "the answers" "$("$ckpt" run new/parent/store script)" "$(printf 'reopened none\nacked 1')" || return 1
+  same "verify" "$("$ckpt" verify new/parent/store)" "ok checkpoint 1 images 1"
+}
+
 # The file calls of a program, one a line, as strace tells them with the paths of descriptors: the file calls-of-run.
 trace() {  # trace PROGRAM WORD..
   command -v strace > /dev/null || { echo "needs strace"; return 77; }
+  strace -o calls-of-run true 2> err || { echo "strace can't run here"; return 77; }
   strace -y -o calls-of-run -e trace=mkdir,openat,open,pwrite64,ftruncate,fsync,fdatasync,write \
-    "$ckpt" "$@" > answers 2> err || { echo "strace can't run here"; return 77; }
+    "$ckpt" "$@" > answers 2> err || { echo "$* failed:"; cat answers err; return 1; }
 }
 
 # Whether each of these folders was made, and synced into the one in which it stands.
@@ -100,19 +108,10 @@ a_link_that_leads_nowhere_is_told() {
   has "its cause" "$(cat err)" "store: img-001: a symbolic link to a file that is missing"
 }
 
-a_slot_that_is_no_file_is_told() {
-  make_store store || return 1
-  rm -f store/img-005
-  mkdir store/img-005
-  same "the status" "$(ends "$ckpt" verify store)" 1 || return 1
-  same "the line" "$(cat out)" "cannot open DIR" || return 1
-  has "its cause" "$(cat err)" "store: img-005: not a regular file"
-}
-
+try new_folder_stands_in_its_parent
 try folders_are_synced_into_their_parents
 try folders_of_an_export_are_synced_into_their_parents
 try files_are_synced_before_the_store_is_opened
 try calls_on_a_slot_have_their_order
 try slots_that_share_a_file_are_not_written
 try a_link_that_leads_nowhere_is_told
-try a_slot_that_is_no_file_is_told

@@ -51,6 +51,11 @@ unfit_scripts='1 load 1  2 3
 1 work Dumper\n
 1 perform dumper 1
 1 perform dumper 1\n
+1 perform-at dumper
+1 perform-at dumper x
+1 perform-at writer 0
+1 perform-at dumper -1
+1 perform-at dumper 0 0\n
 1 step dumper 0
 1 step dumper 0\n
 1 step dumper
@@ -109,6 +114,7 @@ begin-merge\ncancel => refused 14 idle\nrefused 14 idle\n
 merge\nreopen\ntrim => refused 14 idle\nrefused 11 busy\nrefused 14 idle\n
 work dumper => refused 14 idle\n
 perform merger => refused 14 idle\n
+perform-at dumper 0\nperform-at merger 0x7 => refused 14 idle\nrefused 14 idle\n
 step opener 1 => refused 14 idle\n
 step dumper 0x10 => refused 14 idle\n
 mmap 1 0 1 w\nstore 1 0 61\nbegin 0\nstep dumper 0x24\nstep dumper 1 => done\ndone\nbegun 1\nworked\nacked 1\n

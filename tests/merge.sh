@@ -46,6 +46,7 @@ a_store_that_cannot_be_merged_is_told() {
 closed_output_harms_no_merge() {
   make_store store || return 1
   "$ckpt" merge store >&- 2>&- <&-
+  same "the tip" "$("$ckpt" list store | tail -n 1)" "tip 2" || return 1
   same "verify" "$("$ckpt" verify store)" "ok checkpoint 1 images 1"
 }
 

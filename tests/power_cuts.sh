@@ -2,7 +2,7 @@
 
 stores_stand_power_cuts() {
   [ -z "${CHECKED:-}" ] || { echo "a build with checks is too slow in an emulated machine"; return 77; }
-  command -v python3 > /dev/null || { echo "no python3"; return 77; }
+  needs_python || return
   local status
   status=$(TMPDIR=$PWD ends timeout 170 "$here/../bench/power_cuts" --reorder --cuts 5 --moments 5 --ckpt "$ckpt")
   case $status in

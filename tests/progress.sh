@@ -2,25 +2,7 @@
 
 # What a program writes to its standard error, which is a terminal, while each write of the store is slow.
 on_terminal() {  # on_terminal COMMAND..
-  python3 - "$@" << 'PYTHON'
-import os, pty, subprocess, sys
-
-ours, theirs = pty.openpty()
-environment = {**os.environ, "LD_PRELOAD": os.path.abspath("slow.so")}
-process = subprocess.Popen(sys.argv[1:], stdout=subprocess.DEVNULL, stderr=theirs, env=environment)
-os.close(theirs)
-told = b""
-while True:
-    try:
-        part = os.read(ours, 4096)
-    except OSError:
-        break
-    if not part:
-        break
-    told += part
-sys.stdout.buffer.write(told)
-sys.exit(process.wait())
-PYTHON
+  python3 "$here/on_terminal.py" 2 sh -c 'exec "$@" > /dev/null' sh env "LD_PRELOAD=$PWD/slow.so" "$@"
 }
 
 # A script that stores into so many pages, and makes a checkpoint.
@@ -35,7 +17,7 @@ of_pages() {  # of_pages COUNT
 # Builds what makes each write of a store slow, or tells what is missing.
 slow_writes() {
   command -v cc > /dev/null || { echo "no C compiler"; return 77; }
-  command -v python3 > found || { echo "needs python3"; return 77; }
+  needs_python || return
   cc -O2 -shared -fPIC -o slow.so "$here/slow_writes.c" || return 1
   [ -z "${CHECKED:-}" ] || export ASAN_OPTIONS=verify_asan_link_order=0
 }

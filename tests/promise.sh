@@ -6,7 +6,7 @@ headline=(sd_run run_lines promise so_far + sd_world restore_left restored)
 
 # Each definition that is quoted stands in the file that its block names, word for word.
 promise_quotes_the_definitions() {
-  command -v python3 > found || { echo "needs python3"; return 77; }
+  needs_python || return
   python3 - "$sources" << 'PYTHON'
 import re, sys
 from pathlib import Path
@@ -23,7 +23,7 @@ PYTHON
 
 # The number of definitions behind the clauses is the one that the page tells, and at most 150.
 promise_is_small() {
-  command -v python3 > found || { echo "needs python3"; return 77; }
+  needs_python || return
   local told count
   told=$(grep -oE '[0-9]+ definitions of [0-9]+ lines' "$sources/docs/PROMISE.md")
   "$sources/docs/believe" "${headline[@]}" > counted || return 1
@@ -35,7 +35,7 @@ promise_is_small() {
 
 # docs/BELIEVED.md and the README have the same number, and the former lists the definitions.
 what_is_believed_is_listed() {
-  command -v python3 > found || { echo "needs python3"; return 77; }
+  needs_python || return
   local told row
   told=$(grep -oE '[0-9]+ definitions of [0-9]+ lines' "$sources/docs/PROMISE.md")
   has "the README" "$(cat "$sources/README.md")" "$told" || return 1
@@ -49,7 +49,7 @@ what_is_believed_is_listed() {
 
 # Each link of the README and of docs/CLAUSES.md leads to the line of its function or clause.
 links_lead_to_clauses() {
-  command -v python3 > found || { echo "needs python3"; return 77; }
+  needs_python || return
   "$sources/docs/links"
 }
 

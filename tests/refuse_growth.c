@@ -1,7 +1,7 @@
-/* Put before the C library (LD_PRELOAD), this refuses growths of a program: the call of malloc or realloc whose number the
-   variable REFUSED of the environment has, counted from 1, and so many from there on as REFUSED_COUNT says, or that one alone.
-   With REFUSED_THREAD only the growths of one thread are counted: threads are numbered from 0 by their first growth. It says so
-   on the standard error, once. */
+/* Put before the C library (LD_PRELOAD), this refuses growths of a program: the call of malloc or realloc whose number
+   the variable REFUSED of the environment has, counted from 1, and so many from there on as REFUSED_COUNT says, or that
+   one alone. With REFUSED_THREAD only the growths of one thread are counted: threads are numbered from 0 by their first
+   growth. It says so on the standard error, once. */
 #include <errno.h>
 #include <limits.h>
 #include <stdatomic.h>

@@ -75,11 +75,17 @@ rows_stand() {
   [ "$count" -gt 0 ] && [ "$failed" -eq 0 ]
 }
 
-# A run prints at its end what `restore` prints.
-a_run_restores_at_its_end() {
-  local row=$here/rows/first_checkpoint
-  ends_with 0 "$(cat "$row.out" "$row.restore")" "" "$ckpt" run --restore store "$row.ckpt"
+# A run prints at its end what `restore` prints, also of a memory that no checkpoint has.
+a_run_without_a_checkpoint_restores_nothing() {
+  printf '# no checkpoint\n' > script
+  ends_with 3 "reopened none
+empty chain" "" "$ckpt" run --restore store script || return 1
+  printf 'mmap 1 0x10000 4096 rw\nstore 1 0x10000 61\n' > script
+  ends_with 3 "reopened none
+done
+done
+empty chain" "" "$ckpt" run --restore store script
 }
 
 try rows_stand
-try a_run_restores_at_its_end
+try a_run_without_a_checkpoint_restores_nothing

@@ -27,9 +27,14 @@ done" "" "$ckpt" shell store < lines
 shell_needs_a_store() {
   echo > file
   same "the status" "$(ends "$ckpt" shell file < /dev/null)" 1 || return 1
-  same "the output" "$(cat out)" "cannot open DIR" || return 1
+  same "the output" "$(cat out)" "cannot open DIR"
+}
+
+shell_into_a_full_device() {
+  has_full_device || return
   "$ckpt" shell store < /dev/null > /dev/full 2> err
-  same "the status of a full device" $? 1
+  same "the status" $? 1 || return 1
+  same "the cause" "$(cat err)" "ckpt: standard output: No space left on device (os error 28)"
 }
 
 # An input that can't be read has its cause told.
@@ -42,33 +47,65 @@ cannot read SCRIPT" || return 1
 
 # Who asks through two pipes has the answer before the next request.
 shell_answers_at_once() {
-  command -v python3 > found || { echo "needs python3"; return 77; }
+  needs_python || return
   same "the checkpoint" "$(python3 "$here/../examples/client.py" "$ckpt" store put colour green shape round)" \
     "acked 1" || return 1
   same "the value" "$(python3 "$here/../examples/client.py" "$ckpt" store get shape)" round || return 1
   same "a key that isn't there" "$(python3 "$here/../examples/client.py" "$ckpt" store get size)" none
 }
 
-# Waits until a client was told that a checkpoint is acknowledged, for a minute at most.
-wait_for_checkpoint() {
+# On a terminal it asks for each line, and tells what is wrong with one.
+shell_asks_on_a_terminal() {
+  needs_python || return
+  printf 'load 1\nquit\n' > lines
+  ends_with 0 'reopened none
+> script line 1: it has 2 fields, separated by single spaces, and needs 4
+> ' "" python3 "$here/on_terminal.py" 01 "$ckpt" shell store < lines
+}
+
+# Where the end of the input is typed, the line of the last prompt is ended.
+shell_ends_its_last_prompt() {
+  needs_python || return
+  printf 'fork 1\n\004' > lines
+  same "the status" "$(ends python3 "$here/on_terminal.py" 01 "$ckpt" shell store < lines)" 0 || return 1
+  same "the output" "$(cat out; echo .)" "reopened none
+> child 2
+> 
+."
+}
+
+# Answers that go to a file or a pipe have nothing beside them, also where the requests are typed; and requests that
+# aren't typed are not asked for.
+shell_asks_nothing_of_a_file() {
+  needs_python || return
+  local descriptor
+  printf 'load 1\nquit\n' > lines
+  for descriptor in 0 1; do
+    ends_with 0 "reopened none
+script line 1" "" python3 "$here/on_terminal.py" $descriptor "$ckpt" shell store < lines || return 1
+  done
+}
+
+# Waits until a file has something, for a minute at most.
+wait_for_answer() {  # wait_for_answer FILE
   local turn
   for turn in $(seq 600); do
-    [ -s told ] && return
+    [ -s "$1" ] && return
     sleep 0.1
   done
-  echo "no checkpoint was acknowledged"
+  echo "nothing came into $1"
   return 1
 }
 
 # A client that is killed with its shell at any moment loses nothing that was acknowledged.
 client_that_is_killed_loses_nothing() {
-  command -v python3 > found || { echo "needs python3"; return 77; }
+  needs_python || return
   local turn acked there turns=10
   [ -z "${CHECKED:-}" ] || turns=3
   for turn in $(seq $turns); do
     : > told
     setsid python3 "$here/../examples/client.py" "$ckpt" store count 1000000 > told 2> err &
-    wait_for_checkpoint || return 1
+    wait_for_answer told || { kill -9 -- -$! 2> killed; return 1; }
     sleep "0.$((RANDOM % 20 + 10))"
     kill -9 -- -$! 2> killed
     wait $! 2> ended
@@ -83,6 +120,10 @@ try shell_answers_as_run_does
 try shell_goes_on_behind_a_line_that_does_not_fit
 try shell_ends_with_quit
 try shell_needs_a_store
+try shell_into_a_full_device
 try shell_tells_why_its_input_is_not_read
 try shell_answers_at_once
+try shell_asks_on_a_terminal
+try shell_ends_its_last_prompt
+try shell_asks_nothing_of_a_file
 try client_that_is_killed_loses_nothing

@@ -252,7 +252,7 @@ run data first 16 pages 1 offset 4096"
 
 # Checks a document by a program in Python, to which it is `document`.
 python_finds() {  # python_finds PROGRAM
-  command -v python3 > which || { echo "needs python3"; return 77; }
+  needs_python || return
   python3 -c "import json, sys
 document = json.load(open('out'))
 slots = document['slots']
@@ -317,49 +317,40 @@ assert lines == open('text').read().splitlines()
 assert sum(s['state'] == 'open' for s in slots) > 2"
 }
 
-folders_that_are_missing_are_told() {
-  same "the status" "$(ends "$ckpt" show missing)" 1 || return 1
-  same "the output" "$(cat out)" "cannot open DIR" || return 1
-  has "its cause" "$(cat err)" "missing"
-}
-
 show_into_a_closed_descriptor() {
   make_store store || return 1
   local before
   before=$(sums store)
   "$ckpt" show store >&- 2> err
-  same "the files" "$(sums store)" "$before" || return 1
-  [ -w /dev/full ] || return 0
+  same "the files" "$(sums store)" "$before"
+}
+
+show_into_a_full_device() {
+  has_full_device || return
+  make_store store || return 1
   "$ckpt" show store > /dev/full 2> err
   same "the status" $? 1 || return 1
   same "the cause" "$(cat err)" "ckpt: standard output: No space left on device (os error 28)"
 }
 
-# Each file call that fails ends the lines of the slots before with `device`, or keeps the folder closed, or comes
-# before the program has its descriptors; and no JSON is printed then.
+# A file call that fails ends the lines of the slots before with `device`, or keeps the folder closed; a document isn't
+# printed then, but `device` alone.
 a_failing_device_ends_the_lines() {
-  command -v cc > which || { echo "no C compiler"; return 77; }
-  cc -O2 -shared -fPIC -o fail.so "$here/fail_call.c" || return 1
-  export ASAN_OPTIONS=verify_asan_link_order=0
+  calls_can_fail || return
   make_store store || return 1
   cp store/img-000 store/img-063
-  "$ckpt" show store > whole || return 1
-  COUNTED=count LD_PRELOAD=./fail.so "$ckpt" show store > out || return 1
-  cmp out whole || return 1
-  local calls number
-  calls=$(($(cat count)))
-  for number in $(seq 1 "$((calls / 16 + 1))" "$calls") "$((calls - 1))" "$calls"; do
-    FAILED=$number HOW=unmade LD_PRELOAD=./fail.so "$ckpt" show store > out 2> err
-    same "the status, call $number of $calls" $? 1 || return 1
-    case $(tail -n 1 out) in
-      device) head -n -1 out | cmp - <(head -n "$(($(wc -l < out) - 1))" whole) || return 1 ;;
-      "cannot open DIR") same "the lines" "$(wc -l < out)" 1 || return 1 ;;
-      "") [ "$number" -le 3 ] || { echo "nothing is printed at call $number"; return 1; } ;;
-      *) tail -n 3 out; return 1 ;;
-    esac
-    FAILED=$number HOW=unmade LD_PRELOAD=./fail.so "$ckpt" show store --json > out 2> err
-    same "the status of --json" $? 1 || return 1
-    ! grep -q slots out || { echo "a document at call $number"; return 1; }
+  reader_tells_of_failures 4 device show store || return 1
+  reader_tells_of_failures 4 device show store --json
+}
+
+# The first three calls hold the descriptors of a program.
+descriptors_that_are_not_held_are_told() {
+  calls_can_fail || return
+  make_store store || return 1
+  local number
+  for number in 1 2 3; do
+    ends_with 1 "" "ckpt: /dev/null: Input/output error (os error 5)" \
+      env "FAILED=$number" HOW=unmade LD_PRELOAD=./fail.so "$ckpt" show store || return 1
   done
 }
 
@@ -379,6 +370,7 @@ try great_counts_are_shown
 try a_store_is_shown_as_json
 try damaged_slots_are_shown_as_json
 try text_and_json_agree
-try folders_that_are_missing_are_told
 try show_into_a_closed_descriptor
+try show_into_a_full_device
 try a_failing_device_ends_the_lines
+try descriptors_that_are_not_held_are_told

@@ -3,44 +3,13 @@
 
 # The lines of a run agree with what `show` finds in the images that are left, and with each other.
 counts_agree() {  # counts_agree SCRIPT
-  command -v python3 > which || { echo "needs python3"; return 77; }
+  needs_python || return
   rm -rf plain store
   "$ckpt" run plain "$1" > wanted || return 1
   ends_with 0 "$(cat wanted)" "" "$ckpt" run --stats counts store "$1" || return 1
   same "the stores" "$(sums store)" "$(sums plain)" || return 1
   "$ckpt" show store --json > show.json
-  python3 - <<'END'
-import json
-lines = [json.loads(line) for line in open('counts')]
-images = {l['serial']: l for l in lines if l['of'] == 'image'}
-shown = {s['header']['serial']: s for s in json.load(open('show.json'))['slots'] if s['state'] == 'open'}
-kinds = {1: 'pre-dump', 2: 'dump', 3: 'merged'}
-for serial, slot in shown.items():
-    line, header = images[serial], slot['header']
-    runs = [r for s in slot['spaces'] for r in s['runs']]
-    pages = {kind: sum(r['count'] for r in runs if r['kind'] == kind) for kind in (1, 2, 3)}
-    assert (line['data'], line['in_parent'], line['zeros']) == (pages[1], pages[2], pages[3]), (line, pages)
-    assert line['pages'] == sum(pages.values()) and line['data'] == header['pages']
-    assert line['slot'] == slot['slot'] and line['kind'] == kinds[header['kind']]
-    assert line['checkpoint'] == header['checkpoint']
-    assert line['bytes'] == 4096 + 4096 * header['pages'] + header['table_len']
-for line in images.values():
-    assert line['data'] + 5 < line['calls'] <= line['data'] + 8 and line['seconds'] >= 0, line
-for line in lines:
-    if line['of'] != 'checkpoint':
-        continue
-    its = [l for l in images.values() if l['checkpoint'] == line['checkpoint'] and l['kind'] != 'merged']
-    dump = images[line['serial']]
-    assert dump['kind'] == 'dump' and line['rounds'] == len(its) - 1 and line['slot'] == dump['slot']
-    for name in ('pages', 'data', 'zeros', 'in_parent', 'bytes', 'calls'):
-        assert line[name] == sum(l[name] for l in its), (name, line, its)
-    assert line['frozen_calls'] == dump['data'] + 5
-    assert 0 <= line['frozen_seconds'] <= line['seconds']
-acked = open('wanted').read().split().count('acked')
-merged = open('wanted').read().split().count('merged')
-assert sum(l['of'] == 'checkpoint' for l in lines) == acked, acked
-assert sum(l['of'] == 'merge' for l in lines) == merged, merged
-END
+  python3 "$here/counts_agree.py"
 }
 
 counts_are_those_of_the_images() {
@@ -71,19 +40,21 @@ counts_of_jobs_beside_each_other() {
 }
 
 counts_may_be_the_standard_error() {
+  local image checkpoint
+  image='{"bytes":8264,"calls":9,"checkpoint":1,"data":1,"in_parent":0,"kind":"dump","of":"image","pages":1,'
+  image+='"seconds":S,"serial":1,"slot":0,"zeros":0}'
+  checkpoint='{"bytes":8264,"calls":9,"checkpoint":1,"data":1,"frozen_calls":6,"frozen_seconds":S,"in_parent":0,'
+  checkpoint+='"of":"checkpoint","pages":1,"rounds":0,"seconds":S,"serial":1,"slot":0,"zeros":0}'
   same "the status" "$(ends "$ckpt" run --stats - store "$here/../examples/first.ckpt")" 0 || return 1
   same "the output" "$(cat out)" "$(cat "$here/../examples/first.out")" || return 1
-  same "the lines" "$(sed -E 's/"(frozen_)?seconds":[0-9.e-]+/"\1seconds":S/g' err)" \
-    '{"bytes":8264,"calls":9,"checkpoint":1,"data":1,"in_parent":0,"kind":"dump","of":"image","pages":1,"seconds":S,"serial":1,"slot":0,"zeros":0}
-{"bytes":8264,"calls":9,"checkpoint":1,"data":1,"frozen_calls":6,"frozen_seconds":S,"in_parent":0,"of":"checkpoint","pages":1,"rounds":0,"seconds":S,"serial":1,"slot":0,"zeros":0}'
+  same "the lines" "$(sed -E 's/"(frozen_)?seconds":[0-9.e-]+/"\1seconds":S/g' err)" "$image
+$checkpoint"
 }
 
 # A call that failed has made nothing: as many checkpoints are told as were acknowledged, whichever of the last calls
 # fails.
 failed_calls_make_no_record() {
-  command -v cc > which || { echo "no C compiler"; return 77; }
-  cc -O2 -shared -fPIC -o fail.so "$here/fail_call.c" || return 1
-  export ASAN_OPTIONS=verify_asan_link_order=0
+  calls_can_fail || return
   printf 'mmap 1 0x10000 4096 rw\nstore 1 0x10000 61\ncheckpoint 0\n' > script
   COUNTED=count LD_PRELOAD=./fail.so "$ckpt" run --quiet --stats - store script > out 2> err || return 1
   local calls number refused=0
@@ -116,13 +87,35 @@ merge 3: 1 images read, 2 closed, S s"
 }
 
 counts_that_cannot_be_written() {
-  same "the status" "$(ends "$ckpt" run --stats missing/counts store "$here/../examples/first.ckpt")" 1 || return 1
-  same "the output" "$(cat out)" "" || return 1
-  has "the cause" "$(cat err)" "ckpt: missing/counts: No such file or directory" || return 1
+  local script=$here/../examples/first.ckpt cause="ckpt: missing/counts: No such file or directory (os error 2)"
+  ends_with 1 "cannot write FILE" "$cause" "$ckpt" run --stats missing/counts store "$script" || return 1
+  ends_with 1 "cannot write FILE" "" "$ckpt" run --quiet --stats missing/counts store "$script" || return 1
   [ ! -e store ] || { echo "a store was made"; return 1; }
-  [ -w /dev/full ] || return 0
-  same "the status of a full device" "$(ends "$ckpt" run --stats /dev/full store "$here/../examples/first.ckpt")" 1 \
-    || return 1
+}
+
+# Where another run has the store open, the counts of an older run stay. The next run that begins writes over them.
+counts_of_a_refused_run_stay() {
+  make_store store || return 1
+  open_pipe || { echo "needs named pipes"; return 77; }
+  yes older | head -n 1000 > older
+  cp older counts
+  "$ckpt" shell store < pipe > told 7>&- &
+  local first=$! status=0
+  wait_for_answer told || status=1
+  ends_with 1 "cannot open DIR" "ckpt: store: another run has this store open" \
+    "$ckpt" run --stats counts store script || status=1
+  cmp counts older || status=1
+  echo quit >&7
+  wait $first
+  [ "$status" -eq 0 ] || return 1
+  "$ckpt" run --stats counts store script > out || return 1
+  same "the lines of the next run" "$(grep -oE '"of":"[a-z]+"|older' counts)" '"of":"image"
+"of":"checkpoint"'
+}
+
+counts_into_a_full_device() {
+  has_full_device || return
+  same "the status" "$(ends "$ckpt" run --stats /dev/full store "$here/../examples/first.ckpt")" 1 || return 1
   same "the output" "$(cat out)" "$(cat "$here/../examples/first.out")" || return 1
   has "the cause" "$(cat err)" "ckpt: the counts: No space left on device"
 }
@@ -134,3 +127,5 @@ try counts_may_be_the_standard_error
 try failed_calls_make_no_record
 try summary_is_a_table
 try counts_that_cannot_be_written
+try counts_of_a_refused_run_stay
+try counts_into_a_full_device

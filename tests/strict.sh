@@ -20,6 +20,21 @@ done
 segv accerr" "script line 2: store 1 0x10000 68: segv accerr" "$ckpt" run --strict --restore store script
 }
 
+# A store that isn't opened at the beginning is told as that, and as no line of the script. The last sync of a run that
+# saves nothing is one of its opening.
+strict_run_ends_at_its_opening() {
+  calls_can_fail || return
+  make_store store || return 1
+  echo 'load 1 0x10000 1' > script
+  ONLY=fsync COUNTED=count LD_PRELOAD=./fail.so "$ckpt" run --strict store script > out || return 1
+  were_counted 64 || return 1
+  same "the status" "$(ends env ONLY=fsync "FAILED=$(($(cat count)))" HOW=unmade LD_PRELOAD=./fail.so \
+    "$ckpt" run --strict store script)" 1 || return 1
+  same "the output" "$(cat out)" "refused 22 device" || return 1
+  same "what is told first" "$(head -n 1 err)" "opening: refused 22 device" || return 1
+  has "its cause" "$(cat err)" "Input/output error (os error 5)"
+}
+
 strict_run_comes_to_its_end() {
   "$ckpt" run --restore loose "$here/../examples/rounds.ckpt" > wanted || return 1
   ends_with 0 "$(cat wanted)" "" "$ckpt" run --strict --restore strict "$here/../examples/rounds.ckpt" || return 1
@@ -35,6 +50,7 @@ strict_run_takes_no_part_of_a_script() {
 
 try strict_run_ends_at_a_refusal
 try strict_run_ends_at_a_fault_of_memory
+try strict_run_ends_at_its_opening
 try strict_run_comes_to_its_end
 try strict_run_takes_no_part_of_a_script
 

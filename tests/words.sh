@@ -1,14 +1,14 @@
 # The command line, the help, and faults of the script.
 
 help_into_a_full_device() {
-  [ -w /dev/full ] || { echo "needs /dev/full"; return 77; }
+  has_full_device || return
   "$ckpt" --help > /dev/full 2> err
   same "the status" $? 1 || return 1
   same "the text" "$(cat err)" "ckpt: standard output: No space left on device (os error 28)"
 }
 
 answers_into_a_full_device() {
-  [ -w /dev/full ] || { echo "needs /dev/full"; return 77; }
+  has_full_device || return
   make_store store || return 1
   "$ckpt" restore store > /dev/full 2> err
   same "the status" $? 1 || return 1
@@ -20,13 +20,31 @@ answers_into_a_full_device() {
 
 # Also where more is printed than waits to be written, it is told once.
 many_answers_into_a_full_device() {
-  [ -w /dev/full ] || { echo "needs /dev/full"; return 77; }
+  has_full_device || return
   make_image store/img-000 "2 2 1 1 0 1" 4 1 "1 0, 1 1 1, 16 4 3 0, 16 4 1 0"
   "$ckpt" restore store > /dev/full 2> err
   same "the status" $? 1 || return 1
   same "the text" "$(cat err)" "ckpt: standard output: No space left on device (os error 28)" || return 1
   "$ckpt" restore -q store > /dev/full 2> err
   same "the text with -q" "$(cat err)" ""
+}
+
+# A pipe that nobody reads, as descriptor 8.
+open_unread_pipe() {
+  mkfifo unread && exec 7<> unread 8> unread 7>&-
+}
+
+# Where whoever read the answers is gone, as behind `head`, there is nobody to tell it to.
+answers_that_nobody_reads() {
+  local words
+  make_store store || return 1
+  open_unread_pipe || { echo "needs named pipes"; return 77; }
+  for words in --help "restore store" "list store" "verify store" "show store" "restore --json store" \
+    "run next script" "shell store" "merge store"; do
+    "$ckpt" $words < /dev/null >&8 2> err
+    same "the status of $words" $? 1 || return 1
+    same "what $words tells" "$(cat err)" "" || return 1
+  done
 }
 
 folder_that_is_no_text() {
@@ -38,7 +56,7 @@ folder_that_is_no_text() {
 
 help_has_examples_and_statuses() {
   local program
-  for program in run merge mutate restore list verify show; do
+  for program in run shell merge mutate restore list verify show export import; do
     "$ckpt" $program --help > out || return 1
     has "$program" "$(cat out)" "ckpt $program store" || return 1
     has "$program" "$(cat out)" "Status: 0" || return 1
@@ -144,6 +162,7 @@ script_beyond_memory() {
 try help_into_a_full_device
 try answers_into_a_full_device
 try many_answers_into_a_full_device
+try answers_that_nobody_reads
 try folder_that_is_no_text
 try help_has_examples_and_statuses
 try help_of_run_has_the_language
