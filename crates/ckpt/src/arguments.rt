@@ -102,7 +102,7 @@ pub const STATS: Item = Item {
 
 pub const SUMMARY: Item = Item {
     name: "summary",
-    help: "Prints at the end on standard error what each image, checkpoint and merge took, as a table",
+    help: "Prints at the end on standard error what each image took, as a table, and each checkpoint and merge",
     ..FLAG
 };
 

@@ -1,9 +1,9 @@
 //! What stands behind a fixed line of the output, for a reader: one line on the standard error. Where that can't be
 //! printed, nothing is lost.
 
+use crate::course::line_of_request;
 use crate::strict::Failure;
 use clap::ArgMatches;
-use memchr::{memchr, memchr_iter};
 use sd_disk::DirDisk;
 use sd_script::{blame_line, print_answer};
 use std::fmt::Display;
@@ -55,7 +55,7 @@ pub fn tell_line(
     }
 }
 
-/// Tells at which request a strict run ended: its line, and how it was answered.
+/// Tells at which request a strict run ended, of a script with these bytes: its line, and how it was answered.
 pub fn tell_failure(
     rt: &(impl Eprint + AllocGlobal),
     causes: Causes,
@@ -66,24 +66,18 @@ pub fn tell_failure(
     if causes == Causes::Kept || print_answer(&failure.answer, &mut answer).is_err() {
         return;
     }
-    let line = line_of(bytes, failure.number).unwrap_or(b"reopen");
-    let (line, answer) = (str::from_utf8(line), str::from_utf8(&answer));
-    let _ = eprintln!(rt;
-        "script line {}: {}: {}",
-        failure.number,
-        line.unwrap_or(""),
-        answer.unwrap_or("").trim_end()
-    );
+    let answer = str::from_utf8(&answer).unwrap_or("").trim_end();
+    let Some(number) = line_of_request(bytes, failure.request) else {
+        let _ = eprintln!(rt; "opening: {answer}");
+        return;
+    };
+    let line = str::from_utf8(line_of(bytes, number).unwrap_or(b"")).unwrap_or("");
+    let _ = eprintln!(rt; "script line {number}: {line}: {answer}");
 }
 
 /// A line of a script, without its end. They are counted from 1.
 pub fn line_of(bytes: &[u8], number: usize) -> Option<&[u8]> {
-    let start = match number {
-        0 => return None,
-        1 => 0,
-        _ => memchr_iter(b'\n', bytes).nth(number - 2)?.saturating_add(1),
-    };
-    let rest = bytes.get(start..)?;
-    let length = memchr(b'\n', rest).unwrap_or(rest.len());
-    rest.get(..length)
+    bytes
+        .split(|byte| *byte == b'\n')
+        .nth(number.checked_sub(1)?)
 }

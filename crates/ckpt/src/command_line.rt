@@ -8,19 +8,34 @@ use crate::help::{
     EXPORT, IMPORT, LIMITS, LIST, MERGE, MUTATE, RESTORE, RUN_HEAD, RUN_TAIL, SHELL, SHOW, VERIFY,
 };
 use clap::builder::ValueParser;
-use clap::{Arg, ArgAction, Command};
+use clap::{Arg, ArgAction, ArgMatches, Command};
+use sd_readers::Reader;
 use sd_script::{LINE_FORMS, LineForm};
 use std::alloc::{AllocError, Global};
 use std::fmt::Write;
 
 /// What `--version` prints: the version of the program, the images that it writes and reads, and the kit it is proved
 /// with.
-const VERSION: &str = "1.4.1, writes images of version 2 and reads 1 and 2, rattle-kit-13f";
+const VERSION: &str = "1.5.0, writes images of version 2 and reads 1 and 2, rattle-kit-13f";
+
+/// What one of the programs does.
+#[derive(Clone, Copy, PartialEq, Eq)]
+pub enum Work {
+    Run,
+    Shell,
+    Merge,
+    Mutate,
+    Read(Reader),
+    Show,
+    Export,
+    Import,
+}
 
 /// One of the programs.
 #[derive(Clone, Copy)]
 struct Program {
     name: &'static str,
+    work: Work,
     about: &'static str,
     items: &'static [Item],
     /// What stands at the end of its help. That of `run` is made of the language.
@@ -31,6 +46,7 @@ struct Program {
 const PROGRAMS: [Program; 10] = [
     Program {
         name: "run",
+        work: Work::Run,
         about: "Runs a script over the store in a folder, which is made where it is missing",
         items: &[
             DIR_TO_RUN, SCRIPT, CHECK, RESTORES, STRICT, STATS, SUMMARY, QUIET, VERBOSE,
@@ -39,54 +55,63 @@ const PROGRAMS: [Program; 10] = [
     },
     Program {
         name: "shell",
+        work: Work::Shell,
         about: "Answers requests from the standard input over the store in a folder, one by one",
         items: &[DIR, QUIET, VERBOSE],
         behind: Some(SHELL),
     },
     Program {
         name: "merge",
+        work: Work::Merge,
         about: "Merges the chain of the newest checkpoint in a folder's store into one image",
         items: &[DIR, QUIET, VERBOSE],
         behind: Some(MERGE),
     },
     Program {
         name: "mutate",
+        work: Work::Mutate,
         about: "Stores by threads into an empty store while checkpoints are made",
         items: &[DIR, THREADS, QUIET, VERBOSE],
         behind: Some(MUTATE),
     },
     Program {
         name: "restore",
+        work: Work::Read(Reader::Restore),
         about: "Prints the memory that the store in a folder shows",
         items: &[DIR, JSON, QUIET, VERBOSE],
         behind: Some(RESTORE),
     },
     Program {
         name: "list",
+        work: Work::Read(Reader::List),
         about: "Prints the open images of the store in a folder, and which of them is the newest",
         items: &[DIR, JSON, QUIET, VERBOSE],
         behind: Some(LIST),
     },
     Program {
         name: "verify",
+        work: Work::Read(Reader::Verify),
         about: "Checks that the store in a folder can be restored",
         items: &[DIR, JSON, QUIET, VERBOSE],
         behind: Some(VERIFY),
     },
     Program {
         name: "show",
+        work: Work::Show,
         about: "Prints what stands in the image files of a folder's store",
         items: &[DIR, SLOT, JSON, QUIET, VERBOSE],
         behind: Some(SHOW),
     },
     Program {
         name: "export",
+        work: Work::Export,
         about: "Writes the memory that the store in a folder shows as ELF core files",
         items: &[DIR, OUT, ONE_SPACE, FORCE, QUIET, VERBOSE],
         behind: Some(EXPORT),
     },
     Program {
         name: "import",
+        work: Work::Import,
         about: "Makes the memory of an ELF core file the memory of a space, and a checkpoint of it",
         items: &[DIR, CORE, SPACE, ROUNDS, QUIET, VERBOSE],
         behind: Some(IMPORT),
@@ -146,6 +171,22 @@ fn programs<'a>(alloc: Global, run_help: &'a str) -> Result<Vec<Command<'a>>, Al
         programs.push(program_of(alloc, program, behind)?)?;
     }
     Ok(programs)
+}
+
+/// What the program of a name does.
+fn work_of(name: &str) -> Option<Work> {
+    for program in PROGRAMS.iter() {
+        if program.name == name {
+            return Some(program.work);
+        }
+    }
+    None
+}
+
+/// What is asked for, and the words that it is asked with.
+pub fn asked_of<'m, 'a>(matches: &'m ArgMatches<'a>) -> Option<(Work, &'m ArgMatches<'a>)> {
+    let (name, words) = matches.subcommand()?;
+    Some((work_of(name)?, words))
 }
 
 /// The command line: one subcommand for each program. The text stands at the end of the help of `run`.

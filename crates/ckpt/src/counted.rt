@@ -101,16 +101,16 @@ fn run_strict<D: Disk, W: Write, S: Watch>(
     rt: &HostRuntime,
     asked: RunAsked<'_>,
     disk: D,
+    script: Script,
     out: &mut Output<W>,
     watch: &mut S,
 ) -> (D, u8) {
-    let script = asked.course.script();
     let (disk, ended) = run_strictly(rt.alloc(), disk, script, out, watch);
     let ended = match ended {
         Ok(None) if asked.restores => return restore_over(rt.alloc(), disk, out),
         Ok(None) => Ok(()),
         Ok(Some(failure)) => {
-            tell_failure(rt, asked.causes, script, &failure);
+            tell_failure(rt, asked.causes, asked.course.script(), &failure);
             Err(Stop::Refused)
         }
         Err(stop) => Err(stop),
@@ -130,7 +130,7 @@ fn run_asked<D: Disk, W: Write, S: Watch>(
     let course = asked.course;
     let gated = Gated::new(course.gates(), disk);
     let (gated, status) = if asked.strict {
-        run_strict(rt, asked, gated, out, watch)
+        run_strict(rt, asked, gated, script, out, watch)
     } else {
         run_over(rt.alloc(), gated, script, asked.restores, out, watch)
     };

@@ -1,9 +1,11 @@
 //! What stands behind the end of a program, and what may be done about it: one line on the standard error.
 
 use crate::cause::{Causes, line_of, tell};
+use crate::command_line::{Work, asked_of};
 use crate::course::{FewAt, line_of_request};
 use clap::ArgMatches;
 use sd_image::Reason;
+use sd_readers::Reader;
 use sd_restore::Fault;
 use sd_script::{Line, Script};
 use sd_show::reason_phrase;
@@ -162,8 +164,8 @@ pub fn tell_few_at(
 }
 
 /// Whether a program has `--json`. Its document tells of a damage what `tell_damage` would.
-fn has_document(name: &str) -> bool {
-    matches!(name, "restore" | "list" | "verify" | "show")
+fn has_document(work: Work) -> bool {
+    matches!(work, Work::Read(_) | Work::Show)
 }
 
 /// Tells what stands behind the end of a program: behind its exit status, and the fault that its last line told.
@@ -174,14 +176,14 @@ pub fn tell_end(
     status: u8,
     told: Option<Fault>,
 ) {
-    let Some((name, words)) = matches.subcommand() else {
+    let Some((work, words)) = asked_of(matches) else {
         return;
     };
     let folder = words.get_str("DIR").unwrap_or("");
-    if !(has_document(name) && words.get_flag("json")) {
+    if !(has_document(work) && words.get_flag("json")) {
         tell_damage(rt, causes, folder, told);
     }
-    if name == "verify" && status == 0 {
+    if work == Work::Read(Reader::Verify) && status == 0 {
         tell_no_files(rt, causes, folder);
     }
 }

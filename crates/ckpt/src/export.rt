@@ -6,6 +6,7 @@ use crate::reading::tell_beside;
 use crate::verbose::{is_watched, logger_for, seen_by, unseen};
 use clap::ArgMatches;
 use sd_areas::SpaceId;
+use sd_command::Refusal;
 use sd_disk::{Disk, lock_folder, make_folders};
 use sd_elf::{CoreFiles, HoleFile, WriteError, write_shown};
 use sd_exit::{Output, Stop, exit};
@@ -24,9 +25,6 @@ const IS_THERE: &str = "the file is there already; with --force it is replaced";
 /// What is told of a folder that another export has locked.
 const IS_LOCKED: &str = "another export writes into this folder";
 
-/// What is told of a space that the store doesn't show.
-const NO_SPACE: &str = "the store shows no such space";
-
 /// The core files in a folder. Each is written under another name until all are whole.
 #[derive(Drop)]
 struct Export<'a, R> {
@@ -35,6 +33,8 @@ struct Export<'a, R> {
     folder: &'a str,
     /// The one space that is asked for.
     wanted: Option<u64>,
+    /// Whether the store doesn't show it.
+    lacks: bool,
     /// Whether files that are there are replaced.
     replaces: bool,
     /// The lock of the folder, while files are written there.
@@ -110,7 +110,8 @@ impl<R: Files<File = File>> CoreFiles for Export<'_, R> {
 
     fn check(&mut self, spaces: &[SpaceTable]) -> io::Result<()> {
         if !spaces.iter().any(|space| self.is_wanted(space.space)) {
-            return Err(io::Error::new(io::ErrorKind::NotFound, NO_SPACE));
+            self.lacks = true;
+            return Err(io::Error::from(io::ErrorKind::NotFound));
         }
         make_folders(self.rt, self.folder)?;
         self.lock = Some(lock_folder(self.rt, self.folder, IS_LOCKED)?);
@@ -151,18 +152,18 @@ fn write_files<D: Disk, R: Files<File = File>>(
 }
 
 /// How the program ends, and a line of why no file was made where the store isn't at fault.
-fn ended_with<W: Write>(
-    rt: &impl Eprint,
+fn ended_with<R: Eprint, W: Write>(
+    export: &Export<'_, R>,
     causes: Causes,
-    folder: &str,
     ended: Result<(), WriteError>,
     out: &mut Output<W>,
 ) -> Result<(), Stop> {
     match ended {
         Ok(()) => Ok(()),
         Err(WriteError::Fault(fault)) => Err(Stop::Fault(fault)),
+        Err(WriteError::File(_)) if export.lacks => Err(Stop::Order(Refusal::NoSuchSpace)),
         Err(WriteError::File(error)) => {
-            tell(rt, causes, folder, &error);
+            tell(export.rt, causes, export.folder, &error);
             out.write_all(b"cannot write OUT\n")?;
             Err(Stop::Refused)
         }
@@ -187,6 +188,7 @@ pub fn export_program<W: Write>(
         alloc: rt.alloc(),
         folder,
         wanted: words.get_one::<u64>("space"),
+        lacks: false,
         replaces: words.get_flag("force"),
         lock: None,
         begun: Vec::new(rt.alloc()),
@@ -199,5 +201,5 @@ pub fn export_program<W: Write>(
     if matches!(ended, Err(WriteError::Fault(_))) {
         tell_beside(rt, causes, store);
     }
-    Ok(exit(&ended_with(rt, causes, folder, ended, out), out))
+    Ok(exit(&ended_with(&export, causes, ended, out), out))
 }

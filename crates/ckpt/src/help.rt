@@ -3,7 +3,9 @@
 pub const LIMITS: &str =
     "Limits: 16 spaces, 1,024 areas of a space, 65,536 mapped pages of 4,096 bytes in all,
 addresses below 2^47, 1 to 64 bytes a load or store, 64 images a store; a checkpoint
-needs two free slots, and one more a round; a merge needs one. The cause of a failure is told on standard error.";
+needs two free slots, and one more a round; a merge needs one. A run's journal has 1,048,576
+entries: one a command, two a checkpoint. Behind that many both are answered refused 7
+journal-full; trim makes room up to the last checkpoint. The cause of a failure is told on standard error.";
 
 pub const RUN_HEAD: &str = "Example:
   ckpt run store examples/first.ckpt
@@ -16,8 +18,9 @@ hexadecimal; empty lines and those that begin with # are skipped:
 pub const RUN_TAIL: &str = "
 Status: 0 at the end of the script, also where requests were refused, but with --strict; 1
 where the store, its device, memory or the printing failed (damaged SSS WHY, device,
-out-of-memory, cannot open DIR, cannot read SCRIPT), and with --strict at the first request
-that is refused or answered segv; 2 where a line of SCRIPT doesn't fit the language (script
+out-of-memory, cannot open DIR, cannot read SCRIPT), or the file of --stats can't be made
+(cannot write FILE: nothing is run) or written, and with --strict at the first request that
+is refused or answered segv; 2 where a line of SCRIPT doesn't fit the language (script
 line N: nothing is run) or the command line doesn't; with --restore, 3 where the store shows
 no checkpoint afterwards.
 
@@ -28,8 +31,8 @@ pub const SHELL: &str = "Example:
 
 Answers the lines of the standard input, which are those of a script, one by one: each answer is
 written before the next line is read. A line that doesn't fit the language is answered with
-script line N and changes nothing. It ends with the input, or with the line quit. On a terminal
-it asks for each line, and tells what is wrong with one.
+script line N and changes nothing. It ends with the input, or with the line quit. Where input and
+output are a terminal it asks for each line, and tells what is wrong with one.
 
 Status: 0 at the end of the input, also where requests were refused; 1 where the store, its
 device, memory, the input or the printing failed (damaged SSS WHY, device, out-of-memory,
@@ -52,11 +55,18 @@ out-of-memory, cannot open DIR); 2 for a fault of the command line.";
 pub const LIST: &str = "Example:
   ckpt list store
 
+Prints for each open image, rising by serial, slot SSS KIND serial N stands N parent N checkpoint N
+pages N; and then tip N, the serial of the newest dump or merged image, or tip none. Whether the tip can
+be restored isn't checked: verify tells.
+
 Status: 0; 1 where an open slot is no image, or the device, memory or the printing failed
 (damaged SSS WHY, device, out-of-memory, cannot open DIR); 2 for a fault of the command line.";
 
 pub const VERIFY: &str = "Example:
   ckpt verify store
+
+Makes all checks of a restore, the digest of each image among them. Prints ok checkpoint N images K,
+with the number of open images, or ok empty where the store shows no checkpoint.
 
 Status: 0 where it printed ok; 1 where the store can't be restored, or the device, memory or
 the printing failed (damaged SSS WHY, device, out-of-memory, cannot open DIR); 2 for a fault
@@ -111,10 +121,12 @@ pub const EXPORT: &str = "Example:
 Writes for each space that the store shows a file OUT/space-N.core: an ELF core file of x86-64 with one
 segment an area, and holes for pages of zeros. It has memory alone: no registers, no threads. A file gets
 its name when all are whole and on the device; one that is there is replaced only with --force.
+A file of an older export whose space the store no longer shows stays, also with --force.
 
 Status: 0 where the files were written; 3 where the store shows no checkpoint (empty chain); 1 where
 the store, its device, memory or the files failed (damaged SSS WHY, device, out-of-memory, cannot open
-DIR, cannot write OUT); 2 for a fault of the command line.";
+DIR, cannot write OUT), or the store doesn't show space N (refused 3 no-such-space); 2 for a fault of the
+command line.";
 
 pub const IMPORT: &str = "Example:
   gcore -o core 4711
@@ -123,7 +135,9 @@ pub const IMPORT: &str = "Example:
 Compares the segments of CORE with what the store shows, maps, unmaps, protects and stores what differs,
 prints imported PAGES changed PAGES, makes a checkpoint, and prints acked N. The other spaces stay as
 they are. A space that isn't alive is made where it has the least number that is free. Segments of the
-kernel's addresses are left out; what a segment doesn't have in the file is zeros.
+kernel's addresses are left out; what a segment doesn't have in the file is zeros. Each piece of up to 64
+bytes that differs is one command, so a core of which more than some 64 MiB differ can't be imported at
+once (refused 7 journal-full).
 
 Status: 0 where the checkpoint was acknowledged; 1 where CORE isn't read (not a core, core too large,
 cannot read CORE), another program changed it meanwhile (core changed), a request was refused (refused

@@ -2,7 +2,7 @@
 
 use crate::cause::{Causes, tell, tell_device};
 use crate::folders::open_store;
-use crate::reading::{BESIDE, PAUSES, deed_of, tell_beside};
+use crate::reading::{BESIDE, PAUSES, deed_of, may_change, tell_beside};
 use crate::verbose::{Seen, unseen};
 use sd_disk::{DirDisk, is_being_written};
 use sd_exit::{Output, Stop, exit, exit_told};
@@ -16,9 +16,12 @@ use std::sync::Wait;
 use std::thread;
 use std::time::{Clock, Duration};
 
-/// Whether another try may answer otherwise while a run writes the store.
-fn may_change(read: &Result<Value, Fault>) -> bool {
-    matches!(read, Err(Fault::Device | Fault::Damaged { .. }))
+/// Why there is no document of what was read.
+fn fault_of(read: &Result<Value, Fault>) -> Option<Fault> {
+    match read {
+        Ok(_) => None,
+        Err(fault) => Some(*fault),
+    }
 }
 
 /// Which program reads, which store, and what is to be seen of it.
@@ -43,7 +46,7 @@ impl DocumentAsked<'_, '_> {
     fn read_alone(self, rt: &HostRuntime) -> Result<Result<Value, Fault>, Stop> {
         let (disk, read) = self.read_once(rt)?;
         tell_device(rt, self.causes, self.folder, &disk);
-        if may_change(&read) {
+        if may_change(fault_of(&read)) {
             tell_beside(rt, self.causes, self.folder);
         }
         Ok(read)
@@ -57,14 +60,14 @@ impl DocumentAsked<'_, '_> {
     ) -> Result<Result<Value, Fault>, Stop> {
         let (_, mut read) = self.read_once(rt)?;
         for pause in PAUSES {
-            if !may_change(&read) {
+            if !may_change(fault_of(&read)) {
                 return Ok(read);
             }
             thread::sleep(clock, Duration::from_millis(pause));
             let (_, again) = self.read_once(rt)?;
             read = again;
         }
-        if may_change(&read) {
+        if may_change(fault_of(&read)) {
             tell(rt, self.causes, self.folder, &BESIDE);
         }
         Ok(read)

@@ -10,17 +10,18 @@ ghost use Rattle.ckpt.specs.Reading.{RunsScript};
 
 use cause::{Causes, causes_asked, tell, tell_device};
 use clap::ArgMatches;
-use counted::{MergeJob, RunAsked, ScriptJob, ShellJob, run_job};
+use command_line::{Work, asked_of};
+use counted::{Job, MergeJob, RunAsked, ScriptJob, ShellJob, run_job};
 use course::{Course, FewAt, Noted};
 use ends::{FewSlots, tell_end, tell_few_slots};
 use folders::make_store;
 use mutating::mutate_program;
 use progress::ProgressLine;
-use reading::{read_seen, read_store, reader_of};
+use reading::{read_seen, read_store};
 use scripts::{parse_script, read_script};
 use sd_disk::Disk;
 use sd_exit::{Output, Stop, exit};
-use sd_readers::restore_to;
+use sd_readers::{Reader, restore_to};
 use sd_run::{Watch, run_lines};
 use sd_script::Script;
 use shell::{Asked, Asking};
@@ -129,8 +130,11 @@ fn run_program<R: Clock + Wait, W: Write>(
     let script = parse_script(rt, causes, name, &bytes)?;
     let log = logger_for(rt, words);
     let seen = seen_by(rt, &log, words, is_watched(rt, causes));
-    let counts = counts_asked(rt, causes, words, seen)?;
+    let counts = counts_asked(rt, causes, words, seen, out)?;
     let disk = make_store(rt, threads, causes, folder)?;
+    if let Some(counts) = &counts {
+        counts.begin();
+    }
     course.begin(bytes, seen.shows && !rt.stdout().is_terminal());
     let watch = ProgressLine::new(rt, course, rt.stderr().lock(), seen.shows);
     let asked = RunAsked {
@@ -146,12 +150,13 @@ fn run_program<R: Clock + Wait, W: Write>(
     Ok(status)
 }
 
-/// `ckpt shell`: files that are missing are made.
-fn shell_program<R: Clock + Wait, W: Write>(
+/// Does a job over the store that the words name, whose missing files are made. What is to be seen of it is shown.
+fn do_seen<R: Clock + Wait, J: Job + Drop, W: Write>(
     rt: &HostRuntime,
     threads: &R,
     words: &ArgMatches<'_>,
     course: &Course<'_>,
+    job: J,
     out: &mut Output<W>,
 ) -> Result<u8, Stop> {
     let folder = words.get_str("DIR").unwrap_or("");
@@ -160,20 +165,31 @@ fn shell_program<R: Clock + Wait, W: Write>(
     let log = logger_for(rt, words);
     let seen = seen_by(rt, &log, words, is_watched(rt, causes));
     let watch = ProgressLine::new(rt, course, rt.stderr().lock(), seen.shows);
-    let asked = Asked {
-        rt,
-        causes,
-        folder,
-        gates: course.gates(),
-        asking: asking_of(rt.stdin().is_terminal()),
-    };
-    let (counts, job) = (counts_seen(seen), ShellJob { asked });
+    let counts = counts_seen(seen);
     let (disk, status) = run_job(rt, seen, causes, counts, disk, job, out, watch);
     tell_device(rt, causes, folder, &disk);
     Ok(status)
 }
 
-/// Whether a shell asks for its requests: on a terminal.
+/// `ckpt shell`.
+fn shell_program<R: Clock + Wait, W: Write>(
+    rt: &HostRuntime,
+    threads: &R,
+    words: &ArgMatches<'_>,
+    course: &Course<'_>,
+    out: &mut Output<W>,
+) -> Result<u8, Stop> {
+    let asked = Asked {
+        rt,
+        causes: causes_asked(words),
+        folder: words.get_str("DIR").unwrap_or(""),
+        gates: course.gates(),
+        asking: asking_of(rt.stdin().is_terminal() && rt.stdout().is_terminal()),
+    };
+    do_seen(rt, threads, words, course, ShellJob { asked }, out)
+}
+
+/// Whether a shell asks for its requests: where its input and its output are a terminal.
 fn asking_of(is_terminal: bool) -> Asking {
     if is_terminal {
         Asking::Prompts
@@ -182,7 +198,7 @@ fn asking_of(is_terminal: bool) -> Asking {
     }
 }
 
-/// `ckpt merge`: files that are missing are made.
+/// `ckpt merge`.
 fn merge_program<R: Clock + Wait, W: Write>(
     rt: &HostRuntime,
     threads: &R,
@@ -190,26 +206,24 @@ fn merge_program<R: Clock + Wait, W: Write>(
     course: &Course<'_>,
     out: &mut Output<W>,
 ) -> Result<u8, Stop> {
-    let folder = words.get_str("DIR").unwrap_or("");
-    let causes = causes_asked(words);
-    let disk = make_store(rt, threads, causes, folder)?;
-    let log = logger_for(rt, words);
-    let seen = seen_by(rt, &log, words, is_watched(rt, causes));
-    let watch = ProgressLine::new(rt, course, rt.stderr().lock(), seen.shows);
-    let (counts, job) = (counts_seen(seen), MergeJob { course });
-    let (disk, status) = run_job(rt, seen, causes, counts, disk, job, out, watch);
-    tell_device(rt, causes, folder, &disk);
+    let status = do_seen(rt, threads, words, course, MergeJob { course }, out)?;
     if let Some(FewAt { free, .. }) = course.few() {
-        tell_few_slots(rt, causes, folder, FewSlots { free, wanted: 1 });
+        let folder = words.get_str("DIR").unwrap_or("");
+        tell_few_slots(
+            rt,
+            causes_asked(words),
+            folder,
+            FewSlots { free, wanted: 1 },
+        );
     }
     Ok(status)
 }
 
-/// `ckpt restore`, `ckpt list` and `ckpt verify`, by name.
+/// `ckpt restore`, `ckpt list` and `ckpt verify`.
 fn reader_program<R: Clock + Wait, W: Write>(
     rt: &HostRuntime,
     threads: &R,
-    name: &str,
+    reader: Reader,
     words: &ArgMatches<'_>,
     out: &mut Output<W>,
 ) -> Result<u8, Stop> {
@@ -221,15 +235,15 @@ fn reader_program<R: Clock + Wait, W: Write>(
         let asked = json::DocumentAsked {
             seen,
             causes,
-            reader: reader_of(name),
+            reader,
             folder,
         };
         return json::json_program(rt, threads, asked, out);
     }
     if seen.is_asked() {
-        return read_seen(rt, threads, seen, causes, reader_of(name), folder, out);
+        return read_seen(rt, threads, seen, causes, reader, folder, out);
     }
-    let (_, status) = read_store(rt, threads, causes, reader_of(name), folder, out)?;
+    let (_, status) = read_store(rt, threads, causes, reader, folder, out)?;
     Ok(status)
 }
 
@@ -241,18 +255,18 @@ fn run_matches<R: Clock + Threads + Wait + Sync, W: Write>(
     course: &Course<'_>,
     out: &mut Output<W>,
 ) -> Result<u8, Stop> {
-    match matches.subcommand() {
-        Some(("run", words)) => run_program(rt, threads, words, course, out),
-        Some(("shell", words)) => shell_program(rt, threads, words, course, out),
-        Some(("merge", words)) => merge_program(rt, threads, words, course, out),
-        Some(("mutate", words)) => mutate_program(rt, threads, words, out),
-        Some(("show", words)) => show::show_program(rt, causes_asked(words), words, out),
-        Some(("export", words)) => export::export_program(rt, causes_asked(words), words, out),
-        Some(("import", words)) => {
-            import::import_program(rt, threads, causes_asked(words), words, out)
-        }
-        Some((name, words)) => reader_program(rt, threads, name, words, out),
-        None => Ok(exit(&Ok(()), out)),
+    let Some((work, words)) = asked_of(matches) else {
+        return Ok(exit(&Ok(()), out));
+    };
+    match work {
+        Work::Run => run_program(rt, threads, words, course, out),
+        Work::Shell => shell_program(rt, threads, words, course, out),
+        Work::Merge => merge_program(rt, threads, words, course, out),
+        Work::Mutate => mutate_program(rt, threads, words, out),
+        Work::Read(reader) => reader_program(rt, threads, reader, words, out),
+        Work::Show => show::show_program(rt, causes_asked(words), words, out),
+        Work::Export => export::export_program(rt, causes_asked(words), words, out),
+        Work::Import => import::import_program(rt, threads, causes_asked(words), words, out),
     }
 }
 
@@ -283,6 +297,15 @@ fn run_words<R: Clock + Threads + Wait + Sync, W: Write>(
 /// What a fault of the standard output is told of.
 const PRINTED: &str = "standard output";
 
+/// Tells why something wasn't printed. Who closed the other end of a pipe, as `head` does, isn't told.
+fn tell_refusal(rt: &impl Eprint, causes: Causes, error: Option<&io::Error>) {
+    if let Some(error) = error
+        && error.kind() != io::ErrorKind::BrokenPipe
+    {
+        tell(rt, causes, PRINTED, error);
+    }
+}
+
 /// Runs the program that the words ask for, or prints what is wrong with them, or the help; and returns the status.
 fn run_command<R: Clock + Threads + Wait + Sync>(
     rt: &HostRuntime,
@@ -294,9 +317,7 @@ fn run_command<R: Clock + Threads + Wait + Sync>(
     let mut out = Output::new(Noted::new(&course, writer));
     match run_words(rt, threads, words, &course, &mut out) {
         Ok((causes, status)) => {
-            if let Some(error) = out.error() {
-                tell(rt, causes, PRINTED, error);
-            }
+            tell_refusal(rt, causes, out.error());
             Ok(status)
         }
         Err(error) => {
@@ -353,7 +374,7 @@ fn status_of<R: Clock + Threads + Wait + Sync>(rt: &HostRuntime, threads: &R) ->
     match run_command(rt, threads, &words) {
         Ok(status) => status,
         Err(error) => {
-            tell(rt, Causes::Told, PRINTED, &error);
+            tell_refusal(rt, Causes::Told, Some(&error));
             FAILED
         }
     }

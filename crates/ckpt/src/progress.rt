@@ -9,9 +9,6 @@ use std::io::Write;
 use std::time::{Clock, Duration, Instant};
 use std::{fmt, io};
 
-/// How many steps are made between two looks at the clock.
-const STEPS_A_LOOK: u64 = 64;
-
 /// How many seconds a job takes before it is shown, and before its line is written anew.
 const PAUSE_SECS: u64 = 1;
 
@@ -89,7 +86,7 @@ pub struct ProgressLine<'a, R, W> {
     course: &'a Course<'a>,
     out: W,
     is_on: bool,
-    steps: u64,
+    is_begun: bool,
     pace: Pace,
     /// How many steps were left at the job's first turn.
     first_left: u128,
@@ -104,7 +101,7 @@ impl<'a, R: Clock, W: Write> ProgressLine<'a, R, W> {
             course,
             out,
             is_on,
-            steps: 0,
+            is_begun: false,
             pace: Pace::IDLE,
             first_left: 0,
             is_shown: false,
@@ -169,13 +166,9 @@ impl<'a, R: Clock, W: Write> Watch for ProgressLine<'a, R, W> {
         if !self.is_on {
             return;
         }
-        let looks = self.steps % STEPS_A_LOOK == 0;
-        if self.steps == 0 {
+        if !self.is_begun {
             self.first_left = core.left(worker);
-        }
-        self.steps = self.steps.saturating_add(1);
-        if !looks {
-            return;
+            self.is_begun = true;
         }
         if let Some(took) = self.pace.due(self.clock) {
             self.is_shown = true;
@@ -188,7 +181,7 @@ impl<'a, R: Clock, W: Write> Watch for ProgressLine<'a, R, W> {
         if self.is_shown {
             let _ = write!(self.out, "{CLEAR}");
         }
-        self.steps = 0;
+        self.is_begun = false;
         self.pace = Pace::IDLE;
         self.is_shown = false;
     }

@@ -27,6 +27,11 @@ pub type Reading = (DirDisk, u8);
 /// How long a reader waits before each further try, in milliseconds, while a run writes the store.
 pub const PAUSES: [u64; 9] = [1, 2, 5, 10, 20, 50, 100, 200, 400];
 
+/// Whether another try may answer otherwise while a run writes the store.
+pub fn may_change(fault: Option<Fault>) -> bool {
+    matches!(fault, Some(Fault::Device | Fault::Damaged { .. }))
+}
+
 /// Tells of an answer that a run may have disturbed, where one is writing the store.
 pub fn tell_beside(rt: &(impl Files<File = File> + Eprint), causes: Causes, folder: &str) {
     if is_being_written(rt, folder) {
@@ -36,6 +41,13 @@ pub fn tell_beside(rt: &(impl Files<File = File> + Eprint), causes: Causes, fold
 
 /// What is told of such an answer.
 pub const BESIDE: &str = "a run is writing this store; try again when it has ended";
+
+/// Tells of a fault that is told at last, where the run that writes the store may have made it.
+fn tell_disturbed(rt: &impl Eprint, causes: Causes, folder: &str, fault: Fault) {
+    if may_change(Some(fault)) {
+        tell(rt, causes, folder, &BESIDE);
+    }
+}
 
 /// What was printed of a store into a vector, with the exit status.
 #[derive(Drop)]
@@ -104,7 +116,7 @@ fn try_often<R: Clock + Wait>(
 {
     for pause in PAUSES {
         let tried = try_to_read(rt, causes, reader, folder)?;
-        if tried.status != FAILED {
+        if !may_change(tried.fault) {
             return Ok(tried);
         }
         thread::sleep(clock, Duration::from_millis(pause));
@@ -126,7 +138,7 @@ fn read_beside<R: Clock + Wait, W: Write>(
 {
     let tried = try_often(rt, clock, causes, reader, folder)?;
     if let (FAILED, Some(fault)) = (tried.status, tried.fault) {
-        tell(rt, causes, folder, &BESIDE);
+        tell_disturbed(rt, causes, folder, fault);
         return Err(Stop::Fault(fault));
     }
     let Tried {
@@ -154,7 +166,7 @@ fn read_alone<W: Write>(
     let mut disk = open_store(rt, causes, folder)?;
     let status = read_to(rt.alloc(), reader, &mut disk, out);
     tell_device(rt, causes, folder, &disk);
-    if status == FAILED && !out.is_refused() {
+    if may_change(out.fault()) {
         tell_beside(rt, causes, folder);
     }
     Ok((disk, status))
@@ -220,7 +232,7 @@ fn read_seen_alone<W: Write>(
 ) -> Result<u8, Stop> {
     let (disk, status) = read_seen_once(rt, seen, causes, reader, folder, out)?;
     tell_device(rt, causes, folder, &disk);
-    if status == FAILED && !out.is_refused() {
+    if may_change(out.fault()) {
         tell_beside(rt, causes, folder);
     }
     Ok(status)
@@ -240,7 +252,7 @@ fn read_seen_beside<R: Clock + Wait, W: Write>(
     let mut held = Output::new(Vec::new(rt.alloc()));
     let (_, mut status) = read_seen_once(rt, seen, causes, reader, folder, &mut held)?;
     for pause in PAUSES {
-        if status != FAILED || held.is_refused() {
+        if !may_change(held.fault()) {
             break;
         }
         thread::sleep(clock, Duration::from_millis(pause));
@@ -252,7 +264,7 @@ fn read_seen_beside<R: Clock + Wait, W: Write>(
         return Err(Stop::Fault(Fault::OutOfMemory));
     }
     if let (FAILED, Some(fault)) = (status, held.fault()) {
-        tell(rt, causes, folder, &BESIDE);
+        tell_disturbed(rt, causes, folder, fault);
         return Err(Stop::Fault(fault));
     }
     out.write_all(&held.into_writer())?;
@@ -273,14 +285,5 @@ pub fn read_seen<R: Clock + Wait, W: Write>(
         read_seen_beside(rt, clock, seen, causes, reader, folder, out)
     } else {
         read_seen_alone(rt, seen, causes, reader, folder, out)
-    }
-}
-
-/// The program that only reads a store, by its name.
-pub fn reader_of(name: &str) -> Reader {
-    match name {
-        "list" => Reader::List,
-        "verify" => Reader::Verify,
-        _ => Reader::Restore,
     }
 }

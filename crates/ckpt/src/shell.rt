@@ -20,7 +20,8 @@ const QUIT: &[u8] = b"quit";
 /// What stands before each request, on a terminal.
 const PROMPT: &str = "> ";
 
-/// Whether a shell asks for each request, and explains what is wrong with one, as on a terminal.
+/// Whether a shell asks for each request, and explains what is wrong with one: where both its input and its output are
+/// a terminal.
 #[derive(Clone, Copy, Debug, PartialEq, Eq)]
 pub enum Asking {
     Prompts,
@@ -91,6 +92,7 @@ fn answer_all<D: Disk, I: BufRead + Drop, W: Write, S: Watch>(
         answer(asked, world, &line, number, out, watch)?;
         prompt(asked.asking, out)?;
     }
+    end_prompt(asked.asking, out)?;
     Ok(())
 }
 
@@ -139,4 +141,12 @@ fn prompt<W: Write>(asking: Asking, out: &mut Output<W>) -> io::Result<()> {
     }
     out.write_all(PROMPT.as_bytes())?;
     out.flush()
+}
+
+/// Ends the line of a prompt behind which the input ended.
+fn end_prompt<W: Write>(asking: Asking, out: &mut Output<W>) -> io::Result<()> {
+    match asking {
+        Asking::Silent => Ok(()),
+        Asking::Prompts => out.write_all(b"\n"),
+    }
 }

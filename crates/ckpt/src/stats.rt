@@ -4,13 +4,13 @@ use crate::cause::{Causes, tell};
 use crate::verbose::{Logger, Seen, log_end, log_job, log_record};
 use clap::ArgMatches;
 use sd_core::Core;
-use sd_exit::Stop;
+use sd_exit::{Output, Stop};
 use sd_gate::Worker;
 use sd_restore::Fault;
 use sd_run::Watch;
 use sd_stats::{Meter, Record, print_record, print_table};
 use std::cell::RefCell;
-use std::fs::File;
+use std::fs::{File, OpenOptions};
 use std::io;
 use std::io::Write;
 use std::time::Clock;
@@ -33,31 +33,52 @@ pub struct Counts {
     summary: bool,
 }
 
-/// Opens the file of counts.
-fn open_lines(rt: &HostRuntime, causes: Causes, name: Option<&str>) -> Result<Lines, Stop> {
+/// Opens the file of counts. What stands in it stays until the run begins.
+fn open_file(rt: &HostRuntime, name: &str) -> io::Result<File> {
+    OpenOptions::new().write(true).create(true).open(rt, name)
+}
+
+/// Where the lines go. A file that can't be made is told.
+fn lines_to<W: Write>(
+    rt: &HostRuntime,
+    causes: Causes,
+    name: Option<&str>,
+    out: &mut Output<W>,
+) -> Result<Lines, Stop> {
     let Some(name) = name else {
         return Ok(Lines::Nowhere);
     };
     if name == STANDARD_ERROR {
         return Ok(Lines::StandardError);
     }
-    match File::create(rt, name) {
+    match open_file(rt, name) {
         Ok(file) => Ok(Lines::File(file)),
         Err(error) => {
             tell(rt, causes, name, &error);
+            out.write_all(b"cannot write FILE\n")?;
             Err(Stop::Refused)
         }
     }
 }
 
+impl Counts {
+    /// Empties the file of counts, once the store is open. What can't be emptied, as a pipe, is written to as it is.
+    pub fn begin(&self) {
+        if let Lines::File(file) = &self.lines {
+            let _ = file.set_len(0);
+        }
+    }
+}
+
 /// What the words ask to be done with the records of a run, if they ask for any. The file of counts is made.
-pub fn counts_asked(
+pub fn counts_asked<W: Write>(
     rt: &HostRuntime,
     causes: Causes,
     words: &ArgMatches<'_>,
     seen: Seen<'_>,
+    out: &mut Output<W>,
 ) -> Result<Option<Counts>, Stop> {
-    let lines = open_lines(rt, causes, words.get_str("stats"))?;
+    let lines = lines_to(rt, causes, words.get_str("stats"), out)?;
     let summary = words.get_flag("summary");
     if matches!(lines, Lines::Nowhere) && !summary && !seen.is_asked() {
         return Ok(None);

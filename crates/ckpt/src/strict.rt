@@ -3,16 +3,16 @@
 use sd_command::Reply;
 use sd_disk::Disk;
 use sd_exit::{Output, Stop};
-use sd_run::{FRAMES, Watch, run_line, unfit, unopened};
+use sd_run::{FRAMES, Watch, run_line, unopened};
 use sd_script::{Answer, Line, Script};
 use sd_world::{OpenError, World};
 use std::alloc::Global;
 use std::io::Write;
 
-/// The request at which a strict run ended: its line's number, counted from 1, and its answer.
+/// The request at which a strict run ended, and its answer. Requests are counted from 1; 0 is the opening.
 #[derive(Drop)]
 pub struct Failure {
-    pub number: usize,
+    pub request: usize,
     pub answer: Answer,
 }
 
@@ -27,62 +27,42 @@ fn is_failure(answer: &Answer) -> bool {
     }
 }
 
-/// Runs the lines of a script, which all fit the language, over a store, up to the first request that is refused or
-/// answered `segv`. Returns the disk, and how that ended.
+/// Runs a script over a store, up to the first request that is refused or answered `segv`. Returns the disk, and how
+/// that ended.
 pub fn run_strictly<D: Disk, W: Write, S: Watch>(
     alloc: Global,
     disk: D,
-    script: &[u8],
+    script: Script,
     out: &mut Output<W>,
     watch: &mut S,
 ) -> (D, Ended) {
     match World::open(alloc, disk, FRAMES) {
         Ok(mut world) => {
-            let ended = answer_lines(alloc, &mut world, script, out, watch);
+            let ended = answer_requests(alloc, &mut world, script, out, watch);
             (world.close(), ended)
         }
         Err(OpenError { fault, disk }) => (disk, Err(unopened(fault))),
     }
 }
 
-/// Opens the store again, and answers the lines, up to one that fails.
-fn answer_lines<D: Disk, W: Write, S: Watch>(
+/// Opens the store again, and answers the requests, up to one that fails.
+fn answer_requests<D: Disk, W: Write, S: Watch>(
     alloc: Global,
     world: &mut World<D>,
-    script: &[u8],
+    script: Script,
     out: &mut Output<W>,
     watch: &mut S,
 ) -> Ended {
+    let mut request = 0usize;
     let answer = run_line(alloc, world, Line::Reopen, out, watch)?;
     if is_failure(&answer) {
-        return Ok(Some(Failure { number: 0, answer }));
+        return Ok(Some(Failure { request, answer }));
     }
-    for (place, line) in script.split(|byte| *byte == b'\n').enumerate() {
-        let failed = answer_line(alloc, world, line, out, watch)?;
-        if let Some(answer) = failed {
-            let number = place.saturating_add(1);
-            return Ok(Some(Failure { number, answer }));
-        }
-    }
-    Ok(None)
-}
-
-/// Answers the request of a line, if it has one. Returns an answer that is a failure.
-fn answer_line<D: Disk, W: Write, S: Watch>(
-    alloc: Global,
-    world: &mut World<D>,
-    line: &[u8],
-    out: &mut Output<W>,
-    watch: &mut S,
-) -> Result<Option<Answer>, Stop> {
-    let script = match Script::parse(alloc, line) {
-        Ok(script) => script,
-        Err(error) => return Err(unfit(error)),
-    };
-    for request in script.lines {
-        let answer = run_line(alloc, world, request, out, watch)?;
+    for line in script.lines {
+        request = request.saturating_add(1);
+        let answer = run_line(alloc, world, line, out, watch)?;
         if is_failure(&answer) {
-            return Ok(Some(answer));
+            return Ok(Some(Failure { request, answer }));
         }
     }
     Ok(None)

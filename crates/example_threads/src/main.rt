@@ -139,8 +139,9 @@ fn fill_table<R: Threads + Wait + Sync + Print + AllocGlobal, D: Disk + Drop + S
     rt: &R,
     disk: D,
 ) -> Result<()> {
-    let Ok((shared, seats)) = Shared::start(rt.alloc(), disk, 16, ROWS) else {
-        bail!("the store isn't opened");
+    let (shared, seats) = match Shared::start(rt.alloc(), disk, 16, ROWS) {
+        Ok(started) => started,
+        Err(error) => bail!("the store isn't opened: {}", error.fault),
     };
     match work(rt, rt.alloc(), &shared, seats) {
         Ok(told) => check(rt, shared, &told),

@@ -28,7 +28,8 @@ pub record FitsOneStore (p : Piece) : Type 0 where
   pub few : p.to ≤ p.from + 64
   pub within : p.to ≤ 4096
 
--- below a byte each one that differs is in one of these pieces, which can be stored
+-- below a byte each one that differs is in one of these pieces, which can be stored; each begins with one that differs
 pub record ArePieces (old new : List ℕ) (end : ℕ) (pieces : List Piece) : Type 0 where
   pub stores : All FitsOneStore pieces
+  pub first : All (λ p. slice_index old p.from ≢ slice_index new p.from) pieces
   pub cover : (k : ℕ) → k < end → (slice_index old k ≡ slice_index new k) ⊎ Any (IsIn k) pieces

@@ -1,8 +1,9 @@
 -- How a program ends.
-use Rattle.std.specs.Prelude.{◌≡◌, ◌⊎◌, ℕ, Bool, true, false, List, [], ◌∷◌, ◌++◌, codes, Option, Result, Ok, Err}
+use Rattle.std.specs.Prelude.{◌≡◌, ◌⊎◌, ℕ, Bool, true, false, List, [], ◌∷◌, ◌++◌, codes, Option, Some, Result, Ok, Err}
 use Rattle.std.specs.Fmt.{decimal}
 use Rattle.std.specs.Io.KnownBytes.{Appends}
 use Rattle.sd_command.specs.Refusals.{refusal_text}
+use Rattle.sd_restore.specs.declared.fault.Fault.{Fault}
 use Rattle.sd_restore.specs.declared.fault.Fault.TheVariants.{EmptyChain}
 use Rattle.sd_exit.specs.declared.stop.Stop.{Stop}
 use Rattle.sd_exit.specs.declared.stop.Stop.TheVariants as stop
@@ -37,6 +38,11 @@ end_status (Err why) = status_of why
 abbrev pub end_text : Result Unit Stop → List ℕ
 end_text (Ok _) = []
 end_text (Err why) = stop_text why
+
+-- the fault that a program's last line told, where it ends so; what was told before stays where it tells none
+abbrev pub fault_told : Option Fault → Result Unit Stop → Option Fault
+fault_told before (Err (stop.Fault fault)) = Some fault
+fault_told before _ = before
 
 -- a last text is written, and the status is the one that comes with it; or the writer refused the text
 abbrev pub IsWrittenLast : Option (List ℕ) → Option (List ℕ) → Bool → List ℕ → ℕ → ℕ → Type 0

@@ -1,7 +1,7 @@
 //! How a program ends: what it prints last, and its exit status.
-ghost use Rattle.std.specs.Prelude.{◌≡◌, true, [], OnOk, OnErr};
+ghost use Rattle.std.specs.Prelude.{◌≡◌, true, [], Some, Err, OnOk, OnErr};
 ghost use Rattle.std.specs.Io.KnownBytes.{Appends};
-ghost use Rattle.sd_exit.specs.Ending.{Exits, IsWrittenLast, end_status, end_text, status_of, stop_text};
+ghost use Rattle.sd_exit.specs.Ending.{Exits, IsWrittenLast, end_status, end_text, fault_told, status_of, stop_text};
 ghost use Rattle.sd_exit.specs.Texts.{fault_line};
 ghost use Rattle.sd_restore.specs.declared.fault.Fault.TheVariants.{Damaged};
 
@@ -31,6 +31,7 @@ pub fn exit<W: Write>(ended: &Result<(), Stop>, out: &mut Output<W>) -> u8
         (end_text ended.now) (end_status ended.now) result }
     // What was refused before is not forgotten.
     ensures kept { out.old.refused ≡ true → out.new.refused ≡ true }
+    ensures fault { out.new.fault ≡ fault_told out.old.fault ended.now }
 {
     match ended {
         Ok(()) => out.finish(0),
@@ -46,6 +47,7 @@ pub fn exit<W: Write>(ended: &Result<(), Stop>, out: &mut Output<W>) -> u8
 pub fn exit_told<W: Write>(fault: Fault, out: &mut Output<W>) -> u8
     ensures exits { Exits (W.contents out.old.writer) (W.contents out.new.writer) out.new.refused
         [] (status_of (Stop.Fault fault)) result }
+    ensures fault { out.new.fault ≡ Some fault }
 {
     out.keep_fault(fault);
     out.finish(fault_status(fault))
@@ -56,6 +58,7 @@ fn told_status<W: Write>(stop: &Stop, out: &mut Output<W>) -> u8
     ensures told { IsWrittenLast (W.contents out.old.writer) (W.contents out.new.writer) out.new.refused
         (stop_text stop.now) (status_of stop.now) result }
     ensures kept { out.old.refused ≡ true → out.new.refused ≡ true }
+    ensures fault { out.new.fault ≡ fault_told out.old.fault (Err stop.now) }
 {
     match print_stop(stop, out) {
         Ok(()) => stop_status(stop),
@@ -69,6 +72,7 @@ fn print_stop<W: Write>(stop: &Stop, out: &mut Output<W>) -> io::Result<()>
         (Appends (W.contents out.old.writer) (W.contents out.new.writer) (stop_text stop.now)) }
     ensures refused { OnErr result (out.new.refused ≡ true) }
     ensures kept { out.old.refused ≡ true → out.new.refused ≡ true }
+    ensures fault { out.new.fault ≡ fault_told out.old.fault (Err stop.now) }
 {
     match stop {
         Stop::Fault(fault) => print_fault(fault, out),
@@ -88,6 +92,7 @@ fn print_fault<W: Write>(fault: &Fault, out: &mut Output<W>) -> io::Result<()>
         (Appends (W.contents out.old.writer) (W.contents out.new.writer) (fault_line fault.now)) }
     ensures refused { OnErr result (out.new.refused ≡ true) }
     ensures kept { out.old.refused ≡ true → out.new.refused ≡ true }
+    ensures fault { out.new.fault ≡ Some fault.now }
 {
     out.keep_fault(*fault);
     match fault {
@@ -104,6 +109,7 @@ fn print_damaged<W: Write>(slot: usize, reason: Reason, out: &mut Output<W>) -> 
         (fault_line (Damaged slot reason))) }
     ensures refused { OnErr result (out.new.refused ≡ true) }
     ensures kept { out.old.refused ≡ true → out.new.refused ≡ true }
+    ensures fault { out.new.fault ≡ out.old.fault }
 {
     writeln!(out, "damaged {slot:03} {}", reason.number())
 }

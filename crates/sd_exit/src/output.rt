@@ -1,5 +1,6 @@
 //! What a program prints to.
-ghost use Rattle.std.specs.Prelude.{◌≡◌, ◌≤◌, ℕ, true, false, [], length, take, if◌then◌else◌, IfOk, IfSome, IsOk};
+ghost use Rattle.std.specs.Prelude.{◌≡◌, ◌≤◌, ℕ, true, false, [], None, Some, length, take, if◌then◌else◌, IfOk};
+ghost use Rattle.std.specs.Prelude.{IfSome, IsOk};
 ghost use Rattle.std.specs.Prelude.{OnOk, OnErr};
 ghost use Rattle.std.specs.Io.KnownBytes.{Appends, Keeps};
 ghost use Rattle.sd_exit.specs.Texts.{PrintsBeginning};
@@ -25,6 +26,7 @@ impl<W: Write> Output<W> {
     pub fn new(writer: W) -> Output<W>
         ensures writer { result.writer ≡ writer }
         ensures none { result.refused ≡ false }
+        ensures fault { result.fault ≡ None }
     {
         Output {
             writer,
@@ -55,7 +57,9 @@ impl<W: Write> Output<W> {
     }
 
     /// The fault of a store, its device or the memory that a program's last line told. None where it told none.
-    pub fn fault(&self) -> Option<Fault> {
+    pub fn fault(&self) -> Option<Fault>
+        ensures { result ≡ self.now.fault }
+    {
         self.fault
     }
 
@@ -63,6 +67,7 @@ impl<W: Write> Output<W> {
     pub(crate) fn keep_fault(&mut self, fault: Fault)
         ensures writer { self.new.writer ≡ self.old.writer }
         ensures refused { self.new.refused ≡ self.old.refused }
+        ensures fault { self.new.fault ≡ Some fault }
     {
         self.fault = Some(fault);
     }
@@ -71,6 +76,7 @@ impl<W: Write> Output<W> {
     fn keep(&mut self, error: io::Error)
         ensures writer { self.new.writer ≡ self.old.writer }
         ensures refused { self.new.refused ≡ true }
+        ensures fault { self.new.fault ≡ self.old.fault }
     {
         self.refused = true;
         if self.error.is_none() {
@@ -84,6 +90,7 @@ impl<W: Write> Output<W> {
         ensures writer { self.new.writer ≡ self.old.writer }
         ensures ok { OnOk result (self.new.refused ≡ self.old.refused) }
         ensures refused { OnErr result (self.new.refused ≡ true) }
+        ensures fault { self.new.fault ≡ self.old.fault }
     {
         match ended {
             Ok(()) => Ok(()),
@@ -102,6 +109,7 @@ impl<W: Write> Output<W> {
         ensures begins { PrintsBeginning (W.contents self.old.writer) (W.contents self.new.writer) bytes.now }
         ensures ok { OnOk result (self.new.refused ≡ self.old.refused) }
         ensures refused { OnErr result (self.new.refused ≡ true) }
+        ensures fault { self.new.fault ≡ self.old.fault }
     {
         let ended = write_from(&mut self.writer, bytes);
         self.note(ended)
@@ -113,6 +121,7 @@ impl<W: Write> Output<W> {
             (Appends (W.contents self.old.writer) (W.contents self.new.writer))) }
         ensures ok { OnOk result (self.new.refused ≡ self.old.refused) }
         ensures refused { OnErr result (self.new.refused ≡ true) }
+        ensures fault { self.new.fault ≡ self.old.fault }
     {
         let ended = self.writer.write_fmt(text);
         self.note(ended)
@@ -123,6 +132,7 @@ impl<W: Write> Output<W> {
         ensures bytes { Keeps (W.contents self.old.writer) (W.contents self.new.writer) }
         ensures ok { OnOk result (self.new.refused ≡ self.old.refused) }
         ensures refused { OnErr result (self.new.refused ≡ true) }
+        ensures fault { self.new.fault ≡ self.old.fault }
     {
         let ended = self.writer.flush();
         self.note(ended)
@@ -134,6 +144,7 @@ impl<W: Write> Output<W> {
         ensures bytes { Keeps (W.contents self.old.writer) (W.contents self.new.writer) }
         ensures refused { self.old.refused ≡ true → self.new.refused ≡ true }
         ensures status { result ≡ (if self.new.refused then 1 else wanted) }
+        ensures fault { self.new.fault ≡ self.old.fault }
     {
         let _ = self.flush();
         if self.refused { REFUSED } else { wanted }

@@ -1,5 +1,5 @@
-//! The commands by which a space gets the memory of a core: as few as the language has.
-ghost use Rattle.std.specs.Prelude.{◌≡◌, ◌+◌, ◌^◌, ◌<◌, IfSome, OnOk, length};
+//! The commands by which a space gets the memory of a core.
+ghost use Rattle.std.specs.Prelude.{◌≡◌, ◌+◌, ◌^◌, ◌<◌, IfOk, IfSome, OnOk, length};
 ghost use Rattle.sd_elf.specs.Cores.{IsCoreFile};
 ghost use Rattle.sd_import.specs.Changes.{ChangesOnly};
 ghost use Rattle.sd_import.specs.Imported.{HasCore};
@@ -22,7 +22,7 @@ use sd_world::World;
 use std::alloc::{AllocError, Global};
 use std::slice::from_ref;
 
-/// An import: the core file, the space that gets its memory, and what it comes to.
+/// An import: the core file, and the space that gets its memory.
 #[derive(Drop)]
 struct Import<'a, F> {
     alloc: Global,
@@ -30,7 +30,8 @@ struct Import<'a, F> {
     space: SpaceId,
     /// The areas that the space had before.
     before: Vec<Area>,
-    tally: Tally,
+    /// How many pages are others than before.
+    changed: u64,
 }
 
 /// An area that gets its bytes.
@@ -114,26 +115,26 @@ pub fn import_core<D: Disk, F: CoreFile>(
         → OnOk result (HasCore held core.now.segments.items (inside (plain_of world.new.core.memory) space))) }
     // Every other space is as before.
     ensures changes { OnOk result (ChangesOnly D.Disk space world.old world.new) }
+    ensures imported { IfOk result (λ tally. tally.imported ≡ core.now.extent.pages) }
 {
     if world.core().memory().areas(space).is_none() {
         make_space(world, space)?;
     }
     let before = space_areas(alloc, world.core().memory(), space)?;
-    let tally = Tally {
-        imported: core.extent.pages,
-        changed: 0,
-    };
     let mut import = Import {
         alloc,
         file,
         space,
         before,
-        tally,
+        changed: 0,
     };
     import.take_core(world, core)?;
-    let Import { tally, .. } = import;
+    let Import { changed, .. } = import;
     if has_core(world.core().memory(), space, file, &core.segments)? {
-        Ok(tally)
+        Ok(Tally {
+            imported: core.extent.pages,
+            changed,
+        })
     } else {
         Err(ImportError::Changed)
     }
@@ -155,7 +156,7 @@ impl<F: CoreFile> Import<'_, F> {
         Ok(())
     }
 
-    /// Unmaps the pages that the core doesn't have, or all where the areas could be too many meanwhile.
+    /// Unmaps the pages that the core doesn't have, or all where the areas are others and could be too many meanwhile.
     fn unmap_others<D: Disk>(
         &mut self,
         world: &mut World<D>,
@@ -166,7 +167,7 @@ impl<F: CoreFile> Import<'_, F> {
     {
         let gone = pages_outside(self.alloc, &self.before, wanted)?;
         self.note_changed(page_count(&gone));
-        if may_split_too_far(self.before.len(), wanted.len()) {
+        if self.before.as_slice() != wanted && may_split_too_far(self.before.len(), wanted.len()) {
             self.before.clear();
             return ask(world, self.space, unmapping(self.space, WHOLE));
         }
@@ -179,7 +180,7 @@ impl<F: CoreFile> Import<'_, F> {
     fn note_changed(&mut self, count: u64)
         ensures { self.new.space ≡ self.old.space }
     {
-        self.tally.changed = self.tally.changed.saturating_add(count);
+        self.changed = self.changed.saturating_add(count);
     }
 
     /// Gives the space an area of the core, whose segments these are.

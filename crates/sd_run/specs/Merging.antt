@@ -20,35 +20,13 @@ use Rattle.sd_run.specs.Whole.{IsRun}
 
 -- the reply of a merge that came to its end
 abbrev pub is_merged : Reply → Bool
-is_merged reply.Done = false
-is_merged (reply.Bytes bytes) = false
-is_merged (reply.Child space) = false
-is_merged reply.NeedsFault = false
-is_merged (reply.Segv why) = false
-is_merged (reply.Begun n) = false
-is_merged reply.Worked = false
-is_merged (reply.Acked n) = false
-is_merged (reply.Cancelled n) = false
 is_merged (reply.Merged serial) = true
-is_merged (reply.Trimmed count) = false
-is_merged (reply.Reopened m) = false
-is_merged (reply.Refused why) = false
+is_merged _ = false
 
 -- the reply of a store that was opened again
 abbrev pub is_reopened : Reply → Bool
-is_reopened reply.Done = false
-is_reopened (reply.Bytes bytes) = false
-is_reopened (reply.Child space) = false
-is_reopened reply.NeedsFault = false
-is_reopened (reply.Segv why) = false
-is_reopened (reply.Begun n) = false
-is_reopened reply.Worked = false
-is_reopened (reply.Acked n) = false
-is_reopened (reply.Cancelled n) = false
-is_reopened (reply.Merged serial) = false
-is_reopened (reply.Trimmed count) = false
-is_reopened (reply.Reopened m) = true
-is_reopened (reply.Refused why) = false
+is_reopened (reply.Reopened checkpoint) = true
+is_reopened _ = false
 
 -- A store is opened again, and then its newest chain is merged. The answer is the last reply: that of the merge, or
 -- that of a reopening that failed.
