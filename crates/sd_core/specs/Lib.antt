@@ -6,6 +6,7 @@ pub mod Counted
 pub mod Dumping
 pub mod Entering
 pub mod Flags
+pub mod Following
 pub mod GoingOn
 pub mod Grown
 pub mod Images

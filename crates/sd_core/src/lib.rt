@@ -6,6 +6,7 @@ mod answering;
 mod base;
 mod beginning;
 mod dumping;
+mod following;
 mod lanes;
 mod laws;
 mod merging;

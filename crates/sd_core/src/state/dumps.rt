@@ -23,9 +23,9 @@ ghost use Rattle.sd_gate.specs.Calls.{is_done};
 
 use super::Core;
 use crate::dumping::{
-    begin_next, closes_for_sure, enter_catalog, is_committing, is_swept, leave_catalog,
-    release_unfrozen, step_on,
+    begin_next, enter_catalog, is_committing, is_swept, leave_catalog, release_unfrozen, step_on,
 };
+use crate::following::{Followed, follow_outcome};
 use crate::lanes::{DUMPER, page_lane, put_out};
 use crate::laws::{outcome_laws, step_laws};
 use crate::opening::follow_call;
@@ -228,11 +228,12 @@ impl Core {
     {
         outcome_laws();
         self.dumper.sound();
-        let id = outcome.id();
-        let done = outcome.answer().is_done();
-        let closed = closes_for_sure(self.phases[id.slot], id.call);
-        follow_call(&mut self.phases, &id, done);
-        put_out(&mut self.outs, lane, None);
+        let Followed { id, closed } = follow_outcome(
+            &mut self.phases,
+            &mut self.outs,
+            lane,
+            &outcome,
+        );
         match self.dumper.hand_in(outcome) {
             Progress::Strange => unreachable!(),
             Progress::Failed => {

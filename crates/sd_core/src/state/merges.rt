@@ -19,14 +19,14 @@ ghost use Rattle.sd_core.specs.Working.{FindsSource, LeavesByOutcome, LeavesByWo
 
 use super::Core;
 use crate::beginning::{first_of, has_tip, is_down, is_not_open};
-use crate::dumping::{closes_for_sure, enter_catalog, leave_catalog};
+use crate::dumping::{enter_catalog, leave_catalog};
+use crate::following::{Followed, follow_outcome};
 use crate::lanes::{MERGER, put_out};
 use crate::laws::merging_laws;
 use crate::merging::{
     StepFault, begin_copy, begin_merge, end_checkpoint, fix_list, may_read, serials_in,
     step_merger, take_room,
 };
-use crate::opening::follow_call;
 use crate::taken::Taken;
 use sd_command::{Refusal, Reply};
 use sd_crash_safety::{Standing, core_steps, merge_beginning_law, merger_outcomes, merger_steps};
@@ -207,11 +207,12 @@ impl Core {
         ensures cuts { (serial : ℕ) → result ≡ reply.Merged serial → EndsCut self.old outcome.request self.new }
     {
         merging_laws(&self.merger, &self.dumper);
-        let id = outcome.id();
-        let done = outcome.answer().is_done();
-        let closed = closes_for_sure(self.phases[id.slot], id.call);
-        follow_call(&mut self.phases, &id, done);
-        put_out(&mut self.outs, MERGER, None);
+        let Followed { id, closed } = follow_outcome(
+            &mut self.phases,
+            &mut self.outs,
+            MERGER,
+            &outcome,
+        );
         let progress = self.merger.hand_in(outcome);
         merger_outcomes(&self.catalog);
         match progress {

@@ -1,17 +1,14 @@
-use Rattle.std.proofs.Common.{◌≡◌, ◌↔◌, ◌+◌, ◌^◌, ◌<◌, ◌≤◌, ◌==◌, ◌∷◌, Contains, length, Some, None, IfSome, slice_get, slice_index_or, slice_set, refl, sym, ◌∙◌, ap, subst, inl, inr, arith, true, false}
-use Rattle.std.proofs.lemmas.Option.{same_Some, slice_get-get_or}
+use Rattle.std.proofs.Common.{◌≡◌, ◌↔◌, ◌+◌, ◌^◌, ◌<◌, ◌≤◌, ◌==◌, ◌∷◌, Contains, length, Some, None, IfSome, slice_get, slice_set, refl, sym, ◌∙◌, ap, subst, inl, inr, arith, true, false}
+use Rattle.std.proofs.lemmas.Option.{same_Some}
 use Rattle.sd_chain.specs.Catalog.{Changes, Opened}
 use Rattle.sd_image.specs.declared.run.RunKind.{RunKind}
 use Rattle.sd_image.specs.Shows.{pages_of}
 use Rattle.sd_rounds.specs.declared.image_order.ImageOrder.{ImageOrder}
 use Rattle.sd_rounds.specs.LittleWork.{TookVisited}
 use Rattle.sd_rounds.specs.Pass.{Place}
-use Rattle.sd_gate.specs.declared.phase.Phase.{Phase}
 use Rattle.sd_gate.specs.declared.phase.Phase.TheVariants.{Whole}
 use Rattle.sd_gate.specs.declared.request_id.RequestId.{RequestId}
 use Rattle.sd_gate.specs.declared.worker.Worker.TheVariants.{Dumper}
-use Rattle.sd_gate.specs.Calls.{is_done}
-use Rattle.sd_gate.specs.Phases.{phases_after}
 use Rattle.sd_command.specs.declared.refusal.Refusal.TheVariants.{StoreDown}
 use Rattle.sd_command.specs.declared.reply.Reply.TheVariants as reply
 use Rattle.sd_journal.specs.declared.entry.Entry.TheVariants.{Acked}
@@ -20,11 +17,12 @@ use Rattle.sd_journal.specs.Marked.{Told, entries_of}
 use Rattle.sd_rounds.specs.Dumper.{Hands, HasCounted, HasSlot, after_pre_dump, is_last, out_of_running, slot_of, writes_of_running}
 use Rattle.sd_crash_safety.specs.Believes.{Believes}
 use Rattle.sd_crash_safety.specs.Calls.{IsFree}
-use Rattle.sd_crash_safety.specs.DumperOutcomes.{IsDumpersOutcome, LeavesCatalog, closes_for_sure}
+use Rattle.sd_crash_safety.specs.DumperOutcomes.{IsDumpersOutcome, LeavesCatalog}
 use Rattle.sd_crash_safety.specs.View.{CoreView, page_lane}
 use Rattle.sd_crash_safety.specs.declared.standing.Standing.TheVariants.{Open}
 use Rattle.sd_crash_safety.specs.Merges.{IsSpared, MakesOther}
 use Rattle.sd_merge.specs.Merger as merger
+use Rattle.sd_core.proofs.HandedLemmas.{dumper_followed, leaves_followed}
 use Rattle.sd_core.proofs.FlagLemmas.{gated_more, gated_of, set_flags}
 use Rattle.sd_core.specs.Grown.{IsGated, has_grown, has_swept}
 use Rattle.sd_core.specs.Images.{HasImage, HasPreDumps, begun_as, job_of}
@@ -37,9 +35,8 @@ use Rattle.sd_rounds.specs.declared.progress.Progress.TheVariants.{More}
 use Rattle.sd_core.specs.LittleWork.{HasLittle, visits_of, way_due}
 use Rattle.sd_core.specs.Sound.{AreSoundNumbers, CheckpointRuns, AreOuts, MergeRuns, IsOpening, begun_images, due_serials, held_for}
 use Rattle.sd_core.specs.Starts.{base_of}
-use Rattle.sd_core.proofs.CoreLemmas.{after_count}
 use Rattle.sd_core.proofs.EnteredLemmas.{entered_merge, fills_after, left_places}
-use Rattle.sd_core.proofs.FallenLemmas.{apart_after, fallen_core, free_after, let_go_two}
+use Rattle.sd_core.proofs.FallenLemmas.{fallen_core, free_after, let_go_two}
 use Rattle.sd_core.proofs.ImageLemmas.{image_more}
 use Rattle.sd_core.proofs.LaneLemmas.{goes_out, handed_at, more_outs, opens_lane, opens_outs, outcome_at, plan_lane, slot_at, out_there, write_closes_none, write_lane}
 use Rattle.sd_core.proofs.OutsLemmas.{DumperOuts, IsOfDumper, dumper_none, dumper_outs, far, no_write, open_outs}
@@ -56,40 +53,28 @@ use Rattle.sd_core.proofs.state.Core.hand_in_dumper.Goals as goal
 pub invariant_of-self : goal.invariant_of-self
 invariant_of-self c =
     let made = c.args.outcome in
-    let id = made.request.id in
-    let phases = c.self.inside.phases.items in
-    let own : slice_get c.self.inside.outs c.args.lane ≡ Some (Some id) = ap (λ (v : CoreView). slice_get v.outs c.args.lane) c.self.view_is ∙ c.requires.out in
     let h = subst (λ p. Hands c.self.inside.dumper made p c.hand_in.new.self) c.in-Failed.is c.hand_in.ensures.hands in
     let work = at_work _ h.running c.self.invariant h.was in
-    let within = c.self.invariant.outs_are.within c.args.lane id own in
-    let follows : (phase : Phase) → slice_get phases id.slot ≡ Some phase → c.follow_call.new.phases.items ≡ phases_after phases id phase (is_done made.answer) =
-    (λ phase is. c.follow_call.ensures phase (ap (λ (i : RequestId). slice_get phases i.slot) c.id-id.ensures ∙ is)
-    ∙ ap (λ i. phases_after phases i phase c.is_done-done.result) c.id-id.ensures
-    ∙ ap (phases_after phases id phase) (c.is_done-done.ensures ∙ ap is_done c.answer.ensures)) in
-    let count = after_count phases c.follow_call.new.phases.items id (is_done made.answer) within follows in
+    let n = c.follow_outcome-closed.ensures.follows in
+    let count = n.count in
     fallen_core _ c.release_unfrozen.new.journal _ _ _ _ _ _ c.args.lane c.self.invariant work.closed c.release_unfrozen.ensures.items c.release_unfrozen.ensures.first c.release_unfrozen.ensures.limit
     (let_go_two c.self.inside.pending _ h.running c.self.inside.journal _ h.was (c.self.invariant.held ∙ ap (held_for c.self.inside.pending c.self.inside.dumper.running) work.closed) c.release_unfrozen.ensures)
-    refl count c.put_out.ensures (ap (λ d. d.running) h.is) c.cancel.ensures
+    refl count c.follow_outcome-closed.ensures.outs (ap (λ d. d.running) h.is) c.cancel.ensures
 
 pub invariant_of-self-in-More : goal.invariant_of-self-in-More
 invariant_of-self-in-More c =
     let base : Base = base_of c.self.inside.base in
     let made = c.args.outcome in
     let id = made.request.id in
-    let phases = c.self.inside.phases.items in
     let own : slice_get c.self.inside.outs c.args.lane ≡ Some (Some id) = ap (λ (v : CoreView). slice_get v.outs c.args.lane) c.self.view_is ∙ c.requires.out in
     let h = subst (λ p. Hands c.self.inside.dumper made p c.hand_in.new.self) c.in-More.is c.hand_in.ensures.hands in
     let work = at_work _ h.running c.self.invariant h.was in
-    let within = c.self.invariant.outs_are.within c.args.lane id own in
-    let follows : (phase : Phase) → slice_get phases id.slot ≡ Some phase → c.follow_call.new.phases.items ≡ phases_after phases id phase (is_done made.answer) =
-    (λ phase is. c.follow_call.ensures phase (ap (λ (i : RequestId). slice_get phases i.slot) c.id-id.ensures ∙ is)
-    ∙ ap (λ i. phases_after phases i phase c.is_done-done.result) c.id-id.ensures
-    ∙ ap (phases_after phases id phase) (c.is_done-done.ensures ∙ ap is_done c.answer.ensures)) in
-    let count = after_count phases c.follow_call.new.phases.items id (is_done made.answer) within follows in
+    let n = c.follow_outcome-closed.ensures.follows in
+    let count = n.count in
     let image = image_of_work _ h.running h.hands.image c.self.invariant h.was h.hands.was in
     let t = image_more c.self.inside.journal.items c.self.inside.catalog c.leave_catalog.new.catalog c.self.inside.numbers h.hands.image h.hands.next made image
-    (left_held c.closes_for_sure-closed.result c.id-id.result.slot c.self.inside.catalog c.leave_catalog.new.catalog h.hands.image.order.serial c.leave_catalog.ensures image.held) h.hands.hands in
-    let own_slot_is = ap (λ (i : RequestId). i.slot) c.id-id.ensures ∙ slot_at _ h.running c.args.lane id c.self.invariant h.was c.requires.dumper own in
+    (left_held c.follow_outcome-closed.result.closed c.follow_outcome-closed.result.id.slot c.self.inside.catalog c.leave_catalog.new.catalog h.hands.image.order.serial c.leave_catalog.ensures image.held) h.hands.hands in
+    let own_slot_is = ap (λ (i : RequestId). i.slot) c.follow_outcome-closed.ensures.id ∙ slot_at _ h.running c.args.lane id c.self.invariant h.was c.requires.dumper own in
     let now_is = ap (λ d. d.running) h.is ∙ ap Some h.hands.is in
     core_working _ _ (ap (λ d. d.running) h.is ∙ ap Some h.hands.is) (turned _ _ h.running h.hands.image h.hands.next c.self.invariant (record {
       was = h.was;
@@ -98,7 +83,7 @@ invariant_of-self-in-More c =
       merger_is = refl;
       room = refl;
       serial = ap (λ (o : ImageOrder). o.serial) t.order;
-      places_stay = left_places h.running c.closes_for_sure-closed.result c.id-id.result.slot c.self.inside.catalog c.leave_catalog.new.catalog c.leave_catalog.ensures own_slot_is;
+      places_stay = left_places h.running c.follow_outcome-closed.result.closed c.follow_outcome-closed.result.id.slot c.self.inside.catalog c.leave_catalog.new.catalog c.leave_catalog.ensures own_slot_is;
       base = refl;
       frozen = refl;
       standing = refl;
@@ -113,9 +98,9 @@ invariant_of-self-in-More c =
       flags_are = c.self.invariant.flags_are;
       gated = gated_more (is_last h.running) c.self.inside.swept h.hands.image h.hands.next made (sound_image _ h.running h.hands.image c.sound.ensures.image h.was h.hands.was) h.hands.hands
           (gated_of c.self.inside.swept c.self.inside.dumper.running h.running h.hands.image c.self.invariant.gated h.was h.hands.was);
-      counted = left_counted c.closes_for_sure-closed.result c.id-id.result.slot c.self.inside.catalog c.leave_catalog.new.catalog c.self.inside.numbers c.leave_catalog.ensures c.self.invariant.counted;
-      outs = c.put_out.ensures ∙ more_outs _ h.running h.hands.image h.hands.next c.args.lane made c.self.invariant h.was h.hands.was own t.out_is h.hands.hands;
-      stay = leave_stays h.running c.closes_for_sure-closed.result c.id-id.result.slot c.self.inside.catalog c.leave_catalog.new.catalog c.leave_catalog.ensures
+      counted = left_counted c.follow_outcome-closed.result.closed c.follow_outcome-closed.result.id.slot c.self.inside.catalog c.leave_catalog.new.catalog c.self.inside.numbers c.leave_catalog.ensures c.self.invariant.counted;
+      outs = c.follow_outcome-closed.ensures.outs ∙ more_outs _ h.running h.hands.image h.hands.next c.args.lane made c.self.invariant h.was h.hands.was own t.out_is h.hands.hands;
+      stay = leave_stays h.running c.follow_outcome-closed.result.closed c.follow_outcome-closed.result.id.slot c.self.inside.catalog c.leave_catalog.new.catalog c.leave_catalog.ensures
           own_slot_is (few_opened c.self.inside.dumper.since_freeze _ h.running c.sound.ensures.running h.was) work.apart;
       asked = subst (λ o. IfSome o (λ i. i.slot ≡ slot_of h.running)) (sym t.out_is) tt;
       whose = subst (λ o. IfSome o (λ i. i.worker ≡ Dumper)) (sym t.out_is) tt;
@@ -137,12 +122,9 @@ invariant_of-self-in-PreDump c =
     let h = subst (λ p. Hands c.self.inside.dumper made p c.hand_in.new.self) c.in-PreDump.is c.hand_in.ensures.hands in
     let work = at_work _ h.running c.self.invariant h.was in
     let within = c.self.invariant.outs_are.within c.args.lane id own in
-    let now_out = c.put_out.ensures ∙ opens_outs _ h.running h.hands.0.image c.args.lane made _ c.self.invariant h.was h.hands.0.was own h.hands.0.hands in
-    let follows : (phase : Phase) → slice_get phases id.slot ≡ Some phase → c.follow_call.new.phases.items ≡ phases_after phases id phase (is_done made.answer) =
-    (λ phase is. c.follow_call.ensures phase (ap (λ (i : RequestId). slice_get phases i.slot) c.id-id.ensures ∙ is)
-    ∙ ap (λ i. phases_after phases i phase c.is_done-done.result) c.id-id.ensures
-    ∙ ap (phases_after phases id phase) (c.is_done-done.ensures ∙ ap is_done c.answer.ensures)) in
-    let count = after_count phases c.follow_call.new.phases.items id (is_done made.answer) within follows in
+    let now_out = c.follow_outcome-closed.ensures.outs ∙ opens_outs _ h.running h.hands.0.image c.args.lane made _ c.self.invariant h.was h.hands.0.was own h.hands.0.hands in
+    let n = c.follow_outcome-closed.ensures.follows in
+    let count = n.count in
     let opened = c.in-PreDump.image in
     let image = image_of_work _ h.running h.hands.0.image c.self.invariant h.was h.hands.0.was in
     let now = opened_now _ _ _ h.hands.0.image opened made image h.hands.0.hands in
@@ -156,9 +138,9 @@ invariant_of-self-in-PreDump c =
     core_working _ _ gone (record {
       journal_is = c.self.invariant.journal_is;
       held = held_at_work _ h.running c.self.invariant h.was ∙ held_same c.self.inside.pending h.running (after_pre_dump h.running opened) None;
-      outs_are = subst (λ st. AreOuts st c.put_out.new.outs c.follow_call.new.phases.items (Some (after_pre_dump h.running opened)) c.self.inside.merger None) (sym work.stands)
-          (open_outs c.put_out.new.outs c.follow_call.new.phases.items (Some (after_pre_dump h.running opened)) c.self.inside.merger now_out
-          (dumper_outs c.follow_call.new.phases.items (after_pre_dump h.running opened) (subst (λ k. slot_of (after_pre_dump h.running opened) < k) (sym count)
+      outs_are = subst (λ st. AreOuts st c.follow_outcome-closed.new.outs c.follow_outcome-closed.new.phases.items (Some (after_pre_dump h.running opened)) c.self.inside.merger None) (sym work.stands)
+          (open_outs c.follow_outcome-closed.new.outs c.follow_outcome-closed.new.phases.items (Some (after_pre_dump h.running opened)) c.self.inside.merger now_out
+          (dumper_outs c.follow_outcome-closed.new.phases.items (after_pre_dump h.running opened) (subst (λ k. slot_of (after_pre_dump h.running opened) < k) (sym count)
           (work.within (slot_of (after_pre_dump h.running opened)) (record { place = h.running.opened + 1; from = omega arith; is = refl }))) tt tt tt)
           (λ other is. (let its = merger_out _ other c.self.invariant work.stands is in (subst (λ n. other.slot < n) (sym count) its.0, its.1)))
           (λ other one is at same. elim is [ inl plan ↦ (let no : None ≡ Some other = plan in cc) | inr page ↦ no_write page.0 other page.1 ]));
@@ -190,7 +172,7 @@ invariant_of-self-in-PreDump c =
         image = tt;
       };
       little = tt;
-      merging = subst (λ r. IfSome c.self.inside.merger (MergeRuns c.self.inside.standing c.follow_call.new.phases.items c.enter_catalog.new.catalog c.self.inside.opener c.self.inside.numbers c.self.inside.room r)) gone
+      merging = subst (λ r. IfSome c.self.inside.merger (MergeRuns c.self.inside.standing c.follow_outcome-closed.new.phases.items c.enter_catalog.new.catalog c.self.inside.opener c.self.inside.numbers c.self.inside.room r)) gone
           (entered_merge _ (record {
             base = base;
             journal = c.self.inside.journal;
@@ -198,8 +180,8 @@ invariant_of-self-in-PreDump c =
             frozen = c.self.inside.pending;
             newest = c.self.inside.last;
             standing = c.self.inside.standing;
-            phases = c.follow_call.new.phases.items;
-            outs = c.put_out.new.outs;
+            phases = c.follow_outcome-closed.new.phases.items;
+            outs = c.follow_outcome-closed.new.outs;
             places = c.enter_catalog.new.catalog;
             dumper = c.hand_in.new.self;
             merger = c.self.inside.merger;
@@ -235,13 +217,9 @@ invariant_of-self-in-Dump c =
     let own : slice_get c.self.inside.outs c.args.lane ≡ Some (Some id) = ap (λ (v : CoreView). slice_get v.outs c.args.lane) c.self.view_is ∙ c.requires.out in
     let h = subst (λ p. Hands c.self.inside.dumper made p c.hand_in.new.self) c.in-Dump.is c.hand_in.ensures.hands in
     let work = at_work _ h.running c.self.invariant h.was in
-    let within = c.self.invariant.outs_are.within c.args.lane id own in
-    let now_out = c.put_out.ensures ∙ opens_outs _ h.running h.hands.0.image c.args.lane made _ c.self.invariant h.was h.hands.0.was own h.hands.0.hands in
-    let follows : (phase : Phase) → slice_get phases id.slot ≡ Some phase → c.follow_call.new.phases.items ≡ phases_after phases id phase (is_done made.answer) =
-    (λ phase is. c.follow_call.ensures phase (ap (λ (i : RequestId). slice_get phases i.slot) c.id-id.ensures ∙ is)
-    ∙ ap (λ i. phases_after phases i phase c.is_done-done.result) c.id-id.ensures
-    ∙ ap (phases_after phases id phase) (c.is_done-done.ensures ∙ ap is_done c.answer.ensures)) in
-    let count = after_count phases c.follow_call.new.phases.items id (is_done made.answer) within follows in
+    let now_out = c.follow_outcome-closed.ensures.outs ∙ opens_outs _ h.running h.hands.0.image c.args.lane made _ c.self.invariant h.was h.hands.0.was own h.hands.0.hands in
+    let n = c.follow_outcome-closed.ensures.follows in
+    let count = n.count in
     let opened = c.in-Dump.image in
     let image = image_of_work _ h.running h.hands.0.image c.self.invariant h.was h.hands.0.was in
     let now = opened_now _ _ _ h.hands.0.image opened made image h.hands.0.hands in
@@ -262,14 +240,14 @@ invariant_of-self-in-Dump c =
       journal_is = acked_journal c.outcome_laws.ensures.tracked c.outcome_laws.ensures.plain _ c.append_held.new.self c.self.invariant pends c.append_held.ensures.items c.append_held.ensures.numbers.first c.append_held.ensures.numbers.limit
           c.sound-in-Dump.ensures clean;
       held = free ∙ ap (λ r. held_for None r None) (sym gone) ∙ ap (held_for None c.hand_in.new.self.running) (sym work.closed);
-      outs_are = subst (λ st. AreOuts st c.put_out.new.outs c.follow_call.new.phases.items c.hand_in.new.self.running c.self.inside.merger c.self.inside.opener) (sym work.stands)
-          (subst (λ o. AreOuts Open c.put_out.new.outs c.follow_call.new.phases.items c.hand_in.new.self.running c.self.inside.merger o) (sym work.closed)
-          (open_outs c.put_out.new.outs c.follow_call.new.phases.items c.hand_in.new.self.running c.self.inside.merger
+      outs_are = subst (λ st. AreOuts st c.follow_outcome-closed.new.outs c.follow_outcome-closed.new.phases.items c.hand_in.new.self.running c.self.inside.merger c.self.inside.opener) (sym work.stands)
+          (subst (λ o. AreOuts Open c.follow_outcome-closed.new.outs c.follow_outcome-closed.new.phases.items c.hand_in.new.self.running c.self.inside.merger o) (sym work.closed)
+          (open_outs c.follow_outcome-closed.new.outs c.follow_outcome-closed.new.phases.items c.hand_in.new.self.running c.self.inside.merger
           (now_out ∙ ap (λ r. out_of_running r ∷ merger.out_of_merge c.self.inside.merger ∷ None ∷ writes_of_running r) (sym gone))
-          (subst (DumperOuts c.follow_call.new.phases.items) (sym gone) (dumper_none c.follow_call.new.phases.items))
+          (subst (DumperOuts c.follow_outcome-closed.new.phases.items) (sym gone) (dumper_none c.follow_outcome-closed.new.phases.items))
           (λ other is. (let its = merger_out _ other c.self.invariant work.stands is in (subst (λ n. other.slot < n) (sym count) its.0, its.1)))
           (λ other one is at same. elim (subst (λ r. IsOfDumper r other) gone is) [ inl plan ↦ (let no : None ≡ Some other = plan in cc) | inr page ↦ no_write page.0 other page.1 ])));
-      opening = subst (λ o. IfSome o (IsOpening c.self.inside.standing c.follow_call.new.phases.items)) (sym work.closed) tt;
+      opening = subst (λ o. IfSome o (IsOpening c.self.inside.standing c.follow_outcome-closed.new.phases.items)) (sym work.closed) tt;
       numbers_are = subst (λ all. AreSoundNumbers base all None (Some c.self.inside.numbers.begun) c.self.inside.numbers) (sym c.append_held.ensures.items)
           (acked_numbers base c.self.inside.journal.items c.self.inside.pending c.self.inside.last c.self.inside.numbers c.self.invariant.numbers_are);
       swept_is = not_swept false None c.self.inside.memory refl;
@@ -277,7 +255,7 @@ invariant_of-self-in-Dump c =
       gated = subst (λ r. IfSome r (IsGated false)) (sym gone) tt;
       counted = counted;
       rests = λ none open_. refl;
-      work = subst (λ r. IfSome r (CheckpointRuns base c.append_held.new.self.items None c.self.inside.standing c.follow_call.new.phases.items c.enter_catalog-in-Dump.new.catalog c.self.inside.merger c.self.inside.opener c.self.inside.numbers)) (sym gone) tt;
+      work = subst (λ r. IfSome r (CheckpointRuns base c.append_held.new.self.items None c.self.inside.standing c.follow_outcome-closed.new.phases.items c.enter_catalog-in-Dump.new.catalog c.self.inside.merger c.self.inside.opener c.self.inside.numbers)) (sym gone) tt;
       little = subst (λ r. IfSome r (HasLittle base c.append_held.new.self.items c.self.inside.memory)) (sym gone) tt;
       merging = entered_merge _ (record {
         base = base;
@@ -286,8 +264,8 @@ invariant_of-self-in-Dump c =
         frozen = None;
         newest = Some c.self.inside.numbers.begun;
         standing = c.self.inside.standing;
-        phases = c.follow_call.new.phases.items;
-        outs = c.put_out.new.outs;
+        phases = c.follow_outcome-closed.new.phases.items;
+        outs = c.follow_outcome-closed.new.outs;
         places = c.enter_catalog-in-Dump.new.catalog;
         dumper = c.hand_in.new.self;
         merger = c.self.inside.merger;
@@ -323,24 +301,10 @@ returns-in-Failed-clause-handed c =
     let own : slice_get c.self.inside.outs c.args.lane ≡ Some (Some id) = ap (λ (v : CoreView). slice_get v.outs c.args.lane) c.self.view_is ∙ c.requires.out in
     let h = subst (λ p. Hands c.self.inside.dumper made p c.hand_in.new.self) c.in-Failed.is c.hand_in.ensures.hands in
     let work = at_work _ h.running c.self.invariant h.was in
-    let within = c.self.invariant.outs_are.within c.args.lane id own in
-    let follows : (phase : Phase) → slice_get phases id.slot ≡ Some phase → c.follow_call.new.phases.items ≡ phases_after phases id phase (is_done made.answer) =
-    (λ phase is. c.follow_call.ensures phase (ap (λ (i : RequestId). slice_get phases i.slot) c.id-id.ensures ∙ is)
-    ∙ ap (λ i. phases_after phases i phase c.is_done-done.result) c.id-id.ensures
-    ∙ ap (phases_after phases id phase) (c.is_done-done.ensures ∙ ap is_done c.answer.ensures)) in
-    let count = after_count phases c.follow_call.new.phases.items id (is_done made.answer) within follows in
-    let phase = slice_index_or phases id.slot c.index.result.now in
-    let phase_is = slice_get-get_or phases id.slot c.index.result.now within in
-    let outcome : IsDumpersOutcome _ c.args.lane made phase _ = record {
-      base = refl;
-      closed = work.closed;
-      memory = refl;
-      out = own;
-      outs = c.put_out.ensures;
-      apart = λ at other out same. (apart_after _ c.self.inside.outs _ _ _ _ c.args.lane id c.self.invariant.outs_are own at other out same).are;
-      phase_is = phase_is;
-      phases = follows phase phase_is;
-    } in
+    let n = c.follow_outcome-closed.ensures.follows in
+    let count = n.count in
+    let phase = n.phase in
+    let outcome : IsDumpersOutcome _ c.args.lane made phase _ = dumper_followed _ _ _ c.args.lane made _ c.self.invariant refl refl work.closed refl own c.follow_outcome-closed.ensures.outs n in
     handed_seen c.args.lane made (reply.Refused StoreDown) _ _ _ c.self.view_is (handed_dumper _ _ c.args.lane made phase (reply.Refused StoreDown) outcome count
     (λ asked bodies files. c.outcome_laws.ensures.outcomes.fails _ _ c.args.lane made phase asked bodies files (record {
       outcome = outcome;
@@ -358,29 +322,11 @@ returns-in-More-clause-handed c =
     let own : slice_get c.self.inside.outs c.args.lane ≡ Some (Some id) = ap (λ (v : CoreView). slice_get v.outs c.args.lane) c.self.view_is ∙ c.requires.out in
     let h = subst (λ p. Hands c.self.inside.dumper made p c.hand_in.new.self) c.in-More.is c.hand_in.ensures.hands in
     let work = at_work _ h.running c.self.invariant h.was in
-    let within = c.self.invariant.outs_are.within c.args.lane id own in
-    let follows : (phase : Phase) → slice_get phases id.slot ≡ Some phase → c.follow_call.new.phases.items ≡ phases_after phases id phase (is_done made.answer) =
-    (λ phase is. c.follow_call.ensures phase (ap (λ (i : RequestId). slice_get phases i.slot) c.id-id.ensures ∙ is)
-    ∙ ap (λ i. phases_after phases i phase c.is_done-done.result) c.id-id.ensures
-    ∙ ap (phases_after phases id phase) (c.is_done-done.ensures ∙ ap is_done c.answer.ensures)) in
-    let count = after_count phases c.follow_call.new.phases.items id (is_done made.answer) within follows in
-    let closed = c.closes_for_sure-closed.ensures ∙ ap (λ p. closes_for_sure p c.id-id.result.call) (c.index.ensures ∙ ap (λ (i : RequestId). slice_index_or phases i.slot c.index.result.now) c.id-id.ensures)
-    ∙ ap (λ (i : RequestId). closes_for_sure (slice_index_or phases id.slot c.index.result.now) i.call) c.id-id.ensures in
-    let leaves : LeavesCatalog (closes_for_sure (slice_index_or phases id.slot c.index.result.now) id.call) id.slot c.self.inside.catalog c.leave_catalog.new.catalog =
-    subst (λ b. LeavesCatalog b id.slot c.self.inside.catalog c.leave_catalog.new.catalog) closed
-    (subst (λ (i : RequestId). LeavesCatalog c.closes_for_sure-closed.result i.slot c.self.inside.catalog c.leave_catalog.new.catalog) c.id-id.ensures c.leave_catalog.ensures) in
-    let phase = slice_index_or phases id.slot c.index.result.now in
-    let phase_is = slice_get-get_or phases id.slot c.index.result.now within in
-    let outcome : IsDumpersOutcome _ c.args.lane made phase _ = record {
-      base = refl;
-      closed = work.closed;
-      memory = refl;
-      out = own;
-      outs = c.put_out.ensures;
-      apart = λ at other out same. (apart_after _ c.self.inside.outs _ _ _ _ c.args.lane id c.self.invariant.outs_are own at other out same).are;
-      phase_is = phase_is;
-      phases = follows phase phase_is;
-    } in
+    let n = c.follow_outcome-closed.ensures.follows in
+    let count = n.count in
+    let leaves = leaves_followed phases _ made _ c.follow_outcome-closed.result.closed c.self.inside.catalog c.leave_catalog.new.catalog c.follow_outcome-closed.ensures.id n c.leave_catalog.ensures in
+    let phase = n.phase in
+    let outcome : IsDumpersOutcome _ c.args.lane made phase _ = dumper_followed _ _ _ c.args.lane made _ c.self.invariant refl refl work.closed refl own c.follow_outcome-closed.ensures.outs n in
     let now_is = ap (λ d. d.running) h.is ∙ ap Some h.hands.is in
     let own_is = own_order c.self.inside.dumper.since_freeze _ h.running h.hands.image c.sound.ensures.running h.was h.hands.was in
     let good = sound_image _ h.running h.hands.image c.sound.ensures.image h.was h.hands.was in
@@ -433,30 +379,16 @@ returns-in-PreDump-clause-handed c =
     let own : slice_get c.self.inside.outs c.args.lane ≡ Some (Some id) = ap (λ (v : CoreView). slice_get v.outs c.args.lane) c.self.view_is ∙ c.requires.out in
     let h = subst (λ p. Hands c.self.inside.dumper made p c.hand_in.new.self) c.in-PreDump.is c.hand_in.ensures.hands in
     let work = at_work _ h.running c.self.invariant h.was in
-    let within = c.self.invariant.outs_are.within c.args.lane id own in
-    let follows : (phase : Phase) → slice_get phases id.slot ≡ Some phase → c.follow_call.new.phases.items ≡ phases_after phases id phase (is_done made.answer) =
-    (λ phase is. c.follow_call.ensures phase (ap (λ (i : RequestId). slice_get phases i.slot) c.id-id.ensures ∙ is)
-    ∙ ap (λ i. phases_after phases i phase c.is_done-done.result) c.id-id.ensures
-    ∙ ap (phases_after phases id phase) (c.is_done-done.ensures ∙ ap is_done c.answer.ensures)) in
-    let count = after_count phases c.follow_call.new.phases.items id (is_done made.answer) within follows in
+    let n = c.follow_outcome-closed.ensures.follows in
+    let count = n.count in
     let opened = c.in-PreDump.image in
     let image = image_of_work _ h.running h.hands.0.image c.self.invariant h.was h.hands.0.was in
     let now = opened_now _ _ _ h.hands.0.image opened made image h.hands.0.hands in
     let changes : Changes c.self.inside.catalog c.enter_catalog.new.catalog h.hands.0.image.order.serial (Some (Some (record { slot = opened.slot; header = opened.header; spaces = opened.table }))) =
     subst (λ s. Changes c.self.inside.catalog c.enter_catalog.new.catalog s (Some (Some (record { slot = opened.slot; header = opened.header; spaces = opened.table })))) now.serial c.enter_catalog.ensures in
-    let phase = slice_index_or phases id.slot c.index.result.now in
-    let phase_is = slice_get-get_or phases id.slot c.index.result.now within in
+    let phase = n.phase in
     let zero_is = opens_lane _ h.running h.hands.0.image c.args.lane made _ c.self.invariant h.was h.hands.0.was own h.hands.0.hands in
-    let outcome : IsDumpersOutcome _ c.args.lane made phase _ = record {
-      base = refl;
-      closed = work.closed;
-      memory = refl;
-      out = own;
-      outs = c.put_out.ensures;
-      apart = λ at other out same. (apart_after _ c.self.inside.outs _ _ _ _ c.args.lane id c.self.invariant.outs_are own at other out same).are;
-      phase_is = phase_is;
-      phases = follows phase phase_is;
-    } in
+    let outcome : IsDumpersOutcome _ c.args.lane made phase _ = dumper_followed _ _ _ c.args.lane made _ c.self.invariant refl refl work.closed refl own c.follow_outcome-closed.ensures.outs n in
     handed_seen c.args.lane made reply.Worked _ _ _ c.self.view_is (handed_at _ _ c.args.lane 0 made reply.Worked zero_is (handed_dumper _ _ 0 made phase reply.Worked (outcome_at _ _ c.args.lane 0 made phase zero_is outcome) count
     (λ asked bodies files. c.outcome_laws.ensures.outcomes.opens_pre_dump _ _ h.running h.hands.0.image made phase opened asked bodies files (record {
       opens_it = record {
@@ -488,30 +420,16 @@ returns-in-Dump-clause-handed c =
     let own : slice_get c.self.inside.outs c.args.lane ≡ Some (Some id) = ap (λ (v : CoreView). slice_get v.outs c.args.lane) c.self.view_is ∙ c.requires.out in
     let h = subst (λ p. Hands c.self.inside.dumper made p c.hand_in.new.self) c.in-Dump.is c.hand_in.ensures.hands in
     let work = at_work _ h.running c.self.invariant h.was in
-    let within = c.self.invariant.outs_are.within c.args.lane id own in
-    let follows : (phase : Phase) → slice_get phases id.slot ≡ Some phase → c.follow_call.new.phases.items ≡ phases_after phases id phase (is_done made.answer) =
-    (λ phase is. c.follow_call.ensures phase (ap (λ (i : RequestId). slice_get phases i.slot) c.id-id.ensures ∙ is)
-    ∙ ap (λ i. phases_after phases i phase c.is_done-done.result) c.id-id.ensures
-    ∙ ap (phases_after phases id phase) (c.is_done-done.ensures ∙ ap is_done c.answer.ensures)) in
-    let count = after_count phases c.follow_call.new.phases.items id (is_done made.answer) within follows in
+    let n = c.follow_outcome-closed.ensures.follows in
+    let count = n.count in
     let opened = c.in-Dump.image in
     let image = image_of_work _ h.running h.hands.0.image c.self.invariant h.was h.hands.0.was in
     let now = opened_now _ _ _ h.hands.0.image opened made image h.hands.0.hands in
     let changes : Changes c.self.inside.catalog c.enter_catalog-in-Dump.new.catalog h.hands.0.image.order.serial (Some (Some (record { slot = opened.slot; header = opened.header; spaces = opened.table }))) =
     subst (λ s. Changes c.self.inside.catalog c.enter_catalog-in-Dump.new.catalog s (Some (Some (record { slot = opened.slot; header = opened.header; spaces = opened.table })))) now.serial c.enter_catalog-in-Dump.ensures in
-    let phase = slice_index_or phases id.slot c.index.result.now in
-    let phase_is = slice_get-get_or phases id.slot c.index.result.now within in
+    let phase = n.phase in
     let zero_is = opens_lane _ h.running h.hands.0.image c.args.lane made _ c.self.invariant h.was h.hands.0.was own h.hands.0.hands in
-    let outcome : IsDumpersOutcome _ c.args.lane made phase _ = record {
-      base = refl;
-      closed = work.closed;
-      memory = refl;
-      out = own;
-      outs = c.put_out.ensures;
-      apart = λ at other out same. (apart_after _ c.self.inside.outs _ _ _ _ c.args.lane id c.self.invariant.outs_are own at other out same).are;
-      phase_is = phase_is;
-      phases = follows phase phase_is;
-    } in
+    let outcome : IsDumpersOutcome _ c.args.lane made phase _ = dumper_followed _ _ _ c.args.lane made _ c.self.invariant refl refl work.closed refl own c.follow_outcome-closed.ensures.outs n in
     let number = c.self.inside.numbers.begun in
     handed_seen c.args.lane made (reply.Acked number) _ _ _ c.self.view_is (handed_at _ _ c.args.lane 0 made (reply.Acked number) zero_is (handed_dumper _ _ 0 made phase (reply.Acked number) (outcome_at _ _ c.args.lane 0 made phase zero_is outcome) count
     (λ asked bodies files. c.outcome_laws.ensures.outcomes.opens_dump _ _ h.running h.hands.0.image made phase opened asked bodies files (record {
@@ -622,29 +540,15 @@ returns-in-PreDump-clause-gates c =
     let own : slice_get c.self.inside.outs c.args.lane ≡ Some (Some id) = ap (λ (v : CoreView). slice_get v.outs c.args.lane) c.self.view_is ∙ c.requires.out in
     let h = subst (λ p. Hands c.self.inside.dumper made p c.hand_in.new.self) c.in-PreDump.is c.hand_in.ensures.hands in
     let work = at_work _ h.running c.self.invariant h.was in
-    let within = c.self.invariant.outs_are.within c.args.lane id own in
-    let follows : (phase : Phase) → slice_get phases id.slot ≡ Some phase → c.follow_call.new.phases.items ≡ phases_after phases id phase (is_done made.answer) =
-    (λ phase is. c.follow_call.ensures phase (ap (λ (i : RequestId). slice_get phases i.slot) c.id-id.ensures ∙ is)
-    ∙ ap (λ i. phases_after phases i phase c.is_done-done.result) c.id-id.ensures
-    ∙ ap (phases_after phases id phase) (c.is_done-done.ensures ∙ ap is_done c.answer.ensures)) in
+    let n = c.follow_outcome-closed.ensures.follows in
     let opened = c.in-PreDump.image in
     let image = image_of_work _ h.running h.hands.0.image c.self.invariant h.was h.hands.0.was in
     let now = opened_now _ _ _ h.hands.0.image opened made image h.hands.0.hands in
     let changes : Changes c.self.inside.catalog c.enter_catalog.new.catalog h.hands.0.image.order.serial (Some (Some (record { slot = opened.slot; header = opened.header; spaces = opened.table }))) =
     subst (λ s. Changes c.self.inside.catalog c.enter_catalog.new.catalog s (Some (Some (record { slot = opened.slot; header = opened.header; spaces = opened.table })))) now.serial c.enter_catalog.ensures in
-    let phase = slice_index_or phases id.slot c.index.result.now in
-    let phase_is = slice_get-get_or phases id.slot c.index.result.now within in
+    let phase = n.phase in
     let zero_is = opens_lane _ h.running h.hands.0.image c.args.lane made _ c.self.invariant h.was h.hands.0.was own h.hands.0.hands in
-    let outcome : IsDumpersOutcome _ c.args.lane made phase _ = record {
-      base = refl;
-      closed = work.closed;
-      memory = refl;
-      out = own;
-      outs = c.put_out.ensures;
-      apart = λ at other out same. (apart_after _ c.self.inside.outs _ _ _ _ c.args.lane id c.self.invariant.outs_are own at other out same).are;
-      phase_is = phase_is;
-      phases = follows phase phase_is;
-    } in
+    let outcome : IsDumpersOutcome _ c.args.lane made phase _ = dumper_followed _ _ _ c.args.lane made _ c.self.invariant refl refl work.closed refl own c.follow_outcome-closed.ensures.outs n in
     λ running asked bodies files enters at b.
     let b_inside = subst (λ v. Believes v asked bodies files) (sym c.self.view_is) b in
     let same : h.running ≡ running = same_Some h.running running (sym h.was ∙ ap (λ (v : CoreView). v.dumper.running) c.self.view_is ∙ opens_for running _ _ reply.Worked enters) in
@@ -652,8 +556,8 @@ returns-in-PreDump-clause-gates c =
     let on_it : id.slot ≡ slot_of running = slot_at _ h.running c.args.lane id c.self.invariant h.was c.requires.dumper own ∙ ap slot_of same in
     record {
       stands = work.stands;
-      whole = subst (λ n. slice_get c.follow_call.new.phases.items n ≡ Some Whole) own_slot_is
-          (c.outcome_laws.ensures.outcomes.enters_open _ (the_view (record c.self.inside { phases = c.follow_call.new.phases; outs = c.put_out.new.outs; catalog = c.enter_catalog.new.catalog })) h.running h.hands.0.image made phase opened asked bodies files (record {
+      whole = subst (λ n. slice_get c.follow_outcome-closed.new.phases.items n ≡ Some Whole) own_slot_is
+          (c.outcome_laws.ensures.outcomes.enters_open _ (the_view (record c.self.inside { phases = c.follow_outcome-closed.new.phases; outs = c.follow_outcome-closed.new.outs; catalog = c.enter_catalog.new.catalog })) h.running h.hands.0.image made phase opened asked bodies files (record {
             outcome = outcome_at _ _ c.args.lane 0 made phase zero_is outcome;
             alone = free_after _ c.self.inside.outs _ _ _ _ 0 id c.self.invariant.outs_are (ap (slice_get c.self.inside.outs) (sym zero_is) ∙ own) (omega arith);
             stands = work.stands;
@@ -667,8 +571,8 @@ returns-in-PreDump-clause-gates c =
             sound = sound_image _ h.running h.hands.0.image c.sound.ensures.image h.was h.hands.0.was;
             opens = h.hands.0.hands;
           }) (ap (slice_get asked) (sym zero_is) ∙ at) b_inside);
-      free = subst (IsFree c.put_out.new.outs) on_it (λ worker other out. free_after _ c.self.inside.outs _ _ _ _ 0 id c.self.invariant.outs_are (ap (slice_get c.self.inside.outs) (sym zero_is) ∙ own) (omega arith) worker other
-          (ap (λ outs. slice_get outs worker) (sym (c.put_out.ensures ∙ ap (λ k. slice_set c.self.inside.outs k None) zero_is)) ∙ out));
+      free = subst (IsFree c.follow_outcome-closed.new.outs) on_it (λ worker other out. free_after _ c.self.inside.outs _ _ _ _ 0 id c.self.invariant.outs_are (ap (slice_get c.self.inside.outs) (sym zero_is) ∙ own) (omega arith) worker other
+          (ap (λ outs. slice_get outs worker) (sym (c.follow_outcome-closed.ensures.outs ∙ ap (λ k. slice_set c.self.inside.outs k None) zero_is)) ∙ out));
     }
 
 pub returns-in-Dump-clause-gates : goal.returns-in-Dump-clause-gates
@@ -679,29 +583,15 @@ returns-in-Dump-clause-gates c =
     let own : slice_get c.self.inside.outs c.args.lane ≡ Some (Some id) = ap (λ (v : CoreView). slice_get v.outs c.args.lane) c.self.view_is ∙ c.requires.out in
     let h = subst (λ p. Hands c.self.inside.dumper made p c.hand_in.new.self) c.in-Dump.is c.hand_in.ensures.hands in
     let work = at_work _ h.running c.self.invariant h.was in
-    let within = c.self.invariant.outs_are.within c.args.lane id own in
-    let follows : (phase : Phase) → slice_get phases id.slot ≡ Some phase → c.follow_call.new.phases.items ≡ phases_after phases id phase (is_done made.answer) =
-    (λ phase is. c.follow_call.ensures phase (ap (λ (i : RequestId). slice_get phases i.slot) c.id-id.ensures ∙ is)
-    ∙ ap (λ i. phases_after phases i phase c.is_done-done.result) c.id-id.ensures
-    ∙ ap (phases_after phases id phase) (c.is_done-done.ensures ∙ ap is_done c.answer.ensures)) in
+    let n = c.follow_outcome-closed.ensures.follows in
     let opened = c.in-Dump.image in
     let image = image_of_work _ h.running h.hands.0.image c.self.invariant h.was h.hands.0.was in
     let now = opened_now _ _ _ h.hands.0.image opened made image h.hands.0.hands in
     let changes : Changes c.self.inside.catalog c.enter_catalog-in-Dump.new.catalog h.hands.0.image.order.serial (Some (Some (record { slot = opened.slot; header = opened.header; spaces = opened.table }))) =
     subst (λ s. Changes c.self.inside.catalog c.enter_catalog-in-Dump.new.catalog s (Some (Some (record { slot = opened.slot; header = opened.header; spaces = opened.table })))) now.serial c.enter_catalog-in-Dump.ensures in
-    let phase = slice_index_or phases id.slot c.index.result.now in
-    let phase_is = slice_get-get_or phases id.slot c.index.result.now within in
+    let phase = n.phase in
     let zero_is = opens_lane _ h.running h.hands.0.image c.args.lane made _ c.self.invariant h.was h.hands.0.was own h.hands.0.hands in
-    let outcome : IsDumpersOutcome _ c.args.lane made phase _ = record {
-      base = refl;
-      closed = work.closed;
-      memory = refl;
-      out = own;
-      outs = c.put_out.ensures;
-      apart = λ at other out same. (apart_after _ c.self.inside.outs _ _ _ _ c.args.lane id c.self.invariant.outs_are own at other out same).are;
-      phase_is = phase_is;
-      phases = follows phase phase_is;
-    } in
+    let outcome : IsDumpersOutcome _ c.args.lane made phase _ = dumper_followed _ _ _ c.args.lane made _ c.self.invariant refl refl work.closed refl own c.follow_outcome-closed.ensures.outs n in
     λ running asked bodies files enters at b.
     let b_inside = subst (λ v. Believes v asked bodies files) (sym c.self.view_is) b in
     let same : h.running ≡ running = same_Some h.running running (sym h.was ∙ ap (λ (v : CoreView). v.dumper.running) c.self.view_is ∙ opens_for running _ _ (reply.Acked c.self.inside.numbers.begun) enters) in
@@ -709,8 +599,8 @@ returns-in-Dump-clause-gates c =
     let on_it : id.slot ≡ slot_of running = slot_at _ h.running c.args.lane id c.self.invariant h.was c.requires.dumper own ∙ ap slot_of same in
     record {
       stands = work.stands;
-      whole = subst (λ n. slice_get c.follow_call.new.phases.items n ≡ Some Whole) own_slot_is
-          (c.outcome_laws.ensures.outcomes.enters_open _ (the_view (record c.self.inside { phases = c.follow_call.new.phases; outs = c.put_out.new.outs; catalog = c.enter_catalog-in-Dump.new.catalog })) h.running h.hands.0.image made phase opened asked bodies files (record {
+      whole = subst (λ n. slice_get c.follow_outcome-closed.new.phases.items n ≡ Some Whole) own_slot_is
+          (c.outcome_laws.ensures.outcomes.enters_open _ (the_view (record c.self.inside { phases = c.follow_outcome-closed.new.phases; outs = c.follow_outcome-closed.new.outs; catalog = c.enter_catalog-in-Dump.new.catalog })) h.running h.hands.0.image made phase opened asked bodies files (record {
             outcome = outcome_at _ _ c.args.lane 0 made phase zero_is outcome;
             alone = free_after _ c.self.inside.outs _ _ _ _ 0 id c.self.invariant.outs_are (ap (slice_get c.self.inside.outs) (sym zero_is) ∙ own) (omega arith);
             stands = work.stands;
@@ -724,8 +614,8 @@ returns-in-Dump-clause-gates c =
             sound = sound_image _ h.running h.hands.0.image c.sound.ensures.image h.was h.hands.0.was;
             opens = h.hands.0.hands;
           }) (ap (slice_get asked) (sym zero_is) ∙ at) b_inside);
-      free = subst (IsFree c.put_out.new.outs) on_it (λ worker other out. free_after _ c.self.inside.outs _ _ _ _ 0 id c.self.invariant.outs_are (ap (slice_get c.self.inside.outs) (sym zero_is) ∙ own) (omega arith) worker other
-          (ap (λ outs. slice_get outs worker) (sym (c.put_out.ensures ∙ ap (λ k. slice_set c.self.inside.outs k None) zero_is)) ∙ out));
+      free = subst (IsFree c.follow_outcome-closed.new.outs) on_it (λ worker other out. free_after _ c.self.inside.outs _ _ _ _ 0 id c.self.invariant.outs_are (ap (slice_get c.self.inside.outs) (sym zero_is) ∙ own) (omega arith) worker other
+          (ap (λ outs. slice_get outs worker) (sym (c.follow_outcome-closed.ensures.outs ∙ ap (λ k. slice_set c.self.inside.outs k None) zero_is)) ∙ out));
     }
 
 pub returns-in-More-clause-gates : goal.returns-in-More-clause-gates
