@@ -12,7 +12,7 @@ use sd_disk::{DirDisk, Disk};
 use sd_exit::{Output, Stop, exit};
 use sd_run::{Watch, merge_to};
 use sd_script::Script;
-use sd_stats::{Gated, Metered};
+use sd_stats::{Gated, Metered, Metering};
 use std::alloc::Global;
 use std::io;
 use std::io::{Input, Write};
@@ -142,7 +142,8 @@ fn run_asked<D: Disk, W: Write, S: Watch>(
         course.script(),
         course.few(),
     );
-    (gated.into_inner(), status)
+    let (_, disk) = gated.into_parts();
+    (disk, status)
 }
 
 /// Merges the newest chain of a store, and sees its gates.
@@ -155,7 +156,8 @@ fn merge_gated<D: Disk, W: Write, S: Watch>(
 ) -> (D, u8) {
     let gated = Gated::new(course.gates(), disk);
     let (gated, status) = merge_to(alloc, gated, out, watch);
-    (gated.into_inner(), status)
+    let (_, disk) = gated.into_parts();
+    (disk, status)
 }
 
 /// Does a job over a store that a meter sees, and tells what its images, checkpoints and merges took.
@@ -174,11 +176,11 @@ fn run_counted<J: Job + Drop, W: Write, S: Watch + Drop>(
         Err(stop) => return (disk, exit(&Err(stop), out)),
     };
     let mut counting = Counting::new(rt, seen.log, &meter, counts, watch);
-    let metered = Metered::new(rt, &meter, seen.disk("opening", disk));
+    let metered = Metered::new(Metering::new(rt, &meter), seen.disk("opening", disk));
     let (metered, status) = job.run(rt, metered, out, &mut counting);
     let counted = counting.finish();
-    let disk = unseen(metered.into_inner());
-    (disk, told_counts(rt, causes, status, counted))
+    let (_, disk) = metered.into_parts();
+    (unseen(disk), told_counts(rt, causes, status, counted))
 }
 
 /// Does a job over a store, and returns the store with the exit status. Where counts are asked for, what its images,

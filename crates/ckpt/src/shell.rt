@@ -63,9 +63,13 @@ pub fn run_shell<D: Disk, I: BufRead + Drop, W: Write, S: Watch>(
     match World::open(asked.rt.alloc(), gated, FRAMES) {
         Ok(mut world) => {
             let ended = answer_all(asked, &mut world, input, out, watch);
-            (world.close().into_inner(), ended)
+            let (_, disk) = world.close().into_parts();
+            (disk, ended)
         }
-        Err(OpenError { fault, disk }) => (disk.into_inner(), Err(unopened(fault))),
+        Err(OpenError { fault, disk }) => {
+            let (_, disk) = disk.into_parts();
+            (disk, Err(unopened(fault)))
+        }
     }
 }
 

@@ -2,7 +2,7 @@
 
 use crate::progress::{CLEAR, Done, Pace};
 use crate::verbose::is_open;
-use sd_disk::{DeviceError, Disk};
+use sd_disk::{Disk, FileCall, Observed, Observer};
 use sd_image::HEADER_SIZE;
 use std::io;
 use std::io::Write;
@@ -10,7 +10,7 @@ use std::time::Duration;
 
 /// The line of a reading.
 #[derive(Drop)]
-struct ReadingLine<'a> {
+pub struct ReadingLine<'a> {
     rt: &'a HostRuntime,
     /// What is done with the store.
     does: &'static str,
@@ -102,11 +102,7 @@ impl<'a> ReadingLine<'a> {
 }
 
 /// A disk whose first reading is shown: of each image, what stands behind its header.
-#[derive(Drop)]
-pub struct Shown<'a, D> {
-    line: ReadingLine<'a>,
-    disk: D,
-}
+pub type Shown<'a, D> = Observed<ReadingLine<'a>, D>;
 
 /// What the file of an open slot has behind the header of an image, in bytes. A closed one isn't read.
 fn body_len<D: Disk>(disk: &mut D, slot: usize) -> u64 {
@@ -121,77 +117,35 @@ fn body_len<D: Disk>(disk: &mut D, slot: usize) -> u64 {
     }
 }
 
-impl<'a, D: Disk> Shown<'a, D> {
-    /// A disk whose reading is shown where it is on.
-    pub fn new(rt: &'a HostRuntime, does: &'static str, is_on: bool, disk: D) -> Self {
-        let mut line = ReadingLine::new(rt, does);
-        let mut disk = disk;
-        if is_on {
-            line.measure(&mut disk);
-        }
-        Shown { line, disk }
+/// A disk whose reading is shown where it is on.
+pub fn shown<'a, D: Disk>(
+    rt: &'a HostRuntime,
+    does: &'static str,
+    is_on: bool,
+    disk: D,
+) -> Shown<'a, D> {
+    let mut line = ReadingLine::new(rt, does);
+    let mut disk = disk;
+    if is_on {
+        line.measure(&mut disk);
     }
-
-    /// The disk within. The line is cleared.
-    pub fn into_inner(self) -> D {
-        let mut line = self.line;
-        line.clear();
-        self.disk
-    }
+    Observed::new(line, disk)
 }
 
-impl<D: Disk> Disk for Shown<'_, D> {
-    ghost contents = { λ shown. D.contents shown.disk };
+/// The disk within. The line is cleared.
+pub fn unshown<D: Disk>(shown: Shown<'_, D>) -> D {
+    let (mut line, disk) = shown.into_parts();
+    line.clear();
+    disk
+}
 
-    ghost may_leave = { λ shown. D.may_leave shown.disk };
-
-    ghost moment = { λ shown. D.moment shown.disk };
-
-    ghost left_since = { λ shown. D.left_since shown.disk };
-
-    ghost failed = { λ shown. D.failed shown.disk };
-
-    ghost calls = { λ shown. D.calls shown.disk };
-
-    ghost is_honest = { λ shown. D.is_honest shown.disk };
-
-    ghost as_read = { λ shown. D.as_read shown.disk };
-
-    ghost same_slots = { λ shown. D.same_slots shown.disk };
-
-    ghost counts_now = { λ shown. D.counts_now shown.disk };
-
-    ghost only_now = { λ shown. D.only_now shown.disk };
-
-    fn slots(&self) -> usize {
-        self.disk.slots()
-    }
-
-    fn failures(&self) -> u64 {
-        self.disk.failures()
-    }
-
-    fn len(&mut self, slot: usize) -> Result<usize, DeviceError> {
-        self.disk.len(slot)
-    }
-
-    fn read(&mut self, slot: usize, at: usize, buffer: &mut [u8]) -> Result<(), DeviceError> {
-        let answer = self.disk.read(slot, at, buffer);
-        if self.line.is_on && at >= HEADER_SIZE {
-            self.line.count(slot, buffer.len());
+impl Observer for ReadingLine<'_> {
+    fn made(&mut self, slot: usize, call: FileCall<'_>, _is_done: bool) {
+        let FileCall::Read { at, bytes } = call else {
+            return;
+        };
+        if self.is_on && at >= HEADER_SIZE {
+            self.count(slot, bytes.len());
         }
-        answer
-    }
-
-    fn write_at(&mut self, slot: usize, at: usize, bytes: &[u8]) -> Result<(), DeviceError> {
-        self.disk.write_at(slot, at, bytes)
-    }
-
-    fn cut(&mut self, slot: usize, len: usize) -> Result<(), DeviceError> {
-        self.disk.cut(slot, len)
-    }
-
-    fn sync(&mut self, slot: usize) -> Result<(), DeviceError> {
-        self.disk.sync(slot)
     }
 }

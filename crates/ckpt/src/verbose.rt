@@ -1,12 +1,12 @@
 //! `--verbose`: what is logged on the standard error.
 
 use crate::cause::Causes;
-use crate::logging::Logging;
-use crate::shown::Shown;
+use crate::logging::{CallLogger, Logging};
+use crate::shown::{Shown, shown, unshown};
 use clap::ArgMatches;
 use log::sink::Console;
 use log::{LevelFilter, Logged, info};
-use sd_disk::{DirDisk, Disk};
+use sd_disk::{DirDisk, Disk, Observed};
 use sd_gate::Worker;
 use sd_image::GATE;
 use sd_stats::Record;
@@ -86,13 +86,15 @@ impl<'a> Seen<'a> {
                 log_slot(self.log, &mut disk, slot);
             }
         }
-        Logging::new(self.log, Shown::new(self.rt, does, self.shows, disk))
+        let shown = shown(self.rt, does, self.shows, disk);
+        Observed::new(CallLogger { log: self.log }, shown)
     }
 }
 
 /// The disk of a folder within.
 pub fn unseen(disk: SeenDisk<'_>) -> DirDisk {
-    disk.into_inner().into_inner()
+    let (_, shown) = disk.into_parts();
+    unshown(shown)
 }
 
 /// The name of a worker.

@@ -4,7 +4,6 @@ use Rattle.std.proofs.lemmas.Grind.{common_steps}
 use Rattle.std.proofs.lemmas.List.{get_or-set_same, get_or-set_other, get_or-take, length-take}
 use Rattle.std.proofs.lemmas.List.FromFn.{get_or-map-range_with_len}
 use Rattle.std.proofs.lemmas.List.FromFn.{length-map-range_with_len}
-use Rattle.std.proofs.lemmas.Grind.{same_number_lists}
 use Rattle.sd_disk.specs.Contents.{file_at, file_after_write, Torn, Cut, AtSlot}
 use Rattle.sd_disk.specs.Events.{mixed, torn_write, torn_cut}
 
@@ -77,22 +76,3 @@ torn_by_cut n file left =
       no_longer = omega (arith, size);
       below = λ i old near. mixed_kept _ _ file left i (omega arith) (grind arith);
     }
-
--- what a failed write may leave, it leaves where that is what was left: no outcome is missed
-pub torn_reached : (at n : ℕ) (file left : List ℕ) → Torn at n file left → torn_write at n file left ≡ left
-torn_reached at n file left torn =
-    let count = max (length file) (min (length left) (at + n)) in
-    let kept : ℕ → Bool = λ i. nat_lt i (length file) && (nat_lt i at || not (nat_lt i (at + n))) in
-    let size : count ≡ length left = omega (arith, torn.no_shorter, torn.no_longer) in
-    same_number_lists (torn_write at n file left) left (length_mixed count kept file left ∙ size) (λ i within.
-    let near : i < count = subst (λ m. i < m) (length_mixed count kept file left) within in
-    mixed_at count kept file left i near ∙ grind (arith, torn.below i, torn.above i))
-
-pub cut_reached : (n : ℕ) (file left : List ℕ) → Cut n file left → torn_cut n file left ≡ left
-cut_reached n file left cut =
-    let count = max (min (length file) n) (min (length file) (length left)) in
-    let kept : ℕ → Bool = λ i. nat_lt i n in
-    let size : count ≡ length left = omega (arith, cut.no_shorter, cut.no_longer) in
-    same_number_lists (torn_cut n file left) left (length_mixed count kept file left ∙ size) (λ i within.
-    let near : i < count = subst (λ m. i < m) (length_mixed count kept file left) within in
-    mixed_at count kept file left i near ∙ grind (arith, cut.below i))

@@ -7,8 +7,8 @@ use Rattle.sd_disk.specs.Contents.{file_at}
 use Rattle.sd_disk.specs.Crash.{Only}
 use Rattle.sd_disk.specs.Events.{Outside, DiskEvent, files_after_call, files_after, failures_in}
 use Rattle.sd_disk.specs.Outcomes.{Leaves, MayLeave, AreSettled, at_rest, with_write, with_cut, unsynced_after, was_synced}
-use Rattle.sd_disk.specs.Slots.{held, ShadowTracks, AreTracked, AreAtRest}
-use Rattle.sd_disk.specs.declared.call.Call.TheVariants.{Written, Cut as Cuts, Synced, Failed}
+use Rattle.sd_disk.specs.Slots.{held, ShadowTracks, AreTracked}
+use Rattle.sd_disk.specs.declared.call.Call.TheVariants.{Written, Cut as Cuts, Synced}
 use Rattle.sd_disk.specs.declared.slot_file.SlotFile.{SlotFile}
 use Rattle.sd_disk.proofs.LeaveLemmas.{rest_only}
 use Rattle.sd_disk.proofs.MemoryLemmas.{file_read}
@@ -53,13 +53,6 @@ replayed_after slots slots' outside outside' events events' event same noted bef
     ap (files_after outside') noted ∙ ap (λ o. files_after o (event ∷ events)) same
     ∙ ap (files_after_call event.0 event.1 (file_at outside.left (failures_in events))) before ∙ changes (file_at outside.left (failures_in events))
 
--- a call failed, and changed nothing
-pub tracked_failed : (slots : List SlotFile) (outside outside' : Outside) (events events' : List DiskEvent) → outside' ≡ outside → events' ≡ (Failed, []) ∷ events
-    → AreTracked slots outside events → AreTracked slots outside' events'
-tracked_failed slots outside outside' events events' same noted before =
-    subst (λ es. AreTracked slots outside' es) (sym noted)
-    (subst (λ o. AreTracked slots o ((Failed, []) ∷ events)) (sym same) (record { synced = before.synced; shadows = before.shadows }))
-
 pub none_settled : (files : List (List ℕ)) (outside outside' : Outside) (events : List DiskEvent) → outside.found ≡ files → outside' ≡ outside → events ≡ []
     → AreSettled files 0 outside' events
 none_settled files outside outside' events found same none =
@@ -96,16 +89,6 @@ settled_only files outside events settled c left =
   where
     any_default : (contents : List (List ℕ)) (number : ℕ) (other : List ℕ) → number < length contents → slice_index_or contents number other ≡ file_at contents number
     any_default contents number other near = get_or_default contents number other [] near
-
-pub settled_tracked : (slots : List SlotFile) (outside : Outside) (events : List DiskEvent) → AreAtRest slots → AreSettled (map held slots) (length slots) outside events
-    → AreTracked slots outside events
-settled_tracked slots outside events rest settled = record {
-  synced = settled.synced;
-  shadows = λ number slot near here.
-      subst (ShadowTracks slot.shadow) (sym (settled.resting number
-      ∙ ap at_rest (file_read slots number slot slot (subst (λ n. number < n) (sym (length-map slots held)) near) here)))
-      (rest number slot near here);
-}
 
 -- a call on a slot
 module _ (slots : List SlotFile) (i : ℕ) (old new : SlotFile) (is_file : i < length (map held slots)) (is : old ≡ slice_index_or slots i old)

@@ -13,21 +13,25 @@ const FILE_SIZE: &str = "Max file size";
 const FILE_TOO_LARGE: i32 = 27;
 
 /// How long a file may be written, in bytes. A write past it would end the process by the signal SIGXFSZ.
-#[derive(Clone, Copy)]
-pub(crate) struct FileLimit {
+#[derive(Clone, Copy, Debug)]
+pub struct FileLimit {
     bytes: u64,
 }
 
 impl FileLimit {
     /// The limit of this process, or none where it is unlimited or the system doesn't tell it.
-    pub(crate) fn of_process(rt: &(impl Files + AllocGlobal)) -> FileLimit {
+    pub fn of_process(rt: &(impl Files + AllocGlobal)) -> FileLimit {
         FileLimit {
             bytes: told_limit(rt).unwrap_or(u64::MAX),
         }
     }
 
     /// Refuses a write that would pass the limit, before it is made.
-    pub(crate) fn allow(self, at: usize, count: usize) -> io::Result<()> {
+    ///
+    /// # Errors
+    ///
+    /// `EFBIG`, where the last of `count` bytes from byte `at` on would be past the limit.
+    pub fn allow(self, at: usize, count: usize) -> io::Result<()> {
         let end = (at as u64).saturating_add(count as u64);
         if end <= self.bytes {
             Ok(())

@@ -4,8 +4,8 @@ ghost use Rattle.sd_elf.specs.declared.file_header.FileHeader.{FileHeader};
 ghost use Rattle.sd_elf.specs.Headers.{BreaksHeader, IsCoreHeader, file_header_in, table_end};
 
 use crate::fault::HeaderFault;
-use crate::fields::{u16_at, u32_at, u64_at};
 use crate::program_header::PROGRAM_HEADER_SIZE;
+use sd_image::{u16_at, u32_at, u64_at};
 
 /// How many bytes a file header has.
 pub const FILE_HEADER_SIZE: usize = 64;

@@ -3,6 +3,7 @@ ghost use Rattle.std.specs.Prelude.{Some};
 
 use crate::header_text::push_zeros;
 use sd_areas::SpaceId;
+use sd_disk::FileLimit;
 use sd_image::SpaceTable;
 use std::fs::File;
 use std::io;
@@ -66,21 +67,27 @@ pub trait CoreFiles {
 #[derive(Debug, Drop)]
 pub struct HoleFile {
     file: File,
+    limit: FileLimit,
     length: u64,
 }
 
 impl HoleFile {
-    /// Takes an empty file.
-    pub fn new(file: File) -> HoleFile {
-        HoleFile { file, length: 0 }
+    /// Takes an empty file, which may be so long.
+    pub fn new(file: File, limit: FileLimit) -> HoleFile {
+        HoleFile {
+            file,
+            limit,
+            length: 0,
+        }
     }
 
     /// Gives the file its length, and waits until it is on the device.
     ///
     /// # Errors
     ///
-    /// Where the system refuses one of both.
+    /// Where the system refuses one of both, or the file would be longer than it may be.
     pub fn finish(self) -> io::Result<()> {
+        self.limit.allow(self.length as usize, 0)?;
         self.file.set_len(self.length)?;
         self.file.sync_all()
     }
@@ -92,6 +99,7 @@ impl CoreOutput for HoleFile {
     ghost contents = { λ _. None };
 
     fn put(&mut self, bytes: &[u8]) -> io::Result<()> {
+        self.limit.allow(self.length as usize, bytes.len())?;
         self.file.write_all_at(bytes, self.length)?;
         self.length = self.length.saturating_add(bytes.len() as u64);
         Ok(())

@@ -2,8 +2,8 @@
 ghost use Rattle.std.specs.Prelude.{◌≡◌, length};
 ghost use Rattle.sd_elf.specs.Headers.{program_header_in};
 
-use crate::fields::{u32_at, u64_at};
 use sd_areas::Prot;
+use sd_image::{u32_at, u64_at};
 
 /// How many bytes a program header has.
 pub const PROGRAM_HEADER_SIZE: usize = 56;

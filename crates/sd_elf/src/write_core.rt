@@ -13,24 +13,15 @@ use crate::header_text::front_of;
 use crate::output::{CoreFiles, CoreOutput};
 use crate::page_writing::put_pages;
 use crate::write_error::WriteError;
-use sd_areas::{AREA_LIMIT, PAGE_SIZE};
+use sd_areas::AREA_LIMIT;
 use sd_disk::Disk;
 use sd_image::SpaceTable;
-use sd_restore::{PlacedMemory, place_newest, scan};
-use std::alloc::{AllocError, Global};
+use sd_restore::{PlacedMemory, page_buffer, place_newest, scan};
+use std::alloc::Global;
 use std::io;
 
 /// How many pages are read at once.
 const BUFFER_PAGES: usize = 16;
-
-/// A buffer for so many pages.
-fn page_buffer(alloc: Global, pages: usize) -> Result<Vec<u8>, AllocError>
-    requires some { 0 < pages }
-    requires few { pages ≤ 1024 }
-    ensures { IfOk result (λ buffer. 4096 ≤ length buffer.items) }
-{
-    vec![in alloc; 0u8; pages * PAGE_SIZE]
-}
 
 /// Writes the core file of a space of a memory whose pages stand in the slots of a store.
 ///

@@ -1,5 +1,5 @@
 -- The small words of the format.
-use Rattle.std.specs.Prelude.{ℕ, List, replicate}
+use Rattle.std.specs.Prelude.{ℕ, List, codes, replicate}
 use Rattle.std.specs.Int.{bytes_low_first}
 use Rattle.sd_image.specs.declared.header.Version.{Version}
 use Rattle.sd_image.specs.declared.header.Version.TheVariants.{One, Two}
@@ -25,6 +25,12 @@ abbrev pub kind_number : Kind → ℕ
 kind_number PreDump = 1
 kind_number Dump = 2
 kind_number Merged = 3
+
+-- the kind of an image as it is printed
+abbrev pub kind_name : Kind → List ℕ
+kind_name PreDump = codes "pre-dump"
+kind_name Dump = codes "dump"
+kind_name Merged = codes "merged"
 
 -- the kind of a run as its table has it
 abbrev pub run_kind_number : RunKind → ℕ

@@ -9,7 +9,7 @@ use std::alloc::AllocError;
 
 /// The number in the two bytes from a place on.
 #[tactic(auto, unfolding(crate::specs::Reading::number_at))]
-pub(crate) fn u16_at(bytes: &[u8], place: usize) -> u16
+pub fn u16_at(bytes: &[u8], place: usize) -> u16
     requires { place + 2 ≤ length bytes.now }
     ensures { result ≡ number_at 2 place bytes.now }
 {
@@ -19,7 +19,7 @@ pub(crate) fn u16_at(bytes: &[u8], place: usize) -> u16
 
 /// The number in the four bytes from a place on.
 #[tactic(auto, unfolding(crate::specs::Reading::number_at))]
-pub(crate) fn u32_at(bytes: &[u8], place: usize) -> u32
+pub fn u32_at(bytes: &[u8], place: usize) -> u32
     requires { place + 4 ≤ length bytes.now }
     ensures { result ≡ number_at 4 place bytes.now }
 {
@@ -29,7 +29,7 @@ pub(crate) fn u32_at(bytes: &[u8], place: usize) -> u32
 
 /// The number in the eight bytes from a place on.
 #[tactic(auto, unfolding(crate::specs::Reading::number_at))]
-pub(crate) fn u64_at(bytes: &[u8], place: usize) -> u64
+pub fn u64_at(bytes: &[u8], place: usize) -> u64
     requires { place + 8 ≤ length bytes.now }
     ensures { result ≡ number_at 8 place bytes.now }
 {

@@ -1,3 +1,7 @@
+//! The header of an image.
+ghost use Rattle.std.specs.Prelude.{◌≡◌};
+ghost use Rattle.sd_image.specs.Words.{kind_name, kind_number, version_number};
+
 /// The version of the format in which an image is written.
 #[derive(Clone, Copy, Debug, PartialEq, Eq, Hash)]
 pub enum Version {
@@ -5,6 +9,18 @@ pub enum Version {
     One,
     /// With a digest of the image.
     Two,
+}
+
+impl Version {
+    /// Its number in a header: 1 or 2.
+    pub fn number(self) -> u16
+        ensures { result ≡ version_number self }
+    {
+        match self {
+            Version::One => 1,
+            Version::Two => 2,
+        }
+    }
 }
 
 /// What an image is for.
@@ -16,6 +32,30 @@ pub enum Kind {
     Dump,
     /// A whole image made of a chain of others.
     Merged,
+}
+
+impl Kind {
+    /// Its number in a header: 1 for a pre-dump, 2 for a dump, 3 for a merged image.
+    pub fn number(self) -> u16
+        ensures { result ≡ kind_number self }
+    {
+        match self {
+            Kind::PreDump => 1,
+            Kind::Dump => 2,
+            Kind::Merged => 3,
+        }
+    }
+
+    /// Its name, as it is printed.
+    pub fn name(self) -> &'static str
+        ensures { result.now ≡ kind_name self }
+    {
+        match self {
+            Kind::PreDump => "pre-dump",
+            Kind::Dump => "dump",
+            Kind::Merged => "merged",
+        }
+    }
 }
 
 /// The first 4,096 bytes of an open image.

@@ -4,7 +4,6 @@ ghost use Rattle.std.specs.Prelude.{◌≡◌, ℕ, ◌<◌, ◌≤◌, ◌+◌,
 ghost use Rattle.std.specs.Prelude.{Ok};
 ghost use Rattle.sd_image.specs.declared.header.Header.{Header};
 ghost use Rattle.sd_image.specs.Header.{header_text, IsHeader};
-ghost use Rattle.sd_image.specs.Words.{kind_number, version_number};
 ghost use Rattle.sd_image.specs.Reading.{Reads, form_in, has_no_digest, kind_of_number, version_of, fields_of};
 ghost use Rattle.sd_image.specs.Reading.{fields_kept};
 ghost use Rattle.sd_image.specs.Reading.{stands_rightly, parent_rightly, header_in};
@@ -16,16 +15,6 @@ use crate::reason::Reason;
 
 const MAGIC: &[u8; 7] = b"SDCHAIN";
 
-/// The number by which a header names its version.
-fn number_of_version(version: Version) -> u16
-    ensures { result ≡ version_number version }
-{
-    match version {
-        Version::One => 1,
-        Version::Two => 2,
-    }
-}
-
 /// The version with this number, or none.
 fn version_with(number: u16) -> Option<Version>
     ensures { MatchOption result (number < 1 ⊎ 2 < number)
@@ -35,17 +24,6 @@ fn version_with(number: u16) -> Option<Version>
         1 => Some(Version::One),
         2 => Some(Version::Two),
         _ => None,
-    }
-}
-
-/// The number by which a header names the kind.
-fn number_of(kind: Kind) -> u16
-    ensures { result ≡ kind_number kind }
-{
-    match kind {
-        Kind::PreDump => 1,
-        Kind::Dump => 2,
-        Kind::Merged => 3,
     }
 }
 
@@ -89,12 +67,8 @@ pub fn encode_header(header: &Header) -> [u8; 4095]
 {
     let mut text = [0; 4095];
     put(&mut text, 0, MAGIC);
-    put(
-        &mut text,
-        7,
-        &number_of_version(header.version).to_le_bytes(),
-    );
-    put(&mut text, 9, &number_of(header.kind).to_le_bytes());
+    put(&mut text, 7, &header.version.number().to_le_bytes());
+    put(&mut text, 9, &header.kind.number().to_le_bytes());
     put(&mut text, 15, &header.serial.to_le_bytes());
     put(&mut text, 23, &header.stands_for.to_le_bytes());
     put(&mut text, 31, &header.parent.to_le_bytes());

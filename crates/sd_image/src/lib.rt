@@ -20,6 +20,7 @@ mod table_writing;
 mod totals;
 
 pub use digester::Digester;
+pub use fields::{u16_at, u32_at, u64_at};
 pub use header::{Header, Kind, Version};
 pub use header_codec::{decode_header, encode_header};
 pub use laws::{

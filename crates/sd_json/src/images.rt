@@ -3,34 +3,17 @@ ghost use Rattle.sd_disk.specs.Reads.{OnlyReads};
 
 use sd_chain::{Catalog, OpenImage};
 use sd_disk::Disk;
-use sd_image::{Header, Kind, Version};
+use sd_image::Header;
 use sd_restore::{Fault, scan};
 use serde_json::{Value, json};
 use std::alloc::{AllocError, Global};
-
-/// The number of a version in a header.
-fn version_number(version: Version) -> u16 {
-    match version {
-        Version::One => 1,
-        Version::Two => 2,
-    }
-}
-
-/// The number of a kind in a header.
-fn kind_number(kind: Kind) -> u16 {
-    match kind {
-        Kind::PreDump => 1,
-        Kind::Dump => 2,
-        Kind::Merged => 3,
-    }
-}
 
 /// The fields of a header.
 fn header_json(alloc: Global, header: &Header) -> Result<Value, AllocError> {
     let digest = hex::encode(alloc, &header.digest)?;
     json!(in alloc; {
-        "version": version_number(header.version),
-        "kind": kind_number(header.kind),
+        "version": header.version.number(),
+        "kind": header.kind.number(),
         "serial": header.serial,
         "stands_for": header.stands_for,
         "parent": header.parent,

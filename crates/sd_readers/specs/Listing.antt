@@ -2,19 +2,13 @@
 use Rattle.std.specs.Prelude.{◌≡◌, ◌⊎◌, ℕ, ◌-◌, List, [], ◌∷◌, ◌++◌, length, replicate, codes, All}
 use Rattle.std.specs.List.{flat_map}
 use Rattle.std.specs.Fmt.{decimal}
-use Rattle.sd_image.specs.declared.header.Kind.{Kind}
-use Rattle.sd_image.specs.declared.header.Kind.TheVariants.{PreDump, Dump, Merged}
+use Rattle.sd_image.specs.Words.{kind_name}
 use Rattle.sd_exit.specs.Texts.{slot_text}
 use Rattle.sd_chain.specs.Catalog.{Opened, Places, IsDumpOrMerged, IsTip, images}
 
-abbrev pub kind_text : Kind → List ℕ
-kind_text PreDump = codes "pre-dump"
-kind_text Dump = codes "dump"
-kind_text Merged = codes "merged"
-
 -- the line of an image: its slot, its kind and its numbers
 abbrev pub image_line : Opened → List ℕ
-image_line i = codes "slot " ++ slot_text i.slot ++ codes " " ++ kind_text i.header.kind ++ codes " serial " ++ decimal
+image_line i = codes "slot " ++ slot_text i.slot ++ codes " " ++ kind_name i.header.kind ++ codes " serial " ++ decimal
     i.header.serial
     ++ codes " stands " ++ decimal i.header.stands_for ++ codes " parent " ++ decimal i.header.parent
     ++ codes " checkpoint " ++ decimal i.header.checkpoint ++ codes " pages " ++ decimal i.header.pages ++ 10 ∷ []

@@ -1,10 +1,9 @@
 //! The images of a store as text.
 ghost use Rattle.std.specs.Prelude.{◌≡◌, ◌++◌, codes, IfOk, OnOk};
 ghost use Rattle.sd_exit.specs.Texts.{slot_text};
-ghost use Rattle.sd_readers.specs.Listing.{IsListing, image_line, kind_text};
+ghost use Rattle.sd_readers.specs.Listing.{IsListing, image_line};
 
 use sd_chain::{Catalog, OpenImage};
-use sd_image::Kind;
 use std::alloc::{AllocError, Global};
 use std::fmt::Write;
 
@@ -42,21 +41,11 @@ fn push_image(text: &mut String, image: &OpenImage) -> Result<(), AllocError>
     writeln!(
         text,
         " {} serial {} stands {} parent {} checkpoint {} pages {}",
-        kind_name(header.kind),
+        header.kind.name(),
         header.serial,
         header.stands_for,
         header.parent,
         header.checkpoint,
         header.pages,
     )
-}
-
-fn kind_name(kind: Kind) -> &'static str
-    ensures { result.now ≡ kind_text kind }
-{
-    match kind {
-        Kind::PreDump => "pre-dump",
-        Kind::Dump => "dump",
-        Kind::Merged => "merged",
-    }
 }

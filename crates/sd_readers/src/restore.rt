@@ -28,8 +28,8 @@ use sd_disk::Disk;
 use sd_exit::{Output, Stop, exit};
 use sd_image::{SpaceTable, shown_once};
 use sd_procfs::areas_text;
-use sd_restore::{PlacedMemory, PlacedRun, place_newest, read_placed_pages, scan};
-use std::alloc::{AllocError, Global};
+use sd_restore::{PlacedMemory, PlacedRun, page_buffer, place_newest, read_placed_pages, scan};
+use std::alloc::Global;
 use std::io;
 use std::io::Write;
 
@@ -119,15 +119,6 @@ fn print_placed<D: Disk, W: Write>(
         print_space(alloc, disk, space, &placed.runs, &mut buffer, out)?;
     }
     Ok(())
-}
-
-/// A buffer for so many pages.
-fn page_buffer(alloc: Global, pages: usize) -> Result<Vec<u8>, AllocError>
-    requires some { 0 < pages }
-    requires few { pages ≤ 1024 }
-    ensures { IfOk result (λ buffer. 4096 ≤ length buffer.items) }
-{
-    vec![in alloc; 0u8; pages * PAGE_SIZE]
 }
 
 /// Prints a space: its number, its areas, and its pages, of those of all spaces.

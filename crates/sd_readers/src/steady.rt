@@ -14,7 +14,7 @@ ghost use Rattle.sd_readers.specs.Reading.{ReadsStore};
 use crate::list::print_list;
 use crate::restore::print_restored;
 use crate::verify::print_report;
-use sd_disk::{DeviceError, Disk};
+use sd_disk::{DeviceError, Disk, file_len, read_file};
 use sd_exit::{Output, Stop};
 use sd_image::{GATE, HEADER_SIZE};
 use sd_restore::Fault;
@@ -56,28 +56,6 @@ fn print_by<D: Disk, W: Write>(
     }
 }
 
-/// The length of a slot's file, in bytes.
-fn file_len<D: Disk>(disk: &mut D, slot: usize) -> Result<usize, DeviceError>
-    requires { slot < length (D.contents disk.old) }
-    ensures length { D.is_honest disk.new
-        → IfOk result (λ n. n ≡ length (file_at (D.contents disk.old) slot)) }
-    ensures reads { OnlyReads D.Disk disk.old disk.new }
-    ensures cause { HasCause (D.failed disk.old) (D.failed disk.new) result }
-{
-    disk.len(slot)
-}
-
-/// Fills the buffer from the start of a slot's file.
-fn read_start<D: Disk>(disk: &mut D, slot: usize, buffer: &mut [u8]) -> Result<(), DeviceError>
-    requires { slot < length (D.contents disk.old) }
-    ensures bytes { D.is_honest disk.new → OnOk result (buffer.new
-        ≡ slice_range (file_at (D.contents disk.old) slot) 0 (length buffer.old)) }
-    ensures reads { OnlyReads D.Disk disk.old disk.new }
-    ensures cause { HasCause (D.failed disk.old) (D.failed disk.new) result }
-{
-    disk.read(slot, 0, buffer)
-}
-
 /// The front of a slot's file.
 fn front_of<D: Disk>(disk: &mut D, slot: usize) -> Result<Front, DeviceError>
     requires { slot < length (D.contents disk.old) }
@@ -90,7 +68,7 @@ fn front_of<D: Disk>(disk: &mut D, slot: usize) -> Result<Front, DeviceError>
         return Ok(None);
     }
     let mut bytes = [0; FRONT];
-    read_start(disk, slot, &mut bytes)?;
+    read_file(disk, slot, 0, &mut bytes)?;
     Ok(if bytes[0] == GATE { Some(bytes) } else { None })
 }
 

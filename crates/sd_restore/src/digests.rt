@@ -11,10 +11,9 @@ ghost use Rattle.sd_restore.specs.Calls.{pages_digested};
 ghost use Rattle.sd_restore.specs.Faulty.{FaultNames, IsFaulty};
 ghost use Rattle.sd_restore.specs.Reading.{HasDigestOf, HasHeader, table_bytes};
 
-use crate::device::read_file;
 use crate::fault::Fault;
 use sd_areas::PAGE_SIZE;
-use sd_disk::{DeviceError, Disk};
+use sd_disk::{DeviceError, Disk, read_file};
 use sd_image::{Digester, HEADER_SIZE, Header, Reason, Version, good_header_has_no_reason};
 use std::alloc::Global;
 

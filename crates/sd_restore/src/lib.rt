@@ -3,7 +3,6 @@
 
 mod chain;
 mod decoded;
-mod device;
 mod digests;
 mod fault;
 mod laws;
@@ -24,7 +23,7 @@ pub use laws::{
     store_is_rightly_digested,
 };
 pub use placed_run::PlacedRun;
-pub use placing::{PlacedMemory, place_newest, read_placed, read_placed_pages};
+pub use placing::{PlacedMemory, page_buffer, place_newest, read_placed, read_placed_pages};
 pub use report::Report;
 pub use restoring::{restore, restore_from};
 pub use scanned::Scanned;

@@ -7,12 +7,11 @@ ghost use Rattle.sd_chain.specs.Store.{bytes_at};
 ghost use Rattle.sd_restore.specs.Faulty.{FaultNames};
 ghost use Rattle.sd_restore.specs.Placed.{IsInSlots, IsWithin, pages_in, placed_pages, with_spaces, with_pages};
 
-use crate::device::read_file;
 use crate::fault::Fault;
 use crate::placed_run::PlacedRun;
 use sd_areas::{PAGE_SIZE, PageNo, Snapshot};
 use sd_chain::{Found, OpenImage};
-use sd_disk::Disk;
+use sd_disk::{Disk, read_file};
 use std::alloc::{AllocError, Global};
 
 /// The living spaces of an image, without pages.

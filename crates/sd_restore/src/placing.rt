@@ -14,14 +14,13 @@ ghost use Rattle.sd_restore.specs.Faulty.{FaultNames, IsBrokenChain};
 ghost use Rattle.sd_restore.specs.Placed.{IsInSlots, IsLaidOut, IsWithin, placed_memory, placed_pages};
 
 use crate::chain::place_pages;
-use crate::device::read_file;
 use crate::fault::Fault;
 use crate::placed_run::PlacedRun;
 use sd_areas::{PAGE_SIZE, areas_law, one_list_law};
 use sd_chain::{Catalog, Found};
-use sd_disk::Disk;
+use sd_disk::{Disk, read_file};
 use sd_image::{SpaceTable, tip_once};
-use std::alloc::Global;
+use std::alloc::{AllocError, Global};
 
 /// A memory whose pages stand in the slots of a store.
 #[derive(Drop)]
@@ -131,4 +130,17 @@ pub fn read_placed_pages<D: Disk>(disk: &mut D, there: Found, bytes: &mut [u8]) 
         Found::Zero => bytes.fill(0),
     }
     Ok(())
+}
+
+/// A buffer for so many pages, of zeros.
+///
+/// # Errors
+///
+/// Out of memory.
+pub fn page_buffer(alloc: Global, pages: usize) -> Result<Vec<u8>, AllocError>
+    requires some { 0 < pages }
+    requires few { pages ≤ 1024 }
+    ensures { IfOk result (λ buffer. 4096 ≤ length buffer.items) }
+{
+    vec![in alloc; 0u8; pages * PAGE_SIZE]
 }

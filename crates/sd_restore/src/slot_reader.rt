@@ -12,11 +12,10 @@ ghost use Rattle.sd_restore.specs.Reading.{IsReading, IsSoundTable, table_bytes}
 ghost use Rattle.sd_restore.specs.Wants.{WantsMemory};
 
 use crate::decoded::{Decoded, decode_slot};
-use crate::device::{file_len, read_file};
 use crate::digests::check_digest;
 use crate::fault::Fault;
 use sd_areas::PAGE_SIZE;
-use sd_disk::{DeviceError, Disk};
+use sd_disk::{DeviceError, Disk, file_len, read_file};
 use sd_image::{GATE, HEADER_SIZE, Header, decode_header};
 use std::alloc::Global;
 

@@ -4,8 +4,8 @@ ghost use Rattle.std.specs.Prelude.{◌≡◌, ◌+◌, ◌-◌, ◌^◌, min};
 ghost use Rattle.sd_show.specs.Counts.{run_page_count, runs_pages, spaces_pages, table_pages};
 ghost use Rattle.sd_show.specs.Items.{spaces_in};
 
-use crate::fields::{u32_at, u64_at};
 use crate::items::{ITEM_SIZE, SPACE_HEAD_SIZE, TABLE_HEAD_SIZE, behind_space, runs_in};
+use sd_image::{u32_at, u64_at};
 
 /// How many pages an image lists: with bytes of its own, in its parent, and of zeros.
 #[derive(Clone, Copy, Debug, PartialEq, Eq)]

@@ -8,10 +8,9 @@ ghost use Rattle.sd_image.specs.Reading.{digest_of_file};
 ghost use Rattle.sha2.specs.Hashers.{Holds256};
 ghost use Rattle.sd_show.specs.declared.stop.Stop.TheVariants as stop;
 
-use crate::device::read_file;
 use crate::stop::Stop;
 use sd_areas::PAGE_SIZE;
-use sd_disk::{DeviceError, Disk};
+use sd_disk::{DeviceError, Disk, read_file};
 use sd_image::HEADER_SIZE;
 use sha2::{Digest, Sha256};
 use std::alloc::Global;

@@ -4,8 +4,7 @@ ghost use Rattle.std.specs.Io.KnownBytes.{Appends};
 ghost use Rattle.sd_show.specs.Texts.{digest_line, digest_word, field_line, form_lines, header_lines, kind_line};
 ghost use Rattle.sd_show.specs.Texts.{kind_word, place_lines, size_lines};
 
-use crate::fields::{u16_at, u64_at};
-use sd_image::HEADER_SIZE;
+use sd_image::{HEADER_SIZE, u16_at, u64_at};
 use std::io;
 use std::io::Write;
 

@@ -3,7 +3,7 @@ ghost use Rattle.std.specs.Prelude.{◌≡◌, ◌+◌, ◌*◌, ◌≤◌, List
 ghost use Rattle.sd_image.specs.Reading.{number_at};
 ghost use Rattle.sd_show.specs.Items.{areas_in, behind, behind_run, behind_space, items_in, runs_in};
 
-use crate::fields::{u32_at, u64_at};
+use sd_image::{u32_at, u64_at};
 
 /// The length of the head of a table, in bytes.
 pub(crate) const TABLE_HEAD_SIZE: usize = 8;

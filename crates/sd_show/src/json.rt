@@ -7,7 +7,6 @@ ghost use Rattle.sd_disk.specs.Reads.{OnlyReads};
 ghost use Rattle.sd_show.specs.Slots.{is_damaged};
 ghost use Rattle.sd_show.specs.declared.stop.Stop.TheVariants as stop;
 
-use crate::fields::{u16_at, u32_at, u64_at};
 use crate::header_text::digest_word;
 use crate::items::{
     ITEM_SIZE, SPACE_HEAD_SIZE, TABLE_HEAD_SIZE, areas_in, behind_run, behind_space, runs_in,
@@ -18,7 +17,7 @@ use crate::seen::{Seen, read_slot};
 use crate::state::state_word;
 use crate::stop::Stop;
 use sd_disk::Disk;
-use sd_image::{HEADER_SIZE, Reason};
+use sd_image::{HEADER_SIZE, Reason, u16_at, u32_at, u64_at};
 use serde_json::{Value, json};
 use std::alloc::{AllocError, Global};
 use std::io::Write;

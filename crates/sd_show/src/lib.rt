@@ -3,9 +3,7 @@
 #![tactic(auto)]
 
 mod counts;
-mod device;
 mod digest;
-mod fields;
 mod header_text;
 mod items;
 mod json;

@@ -7,12 +7,12 @@ ghost use Rattle.sd_image.specs.Reading.{breaks_digest, digest_of_file, file_in,
 ghost use Rattle.sd_show.specs.Slots.{OpenSlotIsRead, or_digest, reason_of, table_at, table_bytes};
 ghost use Rattle.sd_show.specs.declared.stop.Stop.TheVariants as stop;
 
-use crate::device::read_file;
 use crate::digest::digest_of;
-use crate::fields::u64_at;
 use crate::stop::Stop;
-use sd_disk::{DeviceError, Disk};
-use sd_image::{HEADER_SIZE, Header, Reason, TableError, Version, decode_header, decode_table};
+use sd_disk::{DeviceError, Disk, read_file};
+use sd_image::{
+    HEADER_SIZE, Header, Reason, TableError, Version, decode_header, decode_table, u64_at,
+};
 use std::alloc::{AllocError, Global};
 
 /// What was read of an open slot.

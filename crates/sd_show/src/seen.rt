@@ -6,11 +6,10 @@ ghost use Rattle.sd_disk.specs.Reads.{OnlyReads};
 ghost use Rattle.sd_show.specs.Slots.{IsSeen, is_damaged, state_in};
 ghost use Rattle.sd_show.specs.declared.stop.Stop.TheVariants as stop;
 
-use crate::device::{file_len, read_file};
 use crate::opened::{Opened, read_opened};
 use crate::state::{State, state_by};
 use crate::stop::Stop;
-use sd_disk::{DeviceError, Disk};
+use sd_disk::{DeviceError, Disk, file_len, read_file};
 use std::alloc::Global;
 
 /// What was read of a slot.

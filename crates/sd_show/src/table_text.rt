@@ -7,12 +7,11 @@ ghost use Rattle.sd_show.specs.Items.{behind_runs, runs_in, spaces_in};
 ghost use Rattle.sd_show.specs.Texts.{area_item_line, offset_text, permissions_text, range_text, run_kind_text};
 ghost use Rattle.sd_show.specs.Texts.{run_kind_word, run_line, runs_text, space_lines, spaces_text, table_lines};
 
-use crate::fields::{u32_at, u64_at};
 use crate::items::{
     ITEM_SIZE, SPACE_HEAD_SIZE, TABLE_HEAD_SIZE, areas_in, behind_run, behind_space, runs_in,
 };
 use sd_areas::{PAGE_NUMBER_LIMIT, Prot};
-use sd_image::HEADER_SIZE;
+use sd_image::{HEADER_SIZE, u32_at, u64_at};
 use std::io;
 use std::io::Write;
 

@@ -1,6 +1,6 @@
 //! Which slots of a store have an open image, as the calls on its disk show.
 
-use sd_disk::{DeviceError, Disk, FOLDER_SLOTS};
+use sd_disk::{FOLDER_SLOTS, FileCall, Observed, Observer};
 use sd_image::GATE;
 use std::cell::RefCell;
 
@@ -45,84 +45,19 @@ impl Gates {
 }
 
 /// A disk whose gates are seen.
-#[derive(Drop)]
-pub struct Gated<'a, D> {
-    gates: &'a Gates,
-    disk: D,
-}
+pub type Gated<'a, D> = Observed<&'a Gates, D>;
 
-impl<'a, D: Disk> Gated<'a, D> {
-    /// The gates of a disk are seen from now on.
-    pub fn new(gates: &'a Gates, disk: D) -> Self {
-        Gated { gates, disk }
-    }
-
-    /// The disk within.
-    pub fn into_inner(self) -> D {
-        self.disk
-    }
-}
-
-impl<D: Disk> Disk for Gated<'_, D> {
-    ghost contents = { λ gated. D.contents gated.disk };
-
-    ghost may_leave = { λ gated. D.may_leave gated.disk };
-
-    ghost moment = { λ gated. D.moment gated.disk };
-
-    ghost left_since = { λ gated. D.left_since gated.disk };
-
-    ghost failed = { λ gated. D.failed gated.disk };
-
-    ghost calls = { λ gated. D.calls gated.disk };
-
-    ghost is_honest = { λ gated. D.is_honest gated.disk };
-
-    ghost as_read = { λ gated. D.as_read gated.disk };
-
-    ghost same_slots = { λ gated. D.same_slots gated.disk };
-
-    ghost counts_now = { λ gated. D.counts_now gated.disk };
-
-    ghost only_now = { λ gated. D.only_now gated.disk };
-
-    fn slots(&self) -> usize {
-        self.disk.slots()
-    }
-
-    fn failures(&self) -> u64 {
-        self.disk.failures()
-    }
-
-    fn len(&mut self, slot: usize) -> Result<usize, DeviceError> {
-        self.disk.len(slot)
-    }
-
-    fn read(&mut self, slot: usize, at: usize, buffer: &mut [u8]) -> Result<(), DeviceError> {
-        let answer = self.disk.read(slot, at, buffer);
-        if answer.is_ok() {
-            self.gates.note_bytes(slot, at, buffer);
+impl Observer for &Gates {
+    fn made(&mut self, slot: usize, call: FileCall<'_>, is_done: bool) {
+        if !is_done {
+            return;
         }
-        answer
-    }
-
-    fn write_at(&mut self, slot: usize, at: usize, bytes: &[u8]) -> Result<(), DeviceError> {
-        let answer = self.disk.write_at(slot, at, bytes);
-        if answer.is_ok() {
-            self.gates.note_bytes(slot, at, bytes);
+        match call {
+            FileCall::Read { at, bytes } | FileCall::Write { at, bytes } => {
+                self.note_bytes(slot, at, bytes);
+            }
+            FileCall::Cut { len: 0 } => self.note(slot, false),
+            FileCall::Cut { .. } | FileCall::Len | FileCall::Sync => {}
         }
-        answer
-    }
-
-    fn cut(&mut self, slot: usize, len: usize) -> Result<(), DeviceError> {
-        let answer = self.disk.cut(slot, len);
-        if len == 0 && answer.is_ok() {
-            self.gates.note(slot, false);
-        }
-        answer
-    }
-
-    fn sync(&mut self, slot: usize) -> Result<(), DeviceError> {
-        self.disk.sync(slot)
     }
 }

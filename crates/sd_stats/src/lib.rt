@@ -13,6 +13,6 @@ mod table;
 pub use gates::{Gated, Gates};
 pub use lines::print_record;
 pub use meter::Meter;
-pub use metered::Metered;
+pub use metered::{Metered, Metering};
 pub use record::{CheckpointRecord, ImageRecord, MergeRecord, Record};
 pub use table::print_table;

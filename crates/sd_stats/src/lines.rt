@@ -1,27 +1,17 @@
 //! Records as lines of JSON.
 
 use crate::record::{CheckpointRecord, ImageRecord, MergeRecord, Record};
-use sd_image::Kind;
 use serde_json::{Value, json};
 use std::alloc::{AllocError, Global};
 use std::io;
 use std::io::Write;
-
-/// The name of a kind of images.
-pub(crate) fn kind_name(kind: Kind) -> &'static str {
-    match kind {
-        Kind::PreDump => "pre-dump",
-        Kind::Dump => "dump",
-        Kind::Merged => "merged",
-    }
-}
 
 fn image_json(alloc: Global, record: &ImageRecord) -> Result<Value, AllocError> {
     json!(in alloc; {
         "of": "image",
         "serial": record.serial,
         "slot": record.slot,
-        "kind": kind_name(record.kind),
+        "kind": record.kind.name(),
         "checkpoint": record.checkpoint,
         "pages": record.pages.all(),
         "data": record.pages.data,

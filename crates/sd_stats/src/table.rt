@@ -1,6 +1,5 @@
 //! Records as a table for a reader.
 
-use crate::lines::kind_name;
 use crate::record::{CheckpointRecord, ImageRecord, MergeRecord, Record};
 use std::io;
 use std::io::Write;
@@ -15,7 +14,7 @@ fn print_image<W: Write>(record: &ImageRecord, out: &mut W) -> io::Result<()> {
         "{:>8}  {:03} {:<8} {:>6} {:>7} {:>7} {:>7} {:>11} {:>7} {:>9.6}",
         record.serial,
         record.slot,
-        kind_name(record.kind),
+        record.kind.name(),
         record.pages.all(),
         record.pages.data,
         record.pages.zeros,

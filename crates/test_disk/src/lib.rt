@@ -9,6 +9,7 @@ mod crashes;
 mod devices;
 #[cfg(test)]
 mod gates;
+mod looks;
 #[cfg(test)]
 mod picks;
 #[cfg(test)]

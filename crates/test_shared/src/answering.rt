@@ -5,7 +5,7 @@ use crate::beside::await_flag;
 use crate::holds::Free;
 use crate::mutator::{mmap, store};
 use sd_command::{Refusal, Reply};
-use sd_disk::{DeviceError, Disk, MemDisk};
+use sd_disk::{Disk, MemDisk, Observed, Observer};
 use sd_shared::{Seat, Shared};
 use std::alloc::Global;
 use std::mem::forget;
@@ -30,68 +30,20 @@ struct Flags {
     missed: AtomicU64,
 }
 
-/// A disk whose first write of a page waits until a command was answered.
+/// Waits before the first write of a page until a command was answered.
 #[derive(Drop)]
-struct Answering<'a, R, D> {
+struct Answering<'a, R> {
     rt: &'a R,
     flags: &'a Flags,
-    disk: D,
 }
 
-impl<R: Clock, D: Disk> Disk for Answering<'_, R, D> {
-    ghost contents = { λ device. D.contents device.disk };
-
-    ghost may_leave = { λ device. D.may_leave device.disk };
-
-    ghost moment = { λ device. D.moment device.disk };
-
-    ghost left_since = { λ device. D.left_since device.disk };
-
-    ghost failed = { λ device. D.failed device.disk };
-
-    ghost calls = { λ device. D.calls device.disk };
-
-    ghost is_honest = { λ device. D.is_honest device.disk };
-
-    ghost as_read = { λ device. D.as_read device.disk };
-
-    ghost same_slots = { λ device. D.same_slots device.disk };
-
-    ghost counts_now = { λ device. D.counts_now device.disk };
-
-    ghost only_now = { λ device. D.only_now device.disk };
-
-    fn slots(&self) -> usize {
-        self.disk.slots()
-    }
-
-    fn failures(&self) -> u64 {
-        self.disk.failures()
-    }
-
-    fn len(&mut self, slot: usize) -> Result<usize, DeviceError> {
-        self.disk.len(slot)
-    }
-
-    fn read(&mut self, slot: usize, at: usize, buffer: &mut [u8]) -> Result<(), DeviceError> {
-        self.disk.read(slot, at, buffer)
-    }
-
-    fn write_at(&mut self, slot: usize, at: usize, bytes: &[u8]) -> Result<(), DeviceError> {
+impl<R: Clock> Observer for Answering<'_, R> {
+    fn before_write(&mut self, bytes: &[u8]) {
         if bytes.len() == PAGE_BYTES && self.flags.begun.swap(1, Ordering::SeqCst) == 0 {
             if !await_flag(self.rt, &self.flags.answered) {
                 self.flags.missed.store(1, Ordering::SeqCst);
             }
         }
-        self.disk.write_at(slot, at, bytes)
-    }
-
-    fn cut(&mut self, slot: usize, len: usize) -> Result<(), DeviceError> {
-        self.disk.cut(slot, len)
-    }
-
-    fn sync(&mut self, slot: usize) -> Result<(), DeviceError> {
-        self.disk.sync(slot)
     }
 }
 
@@ -139,11 +91,11 @@ fn a_device_call_holds_no_command_up(rt: HostRuntime) -> Result<(), Fail> {
         answered: AtomicU64::new(0),
         missed: AtomicU64::new(0),
     };
-    let disk = Answering {
+    let answering = Answering {
         rt: &rt,
         flags: &flags,
-        disk: MemDisk::new(alloc, 8, ROOM, 10_000)?,
     };
+    let disk = Observed::new(answering, MemDisk::new(alloc, 8, ROOM, 10_000)?);
     let Ok((shared, mut seats)) = Shared::start(alloc, disk, 64, 1) else {
         return Err(Fail::from("not started"));
     };

@@ -3,7 +3,7 @@ use crate::builders::{Unbuilt, page, runs, table};
 use crate::example::{HEADER, LEN, TABLE, example, first_bytes, hello_page};
 use sd_image::{
     Digester, Header, Kind, Reason, Run, RunKind, Table, TableError, Version, decode_header,
-    decode_table, encode_header, encode_table, push_page,
+    decode_table, encode_header, encode_table, push_page, u16_at, u32_at, u64_at,
 };
 use std::alloc::{AllocError, Global};
 use std::test::Fail;
@@ -29,12 +29,24 @@ fn header_in(version: Version, table: &[u8]) -> Header {
 
 const VERSIONS: [Version; 2] = [Version::One, Version::Two];
 
+/// Whether a header names a version, and its kind and its serial are the example's.
+fn names(bytes: &[u8], version: Version) -> bool {
+    bytes.len() >= 24
+        && u16_at(bytes, 8) == version.number()
+        && u16_at(bytes, 10) == HEADER.kind.number()
+        && u64_at(bytes, 16) == HEADER.serial
+        && HEADER.kind.name() == "dump"
+}
+
 /// Whether the example's header is read and written in a version.
 fn is_header(version: Version) -> bool {
     let bytes = first_bytes(version);
     let header = Header { version, ..HEADER };
     let written = encode_header(&header);
-    decode_header(&bytes, LEN) == Ok(header) && written.as_slice() == &bytes[1..4096]
+    decode_header(&bytes, LEN) == Ok(header)
+        && written.as_slice() == &bytes[1..4096]
+        && names(&bytes, version)
+        && u32_at(&TABLE, 0) == 1
 }
 
 fn write_example(written: &mut Vec<u8>, version: Version, table: &[u8]) -> Result<(), AllocError> {

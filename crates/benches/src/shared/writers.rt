@@ -2,7 +2,7 @@
 //! with it.
 use super::beside::{Free, prepare};
 use super::fault::BenchFault;
-use super::slow::Slow;
+use super::slow::{Sleeper, Slow};
 use sd_command::Reply;
 use sd_disk::MemDisk;
 use sd_shared::{Seat, Shared};
@@ -55,7 +55,8 @@ pub(crate) fn write_pages<R: Threads + Wait + Clock + Sync>(
     writers: usize,
 ) -> Result<Duration, BenchFault> {
     let disk = MemDisk::new(alloc, 3, ROOM, 1_000_000)?;
-    let Ok((shared, mut seats)) = Shared::open(alloc, Slow { rt, disk }, 65_536, 1) else {
+    let slow = Slow::new(Sleeper { rt }, disk);
+    let Ok((shared, mut seats)) = Shared::open(alloc, slow, 65_536, 1) else {
         return Err(BenchFault::NotOpened);
     };
     let took = dump(rt, alloc, &shared, &mut seats, writers);

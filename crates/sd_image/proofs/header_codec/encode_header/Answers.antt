@@ -12,8 +12,8 @@ next place field field' text text' now e f t = e ∙ ap (λ (x : List ℕ). put_
 pub returns-clause-text : goal.returns-clause-text
 returns-clause-text c =
     let t1 = c.put.ensures in
-    let t2 = next 7 _ _ _ _ _ c.put-2.ensures (c.to_le_bytes.ensures ∙ ap (to_le_bytes w16) c.number_of_version.ensures) t1 in
-    let t3 = next 9 _ _ _ _ _ c.put-3.ensures (c.to_le_bytes-2.ensures ∙ ap (to_le_bytes w16) c.number_of.ensures) t2 in
+    let t2 = next 7 _ _ _ _ _ c.put-2.ensures (c.to_le_bytes.ensures ∙ ap (to_le_bytes w16) c.number.ensures) t1 in
+    let t3 = next 9 _ _ _ _ _ c.put-3.ensures (c.to_le_bytes-2.ensures ∙ ap (to_le_bytes w16) c.number-2.ensures) t2 in
     let t4 = next 15 _ _ _ _ _ c.put-4.ensures c.to_le_bytes-3.ensures t3 in
     let t5 = next 23 _ _ _ _ _ c.put-5.ensures c.to_le_bytes-4.ensures t4 in
     let t6 = next 31 _ _ _ _ _ c.put-6.ensures c.to_le_bytes-5.ensures t5 in

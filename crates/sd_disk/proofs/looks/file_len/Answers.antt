@@ -1,5 +1,5 @@
 use Rattle.sd_disk.specs.Reads.{one_read}
-use Rattle.sd_readers.proofs.steady.file_len.Goals as goal
+use Rattle.sd_disk.proofs.looks.file_len.Goals as goal
 
 pub returns-clause-reads : goal.returns-clause-reads
 returns-clause-reads g c =

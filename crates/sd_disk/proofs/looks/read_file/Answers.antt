@@ -1,5 +1,5 @@
 use Rattle.sd_disk.specs.Reads.{one_read}
-use Rattle.sd_restore.proofs.device.read_file.Goals as goal
+use Rattle.sd_disk.proofs.looks.read_file.Goals as goal
 
 pub returns-clause-reads : goal.returns-clause-reads
 returns-clause-reads g c =

@@ -1,12 +1,17 @@
-//! The calls of a device that change nothing.
+//! Looking at a slot's file: calls that change nothing.
 ghost use Rattle.std.specs.Prelude.{◌≡◌, ◌+◌, ◌<◌, ◌≤◌, length, IfOk, OnOk, slice_range};
 ghost use Rattle.sd_disk.specs.Contents.{file_at};
 ghost use Rattle.sd_disk.specs.Reads.{OnlyReads};
 ghost use Rattle.sd_disk.specs.Failures.{HasCause};
 
-use sd_disk::{DeviceError, Disk};
+use crate::disk::Disk;
+use crate::error::DeviceError;
 
 /// The length of a slot's file, in bytes.
+///
+/// # Errors
+///
+/// Where the call of the device failed.
 pub fn file_len<D: Disk>(disk: &mut D, slot: usize) -> Result<usize, DeviceError>
     requires { slot < length (D.contents disk.old) }
     ensures length { D.is_honest disk.new
@@ -19,6 +24,10 @@ pub fn file_len<D: Disk>(disk: &mut D, slot: usize) -> Result<usize, DeviceError
 }
 
 /// Fills the buffer from a slot's file, from byte `at` on.
+///
+/// # Errors
+///
+/// Where the call of the device failed.
 pub fn read_file<D: Disk>(
     disk: &mut D,
     slot: usize,
