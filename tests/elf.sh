@@ -128,6 +128,14 @@ export_into_a_file_is_refused() {
   same "the file" "$(cat cores)" file
 }
 
+# A core file that would be longer than the process may write one is refused, and isn't the end of it by a signal.
+export_stops_at_the_limit_of_files() {
+  make_spaces || return 1
+  (ulimit -f 4; ends_with 1 "cannot write OUT" "ckpt: cores: File too large (os error 27)" \
+    "$ckpt" export store cores) || return 1
+  same "what is left" "$(ls -A cores)" ""
+}
+
 # An export whose call of this name fails, as on a full disk.
 export_fails_at() {  # export_fails_at NAME NUMBER WORD..
   local only=$1 number=$2
@@ -403,6 +411,7 @@ try gdb_reads_an_export
 try export_replaces_nothing_without_force
 try export_ends_as_restore_does
 try export_into_a_file_is_refused
+try export_stops_at_the_limit_of_files
 try export_that_cannot_write_leaves_no_file
 try import_that_is_not_printed_saves_nothing
 try import_that_is_not_acknowledged_may_be_saved

@@ -7,7 +7,7 @@ use crate::verbose::{is_watched, logger_for, seen_by, unseen};
 use clap::ArgMatches;
 use sd_areas::SpaceId;
 use sd_command::Refusal;
-use sd_disk::{Disk, lock_folder, make_folders};
+use sd_disk::{Disk, FileLimit, lock_folder, make_folders};
 use sd_elf::{CoreFiles, HoleFile, WriteError, write_shown};
 use sd_exit::{Output, Stop, exit};
 use sd_image::SpaceTable;
@@ -31,6 +31,8 @@ struct Export<'a, R> {
     rt: &'a R,
     alloc: Global,
     folder: &'a str,
+    /// How long a file may be written.
+    limit: FileLimit,
     /// The one space that is asked for.
     wanted: Option<u64>,
     /// Whether the store doesn't show it.
@@ -129,7 +131,7 @@ impl<R: Files<File = File>> CoreFiles for Export<'_, R> {
         }
         let part = part_name(self.alloc, self.folder, space)?;
         self.begun.push(space)?;
-        Ok(Some(HoleFile::new(make_part(self.rt, &part)?)))
+        Ok(Some(HoleFile::new(make_part(self.rt, &part)?, self.limit)))
     }
 
     fn finish(&mut self, _space: SpaceId, file: HoleFile) -> io::Result<()> {
@@ -187,6 +189,7 @@ pub fn export_program<W: Write>(
         rt,
         alloc: rt.alloc(),
         folder,
+        limit: FileLimit::of_process(rt),
         wanted: words.get_one::<u64>("space"),
         lacks: false,
         replaces: words.get_flag("force"),

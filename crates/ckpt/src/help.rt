@@ -5,7 +5,8 @@ pub const LIMITS: &str =
 addresses below 2^47, 1 to 64 bytes a load or store, 64 images a store; a checkpoint
 needs two free slots, and one more a round; a merge needs one. A run's journal has 1,048,576
 entries: one a command, two a checkpoint. Behind that many both are answered refused 7
-journal-full; trim makes room up to the last checkpoint. The cause of a failure is told on standard error.";
+journal-full; trim makes room up to the last checkpoint. The cause of a failure is told on
+standard error.";
 
 pub const RUN_HEAD: &str = "Example:
   ckpt run store examples/first.ckpt
@@ -55,9 +56,9 @@ out-of-memory, cannot open DIR); 2 for a fault of the command line.";
 pub const LIST: &str = "Example:
   ckpt list store
 
-Prints for each open image, rising by serial, slot SSS KIND serial N stands N parent N checkpoint N
-pages N; and then tip N, the serial of the newest dump or merged image, or tip none. Whether the tip can
-be restored isn't checked: verify tells.
+Prints for each open image, rising by serial, slot SSS KIND serial N stands N parent N
+checkpoint N pages N; and then tip N, the serial of the newest dump or merged image, or tip
+none. Whether the tip can be restored isn't checked: verify tells.
 
 Status: 0; 1 where an open slot is no image, or the device, memory or the printing failed
 (damaged SSS WHY, device, out-of-memory, cannot open DIR); 2 for a fault of the command line.";
@@ -118,31 +119,34 @@ pub const EXPORT: &str = "Example:
   ckpt export store cores
   gdb -batch -ex 'x/s 0x10000' -c cores/space-1.core
 
-Writes for each space that the store shows a file OUT/space-N.core: an ELF core file of x86-64 with one
-segment an area, and holes for pages of zeros. It has memory alone: no registers, no threads. A file gets
-its name when all are whole and on the device; one that is there is replaced only with --force.
-A file of an older export whose space the store no longer shows stays, also with --force.
+Writes for each space that the store shows a file OUT/space-N.core: an ELF core file of
+x86-64 with one segment an area, and holes for pages of zeros. It has memory alone: no
+registers, no threads. A file gets its name when all are whole and on the device; one that
+is there is replaced only with --force. A file of an older export whose space the store no
+longer shows stays, also with --force.
 
-Status: 0 where the files were written; 3 where the store shows no checkpoint (empty chain); 1 where
-the store, its device, memory or the files failed (damaged SSS WHY, device, out-of-memory, cannot open
-DIR, cannot write OUT), or the store doesn't show space N (refused 3 no-such-space); 2 for a fault of the
-command line.";
+Status: 0 where the files were written; 3 where the store shows no checkpoint (empty chain);
+1 where the store, its device, memory or the files failed (damaged SSS WHY, device,
+out-of-memory, cannot open DIR, cannot write OUT), or the store doesn't show space N
+(refused 3 no-such-space); 2 for a fault of the command line.";
 
 pub const IMPORT: &str = "Example:
   gcore -o core 4711
   ckpt import store core.4711
 
-Compares the segments of CORE with what the store shows, maps, unmaps, protects and stores what differs,
-prints imported PAGES changed PAGES, makes a checkpoint, and prints acked N. The other spaces stay as
-they are. A space that isn't alive is made where it has the least number that is free. Segments of the
-kernel's addresses are left out; what a segment doesn't have in the file is zeros. Each piece of up to 64
-bytes that differs is one command, so a core of which more than some 64 MiB differ can't be imported at
-once (refused 7 journal-full).
+Compares the segments of CORE with what the store shows, maps, unmaps, protects and stores
+what differs, prints imported PAGES changed PAGES, makes a checkpoint, and prints acked N.
+The other spaces stay as they are. A space that isn't alive is made where it has the least
+number that is free. Segments of the kernel's addresses are left out; what a segment doesn't
+have in the file is zeros. Each piece of up to 64 bytes that differs is one command, so a
+core of which more than some 64 MiB differ can't be imported at once (refused 7
+journal-full).
 
-Status: 0 where the checkpoint was acknowledged; 1 where CORE isn't read (not a core, core too large,
-cannot read CORE), another program changed it meanwhile (core changed), a request was refused (refused
-N NAME), or the store, its device, memory or the printing failed (damaged SSS WHY, device,
-out-of-memory, cannot open DIR); 2 for a fault of the command line. With status 1 nothing is saved, but
-where the device failed at the checkpoint's last step or acked N wasn't printed: verify tells then.
+Status: 0 where the checkpoint was acknowledged; 1 where CORE isn't read (not a core, core
+too large, cannot read CORE), another program changed it meanwhile (core changed), a request
+was refused (refused N NAME), or the store, its device, memory or the printing failed
+(damaged SSS WHY, device, out-of-memory, cannot open DIR); 2 for a fault of the command
+line. With status 1 nothing is saved, but where the device failed at the checkpoint's last
+step or acked N wasn't printed: verify tells then.
 
 Only one of run, shell, merge, mutate and import can have a store open at a time.";
