@@ -1,5 +1,5 @@
 -- Maps of the code, seen entry by entry.
-use Rattle.std.proofs.Common.{◌≡◌, ℕ, Bool, true, false, ◌&&◌, List, [], ◌∷◌, map, sym, ◌∙◌, ap, subst}
+use Rattle.std.proofs.Common.{◌≡◌, ℕ, Bool, true, false, ◌&&◌, List, [], ◌∷◌, sym, ◌∙◌, ap, subst}
 use Rattle.std.proofs.lemmas.Map.Keys.{sorted_head, sorted_tail}
 use Rattle.std.proofs.lemmas.Map.Made.{keys_of-map_values}
 use Rattle.std.specs.Cmp.{nat_cmp_total}
@@ -12,14 +12,7 @@ use Rattle.std.specs.Map.{keys_of}
 use Rattle.std.specs.Ordering.{nat_cmp, is_lt}
 use Rattle.std.specs.Prelude.{T}
 use Rattle.std.specs.declared.cmp.Ordering.TheVariants.{Less}
-use Rattle.std.specs.BTreeMap.{BTreeMap}
-use Rattle.sd_areas.specs.declared.snapshot_page.SnapshotPage.{SnapshotPage}
-use Rattle.sd_areas.specs.Memory.{space_of}
-use Rattle.sd_areas.specs.PlainMemory.{Space}
-
--- the keys rise
-abbrev pub Rise : {X : Type 0} → List (ℕ × X) → Type 0
-Rise es = IsStrictlySortedBy nat_cmp (keys_of es)
+pub use Rattle.sd_fold.proofs.Seen.{Rise, mapped, seen, pages_in}
 
 both : (a b : Bool) → T a → T b → T (a && b)
 both true b p q = q
@@ -34,22 +27,11 @@ is_in_order [] h = tt
 is_in_order (e ∷ es) h = both _ _ (below e.0 es (sorted_head nat_cmp e.0 (keys_of es) h)) (is_in_order es (sorted_tail nat_cmp e.0 (keys_of es) h))
 
 module _ {X Y : Type 0} (f : X → Y) where
-  -- the entries as they are seen
-  abbrev pub mapped : List (ℕ × X) → List (ℕ × Y)
-  mapped es = map (λ e. (e.0, f e.1)) es
-
-  abbrev pub seen : List (ℕ × X) → finmap.FinMap nat_cmp Y
-  seen es = finmap.from_entries (mapped es)
-
-  pub rise_mapped : (es : List (ℕ × X)) → Rise es → Rise (mapped es)
+  pub rise_mapped : (es : List (ℕ × X)) → Rise es → Rise (mapped f es)
   rise_mapped es h = subst (IsStrictlySortedBy nat_cmp) (sym (keys_of-map_values f es)) h
 
   -- equal maps have equal entries
-  pub same_mapped : (es fs : List (ℕ × X)) → Rise es → Rise fs → seen es ≡ seen fs → mapped es ≡ mapped fs
-  same_mapped es fs rises others e = same_entries nat_cmp nat_cmp_total nat_cmp-IsAntisymmetric (mapped es) (mapped fs)
-      (is_in_order (mapped es) (rise_mapped es rises)) (is_in_order (mapped fs) (rise_mapped fs others))
-      (λ q. sym (get-from_entries nat_cmp_total (mapped es) q) ∙ ap (λ m. finmap.get m q) e ∙ get-from_entries nat_cmp_total (mapped fs) q)
-
--- the pages of one of a snapshot's spaces
-abbrev pub pages_in : BTreeMap ℕ SnapshotPage → Space
-pages_in pages = space_of pages.entries
+  pub same_mapped : (es fs : List (ℕ × X)) → Rise es → Rise fs → seen f es ≡ seen f fs → mapped f es ≡ mapped f fs
+  same_mapped es fs rises others e = same_entries nat_cmp nat_cmp_total nat_cmp-IsAntisymmetric (mapped f es) (mapped f fs)
+      (is_in_order (mapped f es) (rise_mapped es rises)) (is_in_order (mapped f fs) (rise_mapped fs others))
+      (λ q. sym (get-from_entries nat_cmp_total (mapped f es) q) ∙ ap (λ m. finmap.get m q) e ∙ get-from_entries nat_cmp_total (mapped f fs) q)

@@ -12,7 +12,7 @@ use Rattle.sd_image.proofs.Members.{contains_cases, contains_front, contains_lat
 use Rattle.sd_chain.specs.declared.found.Found.{Found}
 use Rattle.sd_chain.specs.declared.found.Found.TheVariants as found
 use Rattle.sd_chain.specs.declared.way.Way.TheVariants as way
-use Rattle.sd_chain.specs.Catalog.{Opened, Places, AreInOrder, Changes, images, is_elsewhere, place_of, without_slot}
+use Rattle.sd_chain.specs.Catalog.{Opened, Places, AreInOrder, Changes, images, place_of, without_slot}
 use Rattle.sd_chain.specs.Catalog as catalog
 use Rattle.sd_chain.specs.Ways.{HasPage, LiesAt}
 use Rattle.sd_chain.specs.Ways as ways
@@ -240,7 +240,7 @@ added_image_is_told old new i image all before after none changes told = (
 stays_elsewhere : (slot : ℕ) (j : Opened) → j.slot ≢ slot → without_slot slot (Some (Some j)) ≡ Some (Some j)
 stays_elsewhere slot j differ = ap (λ b. cond (not b) (Some (Some j)) None) (ne_eqb j.slot slot differ)
 
-left_place : (slot : ℕ) (o : Option (Option Opened)) (j : Opened) → without_slot slot o ≡ Some (Some j) → (o ≡ Some (Some j)) × (j.slot ≢ slot)
+pub left_place : (slot : ℕ) (o : Option (Option Opened)) (j : Opened) → without_slot slot o ≡ Some (Some j) → (o ≡ Some (Some j)) × (j.slot ≢ slot)
 left_place slot None j e = absurd (let no : None ≡ Some (Some j) = e in cc)
 left_place slot (Some None) j e = absurd (let no : Some None ≡ Some (Some j) = e in cc)
 left_place slot (Some (Some k)) j e = by (nat_eq k.slot slot) refl e

@@ -75,16 +75,6 @@ named_kept number all one best named less = record {
   ];
 }
 
-pub named_first : (number : ℕ) (all : List Opened) (one : Opened) → All (λ i. i.header.stands_for ≢ number) all → one.header.stands_for ≡ number → IsNamedAmong (all ++ one ∷ []) number one
-named_first number all one none stands = record {
-  member = Contains-push all one;
-  stands = stands;
-  greatest = λ other among is. elim (Contains-push_cases all one other among) [
-    | inl c ↦ absurd (All-contains (λ (i : Opened). i.header.stands_for ≢ number) all other none c is)
-    | inr e ↦ subst (λ (f : Opened). f.header.serial ≤ one.header.serial) e (omega arith)
-  ];
-}
-
 pub named_next : (number : ℕ) (all : List Opened) (one best : Opened) → IsNamedAmong all number best → one.header.stands_for ≡ number
     → best.header.serial ≤ one.header.serial → IsNamedAmong (all ++ one ∷ []) number one
 named_next number all one best named stands less = record {

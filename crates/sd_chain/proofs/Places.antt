@@ -34,23 +34,6 @@ keys_by es h = λ k d low high.
 
 -- ---- what keeps the order
 
--- one place changed
-pub order_changed : (old new : Places) (serial : ℕ) (place : Option Opened) → AreInOrder old → IsDistinct nat_eq (keys_of new)
-    → (IsSorted nat_cmp (keys_of old) → IsSorted nat_cmp (keys_of new)) → Changes old new serial (Some place)
-    → ((i : Opened) → place ≡ Some i → i.header.serial ≡ serial) → AreInOrder new
-order_changed old new serial place was distinct sorted changes own = record {
-  distinct = distinct;
-  sorted = sorted was.sorted;
-  own = λ other i e. by other i (nat_eq serial other) refl (sym (changes other) ∙ e);
-}
-  where
-    by : (other : ℕ) (i : Opened) (b : Bool) → nat_eq serial other ≡ b → cond (nat_eq serial other) (Some place) (place_of old other) ≡ Some (Some i) → i.header.serial ≡ other
-    by other i true t e =
-        let there : Some place ≡ Some (Some i) = ap (λ b. cond b (Some place) (place_of old other)) (sym t) ∙ e in
-        let is : place ≡ Some i = cc in
-        own i is ∙ eqb-true serial other t
-    by other i false t e = was.own other i (ap (λ b. cond b (Some place) (place_of old other)) (sym t) ∙ e)
-
 -- an image was put at its serial, or nothing changed: each image still stands at its own
 pub own_kept : {A E : Type 0} (r : Result A E) (P : Type 0) (old new : Places) (serial : ℕ) (added : Opened) → AreInOrder old → (P → Changes old new serial (Some (Some added)))
     → OnOk r P → OnErr r (new ≡ old) → added.header.serial ≡ serial → (other : ℕ) (i : Opened) → place_of new other ≡ Some (Some i) → i.header.serial ≡ other
@@ -101,7 +84,7 @@ pub removed : (es : Places) (slot : ℕ) → AreInOrder es → (serial : ℕ)
     → place_of (filter (λ e. is_elsewhere slot e.1) es) serial ≡ without_slot slot (place_of es serial)
 removed es slot was serial = lookup-filter-values nat_eq_equiv (is_elsewhere slot) serial es was.distinct ∙ as_filter slot (place_of es serial)
 
-some_stays : (slot : ℕ) (o : Option (Option Opened)) (i : Opened) → without_slot slot o ≡ Some (Some i) → o ≡ Some (Some i)
+pub some_stays : (slot : ℕ) (o : Option (Option Opened)) (i : Opened) → without_slot slot o ≡ Some (Some i) → o ≡ Some (Some i)
 some_stays slot None i e = absurd (cc)
 some_stays slot (Some p) i e = by (is_elsewhere slot p) e
   where

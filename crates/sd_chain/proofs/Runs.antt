@@ -1,15 +1,15 @@
 -- The run of a space that has a page, found by its place.
-use Rattle.std.proofs.Common.{◌≡◌, ℕ, zero, suc, ◌+◌, ◌-◌, ◌<◌, ◌≤◌, ◌^◌, true, false, not, ◌&&◌, eqb, ltb, leb, List, [], ◌∷◌, length, get_or, Option, Some, None, refl, sym, ◌∙◌, ap, subst, inl, inr, arith, Bool}
+use Rattle.std.proofs.Common.{◌≡◌, ℕ, zero, suc, ◌+◌, ◌-◌, ◌<◌, ◌≤◌, ◌^◌, true, false, ◌&&◌, ltb, leb, List, [], ◌∷◌, length, get_or, Option, Some, None, refl, sym, ◌∙◌, ap, subst, inl, inr, arith, Bool}
 use Rattle.std.specs.List.{slice_get}
 use Rattle.std.specs.Prelude.{All, IfSome, IsNone, IsTrue}
 use Rattle.std.specs.Bool.{then_some}
 use Rattle.std.specs.List.Sorted.{IsPartitionedBy, IsPartitionPoint}
-use Rattle.std.proofs.lemmas.Bool.{and_from, and_parts, cases_lt, eqb-true, false≢true, leb-false, leb-true, le-leb, lt-ltb, ltb-true, or_cases}
+use Rattle.std.proofs.lemmas.Bool.{and_from, and_parts, cases_lt, false≢true, leb-false, leb-true, le-leb, lt-ltb, ltb-true}
 use Rattle.std.proofs.lemmas.Option.{get_or_from_slice_get}
 use Rattle.sd_areas.specs.Pages.{is_within}
 use Rattle.sd_image.specs.declared.run.Run.{Run}
-use Rattle.sd_image.specs.Words.{run_kind_number}
 use Rattle.sd_image.specs.Table.{begins_behind, has_source, is_run_after, AreRuns}
+use Rattle.sd_image.proofs.SpaceLaws.{begins_end}
 
 -- whether a run begins at a page or before it
 abbrev pub begins_by : ℕ → Run → Bool
@@ -18,12 +18,6 @@ begins_by page run = leb run.first page
 abbrev end_of : Option Run → ℕ
 end_of None = 0
 end_of (Some run) = run.first + run.count
-
-begins_end : (before run : Run) → begins_behind (Some before) run ≡ true → before.first + before.count ≤ run.first
-begins_end before run e = elim (or_cases (ltb (before.first + before.count) run.first) (eqb (before.first + before.count) run.first && not (eqb (run_kind_number before.kind) (run_kind_number run.kind))) e) [
-  | inl lt ↦ omega (arith, ltb-true _ _ lt)
-  | inr at ↦ omega (arith, eqb-true _ _ (and_parts (eqb (before.first + before.count) run.first) (not (eqb (run_kind_number before.kind) (run_kind_number run.kind))) at).0)
-]
 
 behind : (parent : ℕ) (before : Option Run) (run : Run) → is_run_after parent before run ≡ true → end_of before ≤ run.first
 behind parent None run e = omega arith

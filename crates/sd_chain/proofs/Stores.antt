@@ -20,7 +20,7 @@ use Rattle.sd_chain.specs.declared.found.Found.TheVariants as found
 use Rattle.sd_chain.specs.declared.way.Way.TheVariants as way
 use Rattle.sd_chain.specs.Catalog.{Opened, Places, AreInOrder, place_of, images, IsNamedChoice, Names}
 use Rattle.sd_chain.specs.Catalog as catalog
-use Rattle.sd_chain.specs.Ways.{AreImages, HasPage, LiesAt, LiesBySerial}
+use Rattle.sd_chain.specs.Ways.{AreImages, HasPage, LiesAt}
 use Rattle.sd_chain.specs.Ways as ways
 use Rattle.sd_chain.specs.Store.{IsOpenedAs, IsCatalogOf, HasTheImages, FindsNamed, FindsTip, FindsHeld, IsInFile, bytes_at, file_at}
 use Rattle.sd_chain.proofs.Members.{open_place, same_serial}
@@ -104,11 +104,6 @@ opened_of contents all places image tied c =
     let file : found.1.file ≡ s.file = same_Some found.1.file s.file (sym found.1.slot ∙ ap (slice_get contents) entry.3 ∙ s.there) in
     let same : found.0 ≡ image = tied.one s.file found.0 image (subst (λ (f : List ℕ). IsImage f found.0) file found.1.spelled) s.is in
     (entry.1, member_of places entry.0 entry.1 entry.2, subst (IsOpenedAs contents entry.1) same found.1)
-
-same_opened : (contents : List (List ℕ)) (places : Places) (i j : Opened) (image : Image) → AreInOrder places → Contains (images places) i → Contains (images places) j
-    → IsOpenedAs contents i image → IsOpenedAs contents j image → i ≡ j
-same_opened contents places i j image order c d a b =
-    same_serial places i j order c d (ap (λ (h : Header). h.serial) (sym a.header ∙ b.header))
 
 -- ---- what a number names
 
@@ -197,7 +192,7 @@ in_file pages contents places page there i order catalog c (ways.by_parent _ par
 
 -- ---- the catalog of contents has images
 
-falls : (h : Header) → AreNumbers h.kind h.serial h.stands_for h.parent → h.parent < h.stands_for
+pub falls : (h : Header) → AreNumbers h.kind h.serial h.stands_for h.parent → h.parent < h.stands_for
 falls h numbers = by h.kind numbers
   where
     by : (kind : Kind) → AreNumbers kind h.serial h.stands_for h.parent → h.parent < h.stands_for

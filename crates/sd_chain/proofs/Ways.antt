@@ -75,7 +75,7 @@ later_space h before (x ∷ spaces) s good c = elim (contains_cases x s spaces c
   | inr later ↦ let above = good.0.above in let rest = later_space h x.space spaces s good.1 later in omega (arith, above, rest)
 ]
 
-space_once : (h : Header) (before : ℕ) (spaces : List Listed) (a b : Listed) → AreSpaces h before spaces → Contains spaces a → Contains spaces b → a.space ≡ b.space → a ≡ b
+pub space_once : (h : Header) (before : ℕ) (spaces : List Listed) (a b : Listed) → AreSpaces h before spaces → Contains spaces a → Contains spaces b → a.space ≡ b.space → a ≡ b
 space_once h before [] a b good c d e = absurd (omega (arith, c.1))
 space_once h before (x ∷ spaces) a b good c d e = elim (contains_cases x a spaces c) [
   | inl p ↦ elim (contains_cases x b spaces d) [

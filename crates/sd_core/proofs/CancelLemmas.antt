@@ -1,5 +1,5 @@
 -- A checkpoint is cancelled.
-use Rattle.std.proofs.Common.{◌≡◌, ◌≢◌, ◌⊎◌, ◌↔◌, ℕ, ◌==◌, Bool, true, false, if◌then◌else◌, ◌∷◌, length, Option, Some, None, IfSome, is_some, slice_get, refl, sym, ◌∙◌, ap, subst, inl, inr, arith}
+use Rattle.std.proofs.Common.{◌≡◌, ◌≢◌, ◌⊎◌, ◌↔◌, ℕ, ◌==◌, Bool, true, false, if◌then◌else◌, ◌∷◌, length, Option, Some, None, IfSome, slice_get, refl, sym, ◌∙◌, ap, subst, inl, inr, arith}
 use Rattle.std.proofs.lemmas.Bool.{eq-eqb}
 use Rattle.std.proofs.lemmas.Bool.Decides.{eqb_tells}
 use Rattle.sd_chain.specs.Catalog.{Changes, IsHeld, Opened, Places, place_of}
@@ -196,9 +196,3 @@ merges_on core places dumper sound gone released = merging_stays core (record co
     still_open : (own : Option ℕ) (serial : ℕ) (o : Opened) → ReleasesPlace own core.places places → place_of core.places serial ≡ Some (Some o) → place_of places serial ≡ Some (Some o)
     still_open None serial o r there = ap (λ all. place_of all serial) r ∙ there
     still_open (Some own) serial o r there = (same_images core.places places own (record { released = r.0; nothing = r.1 }) serial o).1 there
-
--- ---- none
-
-pub none_where : {X : Type 0} (one : Option X) → is_some one ≡ false → one ≡ None
-none_where None is = refl
-none_where (Some x) is = absurd (let no : true ≡ false = is in cc)

@@ -21,7 +21,9 @@ use Rattle.sd_rounds.specs.Pass.{Pass}
 use Rattle.sd_core.specs.declared.numbers.Numbers.{Numbers}
 use Rattle.sd_core.specs.Sound.{IsImageInMaking, IsStageOfImage, IsVisiting, IsVisitingIn}
 use Rattle.sd_core.specs.Visited.{is_begun}
-use Rattle.sd_core.proofs.StageLemmas.{IsAskedIn, IsBehind, asked_in, behind, copied_after, frozen_asked, visited_after, visiting_asked}
+use Rattle.sd_rounds.proofs.DumperLemmas.{past_with as frozen_asked}
+use Rattle.sd_rounds.proofs.VisitLemmas.{cursor as visited_after}
+use Rattle.sd_core.proofs.StageLemmas.{IsAskedIn, IsBehind, asked_in, behind, copied_after, visiting_asked}
 use Rattle.sd_core.proofs.WorkLemmas.{SameNumbers, same_numbers}
 
 -- the image in another stage, with its request that is out then

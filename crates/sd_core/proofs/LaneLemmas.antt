@@ -14,7 +14,7 @@ use Rattle.sd_rounds.specs.declared.new_image.NewImage.{NewImage}
 use Rattle.sd_rounds.specs.declared.stage.Stage.{Stage}
 use Rattle.sd_rounds.specs.declared.stage.Stage.TheVariants.{Format, Freeze, Pass as PassStage, Close}
 use Rattle.sd_rounds.specs.Dumper.{IsOutOfImage, IsOutOfRunning, Running, out_of_running, slot_of, writes_of_running}
-use Rattle.sd_rounds.specs.Making.{IsWritten, Making, Opens, PlanGoesOn, WritesPage, is_passing, out_of, plan_of}
+use Rattle.sd_rounds.specs.Making.{IsWritten, Making, Opens, PlanGoesOn, WritesPage, out_of, plan_of}
 use Rattle.sd_rounds.specs.Pass.{data_pages}
 use Rattle.sd_rounds.specs.Sound.{IsSoundImage}
 use Rattle.sd_rounds.specs.Writes.{no_writes}
@@ -22,6 +22,7 @@ use Rattle.sd_crash_safety.specs.Calls.{HandedIn, IsApart}
 use Rattle.sd_crash_safety.specs.DumperOutcomes.{IsDumpersOutcome, closes_for_sure, is_being_closed}
 use Rattle.sd_crash_safety.specs.View.{CoreView, page_lane}
 use Rattle.sd_core.specs.Sound.{HasWrites, IsCore, Parts}
+use Rattle.sd_crash_safety.proofs.Lanes.{plan_outside}
 use Rattle.sd_core.proofs.MergeLemmas.{asks_apart}
 use Rattle.sd_core.proofs.OutsLemmas.{IsOfDumper, far, lane_at, no_write, on_slot}
 use Rattle.sd_core.proofs.WorkLemmas.{at_work}
@@ -150,12 +151,6 @@ pub handed_at : (old new : CoreView) (lane k : ℕ) (made : Made) (answer : Repl
 handed_at old new lane k made answer same h = subst (λ n. HandedIn old n made answer new) (sym same) h
 
 -- ---- what is out once a step was made
-
-plan_outside : (stage : Stage) (plan : Planned) → plan_of stage ≡ Some plan → is_passing stage ≡ false
-plan_outside (Format own) plan was = refl
-plan_outside Freeze plan was = refl
-plan_outside PassStage plan was = absurd (let no : None ≡ Some plan = was in cc)
-plan_outside (Close own header tables) plan was = refl
 
 -- while a plan is made no data page is written
 pub none_written : (image : Making) (plan : Planned) → plan_of image.stage ≡ Some plan → IsSoundImage image → image.writes ≡ no_writes

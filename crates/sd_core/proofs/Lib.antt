@@ -6,11 +6,11 @@ mod BesideLemmas
 mod CancelLemmas
 mod CoreLemmas
 mod EnteredLemmas
-mod FallenLemmas
+pub mod FallenLemmas
 mod FlagLemmas
 mod GiveUp
 mod GoOnLemmas
-mod HandedLemmas
+pub mod HandedLemmas
 mod ImageLemmas
 mod JournalLemmas
 mod LaneLemmas

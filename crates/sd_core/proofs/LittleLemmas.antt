@@ -324,10 +324,6 @@ round_took laws base items memory running image made opened more own o sound now
     kind : image.order.kind ≡ PreDump
     kind = ap (λ (m : ImageOrder). m.kind) own ∙ ap (λ b. if b then Dump else PreDump) more
 
--- where no image is being made
-pub none_little : (base : Base) (items : Marked) (memory : Contents) (running : Running) → running.image ≡ None → HasLittle base items memory running
-none_little base items memory running none = subst (λ i. IfSome i (TakesLittle base items memory running.number)) (sym none) tt
-
 -- of the image that is being made
 pub little_of : (base : Base) (items : Marked) (memory : Contents) (all : Option Running) (running : Running) (image : Making) → IfSome all (HasLittle base items memory)
     → all ≡ Some running → running.image ≡ Some image → TakesLittle base items memory running.number image

@@ -1,6 +1,5 @@
 -- The marks of an image, and the freeze, in the journal.
-use Rattle.std.proofs.Common.{◌≡◌, ℕ, ◌+◌, ◌≤◌, ◌==◌, ◌&&◌, ◌||◌, Bool, true, false, if◌then◌else◌, [], ◌∷◌, Option, Some, None, IfSome, refl, sym, ◌∙◌, ap, subst, arith}
-use Rattle.std.specs.List.{list_any}
+use Rattle.std.proofs.Common.{◌≡◌, ℕ, ◌+◌, ◌≤◌, ◌==◌, ◌&&◌, Bool, true, false, if◌then◌else◌, ◌∷◌, Option, Some, None, IfSome, refl, sym, ◌∙◌, ap, subst, arith}
 use Rattle.std.proofs.lemmas.Bool.{eq-eqb}
 use Rattle.sd_chain.specs.Catalog.{Changes, IsHeld, Places, place_of}
 use Rattle.sd_gate.specs.Requests.{Asked}
@@ -11,7 +10,7 @@ use Rattle.sd_journal.specs.declared.mark.Mark.TheVariants.{Start, Table, Visit}
 use Rattle.sd_journal.specs.History.{Base, last, pending}
 use Rattle.sd_journal.specs.Kept.{JournalView}
 use Rattle.sd_journal.specs.Legal.{IsAbove, MayFollow}
-use Rattle.sd_journal.specs.Marked.{IsTracked, Marked, Noted, Told, entries_of, is_of, last_visit}
+use Rattle.sd_journal.specs.Marked.{IsTracked, Marked, Noted, Told, entries_of}
 use Rattle.sd_journal.specs.TrackedLaws.{TrackedLaws}
 use Rattle.sd_pagetable.specs.Contents.{Contents}
 use Rattle.sd_pagetable.specs.Order.{IsNextPage}
@@ -24,16 +23,6 @@ use Rattle.sd_core.specs.declared.numbers.Numbers.{Numbers}
 use Rattle.sd_core.specs.Sound.{AreSoundNumbers, CheckpointsAreCounted, IsCore, IsJournal, IsVisiting, IsVisitingIn, Parts, frozen_by}
 use Rattle.sd_core.proofs.SettledLemmas.{settled_more}
 use Rattle.sd_core.proofs.WorkLemmas.{at_work, image_of_work, noted_journal, numbers_noted}
-
--- ---- two conditions
-
-later : (one other : Bool) → (one || other) ≡ false → other ≡ false
-later true other is = absurd (let no : true ≡ false = is in cc)
-later false other is = is
-
-now : (one other : Bool) → (one || other) ≡ false → one ≡ false
-now true other is = is
-now false other is = refl
 
 -- ---- an image's last visit, and its table
 
@@ -129,16 +118,6 @@ pub sound_image : (all : Option Running) (running : Running) (image : Making) �
 sound_image all running image sound was making = subst IsSoundMaking making (subst HasSoundImage was sound)
 
 -- ---- an image that begins
-
--- no page was visited under a serial that no mark has
-pub none_visited : (items : Marked) (serial : ℕ) → list_any (is_of serial) items ≡ false → last_visit items serial ≡ None
-none_visited [] serial none = refl
-none_visited (Told entry ∷ items) serial none = none_visited items serial none
-none_visited (Noted (Start s) ∷ items) serial none = none_visited items serial (later (s == serial) (list_any (is_of serial) items) none)
-none_visited (Noted (Visit s space page) ∷ items) serial none =
-    ap (λ b. if b then Some (space, page) else last_visit items serial) (now (s == serial) (list_any (is_of serial) items) none)
-    ∙ none_visited items serial (later (s == serial) (list_any (is_of serial) items) none)
-none_visited (Noted (Table s) ∷ items) serial none = none_visited items serial (later (s == serial) (list_any (is_of serial) items) none)
 
 pub start_numbers : (base : Base) (items : Marked) (frozen newest : Option ℕ) (old new : Numbers) → new.begun ≡ old.begun → new.checkpoint ≡ old.checkpoint
     → new.given ≡ old.serial + 1 → new.serial ≡ old.serial + 1 → AreSoundNumbers base items frozen newest old

@@ -1,5 +1,5 @@
 -- The opener's steps, as the calls of a core tell them.
-use Rattle.std.proofs.Common.{◌≡◌, ℕ, zero, suc, List, [], ◌∷◌, length, map, Option, Some, None, slice_get, slice_set, refl, sym, ◌∙◌, ap, subst, inl, inr, arith}
+use Rattle.std.proofs.Common.{◌≡◌, ℕ, suc, List, [], ◌∷◌, length, map, Option, Some, None, slice_get, slice_set, refl, sym, ◌∙◌, ap, subst, inl, inr, arith}
 use Rattle.sd_gate.specs.declared.phase.Phase.{Phase}
 use Rattle.sd_gate.specs.declared.request_id.RequestId.{RequestId}
 use Rattle.sd_gate.specs.declared.worker.Worker.{Worker}
@@ -25,6 +25,7 @@ use Rattle.sd_crash_safety.specs.View.{CoreView, history_of}
 use Rattle.sd_rounds.specs.Dumper.{Running}
 use Rattle.sd_core.specs.Opening.{with_opening}
 use Rattle.sd_core.specs.Sound.{held_for}
+use Rattle.sd_crash_safety.proofs.OpenerSteps.{given_up_at as given_at}
 use Rattle.sd_core.proofs.ApplyLemmas.{same_phases}
 use Rattle.sd_core.proofs.OutsLemmas.{nobody_out}
 
@@ -34,15 +35,6 @@ free_of_nobody outs slot is lane id out same = nobody_out lane id (ap (λ all. s
 pub given_count : (phases : List Phase) → length (map given_up phases) ≡ length phases
 given_count [] = refl
 given_count (p ∷ phases) = ap suc (given_count phases)
-
-given_at : (phases : List Phase) (slot : ℕ) (phase : Phase) → slice_get (map given_up phases) slot ≡ Some phase
-    → (was : Phase) × (slice_get phases slot ≡ Some was) × (phase ≡ given_up was)
-given_at [] slot phase is = absurd cc
-given_at (p ∷ phases) zero phase is = (p, refl, first is)
-  where
-    first : Some (given_up p) ≡ Some phase → phase ≡ given_up p
-    first e = cc
-given_at (p ∷ phases) (suc slot) phase is = given_at phases slot phase is
 
 -- ---- it begins, and ends
 

@@ -1,40 +1,20 @@
 -- What a call leaves beside the job that it is made for.
 use Rattle.std.proofs.Common.{◌≡◌, ℕ, ◌&&◌, Bool, true, false, not, if◌then◌else◌, Option, Some, None, IfSome, is_some, refl, sym, ◌∙◌, ap, subst, inl, inr}
 use Rattle.std.proofs.lemmas.Bool.Decides.{eqb_tells}
-use Rattle.sd_chain.specs.Catalog.{Changes, Opened, Places, is_elsewhere, place_of, without_slot}
-use Rattle.sd_command.specs.declared.refusal.Refusal.{Refusal}
-use Rattle.sd_command.specs.declared.reply.Reply.TheVariants as reply
+use Rattle.sd_chain.specs.Catalog.{Changes, Opened, Places, place_of}
 use Rattle.sd_gate.specs.declared.worker.Worker.{Worker}
-use Rattle.sd_gate.specs.declared.worker.Worker.TheVariants.{Dumper, Merger, Opener}
-use Rattle.sd_gate.specs.Plans.{Planned}
 use Rattle.sd_journal.specs.declared.mark.Mark.TheVariants.{Start, Table}
-use Rattle.sd_rounds.specs.declared.stage.Stage.{Stage}
-use Rattle.sd_rounds.specs.declared.stage.Stage.TheVariants.{Format, Freeze, Pass as PassStage, Close}
 use Rattle.sd_rounds.specs.Dumper.{Running}
-use Rattle.sd_rounds.specs.Making.{is_passing, plan_of}
-use Rattle.sd_crash_safety.specs.DumperOutcomes.{LeavesCatalog}
 use Rattle.sd_crash_safety.specs.View.{CoreView}
 use Rattle.sd_core.specs.declared.taken.Taken.{Taken}
-use Rattle.sd_core.specs.declared.taken.Taken.TheVariants.{Step}
-use Rattle.sd_core.specs.Beside.{LeavesOthers, OrdersBeside, StepsBeside}
-use Rattle.sd_core.specs.Counted.{is_frozen}
+use Rattle.sd_core.specs.Beside.{StepsBeside}
 use Rattle.sd_core.specs.Images.{HasPreDumps, begun_as}
 use Rattle.sd_core.specs.Kept.{KeepsEach}
-use Rattle.sd_core.specs.Noted.{KeepsMarks, NotesBy, NotesByCall, NotesMark}
+use Rattle.sd_core.specs.Noted.{KeepsMarks, NotesByCall, NotesMark}
 use Rattle.sd_core.specs.Sound.{IsCore, Parts}
 use Rattle.sd_core.proofs.WorkLemmas.{at_work}
 
 -- ---- nothing changed
-
-others_same : (worker : Worker) (core : CoreView) → LeavesOthers worker core core
-others_same Dumper core = (refl, refl)
-others_same Merger core = (refl, refl, refl)
-others_same Opener core = (refl, refl, refl)
-
-notes_same : (worker : Worker) (why : Refusal) (core : CoreView) → NotesBy worker core (Step (reply.Refused why)) core
-notes_same Dumper why core = inl refl
-notes_same Merger why core = refl
-notes_same Opener why core = refl
 
 same_image : (a b : Opened) → Some (Some a) ≡ Some (Some b) → b ≡ a
 same_image a b e = cc
@@ -47,23 +27,6 @@ counted_same false since = refl
 pub keeps_same : (old new : Places) → new ≡ old → KeepsEach old new
 keeps_same old new same serial image other there now = same_image image other (sym there ∙ ap (λ all. place_of all serial) (sym same) ∙ now)
 
-pub beside_refused : (worker : Worker) (why : Refusal) (core : CoreView) → StepsBeside worker core (Step (reply.Refused why)) core
-beside_refused worker why core = record {
-  others = others_same worker core;
-  notes = notes_same worker why core;
-  images = λ none. keeps_same core.catalog core.catalog refl;
-  counted = counted_same (is_frozen core) core.dumper.since_freeze;
-}
-
-pub orders_refused : (worker : Worker) (core : CoreView) → OrdersBeside worker core core
-orders_refused worker core = record {
-  others = others_same worker core;
-  memory = refl;
-  marks = refl;
-  images = keeps_same core.catalog core.catalog refl;
-  counted = refl;
-}
-
 -- ---- the catalog
 
 -- one place changes, at which no image stood
@@ -72,16 +35,6 @@ keeps_changed old new serial to changes none at image other there now = elim (eq
   | inl same ↦ absurd (none image (ap (place_of old) same.1 ∙ there))
   | inr apart ↦ same_image image other (sym there ∙ sym (ap (λ b. if b then to else place_of old at) apart.0) ∙ sym (changes at) ∙ now)
 ]
-
--- images leave
-pub keeps_left : (closed : Bool) (slot : ℕ) (old new : Places) → LeavesCatalog closed slot old new → KeepsEach old new
-keeps_left true slot old new leaves serial image other there now =
-    by (is_elsewhere slot (Some image)) (sym (ap (without_slot slot) there) ∙ sym (leaves serial) ∙ now)
-  where
-    by : (b : Bool) → (if b then Some (Some image) else None) ≡ Some (Some other) → other ≡ image
-    by true e = same_image image other e
-    by false e = absurd (let no : None ≡ Some (Some other) = e in cc)
-keeps_left false slot old new leaves serial image other there now = keeps_same old new leaves serial image other there now
 
 -- as the core is seen
 pub beside_seen : (worker : Worker) (made : Taken) (inside now new : CoreView) → inside ≡ now → StepsBeside worker inside made new → StepsBeside worker now made new
@@ -100,13 +53,6 @@ none_now old now since thawed = by old ∙ ap (λ b. if not old && b then 0 else
     by : (old : Bool) → since ≡ (if not old && false then 0 else since)
     by true = refl
     by false = refl
-
--- an image whose plan makes calls isn't in its pass
-pub none_passes : (stage : Stage) (plan : Planned) → plan_of stage ≡ Some plan → is_passing stage ≡ false
-none_passes (Format own) plan is = refl
-none_passes Freeze plan is = refl
-none_passes PassStage plan is = absurd (let no : None ≡ Some plan = is in cc)
-none_passes (Close own header tables) plan is = refl
 
 -- the marks behind no request but those of the table
 pub notes_none : (old new : CoreView) (slot : Option ℕ) (ends : Bool) → slot ≡ None → ends ≡ false → KeepsMarks old new → NotesByCall (is_some slot) ends old new

@@ -2,7 +2,7 @@
 use Rattle.std.proofs.Common.{◌≡◌, ℕ, ◌≤◌, ◌==◌, ◌&&◌, Bool, true, false, if◌then◌else◌, List, ◌∷◌, length, Option, Some, None, slice_get, slice_set, refl, sym, ◌∙◌, ap, subst, arith}
 use Rattle.std.proofs.lemmas.Bool.{eq-eqb}
 use Rattle.std.proofs.lemmas.Option.{same_Some}
-use Rattle.sd_chain.specs.Catalog.{Changes, IsHeld, Opened, Places, is_elsewhere, place_of, without_slot}
+use Rattle.sd_chain.specs.Catalog.{Changes, IsHeld, Opened, Places, place_of, without_slot}
 use Rattle.sd_gate.specs.declared.phase.Phase.{Phase}
 use Rattle.sd_gate.specs.Calls.{is_done}
 use Rattle.sd_gate.specs.Phases.{bodies_after, phases_after}
@@ -29,6 +29,7 @@ use Rattle.sd_crash_safety.specs.View.{CoreView, history_of}
 use Rattle.sd_core.specs.declared.numbers.Numbers.{Numbers}
 use Rattle.sd_core.specs.Sound.{AreSoundNumbers, CheckpointsAreCounted, IsCore, IsHeaderOf, IsImageInMaking, IsJournal, IsStageOfImage, Parts}
 use Rattle.sd_core.specs.Visited.{IsClean}
+use Rattle.sd_chain.proofs.Places.{some_stays as kept_of}
 use Rattle.sd_core.proofs.ApplyLemmas.{same_phases}
 use Rattle.sd_core.proofs.SettledLemmas.{settled_now}
 use Rattle.sd_core.proofs.WorkLemmas.{at_work, own_order}
@@ -58,14 +59,6 @@ handed_dumper old new lane made phase answer o count goes adds = record {
 pub left_held : (closed : Bool) (slot : ℕ) (old new : Places) (serial : ℕ) → LeavesCatalog closed slot old new → IsHeld old serial → IsHeld new serial
 left_held true slot old new serial leaves held = leaves serial ∙ ap (without_slot slot) held
 left_held false slot old new serial leaves held = ap (λ all. place_of all serial) leaves ∙ held
-
-kept_of : (slot : ℕ) (place : Option (Option Opened)) (o : Opened) → without_slot slot place ≡ Some (Some o) → place ≡ Some (Some o)
-kept_of slot None o is = absurd (let no : None ≡ Some (Some o) = is in cc)
-kept_of slot (Some place) o is = go (is_elsewhere slot place) is
-  where
-    go : (b : Bool) → (if b then Some place else None) ≡ Some (Some o) → Some place ≡ Some (Some o)
-    go true e = e
-    go false e = absurd (let no : None ≡ Some (Some o) = e in cc)
 
 pub left_counted : (closed : Bool) (slot : ℕ) (old new : Places) (numbers : Numbers) → LeavesCatalog closed slot old new → CheckpointsAreCounted numbers old → CheckpointsAreCounted numbers new
 left_counted true slot old new numbers leaves was serial o at = was serial o (kept_of slot (place_of old serial) o (sym (leaves serial) ∙ at))

@@ -18,6 +18,7 @@ use Rattle.sd_crash_safety.specs.declared.standing.Standing.TheVariants.{NotOpen
 use Rattle.sd_crash_safety.specs.OpenerSteps.{nobody}
 use Rattle.sd_crash_safety.specs.View.{page_lane}
 use Rattle.sd_core.specs.Sound.{AreInPages, AreOuts, HasWrites, worker_of_lane}
+use Rattle.sd_rounds.proofs.WriteLemmas.{none_at as none_in}
 
 pub far : (k : ℕ) → page_lane k ≡ suc (suc (suc k))
 far k = omega arith
@@ -31,13 +32,6 @@ lane_at one two pages zero id at = inl (refl, same_Some one (Some id) at)
 lane_at one two pages (suc zero) id at = inr (inl (refl, same_Some two (Some id) at))
 lane_at one two pages (suc (suc zero)) id at = absurd (let no : Some None ≡ Some (Some id) = at in cc)
 lane_at one two pages (suc (suc (suc k))) id at = inr (inr (k, refl, at))
-
--- none is
-pub none_in : (outs : List (Option RequestId)) (lane : ℕ) (id : RequestId) → is_any_out outs ≡ false → slice_get outs lane ≡ Some (Some id) → ⊥
-none_in [] lane id none is = let no : None ≡ Some (Some id) = is in cc
-none_in (None ∷ outs) zero id none is = let no : Some None ≡ Some (Some id) = is in cc
-none_in (None ∷ outs) (suc lane) id none is = none_in outs lane id none is
-none_in (Some out ∷ outs) lane id none is = both_ways true none refl
 
 pub nobody_out : (lane : ℕ) (id : RequestId) → slice_get nobody lane ≡ Some (Some id) → ⊥
 nobody_out lane id is = none_in nobody lane id refl is

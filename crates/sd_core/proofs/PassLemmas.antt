@@ -11,7 +11,7 @@ use Rattle.sd_rounds.specs.Dumper.{Dumping, Running, Works, image_from, next_slo
 use Rattle.sd_rounds.specs.Making.{Making, Steps}
 use Rattle.sd_rounds.specs.Left.{LeftLaws, left_of}
 use Rattle.sd_rounds.specs.PassSteps.{NoPageIsNext, Passes}
-use Rattle.sd_rounds.specs.PlanSteps.{HaveNoPage, image_step}
+use Rattle.sd_rounds.specs.PlanSteps.{image_step}
 use Rattle.sd_rounds.specs.Waits.{dumper_must_wait}
 use Rattle.sd_crash_safety.specs.View.{CoreView}
 use Rattle.sd_core.specs.Beginning.{first_of}
@@ -136,12 +136,3 @@ module _ (core : CoreView) where
     | inl refused ↦ absurd (let no : false ≡ true = sym (ap is_some free) ∙ refused in cc)
     | inr none ↦ none
   ]
-
--- where an image is to begin, no page is next
-pub begins_next : (running : Option Running) (memory : Contents) → IsSome (next_slot running) → NoPageIsNext running memory
-begins_next None memory some = tt
-begins_next (Some running) memory some = by running.image some
-  where
-    by : (image : Option Making) → IsSome (slot_before running image) → HaveNoPage image memory
-    by None some = tt
-    by (Some image) some = absurd (let no : false ≡ true = some in cc)

@@ -36,13 +36,6 @@ use Rattle.sd_core.proofs.WorkLemmas.{at_work}
 
 -- ---- how many images are open
 
-pub same_round : (old new : Option Running) → new ≡ old → SameRound old new
-same_round old new same = subst (SameRound old) (sym same) (itself old refl)
-  where
-    itself : (running : Option Running) → old ≡ running → SameRound old running
-    itself None is = tt
-    itself (Some running) is = (running, is, record { job = refl; opened = refl; parent = refl })
-
 -- the image in the making turns
 pub round_goes_on : (old new : Option Running) (from to : Running) → old ≡ Some from → new ≡ Some to → IsSameRound from to → SameRound old new
 round_goes_on old new from to was is same = subst (SameRound old) (sym is) (from, was, same)

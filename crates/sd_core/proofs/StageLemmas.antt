@@ -1,5 +1,5 @@
 -- What the steps and outcomes of an image leave of its plan, its cursor and its freeze.
-use Rattle.std.proofs.Common.{◌≡◌, ◌≢◌, ℕ, ◌==◌, ◌&&◌, ◌||◌, Bool, true, false, if◌then◌else◌, [], ◌∷◌, Some, None, refl, sym, ◌∙◌, ap}
+use Rattle.std.proofs.Common.{◌≡◌, ◌≢◌, ℕ, ◌==◌, ◌&&◌, true, false, [], ◌∷◌, Some, None, refl, sym, ◌∙◌, ap}
 use Rattle.std.proofs.lemmas.Option.{same_Some}
 use Rattle.sd_gate.specs.Plans.{Gives, Planned}
 use Rattle.sd_gate.specs.Requests.{Asked}
@@ -15,7 +15,7 @@ use Rattle.sd_rounds.specs.declared.image_order.ImageOrder.{ImageOrder}
 use Rattle.sd_rounds.specs.declared.stage.Stage.{Stage}
 use Rattle.sd_rounds.specs.declared.stage.Stage.TheVariants.{Format, Freeze, Pass as PassStage, Close}
 use Rattle.sd_rounds.specs.Making.{closing_outcomes, is_past_freeze, out_of, plan_of, stage_after, stage_behind, with_plan}
-use Rattle.sd_rounds.specs.Pass.{Pass, Place, begun_to_take, left_to_parent, visited}
+use Rattle.sd_rounds.specs.Pass.{Pass}
 use Rattle.sd_rounds.specs.Rounds.{Copies}
 use Rattle.sd_core.specs.Sound.{IsStageOfImage, IsVisitingIn}
 
@@ -47,12 +47,6 @@ visiting_asked items serial pass (Format p) next is = is
 visiting_asked items serial pass Freeze next is = is
 visiting_asked items serial pass PassStage next is = is
 visiting_asked items serial pass (Close p header tables) next is = tt
-
-pub frozen_asked : (stage : Stage) (next : Planned) → is_past_freeze (with_plan stage next) ≡ is_past_freeze stage
-frozen_asked (Format p) next = refl
-frozen_asked Freeze next = refl
-frozen_asked PassStage next = refl
-frozen_asked (Close p header tables) next = refl
 
 -- ---- an outcome with which it goes on
 
@@ -93,13 +87,6 @@ behind items order pass (Close p header tables) plan next (call ∷ calls) was s
     record { stage_is = λ at. (slot_on p plan next order.slot was same at.0, at.1); rests = rests; frozen = refl; visiting_in = λ v. tt }
 
 -- ---- its cursor
-
-pub visited_after : (pass : Pass) (at : Place) (soft_dirty : Bool) → (visited pass at soft_dirty).after ≡ Some at
-visited_after pass at soft_dirty = either (pass.takes_all || soft_dirty)
-  where
-    either : (takes : Bool) → (if takes then begun_to_take pass at else left_to_parent pass at).after ≡ Some at
-    either true = refl
-    either false = refl
 
 pub copied_after : (old new : Pass) (memory : Contents) (copied : Copied) → Copies old memory copied new → new.after ≡ old.after
 copied_after old new memory More copies = ap (λ (p : Pass). p.after) copies.is

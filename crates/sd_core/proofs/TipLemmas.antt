@@ -1,5 +1,5 @@
 -- Whether a catalog shows a checkpoint, and the serials of its images.
-use Rattle.std.proofs.Common.{◌≡◌, ℕ, zero, suc, ◌≤◌, ◌||◌, Bool, true, false, List, [], ◌∷◌, ◌++◌, length, map, take, slice_get, is_some, Option, Some, None, Bor, refl, sym, ◌∙◌, ap, arith}
+use Rattle.std.proofs.Common.{◌≡◌, ℕ, zero, suc, ◌||◌, Bool, true, false, List, [], ◌∷◌, ◌++◌, map, take, slice_get, is_some, Option, Some, None, Bor, refl, sym, ◌∙◌, ap}
 use Rattle.std.specs.List.{list_any}
 use Rattle.std.proofs.lemmas.List.Folds.{list_any_none}
 use Rattle.std.proofs.lemmas.Option.{same_Some, slice_get-get_or}
@@ -50,12 +50,6 @@ pub serials_more : (all : List (Bor Opened)) (place : ℕ) (i : Bor Opened) → 
 serials_more [] place i at = absurd (let no : None ≡ Some i = at in cc)
 serials_more (x ∷ all) zero i at = ap (λ (o : Bor Opened). o.now.header.serial ∷ []) (same_Some x i at)
 serials_more (x ∷ all) (suc place) i at = ap (λ rest. x.now.header.serial ∷ rest) (serials_more all place i at)
-
-pub take_all : {X : Type 0} (all : List X) (count : ℕ) → length all ≤ count → take count all ≡ all
-take_all [] zero past = refl
-take_all [] (suc count) past = refl
-take_all (x ∷ all) zero past = absurd (omega (arith, past))
-take_all (x ∷ all) (suc count) past = ap (λ rest. x ∷ rest) (take_all all count (omega (arith, past)))
 
 pub never_some : {X : Type 0} (one : Option X) → ((x : X) → one ≡ Some x → ⊥) → one ≡ None
 never_some None none = refl

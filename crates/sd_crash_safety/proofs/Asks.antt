@@ -19,9 +19,13 @@ use Rattle.sd_store_laws.specs.InUse.{CatalogFollows, SlotHasImage}
 use Rattle.sd_store_laws.specs.Needs.{IsNeededIn}
 use Rattle.sd_store_laws.specs.Store.{Store}
 use Rattle.sd_crash_safety.specs.InUse.{ArePagesOf, IsFrozenAs, IsInUseOn, IsMakingOn, IsRunningOn, IsSlotFor, NoneAt, body_written, chain_of, ids_of, lanes_of}
-use Rattle.sd_crash_safety.proofs.AsksImage.{areas_with, dumps_with, files_with, kept_with, past_with}
+use Rattle.sd_rounds.proofs.DumperLemmas.{past_with}
+use Rattle.sd_rounds.proofs.FileLemmas.{asked_files as files_with, asked_areas as areas_with}
+use Rattle.sd_rounds.proofs.MakingLemmas.{asked_dumps as dumps_with}
+use Rattle.sd_crash_safety.proofs.AsksImage.{kept_with}
 use Rattle.sd_crash_safety.proofs.Lanes.{body_still, lanes_beside, no_pages, plan_outside}
-use Rattle.sd_crash_safety.proofs.Places.{set_other, set_same}
+use Rattle.sd_store_laws.proofs.SlotSteps.{set_other}
+use Rattle.sd_crash_safety.proofs.Places.{set_same}
 
 -- one belief changed
 pub record IsChangedAt (beliefs : List Belief) (slot : ℕ) (new : Belief) (then : List Belief) : Type 0 where

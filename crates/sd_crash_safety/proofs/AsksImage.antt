@@ -15,7 +15,7 @@ use Rattle.sd_rounds.specs.declared.stage.Stage.{Stage}
 use Rattle.sd_rounds.specs.declared.stage.Stage.TheVariants.{Format, Freeze, Pass as PassStage, Close}
 use Rattle.sd_rounds.specs.Files.{FilesImage, HasAreasAtFreeze, HasAreasIn, IsFiled, IsFiledIn}
 use Rattle.sd_rounds.specs.Made.{MadeLaws, listed_pages}
-use Rattle.sd_rounds.specs.Making.{Making, is_past_freeze, plan_of, with_plan}
+use Rattle.sd_rounds.specs.Making.{Making, plan_of, with_plan}
 use Rattle.sd_rounds.specs.MakingLaws.{DumpsImage, IsDumpedIn, IsKeptIn, Pages, image_of}
 use Rattle.sd_rounds.specs.Pass.{Pass}
 use Rattle.sd_rounds.specs.Keeps.{Chain}
@@ -31,31 +31,6 @@ kept_with (Format own) plan next was pages chain pass memory is = is
 kept_with Freeze plan next was pages chain pass memory is = is
 kept_with PassStage plan next was pages chain pass memory is = is
 kept_with (Close own header tables) plan next was pages chain pass memory is = is
-
-pub files_with : (stage : Stage) (next : Planned) (order : ImageOrder) (pass : Pass) (pages : Pages) → IsFiledIn stage order pass pages → IsFiledIn (with_plan stage next) order pass pages
-files_with (Format own) next order pass pages is = is
-files_with Freeze next order pass pages is = is
-files_with PassStage next order pass pages is = is
-files_with (Close own header tables) next order pass pages is = is
-
-pub dumps_with : (stage : Stage) (next : Planned) (cut : Contents) (pages : Pages) (chain : Chain) (pass : Pass) (memory : Contents)
-    → IsDumpedIn stage cut pages chain pass memory → IsDumpedIn (with_plan stage next) cut pages chain pass memory
-dumps_with (Format own) next cut pages chain pass memory is = is
-dumps_with Freeze next cut pages chain pass memory is = is
-dumps_with PassStage next cut pages chain pass memory is = is
-dumps_with (Close own header tables) next cut pages chain pass memory is = is
-
-pub areas_with : (stage : Stage) (next : Planned) (cut : Contents) → HasAreasIn stage cut → HasAreasIn (with_plan stage next) cut
-areas_with (Format own) next cut is = is
-areas_with Freeze next cut is = is
-areas_with PassStage next cut is = is
-areas_with (Close own header tables) next cut is = is
-
-pub past_with : (stage : Stage) (next : Planned) → is_past_freeze (with_plan stage next) ≡ is_past_freeze stage
-past_with (Format own) next = refl
-past_with Freeze next = refl
-past_with PassStage next = refl
-past_with (Close own header tables) next = refl
 
 -- ---- a plan is on its slot
 

@@ -1,6 +1,5 @@
 -- Steps that open and close gates, and jobs that begin and are cancelled.
-use Rattle.std.proofs.Common.{◌≡◌, ◌≢◌, ℕ, ◌≤◌, true, nat_eq, nat_le, slice_index, List, ◌∷◌, length, Contains, Option, Some, None, IfSome, slice_get, slice_set, refl, sym, ◌∙◌, ap, subst, inl, inr, arith}
-use Rattle.std.proofs.lemmas.Bool.{and_from, eq-eqb, le-leb}
+use Rattle.std.proofs.Common.{◌≡◌, ◌≢◌, ℕ, true, List, ◌∷◌, length, Contains, Option, Some, None, IfSome, slice_get, slice_set, refl, sym, ◌∙◌, ap, subst, inl, inr}
 use Rattle.std.proofs.lemmas.Option.{slice_get_within}
 use Rattle.sd_disk.specs.Contents.{file_at}
 use Rattle.sd_gate.specs.declared.phase.Phase.{Phase}
@@ -26,7 +25,10 @@ use Rattle.sd_crash_safety.specs.Believes.{HasStore, IsCovered, ShowsLast, Shows
 use Rattle.sd_crash_safety.specs.GateSteps.{GateSteps, GateStepsAt, IsOnlyTwin, MayClose}
 use Rattle.sd_crash_safety.specs.InUse.{NoneAt}
 use Rattle.sd_crash_safety.specs.StoreSteps.{IsShut, MayOpen, SlotIsOpened}
-use Rattle.sd_crash_safety.proofs.Places.{body_again, in_front, set_again, set_other, set_same}
+use Rattle.sd_image.proofs.ReadyLemmas.{image_opens}
+use Rattle.sd_store_laws.proofs.SlotSteps.{set_other}
+use Rattle.sd_store_laws.proofs.Pending.{adds_front as in_front}
+use Rattle.sd_crash_safety.proofs.Places.{body_again, set_again, set_same}
 use Rattle.sd_crash_safety.proofs.QuietSteps.{asked_cases}
 
 -- ---- one belief changes
@@ -67,12 +69,6 @@ module _ (phases : List Phase) (bodies : List (List ℕ)) (beliefs : List Belief
     | inl it ↦ subst (IsCovered phases bodies now) (sym it) own
     | inr old ↦ elsewhere r (none other r old.1) (before other r old.1)
   ]
-
-image_opens : (file : List ℕ) (i : Image) → IsImage file i → is_open file ≡ true
-image_opens file i image =
-    let long : 4096 ≤ length file = omega (arith, image.header.fills) in
-    and_from (nat_le 4096 (length file)) (nat_eq (slice_index file 0) 165) (le-leb 4096 (length file) long)
-    (eq-eqb (slice_index file 0) 165 (ap (λ (bytes : List ℕ). slice_index bytes 0) image.spelled))
 
 -- an image that is believed to be opening, in a slot whose file is whole, is the slot's
 whole_is : (body : List ℕ) (i : Image) → MayBelieve Whole body (Opening i) → IsImage (gate ∷ body) i

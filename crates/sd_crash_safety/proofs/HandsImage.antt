@@ -1,5 +1,5 @@
 -- What is known of an image once an outcome of its plan's call was handed in, and it goes on.
-use Rattle.std.proofs.Common.{◌≡◌, ◌≢◌, ◌⊎◌, ℕ, suc, ◌==◌, ◌&&◌, true, if◌then◌else◌, List, [], ◌∷◌, length, Option, Some, None, refl, sym, ◌∙◌, ap, subst, inl, inr, arith}
+use Rattle.std.proofs.Common.{◌≡◌, ◌≢◌, ◌⊎◌, ℕ, ◌==◌, ◌&&◌, true, if◌then◌else◌, List, [], ◌∷◌, Option, Some, None, refl, sym, ◌∙◌, ap, subst, inl, inr}
 use Rattle.std.proofs.lemmas.Bool.{false≢true}
 use Rattle.sd_image.specs.declared.header.Header.{Header}
 use Rattle.sd_image.specs.declared.header.Kind.{Kind}
@@ -92,10 +92,6 @@ pub record SlotGoesOn (stage : Stage) (order : ImageOrder) (pages : Pages) (phas
   pub slot_is : IsSlotFor stage order pages (after phase request.id.call true) (body_after body request.id.call request.bytes) None (belief_after (closes_for_sure phase request.id.call) belief) dump
   pub exact : (belief_after (closes_for_sure phase request.id.call) belief ≡ Closed)
       ⊎ IsBelievedAs (after phase request.id.call true) (body_after body request.id.call request.bytes) (belief_after (closes_for_sure phase request.id.call) belief)
-
-no_pages : (pages : Pages) → length pages ≡ 0 → pages ≡ []
-no_pages [] none = refl
-no_pages (p ∷ pages) none = absurd (let no : suc (length pages) ≡ 0 = none in omega (arith, no))
 
 module _ (order : ImageOrder) (pages : Pages) (phase : Phase) (body : List ℕ) (request : Asked) (belief : Belief) (dump : Option Image) (next : Planned) where
   abbrev then_phase : Phase

@@ -53,7 +53,8 @@ use Rattle.sd_crash_safety.proofs.HandsSlot.{belief_after, closed_exact, closing
 use Rattle.sd_crash_safety.proofs.Lanes.{body_still, lanes_beside, no_pages as no_pages_of, plan_outside}
 use Rattle.sd_crash_safety.proofs.MergeStays.{ChangesAt, HoldsStill, holds_same, leaves_at, merge_then, merging_of, own_beside, retires_still, slots_at, spares_on}
 use Rattle.sd_crash_safety.proofs.OpenCore.{believes_parts}
-use Rattle.sd_crash_safety.proofs.Places.{body_other, id_there, ids_set, set_count, set_other, set_same}
+use Rattle.sd_store_laws.proofs.SlotSteps.{set_other}
+use Rattle.sd_crash_safety.proofs.Places.{body_other, id_there, ids_set, set_count, set_same}
 
 -- ---- an outcome of the dumper's
 

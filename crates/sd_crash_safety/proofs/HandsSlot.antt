@@ -24,6 +24,7 @@ use Rattle.sd_store_laws.specs.Beliefs.{Belief, Closed, Opening, FitsBelief}
 use Rattle.sd_store_laws.specs.Gates.{IsBelievedAs, IsInDoubt, MayBelieve}
 use Rattle.sd_crash_safety.specs.DumperOutcomes.{closes_for_sure, is_being_closed, is_sync}
 use Rattle.sd_crash_safety.specs.InUse.{ClosesBody, IsFilledSlot, IsFormatting, IsSlotFor, is_opening_at, kind_of_call, pending_dump}
+use Rattle.sd_store_laws.proofs.GateSteps.{is_closed as writes_closed}
 use Rattle.sd_crash_safety.proofs.Leads.{leads_end, leads_head}
 
 pub and_false : (b : Bool) → (b && false) ≡ false
@@ -79,21 +80,6 @@ formatted_sync Ready body belief may is = is
 formatted_sync OpeningPhase body belief may is = absurd (false≢true may)
 formatted_sync Doubt body belief may is = absurd (false≢true may)
 formatted_sync DoubtSynced body belief may is = absurd (false≢true may)
-
--- a slot that may be written is closed
-pub writes_closed : (phase : Phase) (body : List ℕ) (belief : Belief) → may_write phase ≡ true → IsBelievedAs phase body belief → belief ≡ Closed
-writes_closed Raw body belief may is = absurd (false≢true may)
-writes_closed RawClosing body belief may is = absurd (false≢true may)
-writes_closed Whole body belief may is = absurd (false≢true may)
-writes_closed ClosingPhase body belief may is = absurd (false≢true may)
-writes_closed Shut body belief may is = is
-writes_closed ShutSynced body belief may is = is
-writes_closed Bare body belief may is = is
-writes_closed Writing body belief may is = is
-writes_closed Ready body belief may is = is
-writes_closed OpeningPhase body belief may is = absurd (false≢true may)
-writes_closed Doubt body belief may is = absurd (false≢true may)
-writes_closed DoubtSynced body belief may is = absurd (false≢true may)
 
 -- no other call than a sync closes for sure
 only_syncs : (phase : Phase) (call : Call) → call ≢ Sync → closes_for_sure phase call ≡ false

@@ -3,7 +3,6 @@ use Rattle.std.proofs.Common.{◌≡◌, ◌≢◌, ◌⊎◌, ℕ, zero, suc, �
 use Rattle.std.proofs.lemmas.Bool.{both_ways}
 use Rattle.std.proofs.lemmas.Option.{same_Some}
 use Rattle.sd_gate.specs.declared.call.Call.TheVariants.{Write}
-use Rattle.sd_gate.specs.declared.request_id.RequestId.{RequestId}
 use Rattle.sd_gate.specs.Laws.{WritesCommute}
 use Rattle.sd_gate.specs.Phases.{body_after}
 use Rattle.sd_gate.specs.Requests.{Asked}
@@ -64,12 +63,6 @@ lanes_ids (a ∷ b ∷ []) = refl
 lanes_ids (a ∷ b ∷ c ∷ asked) = refl
 
 -- ---- no write is out
-
-pub nobody_writes : (writes : List (Option RequestId)) (lane : ℕ) (id : RequestId) → is_any_out writes ≡ false → slice_get writes lane ≡ Some (Some id) → ⊥
-nobody_writes [] lane id none is = let no : None ≡ Some (Some id) = is in cc
-nobody_writes (None ∷ writes) zero id none is = let no : Some None ≡ Some (Some id) = is in cc
-nobody_writes (None ∷ writes) (suc lane) id none is = nobody_writes writes lane id none is
-nobody_writes (Some out ∷ writes) lane id none is = both_ways true none refl
 
 none_out : (body : List ℕ) (lanes : List (Option Asked)) → is_any_out (ids_of lanes) ≡ false → body_written body lanes ≡ body
 none_out body [] none = refl

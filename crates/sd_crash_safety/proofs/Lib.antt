@@ -15,7 +15,7 @@ mod GateSteps
 mod HandsImage
 mod HandsLaw
 mod HandsSlot
-mod Lanes
+pub mod Lanes
 mod Leads
 mod MergeStays
 mod MergerAsks
@@ -31,11 +31,11 @@ mod MergerSource
 mod MergerUse
 mod NoClear
 mod OpenCore
-mod OpenerSteps
+pub mod OpenerSteps
 mod OpensLaw
 mod PageLaw
 mod PageTold
-mod Performed
+pub mod Performed
 mod Places
 mod QuietSteps
 mod Reopened

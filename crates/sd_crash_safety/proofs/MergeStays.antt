@@ -1,5 +1,5 @@
 -- What is known of a merge stays while others go on.
-use Rattle.std.proofs.Common.{◌≡◌, ◌≢◌, ◌⊎◌, ℕ, zero, suc, ◌<◌, ◌≤◌, IfSome, List, [], ◌∷◌, length, replicate, Option, Some, None, Contains, option_and_then, slice_get, slice_set, refl, sym, ◌∙◌, ap, subst, inl, inr, arith}
+use Rattle.std.proofs.Common.{◌≡◌, ◌≢◌, ◌⊎◌, ℕ, zero, suc, ◌<◌, ◌≤◌, IfSome, List, [], ◌∷◌, length, Option, Some, None, Contains, option_and_then, slice_get, slice_set, refl, sym, ◌∙◌, ap, subst, inl, inr, arith}
 use Rattle.std.proofs.lemmas.Bool.{cases_eq}
 use Rattle.std.proofs.lemmas.List.Elements.{Contains-append_right}
 use Rattle.std.proofs.lemmas.Option.{same_Some}
@@ -17,11 +17,9 @@ use Rattle.sd_merge.specs.declared.stage.Stage.TheVariants as copy
 use Rattle.sd_merge.specs.Copying.{Copying}
 use Rattle.sd_merge.specs.Merger.{Doing, Retiring, due, copying, opened, retiring}
 use Rattle.sd_merge.specs.Merger as merger
-use Rattle.sd_merge.specs.Merging.{KeepsCopy}
 use Rattle.sd_rounds.specs.declared.stage.Stage.TheVariants.{Format}
 use Rattle.sd_rounds.specs.Dumper.{IsReserved, Running}
 use Rattle.sd_rounds.specs.Making.{Making}
-use Rattle.sd_rounds.specs.MakingLaws.{Pages}
 use Rattle.sd_rounds.specs.Pass.{Place}
 use Rattle.sd_store_laws.specs.Beliefs.{AreSlotsOf, Belief, Kept, Opening, image_at, image_in}
 use Rattle.sd_store_laws.specs.Cut.{CutHoldsTheSame}
@@ -36,7 +34,8 @@ use Rattle.sd_crash_safety.specs.declared.standing.Standing.TheVariants.{Open}
 use Rattle.sd_crash_safety.specs.InUse.{IsNewNumber, IsSlotFor, body_written}
 use Rattle.sd_crash_safety.specs.Merges.{AreSpelled, IsAskedIn, IsCopyOn, IsCutOn, IsListedOn, IsMergeAt, IsMergeInUse, IsMergeOn, IsRepeating, IsRetiredOn, IsSpared, IsUnmerged, IsOtherImage, MakesOther, lanes_in_slot, order_of_slot, request_in_slot, stage_in_slot}
 use Rattle.sd_crash_safety.specs.View.{CoreView}
-use Rattle.sd_crash_safety.proofs.Places.{set_other}
+use Rattle.sd_merge.proofs.MergingLemmas.{stays as copy_stays}
+use Rattle.sd_store_laws.proofs.SlotSteps.{set_other}
 
 -- the slots as they are believed to be
 pub record Slots : Type 0 where
@@ -61,29 +60,6 @@ pub record HoldsStill (old new : List Image) (source : Image) : Type 0 where
 
 pub holds_same : (catalog : List Image) (source : Image) → HoldsStill catalog catalog source
 holds_same catalog source = record { holds = λ space page bytes holds. holds; reaches = λ end way. way; stands = λ j member same. member }
-
--- what was copied so far is still a copy
-pub copy_stays : (catalog other : List Image) (source : Image) (pages : Pages) (made : Copying)
-    → ((space page : ℕ) (bytes : List ℕ) → Holds catalog space page bytes source → Holds other space page bytes source)
-    → KeepsCopy catalog source pages made → KeepsCopy other source pages made
-copy_stays catalog other source pages made holds k = record {
-  count = k.count;
-  whole = k.whole;
-  digested = k.digested;
-  rest = k.rest;
-  merging = record {
-    all = k.merging.all;
-    copy = record {
-      zero = λ at member. holds at.0 at.1 (replicate 4096 0) (k.merging.copy.zero at member);
-      pages = λ place at there. (let page = k.merging.copy.pages place at there in (page.0, page.1, holds at.0 at.1 page.0 page.2));
-      none = k.merging.copy.none;
-    };
-  };
-  ahead = k.ahead;
-  taking = k.taking;
-  read = λ at bytes takes has. (let read = k.read at bytes takes has in (read.0, holds at.0 at.1 bytes read.1));
-  over = k.over;
-}
 
 -- The slots that the checkpoint spares are as they were, and it spares as many; nobody needs more in these; and what is new in the others
 -- isn't the merged image.

@@ -14,7 +14,6 @@ use Rattle.sd_gate.specs.Phases.{is_ready}
 use Rattle.sd_gate.specs.Plans.{Gives, Planned}
 use Rattle.sd_gate.specs.Requests.{Asked}
 use Rattle.sd_journal.specs.History.{History}
-use Rattle.sd_merge.specs.declared.copy_order.CopyOrder.{CopyOrder}
 use Rattle.sd_merge.specs.declared.merge_step.MergeStep.TheVariants.{Call}
 use Rattle.sd_merge.specs.declared.stage.Stage.{Stage as CopyStage}
 use Rattle.sd_merge.specs.declared.stage.Stage.TheVariants as copy
@@ -22,7 +21,7 @@ use Rattle.sd_merge.specs.Copying.{Asks, Copying, IsReadyFor, plan_of as copy_pl
 use Rattle.sd_merge.specs.Files.{FileLaws, IsFiled, IsFiledIn}
 use Rattle.sd_merge.specs.Merger.{copying}
 use Rattle.sd_merge.specs.Merger as merger
-use Rattle.sd_merge.specs.Merging.{IsOverIn, KeepsCopy}
+use Rattle.sd_merge.specs.Merging.{KeepsCopy}
 use Rattle.sd_rounds.specs.declared.image_order.ImageOrder.{ImageOrder}
 use Rattle.sd_rounds.specs.Dumper.{Running}
 use Rattle.sd_rounds.specs.Making.{plan_of, with_plan}
@@ -42,6 +41,8 @@ use Rattle.sd_crash_safety.specs.MergerSteps.{AsksForMerged}
 use Rattle.sd_crash_safety.specs.Merges.{IsAskedIn, IsCopyOfSource, IsCopyOn, IsMergeAt, IsMergeOn, MakesOther, lanes_in_slot, order_of_slot, request_in_slot, stage_in_slot}
 use Rattle.sd_crash_safety.specs.StoreSteps.{MayAsk, QuietSteps}
 use Rattle.sd_crash_safety.specs.View.{CoreView, history_of}
+use Rattle.sd_merge.proofs.MergingLemmas.{over_asked as over_with}
+use Rattle.sd_merge.proofs.FileLemmas.{filed_asked as filed_with}
 use Rattle.sd_crash_safety.proofs.Asks.{HasIt, IsChangedAt, changed_by, unchanged_at}
 use Rattle.sd_crash_safety.proofs.AsksImage.{plan_on}
 use Rattle.sd_crash_safety.proofs.AsksSlot.{AsksOn, AsksQuietly, AsksToClose, AsksToOpen, asks_on, image_in_stage}
@@ -69,14 +70,6 @@ plan_in_slot (copy.PageRead own) entries taking read plan next request ready oth
 plan_in_slot (copy.PageWrite own) entries taking read plan next request ready other was gives = absurd (other own refl)
 plan_in_slot (copy.Close own header tables) entries taking read plan next request ready other was gives = (was, refl, λ r. refl, λ r. refl, λ r. refl, λ r. refl)
 
--- what is known of the copy stays
-over_with : (stage : CopyStage) (next : Planned) (rest : List Place) → IsOverIn stage rest → IsOverIn (copy_with stage next) rest
-over_with (copy.Format own) next rest is = is
-over_with copy.Pass next rest is = is
-over_with (copy.PageRead own) next rest is = is
-over_with (copy.PageWrite own) next rest is = is
-over_with (copy.Close own header tables) next rest is = is
-
 pub copy_on : (catalog : List Image) (source : Image) (pages : Pages) (made : Copying) (next : Planned) → KeepsCopy catalog source pages made
     → KeepsCopy catalog source pages (record made { stage = copy_with made.stage next })
 copy_on catalog source pages made next k = record {
@@ -90,14 +83,6 @@ copy_on catalog source pages made next k = record {
   read = k.read;
   over = over_with made.stage next k.rest k.over;
 }
-
-filed_with : (stage : CopyStage) (next : Planned) (order : CopyOrder) (source : Image) (entries : List ImageEntry) (pages : Pages)
-    → IsFiledIn stage order source entries pages → IsFiledIn (copy_with stage next) order source entries pages
-filed_with (copy.Format own) next order source entries pages is = is
-filed_with copy.Pass next order source entries pages is = is
-filed_with (copy.PageRead own) next order source entries pages is = is
-filed_with (copy.PageWrite own) next order source entries pages is = is
-filed_with (copy.Close own header tables) next order source entries pages is = is
 
 asked_with : (stage : CopyStage) (next : Planned) (plan : Planned) (request : Asked) (is : (r : Option Asked) → request_in_slot (copy_with stage next) r ≡ r)
     (phases : List Phase) (bodies : List (List ℕ)) (store : Store) (beliefs : List Belief) (running : Option Running) (target : ℕ) (source : Image) (page : Option Place)

@@ -57,10 +57,12 @@ use Rattle.sd_crash_safety.specs.View.{CoreView, history_of}
 use Rattle.sd_crash_safety.proofs.HandsImage.{SlotGoesOn, calls_of_done, hands_slot}
 use Rattle.sd_crash_safety.proofs.HandsLaw.{file_set, opening_before}
 use Rattle.sd_crash_safety.proofs.HandsSlot.{and_false, belief_after, closed_exact}
-use Rattle.sd_crash_safety.proofs.MergeStays.{copy_stays, holds_same, slots_at}
+use Rattle.sd_merge.proofs.MergingLemmas.{stays as copy_stays}
+use Rattle.sd_crash_safety.proofs.MergeStays.{holds_same, slots_at}
 use Rattle.sd_crash_safety.proofs.MergerOutcome.{SlotHandedIn, asked_then, believes_handed, bodies_then, count_handed, has_handed, ids_handed, others_handed, phases_then, slot_handed, store_same, use_handed}
 use Rattle.sd_crash_safety.proofs.PageTold.{page_told}
-use Rattle.sd_crash_safety.proofs.Places.{body_other, set_count, set_other, set_same}
+use Rattle.sd_store_laws.proofs.SlotSteps.{set_other}
+use Rattle.sd_crash_safety.proofs.Places.{body_other, set_count, set_same}
 
 -- ---- it failed
 

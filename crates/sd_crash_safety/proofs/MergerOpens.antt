@@ -66,7 +66,8 @@ use Rattle.sd_crash_safety.proofs.MergerReplaced.{IsRepeated, own_jobs, store_re
 use Rattle.sd_crash_safety.proofs.MergerRetires.{begun_at, retired_begins}
 use Rattle.sd_crash_safety.proofs.OpenCore.{believes_parts}
 use Rattle.sd_crash_safety.proofs.OpensLaw.{IsOpenThen, open_then}
-use Rattle.sd_crash_safety.proofs.Places.{has_too, set_count, set_other, set_same}
+use Rattle.sd_store_laws.proofs.SlotSteps.{set_other}
+use Rattle.sd_crash_safety.proofs.Places.{has_too, set_count, set_same}
 use Rattle.sd_crash_safety.proofs.WorkStays.{IsMakingNumber}
 
 -- ---- the dump whose gate is being opened

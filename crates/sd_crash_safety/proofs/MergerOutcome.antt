@@ -53,7 +53,8 @@ use Rattle.sd_crash_safety.proofs.HandsSlot.{belief_after, closed_exact, closing
 use Rattle.sd_crash_safety.proofs.MergeStays.{HoldsStill, IsSameSlot, Slots, holds_same, retires_still, slots_at}
 use Rattle.sd_crash_safety.proofs.MergerUse.{other_slot}
 use Rattle.sd_crash_safety.proofs.OpenCore.{believes_parts}
-use Rattle.sd_crash_safety.proofs.Places.{body_other, id_there, ids_set, set_count, set_other, set_same}
+use Rattle.sd_store_laws.proofs.SlotSteps.{set_other}
+use Rattle.sd_crash_safety.proofs.Places.{body_other, id_there, ids_set, set_count, set_same}
 use Rattle.sd_crash_safety.proofs.WorkStays.{IsMakingNumber, LeavesWork, work_beside}
 use Rattle.sd_crash_safety.proofs.Lanes.{lanes_beside}
 

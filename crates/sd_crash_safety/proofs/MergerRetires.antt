@@ -49,7 +49,8 @@ use Rattle.sd_crash_safety.proofs.HandsLaw.{file_set}
 use Rattle.sd_crash_safety.proofs.HandsSlot.{belief_after}
 use Rattle.sd_crash_safety.proofs.Leads.{leads_end, leads_head}
 use Rattle.sd_crash_safety.proofs.MergerOutcome.{SlotHandedIn, asked_then, believes_handed, bodies_then, none_on, phases_then, slot_handed}
-use Rattle.sd_crash_safety.proofs.Places.{has_too, set_other, set_same}
+use Rattle.sd_store_laws.proofs.SlotSteps.{set_other}
+use Rattle.sd_crash_safety.proofs.Places.{has_too, set_same}
 
 -- ---- an image of the list begins to be closed
 

@@ -17,7 +17,8 @@ use Rattle.sd_crash_safety.specs.MergerSteps.{MakesInItsSlot}
 use Rattle.sd_crash_safety.specs.Merges.{IsSpared, MakesOther}
 use Rattle.sd_crash_safety.proofs.Asks.{HasIt, IsChangedAt, same_images}
 use Rattle.sd_crash_safety.proofs.MergeStays.{slots_at}
-use Rattle.sd_crash_safety.proofs.Places.{set_other, set_same}
+use Rattle.sd_store_laws.proofs.SlotSteps.{set_other}
+use Rattle.sd_crash_safety.proofs.Places.{set_same}
 use Rattle.sd_crash_safety.proofs.WorkStays.{LeavesWork, work_beside}
 use Rattle.sd_crash_safety.proofs.Lanes.{lanes_beside}
 

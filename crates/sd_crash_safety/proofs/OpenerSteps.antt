@@ -29,8 +29,9 @@ use Rattle.sd_crash_safety.specs.OpenerSteps.{Decodes, GivesUpOpening, IsHandedT
 use Rattle.sd_crash_safety.specs.StoreSteps.{IsOutcomeOf, MayAsk, QuietSteps}
 use Rattle.sd_crash_safety.specs.View.{CoreView, history_of}
 use Rattle.sd_rounds.specs.Writes.{no_writes}
-use Rattle.sd_crash_safety.proofs.Lanes.{nobody_writes}
-use Rattle.sd_crash_safety.proofs.Places.{free_there, id_there, ids_set, nobody_out, set_count, set_other, set_same}
+use Rattle.sd_rounds.proofs.WriteLemmas.{none_at as nobody_writes}
+use Rattle.sd_store_laws.proofs.SlotSteps.{set_other}
+use Rattle.sd_crash_safety.proofs.Places.{free_there, id_there, ids_set, nobody_out, set_count, set_same}
 
 -- ---- phases
 
@@ -163,7 +164,7 @@ given_up_count : (phases : List Phase) → length (map given_up phases) ≡ leng
 given_up_count [] = refl
 given_up_count (p ∷ phases) = ap suc (given_up_count phases)
 
-given_up_at : (phases : List Phase) (slot : ℕ) (phase : Phase) → slice_get (map given_up phases) slot ≡ Some phase
+pub given_up_at : (phases : List Phase) (slot : ℕ) (phase : Phase) → slice_get (map given_up phases) slot ≡ Some phase
     → (was : Phase) × (slice_get phases slot ≡ Some was) × (phase ≡ given_up was)
 given_up_at [] slot phase is = absurd cc
 given_up_at (p ∷ phases) zero phase is = (p, refl, first is)

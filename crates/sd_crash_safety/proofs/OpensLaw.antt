@@ -54,7 +54,8 @@ use Rattle.sd_crash_safety.proofs.AsksLaw.{its_parent}
 use Rattle.sd_crash_safety.proofs.BeginsImage.{in_front}
 use Rattle.sd_crash_safety.proofs.HandsImage.{calls_of_done}
 use Rattle.sd_crash_safety.proofs.HandsLaw.{count_then, file_set, has_then, ids_then, known_plan}
-use Rattle.sd_crash_safety.proofs.Places.{body_other, id_there, ids_set, set_count, set_other, set_same}
+use Rattle.sd_store_laws.proofs.SlotSteps.{set_other}
+use Rattle.sd_crash_safety.proofs.Places.{body_other, id_there, ids_set, set_count, set_same}
 use Rattle.sd_crash_safety.proofs.MergeStays.{ChangesAt, HoldsStill, SparesAsMuch, adds_still, fresh_of, leaves_at, merge_then, merging_of, own_beside, slots_at}
 use Rattle.sd_crash_safety.proofs.OpenCore.{believes_parts}
 use Rattle.sd_crash_safety.proofs.Leads.{leads_end, leads_head}

@@ -27,7 +27,8 @@ use Rattle.sd_crash_safety.proofs.HandsSlot.{closed_exact}
 use Rattle.sd_crash_safety.proofs.Lanes.{lanes_get, lanes_set, pages_less, written_less}
 use Rattle.sd_crash_safety.proofs.MergeStays.{ChangesAt, holds_same, leaves_at, merge_then, merging_of, slots_at, spares_on}
 use Rattle.sd_crash_safety.proofs.OpenCore.{believes_parts}
-use Rattle.sd_crash_safety.proofs.Places.{body_other, ids_set, set_count, set_other, set_same}
+use Rattle.sd_store_laws.proofs.SlotSteps.{set_other}
+use Rattle.sd_crash_safety.proofs.Places.{body_other, ids_set, set_count, set_same}
 
 passing_stage : (stage : Stage) → is_passing stage ≡ true → stage ≡ PassStage
 passing_stage (Format plan) is = absurd (false≢true is)

@@ -50,10 +50,11 @@ use Rattle.sd_opener.specs.declared.stage.Stage.TheVariants.{Asking, Read as Rea
 use Rattle.sd_opener.specs.Looking.{Looking}
 use Rattle.sd_opener.specs.Sees.{Sees, SeesSlot}
 use Rattle.sd_crash_safety.proofs.Lanes.{lane_cases, lanes_beside, lanes_get, lanes_ids, lanes_set, put_cases}
-use Rattle.sd_crash_safety.proofs.Places.{ids_same, set_other, set_same}
+use Rattle.sd_store_laws.proofs.SlotSteps.{set_other}
+use Rattle.sd_crash_safety.proofs.Places.{ids_same, set_same}
 
 -- a body after a call is the same where the call kept its bytes
-kept_body : (body : List ℕ) (call : Call) (old new : List ℕ) → AreKept call old new → body_after body call new ≡ body_after body call old
+pub kept_body : (body : List ℕ) (call : Call) (old new : List ℕ) → AreKept call old new → body_after body call new ≡ body_after body call old
 kept_body body Len old new kept = refl
 kept_body body (Read at) old new kept = refl
 kept_body body (Write at) old new kept = ap (body_after body (Write at)) kept

@@ -1,17 +1,13 @@
 -- Lists of which one place changes.
-use Rattle.std.proofs.Common.{◌≡◌, ◌≢◌, ◌⊎◌, ℕ, zero, suc, ◌<◌, true, false, List, [], ◌∷◌, length, Option, Some, None, slice_get, slice_index_or, slice_set, Contains, refl, sym, ◌∙◌, ap, inl, inr, arith}
-use Rattle.std.proofs.lemmas.Bool.{both_ways}
+use Rattle.std.proofs.Common.{◌≡◌, ◌≢◌, ℕ, zero, suc, ◌<◌, List, [], ◌∷◌, length, Option, Some, None, slice_get, slice_set, refl, sym, ◌∙◌, ap, arith}
 use Rattle.std.proofs.lemmas.Option.{slice_get_within}
 use Rattle.sd_disk.specs.Contents.{file_at}
-use Rattle.sd_gate.specs.declared.request_id.RequestId.{RequestId}
 use Rattle.sd_gate.specs.Requests.{Asked}
-use Rattle.sd_image.specs.Image.{Image}
-use Rattle.sd_store_laws.specs.Steps.{Adds}
 use Rattle.sd_crash_safety.specs.Calls.{NoneOut}
-use Rattle.sd_gate.specs.Lanes.{is_any_out}
 use Rattle.sd_crash_safety.specs.InUse.{id_of, ids_of}
 use Rattle.sd_crash_safety.specs.OpenerSteps.{nobody}
 use Rattle.std.specs.Option.{option_map}
+use Rattle.sd_rounds.proofs.WriteLemmas.{none_at as none_in}
 
 -- lists of one length have values at the same places
 pub has_too : {X Y : Type 0} (xs : List X) (ys : List Y) (at : ℕ) (x : X) → length ys ≡ length xs → slice_get xs at ≡ Some x
@@ -47,31 +43,10 @@ set_count [] at x = refl
 set_count (y ∷ xs) zero x = refl
 set_count (y ∷ xs) (suc at) x = ap suc (set_count xs at x)
 
-pub set_other : {X : Type 0} (xs : List X) (at k : ℕ) (x : X) → k ≢ at → slice_get (slice_set xs at x) k ≡ slice_get xs k
-set_other [] at k x other = refl
-set_other (y ∷ xs) zero zero x other = absurd (other refl)
-set_other (y ∷ xs) zero (suc k) x other = refl
-set_other (y ∷ xs) (suc at) zero x other = refl
-set_other (y ∷ xs) (suc at) (suc k) x other = set_other xs at k x (λ same. other (ap suc same))
-
 pub set_same : {X : Type 0} (xs : List X) (at : ℕ) (was x : X) → slice_get xs at ≡ Some was → slice_get (slice_set xs at x) at ≡ Some x
 set_same [] at was x e = absurd cc
 set_same (y ∷ xs) zero was x e = refl
 set_same (y ∷ xs) (suc at) was x e = set_same xs at was x e
-
--- an image more
-pub in_front : (images : List Image) (i : Image) → Adds images i (i ∷ images)
-in_front images i j = (λ c. front j c.0 c.1 c.2, λ e. back j e)
-  where
-    front : (j : Image) (k : ℕ) → k < length (i ∷ images) → slice_index_or (i ∷ images) k j ≡ j → (j ≡ i) ⊎ Contains images j
-    front j zero within is = inl (sym is)
-    front j (suc k) within is = inr (k, omega arith, is)
-
-    back : (j : Image) → (j ≡ i) ⊎ Contains images j → Contains (i ∷ images) j
-    back j e = elim e [
-      | inl same ↦ (0, omega arith, sym same)
-      | inr among ↦ (suc among.0, omega arith, among.2)
-    ]
 
 -- ---- the ids of requests that are out
 
@@ -105,13 +80,6 @@ free_there [] at is = absurd cc
 free_there (None ∷ asked) zero is = refl
 free_there (Some r ∷ asked) zero is = absurd (let no : Some (Some r.id) ≡ Some None = is in cc)
 free_there (a ∷ asked) (suc at) is = free_there asked at is
-
--- no id is in a list of none
-none_in : (ids : List (Option RequestId)) (at : ℕ) (id : RequestId) → is_any_out ids ≡ false → slice_get ids at ≡ Some (Some id) → ⊥
-none_in [] at id none is = let no : None ≡ Some (Some id) = is in cc
-none_in (None ∷ ids) zero id none is = let no : Some None ≡ Some (Some id) = is in cc
-none_in (None ∷ ids) (suc at) id none is = none_in ids at id none is
-none_in (Some own ∷ ids) at id none is = both_ways true none refl
 
 pub nobody_out : (asked : List (Option Asked)) → ids_of asked ≡ nobody → NoneOut asked
 nobody_out asked is worker request out = none_in nobody worker request.id refl (ap (λ ids. slice_get ids worker) (sym is) ∙ id_there asked worker request out)

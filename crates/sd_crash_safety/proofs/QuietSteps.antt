@@ -25,7 +25,8 @@ use Rattle.sd_store_laws.specs.Store.{Store}
 use Rattle.sd_crash_safety.specs.Believes.{HasStore, IsCovered, ShowsPending}
 use Rattle.sd_crash_safety.specs.Calls.{WritesDataPage}
 use Rattle.sd_crash_safety.specs.StoreSteps.{AreGivenUp, IsOutcomeOf, IsQuiet, MayAsk, QuietSteps}
-use Rattle.sd_crash_safety.proofs.Places.{body_other, has_too, set_again, set_count, set_other, set_same}
+use Rattle.sd_store_laws.proofs.SlotSteps.{set_other}
+use Rattle.sd_crash_safety.proofs.Places.{body_other, has_too, set_again, set_count, set_same}
 
 -- a slot has one phase
 same_phase : (phases : List Phase) (slot : ℕ) (one other : Phase) → slice_get phases slot ≡ Some one → slice_get phases slot ≡ Some other → one ≡ other

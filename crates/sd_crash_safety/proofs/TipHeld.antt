@@ -13,13 +13,14 @@ use Rattle.sd_image.specs.declared.header.Kind.TheVariants.{PreDump, Dump, Merge
 use Rattle.sd_image.specs.declared.run.Run.{Run}
 use Rattle.sd_image.specs.Image.{Image}
 use Rattle.sd_image.specs.Laws.{SerialsDiffer}
-use Rattle.sd_image.specs.Shows.{Holds, ImagesShow, IsMemory, IsNotAfter, IsTip, page_in}
+use Rattle.sd_image.specs.Shows.{Holds, ImagesShow, IsMemory, IsTip, page_in}
 use Rattle.sd_image.specs.Table.{AreSpaces, Covers, IsTable, Listed, run_pages}
 use Rattle.sd_journal.specs.Allowed.{Shown}
 use Rattle.sd_merge.specs.Merging.{listed_places}
 use Rattle.sd_rounds.specs.Made.{entries_listed, run_entries}
 use Rattle.sd_rounds.specs.Pass as rounds
 use Rattle.sd_rounds.specs.Pass.{ImageEntry, Place}
+use Rattle.sd_store_laws.proofs.Choose.{same_pair as same_serial}
 
 -- ---- the pages of areas
 
@@ -94,12 +95,6 @@ memory_held : (images : List Image) (i : Image) (memory : PlainMemory) → IsMem
 memory_held images i memory is restorable table =
     listed_are (λ at. (bytes : List ℕ) × Holds images at.0 at.1 bytes i) i.header i.spaces restorable table
     (λ s member page. page_held images i s page (page_in memory s.space page) (is.pages s member page))
-
-same_serial : (one other : Image) → IsNotAfter one other → IsNotAfter other one → one.header.serial ≡ other.header.serial
-same_serial one other (inl less) (inl more) = omega (arith, less, more)
-same_serial one other (inl less) (inr even) = let same = even.0 in omega (arith, less, same)
-same_serial one other (inr even) (inl more) = let same = even.0 in omega (arith, more, same)
-same_serial one other (inr even) (inr level) = let less = even.1 in let more = level.1 in omega (arith, less, more)
 
 -- where the store shows what it is to show
 pub tip_held : (catalog : List Image) (shown : Shown) → SerialsDiffer catalog → ImagesShow catalog shown → (tip : Image) → IsTip catalog tip → IsTable tip.header tip.spaces

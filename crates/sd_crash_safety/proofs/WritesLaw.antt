@@ -40,7 +40,8 @@ use Rattle.sd_crash_safety.proofs.Asks.{in_use_from, unchanged_at}
 use Rattle.sd_crash_safety.proofs.Lanes.{IsOther, body_still, lanes_beside, lanes_get, lanes_set, no_pages, pages_more, written_more}
 use Rattle.sd_crash_safety.proofs.MergeStays.{merge_beside, own_beside, spares_on}
 use Rattle.sd_crash_safety.proofs.OpenCore.{believes_parts}
-use Rattle.sd_crash_safety.proofs.Places.{free_there, id_there, ids_set, set_other, set_same}
+use Rattle.sd_store_laws.proofs.SlotSteps.{set_other}
+use Rattle.sd_crash_safety.proofs.Places.{free_there, id_there, ids_set, set_same}
 
 heads : (call first : GateCall) (bytes own : List ℕ) (calls rest : Calls) → (call, bytes) ∷ calls ≡ (first, own) ∷ rest → ◌≡◌ {A = GateCall × List ℕ} (call, bytes) (first, own)
 heads call first bytes own calls rest same = cc

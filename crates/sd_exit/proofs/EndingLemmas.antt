@@ -50,21 +50,6 @@ only_empty (stop.Order why) e = absurd (let f : 1 ≡ 3 = e in omega (arith, f))
 only_empty stop.Refused e = absurd (let f : 1 ≡ 3 = e in omega (arith, f))
 only_empty (stop.Writer error) e = absurd (let f : 1 ≡ 3 = e in omega (arith, f))
 
--- status 2 is that of a line that doesn't fit
-pub only_unfit : (why : Stop) → status_of why ≡ 2 → (number : ℕ) × (why ≡ stop.ScriptLine number)
-only_unfit (stop.Fault EmptyChain) e = absurd (let f : 3 ≡ 2 = e in omega (arith, f))
-only_unfit (stop.ScriptLine number) e = (number, refl)
-only_unfit (stop.Fault (Damaged slot reason)) e = absurd (let f : 1 ≡ 2 = e in omega (arith, f))
-only_unfit (stop.Fault Device) e = absurd (let f : 1 ≡ 2 = e in omega (arith, f))
-only_unfit (stop.Fault OutOfMemory) e = absurd (let f : 1 ≡ 2 = e in omega (arith, f))
-only_unfit stop.NoFrame e = absurd (let f : 1 ≡ 2 = e in omega (arith, f))
-only_unfit stop.CannotReadScript e = absurd (let f : 1 ≡ 2 = e in omega (arith, f))
-only_unfit stop.CannotOpenFolder e = absurd (let f : 1 ≡ 2 = e in omega (arith, f))
-only_unfit stop.NotEmpty e = absurd (let f : 1 ≡ 2 = e in omega (arith, f))
-only_unfit (stop.Order why) e = absurd (let f : 1 ≡ 2 = e in omega (arith, f))
-only_unfit stop.Refused e = absurd (let f : 1 ≡ 2 = e in omega (arith, f))
-only_unfit (stop.Writer error) e = absurd (let f : 1 ≡ 2 = e in omega (arith, f))
-
 module _ (before after : Option (List ℕ)) (refused : Bool) (status : ℕ) where
   -- how a program exits, by how it ended
   abbrev ExitsSo : Result Unit Stop → Type 0

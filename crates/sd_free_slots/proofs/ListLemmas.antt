@@ -28,17 +28,6 @@ noted_none : (count : ℕ) → noted (replicate count None) ≡ 0
 noted_none zero = refl
 noted_none (suc count) = noted_none count
 
-pub notes_nothing : (places : Places) (serial : ℕ) (serials : List (Option ℕ))
-    → ((slot : ℕ) (image : Opened) → slot < length serials → place_of places serial ≡ Some (Some image) → image.slot ≡ slot → ⊥)
-    → Notes places (λ own. own ≡ serial) 1 serials serials
-notes_nothing places serial serials none = record {
-  count = refl;
-  each = λ slot own is. inl is;
-  kept = λ slot own is. inl is;
-  all = λ slot own within s. absurd (none slot s.image within (ap (place_of places) (sym s.is_among) ∙ s.there) s.at);
-  few = omega arith;
-}
-
 some_of : {X : Type 0} (a b : X) → Some (Some a) ≡ Some (Some b) → a ≡ b
 some_of a b e = cc
 
@@ -73,15 +62,6 @@ pub record IsEarly (before : List ℕ) (count serial : ℕ) : Type 0 where
   pub place : ℕ
   pub early : place < count
   pub there : slice_get before place ≡ Some serial
-
-pub notes_none : (places : Places) (before : List ℕ) (serials : List (Option ℕ)) → Notes places (IsEarly before 0) 0 serials serials
-notes_none places before serials = record {
-  count = refl;
-  each = λ slot own is. inl is;
-  kept = λ slot own is. inl is;
-  all = λ slot own within s. let early = s.is_among.early in absurd (omega (arith, early));
-  few = omega arith;
-}
 
 stands_as : (places : Places) (P Q : ℕ → Type 0) (slot serial : ℕ) → ((own : ℕ) → P own → Q own) → StandsInSlot places P slot serial → StandsInSlot places Q slot serial
 stands_as places P Q slot serial to s = record { is_among = to serial s.is_among; image = s.image; there = s.there; at = s.at }

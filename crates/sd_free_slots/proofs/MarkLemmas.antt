@@ -80,18 +80,6 @@ takes_as P Q old new to from t = record {
   );
 }
 
-pub takes_none : (P : ℕ → Type 0) (marks : List Bool) → ((slot : ℕ) → P slot → ⊥) → TakesSlots P marks marks
-takes_none P marks none = record {
-  count = refl;
-  exact = λ slot within. (
-    (λ taken. inl taken),
-    (λ either. elim either [
-      | inl was ↦ was
-      | inr here ↦ absurd (none slot here)
-    ]),
-  );
-}
-
 pub takes_more : (P Q : ℕ → Type 0) (old mid new : List Bool) → TakesSlots P old mid → TakesSlots Q mid new → TakesSlots (λ slot. P slot ⊎ Q slot) old new
 takes_more P Q old mid new one two = record {
   count = two.count ∙ one.count;
@@ -122,9 +110,6 @@ needed_as places P Q old new to from t = record {
   exact = λ fall. (takes_as P Q old new to from (record { count = t.count; exact = t.exact fall })).exact;
 }
 
-pub needed_none : (places : Places) (P : ℕ → Type 0) (marks : List Bool) → ((slot : ℕ) → P slot → ⊥) → TakesNeeded places P marks marks
-needed_none places P marks none = record { count = refl; kept = λ slot is. is; exact = λ fall. (takes_none P marks none).exact }
-
 pub needed_more : (places : Places) (P Q : ℕ → Type 0) (old mid new : List Bool) → TakesNeeded places P old mid → TakesNeeded places Q mid new
     → TakesNeeded places (λ slot. P slot ⊎ Q slot) old new
 needed_more places P Q old mid new one two = record {
@@ -142,9 +127,6 @@ pub record IsAmong {X : Type 0} (slot_in : X → Option ℕ) (list : List X) (co
   pub early : place < count
   pub there : slice_get list place ≡ Some one
   pub has : slot_in one ≡ Some slot
-
-pub among_none : {X : Type 0} (slot_in : X → Option ℕ) (list : List X) (marks : List Bool) → TakesSlots (IsAmong slot_in list 0) marks marks
-among_none slot_in list marks = takes_none (IsAmong slot_in list 0) marks (λ slot a. let early = a.early in omega (arith, early))
 
 pub among_more : {X : Type 0} (slot_in : X → Option ℕ) (list : List X) (count next : ℕ) (one : X) (old mid new : List Bool) → next ≡ suc count → slice_get list count ≡ Some one
     → TakesSlots (IsAmong slot_in list count) old mid → TakesSlots (λ slot. slot_in one ≡ Some slot) mid new → TakesSlots (IsAmong slot_in list next) old new

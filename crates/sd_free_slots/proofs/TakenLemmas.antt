@@ -24,10 +24,6 @@ pub parent_names : (places : Places) (running : Option Running) (parent : ℕ) (
 parent_names places None parent start is names = absurd names
 parent_names places (Some running) parent start is names = subst (λ n. Names places n start) (same_Some running.parent parent is) names
 
-pub names_none : (places : Places) (running : Option Running) (start : Opened) → parent_of running ≡ None → NamesParent places running start → ⊥
-names_none places None start is names = names
-names_none places (Some running) start is names = (let no : Some running.parent ≡ None = is in cc)
-
 -- ---- images that are needed
 
 pub needed_of : (places : Places) (running : Option Running) (merge : Option merger.Running) (tip parent source : Option ℕ)

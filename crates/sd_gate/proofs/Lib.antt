@@ -1,12 +1,12 @@
 mod BodyLemmas
-mod CallLemmas
+pub mod CallLemmas
 mod FitLemmas
 mod LawLemmas
 mod LeftLemmas
 mod PhaseLemmas
 mod SlotsLemmas
 mod PlanLemmas
-mod TakeLemmas
+pub mod TakeLemmas
 mod LookLemmas
 mod CommuteLemmas
 pub mod UseLemmas

@@ -98,7 +98,7 @@ format_takes image Opening body most = retire_takes image Opening body refl most
 format_takes image Doubt body most = retire_takes image Doubt body refl most
 format_takes image DoubtSynced body most = retire_takes image DoubtSynced body refl most
 
-filled_writes : (phase : Phase) → may_write phase ≡ true → may_write (filled phase) ≡ true
+pub filled_writes : (phase : Phase) → may_write phase ≡ true → may_write (filled phase) ≡ true
 filled_writes Raw ready = absurd (false≢true ready)
 filled_writes RawClosing ready = absurd (false≢true ready)
 filled_writes Whole ready = absurd (false≢true ready)

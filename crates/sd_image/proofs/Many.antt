@@ -40,10 +40,6 @@ is_done {X} read after front count i state bytes total le so_far =
     let one : with_front front (many read after (count - i) state bytes) ≡ Ok (front, bytes) = rw k (ap (λ (ns : List X). Ok (ns, bytes)) (append-nil front)) in
     sym so_far ∙ one
 
-pub starts : {X : Type 0} (read : Result (List X × List ℕ) Reason) → with_front [] read ≡ read
-starts (Ok x) = refl
-starts (Err e) = refl
-
 -- the last element
 abbrev pub last_of : {X : Type 0} → List X → Option X
 last_of xs = slice_get xs (length xs - 1)

@@ -81,7 +81,7 @@ image_of_file (file ∷ files) images i (inr a) among =
     ]
 
 -- no image behind has the serial of one that differs from all of theirs
-not_behind : (n : ℕ) (images : List Image) (i : Image) → AllByRecursion (λ k. nat_eq n k ≡ false) (map (λ (j : Image). j.header.serial) images) → Contains images i
+pub not_behind : (n : ℕ) (images : List Image) (i : Image) → AllByRecursion (λ k. nat_eq n k ≡ false) (map (λ (j : Image). j.header.serial) images) → Contains images i
     → n ≡ i.header.serial → ⊥
 not_behind n [] i differ among e = omega (arith, among.1)
 not_behind n (j ∷ images) i differ among e =

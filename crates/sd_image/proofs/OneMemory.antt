@@ -28,7 +28,7 @@ data_not_parent e = cc
 zero_not_parent : Zero ≡ Parent → ⊥
 zero_not_parent e = cc
 
-named_once_among : (images : List Image) (number : ℕ) (i j : Image) → SerialsDiffer images → IsNamed images number i → IsNamed images number j → i ≡ j
+pub named_once_among : (images : List Image) (number : ℕ) (i j : Image) → SerialsDiffer images → IsNamed images number i → IsNamed images number j → i ≡ j
 named_once_among images number i j differ a b =
     let low = a.greatest j b.member b.stands in
     let high = b.greatest i a.member a.stands in

@@ -38,7 +38,7 @@ counted_runs space (r ∷ runs) =
     one true = length-map (run_pages r) (in_space space) ∙ long r.first r.count
     one false = refl
 
-counted_spaces : (spaces : List Listed) → length (pages_of Data spaces) ≡ data_count spaces
+pub counted_spaces : (spaces : List Listed) → length (pages_of Data spaces) ≡ data_count spaces
 counted_spaces [] = refl
 counted_spaces (s ∷ spaces) =
     length-append (flat_map (data_places s.space) s.runs) (pages_of Data spaces)

@@ -34,9 +34,6 @@ pub record IsMet (all run left wanted : List ℕ) : Type 0 where
   pub of_areas : all ≡ met ++ left
   pub of_run : run ≡ met ++ wanted
 
-pub starts : (all run : List ℕ) → IsMet all run all run
-starts all run = record { met = []; of_areas = refl; of_run = refl }
-
 -- both go on by the same pages
 pub goes_on : (all run : List ℕ) (first page count wanted both next_first next_page : ℕ) (behind : List ℕ) → page ≡ first → both ≤ count → both ≤ wanted → next_first ≡ first + both → next_page ≡ page + both
     → IsMet all run (pages_from page count ++ behind) (pages_from first wanted)

@@ -141,7 +141,7 @@ limit_kept Merged areas runs few h = few
 
 -- ---- a space has fewer runs than pages
 
-begins_end : (before run : Run) → begins_behind (Some before) run ≡ true → before.first + before.count ≤ run.first
+pub begins_end : (before run : Run) → begins_behind (Some before) run ≡ true → before.first + before.count ≤ run.first
 begins_end before run e = elim (or_cases (ltb (before.first + before.count) run.first) (eqb (before.first + before.count) run.first && not (eqb (run_kind_number before.kind) (run_kind_number run.kind))) e) [
   | inl lt ↦ omega (arith, ltb-true _ _ lt)
   | inr at ↦ omega (arith, eqb-true _ _ (and_parts (eqb (before.first + before.count) run.first) (not (eqb (run_kind_number before.kind) (run_kind_number run.kind))) at).0)

@@ -4,10 +4,6 @@ use Rattle.std.specs.List.{concat}
 use Rattle.std.proofs.lemmas.List.{append-nil}
 use Rattle.sd_image.specs.Words.{number_bytes, zero_bytes}
 
--- one more part in front of those that were joined
-joined : (o x y rest : List ℕ) → (o ++ x) ++ rest ≡ y → o ++ (x ++ rest) ≡ y
-joined o x y rest e = sym (append_assoc o x rest) ∙ e
-
 pub zero_4 : number_bytes 4 0 ≡ zero_bytes 4
 unfolding number_bytes zero_bytes
 zero_4 = refl

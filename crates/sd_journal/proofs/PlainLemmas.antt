@@ -23,16 +23,16 @@ use Rattle.sd_pagetable.specs.Nested.{Table, inside, value_at, put_at, map_entri
 same_test : (a b : ℕ) → eq_by_cmp nat_cmp a b ≡ nat_eq a b
 same_test a b = grind (arith, nat_tests)
 
-turned_test : (a b : ℕ) → eq_by_cmp nat_cmp a b ≡ nat_eq b a
+pub turned_test : (a b : ℕ) → eq_by_cmp nat_cmp a b ≡ nat_eq b a
 turned_test a b = grind (arith, nat_tests)
 
 tied : (a b : ℕ) → eq_by_cmp nat_cmp a b ≡ true → a ≡ b
 tied a b is = grind (arith, nat_tests)
 
-same_key : (q k : ℕ) → is_at (nat_cmp q) k ≡ nat_eq q k
+pub same_key : (q k : ℕ) → is_at (nat_cmp q) k ≡ nat_eq q k
 same_key q k = grind (arith, nat_tests)
 
-same_of : (a b : ℕ) → nat_eq a b ≡ true → a ≡ b
+pub same_of : (a b : ℕ) → nat_eq a b ≡ true → a ≡ b
 same_of a b e = grind (arith, nat_tests)
 
 module _ {X : Type 0} where
@@ -80,17 +80,17 @@ module _ {X Y : Type 0} (f : X → Y) where
   find_lookup [] q = refl
   find_lookup (e ∷ es) q = ap (cond (eq_by_cmp nat_cmp q e.0) (Some (f e.1))) (find_lookup es q) ∙ mapped_cond (eq_by_cmp nat_cmp q e.0) e.1 (lookup (is_at (nat_cmp q)) es)
 
-  get_seen : (es : List (ℕ × X)) (q : ℕ) → finmap.get (seen es) q ≡ option_map f (lookup (is_at (nat_cmp q)) es)
+  pub get_seen : (es : List (ℕ × X)) (q : ℕ) → finmap.get (seen es) q ≡ option_map f (lookup (is_at (nat_cmp q)) es)
   get_seen es q = get-from_entries nat_cmp_total _ q ∙ find_lookup es q
 
-  seen_put : (old new : List (ℕ × X)) (k : ℕ) (v : X) → ((q : ℕ) → lookup (is_at (nat_cmp q)) new ≡ cond (is_at (nat_cmp k) q) (Some v) (lookup (is_at (nat_cmp q)) old))
+  pub seen_put : (old new : List (ℕ × X)) (k : ℕ) (v : X) → ((q : ℕ) → lookup (is_at (nat_cmp q)) new ≡ cond (is_at (nat_cmp k) q) (Some v) (lookup (is_at (nat_cmp q)) old))
       → seen new ≡ finmap.insert (seen old) k (f v)
   seen_put old new k v is = same_table _ _ (λ q. get_seen new q ∙ ap (option_map f) (is q)
       ∙ sym (mapped_cond (is_at (nat_cmp k) q) v (lookup (is_at (nat_cmp q)) old))
       ∙ ap (λ b. cond b (Some (f v)) (option_map f (lookup (is_at (nat_cmp q)) old))) (turned_test k q)
       ∙ ap (cond (nat_eq q k) (Some (f v))) (sym (get_seen old q)) ∙ sym (get_put (seen old) k (f v) q))
 
-  seen_removed : (old new : List (ℕ × X)) (k : ℕ) → ((q : ℕ) → lookup (is_at (nat_cmp q)) new ≡ cond (is_at (nat_cmp k) q) None (lookup (is_at (nat_cmp q)) old))
+  pub seen_removed : (old new : List (ℕ × X)) (k : ℕ) → ((q : ℕ) → lookup (is_at (nat_cmp q)) new ≡ cond (is_at (nat_cmp k) q) None (lookup (is_at (nat_cmp q)) old))
       → seen new ≡ finmap.remove (seen old) k
   seen_removed old new k is = same_table _ _ (λ q. get_seen new q ∙ ap (option_map f) (is q)
       ∙ mapped_none (is_at (nat_cmp k) q) (lookup (is_at (nat_cmp q)) old)
@@ -216,7 +216,7 @@ module _ {X : Type 0} where
   change_by change o true before apart y is = sym (ap (option_map change) (is refl))
   change_by change o false before apart y is = refl
 
-  mapped_itself : (o : Option X) → option_map (λ x. x) o ≡ o
+  pub mapped_itself : (o : Option X) → option_map (λ x. x) o ≡ o
   mapped_itself None = refl
   mapped_itself (Some x) = refl
 

@@ -87,7 +87,7 @@ fills law order source entries pages header tables f = law.image pages header (t
 
 -- ---- until it is open
 
-filed_asked : (stage : Stage) (plan : Planned) (order : CopyOrder) (source : Image) (entries : List ImageEntry) (pages : Pages) → IsFiledIn stage order source entries pages
+pub filed_asked : (stage : Stage) (plan : Planned) (order : CopyOrder) (source : Image) (entries : List ImageEntry) (pages : Pages) → IsFiledIn stage order source entries pages
     → IsFiledIn (with_plan stage plan) order source entries pages
 filed_asked (Format old) plan order source entries pages is = tt
 filed_asked PassStage plan order source entries pages is = tt

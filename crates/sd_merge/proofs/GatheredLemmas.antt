@@ -8,12 +8,12 @@ use Rattle.sd_image.specs.declared.run.RunKind.TheVariants.{Parent}
 use Rattle.sd_image.specs.declared.table.SpaceTable.{SpaceTable}
 use Rattle.sd_image.specs.Runs.{PageWay, AreRunsOf, IsSourced, end_of, run_ways}
 use Rattle.sd_image.specs.Table.{AreRuns, Listed, listing_of, run_pages}
-use Rattle.sd_chain.specs.Passes.{IsBefore, IsBehind}
 use Rattle.sd_rounds.specs.Pass.{Place, ImageEntry}
 use Rattle.sd_rounds.specs.Made.{entries_listed, run_entries}
 use Rattle.sd_rounds.specs.Rises.{last_of}
 use Rattle.sd_rounds.specs.Tables.{EndsBefore, EndBefore, entries_in, listed}
-use Rattle.sd_merge.specs.Gathered.{AreCopies, AreGathered, EndBehind, IsGathered, IsPut, SpaceIsBegun}
+use Rattle.sd_merge.specs.Gathered.{AreCopies, AreGathered, IsGathered, IsPut, SpaceIsBegun}
+use Rattle.sd_rounds.proofs.TableLemmas.{runs_entries}
 
 -- ---- a space more
 
@@ -63,15 +63,6 @@ end_further a b (t ∷ tables) further ends = (ends_further a b t further ends.0
 one_further : (at : Place) → IsFurther at (at.0, at.1 + 1)
 one_further at = inr (refl, omega arith)
 
-behind_further : (last at : Place) → IsBefore last at → IsFurther (last.0, last.1 + 1) at
-behind_further last at (inl less) = inl less
-behind_further last at (inr here) = inr (here.0, (let l : last.1 < at.1 = here.1 in omega arith))
-
--- what ends behind the last page ends before one behind it
-pub end_before : (last : Option Place) (at : Place) (tables : List Listed) → EndBehind last tables → IsBehind last at → EndBefore at tables
-end_before None at tables none behind = subst (EndBefore at) (sym none) tt
-end_before (Some last) at tables ends behind = end_further (last.0, last.1 + 1) at tables (behind_further last at behind) ends
-
 -- ---- entries
 
 abbrev entry_of : ℕ → PageWay → ImageEntry
@@ -95,12 +86,6 @@ table_entries t = flat_map (run_entries t.space) t.runs
 
 entries_put : (tables : List Listed) (t : Listed) → entries_listed (tables ++ t ∷ []) ≡ entries_listed tables ++ table_entries t
 entries_put tables t = sym (flat_map_more table_entries [] tables t)
-
-runs_entries : (space page : ℕ) (kind : RunKind) (old new : List Run) → flat_map run_ways new ≡ flat_map run_ways old ++ (page, kind) ∷ []
-    → flat_map (run_entries space) new ≡ flat_map (run_entries space) old ++ (record { place = (space, page); kind = kind }) ∷ []
-runs_entries space page kind old new e =
-    entries_are space new ∙ ap (map (entry_of space)) e ∙ map-append (entry_of space) (flat_map run_ways old) _
-    ∙ ap (λ (l : List ImageEntry). l ++ (record { place = (space, page); kind = kind }) ∷ []) (sym (entries_are space old))
 
 no_push : {X : Type 0} (xs : List X) (x : X) → [] ≡ xs ++ x ∷ [] → ⊥
 no_push xs x e = absurd (let f : 0 ≡ length xs + 1 = ap length e ∙ length-append xs (x ∷ []) in omega arith)
@@ -186,14 +171,6 @@ next_space front last new at kind are ends apart begun =
     below (inl less) = (let l : last.space < at.0 = less in omega arith)
     below (inr here) = absurd (apart here.0)
 
--- the last space ends before a place in it
-pub last_ends : (front : List SpaceTable) (last : SpaceTable) (at : Place) → EndBefore at (listed (front ++ last ∷ [])) → last.space ≡ at.0 → end_of last.runs.items ≤ at.1
-last_ends front last at ends here = by (all_last (EndsBefore at) (listed front) (listing_of last) (subst (EndBefore at) (listed_put front last) ends))
-  where
-    by : EndsBefore at (listing_of last) → end_of last.runs.items ≤ at.1
-    by (inl less) = absurd (let l : last.space < at.0 = less in omega (arith, here))
-    by (inr there) = there.1
-
 pub on_ok_both : {T E : Type 0} (P Q : Type 0) (r : Result T E) → OnOk r P → OnOk r Q → OnOk r (P × Q)
 on_ok_both P Q (Ok x) p q = (p, q)
 on_ok_both P Q (Err e) p q = tt
@@ -201,16 +178,6 @@ on_ok_both P Q (Err e) p q = tt
 -- the runs of the last space
 pub last_runs : (front : List SpaceTable) (last : SpaceTable) → AreGathered 0 (listed (front ++ last ∷ [])) → AreRuns 0 None last.runs.items
 last_runs front last are = (gathered_last 0 (listed front) (listing_of last) (subst (AreGathered 0) (listed_put front last) are)).runs
-
--- spaces are listed alike where the last has equal runs
-pub same_listed : (front : List SpaceTable) (last new : SpaceTable) → new.space ≡ last.space → new.areas.items ≡ last.areas.items → new.runs.items ≡ last.runs.items
-    → listed (front ++ new ∷ []) ≡ listed (front ++ last ∷ [])
-same_listed front last new space areas runs = listed_put front new ∙ ap (λ (t : Listed). listed front ++ t ∷ []) same ∙ sym (listed_put front last)
-  where
-    same : listing_of new ≡ listing_of last
-    same = ap (λ n. record { space = n; areas = new.areas.items; runs = new.runs.items }) space
-        ∙ ap (λ a. record { space = last.space; areas = a; runs = new.runs.items }) areas
-        ∙ ap (λ r. record { space = last.space; areas = last.areas.items; runs = r }) runs
 
 -- ---- the last of them
 

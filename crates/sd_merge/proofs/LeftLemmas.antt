@@ -4,7 +4,7 @@ use Rattle.std.specs.Prelude.{slice_get}
 use Rattle.std.proofs.lemmas.Bool.{both_ways}
 use Rattle.sd_chain.specs.Catalog.{Places}
 use Rattle.sd_gate.specs.declared.slot_state.SlotState.{SlotState}
-use Rattle.sd_gate.specs.declared.slot_state.SlotState.TheVariants.{Raw, Closed, Open as OpenSlot, Writing}
+use Rattle.sd_gate.specs.declared.slot_state.SlotState.TheVariants.{Closed}
 use Rattle.sd_gate.specs.Plans.{Planned, is_one, plan_after}
 use Rattle.sd_gate.specs.Requests.{Made}
 use Rattle.sd_gate.specs.Sequences.{Calls, format_calls}
@@ -22,6 +22,7 @@ use Rattle.sd_merge.specs.Copying.{Copying, IsClosing, Opens, PlanGoesOn, Steps,
 use Rattle.sd_merge.specs.Sources.{few_pages}
 use Rattle.sd_merge.specs.Left.{LeftLaws, body_left, copy_left, doing_left, left_of, retiring_left, running_left, stage_left}
 use Rattle.sd_merge.specs.Merger.{AreRunning, CopiesOn, Doing, EndsOne, GoesOnWith, Hands, HandsAt, HandsClosing, HandsCopying, HandsTo, IsLastCall, IsHanded, IsRunning, IsRunningAt, TakesList, Retiring, Running, StaysStrange, Works, WorksAt, awaited_in, copying, due, ends, is_strange, opened, order_of, retiring}
+use Rattle.sd_rounds.proofs.LeftLemmas.{few_calls}
 
 -- ---- a plan
 
@@ -69,12 +70,6 @@ step_fewer ticket places old new step.Zero s =
     omega arith
 
 -- ---- a step of a merge
-
-few_calls : (state : SlotState) → length (format_calls state) ≤ 3
-few_calls Raw = omega arith
-few_calls Closed = omega arith
-few_calls OpenSlot = omega arith
-few_calls Writing = omega arith
 
 plus_list : (a b list n : ℕ) → a < b → n ≡ a + list → n < b + list
 plus_list a b list n l e = omega arith

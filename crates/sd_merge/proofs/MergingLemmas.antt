@@ -164,7 +164,7 @@ holds_zero places catalog serial source at is lies =
 
 -- ---- the steps
 
-over_asked : (stage : Stage) (plan : Planned) (rest : List Place) → IsOverIn stage rest → IsOverIn (with_plan stage plan) rest
+pub over_asked : (stage : Stage) (plan : Planned) (rest : List Place) → IsOverIn stage rest → IsOverIn (with_plan stage plan) rest
 over_asked (Format old) plan rest is = tt
 over_asked PassStage plan rest is = tt
 over_asked (PageRead old) plan rest is = tt
@@ -503,7 +503,7 @@ finds lists places catalog source pages copy is held was lost =
 
 -- ---- other images
 
-stays : (catalog other : List Image) (source : Image) (pages : Pages) (copy : Copying)
+pub stays : (catalog other : List Image) (source : Image) (pages : Pages) (copy : Copying)
     → ((space page : ℕ) (bytes : List ℕ) → Holds catalog space page bytes source → Holds other space page bytes source)
     → KeepsCopy catalog source pages copy → KeepsCopy other source pages copy
 stays catalog other source pages copy holds was = record {

@@ -1,8 +1,8 @@
 -- The table that has the areas of a source, and the pages that were taken of it.
-use Rattle.std.proofs.Common.{◌≡◌, ◌≢◌, ℕ, zero, suc, ◌+◌, ◌<◌, ◌≤◌, Bool, true, false, nat_eq, cond, if◌then◌else◌, List, [], ◌∷◌, ◌++◌, length, map, sum_by, Option, Some, None, IsTrue, refl, sym, ◌∙◌, ap, subst, arith}
+use Rattle.std.proofs.Common.{◌≡◌, ◌≢◌, ℕ, zero, suc, ◌+◌, ◌<◌, ◌≤◌, Bool, true, false, nat_eq, if◌then◌else◌, List, [], ◌∷◌, ◌++◌, length, map, sum_by, Option, Some, None, IsTrue, refl, sym, ◌∙◌, ap, subst, arith}
 use Rattle.std.specs.List.{AllByRecursion, flat_map}
 use Rattle.std.proofs.lemmas.Bool.Decides.{nat_tests}
-use Rattle.std.proofs.lemmas.List.{length-append, length-map, map-append}
+use Rattle.std.proofs.lemmas.List.{map-append}
 use Rattle.std.proofs.lemmas.List.Sums.{sum_by-cons}
 use Rattle.sd_areas.specs.declared.area.Area.{Area}
 use Rattle.sd_areas.specs.Areas.{area_pages}
@@ -12,11 +12,11 @@ use Rattle.sd_image.specs.declared.header.Kind.{Kind}
 use Rattle.sd_image.specs.declared.header.Kind.TheVariants.{PreDump, Dump, Merged}
 use Rattle.sd_image.specs.declared.run.Run.{Run}
 use Rattle.sd_image.specs.declared.run.RunKind.TheVariants.{Data}
-use Rattle.sd_image.specs.Shows.{pages_of}
-use Rattle.sd_image.specs.Table.{AreRuns, AreSpaces, Covers, IsSpace, Listed, data_count, is_data, is_run_after, mapped_count, run_pages}
+use Rattle.sd_image.specs.Table.{AreRuns, AreSpaces, Covers, IsSpace, Listed, is_run_after, mapped_count, run_pages}
 use Rattle.sd_rounds.specs.Made.{Lists, entries_listed, run_entries}
 use Rattle.sd_rounds.specs.Pass.{ImageEntry, Place, place_of_entry}
 use Rattle.sd_merge.specs.Gathered.{AreGathered, IsGathered, IsTableOf, RepeatsTable, front_runs, own_areas, spaces_behind, tables_of}
+use Rattle.sd_image.proofs.PageBytes.{counted_spaces as pages_counted}
 use Rattle.sd_merge.proofs.GatheredLemmas.{table_entries}
 
 -- ---- counts
@@ -28,26 +28,6 @@ length-pages_from first (suc count) = ap (λ n. suc n) (length-pages_from (suc f
 
 abbrev pub in_space : ℕ → ℕ → Place
 in_space space page = (space, page)
-
-abbrev data_places : ℕ → Run → List Place
-data_places space r = cond (is_data r) (map (in_space space) (run_pages r)) []
-
-counted_runs : (space : ℕ) (runs : List Run) → length (flat_map (data_places space) runs) ≡ sum_by (λ (r : Run). cond (is_data r) r.count 0) runs
-counted_runs space [] = refl
-counted_runs space (r ∷ runs) =
-    length-append (data_places space r) (flat_map (data_places space) runs)
-    ∙ omega (arith, counted_runs space runs, one (is_data r)) ∙ sym (sum_by-cons (λ (r : Run). cond (is_data r) r.count 0) r runs)
-  where
-    one : (b : Bool) → length (cond b (map (in_space space) (run_pages r)) []) ≡ cond b r.count 0
-    one true = length-map (run_pages r) (in_space space) ∙ length-pages_from r.first r.count
-    one false = refl
-
-pages_counted : (spaces : List Listed) → length (pages_of Data spaces) ≡ data_count spaces
-pages_counted [] = refl
-pages_counted (s ∷ spaces) =
-    length-append (flat_map (data_places s.space) s.runs) (pages_of Data spaces)
-    ∙ omega (arith, counted_runs s.space s.runs, pages_counted spaces)
-    ∙ sym (sum_by-cons (λ (s : Listed). sum_by (λ (r : Run). cond (is_data r) r.count 0) s.runs) s spaces)
 
 -- ---- the places of a space
 

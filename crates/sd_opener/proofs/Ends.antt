@@ -1,5 +1,5 @@
 -- What the inspection of a slot ends with.
-use Rattle.std.proofs.Common.{◌≡◌, ◌≢◌, ℕ, ◌<◌, ◌≤◌, true, false, nat_eq, nat_le, nat_lt, ◌==◌, if◌then◌else◌, List, [], ◌∷◌, drop, length, slice_index, Option, Some, None, Ok, Err, refl, sym, ◌∙◌, ap, subst, inl, inr, arith}
+use Rattle.std.proofs.Common.{◌≡◌, ◌≢◌, ℕ, ◌<◌, ◌≤◌, true, nat_eq, nat_le, nat_lt, ◌==◌, if◌then◌else◌, List, [], ◌∷◌, drop, length, slice_index, Option, Some, None, Ok, Err, refl, sym, ◌∙◌, ap, subst, inl, inr, arith}
 use Rattle.std.proofs.Math.Seq.{length-slice}
 use Rattle.std.proofs.lemmas.Bool.Decides.{nat_tests}
 use Rattle.std.proofs.lemmas.Bool.{and_from, cases_eq, cases_lt, eq-eqb, le-leb, lt-ltb}
@@ -16,7 +16,6 @@ use Rattle.sd_gate.specs.Looks.{HasNoHeader, IsFound, front_of_file, table_of_fi
 use Rattle.sd_gate.specs.Plans.{Back}
 use Rattle.sd_restore.specs.Faulty.{IsFaulty}
 use Rattle.sd_restore.specs.Reading.{HasHeader}
-use Rattle.sd_opener.specs.Sees.{InspectionHasEnded}
 
 -- a file in phase Whole has a header behind an open gate
 pub record IsWhole (file : List ℕ) : Type 0 where
@@ -43,19 +42,6 @@ opens_so file whole = and_from (nat_le 4096 (length file)) (nat_eq (slice_index 
 
 pub whole_phase : (file : List ℕ) → is_open file ≡ true → found_phase file ≡ Whole
 whole_phase file opens = grind (arith, nat_tests)
-
--- a file that isn't in phase Whole is closed
-pub closed_so : (file : List ℕ) → found_phase file ≢ Whole → is_open file ≡ false
-closed_so file other = elim (cases_lt (length file) 4096) [
-  | inl short ↦ grind (arith, nat_tests)
-  | inr long ↦ elim (cases_eq (slice_index file 0) gate) [
-    | inl opens ↦ absurd (other (found_whole file long opens))
-    | inr shut ↦ grind (arith, nat_tests)
-  ]
-]
-  where
-    found_whole : (f : List ℕ) → 4096 ≤ length f → slice_index f 0 ≡ gate → found_phase f ≡ Whole
-    found_whole f long is = grind (arith, nat_tests)
 
 first_gate : (file : List ℕ) → 4096 ≤ length file → slice_index (front_of_file file) 0 ≡ slice_index file 0
 first_gate [] long = absurd (omega (arith, long))
@@ -124,52 +110,3 @@ broken_is_faulty file why broken = record {
   opens = opens_so file (record { long = broken.long; gate = sym (first_gate file broken.long) ∙ broken.opens });
   breaks = rw broken.header refl;
 }
-
--- ---- what came back, whatever the file has
-
--- a slot whose phase is told as Whole has a header's bytes behind an open gate
-pub record IsToldWhole (len : ℕ) (bytes : List ℕ) : Type 0 where
-  pub long : 4096 ≤ len
-  pub opens : slice_index bytes 0 ≡ gate
-
-pub told_whole : (len : ℕ) (bytes : List ℕ) → phase_found (Some len) (Some bytes) ≡ Some Whole → IsToldWhole len bytes
-told_whole len bytes is = elim (cases_lt len 4096) [
-  | inl short ↦ absurd (let no : Raw ≡ Whole = sym (told_raw short) ∙ told in cc)
-  | inr long ↦ elim (cases_eq (slice_index bytes 0) gate) [
-    | inl opens ↦ record { long = long; opens = opens }
-    | inr shut ↦ absurd (let no : Shut ≡ Whole = sym (told_shut long shut) ∙ told in cc)
-  ]
-]
-  where
-    told : phase_told len bytes ≡ Whole
-    told = same_Some (phase_told len bytes) Whole is
-
-    told_raw : len < 4096 → phase_told len bytes ≡ Raw
-    told_raw short = grind (arith, nat_tests)
-
-    told_shut : 4096 ≤ len → slice_index bytes 0 ≢ gate → phase_told len bytes ≡ Shut
-    told_shut long shut = grind (arith, nat_tests)
-
--- without the first bytes it isn't told as Whole
-pub never_whole : (len : ℕ) → phase_found (Some len) None ≢ Some Whole
-never_whole len is = elim (cases_lt len 4096) [
-  | inl short ↦ absurd (let no : Some Raw ≡ Some Whole = sym (ap (λ b. if b then Some Raw else None) (lt-ltb len 4096 short)) ∙ is in cc)
-  | inr long ↦
-      let test : nat_lt len 4096 ≡ false = grind (arith, nat_tests) in
-      absurd (let no : None ≡ Some Whole = sym (ap (λ b. if b then Some Raw else None) test) ∙ is in cc)
-]
-
--- an inspection that came to its end tells a phase
-pub phase_comes : (found : Back) → InspectionHasEnded found → phase_found found.len found.first ≢ None
-phase_comes found ended none = by_first found.first refl
-  where
-    at_len : phase_found (Some ended.len) found.first ≡ None
-    at_len = subst (λ len. phase_found len found.first ≡ None) ended.told none
-
-    by_first : (first : Option (List ℕ)) → found.first ≡ first → ⊥
-    by_first (Some bytes) is = (let no : Some (phase_told ended.len bytes) ≡ None = subst (λ f. phase_found (Some ended.len) f ≡ None) is at_len in cc)
-    by_first None is = elim (cases_lt ended.len 4096) [
-      | inl short ↦
-          (let no : Some Raw ≡ None = sym (ap (λ b. if b then Some Raw else None) (lt-ltb ended.len 4096 short)) ∙ subst (λ f. phase_found (Some ended.len) f ≡ None) is at_len in cc)
-      | inr long ↦ (let no : None ≡ Some (ended.first long).bytes = sym is ∙ (ended.first long).came in cc)
-    ]

@@ -15,8 +15,8 @@ use Rattle.sd_gate.specs.declared.call.Call.TheVariants.{Len, Read, Sync}
 use Rattle.sd_gate.specs.declared.settled.Settled.TheVariants.{More, Finished, Failed}
 use Rattle.sd_gate.specs.Calls.{IsAnswerTo, buffer_back, is_done}
 use Rattle.sd_gate.specs.Inspections.{Awaits, Following, after_first, after_length, calls_then, nothing, table_read, the_header, the_length}
-use Rattle.sd_gate.specs.Plans.{Back, Gives, Planned, begun, calls_after, first_back, found_after, length_told, plan_after, second_back, settled}
-use Rattle.sd_gate.specs.Requests.{Asked, Made}
+use Rattle.sd_gate.specs.Plans.{Back, Planned, begun, calls_after, first_back, found_after, length_told, plan_after, second_back, settled}
+use Rattle.sd_gate.specs.Requests.{Made}
 use Rattle.sd_gate.specs.Sequences.{Calls, first_looks, table_place}
 use Rattle.sd_opener.specs.Looking.{HasCome, HasFirst, IsDoneAsAsked, IsInspecting, calls_ahead}
 use Rattle.sd_opener.specs.Sees.{InspectionHasEnded}
@@ -26,29 +26,6 @@ names calls = map (λ call. call.0) calls
 
 pub begins : (slot : ℕ) → IsInspecting (begun slot first_looks the_length)
 begins slot = (inl refl, refl)
-
--- ---- a call is asked for
-
-come_some : (awaits : Awaits) (found : Back) → HasCome awaits [] found → ⊥
-come_some the_length found is = elim is.0 [
-  | inl two ↦ absurd (let no : [] ≡ Sync ∷ Len ∷ [] = two in cc)
-  | inr one ↦ absurd (let no : [] ≡ Len ∷ [] = one in cc)
-]
-come_some (the_header len) found is = absurd (let no : [] ≡ Read 0 ∷ [] = is.0 in cc)
-come_some nothing found is = absurd (let no : [] ≡ Read is.0.0 ∷ [] = is.0.1 in cc)
-
-pub some_call : (plan : Planned) → IsInspecting plan → plan.out ≡ None → plan.calls ≢ []
-some_call plan is free none =
-    come_some plan.awaits plan.found
-    (subst (λ calls. HasCome plan.awaits (names calls) plan.found) none (subst (λ out. HasCome plan.awaits (calls_ahead out plan.calls) plan.found) free is))
-
-pub takes : (old new : Planned) (request : Asked) → Gives old new request → IsInspecting old → IsInspecting new
-takes old new request gives is =
-    let before = ap (λ out. calls_ahead out old.calls) gives.free ∙ ap names gives.next in
-    let after = ap (λ out. calls_ahead out new.calls) gives.out in
-    subst (λ (awaits : Awaits). HasCome awaits (calls_ahead new.out new.calls) new.found) (sym gives.same_awaits)
-    (subst (λ (found : Back). HasCome old.awaits (calls_ahead new.out new.calls) found) (sym gives.same_found)
-    (subst (λ ahead. HasCome old.awaits ahead old.found) (before ∙ sym after) is))
 
 -- ---- an outcome
 

@@ -1,9 +1,9 @@
 -- Texts that are broken off.
-use Rattle.std.proofs.Common.{◌≡◌, ◌<◌, ◌≤◌, ◌+◌, ◌-◌, ℕ, codes, nat_eq, List, [], ◌∷◌, ◌++◌, Option, Result, Ok, Err, refl, sym, ◌∙◌, ap, arith, take, drop, length, slice_index_or, map, append_assoc, append-nil}
+use Rattle.std.proofs.Common.{◌≡◌, ◌<◌, ◌≤◌, ◌+◌, ◌-◌, ℕ, codes, nat_eq, List, [], ◌∷◌, ◌++◌, Option, Result, refl, sym, ◌∙◌, ap, arith, take, drop, length, slice_index_or, map, append_assoc, append-nil}
 use Rattle.std.specs.Prelude.{filter}
 use Rattle.std.specs.List.{flat_map}
 use Rattle.std.specs.Io.KnownBytes.{Appends}
-use Rattle.std.proofs.KnownBytes.{Appends-nil, Appends-trans}
+use Rattle.std.proofs.KnownBytes.{Appends-trans}
 use Rattle.std.proofs.lemmas.Grind.{flat_map-append}
 use Rattle.sd_exit.specs.declared.stop.Stop.{Stop}
 use Rattle.sd_exit.specs.Ending.{OnFault}
@@ -19,10 +19,6 @@ use Rattle.sd_restore.proofs.RunLemmas.{first_pages}
 use Rattle.sd_restore.proofs.TakeLemmas.{split_parts}
 use Rattle.sd_readers.specs.Texts.{part_of_run, placed_lines, placed_memory_text, placed_space_text, placed_text}
 use Rattle.sd_readers.proofs.PageLemmas.{first_more}
-
--- nothing is a beginning
-pub begins_none : (a : Option (List ℕ)) (text : List ℕ) → PrintsBeginning a a text
-begins_none a text = record { front = []; rest = text; whole = refl; printed = Appends-nil a }
 
 -- all of it is one
 pub begins_all : (a b : Option (List ℕ)) (text : List ℕ) → Appends a b text → PrintsBeginning a b text

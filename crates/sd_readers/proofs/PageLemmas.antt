@@ -1,9 +1,8 @@
 -- The lines of pages.
-use Rattle.std.proofs.Common.{◌≡◌, ◌≤◌, ◌<◌, ◌+◌, ◌*◌, ℕ, zero, suc, Bool, true, false, nat_eq, List, [], ◌∷◌, ◌++◌, map, replicate, Option, Result, Ok, Err, OnOk, refl, sym, ◌∙◌, ap, subst, arith, append_assoc, append-nil}
+use Rattle.std.proofs.Common.{◌≡◌, ◌≤◌, ◌<◌, ◌+◌, ◌*◌, ℕ, zero, suc, Bool, true, false, nat_eq, List, [], ◌∷◌, ◌++◌, map, replicate, Option, Result, OnOk, refl, sym, ◌∙◌, ap, subst, arith, append_assoc, append-nil}
 use Rattle.std.specs.Prelude.{filter, slice_range}
 use Rattle.std.specs.List.{flat_map, list_all, range_with_len}
 use Rattle.std.specs.Io.KnownBytes.{Appends}
-use Rattle.std.proofs.KnownBytes.{Appends-trans}
 use Rattle.std.proofs.lemmas.Bool.{cond-true, cond-false}
 use Rattle.std.proofs.lemmas.Grind.{flat_map-append}
 use Rattle.sd_areas.specs.Pages.{pages_from}
@@ -18,11 +17,6 @@ use Rattle.sd_restore.proofs.TakeLemmas.{range_of_same}
 use Rattle.sd_readers.specs.Texts.{page_text, part_text, pages_text, part_of_run, placed_lines, placed_text}
 
 -- ---- what is printed in two parts
-
-pub then_printed : {T E : Type 0} (result : Result T E) (a b c : Option (List ℕ)) (bs cs ds : List ℕ) → bs ++ cs ≡ ds → Appends a b bs
-    → OnOk result (Appends b c cs) → OnOk result (Appends a c ds)
-then_printed (Ok value) a b c bs cs ds e p q = subst (Appends a c) e (Appends-trans a b c bs cs p q)
-then_printed (Err why) a b c bs cs ds e p q = tt
 
 pub same_printed : {T E : Type 0} (result : Result T E) (a b : Option (List ℕ)) (bs cs : List ℕ) → bs ≡ cs → OnOk result (Appends a b bs) → OnOk result (Appends a b cs)
 same_printed result a b bs cs e = subst (λ xs. OnOk result (Appends a b xs)) e

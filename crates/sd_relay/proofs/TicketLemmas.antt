@@ -1,7 +1,6 @@
 -- Lists of tickets that grow at the end.
-use Rattle.std.proofs.Common.{◌≡◌, ℕ, ◌+◌, ◌<◌, ◌≤◌, ◌==◌, cond, List, [], ◌∷◌, ◌++◌, refl, sym, ap, ◌∙◌, subst, append_assoc, None, Some, arith}
+use Rattle.std.proofs.Common.{◌≡◌, ℕ, ◌+◌, ◌<◌, ◌≤◌, ◌==◌, cond, List, [], ◌∷◌, ◌++◌, refl, sym, ap, ◌∙◌, append_assoc, Some, arith}
 use Rattle.std.specs.List.{All}
-use Rattle.std.proofs.lemmas.Option.{none-some, same_Some}
 use Rattle.std.proofs.lemmas.List.Elements.{All-nil, All-head, All-tail, All-push, All-weaker}
 use Rattle.sd_relay.specs.declared.message.Message.{Message}
 use Rattle.sd_relay.specs.Hands.{ticket_of, tickets}
@@ -13,19 +12,9 @@ rises_more [] t rises below = (All-nil (λ y. t < y), tt)
 rises_more (x ∷ xs) t rises below =
     (All-push (λ y. x < y) xs t rises.0 (All-head (λ y. y < t) x xs below), rises_more xs t rises.1 (All-tail (λ y. y < t) x xs below))
 
--- the ticket that was just put is the last
-pub last_more : (xs : List ℕ) (t : ℕ) → All (λ x. x < t) xs → IsLast (Some t) (xs ++ t ∷ [])
-last_more xs t below =
-    let all : All (λ x. x ≤ t) (xs ++ t ∷ []) = All-push (λ x. x ≤ t) xs t (All-weaker (λ x. x < t) (λ x. x ≤ t) (λ x h. omega arith) xs below) (omega arith) in
-    ((λ last is. subst (λ (l : ℕ). All (λ x. x ≤ l) (xs ++ t ∷ [])) (same_Some t last is) all), λ none. absurd (none-some t (sym none)))
-
 -- what is above the last one is above all
 pub above_last : (xs : List ℕ) (last t : ℕ) → IsLast (Some last) xs → last < t → All (λ x. x < t) xs
 above_last xs last t all above = All-weaker (λ x. x ≤ last) (λ x. x < t) (λ x h. omega arith) xs (all.0 last refl)
-
--- with no last one, there is none that isn't below
-pub above_none : (xs : List ℕ) (t : ℕ) → IsLast None xs → All (λ x. x < t) xs
-above_none xs t all = subst (λ l. All (λ x. x < t) l) (sym (all.1 refl)) (All-nil (λ x. x < t))
 
 pub times_append : (t : ℕ) (xs ys : List ℕ) → times t (xs ++ ys) ≡ times t xs + times t ys
 times_append t [] ys = omega arith

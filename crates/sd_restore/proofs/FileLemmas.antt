@@ -1,7 +1,7 @@
 -- The file of an open slot is the image that was read from it.
-use Rattle.std.proofs.Common.{◌≡◌, ◌<◌, ◌≤◌, ◌+◌, ◌-◌, ◌*◌, ℕ, Bool, true, false, nat_eq, ◌&&◌, List, [], ◌∷◌, ◌++◌, map, drop, take, length, Ok, Err, refl, sym, ◌∙◌, ap, subst, arith, inl, inr}
-use Rattle.std.specs.Prelude.{slice_range, slice_index, nat_le}
-use Rattle.std.proofs.lemmas.Bool.{le-leb, lt-leb, ne_eqb}
+use Rattle.std.proofs.Common.{◌≡◌, ◌≤◌, ◌+◌, ◌-◌, ◌*◌, ℕ, true, false, nat_eq, ◌&&◌, List, [], ◌∷◌, ◌++◌, map, drop, take, length, Ok, Err, refl, sym, ◌∙◌, ap, subst, arith, inl, inr}
+use Rattle.std.specs.Prelude.{slice_range, slice_index}
+use Rattle.std.proofs.lemmas.Bool.{le-leb}
 use Rattle.sd_image.specs.Header.{header_text, IsHeader}
 use Rattle.sd_image.specs.Table.{listing_of, table_text, IsTable}
 use Rattle.sd_image.specs.Image.{Image, IsImage, OpenImages, is_open}
@@ -65,17 +65,6 @@ table_is_faulty law file h reason has breaks =
     let read : header_in (slice_range file 0 4096) (length file) ≡ Ok h = header_read law file h has in
     let table : table_in h (drop (4096 + 4096 * h.pages) file) ≡ Err reason = ap (table_in h) (sym (table_is_rest file h has.is)) ∙ breaks in
     record { opens = has.opens; breaks = rw (read, table) refl }
-
--- a short file is closed, and one with another gate
-pub short_is_closed : (file : List ℕ) → length file < 4096 → is_open file ≡ false
-short_is_closed file short = ap (λ b. b && nat_eq (slice_index file 0) 165) (lt-leb 4096 (length file) short)
-
-pub gate_is_closed : (file : List ℕ) → (slice_index (slice_range file 0 4096) 0 ≡ 165 → ⊥) → is_open file ≡ false
-gate_is_closed file other = closed_by (nat_le 4096 (length file)) (ne_eqb (slice_index file 0) 165 (λ e. other (index_of_first file ∙ e)))
-  where
-    closed_by : (b : Bool) {t : Bool} → t ≡ false → b && t ≡ false
-    closed_by true e = e
-    closed_by false e = refl
 
 -- Images of open slots, one slot more.
 

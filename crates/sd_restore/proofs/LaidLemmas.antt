@@ -1,6 +1,6 @@
 -- The entries of a memory, by the pages that were put into it.
-use Rattle.std.proofs.Common.{◌≡◌, ◌≢◌, ◌⊎◌, ◌+◌, ◌<◌, ◌≤◌, ◌^◌, ℕ, zero, suc, Bool, true, false, cond, ◌&&◌, ◌||◌, nat_eq, IsTrue, T, List, [], ◌∷◌, ◌++◌, map, length, Contains, Option, Some, None, IsSome, MatchOption, refl, sym, ◌∙◌, ap, subst, inl, inr, arith, append-nil}
-use Rattle.std.specs.Prelude.{filter, is_some, slice_index_or}
+use Rattle.std.proofs.Common.{◌≡◌, ◌≢◌, ◌⊎◌, ◌+◌, ◌<◌, ◌≤◌, ℕ, zero, suc, Bool, true, false, cond, ◌&&◌, ◌||◌, nat_eq, IsTrue, T, List, [], ◌∷◌, ◌++◌, map, Contains, Option, Some, None, IsSome, refl, sym, ◌∙◌, ap, subst, inl, inr, arith, append-nil}
+use Rattle.std.specs.Prelude.{filter, is_some}
 use Rattle.std.specs.List.{flat_map, list_any}
 use Rattle.std.specs.Option.{option_map, option_and_then}
 use Rattle.std.specs.Ordering.{nat_cmp, is_lt, eq_by_cmp}
@@ -10,11 +10,9 @@ use Rattle.std.specs.FinMap.{is_sorted, get-entries, entries_sorted, nat_cmp-IsA
 use Rattle.std.specs.FinMap.Entries.{below_all, find, same_entries}
 use Rattle.std.proofs.lemmas.Bool.{cond-true, cond-false, cases_eq}
 use Rattle.std.proofs.lemmas.Bool.Decides.{nat_tests}
-use Rattle.std.proofs.lemmas.Grind.{flat_map-append}
 use Rattle.std.proofs.lemmas.List.{map-append}
 use Rattle.std.proofs.lemmas.List.Elements.{filter-append}
 use Rattle.sd_areas.specs.declared.area.Area.{Area}
-use Rattle.sd_areas.specs.declared.prot.Prot.{Prot}
 use Rattle.sd_areas.specs.Areas.{AreAreasOf, AreInSpace, AreMaximal, areas_of, area_pages, is_area_after, prot_in}
 use Rattle.sd_areas.specs.Laws.{AreasLaw, OneListLaw}
 use Rattle.sd_areas.specs.Pages.{pages_from}
@@ -25,7 +23,7 @@ use Rattle.sd_image.specs.Shows.{IsMemory, page_in}
 use Rattle.sd_image.specs.Table.{AreSpaces, Listed}
 use Rattle.sd_restore.specs.Fits.{prots_in}
 use Rattle.sd_restore.specs.Mapped.{Mapped, mapped_with, area_mapped, space_mapped, mapped_pages}
-use Rattle.sd_restore.specs.Placed.{IsLaidOut, PlacedPage, mapped_of, placed_memory, placed_page, placed_entries, with_spaces, with_pages}
+use Rattle.sd_restore.specs.Placed.{IsLaidOut, PlacedPage, mapped_of, placed_memory, placed_page, placed_entries, with_spaces}
 use Rattle.sd_restore.proofs.FitsLemmas.{get_prots, in_space, same_prot}
 use Rattle.sd_restore.proofs.MappedLemmas.{space_of}
 use Rattle.std.specs.Borrow.{Bor}
@@ -34,7 +32,7 @@ use Rattle.sd_chain.specs.Catalog.{Opened, Places}
 use Rattle.sd_chain.specs.Store.{IsCatalogOf, FindsTip}
 use Rattle.sd_restore.specs.Placed.{ArePlaced}
 use Rattle.sd_restore.proofs.ShowLemmas.{is_memory}
-use Rattle.sd_restore.proofs.MemoryLemmas.{After, IsPut, empty_bare, pages_are, spaces_bare}
+use Rattle.sd_restore.proofs.MemoryLemmas.{After, empty_bare, pages_are, spaces_bare}
 
 -- ---- lists that rise
 

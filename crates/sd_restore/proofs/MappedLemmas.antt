@@ -144,26 +144,6 @@ space_of h before (t ∷ spaces) s are c = elim (contains_cases t s spaces c) [
   | inr later ↦ (let rest = space_of h t.space spaces s are.1 later in (rest.0, rest.1, (let above = are.0.above in let more = rest.2 in omega (arith, above, more))))
 ]
 
--- a space is there once
-pub space_once : (h : Header) (before : ℕ) (spaces : List Listed) (a b : Listed) → AreSpaces h before spaces → Contains spaces a → Contains spaces b → a.space ≡ b.space → a ≡ b
-space_once h before [] a b are c d e = absurd (contains_none a c)
-space_once h before (x ∷ spaces) a b are c d e = elim (contains_cases x a spaces c) [
-  | inl p ↦ elim (contains_cases x b spaces d) [
-    | inl q ↦ p ∙ sym q
-    | inr q ↦
-        let above = (space_of h x.space spaces b are.1 q).2 in
-        let same : a.space ≡ x.space = ap (λ (s : Listed). s.space) p in
-        absurd (omega (arith, above, same, e))
-  ]
-  | inr p ↦ elim (contains_cases x b spaces d) [
-    | inl q ↦
-        let above = (space_of h x.space spaces a are.1 p).2 in
-        let same : b.space ≡ x.space = ap (λ (s : Listed). s.space) q in
-        absurd (omega (arith, above, same, e))
-    | inr q ↦ space_once h x.space spaces a b are.1 p q e
-  ]
-]
-
 -- the runs of an image that is restored have the pages of its areas
 covers_pages : (kind : Kind) (areas : List Area) (runs : List Run) → (kind ≡ PreDump → ⊥) → Covers kind areas runs → flat_map run_pages runs ≡ flat_map area_pages areas
 covers_pages PreDump areas runs restored covers = absurd (restored refl)

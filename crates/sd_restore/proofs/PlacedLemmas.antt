@@ -1,5 +1,5 @@
 -- The pages that were placed so far, and the first whose chain breaks.
-use Rattle.std.proofs.Common.{◌≡◌, ◌<◌, ◌+◌, ℕ, List, [], ◌∷◌, ◌++◌, map, Some, Contains, refl, sym, ◌∙◌, ap, subst, arith, append_assoc}
+use Rattle.std.proofs.Common.{◌≡◌, ◌<◌, ◌+◌, ℕ, List, [], ◌∷◌, ◌++◌, map, Some, Contains, refl, sym, ◌∙◌, ap, subst, append_assoc}
 use Rattle.std.specs.Prelude.{All, get_or}
 use Rattle.std.proofs.lemmas.List.{map-append}
 use Rattle.std.proofs.lemmas.List.Elements.{All-push, All-contains, Contains-get_or}
@@ -17,9 +17,6 @@ use Rattle.sd_restore.specs.Mapped.{Mapped, mapped_with, area_mapped}
 use Rattle.sd_restore.specs.Placed.{PlacedPage, mapped_of, IsPlaced, ArePlaced, IsInSlots, IsUnheld, MeetsBreak}
 use Rattle.sd_restore.proofs.MappedLemmas.{no_pages, mapped_more, mapped_split}
 use Rattle.sd_restore.proofs.ScanLemmas.{names_more}
-
-pub none_placed : (places : Places) (serial : ℕ) → ArePlaced places serial [] []
-none_placed places serial = record { are = refl; each = λ k d less. absurd (omega (arith, less)) }
 
 pub one_placed : (places : Places) (serial : ℕ) (done : List Mapped) (pages : List PlacedPage) (p : PlacedPage) → ArePlaced places serial done pages → IsPlaced places serial p
     → ArePlaced places serial (done ++ mapped_of p ∷ []) (pages ++ p ∷ [])

@@ -11,9 +11,6 @@ use Rattle.sd_disk.specs.Contents.{file_at}
 use Rattle.sd_image.specs.declared.header.Header.{Header}
 use Rattle.sd_image.specs.Image.{Image, IsImage, is_open}
 use Rattle.sd_image.specs.Shows.{IsStore}
-use Rattle.sd_image.specs.Header.{AreNumbers}
-use Rattle.sd_image.specs.declared.header.Kind.{Kind}
-use Rattle.sd_image.specs.declared.header.Kind.TheVariants.{PreDump, Dump, Merged}
 use Rattle.sd_image.specs.Table.{IsTable}
 use Rattle.std.proofs.lemmas.List.Elements.{All-contains, Contains-get_or, filter-append}
 use Rattle.sd_chain.specs.Catalog.{Opened, Places, place_of, Changes, images}
@@ -122,9 +119,6 @@ count_closed contents slot less closed = count_more contents slot false less clo
 
 -- What was read of any device, one image more.
 
-pub none_read : (count : ℕ) → AreRead count []
-none_read count = record { none_held = λ serial held. absurd (let no : None ≡ Some None = held in cc); slots = λ k d less. absurd (omega (arith, less)); are = record { tables = λ k d less. absurd (omega (arith, less)); fall = λ k d less. absurd (omega (arith, less)) } }
-
 all_more : (P : Opened → Type 0) (old new : Places) (i : Opened) → ((j : Opened) → Contains (images new) j → Contains (images old) j ⊎ (j ≡ i)) → P i → All P (images old) → All P (images new)
 all_more P old new i others here all k d less = elim (others (slice_index_or (images new) k d) (Contains-get_or (images new) k d less)) [
   | inl before ↦ All-contains P (images old) _ all before
@@ -146,14 +140,6 @@ one_more_read count old new i changes others within table falls was = record {
   };
 }
 
-pub parent_falls : (h : Header) → AreNumbers h.kind h.serial h.stands_for h.parent → h.parent < h.stands_for
-parent_falls h numbers = by h.kind numbers
-  where
-    by : (kind : Kind) → AreNumbers kind h.serial h.stands_for h.parent → h.parent < h.stands_for
-    by PreDump n = omega (arith, n.0, n.1)
-    by Dump n = omega (arith, n.0, n.1)
-    by Merged n = omega (arith, n.0, n.2)
-
 -- Each of these is said of the slots up to one, and of that slot's file.
 
 -- what a state says where there is no double serial, and where there is one
@@ -162,9 +148,6 @@ state_more : (contents : List (List ℕ)) (slot : ℕ) (old new : Places) (doubl
     → MatchOption double (IsScan (take slot contents) old) (IsFirstDouble contents) → MatchOption double (IsScan (take (slot + 1) contents) new) (IsFirstDouble contents)
 state_more contents slot old new None more less state = subst (λ files. IsScan files new) (sym (taken_at contents slot [] less)) (more state)
 state_more contents slot old new (Some first) more less state = state
-
-pub none_scanned : EmptyCatalog → (contents : List (List ℕ)) → IsScanned contents 0 (record { catalog = []; images = 0; double = None })
-none_scanned law contents = record { readable = record { images = []; are = refl }; counted = refl; state = scan_of_nothing law }
 
 pub closed_scanned : ClosedSlotAddsNothing → (contents : List (List ℕ)) (slot : ℕ) (scanned : Scanned) → slot < length contents → is_open (file_at contents slot) ≡ false
     → IsScanned contents slot scanned → IsScanned contents (slot + 1) scanned

@@ -13,16 +13,16 @@ use Rattle.sd_image.specs.declared.header.Header.{Header}
 use Rattle.sd_image.specs.declared.reason.Reason.{Reason}
 use Rattle.sd_image.specs.Image.{Image, OpenImages}
 use Rattle.sd_image.specs.Laws.{OneStore, TipOnce}
-use Rattle.sd_image.specs.Shows.{Holds, IsMemory, IsRestorable, IsStore, Shows, page_in}
+use Rattle.sd_image.specs.Shows.{Holds, IsMemory, Shows, page_in}
 use Rattle.sd_image.specs.Shows as image_shows
 use Rattle.sd_image.specs.Table.{Listed, IsTable, AreSpaces}
 use Rattle.sd_image.proofs.Members.{contains_map, from_map}
-use Rattle.sd_chain.specs.Catalog.{Opened, Places, AreInOrder, place_of, images, IsTip}
-use Rattle.sd_chain.specs.Store.{IsCatalogOf, IsInFile, FindsTip, bytes_at}
-use Rattle.sd_restore.specs.Faulty.{IsBrokenChain}
+use Rattle.sd_chain.specs.Catalog.{Opened, Places, place_of, images, IsTip}
+use Rattle.sd_chain.specs.Store.{IsCatalogOf, FindsTip, bytes_at}
 use Rattle.sd_restore.specs.Mapped.{Mapped, mapped_pages}
 use Rattle.sd_restore.specs.Placed.{PlacedPage, mapped_of, IsPlaced, ArePlaced, IsInSlots, MeetsBreak, with_spaces, placed_memory}
-use Rattle.sd_restore.proofs.MappedLemmas.{into_mapped, from_mapped, space_once}
+use Rattle.sd_chain.proofs.Ways.{space_once}
+use Rattle.sd_restore.proofs.MappedLemmas.{into_mapped, from_mapped}
 use Rattle.sd_restore.proofs.MemoryLemmas.{AreAlive, After, spaces_alive, spaces_bare, empty_bare, empty_dead, pages_alive, pages_are}
 use Rattle.sd_restore.proofs.PlacedLemmas.{placed_in_slots}
 
@@ -39,10 +39,6 @@ pub pages_in_slots : (count : ℕ) (places : Places) (tip : Opened) (pages : Lis
 pages_in_slots count places tip pages slots own newest placed =
     placed_in_slots count places tip.header.serial (mapped_pages tip.spaces) pages slots
     (λ i there. subst (Contains (images places)) (sym (same_tip places tip i own there)) newest.member) placed
-
-pub pages_inside : (contents : List (List ℕ)) (places : Places) (tip : Opened) (pages : List PlacedPage) → IsCatalogOf contents places → PlacedOf places tip pages
-    → All (λ (p : PlacedPage). IsInFile contents p.there) pages
-pages_inside contents places tip pages catalog placed k d less = (placed.each k d less).inside contents catalog
 
 -- a page that was placed is in a space of the image, with its permissions
 placed_page : (h : Header) (places : Places) (tip : Opened) (pages : List PlacedPage) (p : PlacedPage) → AreSpaces h 0 tip.spaces → PlacedOf places tip pages → Contains pages p
@@ -169,19 +165,6 @@ checkpoint_shown one_store tip_once contents (Some tip) (Some moment) finds show
     ap Some (ap (λ (h : Header). h.checkpoint) (sym finds.newest.1.header) ∙ ap (λ (i : Image). i.header.checkpoint) is ∙ shows.newest.2)
 
 -- ---- a chain that breaks
-
-pub broken_chain : (contents : List (List ℕ)) (places : Places) (tip : Bor Opened) (slot : ℕ) (reason : Reason) → AreInOrder places → IsCatalogOf contents places → FindsTip contents (Some tip)
-    → IsTip places tip.now → MeetsBreak places tip.now.header.serial (mapped_pages tip.now.spaces) slot reason → IsBrokenChain contents slot reason
-broken_chain contents places tip slot reason order catalog finds newest met = record {
-  images = finds.images;
-  store = finds.store;
-  places = places;
-  order = order;
-  catalog = catalog;
-  tip = tip.now;
-  newest = newest;
-  first = met.first;
-}
 
 -- contents that show something have none
 pub no_break : OneStore → TipOnce → (contents : List (List ℕ)) (places : Places) (tip : Bor Opened) (slot : ℕ) (reason : Reason) (shown : Option (ℕ × PlainMemory)) → IsCatalogOf contents places → FindsTip contents (Some tip)

@@ -4,7 +4,7 @@ use Rattle.std.proofs.Math.Seq.{take-suc}
 use Rattle.std.specs.List.{flat_map, slice_range}
 use Rattle.std.proofs.lemmas.Grind.{flat_map-append}
 use Rattle.std.proofs.lemmas.List.Elements.{Contains-append_left, Contains-append_right}
-use Rattle.std.proofs.lemmas.List.{drop-drop, drop-replicate, drop-take, take-replicate, take-take, drop_more, take-append-drop}
+use Rattle.std.proofs.lemmas.List.{drop-drop, drop-replicate, drop-take, take-replicate, take-take, take-append-drop}
 
 -- one more was passed
 pub taken : {X : Type 0} (xs : List X) (i : ℕ) (x : X) → i < length xs → x ≡ slice_index_or xs i x → take (i + 1) xs ≡ take i xs ++ x ∷ []
@@ -16,10 +16,6 @@ taken_all [] zero all = refl
 taken_all [] (suc i) all = refl
 taken_all (x ∷ xs) zero all = absurd (omega arith)
 taken_all (x ∷ xs) (suc i) all = ap (λ zs. x ∷ zs) (taken_all xs i (omega arith))
-
--- the next one, and what is left behind it
-pub left : {X : Type 0} (xs : List X) (i : ℕ) (x : X) → i < length xs → x ≡ slice_index_or xs i x → drop i xs ≡ x ∷ drop (i + 1) xs
-left xs i x less is = drop_more xs i x less ∙ ap (λ y. y ∷ drop (i + 1) xs) (sym is)
 
 -- one more was passed, whatever value stands for what is past the end
 pub taken_at : {X : Type 0} (xs : List X) (i : ℕ) (d : X) → i < length xs → take (i + 1) xs ≡ take i xs ++ slice_index_or xs i d ∷ []

@@ -153,10 +153,6 @@ all_behind : (space page : ℕ) (places : List Place) → AllByRecursion (IsBehi
 all_behind space page [] all = tt
 all_behind space page (q ∷ places) all = (less_above space page q.0 q.1 all.0, all_behind space page places all.1)
 
-lower : (one other : ℕ) (places : List Place) → one < other → AllByRecursion (IsBehind other) places → AllByRecursion (IsBehind one) places
-lower one other [] l all = tt
-lower one other (q ∷ places) l all = (omega (arith, l, all.0), lower one other places l all.1)
-
 same_test : (a b : ℕ) → nat_eq b a ≡ eq_by_cmp nat_cmp a b
 same_test a b = grind (arith, nat_tests)
 

@@ -1,35 +1,18 @@
 -- A clear of a clean page, which changes nothing, and zeros that are compared.
-use Rattle.std.proofs.Common.{◌≡◌, ◌≢◌, ℕ, ◌&&◌, Bool, true, false, nat_eq, List, [], ◌∷◌, length, replicate, Option, Some, None, refl, sym, ◌∙◌, ap, inl, inr, arith}
+use Rattle.std.proofs.Common.{◌≡◌, ℕ, ◌&&◌, Bool, true, false, nat_eq, List, [], ◌∷◌, length, replicate, Option, Some, None, refl, sym, ◌∙◌, ap}
 use Rattle.std.specs.Prelude.{IsSome, unwrap_or}
-use Rattle.std.specs.Ordering.{nat_cmp, eq_by_cmp}
-use Rattle.std.specs.Cmp.{nat_cmp_total}
+use Rattle.std.specs.Ordering.{nat_cmp}
 use Rattle.std.specs.Cmp.Lexicographic.{pointwise}
 use Rattle.std.specs.List.{list_all}
 use Rattle.std.specs.FinMap as finmap
-use Rattle.std.specs.FinMap.{same_map, get-insert, get-empty, nat_cmp-IsAntisymmetric}
-use Rattle.std.proofs.lemmas.Bool.{both_ways, cases_eq, cases_Bool, cond-true, cond-false}
-use Rattle.std.proofs.lemmas.Bool.Decides.{nat_tests}
+use Rattle.std.specs.FinMap.{get-empty}
+use Rattle.std.proofs.lemmas.Bool.{both_ways}
 use Rattle.sd_pagetable.specs.Nested.{Nested, Table, inside, put_at, value_at}
 use Rattle.sd_pagetable.specs.Page.{PageState, cleared_page}
 use Rattle.sd_pagetable.specs.Contents.{Contents, IsSound, page_at, put_page}
 use Rattle.sd_pagetable.specs.Tracking.{Cleared, Step}
+use Rattle.sd_areas.proofs.Memory.{put_again}
 use Rattle.sd_rounds.proofs.Clean.{no_some}
-
-untied : (q k : ℕ) → q ≢ k → eq_by_cmp nat_cmp q k ≡ false
-untied q k e = grind (arith, nat_tests)
-
-tie : (q k : ℕ) → eq_by_cmp nat_cmp q k ≡ true → q ≡ k
-tie q k t = elim (cases_eq q k) [ inl e ↦ e | inr n ↦ absurd (both_ways _ (untied q k n) t) ]
-
--- what is there, put again
-put_again : {Y : Type 0} (m : finmap.FinMap nat_cmp Y) (k : ℕ) (v : Y) → finmap.get m k ≡ Some v → finmap.insert m k v ≡ m
-put_again {Y} m k v e = same_map nat_cmp_total nat_cmp-IsAntisymmetric _ _ (λ q.
-    get-insert nat_cmp_total m k v q ∙ (elim (cases_Bool (eq_by_cmp nat_cmp q k)) [
-      | inl t ↦ (
-          let same : q ≡ k = tie q k t in
-          cond-true _ _ _ t ∙ sym e ∙ ap (finmap.get m) (sym same))
-      | inr f ↦ cond-false _ _ _ f
-    ]))
 
 -- a space that has a page is there
 inside_is : {X : Type 0} (o : Option (Table X)) (page : ℕ) (x : X) → finmap.get (unwrap_or o finmap.empty) page ≡ Some x → o ≡ Some (unwrap_or o finmap.empty)

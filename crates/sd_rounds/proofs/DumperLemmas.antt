@@ -21,7 +21,7 @@ use Rattle.sd_rounds.specs.declared.progress.Progress.TheVariants.{Strange, Fail
 use Rattle.sd_rounds.specs.declared.stage.Stage.{Stage}
 use Rattle.std.specs.declared.alloc.AllocError.{AllocError}
 use Rattle.sd_rounds.specs.declared.stage.Stage.TheVariants.{Format, Freeze, Pass as PassStage, Close}
-use Rattle.sd_rounds.specs.Dumper.{AreRunning, AreCounted, Dumping, Hands, HandsTo, IsHanded, HasCounted, IsCounted, IsItsImage, IsRunning, Running, WorksOn, outcomes_since_freeze, ends, freezes, image_from, is_frozen_image, is_strange, order_of, running_of}
+use Rattle.sd_rounds.specs.Dumper.{AreRunning, AreCounted, Dumping, Hands, HandsTo, IsHanded, IsCounted, IsItsImage, IsRunning, Running, WorksOn, outcomes_since_freeze, ends, freezes, image_from, is_frozen_image, is_strange, order_of, running_of}
 use Rattle.sd_gate.specs.PlanUse.{outcomes_of}
 use Rattle.sd_rounds.specs.Making.{IsWritten, Making, PlanGoesOn, Steps, closing_outcomes, is_frozen_dump, is_past_freeze, outcomes_left, plan_of, stage_after, stage_behind, with_plan}
 use Rattle.sd_rounds.specs.Pass.{data_pages}
@@ -32,10 +32,6 @@ use Rattle.sd_rounds.proofs.MakingLemmas.{copy_counts, take_counts, visit_counts
 use Rattle.sd_rounds.proofs.WriteLemmas.{none_count, put_count, take_count}
 
 -- ---- a step
-
--- an image that counts, where the memory is frozen
-Counts : ℕ → Making → Type 0
-Counts since image = is_frozen_dump image ≡ true → IsCounted since image
 
 from_counts : (since : ℕ) (running : Running) (serial : ℕ) (state : SlotState) → IsRunning since running → is_frozen_dump (image_from running serial state running.image) ≡ true
     → IsCounted since (image_from running serial state running.image)
@@ -62,7 +58,7 @@ gives_same old new request g =
     let after : is_one new.out ≡ 1 = ap is_one g.out in
     omega arith
 
-past_with : (stage : Stage) (plan : Planned) → is_past_freeze (with_plan stage plan) ≡ is_past_freeze stage
+pub past_with : (stage : Stage) (plan : Planned) → is_past_freeze (with_plan stage plan) ≡ is_past_freeze stage
 past_with (Format old) plan = refl
 past_with Freeze plan = refl
 past_with PassStage plan = refl
@@ -299,30 +295,6 @@ hands_running since old new made (PreDumpOpen opened) is hands strange ended =
     more : (a b : ℕ) → nat_le b a ≡ false → a + 1 ≤ b
     more a b e = grind (arith, nat_tests)
 hands_running since old new made (DumpOpen opened) is hands strange ended = absurd (both_ways true ended refl)
-
--- the dump is followed by five outcomes and one for each of its data pages
-pub hands_counted : (since : ℕ) (old new : Running) (made : Made) (progress : Progress) → IsRunning since old → HandsTo old made progress new → HasCounted progress (outcomes_since_freeze old since)
-hands_counted since old new made Strange is hands = tt
-hands_counted since old new made HasFailed is hands = tt
-hands_counted since old new made GoesOnWith is hands = tt
-hands_counted since old new made (PreDumpOpen opened) is hands = tt
-hands_counted since old new made (DumpOpen opened) is hands =
-    let image = hands.0.image in
-    let o = hands.0.hands in
-    let kind : nat_eq (kind_number image.order.kind) 2 ≡ true =
-    ap (λ (r : ImageOrder). nat_eq (kind_number r.kind) 2) (image_own since old image hands.0.was is)
-    ∙ ap (λ b. nat_eq (kind_number (if b then Dump else PreDump)) 2) hands.1 in
-    let frozen : is_frozen_dump image ≡ true = ap (λ b. b && is_past_freeze image.stage) kind ∙ ap is_past_freeze o.was in
-    let w : IsCounted since image = image_counts since old image hands.0.was is frozen in
-    let left : outcomes_left image.stage ≡ outcomes_of o.plan = ap outcomes_left o.was in
-    let five : closing_outcomes image.stage ≡ 5 = ap closing_outcomes o.was in
-    let none : outcomes_of (plan_after o.plan made) ≡ 0 = ap (λ (c : Calls). length c + 0) o.last in
-    let one : outcomes_of (plan_after o.plan made) + 1 ≡ outcomes_of o.plan = o.one in
-    let all : since + outcomes_left image.stage + writes_out image.writes ≡ data_pages image.pass.entries + closing_outcomes image.stage = w.count in
-    let out : writes_out image.writes ≡ 0 = none_count image.writes o.rests in
-    let pages : opened.header.pages ≡ data_pages image.pass.entries = o.pages in
-    let now : outcomes_since_freeze old since ≡ since + 1 = counted_is since old image hands.0.was ∙ ap (λ b. if b then since + 1 else since) frozen in
-    omega arith
 
 -- an outcome that was awaited
 pub handed : (old new : Dumping) (made : Made) (progress : Progress) → is_strange progress ≡ false → IsHanded old made progress new → Hands old made progress new

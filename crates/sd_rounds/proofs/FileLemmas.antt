@@ -131,13 +131,13 @@ fills law order pass pages header tables is = law.image pages header (table_text
 
 -- ---- until the image is open
 
-asked_files : (stage : Stage) (plan : Planned) (order : ImageOrder) (pass : Pass) (pages : Pages) → IsFiledIn stage order pass pages → IsFiledIn (with_plan stage plan) order pass pages
+pub asked_files : (stage : Stage) (plan : Planned) (order : ImageOrder) (pass : Pass) (pages : Pages) → IsFiledIn stage order pass pages → IsFiledIn (with_plan stage plan) order pass pages
 asked_files (Format old) plan order pass pages is = tt
 asked_files Freeze plan order pass pages is = tt
 asked_files PassStage plan order pass pages is = tt
 asked_files (Close old header tables) plan order pass pages is = is
 
-asked_areas : (stage : Stage) (plan : Planned) (cut : Contents) → HasAreasIn stage cut → HasAreasIn (with_plan stage plan) cut
+pub asked_areas : (stage : Stage) (plan : Planned) (cut : Contents) → HasAreasIn stage cut → HasAreasIn (with_plan stage plan) cut
 asked_areas (Format old) plan cut is = tt
 asked_areas Freeze plan cut is = tt
 asked_areas PassStage plan cut is = tt

@@ -1,12 +1,11 @@
 -- The table of an image in the making.
-use Rattle.std.proofs.Common.{◌≡◌, ◌≢◌, ◌⊎◌, ℕ, zero, suc, ◌+◌, ◌<◌, ◌≤◌, Bool, true, false, nat_eq, ◌||◌, ◌&&◌, cond, List, [], ◌∷◌, length, map, sum_by, Contains, Option, Some, None, is_some, IsTrue, refl, sym, ◌∙◌, ap, subst, arith, inl, inr}
+use Rattle.std.proofs.Common.{◌≡◌, ◌≢◌, ◌⊎◌, ℕ, zero, suc, ◌+◌, ◌<◌, ◌≤◌, Bool, true, false, nat_eq, ◌||◌, ◌&&◌, List, [], ◌∷◌, length, map, sum_by, Contains, Option, Some, None, is_some, IsTrue, refl, sym, ◌∙◌, ap, subst, arith, inl, inr}
 use Rattle.std.specs.Prelude.{slice_index_or}
 use Rattle.std.specs.List.{AllByRecursion, flat_map, list_any}
 use Rattle.std.specs.Option.{option_map, option_and_then}
 use Rattle.std.specs.FinMap as finmap
 use Rattle.std.proofs.lemmas.Bool.{both_ways, cases_lt}
 use Rattle.std.proofs.lemmas.Bool.Decides.{nat_tests}
-use Rattle.std.proofs.lemmas.List.{length-append, length-map}
 use Rattle.std.proofs.lemmas.List.Sums.{sum_by-cons}
 use Rattle.sd_areas.specs.declared.area.Area.{Area}
 use Rattle.sd_areas.specs.Areas.{AreMaximal, area_pages}
@@ -18,8 +17,8 @@ use Rattle.sd_image.specs.declared.header.Kind.{Kind}
 use Rattle.sd_image.specs.declared.header.Kind.TheVariants.{PreDump, Dump, Merged}
 use Rattle.sd_image.specs.declared.run.Run.{Run}
 use Rattle.sd_image.specs.declared.run.RunKind.TheVariants.{Data}
-use Rattle.sd_image.specs.Shows.{page_in, pages_of}
-use Rattle.sd_image.specs.Table.{AreRuns, AreSpaces, Covers, Listed, data_count, is_data, is_run_after, mapped_count, run_pages, table_text}
+use Rattle.sd_image.specs.Shows.{page_in}
+use Rattle.sd_image.specs.Table.{AreRuns, AreSpaces, Covers, Listed, data_count, is_run_after, mapped_count, run_pages, table_text}
 use Rattle.sd_image.specs.Words.{number_bytes}
 use Rattle.sd_pagetable.specs.Contents.{Contents, page_at, plain_of}
 use Rattle.sd_pagetable.specs.Law.{PlainLaw}
@@ -32,9 +31,9 @@ use Rattle.sd_rounds.specs.Rises.{kind_at}
 use Rattle.sd_rounds.specs.Rounds.{entry_parent}
 use Rattle.sd_rounds.specs.SpaceTables.{AreAllSpaces, IsSpaceOf, Rise, without_areas}
 use Rattle.sd_rounds.specs.Tables.{AreTables}
+use Rattle.sd_image.proofs.PageBytes.{counted_spaces as pages_counted}
 use Rattle.sd_rounds.proofs.DumpTableLemmas.{Among, HaveRunsOf, all_listed, covers, kind_append, runs_have, runs_of_space}
 use Rattle.sd_rounds.proofs.RisingNumbers.{has, has_append, has_pages}
-use Rattle.sd_rounds.proofs.RoomLemmas.{length-pages_from}
 use Rattle.sd_rounds.proofs.SpaceTableLemmas.{page_in_plain}
 
 -- ---- runs for any parent
@@ -55,29 +54,6 @@ own_runs (suc n) takes_all runs e are = sourced_runs (suc n) None runs (omega ar
     above n = grind (arith, nat_tests)
 
 -- ---- counts
-
-abbrev in_space : ℕ → ℕ → Place
-in_space space page = (space, page)
-
-abbrev data_places : ℕ → Run → List Place
-data_places space r = cond (is_data r) (map (in_space space) (run_pages r)) []
-
-counted_runs : (space : ℕ) (runs : List Run) → length (flat_map (data_places space) runs) ≡ sum_by (λ (r : Run). cond (is_data r) r.count 0) runs
-counted_runs space [] = refl
-counted_runs space (r ∷ runs) =
-    length-append (data_places space r) (flat_map (data_places space) runs)
-    ∙ omega (arith, counted_runs space runs, one (is_data r)) ∙ sym (sum_by-cons (λ (r : Run). cond (is_data r) r.count 0) r runs)
-  where
-    one : (b : Bool) → length (cond b (map (in_space space) (run_pages r)) []) ≡ cond b r.count 0
-    one true = length-map (run_pages r) (in_space space) ∙ length-pages_from r.first r.count
-    one false = refl
-
-pages_counted : (spaces : List Listed) → length (pages_of Data spaces) ≡ data_count spaces
-pages_counted [] = refl
-pages_counted (s ∷ spaces) =
-    length-append (flat_map (data_places s.space) s.runs) (pages_of Data spaces)
-    ∙ omega (arith, counted_runs s.space s.runs, pages_counted spaces)
-    ∙ sym (sum_by-cons (λ (s : Listed). sum_by (λ (r : Run). cond (is_data r) r.count 0) s.runs) s spaces)
 
 all_at : {X : Type 0} (P : X → Type 0) (xs : List X) (x : X) → AllByRecursion P xs → Contains xs x → P x
 all_at {X = X} P xs x all c = at xs all c.0 c.1 c.2

@@ -146,7 +146,7 @@ step_fewer law ticket old new before after (Copied c) s =
 
 -- ---- a step of a checkpoint
 
-few_calls : (state : SlotState) → length (format_calls state) ≤ 3
+pub few_calls : (state : SlotState) → length (format_calls state) ≤ 3
 few_calls Raw = omega arith
 few_calls Closed = omega arith
 few_calls OpenSlot = omega arith

@@ -71,7 +71,7 @@ asked_keeps Freeze plan pages chain pass memory kept = kept
 asked_keeps PassStage plan pages chain pass memory kept = kept
 asked_keeps (Close old header tables) plan pages chain pass memory kept = kept
 
-asked_dumps : (stage : Stage) (plan : Planned) (cut : Contents) (pages : Pages) (chain : Chain) (pass : Pass) (memory : Contents) → IsDumpedIn stage cut pages chain pass memory
+pub asked_dumps : (stage : Stage) (plan : Planned) (cut : Contents) (pages : Pages) (chain : Chain) (pass : Pass) (memory : Contents) → IsDumpedIn stage cut pages chain pass memory
     → IsDumpedIn (with_plan stage plan) cut pages chain pass memory
 asked_dumps (Format old) plan cut pages chain pass memory dumped = dumped
 asked_dumps Freeze plan cut pages chain pass memory dumped = dumped

@@ -59,13 +59,6 @@ above_not_passed after q e = ap not e
 pub not_passed_above : (after : Option Place) (q : Place) → has_passed after q ≡ false → is_above after q.0 q.1 ≡ true
 not_passed_above after q e = not-false (is_above after q.0 q.1) e
 
--- what was passed stays passed
-pub passed_more : (after : Option Place) (at q : Place) → is_above after at.0 at.1 ≡ true → has_passed after q ≡ true → has_passed (Some at) q ≡ true
-passed_more after at q one two = elim (cases_Bool (has_passed (Some at) q)) [
-  | inl e ↦ e
-  | inr e ↦ absurd (both_ways (has_passed after q) (ahead_more after at q one e) two)
-]
-
 -- a mapped page that the cursor passes is the next one, or was passed before
 pub passed_next : {X : Type 0} (spaces : Nested X) (after : Option Place) (at q : Place) → IsNextPage spaces after (Some at) → IsSome (value_at spaces q.0 q.1)
     → has_passed (Some at) q ≡ true → (at ≡ q) ⊎ (has_passed after q ≡ true)

@@ -1,11 +1,10 @@
 -- What was copied of a page, where the zeros that come first stand apart.
-use Rattle.std.proofs.Common.{◌≡◌, ℕ, zero, suc, ◌+◌, ◌<◌, ◌≤◌, ◌&&◌, Bool, true, false, ◌==◌, nat_eq, List, [], ◌∷◌, ◌++◌, length, replicate, refl, sym, ◌∙◌, ap, subst, arith, inl, inr, ◌⊎◌}
+use Rattle.std.proofs.Common.{◌≡◌, ℕ, zero, suc, ◌+◌, ◌<◌, ◌≤◌, Bool, true, false, ◌==◌, nat_eq, List, [], ◌∷◌, ◌++◌, length, replicate, refl, sym, ◌∙◌, ap, subst, arith}
 use Rattle.std.specs.List.{list_all}
 use Rattle.std.proofs.lemmas.Bool.{and_parts, eqb-true}
 use Rattle.std.proofs.lemmas.List.{length-append, length-replicate}
 use mathlib.Core.List.{append-nil}
 use Rattle.sd_rounds.specs.PageCopies.{IsPageCopy, copied_bytes}
-use Rattle.sd_rounds.specs.Rounds.{is_page_of_zeros}
 
 abbrev are_zeros : List ℕ → Bool
 are_zeros bytes = list_all (λ byte. byte == 0) bytes
@@ -19,13 +18,6 @@ all_zero [] e = refl
 all_zero (x ∷ xs) e =
     let both = and_parts (nat_eq x 0) (list_all (λ byte. byte == 0) xs) e in
     ap (λ n. n ∷ xs) (eqb-true x 0 both.0) ∙ ap (λ (l : List ℕ). 0 ∷ l) (all_zero xs both.1)
-
--- nothing
-pub none_copied : IsPageCopy 0 [] true
-none_copied = record { few = omega arith; bare = λ some. refl; all = refl }
-
-pub how_many : (front : ℕ) (buffer : List ℕ) → length (copied_bytes front buffer) ≡ front + length buffer
-how_many front buffer = length-append (replicate front 0) buffer ∙ ap (λ n. n + length buffer) (length-replicate front 0)
 
 -- zeros alone, where the buffer is empty
 bare_bytes : (front : ℕ) (buffer : List ℕ) → buffer ≡ [] → copied_bytes front buffer ≡ replicate front 0
@@ -73,7 +65,3 @@ none_in_front zero buffer zeros is some = refl
 none_in_front (suc n) buffer zeros is some = absurd (
     let none : buffer ≡ [] = is.bare (omega arith) in
     let no : true ≡ false = sym (ap are_zeros (bare_bytes (suc n) buffer none) ∙ zeros_are (suc n)) ∙ some in cc)
-
--- a whole page that is no page of zeros
-pub whole_page : (bytes : List ℕ) → is_page_of_zeros bytes ≡ false → length bytes ≡ 4096 → list_all (λ byte. byte == 0) bytes ≡ false
-whole_page bytes some long = sym (ap (λ n. n == 4096 && list_all (λ byte. byte == 0) bytes) long) ∙ some

@@ -12,13 +12,13 @@ use Rattle.sd_image.specs.Runs.{IsSourced}
 use Rattle.sd_pagetable.specs.Nested.{Nested, Table, is_alive, value_at}
 use Rattle.sd_image.specs.declared.run.RunKind.{RunKind}
 use Rattle.std.proofs.lemmas.List.{length-append}
-use Rattle.sd_rounds.specs.Pass.{Place, ImageEntry, Pass, Taking, begun_to_take, copied_more, left_to_parent, with_entry}
+use Rattle.sd_rounds.specs.Pass.{Place, ImageEntry, Pass, Taking, left_to_parent, with_entry}
 use Rattle.sd_rounds.specs.Rises.{IsRising}
 use Rattle.sd_rounds.specs.Rounds.{IsCopying, IsRound, entry_parent, is_page_of_zeros, limit, pass_of, taking_of}
 use Rattle.sd_rounds.specs.Tables.{EndBefore, IsPushed, listed, entries_in}
 use Rattle.sd_rounds.proofs.Clean.{no_some, one_some}
-use Rattle.sd_rounds.proofs.RisesLemmas.{takes_rising, leaves_rising, copies, drops, enters}
-use Rattle.sd_rounds.proofs.TableLemmas.{IsFurther, end_further, one_further}
+use Rattle.sd_rounds.proofs.RisesLemmas.{takes_rising, leaves_rising, copies, enters}
+use Rattle.sd_rounds.proofs.TableLemmas.{IsFurther, end_further}
 
 pub none_back : {X Y : Type 0} (f : X → Y) (o : Option X) → option_map f o ≡ None → o ≡ None
 none_back f None e = refl
@@ -53,10 +53,6 @@ begun_round takes_all tables after taking buffer empty at round free above least
   some = λ q e. subst (λ (b : List ℕ). is_page_of_zeros b ≡ false) (sym none) refl;
 }
 
-pub begun_view : (takes_all : Bool) (tables : List SpaceTable) (after taking : Option Place) (buffer empty : List ℕ) (at : Place) → empty ≡ []
-    → pass_of takes_all tables (Some at) (Some at) empty ≡ begun_to_take (pass_of takes_all tables after taking buffer) at
-begun_view takes_all tables after taking buffer empty at none = ap (λ (b : List ℕ). pass_of takes_all tables (Some at) (Some at) b) none
-
 pub left_view : (takes_all : Bool) (old new : List SpaceTable) (after taking : Option Place) (buffer : List ℕ) (at : Place) (parent : ℕ)
     → option_map (taking_of buffer) taking ≡ None → IsPushed parent (listed old) (listed new) at Parent
     → pass_of takes_all new (Some at) taking buffer ≡ left_to_parent (pass_of takes_all old after taking buffer) at
@@ -89,25 +85,6 @@ alive_at {X} spaces space page there = by (finmap.get spaces space) there
     by (Some pages) e = refl
 
 -- ---- the page that is being taken
-
-same_limit : (a : Place) → IsFurther a a
-same_limit a = inr (refl, omega arith)
-
-freed : (after taking : Option Place) → IsFurther (limit after taking) (limit after None)
-freed None taking = same_limit (0, 0)
-freed (Some a) None = same_limit (a.0, a.1 + 1)
-freed (Some a) (Some t) = one_further a
-
-pub dropped_round : (takes_all : Bool) (tables : List SpaceTable) (after taking : Option Place) (buffer : List ℕ) → IsRound takes_all tables after taking buffer
-    → IsRound takes_all tables after None buffer
-dropped_round takes_all tables after taking buffer round = record {
-  are = round.are;
-  ends = end_further (limit after taking) (limit after None) (listed tables) (freed after taking) round.ends;
-  rising = drops (pass_of takes_all tables after taking buffer) round.rising;
-  spaces = round.spaces;
-  sectors = λ q e. absurd (no_some q refl e);
-  some = λ q e. absurd (no_some q refl e);
-}
 
 -- the page that is being taken is the one at the cursor
 pub at_cursor : (takes_all : Bool) (tables : List SpaceTable) (after taking : Option Place) (buffer : List ℕ) (at : Place) → IsRound takes_all tables after taking buffer
@@ -167,14 +144,6 @@ longer_round takes_all tables after (Some at) buffer sector new round copying lo
       record { count = was.count + 1; are = omega arith; few = omega arith };
   some = λ q e. subst (λ (b : List ℕ). is_page_of_zeros b ≡ false) (sym is) (some (taking_of buffer at) refl);
 }
-
-pub longer_view : (takes_all : Bool) (tables : List SpaceTable) (after taking : Option Place) (buffer sector new : List ℕ) (t : Taking) → new ≡ buffer ++ sector
-    → option_map (taking_of buffer) taking ≡ Some t
-    → pass_of takes_all tables after taking new ≡ copied_more (pass_of takes_all tables after taking buffer) t sector
-longer_view takes_all tables after None buffer sector new t is e = absurd (no_some t refl e)
-longer_view takes_all tables after (Some at) buffer sector new t is e =
-    ap (λ (b : List ℕ). pass_of takes_all tables after (Some at) b) is
-    ∙ ap (λ (x : Taking). copied_more (pass_of takes_all tables after (Some at) buffer) x sector) (one_some (taking_of buffer at) t refl e)
 
 -- another buffer, while no page is being taken
 pub other_view : (takes_all : Bool) (tables : List SpaceTable) (after taking : Option Place) (buffer new : List ℕ) → option_map (taking_of buffer) taking ≡ None

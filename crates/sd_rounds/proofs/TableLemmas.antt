@@ -86,7 +86,7 @@ entries_put : (tables : List Listed) (t : Listed) → entries_listed (tables ++ 
 entries_put tables t = sym (flat_map_more table_entries [] tables t)
 
 -- one page more of a space
-runs_entries : (space page : ℕ) (kind : RunKind) (old new : List Run) → flat_map run_ways new ≡ flat_map run_ways old ++ (page, kind) ∷ []
+pub runs_entries : (space page : ℕ) (kind : RunKind) (old new : List Run) → flat_map run_ways new ≡ flat_map run_ways old ++ (page, kind) ∷ []
     → flat_map (run_entries space) new ≡ flat_map (run_entries space) old ++ (record { place = (space, page); kind = kind }) ∷ []
 runs_entries space page kind old new e =
     entries_are space new ∙ ap (map (entry_of space)) e ∙ map-append (entry_of space) (flat_map run_ways old) _

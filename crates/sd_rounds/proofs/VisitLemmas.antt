@@ -1,5 +1,5 @@
 -- Which pages a pass takes, by its visits.
-use Rattle.std.proofs.Common.{◌≡◌, ℕ, Bool, true, false, not, cond, ◌||◌, List, [], ◌∷◌, ◌++◌, map, Contains, Option, Some, None, refl, sym, ◌∙◌, ap, subst, inl, inr, arith}
+use Rattle.std.proofs.Common.{◌≡◌, ℕ, Bool, true, false, not, cond, ◌||◌, List, [], ◌∷◌, ◌++◌, map, Contains, Option, Some, None, refl, sym, ◌∙◌, ap, subst, inl, inr}
 use Rattle.std.specs.Prelude.{filter}
 use Rattle.std.proofs.lemmas.List.{map-append, append-nil}
 use Rattle.std.proofs.lemmas.List.Elements.{filter-append, Contains-append_left, Contains-push, Contains-push_cases}
@@ -134,7 +134,7 @@ enters_zero visits pass taking was is = record {
 visited_more : (visits : List Visit) (at : Place) (soft_dirty : Bool) → map visited_page (with_visit visits at soft_dirty) ≡ map visited_page visits ++ at ∷ []
 visited_more visits at soft_dirty = map-append visited_page visits _
 
-cursor : (pass : Pass) (at : Place) (soft_dirty : Bool) → (visited pass at soft_dirty).after ≡ Some at
+pub cursor : (pass : Pass) (at : Place) (soft_dirty : Bool) → (visited pass at soft_dirty).after ≡ Some at
 cursor pass at soft_dirty = by (pass.takes_all || soft_dirty)
   where
     by : (b : Bool) → (cond b (begun_to_take pass at) (left_to_parent pass at)).after ≡ Some at

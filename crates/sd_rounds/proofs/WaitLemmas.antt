@@ -4,7 +4,6 @@ use Rattle.std.specs.Option.{option_map}
 use Rattle.std.proofs.lemmas.Bool.{both_ways}
 use Rattle.std.proofs.lemmas.Bool.Decides.{nat_tests}
 use Rattle.sd_areas.specs.PlainMemory.{PlainMemory}
-use Rattle.sd_gate.specs.declared.request_id.RequestId.{RequestId}
 use Rattle.sd_pagetable.specs.Contents.{Contents, plain_of}
 use Rattle.sd_pagetable.specs.Law.{PlainLaw}
 use Rattle.sd_pagetable.specs.Order.{IsNextPage}
@@ -42,9 +41,6 @@ pub over_is : PlainLaw → (contents : Contents) (pass : Pass) (found : Option P
     → is_none found ≡ is_over pass (plain_of contents)
 over_is law contents pass found free next = none_next law contents pass.after found next ∙ sym (ap (λ b. b && nat_eq (pages_ahead pass.after (plain_of contents)) 0) free)
 
-pub not_over : (pass : Pass) (memory : PlainMemory) → is_none pass.taking ≡ false → false ≡ is_over pass memory
-not_over pass memory taking = sym (ap (λ b. b && nat_eq (pages_ahead pass.after memory) 0) taking)
-
 -- in the pass
 pub pass_waits : (image : Making) (memory : PlainMemory) (all any over : Bool) → image.stage ≡ PassStage → are_all_out image.writes ≡ all → is_any_out image.writes ≡ any
     → is_over image.pass memory ≡ over → (all || (any && over)) ≡ maker_must_wait image memory
@@ -54,33 +50,12 @@ pass_waits image memory all any over stage a n o =
     ∙ ap (λ b. all || (b && is_over image.pass memory)) n
     ∙ ap (λ b. all || (any && b)) o)
 
--- outside the pass no write is out
-pub plan_waits : (image : Making) (memory : PlainMemory) → are_all_out image.writes ≡ false → is_any_out image.writes ≡ false → is_some (out_of image.stage) ≡ maker_must_wait image memory
-plan_waits image memory a n =
-    sym (ap (λ b. is_some (out_of image.stage) || b || (is_any_out image.writes && is_over image.pass memory)) a
-    ∙ ap (λ b. is_some (out_of image.stage) || false || (b && is_over image.pass memory)) n
-    ∙ or_false (is_some (out_of image.stage)))
-  where
-    or_false : (b : Bool) → (b || false || false) ≡ b
-    or_false true = refl
-    or_false false = refl
-
 -- ---- where no outcome is awaited
 
 or_none : (a b c : Bool) → (a || b || c) ≡ false → (a ≡ false) × (b ≡ false) × (c ≡ false)
 or_none true b c e = absurd (both_ways true e refl)
 or_none false true c e = absurd (both_ways true e refl)
 or_none false false c e = (refl, refl, e)
-
-not_some : (o : Option RequestId) → is_some o ≡ false → o ≡ None
-not_some None e = refl
-not_some (Some id) e = absurd (both_ways true e refl)
-
-pub none_awaited : (image : Making) (memory : PlainMemory) → maker_must_wait image memory ≡ false → out_of image.stage ≡ None
-none_awaited image memory e = not_some (out_of image.stage) (or_none (is_some (out_of image.stage)) (are_all_out image.writes) _ e).0
-
-pub has_lane : (image : Making) (memory : PlainMemory) → maker_must_wait image memory ≡ false → are_all_out image.writes ≡ false
-has_lane image memory e = (or_none (is_some (out_of image.stage)) (are_all_out image.writes) _ e).1
 
 -- where the pass is over all writes are done
 pub all_written : PlainLaw → (image : Making) (contents : Contents) → maker_must_wait image (plain_of contents) ≡ false → length image.writes ≡ 8 → image.pass.taking ≡ None

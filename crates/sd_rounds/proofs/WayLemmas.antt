@@ -4,13 +4,13 @@ use Rattle.std.specs.Prelude.{filter, slice_index_or}
 use Rattle.std.proofs.lemmas.Bool.{eqb-true}
 use Rattle.std.proofs.lemmas.Bool.Decides.{nat_tests}
 use Rattle.sd_image.specs.declared.run.RunKind.{RunKind}
-use Rattle.sd_image.specs.declared.run.RunKind.TheVariants.{Data, Parent, Zero}
 use Rattle.sd_image.specs.Words.{run_kind_number}
 use Rattle.sd_pagetable.specs.Order.{is_above}
 use Rattle.sd_pagetable.specs.Tracking.{is_page}
 use Rattle.sd_image.proofs.Members.{contains_later, contains_none}
 use Rattle.sd_rounds.specs.Pass.{ImageEntry, Place, has_kind, pages_by, place_of_entry}
 use Rattle.sd_rounds.specs.Rises.{EntriesRise, kind_at}
+use Rattle.sd_image.proofs.PagePlaces.{kind_number_once as one_number}
 use Rattle.sd_rounds.proofs.Clean.{no_some, one_some}
 use Rattle.sd_rounds.proofs.Orders.{above_more, apart_page, page_here, page_is}
 use Rattle.sd_rounds.proofs.RisesLemmas.{above_apart}
@@ -39,17 +39,6 @@ pages_one kind entry entries b e = ap (λ t. map place_of_entry (cond t (entry �
 
 same_number : (a : ℕ) → nat_eq a a ≡ true
 same_number a = grind (arith, nat_tests)
-
-one_number : (a b : RunKind) → run_kind_number a ≡ run_kind_number b → a ≡ b
-one_number Data Data e = refl
-one_number Data Parent e = absurd (omega (arith, e))
-one_number Data Zero e = absurd (omega (arith, e))
-one_number Parent Data e = absurd (omega (arith, e))
-one_number Parent Parent e = refl
-one_number Parent Zero e = absurd (omega (arith, e))
-one_number Zero Data e = absurd (omega (arith, e))
-one_number Zero Parent e = absurd (omega (arith, e))
-one_number Zero Zero e = refl
 
 -- a page that entries have is among those of its kind
 found : (kind : RunKind) (entries : List ImageEntry) (at : Place) → kind_at entries at ≡ Some kind → Contains (pages_by kind entries) at

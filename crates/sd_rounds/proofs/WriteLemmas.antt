@@ -1,5 +1,5 @@
 -- The writes of data pages that are out: one more, and one less.
-use Rattle.std.proofs.Common.{◌≡◌, ◌≢◌, ◌⊎◌, ℕ, zero, suc, ◌+◌, Bool, true, false, if◌then◌else◌, List, [], ◌∷◌, length, Option, Some, None, is_some, slice_get, slice_set, refl, sym, ◌∙◌, ap, subst, inl, inr, arith}
+use Rattle.std.proofs.Common.{◌≡◌, ◌≢◌, ◌⊎◌, ℕ, zero, suc, ◌+◌, true, false, if◌then◌else◌, List, [], ◌∷◌, length, Option, Some, None, is_some, slice_get, slice_set, refl, sym, ◌∙◌, ap, subst, inl, inr, arith}
 use Rattle.std.specs.Prelude.{MatchOption}
 use Rattle.std.proofs.lemmas.Bool.{both_ways}
 use Rattle.std.proofs.lemmas.List.Sums.{sum_by-cons}
@@ -37,12 +37,6 @@ all_out [] none = refl
 all_out (None ∷ writes) none = absurd (none 0 refl)
 all_out (Some id ∷ writes) none = all_out writes (λ lane is. none (suc lane) is)
 
-pub none_free : (writes : List (Option RequestId)) (lane : ℕ) → are_all_out writes ≡ true → slice_get writes lane ≡ Some None → ⊥
-none_free [] lane all is = let no : None ≡ Some None = is in cc
-none_free (None ∷ writes) lane all is = both_ways false refl all
-none_free (Some id ∷ writes) zero all is = let no : Some (Some id) ≡ Some None = is in cc
-none_free (Some id ∷ writes) (suc lane) all is = none_free writes lane all is
-
 -- a free lane is no full list
 pub not_all : (writes : List (Option RequestId)) (lane : ℕ) → slice_get writes lane ≡ Some None → are_all_out writes ≡ false
 not_all [] lane is = absurd (let no : None ≡ Some None = is in cc)
@@ -72,14 +66,11 @@ no_write writes count none = are_empty writes none ∙ ap empty count
 pub none_any : (writes : List (Option RequestId)) → writes ≡ no_writes → is_any_out writes ≡ false
 none_any writes is = ap is_any_out is
 
-pub none_all : (writes : List (Option RequestId)) → writes ≡ no_writes → are_all_out writes ≡ false
-none_all writes is = ap are_all_out is
-
 pub none_count : (writes : List (Option RequestId)) → writes ≡ no_writes → writes_out writes ≡ 0
 none_count writes is = ap writes_out is
 
 -- no id is in a lane where no write is out
-none_at : (writes : List (Option RequestId)) (lane : ℕ) (id : RequestId) → is_any_out writes ≡ false → slice_get writes lane ≡ Some (Some id) → ⊥
+pub none_at : (writes : List (Option RequestId)) (lane : ℕ) (id : RequestId) → is_any_out writes ≡ false → slice_get writes lane ≡ Some (Some id) → ⊥
 none_at [] lane id none is = let no : None ≡ Some (Some id) = is in cc
 none_at (None ∷ writes) zero id none is = let no : Some None ≡ Some (Some id) = is in cc
 none_at (None ∷ writes) (suc lane) id none is = none_at writes lane id none is
@@ -163,11 +154,3 @@ one_less on pages lane writes are = record {
       | inl was ↦ was.1
       | inr here ↦ absurd (let no : Some found ≡ None = here.1 in cc)
     ]
-
--- none yet
-pub none_yet : (on pages : ℕ) → AreWrites on pages no_writes
-none_yet on pages = record {
-  count = refl;
-  each = λ lane id is. absurd (none_in no_writes id refl (record { lane = lane; is = is }));
-  apart = λ one other a b first second same. absurd (none_in no_writes a refl (record { lane = one; is = first }));
-}

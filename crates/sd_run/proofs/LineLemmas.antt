@@ -1,5 +1,5 @@
 -- Lines that are answered, one after the other.
-use Rattle.std.proofs.Common.{◌≡◌, ◌+◌, ◌<◌, ℕ, List, [], ◌∷◌, ◌++◌, length, map, take, drop, get_or, Option, Result, Ok, Err, IsOk, OnErr, OnOk, refl, sym, ◌∙◌, ap, subst, append_assoc, append-nil, take-append-drop, inl, inr}
+use Rattle.std.proofs.Common.{◌≡◌, ◌+◌, ◌<◌, ℕ, List, [], ◌∷◌, ◌++◌, length, map, take, drop, get_or, Option, Result, Ok, Err, OnErr, OnOk, refl, sym, ◌∙◌, ap, subst, append_assoc, append-nil, take-append-drop, inl, inr}
 use Rattle.std.specs.List.{flat_map}
 use Rattle.std.specs.Io.KnownBytes.{Appends, Keeps}
 use Rattle.std.proofs.KnownBytes.{Appends-kept, Appends-trans, Keeps-refl}
@@ -164,9 +164,3 @@ one_more all seen item front within is =
 pub then_on_ok : {T E : Type 0} (result : Result T E) (before after : Type 0) → (before → after) → OnOk result before → OnOk result after
 then_on_ok (Ok value) before after turns holds = turns holds
 then_on_ok (Err why) before after turns holds = tt
-
-pub on_ok_through : {T E U F : Type 0} (result : Result T E) (inner : Result U F) (fact : Type 0) → OnOk result (IsOk inner) → OnOk inner fact
-    → OnOk result fact
-on_ok_through (Ok value) (Ok other) fact is holds = holds
-on_ok_through (Ok value) (Err why) fact is holds = cc is
-on_ok_through (Err why) inner fact is holds = tt

@@ -1,6 +1,6 @@
 -- Ranges of a file's bytes.
 use Rattle.std.proofs.Common.{◌≡◌, ◌≤◌, ◌+◌, ◌-◌, ℕ, List, [], ◌∷◌, ◌++◌, take, drop, length, refl, sym, ◌∙◌, ap, subst, arith}
-use Rattle.std.specs.Prelude.{slice_index, slice_range}
+use Rattle.std.specs.Prelude.{slice_range}
 use Rattle.std.proofs.Math.Seq.{take-add}
 use Rattle.std.proofs.lemmas.List.{drop-drop, length-drop, take-take, take_all}
 
@@ -23,11 +23,6 @@ range_then xs a b n c less to =
 -- a range up to the end is all that is left
 pub range_to_end : (xs : List ℕ) (a : ℕ) → slice_range xs a (length xs) ≡ drop a xs
 range_to_end xs a = take_all (length xs - a) (drop a xs) (omega (arith, length-drop a xs))
-
--- the first byte is that of any first bytes
-pub first_byte : (xs : List ℕ) → slice_index (slice_range xs 0 1) 0 ≡ slice_index xs 0
-first_byte [] = refl
-first_byte (x ∷ xs) = refl
 
 -- bytes 1 to 63 are those of the first bytes
 pub front_of_front : (xs : List ℕ) → slice_range (slice_range xs 0 4096) 1 64 ≡ slice_range xs 1 64

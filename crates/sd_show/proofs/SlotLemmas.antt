@@ -1,8 +1,8 @@
 -- What is read of a slot, what is wrong with it, and its text.
-use Rattle.std.proofs.Common.{◌≡◌, ◌≤◌, ◌<◌, ◌+◌, ◌*◌, ℕ, nat_eq, List, [], ◌++◌, Bool, true, false, ◌&&◌, drop, length, Option, Some, Result, Ok, Err, cond, refl, sym, ◌∙◌, ap, arith, ◌⊎◌, inl, inr}
-use Rattle.std.specs.Prelude.{nat_le, slice_index, slice_range}
+use Rattle.std.proofs.Common.{◌≡◌, ◌≤◌, ◌<◌, ◌+◌, ◌*◌, ℕ, nat_eq, List, [], ◌++◌, Bool, true, false, drop, length, Option, Result, Ok, Err, cond, refl, sym, ◌∙◌, ap, arith, ◌⊎◌, inl, inr}
+use Rattle.std.specs.Prelude.{slice_index, slice_range}
 use Rattle.std.specs.Result.{IsErrOf}
-use Rattle.std.proofs.lemmas.Bool.{cases_lt, cond-true, eq-eqb, eqb-true, leb-true}
+use Rattle.std.proofs.lemmas.Bool.{cases_lt, cond-true, eq-eqb}
 use Rattle.sd_image.specs.declared.header.Header.{Header}
 use Rattle.sd_image.specs.declared.reason.Reason.{Reason}
 use Rattle.sd_image.specs.declared.reason.Reason.TheVariants.{Digest}
@@ -16,7 +16,7 @@ use Rattle.sd_show.specs.declared.state.State.{State}
 use Rattle.sd_show.specs.declared.stop.Stop.{Stop}
 use Rattle.sd_show.specs.declared.stop.Stop.TheVariants as stop
 use Rattle.sd_show.specs.declared.state.State.TheVariants.{Raw, Closed, Open}
-use Rattle.sd_show.specs.Slots.{DamagedOrImage, OpenSlotIsRead, bytes_from, is_damaged, or_digest, reason_of, state_by, state_in, table_bytes}
+use Rattle.sd_show.specs.Slots.{DamagedOrImage, OpenSlotIsRead, bytes_from, is_damaged, or_digest, reason_of, state_in, table_bytes}
 use Rattle.sd_show.specs.Texts.{opened_text, slot_line, slot_lines}
 
 -- ---- the state
@@ -26,33 +26,9 @@ open_then true o e = absurd (let no : Raw ≡ Open = e in cc)
 open_then false true e = refl
 open_then false false e = absurd (let no : Closed ≡ Open = e in cc)
 
-shut_then : (z o : Bool) → (cond z Raw (cond o Open Closed) ≡ Open → ⊥) → (z ≡ true → o ≡ false) → o ≡ false
-shut_then true o other none = none refl
-shut_then false true other none = absurd (other refl)
-shut_then false false other none = refl
-
-never : (b : Bool) → (b && nat_eq 0 165) ≡ false
-never true = refl
-never false = refl
-
-zero_shut : (b : Bool) (first : ℕ) → nat_eq first 0 ≡ true → (b && nat_eq first 165) ≡ false
-zero_shut b first e = ap (λ n. b && nat_eq n 165) (eqb-true first 0 e) ∙ never b
-
 -- a slot whose state is open is open
 pub opens : (file : List ℕ) → state_in file ≡ Open → is_open file ≡ true
 opens file e = open_then (nat_eq (slice_index file 0) 0) (is_open file) e
-
-pub shuts : (file : List ℕ) → (state_in file ≡ Open → ⊥) → is_open file ≡ false
-shuts file other = shut_then (nat_eq (slice_index file 0) 0) (is_open file) other (zero_shut (nat_le 4096 (length file)) (slice_index file 0))
-
-front_of_and : (a b : Bool) → (a && b) ≡ true → a ≡ true
-front_of_and true b e = refl
-front_of_and false b e = e
-
--- and its file is as long as a header
-pub long_enough : (first len : ℕ) → state_by first len ≡ Open → 4096 ≤ len
-long_enough first len e =
-    leb-true 4096 len (front_of_and (nat_le 4096 len) (nat_eq first 165) (open_then (nat_eq first 0) (nat_le 4096 len && nat_eq first 165) e))
 
 -- ---- the fields
 
@@ -85,9 +61,6 @@ table_stands file h read fills =
     ∙ ap (λ n. drop (4096 + 4096 * n) file) pages
 
 -- ---- the fault
-
-pub header_named : (file : List ℕ) (r : Reason) → header_in (slice_range file 0 4096) (length file) ≡ Err r → Some r ≡ reason_of (file_in file)
-header_named file r e = rw e refl
 
 behind_table : (read : Result (List Listed) Reason) (other : Bool) (h : Header)
     → or_digest (reason_of read) other ≡ reason_of {X = Header × List Listed} (read >>= λ spaces. cond other (Err Digest) (Ok (h, spaces)))

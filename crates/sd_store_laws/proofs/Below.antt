@@ -9,7 +9,7 @@ use Rattle.sd_store_laws.specs.Cut.{KeepsItsNumber}
 use Rattle.sd_store_laws.specs.Store.{IsSoundStore, Store, jobs}
 use Rattle.sd_store_laws.specs.Steps.{Adds}
 use Rattle.sd_store_laws.specs.Below.{BelowStays, GivesByNumber, GivesStill, OwnIsNeeded, StepsGive}
-use Rattle.sd_store_laws.proofs.Choose.{one_named}
+use Rattle.sd_image.proofs.OneMemory.{named_once_among as one_named}
 use Rattle.sd_store_laws.proofs.Cuts.{IsFollowed, holds_back, holds_on, named_back, named_on, needed_in}
 use Rattle.sd_store_laws.proofs.Growth.{called_all}
 use Rattle.sd_store_laws.proofs.Harmless.{unused_is_uncalled_lem}

@@ -61,12 +61,6 @@ some_named images number i c is = elim (find_named images number) [
   | inr found ↦ found
 ]
 
-pub one_named : (images : List Image) (number : ℕ) (i j : Image) → SerialsDiffer images → IsNamed images number i → IsNamed images number j → i ≡ j
-one_named images number i j differ a b =
-    let low = a.greatest j b.member b.stands in
-    let high = b.greatest i a.member a.stands in
-    differ i j a.member b.member (omega (arith, low, high))
-
 -- ---- the tip
 
 abbrev pub NobodyIsRestorable : List Image → Type 0
@@ -148,7 +142,7 @@ some_tip images i c is = elim (find_tip images) [
   | inr found ↦ found
 ]
 
-same_pair : (i j : Image) → IsNotAfter i j → IsNotAfter j i → i.header.serial ≡ j.header.serial
+pub same_pair : (i j : Image) → IsNotAfter i j → IsNotAfter j i → i.header.serial ≡ j.header.serial
 same_pair i j (inl x) (inl y) = absurd (omega (arith, x, y))
 same_pair i j (inl x) (inr y) = absurd (omega (arith, x, y.0))
 same_pair i j (inr x) (inl y) = absurd (omega (arith, x.0, y))

@@ -8,7 +8,8 @@ use Rattle.sd_store_laws.specs.Needed as needed
 use Rattle.sd_image.specs.Laws.{SerialsDiffer}
 use Rattle.sd_image.proofs.Members.{contains_cases, contains_front, contains_later}
 use Rattle.sd_store_laws.specs.Cut.{CutHoldsTheSame, CutShowsTheSame, CutShowsLastOrPending, HoldsAlike, IsCut, IsHarmless, IsPending, KeepsItsNumber, KeepsTheTip, Repeats}
-use Rattle.sd_store_laws.proofs.Choose.{not_after_self, one_named, one_tip, some_named, some_tip, tip_is}
+use Rattle.sd_image.proofs.OneMemory.{named_once_among as one_named}
+use Rattle.sd_store_laws.proofs.Choose.{not_after_self, one_tip, some_named, some_tip, tip_is}
 use Rattle.sd_store_laws.proofs.Memories.{memory_moves}
 
 -- all needed images, and others that keep what their numbers name

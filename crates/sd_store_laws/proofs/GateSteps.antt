@@ -16,7 +16,7 @@ use Rattle.sd_store_laws.specs.Beliefs.{Belief, Closed, Kept, Closing, Opening, 
 use Rattle.sd_store_laws.specs.SlotSteps.{IsFoundAs}
 use Rattle.sd_store_laws.specs.Gates.{BeliefsWeaken, GivenUpIsBelieved, IsBelievedAs, IsInDoubt, IsWeaker, MayBelieve}
 use Rattle.sd_store_laws.specs.GateSteps.{BeliefsFollowCalls, FilesAreBelieved, FoundIsExact, GivenUpSyncs, OneBeliefChanges, SyncedIsFound}
-use Rattle.sd_store_laws.proofs.Slots.{image_opens}
+use Rattle.sd_image.proofs.ReadyLemmas.{image_opens}
 use Rattle.sd_store_laws.proofs.SlotSteps.{set_other}
 
 -- ---- weaker beliefs
@@ -129,7 +129,7 @@ written OpeningPhase body new ready = absurd (false≢true ready)
 written Doubt body new ready = absurd (false≢true ready)
 written DoubtSynced body new ready = absurd (false≢true ready)
 
-is_closed : (phase : Phase) (body : List ℕ) (strong : Belief) → may_write phase ≡ true → IsBelievedAs phase body strong → strong ≡ Closed
+pub is_closed : (phase : Phase) (body : List ℕ) (strong : Belief) → may_write phase ≡ true → IsBelievedAs phase body strong → strong ≡ Closed
 is_closed Raw body strong ready is = is
 is_closed RawClosing body strong ready is = is
 is_closed Whole body strong ready is = absurd (false≢true ready)

@@ -1,5 +1,5 @@
 -- The catalog of a store in use.
-use Rattle.std.proofs.Common.{◌≡◌, ◌≢◌, ◌⊎◌, ℕ, zero, suc, Bool, true, false, not, cond, nat_eq, List, [], ◌∷◌, Option, Some, None, Contains, slice_get, refl, sym, ◌∙◌, ap, subst, inl, inr}
+use Rattle.std.proofs.Common.{◌≡◌, ◌≢◌, ◌⊎◌, ℕ, zero, suc, Bool, true, false, not, cond, nat_eq, List, [], ◌∷◌, Some, None, Contains, slice_get, refl, sym, ◌∙◌, ap, subst, inl, inr}
 use Rattle.std.specs.List.{AllZip}
 use Rattle.std.proofs.lemmas.Bool.{cases_eq, eq-eqb, false≢true, ne_eqb}
 use Rattle.std.proofs.lemmas.Option.{same_Some}
@@ -16,7 +16,8 @@ use Rattle.sd_store_laws.specs.Reached.{Reaches, ReachesBySerial, itself, beyond
 use Rattle.sd_store_laws.specs.Beliefs.{Belief, Closed, Kept, Closing, Opening}
 use Rattle.sd_store_laws.specs.SlotSteps.{IsFoundAs, with_belief}
 use Rattle.sd_store_laws.specs.InUse.{CatalogFollows, CatalogInUseTells, CatalogIsFound, IsCatalogInUse, SlotHasImage, ToldReachesSo}
-use Rattle.sd_store_laws.proofs.Slots.{image_opens}
+use Rattle.sd_chain.proofs.Agreement.{left_place}
+use Rattle.sd_image.proofs.ReadyLemmas.{image_opens}
 use Rattle.sd_store_laws.proofs.SlotSteps.{set_other, set_same}
 
 serials : (o : Opened) (i : Image) → IsToldAs o i → i.header.serial ≡ o.header.serial
@@ -212,20 +213,6 @@ module _ (old new : Places) (beliefs : List Belief) (o : Opened) (i : Image) (he
     image = λ serial p at. image_there serial p (nat_eq o.header.serial serial) (sym (changes serial) ∙ at);
     opened = opened_there;
   }
-
--- what removing a slot leaves
-left_place : (slot : ℕ) (place : Option (Option Opened)) (p : Opened) → without_slot slot place ≡ Some (Some p) → (place ≡ Some (Some p)) × (p.slot ≢ slot)
-left_place slot None p e = absurd (let no : None ≡ Some (Some p) = e in cc)
-left_place slot (Some None) p e = absurd (let no : Some None ≡ Some (Some p) = e in cc)
-left_place slot (Some (Some k)) p e = by (nat_eq k.slot slot) refl e
-  where
-    by : (b : Bool) → nat_eq k.slot slot ≡ b → cond (not b) (Some (Some k)) None ≡ Some (Some p) → (Some (Some k) ≡ Some (Some p)) × (p.slot ≢ slot)
-    by true is e = absurd (let no : None ≡ Some (Some p) = e in cc)
-    by false is e = (
-      e,
-      λ same. false≢true (sym is ∙ eq-eqb k.slot slot
-          ((let both : Some (Some k) ≡ Some (Some p) = e in let it : k ≡ p = cc in ap (λ (q : Opened). q.slot) it) ∙ same)),
-    )
 
 stays_place : (slot : ℕ) (p : Opened) → p.slot ≢ slot → without_slot slot (Some (Some p)) ≡ Some (Some p)
 stays_place slot p other = ap (λ b. cond (not b) (Some (Some p)) None) (ne_eqb p.slot slot other)

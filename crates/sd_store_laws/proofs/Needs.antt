@@ -5,7 +5,7 @@ use Rattle.sd_image.specs.Shows.{IsNamed, IsTip}
 use Rattle.sd_store_laws.specs.Needed.{IsNeeded}
 use Rattle.sd_store_laws.specs.Store.{IsNextDump, IsNextPreDump, IsSoundStore, IsTwin, Store, jobs}
 use Rattle.sd_store_laws.specs.Steps.{Adds, Retires, added, cancelled, checkpoint_begun, committed, merging, replaced, retired}
-use Rattle.sd_store_laws.proofs.Choose.{one_named}
+use Rattle.sd_image.proofs.OneMemory.{named_once_among as one_named}
 use Rattle.sd_store_laws.proofs.Growth.{fewer_named, fewer_tip}
 use Rattle.sd_store_laws.proofs.StepLemmas.{added_called, begun_called, cancelled_called, committed_called, merging_called, name_back, nothing_at_0, old_tip, replaced_called, retired_called, tip_back, whole_called}
 

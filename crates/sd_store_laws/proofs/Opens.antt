@@ -1,13 +1,8 @@
 -- A store as it is found is sound, and steps leave what is shown.
-use Rattle.std.proofs.Common.{◌≡◌, ℕ, ◌<◌, nat_eq, false, List, [], ◌∷◌, map, Contains, Option, Some, None, IfSome, refl, sym, ◌∙◌, ap, subst, inl, inr, arith}
+use Rattle.std.proofs.Common.{ℕ, ◌<◌, nat_eq, List, [], ◌∷◌, map, Contains, Option, Some, None, IfSome, refl, sym, ◌∙◌, ap, subst, inl, inr}
 use Rattle.std.specs.Prelude.{◌↔◌}
-use Rattle.std.specs.List.{AllByRecursion, IsDistinct}
-use Rattle.std.proofs.lemmas.Bool.{eq-eqb, false≢true}
+use Rattle.std.specs.List.{IsDistinct}
 use Rattle.sd_areas.specs.PlainMemory.{PlainMemory}
-use Rattle.sd_image.specs.declared.header.Header.{Header}
-use Rattle.sd_image.specs.declared.header.Kind.{Kind}
-use Rattle.sd_image.specs.declared.header.Kind.TheVariants.{PreDump, Dump, Merged}
-use Rattle.sd_image.specs.Header.{AreNumbers}
 use Rattle.sd_image.specs.Image.{Image, OpenImages}
 use Rattle.sd_image.specs.Shows.{Holds, by_data, by_zero, by_parent, IsNamed, IsTip, ImagesShow}
 use Rattle.sd_image.specs.Laws.{SerialsDiffer}
@@ -16,6 +11,8 @@ use Rattle.sd_store_laws.specs.Cut.{IsHarmless}
 use Rattle.sd_store_laws.specs.Store.{IsMergeSource, IsSoundStore, IsTwin, Store, jobs}
 use Rattle.sd_store_laws.specs.Steps.{Adds}
 use Rattle.sd_store_laws.specs.Opens.{OpenedIsSound, OrderIsFree, StepsShow}
+use Rattle.sd_chain.proofs.Stores.{falls}
+use Rattle.sd_image.proofs.OneImage.{not_behind as other_serials}
 use Rattle.sd_store_laws.proofs.Cuts.{cut_shows_the_same_lem, needed_in}
 use Rattle.sd_store_laws.proofs.Harmless.{pre_dump_is_harmless_lem, twin_is_harmless_lem}
 use Rattle.sd_store_laws.proofs.Memories.{memory_moves}
@@ -23,31 +20,12 @@ use Rattle.sd_store_laws.proofs.StepLemmas.{steps_keep_lem}
 
 -- ---- a store as it is found
 
-falls : (h : Header) → AreNumbers h.kind h.serial h.stands_for h.parent → h.parent < h.stands_for
-falls h numbers = by h.kind numbers
-  where
-    by : (kind : Kind) → AreNumbers kind h.serial h.stands_for h.parent → h.parent < h.stands_for
-    by PreDump n = omega (arith, n.0, n.1)
-    by Dump n = omega (arith, n.0, n.1)
-    by Merged n = omega (arith, n.0, n.2)
-
 parents_fall : (contents : List (List ℕ)) (images : List Image) → OpenImages contents images → (i : Image) → Contains images i → i.header.parent < i.header.stands_for
 parents_fall [] images none i c = absurd (contains_none i (subst (λ (xs : List Image). Contains xs i) none c))
 parents_fall (file ∷ files) images (inl closed) i c = parents_fall files images closed.1 i c
 parents_fall (file ∷ files) images (inr opens) i c = elim (contains_cases opens.0 i opens.1 (subst (λ (xs : List Image). Contains xs i) opens.2 c)) [
   | inl e ↦ subst (λ (k : Image). k.header.parent < k.header.stands_for) (sym e) (falls opens.0.header opens.4.header.numbers)
   | inr later ↦ parents_fall files opens.1 opens.5 i later
-]
-
-serial_of : Image → ℕ
-serial_of i = i.header.serial
-
-pub other_serials : (serial : ℕ) (images : List Image) (i : Image) → AllByRecursion (λ n. nat_eq serial n ≡ false) (map (λ (k : Image). k.header.serial) images)
-    → Contains images i → serial ≡ i.header.serial → ⊥
-other_serials serial [] i all c e = contains_none i c
-other_serials serial (one ∷ images) i all c e = elim (contains_cases one i images c) [
-  | inl same ↦ false≢true (sym all.0 ∙ eq-eqb serial one.header.serial (e ∙ ap (λ (k : Image). k.header.serial) same))
-  | inr later ↦ other_serials serial images i all.1 later e
 ]
 
 serials_differ : (images : List Image) → IsDistinct nat_eq (map (λ (k : Image). k.header.serial) images) → SerialsDiffer images

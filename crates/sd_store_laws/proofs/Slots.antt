@@ -1,7 +1,7 @@
 -- What contents show whose slots are as believed.
-use Rattle.std.proofs.Common.{◌≡◌, ◌⊎◌, ℕ, ◌≤◌, true, false, nat_eq, nat_le, List, [], ◌∷◌, length, map, filter_map, slice_index, Option, Some, None, Contains, IfSome, refl, sym, ◌∙◌, ap, subst, inl, inr, arith, suc}
+use Rattle.std.proofs.Common.{◌≡◌, ◌⊎◌, ℕ, false, nat_eq, List, [], ◌∷◌, map, filter_map, Option, Some, None, Contains, IfSome, refl, sym, ◌∙◌, subst, inl, inr, arith, suc}
 use Rattle.std.specs.List.{AllByRecursion, AllZip, IsDistinct}
-use Rattle.std.proofs.lemmas.Bool.{and_from, eq-eqb, le-leb, ne_eqb}
+use Rattle.std.proofs.lemmas.Bool.{ne_eqb}
 use Rattle.std.proofs.lemmas.Option.{none-some, same_Some}
 use Rattle.std.proofs.lemmas.List.Elements.{Contains-append_left}
 use Rattle.sd_areas.specs.PlainMemory.{PlainMemory}
@@ -11,6 +11,7 @@ use Rattle.sd_image.proofs.Members.{contains_cases, contains_front, contains_lat
 use Rattle.sd_store_laws.specs.Cut.{IsHarmless, IsPending}
 use Rattle.sd_store_laws.specs.Store.{IsMergeSource, IsNextDump, IsSoundStore, Store, jobs}
 use Rattle.sd_store_laws.specs.Beliefs.{AreSlotsOf, Belief, Closed, Kept, Closing, Opening, ContentsShow, FitsBelief, IsAdded, IsLeft, LeftImagesShow, image_in, image_at}
+use Rattle.sd_image.proofs.ReadyLemmas.{image_opens}
 use Rattle.sd_store_laws.proofs.Cuts.{cut_shows_the_same_lem, cut_shows_last_or_pending_lem}
 use Rattle.sd_store_laws.proofs.Harmless.{dump_is_pending_lem, pre_dump_is_harmless_lem, twin_is_harmless_lem}
 
@@ -132,12 +133,6 @@ pub left_images_show_lem : LeftImagesShow
 left_images_show_lem = record { last = left_last; pending = left_pending }
 
 -- ---- contents
-
-pub image_opens : (file : List ℕ) (i : Image) → IsImage file i → is_open file ≡ true
-image_opens file i image =
-    let long : 4096 ≤ length file = omega (arith, image.header.fills) in
-    and_from (nat_le 4096 (length file)) (nat_eq (slice_index file 0) 165) (le-leb 4096 (length file) long)
-    (eq-eqb (slice_index file 0) 165 (ap (λ (bytes : List ℕ). slice_index bytes 0) image.spelled))
 
 abbrev serials_in : List Belief → List ℕ
 serials_in beliefs = map (λ (i : Image). i.header.serial) (filter_map image_in beliefs)

@@ -10,7 +10,8 @@ use Rattle.sd_image.proofs.Members.{contains_cases, contains_front, contains_non
 use Rattle.sd_store_laws.specs.Harmless.{IsSource}
 use Rattle.sd_store_laws.specs.Store.{IsMergeSource, IsNextDump, IsNextPreDump, IsSoundStore, IsTwin, Store, jobs}
 use Rattle.sd_store_laws.specs.Steps.{Adds, Retires, StepsKeep, added, cancelled, checkpoint_begun, committed, found_store, merging, replaced, retired}
-use Rattle.sd_store_laws.proofs.Choose.{one_named, one_tip, some_named, some_tip, tip_is}
+use Rattle.sd_image.proofs.OneMemory.{named_once_among as one_named}
+use Rattle.sd_store_laws.proofs.Choose.{one_tip, some_named, some_tip, tip_is}
 use Rattle.sd_store_laws.proofs.Growth.{called_all, falls_more, fewer_named, fewer_tip, more_named, more_tip, new_named, new_tip, serials_more}
 
 -- ---- called numbers

@@ -1,5 +1,5 @@
 -- The worked stores show what they are said to show.
-use Rattle.sd_store_laws.proofs.Slots.{image_opens}
+use Rattle.sd_image.proofs.ReadyLemmas.{image_opens}
 use Rattle.sd_store_laws.proofs.Files.{a_file, b_file, m_file}
 use Rattle.std.specs.List.{slice_get, IsDistinct}
 use Rattle.std.proofs.Common.{◌≡◌, ◌⊎◌, ◌<◌, ◌≤◌, ℕ, List, [], ◌∷◌, Some, Contains, refl, sym, ◌∙◌, ap, subst, inl, inr, arith, length}
@@ -18,7 +18,7 @@ use Rattle.sd_store_laws.specs.Cut.{HoldsAlike, Repeats}
 use Rattle.sd_store_laws.specs.Store.{IsSoundStore}
 use Rattle.sd_store_laws.specs.Steps.{checkpoint_begun, found_store}
 use Rattle.sd_store_laws.specs.Worked.{ChainRows, WhyItGrows, found, one_page_memory, merged, one_page, unchanged, whole, file_of}
-use Rattle.sd_store_laws.proofs.Choose.{one_named}
+use Rattle.sd_image.proofs.OneMemory.{named_once_among as one_named}
 use Rattle.sd_store_laws.proofs.OnePage.{page_memory}
 use Rattle.sd_store_laws.proofs.StepLemmas.{steps_keep_lem}
 

@@ -1,5 +1,5 @@
 -- How many lanes keep something.
-use Rattle.std.proofs.Common.{◌≡◌, ℕ, zero, suc, ◌+◌, ◌≤◌, false, List, [], ◌∷◌, length, Some, None, slice_get, slice_set, refl, sym, ◌∙◌, ap, subst, arith}
+use Rattle.std.proofs.Common.{◌≡◌, ℕ, zero, suc, ◌+◌, false, List, [], ◌∷◌, Some, None, slice_get, refl, sym, ◌∙◌, ap, subst, arith}
 use Rattle.std.proofs.lemmas.List.Sums.{sum_by-cons}
 use Rattle.std.proofs.lemmas.Option.{same_Some}
 use Rattle.sd_gate.specs.declared.worker.Worker.{Worker}
@@ -11,30 +11,6 @@ use Rattle.sd_world.specs.View.{IsNowhere, busy_count, busy_of, id_in, is_asked}
 
 pub busy_cons : (k : Kept) (kept : List Kept) → busy_count (k ∷ kept) ≡ busy_of k + busy_count kept
 busy_cons k kept = sum_by-cons busy_of k kept
-
-busy_most : (k : Kept) → busy_of k ≤ 1
-busy_most Nothing = omega arith
-busy_most (Request request) = omega arith
-busy_most (Outcome made) = omega arith
-
--- no more than there are lanes
-pub busy_within : (kept : List Kept) → busy_count kept ≤ length kept
-busy_within [] = omega arith
-busy_within (k ∷ kept) = (let e = busy_cons k kept in let one = busy_most k in let rest = busy_within kept in omega arith)
-
--- what is put in counts, and what is taken out doesn't
-pub busy_set : (kept : List Kept) (lane : ℕ) (old new : Kept) → slice_get kept lane ≡ Some old → busy_count (slice_set kept lane new) + busy_of old ≡ busy_count kept + busy_of new
-busy_set [] lane old new is = absurd cc
-busy_set (k ∷ kept) zero old new is =
-    let same : busy_of k ≡ busy_of old = ap busy_of (same_Some k old is) in
-    let now = busy_cons new kept in
-    let was = busy_cons k kept in
-    omega (arith, same, now, was)
-busy_set (k ∷ kept) (suc lane) old new is =
-    let rest = busy_set kept lane old new is in
-    let now = busy_cons k (slice_set kept lane new) in
-    let was = busy_cons k kept in
-    omega (arith, rest, now, was)
 
 -- where none is counted nothing is kept
 pub none_busy : (kept : List Kept) (lane : ℕ) (k : Kept) → busy_count kept ≡ 0 → slice_get kept lane ≡ Some k → k ≡ Nothing

@@ -21,7 +21,8 @@ use Rattle.sd_world.specs.declared.kept.Kept.TheVariants.{Nothing, Outcome}
 use Rattle.sd_world.specs.Consistent.{AreInPlace, IsConsistent, IsWorld, slot_now}
 use Rattle.sd_world.specs.View.{asked_of, kept_id}
 use Rattle.sd_world.proofs.KeptLemmas.{alone_now, beside_of, cleared_places, handed_now, is_set, lane_cases, nothing_on, outcome_off, set_elsewhere}
-use Rattle.sd_world.proofs.Lists.{get_map, get_set_other, get_set_same, map_set}
+use Rattle.sd_store_laws.proofs.SlotSteps.{set_other as get_set_other}
+use Rattle.sd_world.proofs.Lists.{get_map, get_set_same, map_set}
 use Rattle.sd_world.proofs.Worlds.{Fits, Stand, slot_as, stand_given_up}
 
 module _ (law : WritesCommute) (kept : List Kept) (slots lane : ℕ) (made : Made) (at : slice_get kept lane ≡ Some (Outcome made)) (places : AreInPlace kept slots) where

@@ -21,7 +21,9 @@ use Rattle.sd_world.specs.declared.kept.Kept.{Kept}
 use Rattle.sd_world.specs.declared.kept.Kept.TheVariants.{Nothing, Request, Outcome}
 use Rattle.sd_world.specs.Consistent.{AreAskedInPages, AreInPlace, SlotNow, slot_after, slot_now, slot_with}
 use Rattle.sd_world.specs.View.{IsAt, asked_id, asked_of, kept_id, made_id}
-use Rattle.sd_world.proofs.Lists.{get_map, get_set_other, get_set_same}
+use Rattle.sd_gate.proofs.TakeLemmas.{filled_writes}
+use Rattle.sd_store_laws.proofs.SlotSteps.{set_other as get_set_other}
+use Rattle.sd_world.proofs.Lists.{get_map, get_set_same}
 
 same_number : (n : ℕ) → (n == n) ≡ true
 same_number n = grind (arith, nat_tests)
@@ -69,11 +71,6 @@ pub asked_id_of : (k : Kept) (request : Asked) → asked_of k ≡ Some request �
 asked_id_of Nothing request is = absurd (let no : None ≡ Some request = is in cc)
 asked_id_of (Request r) request is = ap (λ (q : Asked). Some q.id) (same_Some r request is)
 asked_id_of (Outcome made) request is = ap (λ (q : Asked). Some q.id) (same_Some made.request request is)
-
-pub id_asked : (k : Kept) (id : RequestId) → kept_id k ≡ Some id → (request : Asked) × (asked_of k ≡ Some request) × (request.id ≡ id)
-id_asked Nothing id is = absurd (let no : None ≡ Some id = is in cc)
-id_asked (Request r) id is = (r, refl, same_Some r.id id is)
-id_asked (Outcome made) id is = (made.request, refl, same_Some made.request.id id is)
 
 -- no outcome on this slot
 pub IsNotOn : Kept → ℕ → Type 0
@@ -241,20 +238,6 @@ handed_now law (k ∷ kept) (suc lane) slot s made at on beside =
 pub record IsWrite (call : Call) : Type 0 where
   pub at : ℕ
   pub is : call ≡ Write at
-
-filled_writes : (p : Phase) → may_write p ≡ true → may_write (filled p) ≡ true
-filled_writes phase.Raw may = may
-filled_writes phase.RawClosing may = may
-filled_writes phase.Whole may = may
-filled_writes phase.Closing may = may
-filled_writes phase.Shut may = refl
-filled_writes phase.ShutSynced may = refl
-filled_writes phase.Bare may = refl
-filled_writes phase.Writing may = refl
-filled_writes phase.Ready may = refl
-filled_writes phase.Opening may = may
-filled_writes phase.Doubt may = may
-filled_writes phase.DoubtSynced may = may
 
 pub written_writes : (p : Phase) (call : Call) (done : Bool) → IsWrite call → may_write p ≡ true → may_write (after p call done) ≡ true
 written_writes p call true write may = ap (λ c. may_write (after p c true)) write.is ∙ filled_writes p may

@@ -1,5 +1,5 @@
 -- Lists of which one element is set.
-use Rattle.std.proofs.Common.{◌≡◌, ◌≢◌, ℕ, List, [], ◌∷◌, map, Some, slice_get, slice_set, refl, sym, ap, zero, suc}
+use Rattle.std.proofs.Common.{◌≡◌, ℕ, List, [], ◌∷◌, map, Some, slice_get, slice_set, refl, sym, ap, zero, suc}
 use Rattle.std.proofs.lemmas.Option.{same_Some}
 
 pub set_itself : {A : Type 0} (xs : List A) (i : ℕ) (x : A) → slice_get xs i ≡ Some x → slice_set xs i x ≡ xs
@@ -11,19 +11,6 @@ pub get_set_same : {A : Type 0} (xs : List A) (i : ℕ) (x y : A) → slice_get 
 get_set_same [] i x y is = absurd cc
 get_set_same (z ∷ xs) zero x y is = refl
 get_set_same (z ∷ xs) (suc i) x y is = get_set_same xs i x y is
-
-pub get_set_other : {A : Type 0} (xs : List A) (i j : ℕ) (y : A) → j ≢ i → slice_get (slice_set xs i y) j ≡ slice_get xs j
-get_set_other [] i j y differs = refl
-get_set_other (z ∷ xs) zero zero y differs = absurd (differs refl)
-get_set_other (z ∷ xs) zero (suc j) y differs = refl
-get_set_other (z ∷ xs) (suc i) zero y differs = refl
-get_set_other (z ∷ xs) (suc i) (suc j) y differs = get_set_other xs i j y (λ same. differs (ap suc same))
-
--- an element is set and then set again
-pub set_back : {A : Type 0} (xs : List A) (i : ℕ) (x y : A) → slice_get xs i ≡ Some x → slice_set (slice_set xs i y) i x ≡ xs
-set_back [] i x y is = refl
-set_back (z ∷ xs) zero x y is = ap (λ w. w ∷ xs) (same_Some x z (sym is))
-set_back (z ∷ xs) (suc i) x y is = ap (λ zs. z ∷ zs) (set_back xs i x y is)
 
 pub set_twice : {A : Type 0} (xs : List A) (i : ℕ) (x y : A) → slice_set (slice_set xs i y) i x ≡ slice_set xs i x
 set_twice [] i x y = refl

@@ -1,5 +1,5 @@
 -- What the events of a merge make of the contents of a disk.
-use Rattle.std.proofs.Common.{◌≡◌, ℕ, List, map, Option, Some, slice_get, zero, suc, refl, sym, ◌∙◌, ap, subst}
+use Rattle.std.proofs.Common.{◌≡◌, ℕ, List, map, Option, Some, slice_get, sym, ◌∙◌, ap, subst}
 use Rattle.sd_command.specs.declared.reply.Reply.{Reply}
 use Rattle.sd_command.specs.declared.reply.Reply.TheVariants as reply
 use Rattle.sd_command.specs.declared.refusal.Refusal.TheVariants.{Idle}
@@ -10,20 +10,19 @@ use Rattle.sd_gate.specs.declared.phase.Phase.{Phase}
 use Rattle.sd_gate.specs.declared.phase.Phase.TheVariants.{Bare, Whole}
 use Rattle.sd_gate.specs.declared.request_id.RequestId.{RequestId}
 use Rattle.sd_gate.specs.declared.worker.Worker.{Worker}
-use Rattle.sd_gate.specs.declared.worker.Worker.TheVariants.{Dumper, Merger, Opener}
+use Rattle.sd_gate.specs.declared.worker.Worker.TheVariants.{Merger}
 use Rattle.sd_gate.specs.Fits.{PhaseReads}
 use Rattle.sd_gate.specs.Laws.{GivenUpFits, WritesCommute}
 use Rattle.sd_gate.specs.Phases.{bodies_after}
 use Rattle.sd_image.specs.Image.{IsImage}
 use Rattle.sd_journal.specs.History.{History}
 use Rattle.sd_merge.specs.Merger as merger
-use Rattle.sd_merge.specs.Merger.{Retiring, list_of, retiring}
+use Rattle.sd_merge.specs.Merger.{list_of}
 use Rattle.sd_crash_safety.specs.Calls.{AddsByStep, IsFree, IsOut}
 use Rattle.sd_crash_safety.specs.View.{CoreView, history_of}
 use Rattle.sd_core.specs.GoingOn.{AreOwnLanes}
 use Rattle.sd_core.specs.Lasting.{LeavesMerged}
 use Rattle.sd_core.specs.Merging.{IsAsBelieved, OpensMerged}
-use Rattle.sd_core.specs.Sound.{worker_of_lane}
 use Rattle.sd_core.specs.Working.{LeavesByOutcome}
 use Rattle.sd_world.specs.declared.event.Event.{Event}
 use Rattle.sd_world.specs.declared.event.Event.TheVariants.{Command, Begin, Work, TakeUp, HandInAt, Perform, PerformAt, Merge, Cancel, Reopen, Trim}
@@ -33,17 +32,12 @@ use Rattle.sd_world.specs.Consistent.{IsConsistent, IsWorld}
 use Rattle.sd_world.specs.Merges.{AreCutThere, DoesMerge, IsMergedThere, KeepsMerged, MergesThere}
 use Rattle.sd_world.specs.Steps.{Does, HandsInAt, HandsInIfAny, Performs, WorkerTakesUp, WorkerWorks}
 use Rattle.sd_world.specs.View.{WorldView, asked_of, kept_id}
+use Rattle.sd_core.proofs.HandedLemmas.{merger_lane}
 use Rattle.sd_world.proofs.AddsLemmas.{is_out}
 use Rattle.sd_world.proofs.HandInLemmas.{handed_stands}
 use Rattle.sd_world.proofs.KeptLemmas.{free_now, whose}
 use Rattle.sd_world.proofs.Lists.{get_map}
 use Rattle.sd_world.proofs.Worlds.{Fits, Stand, slot_as}
-
-merger_lane : (lane : ℕ) → worker_of_lane lane ≡ Merger → lane ≡ 1
-merger_lane zero is = absurd (let no : Dumper ≡ Merger = is in cc)
-merger_lane (suc zero) is = refl
-merger_lane (suc (suc zero)) is = absurd (let no : Opener ≡ Merger = is in cc)
-merger_lane (suc (suc (suc k))) is = absurd (let no : Dumper ≡ Merger = is in cc)
 
 -- a slot on which no request is out reads as its phase says
 pub reads_free : (contents : List (List ℕ)) (may_leave : List (List ℕ) → Type 0) (phases : List Phase) (kept : List Kept) (bodies : List (List ℕ)) (outs : List (Option RequestId))

@@ -128,12 +128,6 @@ by_dumper_outcome old new (reply.Refused refusal.Device) leaves = absurd leaves
 
 -- ---- a step of a worker, and an outcome
 
--- another worker's call leaves the dumper
-others_dumper : (worker : Worker) (old new : CoreView) → LeavesOthers worker old new → worker ≢ Dumper → new.dumper ≡ old.dumper
-others_dumper Dumper old new others other = absurd (other refl)
-others_dumper Merger old new others other = others.0
-others_dumper Opener old new others other = others.0
-
 step_number : (old new : CoreView) (worker : Worker) (taken : Taken) → LeavesByWork old worker taken new → LeavesOthers worker old new → KeepsNumber old new
 step_number old new Merger taken leaves others = same_dumper old new others.0
 step_number old new Opener taken leaves others = same_dumper old new others.0

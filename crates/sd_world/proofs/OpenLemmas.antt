@@ -1,13 +1,11 @@
 -- Slots that are synced and looked at, one after the other.
-use Rattle.std.proofs.Common.{◌≡◌, ℕ, ◌+◌, ◌<◌, ◌≤◌, List, [], ◌∷◌, ◌++◌, map, take, length, Some, None, slice_get, replicate, zero, suc, refl, sym, ◌∙◌, ap, subst, inl, inr, arith}
+use Rattle.std.proofs.Common.{◌≡◌, ℕ, ◌+◌, ◌<◌, List, [], length, Some, None, slice_get, replicate, zero, suc, refl, sym, ◌∙◌, ap, subst, inl, inr, arith}
 use Rattle.std.proofs.lemmas.Bool.{cases_eq}
-use Rattle.std.proofs.lemmas.List.{ext_get_or, map-append, take_more}
+use Rattle.std.proofs.lemmas.List.{ext_get_or}
 use Rattle.std.proofs.lemmas.Option.{same_Some}
 use Rattle.sd_areas.specs.PlainMemory.{PlainMemory}
 use Rattle.sd_disk.specs.Contents.{file_at}
 use Rattle.sd_disk.specs.Crash.{OnlyAt, Within}
-use Rattle.sd_gate.specs.declared.phase.Phase.{Phase}
-use Rattle.sd_gate.specs.Laws.{found_phase}
 use Rattle.sd_gate.specs.Requests.{Asked, Made}
 use Rattle.sd_world.specs.declared.kept.Kept.{Kept}
 use Rattle.sd_world.specs.declared.kept.Kept.TheVariants.{Nothing, Outcome}
@@ -24,26 +22,6 @@ synced_more contents slot old new before crash now other within c may = elim (ca
   | inl same ↦ subst (λ s. file_at c s ≡ file_at contents s) (sym same) (now c may)
   | inr differs ↦ before other (omega (arith, within, differs)) c (crash c may)
 ]
-
-pub synced_later : (contents : List (List ℕ)) (count : ℕ) (old new : List (List ℕ) → Type 0) → AreSynced count contents old → Within new old
-    → AreSynced count contents new
-synced_later contents count old new before crash slot within c may = before slot within c (crash c may)
-
--- one phase more
-pub phases_more : (contents : List (List ℕ)) (slot : ℕ) (phases : List Phase) (phase : Phase) → slot < length contents
-    → phases ≡ map found_phase (take slot contents) → phase ≡ found_phase (file_at contents slot)
-    → phases ++ phase ∷ [] ≡ map found_phase (take (slot + 1) contents)
-phases_more contents slot phases phase within before now =
-    ap (λ all. all ++ phase ∷ []) before ∙ ap (λ p. map found_phase (take slot contents) ++ p ∷ []) now
-    ∙ sym (map-append found_phase (take slot contents) (file_at contents slot ∷ [])) ∙ ap (map found_phase) (sym (take_more contents slot [] within))
-
--- a fault that was met later
-pub fault_later : (contents : List (List ℕ)) (first before now : ℕ) (fault : OpenFault) → first ≤ before → IsFaultOf contents before now fault
-    → IsFaultOf contents first now fault
-fault_later contents first before now NoFrame later is = tt
-fault_later contents first before now (Damaged slot reason) later is = is
-fault_later contents first before now Device later is = omega (arith, later, is)
-fault_later contents first before now OutOfMemory later is = tt
 
 -- or by memory alone
 pub fault_of_want : (contents : List (List ℕ)) (before now frames : ℕ) (memory : PlainMemory) (fault : OpenFault) → IsWantOf frames memory fault

@@ -21,7 +21,8 @@ use Rattle.sd_world.specs.declared.kept.Kept.TheVariants.{Request, Outcome}
 use Rattle.sd_world.specs.Consistent.{AreAskedInPages, AreInPlace, IsConsistent, IsWorld, SlotNow, slot_after, slot_now}
 use Rattle.sd_world.specs.Steps.{IsPerformed}
 use Rattle.sd_world.specs.View.{asked_of, kept_id}
-use Rattle.sd_world.proofs.Calls.{same_body, tells_now}
+use Rattle.sd_crash_safety.proofs.Performed.{kept_body as same_body}
+use Rattle.sd_world.proofs.Calls.{tells_now}
 use Rattle.sd_world.proofs.KeptLemmas.{IsWrite, WriteBeside, filled_places, is_set, made_now, outcome_off, ready_now, request_on, same_outcome, set_elsewhere}
 use Rattle.sd_world.proofs.Lists.{get_map, map_set, set_itself}
 use Rattle.sd_world.proofs.Worlds.{Fits, slot_as}

@@ -20,7 +20,9 @@ use Rattle.sd_world.specs.Steps.{Does, HandsInIfAny, WorkerTakesUp, WorkerWorks}
 use Rattle.sd_world.specs.Tickets.{HasOwnTickets, TicketsLast}
 use Rattle.sd_world.specs.Trims.{TrimsJournal}
 use Rattle.sd_world.specs.View.{WorldView}
-use Rattle.sd_world.proofs.Lists.{get_set_other, get_set_same}
+use Rattle.sd_core.proofs.FallenLemmas.{less_out as out_still}
+use Rattle.sd_store_laws.proofs.SlotSteps.{set_other as get_set_other}
+use Rattle.sd_world.proofs.Lists.{get_set_same}
 use Rattle.sd_world.proofs.TrimLemmas.{trim_cases}
 
 -- ---- the next ticket
@@ -191,19 +193,6 @@ taken_keeps : (old : CoreView) (worker : Worker) (new : CoreView) (answer : Repl
 taken_keeps old worker new answer up = step_keeps old worker answer new up.takes up.flags
 
 -- ---- an outcome
-
--- what is out behind an outcome was out before
-out_still : (outs : List (Option RequestId)) (lane at : ℕ) (one : RequestId) → slice_get (slice_set outs lane None) at ≡ Some (Some one)
-    → slice_get outs at ≡ Some (Some one)
-out_still outs lane at one is = elim (cases_eq at lane) [
-  | inl same ↦ absurd (gone outs at one (ap (λ l. slice_get (slice_set outs l None) at) same ∙ is))
-  | inr other ↦ sym (get_set_other outs lane at None other) ∙ is
-]
-  where
-    gone : (all : List (Option RequestId)) (i : ℕ) (one : RequestId) → slice_get (slice_set all i None) i ≡ Some (Some one) → ⊥
-    gone [] i one e = cc
-    gone (x ∷ xs) zero one e = cc
-    gone (x ∷ xs) (suc i) one e = gone xs i one e
 
 handed_keeps : (old new : CoreView) (made : Made) (answer : Reply) → IsHandedIn made answer old new → KeepsTickets old new
 handed_keeps old new made answer handed room has = (omega (arith, ticket), record { given = given; own = own })

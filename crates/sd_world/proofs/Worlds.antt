@@ -17,7 +17,8 @@ use Rattle.sd_world.specs.Consistent.{AreAskedInPages, IsWorld, SlotNow, slot_no
 use Rattle.sd_world.specs.Steps.{KeepsRequest}
 use Rattle.sd_world.specs.View.{asked_of, kept_id}
 use Rattle.sd_world.proofs.KeptLemmas.{asked_id_of, filled_places, free_now, is_set, nothing_on, request_on, set_elsewhere}
-use Rattle.sd_world.proofs.Lists.{get_map, get_set_other, map_get, map_set}
+use Rattle.sd_store_laws.proofs.SlotSteps.{set_other as get_set_other}
+use Rattle.sd_world.proofs.Lists.{get_map, map_get, map_set}
 
 -- a slot in this phase, with this body
 abbrev pub slot_as : Phase → List ℕ → SlotNow

@@ -1,6 +1,6 @@
 use Rattle.sd_areas.specs.Memory.{memory_of}
 use Rattle.sd_audit.proofs.Seen.{pages_in}
-use Rattle.sd_audit.proofs.CopyLemmas.{all_copied, copied_more}
+use Rattle.sd_fold.proofs.CopyLemmas.{all_copied, copied_more}
 use Rattle.sd_audit.proofs.copying.copy_of.Goals as goal
 
 pub loop-space-preserved-in_ok-insert : goal.loop-space-preserved-in_ok-insert

@@ -1,5 +1,5 @@
 use Rattle.sd_audit.proofs.Seen.{pages_in}
-use Rattle.sd_audit.proofs.CopyLemmas.{IsCopied}
+use Rattle.sd_fold.proofs.CopyLemmas.{IsCopied}
 use Rattle.sd_audit.proofs.copying.copy_of.Given as goal
 
 abbrev pub invariant-loop-space : goal.invariant-loop-space

@@ -2,7 +2,8 @@ use Rattle.std.proofs.Common.{◌≡◌, ◌+◌, ◌++◌, ◌∷◌, [], List,
 use Rattle.std.proofs.lemmas.Option.{slice_get-get_or}
 use Rattle.sd_chain.specs.Catalog.{Opened, serial_of}
 use Rattle.sd_image.specs.declared.header.Header.{Header}
-use Rattle.sd_core.proofs.TipLemmas.{serials_are, serials_more, take_all}
+use Rattle.sd_restore.proofs.TakeLemmas.{taken_all as take_all}
+use Rattle.sd_core.proofs.TipLemmas.{serials_are, serials_more}
 use Rattle.sd_core.proofs.merging.serials_in.Goals as goal
 
 pub loop-image-preserved : goal.loop-image-preserved

@@ -1,7 +1,7 @@
 use Rattle.std.proofs.Common.{sym, ◌∙◌, ap, subst, slice_set}
 use Rattle.sd_world.specs.declared.kept.Kept.TheVariants.{Nothing, Outcome}
 use Rattle.sd_world.specs.Steps.{KeepsOutcome, reply_of_answer}
-use Rattle.sd_world.proofs.Calls.{makes_count}
+use Rattle.sd_gate.proofs.CallLemmas.{makes_as_many as makes_count}
 use Rattle.sd_world.proofs.KeptLemmas.{same_request}
 use Rattle.sd_world.proofs.Lists.{set_twice}
 use Rattle.sd_world.proofs.stepping.perform_in.Goals as goal

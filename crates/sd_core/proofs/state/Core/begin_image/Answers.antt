@@ -32,7 +32,8 @@ use Rattle.sd_core.proofs.OthersLemmas.{beside_seen, counted_still, keeps_change
 use Rattle.sd_core.proofs.ApplyLemmas.{stays_same}
 use Rattle.sd_core.proofs.ImageLemmas.{begun_asked}
 use Rattle.sd_core.proofs.LittleLemmas.{begun_little}
-use Rattle.sd_core.proofs.MarkLemmas.{counted_held, held_place, next_is, none_visited, sound_image, start_numbers}
+use Rattle.sd_journal.proofs.MarkedLemmas.{no_visit as none_visited}
+use Rattle.sd_core.proofs.MarkLemmas.{counted_held, held_place, next_is, sound_image, start_numbers}
 use Rattle.sd_core.proofs.MergeLemmas.{asks_apart, fills_same, merging_stays}
 use Rattle.sd_core.proofs.OpeningLemmas.{hands_seen, step_seen}
 use Rattle.sd_core.proofs.OutsLemmas.{dumper_outs, on_slot, open_outs}

@@ -35,7 +35,8 @@ use Rattle.sd_core.proofs.StepLemmas.{freezes_it, hands_asked, hands_page}
 use Rattle.sd_core.proofs.SweptLemmas.{pends_last, table_swept}
 use Rattle.sd_core.specs.declared.taken.Taken.TheVariants.{Call as CallTaken}
 use Rattle.sd_core.specs.Noted.{is_at_pass, is_passing_image, marks_of}
-use Rattle.sd_core.proofs.OthersLemmas.{beside_seen, counted_still, keeps_same, never_passed, none_passes, notes_none, notes_table, passed, still_passes}
+use Rattle.sd_crash_safety.proofs.Lanes.{plan_outside as none_passes}
+use Rattle.sd_core.proofs.OthersLemmas.{beside_seen, counted_still, keeps_same, never_passed, notes_none, notes_table, passed, still_passes}
 use Rattle.sd_core.proofs.state.Core.call_image.Goals as goal
 
 pub invariant_of-self-in-Call : goal.invariant_of-self-in-Call
