@@ -1,4 +1,5 @@
 //! Which slots of a store have an open image, as the calls on its disk show.
+ghost use Rattle.std.specs.Prelude.{◌≤◌};
 
 use sd_disk::{FOLDER_SLOTS, FileCall, Observed, Observer};
 use sd_image::GATE;
@@ -20,7 +21,9 @@ impl Gates {
     }
 
     /// How many slots have no open image.
-    pub fn free(&self) -> usize {
+    pub fn free(&self) -> usize
+        ensures { result ≤ 64 }
+    {
         match self.open.try_borrow() {
             Ok(open) => open.iter().filter(|is_open| !**is_open).count(),
             Err(_) => 0,

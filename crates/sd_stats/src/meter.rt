@@ -1,4 +1,5 @@
 //! What is seen of a device's calls, and the records that are made of it.
+ghost use Rattle.std.specs.Prelude.{◌≡◌, ◌+◌, ◌-◌, ◌^◌, min, true, false, [], None, Some, IfOk, IsSome};
 
 use crate::making::{Making, SeenSlot};
 use crate::record::{CheckpointRecord, ImageRecord, MergeRecord, Record};
@@ -48,7 +49,10 @@ impl Meter {
     /// # Errors
     ///
     /// Out of memory where the slots find no room.
-    pub fn new(alloc: Global, slots: usize) -> Result<Meter, AllocError> {
+    pub fn new(alloc: Global, slots: usize) -> Result<Meter, AllocError>
+        ensures calls { IfOk result (λ meter. meter.calls ≡ 0) }
+        ensures records { IfOk result (λ meter. meter.done.items ≡ []) }
+    {
         let unseen = SeenSlot {
             is_open: false,
             last_read: 0,
@@ -68,12 +72,19 @@ impl Meter {
     }
 
     /// The records that were made since this was asked before.
-    pub fn take(&mut self) -> Vec<Record> {
+    pub fn take(&mut self) -> Vec<Record>
+        ensures records { result.items ≡ self.old.done.items }
+        ensures none { self.new.done.items ≡ [] }
+    {
         mem::replace(&mut self.done, Vec::new(self.alloc))
     }
 
     /// Takes in whether the memory is frozen.
-    pub fn see_frozen(&mut self, is_frozen: bool, now: Duration) {
+    pub fn see_frozen(&mut self, is_frozen: bool, now: Duration)
+        ensures thawed { is_frozen ≡ false → self.new.frozen ≡ None }
+        ensures since { is_frozen ≡ true → self.old.frozen ≡ None → self.new.frozen ≡ Some now }
+        ensures still { is_frozen ≡ true → IsSome self.old.frozen → self.new.frozen ≡ self.old.frozen }
+    {
         if !is_frozen {
             self.frozen = None;
         } else if self.frozen.is_none() {
@@ -82,24 +93,34 @@ impl Meter {
     }
 
     /// The merge has ended: its record is made.
-    pub fn end_merge(&mut self) {
+    pub fn end_merge(&mut self)
+        ensures none { self.new.merge ≡ None }
+        ensures calls { self.new.calls ≡ self.old.calls }
+    {
         if let Some(record) = self.merge.take() {
             self.add(Record::Merge(record));
         }
     }
 
     /// Adds a record. Where it finds no room it is left out.
-    fn add(&mut self, record: Record) {
+    fn add(&mut self, record: Record)
+        ensures calls { self.new.calls ≡ self.old.calls }
+        ensures merge { self.new.merge ≡ self.old.merge }
+    {
         let _ = self.done.push(record);
     }
 
     /// A call was made.
-    pub(crate) fn called(&mut self) {
+    pub(crate) fn called(&mut self)
+        ensures { self.new.calls ≡ min (self.old.calls + 1) (2 ^ 64 - 1) }
+    {
         self.calls = self.calls.saturating_add(1);
     }
 
     /// Bytes of a slot were read.
-    pub(crate) fn read(&mut self, slot: usize, at: usize, bytes: &[u8]) {
+    pub(crate) fn read(&mut self, slot: usize, at: usize, bytes: &[u8])
+        ensures { self.new.calls ≡ min (self.old.calls + 1) (2 ^ 64 - 1) }
+    {
         self.called();
         let calls = self.calls;
         let Some(seen) = self.slots.get_mut(slot) else {
@@ -114,7 +135,9 @@ impl Meter {
     }
 
     /// A call that closes an image behind a merge was made.
-    fn count_closing(&mut self, now: Duration) {
+    fn count_closing(&mut self, now: Duration)
+        ensures { self.new.calls ≡ self.old.calls }
+    {
         let begun = self.merge_begun;
         if let Some(merge) = &mut self.merge {
             merge.calls = merge.calls.saturating_add(1);
@@ -123,7 +146,9 @@ impl Meter {
     }
 
     /// An image was closed behind a merge.
-    fn count_closed(&mut self, now: Duration) {
+    fn count_closed(&mut self, now: Duration)
+        ensures { self.new.calls ≡ self.old.calls }
+    {
         if let Some(merge) = &mut self.merge {
             merge.closed = merge.closed.saturating_add(1);
         }
@@ -131,7 +156,9 @@ impl Meter {
     }
 
     /// A slot was closed: an image begins to be made there, or one isn't needed behind a merge.
-    fn close(&mut self, slot: usize, now: Duration) {
+    fn close(&mut self, slot: usize, now: Duration)
+        ensures { self.new.calls ≡ self.old.calls }
+    {
         let mut making = Making::new(now, self.calls, self.reads);
         making.format();
         let merges = self.merge.is_some();
@@ -147,7 +174,9 @@ impl Meter {
     }
 
     /// Bytes were written into a slot's file.
-    pub(crate) fn wrote(&mut self, slot: usize, at: usize, bytes: &[u8], now: Duration) {
+    pub(crate) fn wrote(&mut self, slot: usize, at: usize, bytes: &[u8], now: Duration)
+        ensures { self.new.calls ≡ min (self.old.calls + 1) (2 ^ 64 - 1) }
+    {
         self.called();
         if at == 0 && bytes.first() != Some(&GATE) {
             self.close(slot, now);
@@ -163,7 +192,9 @@ impl Meter {
     }
 
     /// A slot's file was cut.
-    pub(crate) fn cut(&mut self, slot: usize, now: Duration) {
+    pub(crate) fn cut(&mut self, slot: usize, now: Duration)
+        ensures { self.new.calls ≡ min (self.old.calls + 1) (2 ^ 64 - 1) }
+    {
         self.called();
         let fresh = Making::new(now, self.calls, self.reads);
         let Some(seen) = self.slots.get_mut(slot) else {
@@ -179,7 +210,9 @@ impl Meter {
     }
 
     /// A slot's file was synced. An image whose gate is open is there.
-    pub(crate) fn synced(&mut self, slot: usize, now: Duration) {
+    pub(crate) fn synced(&mut self, slot: usize, now: Duration)
+        ensures { self.new.calls ≡ min (self.old.calls + 1) (2 ^ 64 - 1) }
+    {
         self.called();
         let Some(seen) = self.slots.get_mut(slot) else {
             return;
@@ -199,7 +232,9 @@ impl Meter {
     }
 
     /// Makes the record of an image that is there, and of its checkpoint or its merge.
-    fn enter(&mut self, slot: usize, header: &Header, made: &Making, now: Duration) {
+    fn enter(&mut self, slot: usize, header: &Header, made: &Making, now: Duration)
+        ensures { self.new.calls ≡ self.old.calls }
+    {
         let record = ImageRecord {
             serial: header.serial,
             slot,
@@ -243,7 +278,9 @@ impl Meter {
     }
 
     /// Makes the record of a checkpoint whose dump is there.
-    fn enter_dump(&mut self, record: &ImageRecord, made: &Making, now: Duration) {
+    fn enter_dump(&mut self, record: &ImageRecord, made: &Making, now: Duration)
+        ensures { self.new.calls ≡ self.old.calls }
+    {
         let running = self.joined(record, made);
         let frozen = self.frozen.or(made.body_begun).unwrap_or(now);
         self.running = None;
@@ -263,7 +300,9 @@ impl Meter {
     }
 
     /// Begins the record of a merge whose image is there.
-    fn enter_merged(&mut self, record: &ImageRecord, made: &Making) {
+    fn enter_merged(&mut self, record: &ImageRecord, made: &Making)
+        ensures { self.new.calls ≡ self.old.calls }
+    {
         self.end_merge();
         let since = made.first_call;
         let read = self
