@@ -29,11 +29,10 @@ ends_by page area = nat_lt (area.first + area.count) page
 
 ends_rise : (before : Option Area) (xs : List Area) (i j : ℕ) (d : Area) → AreMaximal before xs → i ≤ j → j < length xs
     → (get_or xs i d).first + (get_or xs i d).count ≤ (get_or xs j d).first + (get_or xs j d).count
-ends_rise before [] i j d m l h = absurd (omega arith)
 ends_rise before (x ∷ xs) zero zero d m l h = omega arith
 ends_rise before (x ∷ xs) zero (suc j) d m l h = omega (arith, later_begins (Some x) xs j d m.1 (omega arith))
-ends_rise before (x ∷ xs) (suc i) zero d m l h = absurd (omega arith)
 ends_rise before (x ∷ xs) (suc i) (suc j) d m l h = ends_rise (Some x) xs i j d m.1 (omega arith) (omega arith)
+ends_rise before _ _ _ d m l h = absurd (omega arith)
 
 pub ends_parted : (page : ℕ) (xs : List Area) → AreMaximal None xs → IsPartitionedBy (ends_by page) xs
 ends_parted page xs m i j d l h e = lt-ltb _ _ (omega (arith, ends_rise None xs i j d m l h, ltb-true _ _ e))

@@ -22,11 +22,10 @@ later_begins before (x ∷ xs) zero d m l = (follows_on before x m.0).behind
 later_begins before (x ∷ xs) (suc i) d m l = omega (arith, follows_on before x m.0, later_begins (Some x) xs i d m.1 (omega arith))
 
 pub starts_rise : (before : Option Area) (xs : List Area) (i j : ℕ) (d : Area) → AreMaximal before xs → i ≤ j → j < length xs → (get_or xs i d).first ≤ (get_or xs j d).first
-starts_rise before [] i j d m l h = absurd (omega arith)
 starts_rise before (x ∷ xs) zero zero d m l h = omega arith
 starts_rise before (x ∷ xs) zero (suc j) d m l h = omega (arith, later_begins (Some x) xs j d m.1 (omega arith))
-starts_rise before (x ∷ xs) (suc i) zero d m l h = absurd (omega arith)
 starts_rise before (x ∷ xs) (suc i) (suc j) d m l h = starts_rise (Some x) xs i j d m.1 (omega arith) (omega arith)
+starts_rise before _ _ _ d m l h = absurd (omega arith)
 
 pub parted : (page : ℕ) (xs : List Area) → AreMaximal None xs → IsPartitionedBy (begins_by page) xs
 parted page xs m i j d l h e = le-leb _ _ (omega (arith, starts_rise None xs i j d m l h, leb-true _ _ e))

@@ -16,13 +16,10 @@ prot_with n = record { read = n % 2 == 1; write = n / 2 % 2 == 1; execute = n / 
 prot_made : (r w x : Bool) → prot_with (prot_bits (record { read = r; write = w; execute = x })) ≡ record { read = r; write = w; execute = x }
 unfolding prot_with
 prot_made true true true = refl
-prot_made true true false = refl
 prot_made true false true = refl
-prot_made true false false = refl
 prot_made false true true = refl
-prot_made false true false = refl
 prot_made false false true = refl
-prot_made false false false = refl
+prot_made _ _ _ = refl
 
 pub same_prot : (p q : Prot) → prot_bits p ≡ prot_bits q → p ≡ q
 same_prot p q e = sym (prot_made p.read p.write p.execute) ∙ ap prot_with e ∙ prot_made q.read q.write q.execute

@@ -38,8 +38,7 @@ parts_none old from to m l = record {
 
 both : (r w : Bool) (s f o : Option Prot) → cond (r && w) s (cond r f o) ≡ cond r (cond w s f) o
 both true true s f o = refl
-both true false s f o = refl
-both false w s f o = refl
+both _ _ s f o = refl
 
 pub parts_next : (old done new front : List Area) (x : Area) (from to : ℕ) → AreMaximal None front → FollowsOn (last_after None front) x → HasParts old done front from to → HasPart done new x from to → HasParts old new (front ++ x ∷ []) from to
 parts_next old done new front x from to m f so_far part = record {

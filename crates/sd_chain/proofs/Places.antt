@@ -16,9 +16,8 @@ use Rattle.sd_chain.specs.Catalog.{Opened, Places, AreInOrder, place_of, Changes
 -- ---- keys and entries are in one order
 
 key_at : (es : Places) (k : ℕ) (e : ℕ × Option Opened) → slice_index_or (keys_of es) k e.0 ≡ (slice_index_or es k e).0
-key_at [] k e = refl
-key_at (x ∷ es) zero e = refl
 key_at (x ∷ es) (suc k) e = key_at es k e
+key_at _ _ e = refl
 
 pub by_keys : (es : Places) → IsSorted nat_cmp (keys_of es) → IsSortedByKey (λ (e : ℕ × Option Opened). e.0) nat_cmp es
 by_keys es h = λ k d low high.

@@ -37,19 +37,16 @@ later_begins parent before (run ∷ runs) (suc i) d h l =
 
 pub apart : (parent : ℕ) (before : Option Run) (runs : List Run) (i j : ℕ) (d : Run) → AreRuns parent before runs → i < j → j < length runs
     → (get_or runs i d).first + (get_or runs i d).count ≤ (get_or runs j d).first
-apart parent before [] i j d h l m = absurd (omega arith)
-apart parent before (run ∷ runs) zero zero d h l m = absurd (omega arith)
 apart parent before (run ∷ runs) zero (suc j) d h l m = later_begins parent (Some run) runs j d h.1 (omega arith)
-apart parent before (run ∷ runs) (suc i) zero d h l m = absurd (omega arith)
 apart parent before (run ∷ runs) (suc i) (suc j) d h l m = apart parent (Some run) runs i j d h.1 (omega arith) (omega arith)
+apart parent before _ _ _ d h l m = absurd (omega arith)
 
 starts_rise : (parent : ℕ) (before : Option Run) (runs : List Run) (i j : ℕ) (d : Run) → AreRuns parent before runs → i ≤ j → j < length runs
     → (get_or runs i d).first ≤ (get_or runs j d).first
-starts_rise parent before [] i j d h l m = absurd (omega arith)
 starts_rise parent before (run ∷ runs) zero zero d h l m = omega arith
 starts_rise parent before (run ∷ runs) zero (suc j) d h l m = let rest = later_begins parent (Some run) runs j d h.1 (omega arith) in omega (arith, rest)
-starts_rise parent before (run ∷ runs) (suc i) zero d h l m = absurd (omega arith)
 starts_rise parent before (run ∷ runs) (suc i) (suc j) d h l m = starts_rise parent (Some run) runs i j d h.1 (omega arith) (omega arith)
+starts_rise parent before _ _ _ d h l m = absurd (omega arith)
 
 pub are_partitioned : (parent page : ℕ) (runs : List Run) → AreRuns parent None runs → IsPartitionedBy (begins_by page) runs
 are_partitioned parent page runs h i j d l m e = le-leb _ _ (omega (arith, starts_rise parent None runs i j d h l m, leb-true _ _ e))

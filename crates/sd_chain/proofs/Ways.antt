@@ -36,8 +36,7 @@ kind_of way.Zero = Zero
 pub among_kind : (spaces : List Listed) (page : ℕ × ℕ) (w : Way) → HasPage spaces page w → Contains (pages_of (kind_of w) spaces) page
 unfolding kind_of
 among_kind spaces page (way.Data place) h = contains_at (pages_of Data spaces) place page h
-among_kind spaces page way.Parent h = h
-among_kind spaces page way.Zero h = h
+among_kind spaces page _ h = h
 
 one_way : OneKind → OnePlace → (h : Header) (spaces : List Listed) (page : ℕ × ℕ) (a b : Way) → IsTable h spaces → HasPage spaces page a → HasPage spaces page b → a ≡ b
 unfolding kind_of

@@ -15,7 +15,6 @@ same_effect (Munmap space address bytes) Done memory = refl
 same_effect (Mprotect space address bytes prot) Done memory = refl
 same_effect (Fork space) (Child child) memory = refl
 same_effect (Exit space) Done memory = refl
-same_effect (Load space address count) answer memory = refl
 same_effect (TryStore space address bytes) Done memory = refl
 same_effect (Fault space address) Done memory = refl
 same_effect (Store space address bytes) Done memory = refl

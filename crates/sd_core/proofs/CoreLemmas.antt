@@ -109,9 +109,8 @@ set_nobody outs id alone = ap (λ all. slice_set all 2 None) alone
 -- ---- outcomes
 
 set_count : (phases : List Phase) (at : ℕ) (phase : Phase) → length (slice_set phases at phase) ≡ length phases
-set_count [] at phase = refl
-set_count (p ∷ phases) zero phase = refl
 set_count (p ∷ phases) (suc at) phase = ap suc (set_count phases at phase)
+set_count _ _ phase = refl
 
 pub after_count : (phases new : List Phase) (id : RequestId) (done : Bool) → id.slot < length phases
     → ((phase : Phase) → slice_get phases id.slot ≡ Some phase → new ≡ phases_after phases id phase done) → length new ≡ length phases

@@ -91,14 +91,8 @@ sync_of phase one is = by one (second (is_being_closed phase) (is_sync one) is)
     second false b e = absurd (let no : false ≡ true = e in cc)
 
     by : (one : Call) → is_sync one ≡ true → one ≡ call.Sync
-    by call.Len e = absurd (let no : false ≡ true = e in cc)
-    by (call.Read at) e = absurd (let no : false ≡ true = e in cc)
-    by (call.Write at) e = absurd (let no : false ≡ true = e in cc)
-    by call.WriteHeader e = absurd (let no : false ≡ true = e in cc)
-    by call.Close e = absurd (let no : false ≡ true = e in cc)
-    by call.Open e = absurd (let no : false ≡ true = e in cc)
-    by call.Cut e = absurd (let no : false ≡ true = e in cc)
     by call.Sync e = refl
+    by _ e = absurd (let no : false ≡ true = e in cc)
 
 -- ---- one whose job has ended
 
@@ -126,10 +120,9 @@ is_late core running merge opener lane id sound out is_running is_merge is_opene
 
     -- one that is out while an opener runs is its own
     in_opener : (o : Option RequestId) (at : ℕ) → slice_get (None ∷ None ∷ o ∷ no_writes) at ≡ Some (Some id) → worker_of_lane at ≡ Opener
-    in_opener o zero e = absurd (let no : Some None ≡ Some (Some id) = e in cc)
-    in_opener o (suc zero) e = absurd (let no : Some None ≡ Some (Some id) = e in cc)
     in_opener o (suc (suc zero)) e = refl
     in_opener o (suc (suc (suc k))) e = absurd (no_write k id e)
+    in_opener o _ e = absurd (let no : Some None ≡ Some (Some id) = e in cc)
 
     no_opener : (o : Option Looking) → core.opener ≡ o → core.opener ≡ None
     no_opener None is = is
@@ -219,16 +212,14 @@ pub record IsHandedLate (old : CoreView) (lane : ℕ) (made : Made) (phase : Pha
   pub count : length new.phases ≡ length old.phases
 
 pub merger_lane : (lane : ℕ) → worker_of_lane lane ≡ Merger → lane ≡ 1
-merger_lane zero is = absurd (let no : Dumper ≡ Merger = is in cc)
 merger_lane (suc zero) is = refl
 merger_lane (suc (suc zero)) is = absurd (let no : Opener ≡ Merger = is in cc)
-merger_lane (suc (suc (suc k))) is = absurd (let no : Dumper ≡ Merger = is in cc)
+merger_lane _ is = absurd (let no : Dumper ≡ Merger = is in cc)
 
 pub opener_lane : (lane : ℕ) → worker_of_lane lane ≡ Opener → lane ≡ 2
-opener_lane zero is = absurd (let no : Dumper ≡ Opener = is in cc)
 opener_lane (suc zero) is = absurd (let no : Merger ≡ Opener = is in cc)
 opener_lane (suc (suc zero)) is = refl
-opener_lane (suc (suc (suc k))) is = absurd (let no : Dumper ≡ Opener = is in cc)
+opener_lane _ is = absurd (let no : Dumper ≡ Opener = is in cc)
 
 pub handed_late : DumperOutcomes → (places : Places) → MergerOutcomes places → (old new : CoreView) (lane : ℕ) (made : Made) (phase : Phase) → IsHandedLate old lane made phase new
     → HandedIn old lane made (reply.Refused StoreDown) new

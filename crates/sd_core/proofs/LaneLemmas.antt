@@ -81,9 +81,8 @@ plan_lane core running image lane id sound is making at out =
 
 out_is : (stage : Stage) (plan : Planned) → plan_of stage ≡ Some plan → out_of stage ≡ plan.out
 out_is (Format own) plan was = ap (λ (p : Planned). p.out) (same_Some own plan was)
-out_is Freeze plan was = absurd (let no : None ≡ Some plan = was in cc)
-out_is PassStage plan was = absurd (let no : None ≡ Some plan = was in cc)
 out_is (Close own header tables) plan was = ap (λ (p : Planned). p.out) (same_Some own plan was)
+out_is _ plan was = absurd (let no : None ≡ Some plan = was in cc)
 
 pub goes_out : (image next : Making) (made : Made) → PlanGoesOn image made next → out_of image.stage ≡ Some made.request.id
 goes_out image next made goes = out_is image.stage goes.plan goes.awaited.was ∙ goes.awaited.out

@@ -78,12 +78,10 @@ visit_more laws base items before after image next visit serial tracked v =
 -- ---- a step of the image in the making
 
 same_order : (ticket : ℕ) (image next : Making) (before after : Contents) (step : ImageStep) → Steps ticket image before step next after → next.order ≡ image.order
-same_order ticket image next before after (Call request) s = ap (λ (m : Making). m.order) s.0.is
 same_order ticket image next before after (PageCall lane request) s = s.0.order
-same_order ticket image next before after (TableCall request) s = ap (λ (m : Making). m.order) s.0.is
-same_order ticket image next before after Frozen s = ap (λ (m : Making). m.order) s.0.is
 same_order ticket image next before after (Visited visit) s = ap (λ (m : Making). m.order) s.passes.1
 same_order ticket image next before after (Copied copied) s = ap (λ (m : Making). m.order) s.0.passes.1
+same_order ticket image next before after _ s = ap (λ (m : Making). m.order) s.0.is
 
 and_right : (one other : Bool) → (one && other) ≡ true → other ≡ true
 and_right true other is = is
@@ -97,9 +95,7 @@ not_closing stage is closing = absurd (let no : false ≡ true = sym (ap is_clos
 
 same_closing : (stage : Stage) (plan : Planned) → is_closing (with_plan stage plan) ≡ is_closing stage
 same_closing (Format old) plan = refl
-same_closing FreezeStage plan = refl
-same_closing PassStage plan = refl
-same_closing (Close old header tables) plan = refl
+same_closing _ plan = refl
 
 -- once its table is written each page was visited, and nothing was touched since
 closed_step : (base : Base) (items : Marked) (number ticket : ℕ) (image next : Making) (before after : Contents) (step : ImageStep) → Steps ticket image before step next after
@@ -175,8 +171,7 @@ behind_closing Dump (Format plan) closing = absurd (let no : false ≡ true = cl
 behind_closing PreDump (Format plan) closing = absurd (let no : false ≡ true = closing in cc)
 behind_closing Merged (Format plan) closing = absurd (let no : false ≡ true = closing in cc)
 behind_closing kind FreezeStage closing = absurd (let no : false ≡ true = closing in cc)
-behind_closing kind PassStage closing = absurd (let no : false ≡ true = closing in cc)
-behind_closing kind (Close plan header tables) closing = absurd (let no : false ≡ true = closing in cc)
+behind_closing _ _ closing = absurd (let no : false ≡ true = closing in cc)
 
 after_closing : (kind : Kind) (stage : Stage) (plan : Planned) (calls : Calls) → is_closing (stage_after kind stage plan calls) ≡ true → is_closing stage ≡ true
 after_closing kind stage plan [] closing = behind_closing kind stage closing

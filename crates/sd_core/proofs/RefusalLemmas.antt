@@ -32,9 +32,8 @@ some_false (Some x) is = absurd (let no : Some x ≡ None = is in cc)
 -- ---- requests that are out
 
 pub rests_where : (one : Option (Option RequestId)) → none_at one ≡ true → one ≡ Some None
-rests_where None is = absurd (let no : false ≡ true = is in cc)
 rests_where (Some None) is = refl
-rests_where (Some (Some id)) is = absurd (let no : false ≡ true = is in cc)
+rests_where _ is = absurd (let no : false ≡ true = is in cc)
 
 not_true : (b : Bool) → not b ≡ true → b ≡ false
 not_true true is = absurd (let no : false ≡ true = is in cc)

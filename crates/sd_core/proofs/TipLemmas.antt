@@ -13,8 +13,7 @@ restored i = is_restored i.header.kind
 
 restored_kind : (kind : Kind) → (kind ≡ PreDump → ⊥) → is_restored kind ≡ true
 restored_kind PreDump other = absurd (other refl)
-restored_kind Dump other = refl
-restored_kind Merged other = refl
+restored_kind _ other = refl
 
 not_restored : (kind : Kind) → ((kind ≡ PreDump → ⊥) → ⊥) → is_restored kind ≡ false
 not_restored PreDump not_other = refl

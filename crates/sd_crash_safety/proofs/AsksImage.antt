@@ -28,9 +28,7 @@ use Rattle.sd_crash_safety.specs.InUse.{IsSlotFor}
 pub kept_with : (stage : Stage) (plan next : Planned) → plan_of stage ≡ Some plan → (pages : Pages) (chain : Chain) (pass : Pass) (memory : Contents)
     → IsKeptIn stage pages chain pass memory → IsKeptIn (with_plan stage next) pages chain pass memory
 kept_with (Format own) plan next was pages chain pass memory is = is
-kept_with Freeze plan next was pages chain pass memory is = is
-kept_with PassStage plan next was pages chain pass memory is = is
-kept_with (Close own header tables) plan next was pages chain pass memory is = is
+kept_with _ plan next was pages chain pass memory is = is
 
 -- ---- a plan is on its slot
 
@@ -40,12 +38,11 @@ plan_on (Format own) order pages phase body request belief dump plan was s = ap 
   where
     own_plan : Some own ≡ Some plan → plan ≡ own
     own_plan e = cc
-plan_on Freeze order pages phase body request belief dump plan was s = absurd (let no : None ≡ Some plan = was in cc)
-plan_on PassStage order pages phase body request belief dump plan was s = absurd (let no : None ≡ Some plan = was in cc)
 plan_on (Close own header tables) order pages phase body request belief dump plan was s = ap (λ (p : Planned). p.slot) (own_plan was) ∙ s.on
   where
     own_plan : Some own ≡ Some plan → plan ≡ own
     own_plan e = cc
+plan_on _ order pages phase body request belief dump plan was s = absurd (let no : None ≡ Some plan = was in cc)
 
 -- ---- what an image holds over others
 

@@ -51,10 +51,8 @@ its_parent chain parent is = subst (λ c. Contains c parent) (sym is) (0, omega 
 
 its_stage : (stage : Stage) (p : Planned) (pages : List (List ℕ)) (i : Image) → image_in_stage (with_plan stage p) pages ≡ Some i
     → (header : Header) × (tables : List Listed) × (plan : Planned) × (stage ≡ Close plan header tables) × (i ≡ image_of header pages tables)
-its_stage (Format own) p pages i is = absurd (let no : None ≡ Some i = is in cc)
-its_stage Freeze p pages i is = absurd (let no : None ≡ Some i = is in cc)
-its_stage PassStage p pages i is = absurd (let no : None ≡ Some i = is in cc)
 its_stage (Close own header tables) p pages i is = (header, tables, own, refl, sym (same_Some (image_of header pages tables) i is))
+its_stage _ p pages i is = absurd (let no : None ≡ Some i = is in cc)
 
 module _ (quiet : QuietSteps) (gates : GateSteps) (made : MadeLaws) (follows : CatalogFollows) (shows : DumpShows)
     (old new : CoreView) (running : Running) (image next : Making) (number : ℕ) (request : Asked) (asked : List (Option Asked)) (bodies files : List (List ℕ))

@@ -27,10 +27,8 @@ use Rattle.sd_crash_safety.proofs.Leads.{is_whole, leads_end, leads_head}
 
 -- the image that a stage writes into its slot
 abbrev pub image_in_stage : Stage → Pages → Option Image
-image_in_stage (Format plan) pages = None
-image_in_stage Freeze pages = None
-image_in_stage PassStage pages = None
 image_in_stage (Close plan header tables) pages = Some (image_of header pages tables)
+image_in_stage _ pages = None
 
 -- a call that changes no belief
 pub record AsksQuietly (stage : Stage) (order : ImageOrder) (pages : Pages) (phase : Phase) (body : List ℕ) (request : Asked) (belief : Belief) (dump : Option Image) : Type 0 where
@@ -93,18 +91,13 @@ none_dropped (suc k) = refl
 
 -- what a slot is believed to be is that also while its close is out, unless it keeps an image
 formatted_closing : (phase : Phase) (body : List ℕ) (belief : Belief) → phase ≢ Whole → may_close phase ≡ true → IsBelievedAs phase body belief → IsBelievedAs (closing phase) body belief
-formatted_closing Raw body belief other may is = is
-formatted_closing RawClosing body belief other may is = is
 formatted_closing Whole body belief other may is = absurd (other refl)
-formatted_closing ClosingPhase body belief other may is = is
 formatted_closing Shut body belief other may is = absurd (false≢true may)
 formatted_closing ShutSynced body belief other may is = absurd (false≢true may)
 formatted_closing Bare body belief other may is = absurd (false≢true may)
 formatted_closing Writing body belief other may is = absurd (false≢true may)
 formatted_closing Ready body belief other may is = absurd (false≢true may)
-formatted_closing OpeningPhase body belief other may is = is
-formatted_closing Doubt body belief other may is = is
-formatted_closing DoubtSynced body belief other may is = is
+formatted_closing _ body belief other may is = is
 
 module _ (order : ImageOrder) (pages : Pages) (phase : Phase) (body : List ℕ) (belief : Belief) (dump : Option Image) (plan next : Planned) (request : Asked)
     (gives : Gives plan next request) (f : IsFormatting order plan phase body None belief) (alone : dump ≡ None) where
@@ -172,10 +165,9 @@ module _ (order : ImageOrder) (pages : Pages) (phase : Phase) (body : List ℕ) 
   formats_cutting (suc n) is = absurd (none_named request.id.call names (is ∙ none_dropped n))
 
   formats_by : (state : SlotState) (place : ℕ) → (request.id.call ∷ names) ≡ drop place (map kind_of_call (format_calls state)) → AsksOn (Format next) order pages phase body request belief dump
-  formats_by slot_state.Raw place is = formats_closing place is
   formats_by slot_state.Closed place is = formats_cutting place is
-  formats_by slot_state.Open place is = formats_closing place is
   formats_by slot_state.Writing place is = formats_cutting place is
+  formats_by _ place is = formats_closing place is
 
   pub formats_on : AsksOn (Format next) order pages phase body request belief dump
   formats_on = formats_by order.state f.place its_names
@@ -283,11 +275,10 @@ asks_on (Format own) order pages phase body belief dump plan next request was gi
   where
     own_plan : Some own ≡ Some plan → plan ≡ own
     own_plan e = cc
-asks_on Freeze order pages phase body belief dump plan next request was gives s = absurd (let no : None ≡ Some plan = was in cc)
-asks_on PassStage order pages phase body belief dump plan next request was gives s = absurd (let no : None ≡ Some plan = was in cc)
 asks_on (Close own header tables) order pages phase body belief dump plan next request was gives s =
     let mine : Gives own next request = subst (λ p. Gives p next request) (own_plan was) gives in
     (asked_ready phase Whole body (image_text (image_of header pages tables)) own next request mine s.leads, closes_on order pages phase body belief dump own next request mine header tables s)
   where
     own_plan : Some own ≡ Some plan → plan ≡ own
     own_plan e = cc
+asks_on _ order pages phase body belief dump plan next request was gives s = absurd (let no : None ≡ Some plan = was in cc)

@@ -81,10 +81,6 @@ module _ (places : Places) (store : Store) (beliefs : List Belief) (in_use : IsC
     asked_beside : (source : Source) (image : Image) → source.serial ≡ image.header.serial → Contains store.catalog image → ((k : ℕ) → IsReserved running k → IsUnread places (Some source) k)
         → (target : ℕ) (stage : CopyStage) (page : Option Place) (request : Option Asked)
         → IsAskedIn stage phases bodies store beliefs None target image page request → IsAskedIn stage phases bodies store beliefs (Some running) target image page request
-    asked_beside source image serial there unread target (copy.Format plan) page None a = tt
-    asked_beside source image serial there unread target (copy.Format plan) page (Some request) a = a
-    asked_beside source image serial there unread target copy.Pass page None a = tt
-    asked_beside source image serial there unread target copy.Pass page (Some request) a = a
     asked_beside source image serial there unread target (copy.PageRead plan) page None a = absurd a
     asked_beside source image serial there unread target (copy.PageRead plan) page (Some request) a = record {
       at = a.at;
@@ -104,9 +100,8 @@ module _ (places : Places) (store : Store) (beliefs : List Belief) (in_use : IsC
       holds = a.holds;
     }
     asked_beside source image serial there unread target (copy.PageWrite plan) page None a = absurd a
-    asked_beside source image serial there unread target (copy.PageWrite plan) page (Some request) a = a
-    asked_beside source image serial there unread target (copy.Close plan header tables) page None a = tt
-    asked_beside source image serial there unread target (copy.Close plan header tables) page (Some request) a = a
+    asked_beside source image serial there unread target _ page None a = tt
+    asked_beside source image serial there unread target _ page (Some request) a = a
 
     copying_beside : (at : ℕ) (origin : Source) (made : Copying) → ((k : ℕ) → IsReserved running k → k ≢ at) → ((k : ℕ) → IsReserved running k → IsUnread places (Some origin) k)
         → IsCopyOfSource phases asked bodies last store beliefs None at origin made → IsCopyOfSource phases asked bodies last store beliefs (Some running) at origin made

@@ -32,9 +32,8 @@ file_of (b ∷ beliefs) (file ∷ files) all (suc slot) belief is = file_of beli
 
 -- the number that an image stands for, and its parent, are at most its serial
 pub numbers_fall : (kind : Kind) (serial stands parent : ℕ) → AreNumbers kind serial stands parent → (stands ≤ serial) × (parent ≤ serial)
-numbers_fall PreDump serial stands parent is = let same = is.0 in let less = is.1 in (omega (arith, same), omega (arith, less))
-numbers_fall Dump serial stands parent is = let same = is.0 in let less = is.1 in (omega (arith, same), omega (arith, less))
 numbers_fall Merged serial stands parent is = let less = is.1 in let alone = is.2 in (omega (arith, less), omega (arith, alone))
+numbers_fall _ serial stands parent is = let same = is.0 in let less = is.1 in (omega (arith, same), omega (arith, less))
 
 module _ (core : CoreView) (files : List (List ℕ)) (is : IsOpenAs core files) (beliefs : List Belief) (found : AllZip IsFoundAs beliefs files)
     (in_use : IsCatalogInUse core.catalog beliefs) where
@@ -58,11 +57,10 @@ module _ (core : CoreView) (files : List (List ℕ)) (is : IsOpenAs core files) 
       (omega (arith, few, stands), omega (arith, few, parent))
 
   slot_serial : (slot : ℕ) (i : Image) (o : Option Belief) → slice_get beliefs slot ≡ o → option_and_then image_in o ≡ Some i → i.header.serial ≤ last
-  slot_serial slot i None at has = absurd cc
-  slot_serial slot i (Some Closed) at has = absurd cc
   slot_serial slot i (Some (Kept j)) at has = kept_serial slot i (at ∙ ap (λ x. Some (Kept x)) (same_Some j i has))
   slot_serial slot i (Some (Closing j)) at has = absurd (file_of beliefs files found slot (Closing j) at).1
   slot_serial slot i (Some (Opening j)) at has = absurd (file_of beliefs files found slot (Opening j) at).1
+  slot_serial slot i _ at has = absurd cc
 
   -- an image of the store
   kept_in : (store_images : List Image) → AreSlotsOf (found_store store_images) None beliefs → (i : Image) → Contains store_images i

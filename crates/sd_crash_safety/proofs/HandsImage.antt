@@ -51,11 +51,9 @@ files_after PreDump (Format own) plan [] order pass pages is = tt
 files_after Merged (Format own) plan [] order pass pages is = tt
 files_after kind Freeze plan [] order pass pages is = tt
 files_after kind PassStage plan [] order pass pages is = tt
-files_after kind (Close own header tables) plan [] order pass pages is = tt
 files_after kind (Format own) plan (c ∷ calls) order pass pages is = tt
-files_after kind Freeze plan (c ∷ calls) order pass pages is = tt
-files_after kind PassStage plan (c ∷ calls) order pass pages is = tt
 files_after kind (Close own header tables) plan (c ∷ calls) order pass pages is = is
+files_after _ _ plan _ order pass pages is = tt
 
 pub areas_after : (kind : Kind) (stage : Stage) (plan : Planned) (calls : Calls) (cut : Contents) → HasAreasIn stage cut → HasAreasIn (stage_after kind stage plan calls) cut
 areas_after Dump (Format own) plan [] cut is = tt
@@ -63,11 +61,9 @@ areas_after PreDump (Format own) plan [] cut is = tt
 areas_after Merged (Format own) plan [] cut is = tt
 areas_after kind Freeze plan [] cut is = tt
 areas_after kind PassStage plan [] cut is = tt
-areas_after kind (Close own header tables) plan [] cut is = tt
 areas_after kind (Format own) plan (c ∷ calls) cut is = tt
-areas_after kind Freeze plan (c ∷ calls) cut is = tt
-areas_after kind PassStage plan (c ∷ calls) cut is = tt
 areas_after kind (Close own header tables) plan (c ∷ calls) cut is = is
+areas_after _ _ plan _ cut is = tt
 
 -- a dump that is frozen now was frozen before
 pub was_frozen : (kind : Kind) (stage : Stage) (plan own : Planned) (calls : Calls) → plan_of stage ≡ Some own
@@ -78,12 +74,10 @@ was_frozen Merged (Format o) plan own [] was is = absurd (false≢true is)
 was_frozen kind Freeze plan own [] was is = absurd (let no : None ≡ Some own = was in cc)
 was_frozen kind PassStage plan own [] was is = refl
 was_frozen kind (Close o header tables) plan own [] was is = refl
-was_frozen Dump (Format o) plan own (c ∷ calls) was is = absurd (false≢true is)
-was_frozen PreDump (Format o) plan own (c ∷ calls) was is = absurd (false≢true is)
-was_frozen Merged (Format o) plan own (c ∷ calls) was is = absurd (false≢true is)
 was_frozen kind Freeze plan own (c ∷ calls) was is = absurd (let no : None ≡ Some own = was in cc)
 was_frozen kind PassStage plan own (c ∷ calls) was is = refl
 was_frozen kind (Close o header tables) plan own (c ∷ calls) was is = refl
+was_frozen _ (Format o) plan own _ was is = absurd (false≢true is)
 
 -- ---- its slot
 
@@ -106,8 +100,7 @@ module _ (order : ImageOrder) (pages : Pages) (phase : Phase) (body : List ℕ) 
   behind_format : (kind : Kind) (own : Planned) → IsSlotFor PassStage order pages then_phase then_body None then_belief dump
       → IsSlotFor (stage_behind kind (Format own)) order pages then_phase then_body None then_belief dump
   behind_format Dump own is = is
-  behind_format PreDump own is = is
-  behind_format Merged own is = is
+  behind_format _ own is = is
 
   format_goes_on : (own : Planned) (calls : Calls) → next.calls ≡ calls → next.calls ≡ own.calls → next.slot ≡ own.slot → pages ≡ []
       → IsSlotFor (Format own) order pages phase body (Some request) belief dump → SlotGoesOn (stage_after order.kind (Format own) next calls) order pages phase body request belief dump
@@ -153,8 +146,6 @@ hands_slot (Format own) order pages phase body request belief dump plan next was
   where
     own_plan : Some own ≡ Some plan → plan ≡ own
     own_plan e = cc
-hands_slot Freeze order pages phase body request belief dump plan next was calls on empty closes s = absurd (let no : None ≡ Some plan = was in cc)
-hands_slot PassStage order pages phase body request belief dump plan next was calls on empty closes s = absurd (let no : None ≡ Some plan = was in cc)
 hands_slot (Close own header tables) order pages phase body request belief dump plan next was calls on empty closes s =
     let its = closes own header tables refl in
     close_goes_on order pages phase body request belief dump next own header tables next.calls refl (calls ∙ ap (λ (p : Planned). p.calls) (own_plan was)) (on ∙ ap (λ (p : Planned). p.slot) (own_plan was))
@@ -162,3 +153,4 @@ hands_slot (Close own header tables) order pages phase body request belief dump 
   where
     own_plan : Some own ≡ Some plan → plan ≡ own
     own_plan e = cc
+hands_slot _ order pages phase body request belief dump plan next was calls on empty closes s = absurd (let no : None ≡ Some plan = was in cc)

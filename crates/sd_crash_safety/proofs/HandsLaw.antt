@@ -124,9 +124,8 @@ pub record StoreFollows (old : Store) (beliefs : List Belief) (slot : ℕ) (beli
 
 pub known_plan : (order : ImageOrder) (pass : Pass) (stage : Stage) (plan : Planned) → plan_of stage ≡ Some plan → IsReadyFor order pass stage → plan.awaits ≡ nothing
 known_plan order pass (Format own) plan was ready = ap (λ (p : Planned). p.awaits) (sym (same_Some own plan was)) ∙ ready.1.known
-known_plan order pass Freeze plan was ready = absurd (let no : None ≡ Some plan = was in cc)
-known_plan order pass PassStage plan was ready = absurd (let no : None ≡ Some plan = was in cc)
 known_plan order pass (Close own header tables) plan was ready = ap (λ (p : Planned). p.awaits) (sym (same_Some own plan was)) ∙ ready.1.known
+known_plan order pass _ plan was ready = absurd (let no : None ≡ Some plan = was in cc)
 
 no_pages : (pages : Pages) → length pages ≡ 0 → pages ≡ []
 no_pages [] none = refl

@@ -46,18 +46,12 @@ doubt_opens body strong is weaker = opens_so body is.0 is.2 (weaker (elim is.1 [
 ]))
 
 pub closed_exact : (phase : Phase) (body : List ℕ) → MayBelieve phase body Closed → IsBelievedAs phase body Closed
-closed_exact Raw body may = refl
-closed_exact RawClosing body may = refl
 closed_exact Whole body may = absurd (let is = may.is in opens_so body is.0 is.2 (may.weaker (gate ∷ body) (subst (λ b. FitsBelief b (gate ∷ body)) (sym is.1) is.2)))
 closed_exact ClosingPhase body may = absurd (doubt_opens body may.strong may.is (may.weaker (gate ∷ body)))
-closed_exact Shut body may = refl
-closed_exact ShutSynced body may = refl
-closed_exact Bare body may = refl
-closed_exact Writing body may = refl
-closed_exact Ready body may = refl
 closed_exact OpeningPhase body may = absurd (doubt_opens body may.strong may.is (may.weaker (gate ∷ body)))
 closed_exact Doubt body may = absurd (doubt_opens body may.strong may.is (may.weaker (gate ∷ body)))
 closed_exact DoubtSynced body may = absurd (doubt_opens body may.strong may.is (may.weaker (gate ∷ body)))
+closed_exact _ body may = refl
 
 -- ---- formatting
 
@@ -69,28 +63,17 @@ belief_after false belief = belief
 formatted_sync : (phase : Phase) (body : List ℕ) (belief : Belief) → may_write (synced phase) ≡ true → IsBelievedAs phase body belief
     → IsBelievedAs (synced phase) body (belief_after (closes_for_sure phase Sync) belief)
 formatted_sync Raw body belief may is = absurd (false≢true may)
-formatted_sync RawClosing body belief may is = is
 formatted_sync Whole body belief may is = absurd (false≢true may)
 formatted_sync ClosingPhase body belief may is = refl
-formatted_sync Shut body belief may is = is
-formatted_sync ShutSynced body belief may is = is
-formatted_sync Bare body belief may is = is
-formatted_sync Writing body belief may is = is
-formatted_sync Ready body belief may is = is
 formatted_sync OpeningPhase body belief may is = absurd (false≢true may)
 formatted_sync Doubt body belief may is = absurd (false≢true may)
 formatted_sync DoubtSynced body belief may is = absurd (false≢true may)
+formatted_sync _ body belief may is = is
 
 -- no other call than a sync closes for sure
 only_syncs : (phase : Phase) (call : Call) → call ≢ Sync → closes_for_sure phase call ≡ false
-only_syncs phase Len other = and_false (is_being_closed phase)
-only_syncs phase (Read at) other = and_false (is_being_closed phase)
-only_syncs phase (Write at) other = and_false (is_being_closed phase)
-only_syncs phase WriteHeader other = and_false (is_being_closed phase)
-only_syncs phase CloseCall other = and_false (is_being_closed phase)
-only_syncs phase Open other = and_false (is_being_closed phase)
-only_syncs phase Cut other = and_false (is_being_closed phase)
 only_syncs phase Sync other = absurd (other refl)
+only_syncs phase _ other = and_false (is_being_closed phase)
 
 -- ---- the calls that are left
 
@@ -188,10 +171,9 @@ module _ (order : ImageOrder) (plan next : Planned) (phase : Phase) (body : List
 
   by_state : (state : SlotState) (place : ℕ) → request.id.call ∷ map kind_of_call plan.calls ≡ drop place (map kind_of_call (format_calls state))
       → IsBelievedAs then_phase then_body then_belief
-  by_state slot_state.Raw place is = by_closing place is
   by_state slot_state.Closed place is = by_cutting place is
-  by_state slot_state.Open place is = by_closing place is
   by_state slot_state.Writing place is = by_cutting place is
+  by_state _ place is = by_closing place is
 
   pub formatted_then : IsBelievedAs then_phase then_body then_belief
   formatted_then = by_state order.state f.place f.left
@@ -219,18 +201,12 @@ module _ (order : ImageOrder) (plan next : Planned) (phase : Phase) (body : List
 -- ---- one whose body is being closed
 
 not_closing : (phase : Phase) → is_ready (synced phase) Open ≡ true → is_being_closed phase ≡ false
-not_closing Raw may = absurd (false≢true may)
-not_closing RawClosing may = absurd (false≢true may)
-not_closing Whole may = absurd (false≢true may)
-not_closing ClosingPhase may = absurd (false≢true may)
 not_closing Shut may = refl
 not_closing ShutSynced may = refl
 not_closing Bare may = refl
 not_closing Writing may = refl
 not_closing Ready may = refl
-not_closing OpeningPhase may = absurd (false≢true may)
-not_closing Doubt may = absurd (false≢true may)
-not_closing DoubtSynced may = absurd (false≢true may)
+not_closing _ may = absurd (false≢true may)
 
 pub record ClosesOn (order : ImageOrder) (i : Image) (next : Planned) (phase : Phase) (body : List ℕ) (request : Asked) (belief : Belief) (dump : Option Image) : Type 0 where
   pub closing_is : ClosesBody order i next (after phase request.id.call true) (body_after body request.id.call request.bytes) None belief dump
@@ -330,28 +306,12 @@ both_true true b is = (refl, is)
 both_true false b is = absurd (false≢true is)
 
 is_closing_phase : (phase : Phase) → is_being_closed phase ≡ true → phase ≡ ClosingPhase
-is_closing_phase Raw is = absurd (false≢true is)
-is_closing_phase RawClosing is = absurd (false≢true is)
-is_closing_phase Whole is = absurd (false≢true is)
 is_closing_phase ClosingPhase is = refl
-is_closing_phase Shut is = absurd (false≢true is)
-is_closing_phase ShutSynced is = absurd (false≢true is)
-is_closing_phase Bare is = absurd (false≢true is)
-is_closing_phase Writing is = absurd (false≢true is)
-is_closing_phase Ready is = absurd (false≢true is)
-is_closing_phase OpeningPhase is = absurd (false≢true is)
-is_closing_phase Doubt is = absurd (false≢true is)
-is_closing_phase DoubtSynced is = absurd (false≢true is)
+is_closing_phase _ is = absurd (false≢true is)
 
 is_sync_call : (call : Call) → is_sync call ≡ true → call ≡ Sync
-is_sync_call Len is = absurd (false≢true is)
-is_sync_call (Read at) is = absurd (false≢true is)
-is_sync_call (Write at) is = absurd (false≢true is)
-is_sync_call WriteHeader is = absurd (false≢true is)
-is_sync_call CloseCall is = absurd (false≢true is)
-is_sync_call Open is = absurd (false≢true is)
-is_sync_call Cut is = absurd (false≢true is)
 is_sync_call Sync is = refl
+is_sync_call _ is = absurd (false≢true is)
 
 pub syncs_closing : (phase : Phase) (call : Call) → closes_for_sure phase call ≡ true → (phase ≡ ClosingPhase) × (call ≡ Sync)
 syncs_closing phase call is =
@@ -365,10 +325,9 @@ pub closing_in_doubt : (stage : Stage) (order : ImageOrder) (pages : Pages) (pha
 closing_in_doubt (Format own) order pages phase body request belief dump plan was some s is =
     let both = syncs_closing phase request.id.call is in
     subst (λ p. IsBelievedAs p body belief) both.0 (s.0.formatted.1 (λ closes. (let no : Sync ≡ CloseCall = sym both.1 ∙ closes in cc)))
-closing_in_doubt Freeze order pages phase body request belief dump plan was some s is = absurd (let no : Some request ≡ None = s.1 in cc)
-closing_in_doubt PassStage order pages phase body request belief dump plan was some s is = absurd (let no : Some request ≡ None = s.1 in cc)
 closing_in_doubt (Close own header tables) order pages phase body request belief dump plan was some s is =
     absurd (false≢true (sym (closes_more order (image_of header pages tables) own own phase body request belief dump s (λ none. some own header tables refl (ap (λ (p : Planned). p.calls) (own_plan was) ∙ none)) refl refl).stays ∙ is))
   where
     own_plan : Some own ≡ Some plan → plan ≡ own
     own_plan e = cc
+closing_in_doubt _ order pages phase body request belief dump plan was some s is = absurd (let no : Some request ≡ None = s.1 in cc)

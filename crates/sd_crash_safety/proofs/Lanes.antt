@@ -20,13 +20,10 @@ use Rattle.sd_crash_safety.specs.View.{page_lane}
 
 -- the lanes of the workers are others
 pub lanes_beside : (asked : List (Option Asked)) (worker : ℕ) (x : Option Asked) → worker < 3 → lanes_of (slice_set asked worker x) ≡ lanes_of asked
-lanes_beside [] worker x few = refl
 lanes_beside (a ∷ asked) zero x few = refl
-lanes_beside (a ∷ []) (suc worker) x few = refl
 lanes_beside (a ∷ b ∷ asked) (suc zero) x few = refl
-lanes_beside (a ∷ b ∷ []) (suc (suc worker)) x few = refl
-lanes_beside (a ∷ b ∷ c ∷ asked) (suc (suc zero)) x few = refl
 lanes_beside (a ∷ b ∷ c ∷ asked) (suc (suc (suc worker))) x few = absurd (omega (arith, few))
+lanes_beside _ _ x few = refl
 
 set_far : (asked : List (Option Asked)) (lane : ℕ) (x : Option Asked) → lanes_of (slice_set asked (suc (suc (suc lane))) x) ≡ slice_set (lanes_of asked) lane x
 set_far [] lane x = refl
@@ -39,10 +36,8 @@ far lane = omega arith
 
 -- a lane of a worker, or one of pages
 pub lane_cases : (lane : ℕ) → (lane < 3) ⊎ ((k : ℕ) × (lane ≡ page_lane k))
-lane_cases zero = inl (omega arith)
-lane_cases (suc zero) = inl (omega arith)
-lane_cases (suc (suc zero)) = inl (omega arith)
 lane_cases (suc (suc (suc k))) = inr (k, omega arith)
+lane_cases _ = inl (omega arith)
 
 pub lanes_set : (asked : List (Option Asked)) (lane : ℕ) (x : Option Asked) → lanes_of (slice_set asked (page_lane lane) x) ≡ slice_set (lanes_of asked) lane x
 lanes_set asked lane x = ap (λ k. lanes_of (slice_set asked k x)) (far lane) ∙ set_far asked lane x
@@ -151,12 +146,11 @@ pub put_cases : (lanes : List (Option Asked)) (lane other : ℕ) (x : Option Ask
     → ((other ≢ lane) × (slice_get lanes other ≡ Some (Some r))) ⊎ ((other ≡ lane) × (x ≡ Some r))
 put_cases [] lane other x r is = absurd (let no : None ≡ Some (Some r) = is in cc)
 put_cases (a ∷ lanes) zero zero x r is = inr (refl, same_Some x (Some r) is)
-put_cases (a ∷ lanes) zero (suc other) x r is = inl ((λ same. omega (arith, same)), is)
-put_cases (a ∷ lanes) (suc lane) zero x r is = inl ((λ same. omega (arith, same)), is)
 put_cases (a ∷ lanes) (suc lane) (suc other) x r is = elim (put_cases lanes lane other x r is) [
   | inl was ↦ inl ((λ same. was.0 (omega (arith, same))), was.1)
   | inr here ↦ inr (ap suc here.0, here.1)
 ]
+put_cases (a ∷ lanes) _ _ x r is = inl ((λ same. omega (arith, same)), is)
 
 pub pages_more : (slot : ℕ) (lanes : List (Option Asked)) (lane : ℕ) (request : Asked) → ArePagesOf slot lanes → IsPageOf slot request → IsOther request lanes
     → ArePagesOf slot (slice_set lanes lane (Some request))
@@ -190,7 +184,5 @@ pages_less slot lanes lane are = record {
 -- ---- a plan is made outside the pass
 
 pub plan_outside : (stage : Stage) (plan : Planned) → plan_of stage ≡ Some plan → is_passing stage ≡ false
-plan_outside (Format own) plan is = refl
-plan_outside Freeze plan is = refl
 plan_outside PassStage plan is = absurd (let no : None ≡ Some plan = is in cc)
-plan_outside (Close own header tables) plan is = refl
+plan_outside _ plan is = refl

@@ -20,15 +20,5 @@ pub leads_end : (phase last : Phase) (body final : List ℕ) → Leads phase bod
 leads_end _ _ _ _ (no_call phase body) = (refl, refl)
 
 pub is_whole : (phase : Phase) → (phase ≡ Whole) ⊎ (phase ≢ Whole)
-is_whole Raw = inr (λ same. cc)
-is_whole RawClosing = inr (λ same. cc)
 is_whole Whole = inl refl
-is_whole Closing = inr (λ same. cc)
-is_whole Shut = inr (λ same. cc)
-is_whole ShutSynced = inr (λ same. cc)
-is_whole Bare = inr (λ same. cc)
-is_whole Writing = inr (λ same. cc)
-is_whole Ready = inr (λ same. cc)
-is_whole Opening = inr (λ same. cc)
-is_whole Doubt = inr (λ same. cc)
-is_whole DoubtSynced = inr (λ same. cc)
+is_whole _ = inr (λ same. cc)

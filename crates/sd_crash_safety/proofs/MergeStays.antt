@@ -128,10 +128,6 @@ module _ (last : ℕ) (store : Store) (running : Option Running) (old : Slots) (
   asked_in_then : (target : ℕ) (source : Image) → HoldsStill store.catalog store_now.catalog source → (stage : CopyStage) (page : Option Place) (request : Option Asked)
       → IsAskedIn stage old.phases old.bodies store old.beliefs running target source page request
       → IsAskedIn stage new.phases new.bodies store_now new.beliefs running_now target source page request
-  asked_in_then target source still (copy.Format plan) page None a = tt
-  asked_in_then target source still (copy.Format plan) page (Some request) a = a
-  asked_in_then target source still copy.Pass page None a = tt
-  asked_in_then target source still copy.Pass page (Some request) a = a
   asked_in_then target source still (copy.PageRead plan) page None a = absurd a
   asked_in_then target source still (copy.PageRead plan) page (Some request) a =
       let same = leaves.same request.id.slot a.spared in
@@ -153,9 +149,8 @@ module _ (last : ℕ) (store : Store) (running : Option Running) (old : Slots) (
         holds = still.holds a.at.0 a.at.1 a.bytes a.holds;
       }
   asked_in_then target source still (copy.PageWrite plan) page None a = absurd a
-  asked_in_then target source still (copy.PageWrite plan) page (Some request) a = a
-  asked_in_then target source still (copy.Close plan header tables) page None a = tt
-  asked_in_then target source still (copy.Close plan header tables) page (Some request) a = a
+  asked_in_then target source still _ page None a = tt
+  asked_in_then target source still _ page (Some request) a = a
 
   copy_then : (target : ℕ) (source : Image) (made : Copying) → store.source ≡ Some source → IsSpared running target
       → IsCopyOn old.phases asked old.bodies last store old.beliefs running target source made

@@ -60,7 +60,6 @@ pub plan_in_slot : (stage : CopyStage) (entries : List ImageEntry) (taking : Opt
     → (plan_of (stage_in_slot stage) ≡ Some plan) × (stage_in_slot (copy_with stage next) ≡ with_plan (stage_in_slot stage) next)
     × ((r : Option Asked) → request_in_slot (copy_with stage next) r ≡ r) × ((r : Option Asked) → request_in_slot stage r ≡ r)
     × ((r : Option Asked) → lanes_in_slot (copy_with stage next) r ≡ []) × ((r : Option Asked) → lanes_in_slot stage r ≡ [])
-plan_in_slot (copy.Format own) entries taking read plan next request ready other was gives = (was, refl, λ r. refl, λ r. refl, λ r. refl, λ r. refl)
 plan_in_slot copy.Pass entries taking read plan next request ready other was gives = absurd (let no : None ≡ Some plan = was in cc)
 plan_in_slot (copy.PageRead own) entries taking read plan next request ready other was gives =
     absurd (none_given (sym (ready.2.last) ∙ ap (λ (p : Planned). p.calls) (same_Some own plan was) ∙ gives.next))
@@ -68,7 +67,7 @@ plan_in_slot (copy.PageRead own) entries taking read plan next request ready oth
     none_given : [] ≡ (request.id.call, request.bytes) ∷ next.calls → ⊥
     none_given same = cc
 plan_in_slot (copy.PageWrite own) entries taking read plan next request ready other was gives = absurd (other own refl)
-plan_in_slot (copy.Close own header tables) entries taking read plan next request ready other was gives = (was, refl, λ r. refl, λ r. refl, λ r. refl, λ r. refl)
+plan_in_slot _ entries taking read plan next request ready other was gives = (was, refl, λ r. refl, λ r. refl, λ r. refl, λ r. refl)
 
 pub copy_on : (catalog : List Image) (source : Image) (pages : Pages) (made : Copying) (next : Planned) → KeepsCopy catalog source pages made
     → KeepsCopy catalog source pages (record made { stage = copy_with made.stage next })
@@ -89,20 +88,15 @@ asked_with : (stage : CopyStage) (next : Planned) (plan : Planned) (request : As
     → request.id.slot ≡ target → IsAskedIn (copy_with stage next) phases bodies store beliefs running target source page (Some request)
 asked_with (copy.Format own) next plan request is phases bodies store beliefs running target source page on = on
 asked_with copy.Pass next plan request is phases bodies store beliefs running target source page on = on
-asked_with (copy.PageRead own) next plan request is phases bodies store beliefs running target source page on =
-    absurd (let no : None ≡ Some request = is (Some request) in cc)
-asked_with (copy.PageWrite own) next plan request is phases bodies store beliefs running target source page on =
-    absurd (let no : None ≡ Some request = is (Some request) in cc)
 asked_with (copy.Close own header tables) next plan request is phases bodies store beliefs running target source page on = on
+asked_with _ next plan request is phases bodies store beliefs running target source page on =
+    absurd (let no : None ≡ Some request = is (Some request) in cc)
 
 -- the image that is opened
 its_stage : (stage : CopyStage) (p : Planned) (pages : Pages) (i : Image) → image_in_stage (with_plan (stage_in_slot stage) p) pages ≡ Some i
     → (header : Header) × (tables : List Listed) × (plan : Planned) × (stage ≡ copy.Close plan header tables) × (i ≡ image_of header pages tables)
-its_stage (copy.Format own) p pages i is = absurd (let no : None ≡ Some i = is in cc)
-its_stage copy.Pass p pages i is = absurd (let no : None ≡ Some i = is in cc)
-its_stage (copy.PageRead own) p pages i is = absurd (let no : None ≡ Some i = is in cc)
-its_stage (copy.PageWrite own) p pages i is = absurd (let no : None ≡ Some i = is in cc)
 its_stage (copy.Close own header tables) p pages i is = (header, tables, own, refl, sym (same_Some (image_of header pages tables) i is))
+its_stage _ p pages i is = absurd (let no : None ≡ Some i = is in cc)
 
 module _ (quiet : QuietSteps) (gates : GateSteps) (files_of : FileLaws) (repeats : MergedRepeats) (follows : CatalogFollows) (making : MakingLaws)
     (old new : CoreView) (merge : merger.Running) (made next : Copying) (ticket : ℕ) (request : Asked) (asked : List (Option Asked)) (bodies files : List (List ℕ))

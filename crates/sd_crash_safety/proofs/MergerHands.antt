@@ -89,18 +89,15 @@ fails_lem quiet old new made phase g asked bodies files at told b = record {
 
 -- no page is read or written
 abbrev IsOwn : CopyStage → Type 0
-IsOwn (copy.Format plan) = Unit {0}
-IsOwn copy.Pass = Unit {0}
 IsOwn (copy.PageRead plan) = ⊥
 IsOwn (copy.PageWrite plan) = ⊥
-IsOwn (copy.Close plan header tables) = Unit {0}
+IsOwn _ = Unit {0}
 
 own_plan : (stage : CopyStage) (plan : Planned) → IsOwn stage → copy_plan stage ≡ Some plan → plan_of (stage_in_slot stage) ≡ Some plan
-own_plan (copy.Format p) plan own was = was
 own_plan copy.Pass plan own was = absurd (let no : None ≡ Some plan = was in cc)
 own_plan (copy.PageRead p) plan own was = absurd own
 own_plan (copy.PageWrite p) plan own was = absurd own
-own_plan (copy.Close p header tables) plan own was = was
+own_plan _ plan own was = was
 
 own_after : (stage : CopyStage) (next : Planned) (calls : Calls) → IsOwn stage → stage_in_slot (copy_after stage next calls) ≡ stage_after Merged (stage_in_slot stage) next calls
 own_after (copy.Format p) next [] own = refl
@@ -108,95 +105,70 @@ own_after copy.Pass next [] own = refl
 own_after (copy.PageRead p) next [] own = absurd own
 own_after (copy.PageWrite p) next [] own = absurd own
 own_after (copy.Close p header tables) next [] own = refl
-own_after (copy.Format p) next (c ∷ calls) own = refl
-own_after copy.Pass next (c ∷ calls) own = refl
 own_after (copy.PageRead p) next (c ∷ calls) own = absurd own
 own_after (copy.PageWrite p) next (c ∷ calls) own = absurd own
-own_after (copy.Close p header tables) next (c ∷ calls) own = refl
+own_after _ next _ own = refl
 
 own_request : (stage : CopyStage) (r : Option Asked) → IsOwn stage → request_in_slot stage r ≡ r
-own_request (copy.Format p) r own = refl
-own_request copy.Pass r own = refl
 own_request (copy.PageRead p) r own = absurd own
 own_request (copy.PageWrite p) r own = absurd own
-own_request (copy.Close p header tables) r own = refl
+own_request _ r own = refl
 
 no_request : (stage : CopyStage) → request_in_slot stage None ≡ None
 no_request (copy.Format p) = refl
-no_request copy.Pass = refl
-no_request (copy.PageRead p) = refl
-no_request (copy.PageWrite p) = refl
-no_request (copy.Close p header tables) = refl
+no_request _ = refl
 
 own_lanes : (stage : CopyStage) (r : Option Asked) → IsOwn stage → lanes_in_slot stage r ≡ []
-own_lanes (copy.Format p) r own = refl
-own_lanes copy.Pass r own = refl
 own_lanes (copy.PageRead p) r own = absurd own
 own_lanes (copy.PageWrite p) r own = absurd own
-own_lanes (copy.Close p header tables) r own = refl
+own_lanes _ r own = refl
 
 -- a body is as it is where nothing is out
 none_written : (stage : CopyStage) (body : List ℕ) → body_written body (lanes_in_slot stage None) ≡ body
 none_written (copy.Format p) body = refl
-none_written copy.Pass body = refl
-none_written (copy.PageRead p) body = refl
-none_written (copy.PageWrite p) body = refl
-none_written (copy.Close p header tables) body = refl
+none_written _ body = refl
 
 own_asked : (stage : CopyStage) (phases : List Phase) (bodies : List (List ℕ)) (store : Store) (beliefs : List Belief) (running : Option Running) (target : ℕ) (source : Image) (page : Option Place)
     (request : Asked) → IsOwn stage → IsAskedIn stage phases bodies store beliefs running target source page (Some request) → request.id.slot ≡ target
-own_asked (copy.Format p) phases bodies store beliefs running target source page request own is = is
-own_asked copy.Pass phases bodies store beliefs running target source page request own is = is
 own_asked (copy.PageRead p) phases bodies store beliefs running target source page request own is = absurd own
 own_asked (copy.PageWrite p) phases bodies store beliefs running target source page request own is = absurd own
-own_asked (copy.Close p header tables) phases bodies store beliefs running target source page request own is = is
+own_asked _ phases bodies store beliefs running target source page request own is = is
 
 none_asked : (stage : CopyStage) (next : Planned) (calls : Calls) (phases : List Phase) (bodies : List (List ℕ)) (store : Store) (beliefs : List Belief) (running : Option Running) (target : ℕ)
     (source : Image) (page : Option Place) → IsOwn stage → IsAskedIn (copy_after stage next calls) phases bodies store beliefs running target source page None
 none_asked (copy.Format p) next [] phases bodies store beliefs running target source page own = tt
 none_asked copy.Pass next [] phases bodies store beliefs running target source page own = tt
-none_asked (copy.PageRead p) next [] phases bodies store beliefs running target source page own = tt
-none_asked (copy.PageWrite p) next [] phases bodies store beliefs running target source page own = tt
 none_asked (copy.Close p header tables) next [] phases bodies store beliefs running target source page own = tt
-none_asked (copy.Format p) next (c ∷ calls) phases bodies store beliefs running target source page own = tt
-none_asked copy.Pass next (c ∷ calls) phases bodies store beliefs running target source page own = tt
 none_asked (copy.PageRead p) next (c ∷ calls) phases bodies store beliefs running target source page own = absurd own
 none_asked (copy.PageWrite p) next (c ∷ calls) phases bodies store beliefs running target source page own = absurd own
-none_asked (copy.Close p header tables) next (c ∷ calls) phases bodies store beliefs running target source page own = tt
+none_asked _ next _ phases bodies store beliefs running target source page own = tt
 
 own_known : (stage : CopyStage) (entries : List ImageEntry) (taking : Option Place) (read : Option (List ℕ)) (plan : Planned) → IsOwn stage → IsReadyFor entries taking read stage
     → copy_plan stage ≡ Some plan → plan.awaits ≡ nothing
 own_known (copy.Format p) entries taking read plan own ready was = ap (λ (x : Planned). x.awaits) (sym (same_Some p plan was)) ∙ ready.2.known
 own_known copy.Pass entries taking read plan own ready was = absurd (let no : None ≡ Some plan = was in cc)
-own_known (copy.PageRead p) entries taking read plan own ready was = absurd own
-own_known (copy.PageWrite p) entries taking read plan own ready was = absurd own
 own_known (copy.Close p header tables) entries taking read plan own ready was = ap (λ (x : Planned). x.awaits) (sym (same_Some p plan was)) ∙ ready.2.known
+own_known _ entries taking read plan own ready was = absurd own
 
 -- a slot that is formatted has no pages yet
 own_empty : (stage : CopyStage) (entries : List ImageEntry) (taking : Option Place) (read : Option (List ℕ)) (own : Planned) → IsReadyFor entries taking read stage → stage_in_slot stage ≡ Format own → entries ≡ []
 own_empty (copy.Format p) entries taking read own ready is = ready.0
-own_empty copy.Pass entries taking read own ready is = absurd (let no : PassStage ≡ Format own = is in cc)
-own_empty (copy.PageRead p) entries taking read own ready is = absurd (let no : PassStage ≡ Format own = is in cc)
-own_empty (copy.PageWrite p) entries taking read own ready is = absurd (let no : PassStage ≡ Format own = is in cc)
 own_empty (copy.Close p header tables) entries taking read own ready is = absurd (let no : Close p header tables ≡ Format own = is in cc)
+own_empty _ entries taking read own ready is = absurd (let no : PassStage ≡ Format own = is in cc)
 
 -- a body that is closed
 own_closes : (stage : CopyStage) (own : Planned) (header : Header) (tables : List Listed) → stage_in_slot stage ≡ Close own header tables → stage ≡ copy.Close own header tables
 own_closes (copy.Format p) own header tables is = absurd (let no : Format p ≡ Close own header tables = is in cc)
-own_closes copy.Pass own header tables is = absurd (let no : PassStage ≡ Close own header tables = is in cc)
-own_closes (copy.PageRead p) own header tables is = absurd (let no : PassStage ≡ Close own header tables = is in cc)
-own_closes (copy.PageWrite p) own header tables is = absurd (let no : PassStage ≡ Close own header tables = is in cc)
 own_closes (copy.Close p h t) own header tables is = same is
   where
     same : Close p h t ≡ Close own header tables → copy.Close p h t ≡ copy.Close own header tables
     same e = cc
+own_closes _ own header tables is = absurd (let no : PassStage ≡ Close own header tables = is in cc)
 
 own_tells : (stage : CopyStage) (catalog : List Image) (source : Image) (taking : Option Place) (made : Made) → IsOwn stage → TellsIn stage catalog source taking made
-own_tells (copy.Format p) catalog source taking made own = tt
-own_tells copy.Pass catalog source taking made own = tt
 own_tells (copy.PageRead p) catalog source taking made own = absurd own
 own_tells (copy.PageWrite p) catalog source taking made own = absurd own
-own_tells (copy.Close p header tables) catalog source taking made own = tt
+own_tells _ catalog source taking made own = tt
 
 no_pages : (pages : Pages) → length pages ≡ 0 → pages ≡ []
 no_pages [] none = refl
@@ -554,13 +526,9 @@ module _ (quiet : QuietSteps) (making : MakingLaws) (merges : MergeLaws) (files_
 
   pub goes_on_by : GateSteps → ClosingRetires → StepsKeep → StepsGive → NeedsNoMore → CatalogFollows → CutHoldsTheSame → PageInFile
       → (stage : CopyStage) → made.stage ≡ stage → Believes new (asked_then asked) (bodies_then bodies call) files
-  goes_on_by gates closing_retires keeps gives needs follows cut in_file (copy.Format own) is =
-      goes_on_in_slot (subst IsOwn (sym is) tt) gates closing_retires keeps gives needs follows cut
-  goes_on_by gates closing_retires keeps gives needs follows cut in_file copy.Pass is =
-      goes_on_in_slot (subst IsOwn (sym is) tt) gates closing_retires keeps gives needs follows cut
   goes_on_by gates closing_retires keeps gives needs follows cut in_file (copy.PageRead own) is = goes_on_read in_file own is
   goes_on_by gates closing_retires keeps gives needs follows cut in_file (copy.PageWrite own) is = goes_on_written own is
-  goes_on_by gates closing_retires keeps gives needs follows cut in_file (copy.Close own header tables) is =
+  goes_on_by gates closing_retires keeps gives needs follows cut in_file _ is =
       goes_on_in_slot (subst IsOwn (sym is) tt) gates closing_retires keeps gives needs follows cut
 
 pub goes_on_lem : QuietSteps → GateSteps → MakingLaws → MergeLaws → FileLaws → ClosingRetires → StepsKeep → StepsGive → NeedsNoMore → CatalogFollows → CutHoldsTheSame → PageInFile

@@ -73,20 +73,18 @@ use Rattle.sd_crash_safety.proofs.WorkStays.{IsMakingNumber}
 -- ---- the dump whose gate is being opened
 
 dump_is : (kind : Kind) (i d : Image) → pending_dump kind i ≡ Some d → i ≡ d
-dump_is PreDump i d is = absurd (let no : None ≡ Some d = is in cc)
 dump_is Dump i d is = same_Some i d is
-dump_is Merged i d is = absurd (let no : None ≡ Some d = is in cc)
+dump_is _ i d is = absurd (let no : None ≡ Some d = is in cc)
 
 -- it has the serial of the image that the checkpoint makes
 pending_serial : (stage : Stage) (order : ImageOrder) (pass : Pass) (pages : Pages) (phase : Phase) (body : List ℕ) (request : Option Asked) (belief : Belief) (d : Image)
     → IsDumpFiledIn stage order pass pages → IsSlotFor stage order pages phase body request belief (Some d) → d.header.serial ≡ order.serial
 pending_serial (Format plan) order pass pages phase body request belief d files s = absurd (let no : Some d ≡ None = s.1 in cc)
-pending_serial Freeze order pass pages phase body request belief d files s = absurd (let no : Some d ≡ None = s.2 in cc)
-pending_serial PassStage order pass pages phase body request belief d files s = absurd (let no : Some d ≡ None = s.2 in cc)
 pending_serial (Close plan header tables) order pass pages phase body request belief d files s = elim (cases_Bool (is_opening_at s.place request)) [
   | inl opens ↦ ap (λ (x : Image). x.header.serial) (sym (dump_is order.kind (image_of header pages tables) d (sym (s.opening opens).1))) ∙ ap (λ h. h.serial) files.numbers
   | inr shut ↦ absurd (let no : Some d ≡ None = (s.shut shut).1 in cc)
 ]
+pending_serial _ order pass pages phase body request belief d files s = absurd (let no : Some d ≡ None = s.2 in cc)
 
 module _ (base : Base) (history : History) (grows : Bool) (memory : Contents) (phases : List Phase) (asked : List (Option Asked)) (bodies : List (List ℕ)) (last : ℕ) (store : Store)
     (beliefs : List Belief) where
@@ -513,7 +511,6 @@ module _ (quiet : QuietSteps) (gates : GateSteps) (making : MakingLaws) (keeps :
 
   opens_by : (done : MergeProgress) → TakesList (Some (record merge { doing = opened made.order.serial })) list done new.merger → Believes new asked_now bodies_now files
   opens_by progress.Strange r = absurd (let no : Some made.order.serial ≡ None = r.0 in cc)
-  opens_by progress.Failed r = absurd r
   opens_by progress.More r = believes_merge (Some (record r.running { doing = retiring (begun_at r.serial list 0 r.first) })) r.is (record {
     alone = alone;
     one = r.first;
@@ -524,9 +521,8 @@ module _ (quiet : QuietSteps) (gates : GateSteps) (making : MakingLaws) (keeps :
     later = λ place other behind has. listed other (s.listed.each place other has);
     apart = s.listed.apart;
   })
-  opens_by (progress.Opened one) r = absurd r
-  opens_by (progress.Closed one) r = absurd r
   opens_by (progress.Merged serial) r = believes_merge None r.is (alone, silent)
+  opens_by _ r = absurd r
 
   pub opens_it : Believes new asked_now bodies_now files
   opens_it = opens_by done s.retires

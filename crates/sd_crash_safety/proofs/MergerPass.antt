@@ -52,8 +52,6 @@ use Rattle.sd_crash_safety.proofs.WritesLaw.{first_is}
 
 -- an image that a slot keeps stands in a whole file
 pub kept_whole : (phase : Phase) (body : List ℕ) (i : Image) → IsBelievedAs phase body (Kept i) → (phase ≡ Whole) × IsImage (gate ∷ body) i
-kept_whole Raw body i is = absurd (let no : Kept i ≡ Closed = is in cc)
-kept_whole RawClosing body i is = absurd (let no : Kept i ≡ Closed = is in cc)
 kept_whole Whole body i is = (refl, subst (IsImage (gate ∷ body)) (its is.0 is.1) is.2)
   where
     its : (j : Image) → Kept i ≡ Kept j → j ≡ i
@@ -63,11 +61,6 @@ kept_whole ClosingPhase body i is = absurd (no_doubt body i is)
     no_doubt : (body : List ℕ) (i : Image) → IsInDoubt body (Kept i) → ⊥
     no_doubt body i (j, inl closing, file) = let no : Kept i ≡ Closing j = closing in cc
     no_doubt body i (j, inr opening, file) = let no : Kept i ≡ Opening j = opening in cc
-kept_whole Shut body i is = absurd (let no : Kept i ≡ Closed = is in cc)
-kept_whole ShutSynced body i is = absurd (let no : Kept i ≡ Closed = is in cc)
-kept_whole Bare body i is = absurd (let no : Kept i ≡ Closed = is in cc)
-kept_whole Writing body i is = absurd (let no : Kept i ≡ Closed = is in cc)
-kept_whole Ready body i is = absurd (let no : Kept i ≡ Closed = is in cc)
 kept_whole OpeningPhase body i is = absurd (no_doubt body i is)
   where
     no_doubt : (body : List ℕ) (i : Image) → IsInDoubt body (Kept i) → ⊥
@@ -83,6 +76,7 @@ kept_whole DoubtSynced body i is = absurd (no_doubt body i is)
     no_doubt : (body : List ℕ) (i : Image) → IsInDoubt body (Kept i) → ⊥
     no_doubt body i (j, inl closing, file) = let no : Kept i ≡ Closing j = closing in cc
     no_doubt body i (j, inr opening, file) = let no : Kept i ≡ Opening j = opening in cc
+kept_whole _ body i is = absurd (let no : Kept i ≡ Closed = is in cc)
 
 -- a merge has no dump of its own
 abbrev no_dump : Option Image

@@ -56,18 +56,12 @@ use Rattle.sd_crash_safety.proofs.Places.{has_too, set_same}
 
 -- the gate of an image that is kept may be closed
 image_closes : (phase : Phase) (body : List ℕ) (belief : Belief) (i : Image) → IsBelievedAs phase body belief → image_in belief ≡ Some i → may_close phase ≡ true
-image_closes Raw body belief i is has = refl
-image_closes RawClosing body belief i is has = refl
-image_closes Whole body belief i is has = refl
-image_closes ClosingPhase body belief i is has = refl
 image_closes Shut body belief i is has = absurd (let no : None ≡ Some i = sym (ap image_in is) ∙ has in cc)
 image_closes ShutSynced body belief i is has = absurd (let no : None ≡ Some i = sym (ap image_in is) ∙ has in cc)
 image_closes Bare body belief i is has = absurd (let no : None ≡ Some i = sym (ap image_in is) ∙ has in cc)
 image_closes Writing body belief i is has = absurd (let no : None ≡ Some i = sym (ap image_in is) ∙ has in cc)
 image_closes Ready body belief i is has = absurd (let no : None ≡ Some i = sym (ap image_in is) ∙ has in cc)
-image_closes OpeningPhase body belief i is has = refl
-image_closes Doubt body belief i is has = refl
-image_closes DoubtSynced body belief i is has = refl
+image_closes _ body belief i is has = refl
 
 -- what is believed of a slot in which an image stands
 believed_there : (beliefs : List Belief) (slot : ℕ) (i : Image) → image_at beliefs slot ≡ Some i → (belief : Belief) × (slice_get beliefs slot ≡ Some belief) × (image_in belief ≡ Some i)
@@ -287,7 +281,6 @@ module _ (quiet : QuietSteps) (gates : GateSteps) (making : MakingLaws) (closing
   ends is = believes_merge None is (alone, silent)
 
   pub retires_by : (done : MergeProgress) → HandsClosing r made done next → new.merger ≡ goes_on_with merge done next → Believes new (asked_then asked) (bodies_then bodies made) files
-  retires_by progress.Strange hands is = ends is
   retires_by progress.Failed hands is = absurd (false≢true (sym hands.failed ∙ s.ok))
   retires_by progress.More hands is = elim hands [
     | inl more ↦ goes_on more.0 is
@@ -295,7 +288,7 @@ module _ (quiet : QuietSteps) (gates : GateSteps) (making : MakingLaws) (closing
   ]
   retires_by (progress.Opened image) hands is = absurd hands
   retires_by (progress.Closed closed) hands is = goes_on hands.goes is
-  retires_by (progress.Merged serial) hands is = ends is
+  retires_by _ hands is = ends is
 
 pub retires_lem : QuietSteps → GateSteps → MakingLaws → ClosingRetires → StepsKeep → StepsGive → NeedsNoMore → CatalogFollows → CutHoldsTheSame → PlansLead
     → (old new : CoreView) (merge : merger.Running) (r next : Retiring) (made : Made) (phase : Phase) (done : MergeProgress)

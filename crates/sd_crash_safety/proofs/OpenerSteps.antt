@@ -38,38 +38,20 @@ use Rattle.sd_crash_safety.proofs.Places.{free_there, id_there, ids_set, nobody_
 -- a slot that was synced is found so, also when it is synced again
 synced_is_found : (phase : Phase) → IsRefound (synced phase) → IsRefound (synced (synced phase))
 synced_is_found Raw is = inr refl
-synced_is_found RawClosing is = inl refl
-synced_is_found Whole is = inl refl
-synced_is_found Closing is = inl refl
-synced_is_found Shut is = inl refl
-synced_is_found ShutSynced is = inl refl
-synced_is_found Bare is = inl refl
-synced_is_found Writing is = inl refl
-synced_is_found Ready is = inl refl
-synced_is_found Opening is = inl refl
-synced_is_found Doubt is = inl refl
-synced_is_found DoubtSynced is = inl refl
+synced_is_found _ is = inl refl
 
 -- a call that looks leaves the phase, but for a sync
 after_look : (phase : Phase) (call : Call) → IsLook call → (after phase call true ≡ phase) ⊎ (after phase call true ≡ synced phase)
 after_look phase Len look = inl refl
 after_look phase (Read at) look = inl refl
-after_look phase (Write at) look = absurd look
-after_look phase WriteHeader look = absurd look
-after_look phase Close look = absurd look
-after_look phase Open look = absurd look
-after_look phase Cut look = absurd look
 after_look phase Sync look = inr refl
+after_look phase _ look = absurd look
 
 after_is_found : (phase : Phase) (call : Call) → IsLook call → IsRefound (synced phase) → (call ≢ Sync → IsRefound phase) → IsRefound (after phase call true)
 after_is_found phase Len look syncs other = other (λ same. cc)
 after_is_found phase (Read at) look syncs other = other (λ same. cc)
-after_is_found phase (Write at) look syncs other = absurd look
-after_is_found phase WriteHeader look syncs other = absurd look
-after_is_found phase Close look syncs other = absurd look
-after_is_found phase Open look syncs other = absurd look
-after_is_found phase Cut look syncs other = absurd look
 after_is_found phase Sync look syncs other = syncs
+after_is_found phase _ look syncs other = absurd look
 
 after_syncs : (phase : Phase) (call : Call) → IsLook call → IsRefound (synced phase) → IsRefound (synced (after phase call true))
 after_syncs phase call look syncs = elim (after_look phase call look) [
@@ -80,12 +62,8 @@ after_syncs phase call look syncs = elim (after_look phase call look) [
 look_is_ready : (phase : Phase) (call : Call) → IsLook call → is_ready phase call ≡ true
 look_is_ready phase Len look = refl
 look_is_ready phase (Read at) look = refl
-look_is_ready phase (Write at) look = absurd look
-look_is_ready phase WriteHeader look = absurd look
-look_is_ready phase Close look = absurd look
-look_is_ready phase Open look = absurd look
-look_is_ready phase Cut look = absurd look
 look_is_ready phase Sync look = refl
+look_is_ready phase _ look = absurd look
 
 look_opens_none : (call : Call) → IsLook call → call ≢ Open
 look_opens_none call look same = subst IsLook same look
@@ -100,20 +78,11 @@ is_look_at AtSync call count is = subst IsLook (sym is) tt
 is_look_at AtLength call count is = subst IsLook (sym is) tt
 is_look_at AtFirst call count is = subst IsLook (sym is.0) tt
 is_look_at (AtTable h) call count is = subst IsLook (sym is.0) tt
-is_look_at Short call count is = absurd is
-is_look_at ShutLook call count is = absurd is
-is_look_at (BrokenLook why) call count is = absurd is
-is_look_at (WholeLook h) call count is = absurd is
+is_look_at _ call count is = absurd is
 
 behind_is_less : (look : Look) → calls_behind look ≢ first_looks
 behind_is_less AtSync is = let no : 1 ≡ 2 = ap length is in omega (arith, no)
-behind_is_less AtLength is = let no : 0 ≡ 2 = ap length is in omega (arith, no)
-behind_is_less AtFirst is = let no : 0 ≡ 2 = ap length is in omega (arith, no)
-behind_is_less (AtTable h) is = let no : 0 ≡ 2 = ap length is in omega (arith, no)
-behind_is_less Short is = let no : 0 ≡ 2 = ap length is in omega (arith, no)
-behind_is_less ShutLook is = let no : 0 ≡ 2 = ap length is in omega (arith, no)
-behind_is_less (BrokenLook why) is = let no : 0 ≡ 2 = ap length is in omega (arith, no)
-behind_is_less (WholeLook h) is = let no : 0 ≡ 2 = ap length is in omega (arith, no)
+behind_is_less _ is = let no : 0 ≡ 2 = ap length is in omega (arith, no)
 
 pub record IsLooking (slot : ℕ) (request : Asked) (stage : Stage) : Type 0 where
   pub look : IsLook request.id.call
@@ -131,8 +100,7 @@ looks_out slot file request (Asking plan) (look, there, same, on, here) = record
         other (sym (ap (λ (i : RequestId). i.call) id_is) ∙ is);
   };
 }
-looks_out slot file request (ReadStage header table) s = absurd (let no : Some request ≡ None = s.0 in cc)
-looks_out slot file request (Broken reason) s = absurd (let no : Some request ≡ None = s.0 in cc)
+looks_out slot file request _ s = absurd (let no : Some request ≡ None = s.0 in cc)
 
 -- ---- what is believed of the store
 
@@ -281,8 +249,7 @@ fresh_is_not_past old new next past = HasSynced.asked (subst IsPastSync next.sta
 
 read_is_past : (stage : Stage) → ((plan : Planned) → stage ≢ Asking plan) → IsPastSync stage
 read_is_past (Asking plan) read = absurd (read plan refl)
-read_is_past (ReadStage header table) read = tt
-read_is_past (Broken reason) read = tt
+read_is_past _ read = tt
 
 pub decodes_lem : (old new : CoreView) (opener next : Looking) (asked : List (Option Asked)) (bodies files : List (List ℕ))
     → Decodes old opener next new → Believes old asked bodies files → Believes new asked bodies files

@@ -83,12 +83,9 @@ module _ (order : ImageOrder) (i : Image) (plan : Planned) (phase : Phase) (body
 
   opened_by : (place : ℕ) → request.id.call ∷ [] ≡ drop place (map kind_of_call (body_calls i.header (table_text i.spaces)))
       → (is_opening_at place (Some request) ≡ true → (belief ≡ Opening i) × (dump ≡ pending_dump order.kind i)) → (belief ≡ Opening i) × (dump ≡ pending_dump order.kind i)
-  opened_by zero is opening = absurd (too_many _ _ _ is)
-  opened_by (suc zero) is opening = absurd (too_many _ _ _ is)
-  opened_by (suc (suc zero)) is opening = absurd (too_many _ _ _ is)
-  opened_by (suc (suc (suc zero))) is opening = absurd (too_many _ _ _ is)
   opened_by (suc (suc (suc (suc zero)))) is opening = opening refl
   opened_by (suc (suc (suc (suc (suc n))))) is opening = absurd (let no : 1 ≡ 0 = ap length (is ∙ none_made n) in omega (arith, no))
+  opened_by _ is opening = absurd (too_many _ _ _ is)
 
   pub open_then : IsOpenThen order i phase body request belief dump
   open_then =

@@ -31,10 +31,8 @@ use Rattle.sd_store_laws.proofs.SlotSteps.{set_other}
 use Rattle.sd_crash_safety.proofs.Places.{body_other, ids_set, set_count, set_same}
 
 passing_stage : (stage : Stage) → is_passing stage ≡ true → stage ≡ PassStage
-passing_stage (Format plan) is = absurd (false≢true is)
-passing_stage Freeze is = absurd (false≢true is)
 passing_stage PassStage is = refl
-passing_stage (Close plan header tables) is = absurd (false≢true is)
+passing_stage _ is = absurd (false≢true is)
 
 module _ (commutes : WritesCommute) (making : MakingLaws) (quiet : QuietSteps) (old new : CoreView) (running : Running) (image next : Making) (made : Made) (phase : Phase)
     (asked : List (Option Asked)) (bodies files : List (List ℕ)) (s : PageIsWritten old running image made phase next new)

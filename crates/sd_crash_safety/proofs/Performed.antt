@@ -55,24 +55,13 @@ use Rattle.sd_crash_safety.proofs.Places.{ids_same, set_same}
 
 -- a body after a call is the same where the call kept its bytes
 pub kept_body : (body : List ℕ) (call : Call) (old new : List ℕ) → AreKept call old new → body_after body call new ≡ body_after body call old
-kept_body body Len old new kept = refl
-kept_body body (Read at) old new kept = refl
 kept_body body (Write at) old new kept = ap (body_after body (Write at)) kept
 kept_body body WriteHeader old new kept = ap (body_after body WriteHeader) kept
-kept_body body Close old new kept = refl
-kept_body body Open old new kept = refl
-kept_body body Cut old new kept = refl
-kept_body body Sync old new kept = refl
+kept_body body _ old new kept = refl
 
 kept_length : (call : Call) (old new : List ℕ) → AreKept call old new → length new ≡ length old
-kept_length Len old new kept = ap length kept
 kept_length (Read at) old new kept = kept
-kept_length (Write at) old new kept = ap length kept
-kept_length WriteHeader old new kept = ap length kept
-kept_length Close old new kept = ap length kept
-kept_length Open old new kept = ap length kept
-kept_length Cut old new kept = ap length kept
-kept_length Sync old new kept = ap length kept
+kept_length _ old new kept = ap length kept
 
 leads_kept : (phase last : Phase) (body final : List ℕ) (call : Call) (old new : List ℕ) (calls : Calls) → AreKept call old new
     → Leads phase body ((call, old) ∷ calls) last final → Leads phase body ((call, new) ∷ calls) last final
@@ -136,8 +125,7 @@ module _ (asked : List (Option Asked)) (worker : ℕ) (request : Asked) (made : 
 
   slot_looks : (slot : ℕ) (file : List ℕ) (stage : Stage) → SeesSlot slot file (Some request) stage → SeesSlot slot file (Some made.request) stage
   slot_looks slot file (Asking plan) s = plan_looks slot file plan s
-  slot_looks slot file (ReadStage header table) s = absurd (let no : Some request ≡ None = s.0 in cc)
-  slot_looks slot file (Broken reason) s = absurd (let no : Some request ≡ None = s.0 in cc)
+  slot_looks slot file _ s = absurd (let no : Some request ≡ None = s.0 in cc)
 
   sees_made : (opener : Looking) → Sees files (Some request) opener → Sees files (Some made.request) opener
   sees_made opener s = record {
@@ -216,8 +204,6 @@ module _ (asked : List (Option Asked)) (worker : ℕ) (request : Asked) (made : 
     },
     s.1,
   )
-  slot_made Freeze order pages phase body belief dump s = absurd (let no : Some request ≡ None = s.1 in cc)
-  slot_made PassStage order pages phase body belief dump s = absurd (let no : Some request ≡ None = s.1 in cc)
   slot_made (CloseStage plan header tables) order pages phase body belief dump s = record {
     place = s.place;
     on = s.on;
@@ -226,6 +212,7 @@ module _ (asked : List (Option Asked)) (worker : ℕ) (request : Asked) (made : 
     shut = s.shut;
     opening = s.opening;
   }
+  slot_made _ order pages phase body belief dump s = absurd (let no : Some request ≡ None = s.1 in cc)
 
   own_made : (r : Option Asked) → slice_get asked 0 ≡ Some r → (stage : RoundStage) (order : ImageOrder) (pages : Pages) (phase : Phase) (body : List ℕ) (belief : Belief) (dump : Option Image)
       → IsSlotFor stage order pages phase body r belief dump → IfSome r (λ x. x.id.slot ≡ order.slot)
@@ -392,11 +379,9 @@ module _ (asked : List (Option Asked)) (worker : ℕ) (request : Asked) (made : 
 
     asked_made : (target : ℕ) (source : Image) (stage : CopyStage) (page : Option Place) → IsAskedIn stage phases bodies store beliefs running target source page (Some request)
         → IsAskedIn stage phases bodies store beliefs running target source page (Some made.request)
-    asked_made target source (copy.Format plan) page a = on_made target a
-    asked_made target source copy.Pass page a = on_made target a
     asked_made target source (copy.PageRead plan) page a = read_made target source page a
     asked_made target source (copy.PageWrite plan) page a = record { on = on_made target a.on; last = a.last; place = a.place; call = ap (λ (id : RequestId). id.call) is.id ∙ a.call }
-    asked_made target source (copy.Close plan header tables) page a = on_made target a
+    asked_made target source _ page a = on_made target a
 
     slot_in_made : (target : ℕ) (state : SlotState) (stage : CopyStage) (pages : Pages) (phase : Phase) (body : List ℕ) (belief : Belief)
         → IsSlotFor (stage_in_slot stage) (order_of_slot target state) pages phase (body_written body (lanes_in_slot stage (Some request))) (request_in_slot stage (Some request)) belief None

@@ -27,21 +27,17 @@ set_again (y ∷ xs) zero x is = ap (λ z. z ∷ xs) (sym (some_is is))
 set_again (y ∷ xs) (suc at) x is = ap (λ zs. y ∷ zs) (set_again xs at x is)
 
 pub body_again : (bodies : List (List ℕ)) (at : ℕ) → slice_set bodies at (file_at bodies at) ≡ bodies
-body_again [] at = refl
-body_again (body ∷ bodies) zero = refl
 body_again (body ∷ bodies) (suc at) = ap (λ all. body ∷ all) (body_again bodies at)
+body_again _ _ = refl
 
 pub body_other : (bodies : List (List ℕ)) (at k : ℕ) (body : List ℕ) → k ≢ at → file_at (slice_set bodies at body) k ≡ file_at bodies k
-body_other [] at k body other = refl
 body_other (b ∷ bodies) zero zero body other = absurd (other refl)
-body_other (b ∷ bodies) zero (suc k) body other = refl
-body_other (b ∷ bodies) (suc at) zero body other = refl
 body_other (b ∷ bodies) (suc at) (suc k) body other = body_other bodies at k body (λ same. other (ap suc same))
+body_other _ _ _ body other = refl
 
 pub set_count : {X : Type 0} (xs : List X) (at : ℕ) (x : X) → length (slice_set xs at x) ≡ length xs
-set_count [] at x = refl
-set_count (y ∷ xs) zero x = refl
 set_count (y ∷ xs) (suc at) x = ap suc (set_count xs at x)
+set_count _ _ x = refl
 
 pub set_same : {X : Type 0} (xs : List X) (at : ℕ) (was x : X) → slice_get xs at ≡ Some was → slice_get (slice_set xs at x) at ≡ Some x
 set_same [] at was x e = absurd cc
@@ -61,9 +57,8 @@ ids_same (a ∷ asked) zero r was is same = ap (λ o. o ∷ ids_of asked) (ap So
 ids_same (a ∷ asked) (suc at) r was is same = ap (λ all. option_map id_of a ∷ all) (ids_same asked at r was is same)
 
 pub ids_set : (asked : List (Option Asked)) (at : ℕ) (o : Option Asked) → ids_of (slice_set asked at o) ≡ slice_set (ids_of asked) at (option_map id_of o)
-ids_set [] at o = refl
-ids_set (a ∷ asked) zero o = refl
 ids_set (a ∷ asked) (suc at) o = ap (λ all. option_map id_of a ∷ all) (ids_set asked at o)
+ids_set _ _ o = refl
 
 -- where an id is, its request is out
 pub id_there : (asked : List (Option Asked)) (at : ℕ) (request : Asked) → slice_get asked at ≡ Some (Some request) → slice_get (ids_of asked) at ≡ Some (Some request.id)

@@ -62,18 +62,14 @@ written_ready RawClosing at done ready = absurd (both_ways false refl ready)
 written_ready Whole at done ready = absurd (both_ways false refl ready)
 written_ready Closing at done ready = absurd (both_ways false refl ready)
 written_ready Shut at true ready = refl
-written_ready Shut at false ready = refl
 written_ready ShutSynced at true ready = refl
-written_ready ShutSynced at false ready = refl
 written_ready Bare at true ready = refl
-written_ready Bare at false ready = refl
 written_ready Writing at true ready = refl
-written_ready Writing at false ready = refl
 written_ready Ready at true ready = refl
-written_ready Ready at false ready = refl
 written_ready Opening at done ready = absurd (both_ways false refl ready)
 written_ready Doubt at done ready = absurd (both_ways false refl ready)
 written_ready DoubtSynced at done ready = absurd (both_ways false refl ready)
+written_ready _ at _ ready = refl
 
 -- and is believed closed then, whatever its body
 closed_so : (phase : Phase) (body : List ℕ) (belief : Belief) → MayBelieve phase body belief → IsBelievedAs phase body Closed → ((strong : Belief) → IsBelievedAs phase body strong → strong ≡ Closed)
@@ -81,23 +77,15 @@ closed_so : (phase : Phase) (body : List ℕ) (belief : Belief) → MayBelieve p
 closed_so phase body belief may is only = subst (λ strong. IsWeaker strong belief) (only may.strong may.is) may.weaker
 
 written_closed : (phase : Phase) (at : ℕ) (body : List ℕ) (belief : Belief) (done : Bool) → may_write phase ≡ true → MayBelieve (after phase (Write at) done) body belief → IsWeaker Closed belief
-written_closed Raw at body belief done ready may = absurd (both_ways false refl ready)
-written_closed RawClosing at body belief done ready may = absurd (both_ways false refl ready)
-written_closed Whole at body belief done ready may = absurd (both_ways false refl ready)
-written_closed Closing at body belief done ready may = absurd (both_ways false refl ready)
 written_closed Shut at body belief true ready may = closed_so Shut body belief may refl (λ strong is. is)
 written_closed Shut at body belief false ready may = closed_so Shut body belief may refl (λ strong is. is)
 written_closed ShutSynced at body belief true ready may = closed_so Shut body belief may refl (λ strong is. is)
 written_closed ShutSynced at body belief false ready may = closed_so Shut body belief may refl (λ strong is. is)
-written_closed Bare at body belief true ready may = closed_so Writing body belief may refl (λ strong is. is)
 written_closed Bare at body belief false ready may = closed_so Shut body belief may refl (λ strong is. is)
-written_closed Writing at body belief true ready may = closed_so Writing body belief may refl (λ strong is. is)
 written_closed Writing at body belief false ready may = closed_so Shut body belief may refl (λ strong is. is)
-written_closed Ready at body belief true ready may = closed_so Writing body belief may refl (λ strong is. is)
 written_closed Ready at body belief false ready may = closed_so Shut body belief may refl (λ strong is. is)
-written_closed Opening at body belief done ready may = absurd (both_ways false refl ready)
-written_closed Doubt at body belief done ready may = absurd (both_ways false refl ready)
-written_closed DoubtSynced at body belief done ready may = absurd (both_ways false refl ready)
+written_closed _ at body belief true ready may = closed_so Writing body belief may refl (λ strong is. is)
+written_closed _ at body belief done ready may = absurd (both_ways false refl ready)
 
 still_closed : (phase : Phase) (at : ℕ) (body : List ℕ) (belief : Belief) (done : Bool) → may_write phase ≡ true → IsWeaker Closed belief → MayBelieve (after phase (Write at) done) body belief
 still_closed Raw at body belief done ready weaker = absurd (both_ways false refl ready)
@@ -105,18 +93,14 @@ still_closed RawClosing at body belief done ready weaker = absurd (both_ways fal
 still_closed Whole at body belief done ready weaker = absurd (both_ways false refl ready)
 still_closed Closing at body belief done ready weaker = absurd (both_ways false refl ready)
 still_closed Shut at body belief true ready weaker = record { strong = Closed; is = refl; weaker = weaker }
-still_closed Shut at body belief false ready weaker = record { strong = Closed; is = refl; weaker = weaker }
 still_closed ShutSynced at body belief true ready weaker = record { strong = Closed; is = refl; weaker = weaker }
-still_closed ShutSynced at body belief false ready weaker = record { strong = Closed; is = refl; weaker = weaker }
 still_closed Bare at body belief true ready weaker = record { strong = Closed; is = refl; weaker = weaker }
-still_closed Bare at body belief false ready weaker = record { strong = Closed; is = refl; weaker = weaker }
 still_closed Writing at body belief true ready weaker = record { strong = Closed; is = refl; weaker = weaker }
-still_closed Writing at body belief false ready weaker = record { strong = Closed; is = refl; weaker = weaker }
 still_closed Ready at body belief true ready weaker = record { strong = Closed; is = refl; weaker = weaker }
-still_closed Ready at body belief false ready weaker = record { strong = Closed; is = refl; weaker = weaker }
 still_closed Opening at body belief done ready weaker = absurd (both_ways false refl ready)
 still_closed Doubt at body belief done ready weaker = absurd (both_ways false refl ready)
 still_closed DoubtSynced at body belief done ready weaker = absurd (both_ways false refl ready)
+still_closed _ at body belief _ ready weaker = record { strong = Closed; is = refl; weaker = weaker }
 
 written_believed : (phase : Phase) (at other : ℕ) (body later : List ℕ) (belief : Belief) (done later_done : Bool) → may_write phase ≡ true → MayBelieve (after phase (Write at) done) body belief
     → MayBelieve (after (after phase (Write at) done) (Write other) later_done) later belief

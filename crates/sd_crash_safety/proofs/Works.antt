@@ -47,20 +47,14 @@ running_with base history later memory after phases asked now bodies last store 
 -- such a step is one of the pass
 in_pass : (number : ℕ) (old : Making) (before : Contents) (step : ImageStep) (new : Making) (after : Contents) → IsOnPages step → Steps number old before step new after
     → (old.stage ≡ PassStage) × (new ≡ record old { pass = new.pass })
-in_pass number old before (Call request) new after on steps = absurd on
-in_pass number old before (PageCall lane request) new after on steps = absurd on
-in_pass number old before (TableCall request) new after on steps = absurd on
-in_pass number old before Frozen new after on steps = absurd on
 in_pass number old before (Visited visit) new after on steps = steps.passes
 in_pass number old before (Copied copied) new after on steps = steps.0.passes
+in_pass number old before _ new after on steps = absurd on
 
 no_pages : (step : ImageStep) (pages : Pages) → IsOnPages step → pages_after step pages ≡ pages
-no_pages (Call request) pages on = absurd on
-no_pages (PageCall lane request) pages on = absurd on
-no_pages (TableCall request) pages on = absurd on
-no_pages Frozen pages on = absurd on
 no_pages (Visited visit) pages on = refl
 no_pages (Copied copied) pages on = refl
+no_pages _ pages on = absurd on
 
 pub works_lem : MakingLaws → (old new : CoreView) (running : Running) (image next : Making) (number : ℕ) (step : ImageStep) (asked : List (Option Asked)) (bodies files : List (List ℕ))
     → IsOnPages step → WorksOnMemory old running image number step next new → Believes old asked bodies files → Believes new asked bodies files

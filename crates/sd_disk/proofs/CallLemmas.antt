@@ -103,8 +103,6 @@ module _ (outside : Outside) (earlier : List DiskEvent) where
 -- an outcome after a call was one before it, and the call led there
 pub leads_back : (outside : Outside) (event : DiskEvent) (earlier : List DiskEvent) (c : List (List ℕ)) → MayLeave outside (event ∷ earlier) c
     → (d : List (List ℕ)) × MayLeave outside earlier d × CallLeadsTo event.0 event.1 (files_after outside earlier) d c
-leads_back outside (Measured number len, bytes) earlier c left = (c, record { count = left.count; each = left.each }, refl)
-leads_back outside (Read number at, bytes) earlier c left = (c, record { count = left.count; each = left.each }, refl)
 leads_back outside (Written number at, bytes) earlier c left =
     step_back outside earlier (Written number at, bytes) number (Torn at (length bytes)) (λ slot. with_write at (length bytes)) (length-set (files_after outside earlier) number _) (λ slot. refl) (λ slot. refl)
     (torn_same at (length bytes)) (λ file. write_undone at (length bytes) (unsynced_after outside earlier number) file (ordered outside earlier number)) c left
@@ -112,19 +110,17 @@ leads_back outside (Cuts number len, bytes) earlier c left =
     step_back outside earlier (Cuts number len, bytes) number (Cut len) (λ slot. with_cut (length (file_at (files_after outside earlier) slot)) len) (length-set (files_after outside earlier) number _) (λ slot. refl) (λ slot. refl)
     (cut_same len) (λ file. cut_undone (length (file_at (files_after outside earlier) number)) len (unsynced_after outside earlier number) file (ordered outside earlier number)) c left
 leads_back outside (Synced number, bytes) earlier c left = sync_back outside earlier number bytes c left
-leads_back outside (Failed, bytes) earlier c left = (c, record { count = left.count; each = left.each }, refl)
 leads_back outside (WriteFailed number at, bytes) earlier c left =
     step_back outside earlier (WriteFailed number at, bytes) number (Torn at (length bytes)) (λ slot. with_write at (length bytes)) (length-set (files_after outside earlier) number _) (λ slot. refl) (λ slot. refl)
     (torn_same at (length bytes)) (λ file. write_undone at (length bytes) (unsynced_after outside earlier number) file (ordered outside earlier number)) c left
 leads_back outside (CutFailed number len, bytes) earlier c left =
     step_back outside earlier (CutFailed number len, bytes) number (Cut len) (λ slot. with_cut (length (file_at (files_after outside earlier) slot)) len) (length-set (files_after outside earlier) number _) (λ slot. refl) (λ slot. refl)
     (cut_same len) (λ file. cut_undone (length (file_at (files_after outside earlier) number)) len (unsynced_after outside earlier number) file (ordered outside earlier number)) c left
+leads_back outside (_, bytes) earlier c left = (c, record { count = left.count; each = left.each }, refl)
 
 -- what is led to from an outcome before a call is an outcome after it
 pub leads_on : (outside : Outside) (event : DiskEvent) (earlier : List DiskEvent) (c : List (List ℕ))
     → ((d : List (List ℕ)) × MayLeave outside earlier d × CallLeadsTo event.0 event.1 (files_after outside earlier) d c) → MayLeave outside (event ∷ earlier) c
-leads_on outside (Measured number len, bytes) earlier c from = let left = subst (MayLeave outside earlier) from.2 from.1 in record { count = left.count; each = left.each }
-leads_on outside (Read number at, bytes) earlier c from = let left = subst (MayLeave outside earlier) from.2 from.1 in record { count = left.count; each = left.each }
 leads_on outside (Written number at, bytes) earlier c from =
     step_on outside earlier (Written number at, bytes) number (Torn at (length bytes)) (λ slot. with_write at (length bytes)) (length-set (files_after outside earlier) number _) (λ slot. refl) (λ slot. refl)
     (λ before file. write_leaves at (length bytes) (unsynced_after outside earlier number) before file (sound outside earlier number).covers) c from
@@ -133,13 +129,13 @@ leads_on outside (Cuts number len, bytes) earlier c from =
     (λ before file. cut_leaves (length (file_at (files_after outside earlier) number)) len (unsynced_after outside earlier number) before file (sound outside earlier number).left.no_shorter (sound outside earlier number).covers) c from
 leads_on outside (Synced number, bytes) earlier c from =
     sync_on outside earlier number bytes c (subst (MayLeave outside earlier) from.2.0 from.1) from.2.1
-leads_on outside (Failed, bytes) earlier c from = let left = subst (MayLeave outside earlier) from.2 from.1 in record { count = left.count; each = left.each }
 leads_on outside (WriteFailed number at, bytes) earlier c from =
     step_on outside earlier (WriteFailed number at, bytes) number (Torn at (length bytes)) (λ slot. with_write at (length bytes)) (length-set (files_after outside earlier) number _) (λ slot. refl) (λ slot. refl)
     (λ before file. write_leaves at (length bytes) (unsynced_after outside earlier number) before file (sound outside earlier number).covers) c from
 leads_on outside (CutFailed number len, bytes) earlier c from =
     step_on outside earlier (CutFailed number len, bytes) number (Cut len) (λ slot. with_cut (length (file_at (files_after outside earlier) slot)) len) (length-set (files_after outside earlier) number _) (λ slot. refl) (λ slot. refl)
     (λ before file. cut_leaves (length (file_at (files_after outside earlier) number)) len (unsynced_after outside earlier number) before file (sound outside earlier number).left.no_shorter (sound outside earlier number).covers) c from
+leads_on outside (_, bytes) earlier c from = let left = subst (MayLeave outside earlier) from.2 from.1 in record { count = left.count; each = left.each }
 
 -- an event that was noted
 module _ (outside outside' : Outside) (events events' : List DiskEvent) (event : DiskEvent) (same : outside' ≡ outside) (noted : events' ≡ event ∷ events) where

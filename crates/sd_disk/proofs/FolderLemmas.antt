@@ -8,14 +8,11 @@ use Rattle.sd_disk.specs.declared.call.Call.TheVariants.{Measured, Read, Written
 use Rattle.sd_disk.proofs.StepLemmas.{at_slot, torn_written, cut_taken, torn_by_write, torn_by_cut}
 
 length_after : (call : call.Call) (bytes left : List ℕ) (files : List (List ℕ)) → length (files_after_call call bytes left files) ≡ length files
-length_after (Measured slot len) bytes left files = refl
-length_after (Read slot at) bytes left files = refl
 length_after (Written slot at) bytes left files = length-set files slot _
 length_after (Cuts slot len) bytes left files = length-set files slot _
-length_after (Synced slot) bytes left files = refl
-length_after Failed bytes left files = refl
 length_after (WriteFailed slot at) bytes left files = length-set files slot _
 length_after (CutFailed slot len) bytes left files = length-set files slot _
+length_after _ bytes left files = refl
 
 pub length_files : (outside : Outside) (events : List DiskEvent) → length (files_after outside events) ≡ length outside.found
 length_files outside [] = refl

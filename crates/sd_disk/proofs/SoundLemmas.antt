@@ -50,8 +50,6 @@ sound_at number slot step old new known changed stepped sound there =
 
 pub sound : (outside : Outside) (events : List DiskEvent) (slot : ℕ) → IsSound (unsynced_after outside events slot) (file_at (files_after outside events) slot)
 sound outside [] slot = rest_sound (file_at outside.found slot)
-sound outside ((Measured number len, bytes) ∷ earlier) slot = sound outside earlier slot
-sound outside ((Read number at, bytes) ∷ earlier) slot = sound outside earlier slot
 sound outside ((Written number at, bytes) ∷ earlier) slot =
     let files = files_after outside earlier in
     let known = unsynced_after outside earlier slot in
@@ -70,7 +68,6 @@ sound outside ((Synced number, bytes) ∷ earlier) slot =
     let files = files_after outside earlier in
     chosen (λ u. IsSound u (file_at files slot)) number slot (at_rest (file_at files slot)) (unsynced_after outside earlier slot)
     (λ same. rest_sound (file_at files slot)) (λ apart. sound outside earlier slot)
-sound outside ((Failed, bytes) ∷ earlier) slot = sound outside earlier slot
 sound outside ((WriteFailed number at, bytes) ∷ earlier) slot =
     let files = files_after outside earlier in
     let known = unsynced_after outside earlier slot in
@@ -87,6 +84,7 @@ sound outside ((CutFailed number len, bytes) ∷ earlier) slot =
     (changes (Cut len) files number _ (cut_same len) (torn_by_cut len (file_at files number) left))
     (sound outside earlier slot)
     (λ cut. cut_sound len known _ _ (sound outside earlier slot) cut)
+sound outside ((_, bytes) ∷ earlier) slot = sound outside earlier slot
 
 -- the files as read are one of what a crash may leave
 pub as_read : (outside : Outside) (events : List DiskEvent) → MayLeave outside events (files_after outside events)

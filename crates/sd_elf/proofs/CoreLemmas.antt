@@ -52,8 +52,7 @@ core_unbroken bytes segments (core.Segment number f) p b =
 -- so an error of it says nothing of the bytes
 pub core_unrefused : (bytes : List ℕ) (segments : List ProgramHeader) (e : ReadError) → IsCoreFile bytes segments → IsErrorOf bytes e → IsOutside e
 core_unrefused bytes segments (error.Fault f) p b = core_unbroken bytes segments f p b
-core_unrefused bytes segments (error.File e) p b = tt
-core_unrefused bytes segments error.OutOfMemory p b = tt
+core_unrefused bytes segments _ p b = tt
 
 pub never_refused : (o : Option (List ℕ)) (result : Result Core ReadError) → IfSome o (λ held. IfErr result (IsErrorOf held)) → IfSome o (λ held. (segments : List ProgramHeader) → IsCoreFile held segments → IfErr result IsOutside)
 never_refused None result h = tt

@@ -12,9 +12,8 @@ in_file : (held buffer : List ℕ) (place k : ℕ) → IsRead held place buffer 
 in_file held buffer place k read less = let same = read.same in let within = read.within in grind (arith, common_steps, elements, pieces)
 
 zero_at : (m k : ℕ) → slice_index (replicate m 0) k ≡ 0
-zero_at zero k = refl
-zero_at (suc m) zero = refl
 zero_at (suc m) (suc k) = zero_at m k
+zero_at _ _ = refl
 
 behind_file : (n m k : ℕ) → slice_index (drop n (replicate m 0)) k ≡ 0
 behind_file n m k = ap (λ xs. slice_index xs k) (drop-replicate n m 0) ∙ zero_at (m - n) k

@@ -24,31 +24,13 @@ exits before mid after refused text due wanted status told_refused told since ke
 pub cause_is_seen : (why : Stop) → status_of why ≡ 0 → {A : Type 0} → A
 cause_is_seen (stop.Fault EmptyChain) e = absurd (let f : 3 ≡ 0 = e in omega (arith, f))
 cause_is_seen (stop.ScriptLine number) e = absurd (let f : 2 ≡ 0 = e in omega (arith, f))
-cause_is_seen (stop.Fault (Damaged slot reason)) e = absurd (let f : 1 ≡ 0 = e in omega (arith, f))
-cause_is_seen (stop.Fault Device) e = absurd (let f : 1 ≡ 0 = e in omega (arith, f))
-cause_is_seen (stop.Fault OutOfMemory) e = absurd (let f : 1 ≡ 0 = e in omega (arith, f))
-cause_is_seen stop.NoFrame e = absurd (let f : 1 ≡ 0 = e in omega (arith, f))
-cause_is_seen stop.CannotReadScript e = absurd (let f : 1 ≡ 0 = e in omega (arith, f))
-cause_is_seen stop.CannotOpenFolder e = absurd (let f : 1 ≡ 0 = e in omega (arith, f))
-cause_is_seen stop.NotEmpty e = absurd (let f : 1 ≡ 0 = e in omega (arith, f))
-cause_is_seen (stop.Order why) e = absurd (let f : 1 ≡ 0 = e in omega (arith, f))
-cause_is_seen stop.Refused e = absurd (let f : 1 ≡ 0 = e in omega (arith, f))
-cause_is_seen (stop.Writer error) e = absurd (let f : 1 ≡ 0 = e in omega (arith, f))
+cause_is_seen _ e = absurd (let f : 1 ≡ 0 = e in omega (arith, f))
 
 -- status 3 is that of an empty chain
 pub only_empty : (why : Stop) → status_of why ≡ 3 → why ≡ stop.Fault EmptyChain
 only_empty (stop.Fault EmptyChain) e = refl
 only_empty (stop.ScriptLine number) e = absurd (let f : 2 ≡ 3 = e in omega (arith, f))
-only_empty (stop.Fault (Damaged slot reason)) e = absurd (let f : 1 ≡ 3 = e in omega (arith, f))
-only_empty (stop.Fault Device) e = absurd (let f : 1 ≡ 3 = e in omega (arith, f))
-only_empty (stop.Fault OutOfMemory) e = absurd (let f : 1 ≡ 3 = e in omega (arith, f))
-only_empty stop.NoFrame e = absurd (let f : 1 ≡ 3 = e in omega (arith, f))
-only_empty stop.CannotReadScript e = absurd (let f : 1 ≡ 3 = e in omega (arith, f))
-only_empty stop.CannotOpenFolder e = absurd (let f : 1 ≡ 3 = e in omega (arith, f))
-only_empty stop.NotEmpty e = absurd (let f : 1 ≡ 3 = e in omega (arith, f))
-only_empty (stop.Order why) e = absurd (let f : 1 ≡ 3 = e in omega (arith, f))
-only_empty stop.Refused e = absurd (let f : 1 ≡ 3 = e in omega (arith, f))
-only_empty (stop.Writer error) e = absurd (let f : 1 ≡ 3 = e in omega (arith, f))
+only_empty _ e = absurd (let f : 1 ≡ 3 = e in omega (arith, f))
 
 module _ (before after : Option (List ℕ)) (refused : Bool) (status : ℕ) where
   -- how a program exits, by how it ended
@@ -83,36 +65,14 @@ module _ (before after : Option (List ℕ)) (refused : Bool) (status : ℕ) wher
 
 pub on_fault : {P Q : Type 0} (result : Result Unit Stop) → (P → Q) → OnFault result P → OnFault result Q
 on_fault (Ok value) f p = record {}
-on_fault (Err (stop.Fault fault)) f p = f p
-on_fault (Err stop.NoFrame) f p = f p
-on_fault (Err (stop.ScriptLine number)) f p = f p
-on_fault (Err stop.CannotReadScript) f p = f p
-on_fault (Err stop.CannotOpenFolder) f p = f p
-on_fault (Err stop.NotEmpty) f p = f p
-on_fault (Err (stop.Order why)) f p = f p
-on_fault (Err stop.Refused) f p = f p
 on_fault (Err (stop.Writer error)) f p = record {}
+on_fault (Err _) f p = f p
 
 pub always_on_fault : {P : Type 0} (result : Result Unit Stop) → P → OnFault result P
 always_on_fault (Ok value) p = record {}
-always_on_fault (Err (stop.Fault fault)) p = p
-always_on_fault (Err stop.NoFrame) p = p
-always_on_fault (Err (stop.ScriptLine number)) p = p
-always_on_fault (Err stop.CannotReadScript) p = p
-always_on_fault (Err stop.CannotOpenFolder) p = p
-always_on_fault (Err stop.NotEmpty) p = p
-always_on_fault (Err (stop.Order why)) p = p
-always_on_fault (Err stop.Refused) p = p
 always_on_fault (Err (stop.Writer error)) p = record {}
+always_on_fault (Err _) p = p
 
 pub on_writer : {P Q : Type 0} (result : Result Unit Stop) → (P → Q) → OnWriter result P → OnWriter result Q
-on_writer (Ok value) f p = record {}
-on_writer (Err (stop.Fault fault)) f p = record {}
-on_writer (Err stop.NoFrame) f p = record {}
-on_writer (Err (stop.ScriptLine number)) f p = record {}
-on_writer (Err stop.CannotReadScript) f p = record {}
-on_writer (Err stop.CannotOpenFolder) f p = record {}
-on_writer (Err stop.NotEmpty) f p = record {}
-on_writer (Err (stop.Order why)) f p = record {}
-on_writer (Err stop.Refused) f p = record {}
 on_writer (Err (stop.Writer error)) f p = f p
+on_writer _ f p = record {}

@@ -101,9 +101,8 @@ Filling fill all rest old now = (q : ℕ) → or_else (finmap.get (changes_of no
 
 stands : {X : Type 0} (b : Bool) (o : Option X) (fill : SnapshotPage → X) (x : SnapshotPage) (l : Option SnapshotPage) → (b ≡ true → IsSome o)
     → or_else o (option_map fill l) ≡ or_else o (option_map fill (cond b (Some x) l))
-stands false o fill x l is = refl
-stands true (Some y) fill x l is = refl
 stands true None fill x l is = absurd (let f : false ≡ true = is refl in cc)
+stands _ _ fill x l is = refl
 
 pub filling_skips : (fill : SnapshotPage → Option Page) (all rest left : Pages) (old now : PageChanges) (k : ℕ) (x : SnapshotPage) → Filling fill all rest old now
     → rest ≡ (k, x) ∷ left → IsSome (lookup (is_at (nat_cmp k)) now) → Filling fill all left old now
@@ -176,9 +175,8 @@ in_bounds first last end q e less = grind (arith, nat_tests)
 hidden_by : (b : Bool) (o : Option (Option Page)) (l : Option SnapshotPage)
     → under (or_else (cond b None o) (option_map hide (cond b l None))) (option_map page_of_snapshot l) ≡ cond b None (under o (option_map page_of_snapshot l))
 hidden_by true o None = refl
-hidden_by true o (Some x) = refl
 hidden_by false None l = refl
-hidden_by false (Some x) l = refl
+hidden_by _ _ _ = refl
 
 pub unmapped : (old mid new : PageChanges) (es range : Pages) (first last end : ℕ) → last ≡ end - 1 → first < end
     → changes_of mid ≡ remove_within (changes_of old) first (end - first)

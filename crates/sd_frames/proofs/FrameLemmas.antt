@@ -18,11 +18,9 @@ module _ {X : Type 0} where
   got_set (x ∷ xs) (suc i) y l = got_set xs i y (omega arith)
 
   pub got_other : (xs : List X) (i j : ℕ) (y : X) → (j ≡ i → ⊥) → slice_get (set xs i y) j ≡ slice_get xs j
-  got_other [] i j y n = refl
   got_other (x ∷ xs) zero zero y n = absurd (n refl)
-  got_other (x ∷ xs) zero (suc j) y n = refl
-  got_other (x ∷ xs) (suc i) zero y n = refl
   got_other (x ∷ xs) (suc i) (suc j) y n = got_other xs i j y (λ e. n (ap suc e))
+  got_other _ _ _ y n = refl
 
   pub got_within : (xs : List X) (i : ℕ) (x : X) → slice_get xs i ≡ Some x → i < length xs
   got_within [] i x e = absurd (let f : None ≡ Some x = e in cc)
@@ -35,9 +33,8 @@ module _ {X : Type 0} where
 
   pub got_before : (xs : List X) (y : X) (i : ℕ) → (i ≡ length xs → ⊥) → slice_get (xs ++ y ∷ []) i ≡ slice_get xs i
   got_before [] y zero n = absurd (n refl)
-  got_before [] y (suc i) n = refl
-  got_before (x ∷ xs) y zero n = refl
   got_before (x ∷ xs) y (suc i) n = got_before xs y i (λ e. n (ap suc e))
+  got_before _ y _ n = refl
 
   pub got_read : (xs : List X) (i : ℕ) (x : X) → i < length xs → x ≡ get_or xs i x → slice_get xs i ≡ Some x
   got_read [] i x l e = absurd (omega arith)
@@ -45,9 +42,8 @@ module _ {X : Type 0} where
   got_read (y ∷ xs) (suc i) x l e = got_read xs i x (omega arith) e
 
 pub at_cell : (slots : List FrameCell) (k : ℕ) → get_or (cells_of slots) k None ≡ option_and_then cell_of (slice_get slots k)
-at_cell [] k = refl
-at_cell (s ∷ slots) zero = refl
 at_cell (s ∷ slots) (suc k) = at_cell slots k
+at_cell _ _ = refl
 
 -- a frame in use has a place
 in_slot : (o : Option FrameCell) (c : Cell) → option_and_then cell_of o ≡ Some c → o ≡ Some (Used c)

@@ -8,9 +8,8 @@ use Rattle.sd_free_slots.specs.Marks.{IsMarkedSlot, TakesNeeded, TakesSlots}
 -- ---- one slot
 
 pub set_length : {X : Type 0} (marks : List X) (at : ℕ) (mark : X) → length (slice_set marks at mark) ≡ length marks
-set_length [] at mark = refl
-set_length (m ∷ marks) zero mark = refl
 set_length (m ∷ marks) (suc at) mark = ap suc (set_length marks at mark)
+set_length _ _ mark = refl
 
 pub set_here : {X : Type 0} (marks : List X) (at : ℕ) (mark : X) → at < length marks → slice_get (slice_set marks at mark) at ≡ Some mark
 set_here [] at mark within = absurd (omega (arith, within))
@@ -18,35 +17,29 @@ set_here (m ∷ marks) zero mark within = refl
 set_here (m ∷ marks) (suc at) mark within = set_here marks at mark (omega (arith, within))
 
 set_stays : (marks : List Bool) (at slot : ℕ) → IsMarkedSlot marks slot → IsMarkedSlot (slice_set marks at true) slot
-set_stays [] at slot is = is
 set_stays (m ∷ marks) zero zero is = refl
-set_stays (m ∷ marks) zero (suc slot) is = is
-set_stays (m ∷ marks) (suc at) zero is = is
 set_stays (m ∷ marks) (suc at) (suc slot) is = set_stays marks at slot is
+set_stays _ _ _ is = is
 
 -- what stands in a place is what was set there, or stood there
 pub set_cases : {X : Type 0} (marks : List X) (at slot : ℕ) (mark one : X) → slice_get (slice_set marks at mark) slot ≡ Some one
     → (slice_get marks slot ≡ Some one) ⊎ ((at ≡ slot) × (one ≡ mark))
-set_cases [] at slot mark one is = inl is
 set_cases (m ∷ marks) zero zero mark one is = inr (refl, sym (same_Some mark one is))
-set_cases (m ∷ marks) zero (suc slot) mark one is = inl is
-set_cases (m ∷ marks) (suc at) zero mark one is = inl is
 set_cases (m ∷ marks) (suc at) (suc slot) mark one is = elim (set_cases marks at slot mark one is) [
   | inl was ↦ inl was
   | inr here ↦ inr (ap suc here.0, here.1)
 ]
+set_cases _ _ _ mark one is = inl is
 
 -- and what stood in another place stays
 pub set_keeps : {X : Type 0} (marks : List X) (at slot : ℕ) (mark one : X) → slice_get marks slot ≡ Some one
     → (slice_get (slice_set marks at mark) slot ≡ Some one) ⊎ (at ≡ slot)
-set_keeps [] at slot mark one is = inl is
 set_keeps (m ∷ marks) zero zero mark one is = inr refl
-set_keeps (m ∷ marks) zero (suc slot) mark one is = inl is
-set_keeps (m ∷ marks) (suc at) zero mark one is = inl is
 set_keeps (m ∷ marks) (suc at) (suc slot) mark one is = elim (set_keeps marks at slot mark one is) [
   | inl kept ↦ inl kept
   | inr here ↦ inr (ap suc here)
 ]
+set_keeps _ _ _ mark one is = inl is
 
 pub takes_one : (marks new : List Bool) (at : ℕ) → new ≡ slice_set marks at true → TakesSlots (λ slot. at ≡ slot) marks new
 takes_one marks new at is = subst (TakesSlots (λ slot. at ≡ slot) marks) (sym is) (record {

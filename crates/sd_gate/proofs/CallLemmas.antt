@@ -26,36 +26,18 @@ pub record IsMade (slot : ℕ) (call : Call) (bytes : List ℕ) (done : Bool) (o
 
 -- a sound order leaves the gate
 pub behind_gate : (order : Order) → IsSoundOrder order → IsBehindGate (call_of order)
-behind_gate LenOrder sound = tt
-behind_gate (ReadOrder at buffer) sound = tt
 behind_gate (WriteOrder at buffer) sound = sound.0
-behind_gate (HeaderOrder header) sound = tt
-behind_gate CloseOrder sound = tt
-behind_gate OpenOrder sound = tt
-behind_gate CutOrder sound = tt
-behind_gate SyncOrder sound = tt
+behind_gate _ sound = tt
 
 module _ (slot : ℕ) (bytes : List ℕ) (old new : List (List ℕ)) (before now : List (List ℕ) → Type 0) where
   opens : (phase : Phase) (body : List ℕ) (done : Bool) → may_open phase ≡ true → IsMade slot Open bytes done old new before now
       → SlotFits phase body slot old before → SlotFits (after phase Open done) body slot new now
-  opens Raw body done ready made fits = absurd (false≢true ready)
-  opens RawClosing body done ready made fits = absurd (false≢true ready)
-  opens Whole body done ready made fits = absurd (false≢true ready)
-  opens Closing body done ready made fits = absurd (false≢true ready)
-  opens Shut body done ready made fits = absurd (false≢true ready)
-  opens ShutSynced body done ready made fits = absurd (false≢true ready)
-  opens Bare body done ready made fits = absurd (false≢true ready)
-  opens Writing body done ready made fits = absurd (false≢true ready)
   opens Ready body true ready made fits = slot_opening slot old before made.now_read new now made.there body (made.whole refl) made.crash fits
   opens Ready body false ready made fits = slot_not_opening slot old before made.now_read new now made.there body made.torn made.crash fits
-  opens Opening body done ready made fits = absurd (false≢true ready)
-  opens Doubt body done ready made fits = absurd (false≢true ready)
-  opens DoubtSynced body done ready made fits = absurd (false≢true ready)
+  opens _ body done ready made fits = absurd (false≢true ready)
 
   pub follows : (call : Call) (done : Bool) (phase : Phase) (body : List ℕ) → IsMade slot call bytes done old new before now → is_ready phase call ≡ true
       → SlotFits phase body slot old before → SlotFits (after phase call done) (body_after body call bytes) slot new now
-  follows Len done phase body made ready fits = slot_kept slot old before made.now_read phase body new now made.torn made.crash fits
-  follows (Read at) done phase body made ready fits = slot_kept slot old before made.now_read phase body new now made.torn made.crash fits
   follows (Write at) true phase body made ready fits = slot_filled slot old before made.now_read new now made.there phase body bytes at ready made.behind (made.whole refl) made.crash fits
   follows (Write at) false phase body made ready fits = slot_not_filled slot old before made.now_read new now made.there phase body _ at (length bytes) ready made.behind made.torn made.crash fits
   follows WriteHeader true phase body made ready fits = slot_filled slot old before made.now_read new now made.there phase body bytes 1 ready (lit< tt) (made.whole refl) made.crash fits
@@ -67,40 +49,29 @@ module _ (slot : ℕ) (bytes : List ℕ) (old new : List (List ℕ)) (before now
   follows Cut false phase body made ready fits = slot_not_cut slot old before made.now_read new now made.there phase body _ ready made.torn made.crash fits
   follows Sync true phase body made ready fits = slot_synced slot old before made.now_read phase body new now made.torn (made.durable refl refl) fits
   follows Sync false phase body made ready fits = slot_kept slot old before made.now_read _ body new now made.torn made.crash (slot_given_up slot old before made.now_read phase body fits)
+  follows _ done phase body made ready fits = slot_kept slot old before made.now_read phase body new now made.torn made.crash fits
 
 -- a call changes one slot
 pub makes_elsewhere : (call : Call) (bytes : List ℕ) (slot : ℕ) (old new : List (List ℕ)) (other : ℕ) → other ≢ slot → Makes call bytes slot old new
     → file_at new other ≡ file_at old other
 makes_elsewhere Len bytes slot old new other apart makes = ap (λ c. file_at c other) makes
 makes_elsewhere (Read at) bytes slot old new other apart makes = ap (λ c. file_at c other) makes
-makes_elsewhere (Write at) bytes slot old new other apart makes = makes.others other apart
-makes_elsewhere WriteHeader bytes slot old new other apart makes = makes.others other apart
-makes_elsewhere Close bytes slot old new other apart makes = makes.others other apart
-makes_elsewhere Open bytes slot old new other apart makes = makes.others other apart
-makes_elsewhere Cut bytes slot old new other apart makes = makes.others other apart
 makes_elsewhere Sync bytes slot old new other apart makes = ap (λ c. file_at c other) makes
+makes_elsewhere _ bytes slot old new other apart makes = makes.others other apart
 
 -- and no call changes how many there are
 pub makes_as_many : (call : Call) (bytes : List ℕ) (slot : ℕ) (old new : List (List ℕ)) → Makes call bytes slot old new → length new ≡ length old
 makes_as_many Len bytes slot old new makes = ap length makes
 makes_as_many (Read at) bytes slot old new makes = ap length makes
-makes_as_many (Write at) bytes slot old new makes = makes.count
-makes_as_many WriteHeader bytes slot old new makes = makes.count
-makes_as_many Close bytes slot old new makes = makes.count
-makes_as_many Open bytes slot old new makes = makes.count
-makes_as_many Cut bytes slot old new makes = makes.count
 makes_as_many Sync bytes slot old new makes = ap length makes
+makes_as_many _ bytes slot old new makes = makes.count
 
 -- one that only looks changes nothing
 pub makes_nothing : (call : Call) (bytes : List ℕ) (slot : ℕ) (old new : List (List ℕ)) → IsLook call → Makes call bytes slot old new → new ≡ old
 makes_nothing Len bytes slot old new looks makes = makes
 makes_nothing (Read at) bytes slot old new looks makes = makes
-makes_nothing (Write at) bytes slot old new looks makes = absurd looks
-makes_nothing WriteHeader bytes slot old new looks makes = absurd looks
-makes_nothing Close bytes slot old new looks makes = absurd looks
-makes_nothing Open bytes slot old new looks makes = absurd looks
-makes_nothing Cut bytes slot old new looks makes = absurd looks
 makes_nothing Sync bytes slot old new looks makes = makes
+makes_nothing _ bytes slot old new looks makes = absurd looks
 
 pub kept_elsewhere : (call : Call) (bytes : List ℕ) (slot : ℕ) (old new : List (List ℕ)) (before now : List (List ℕ) → Type 0)
     → Makes call bytes slot old new → Follows (Makes call bytes slot) before now

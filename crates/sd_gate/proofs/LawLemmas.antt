@@ -34,15 +34,12 @@ pub leaves_whole_or_closed : (phase : Phase) (body file : List ℕ) → PhaseLea
 leaves_whole_or_closed Raw body file is = short_not_open file is
 leaves_whole_or_closed RawClosing body file is = short_not_open file is
 leaves_whole_or_closed Whole body file is = is
-leaves_whole_or_closed Closing body file is = behind_whole body file is
 leaves_whole_or_closed Shut body file is = closed_not_open file is
 leaves_whole_or_closed ShutSynced body file is = closed_not_open file is
 leaves_whole_or_closed Bare body file is = closed_not_open file is
 leaves_whole_or_closed Writing body file is = closed_not_open file is
 leaves_whole_or_closed Ready body file is = closed_not_open file (behind_is_closed body file is)
-leaves_whole_or_closed Opening body file is = behind_whole body file is
-leaves_whole_or_closed Doubt body file is = behind_whole body file is
-leaves_whole_or_closed DoubtSynced body file is = behind_whole body file is
+leaves_whole_or_closed _ body file is = behind_whole body file is
 
 cut_leads : (phase : Phase) (body : List ℕ) → may_write phase ≡ true → Leads phase body ((Cut, []) ∷ []) Bare []
 cut_leads phase body ready = one_call phase Bare body [] Cut [] [] ready (no_call Bare [])
@@ -64,14 +61,10 @@ close_leads Raw body ready = short_leads Raw body refl refl
 close_leads RawClosing body ready = short_leads RawClosing body refl refl
 close_leads Whole body ready = open_leads Whole body refl refl
 close_leads Closing body ready = open_leads Closing body refl refl
-close_leads Shut body ready = absurd (false≢true ready)
-close_leads ShutSynced body ready = absurd (false≢true ready)
-close_leads Bare body ready = absurd (false≢true ready)
-close_leads Writing body ready = absurd (false≢true ready)
-close_leads Ready body ready = absurd (false≢true ready)
 close_leads Opening body ready = open_leads Opening body refl refl
 close_leads Doubt body ready = open_leads Doubt body refl refl
 close_leads DoubtSynced body ready = open_leads DoubtSynced body refl refl
+close_leads _ body ready = absurd (false≢true ready)
 
 format_leads : (phase : Phase) (body : List ℕ) → Leads phase body (format_calls (state_of phase)) Bare []
 format_leads Raw body = close_leads Raw body refl

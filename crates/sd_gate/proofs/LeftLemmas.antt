@@ -30,9 +30,8 @@ first_few : (bytes : List ℕ) (len : ℕ) → Few 1 (after_first bytes len)
 first_few bytes len = either_few ((length bytes == 4096) && (slice_index bytes 0 == gate)) 1 (table_read (header_in bytes len)) ([], nothing) (table_few (header_in bytes len)) (omega arith)
 
 length_few : (answer : Answer) → Few 2 (after_length answer)
-length_few Done = omega arith
 length_few (LenIs len) = either_few (nat_le 4096 len) 2 ((Read 0, zero_bytes 4096) ∷ [], the_header len) ([], nothing) (omega arith) (omega arith)
-length_few Failed = omega arith
+length_few _ = omega arith
 
 following_few : (awaits : Awaits) (answer : Answer) (buffer : Option (List ℕ)) → Few (calls_awaited awaits) (following awaits answer buffer)
 following_few nothing answer buffer = omega arith

@@ -108,10 +108,7 @@ module _ (slot : ℕ) (file : List ℕ) (made : Made) (told : IsTold file made) 
       let place : ℕ = table_place h in
       let bytes : made.request.bytes ≡ table_of_file h file = tells_as (Read (table_place h)) call.0 ∙ ap (λ n. slice_range file (table_place h) (table_place h + n)) call.1 in
       (Whole h, at, after_is (asks slot file (AtTable h) id) made (Read (table_place h)) Done (table_of_file h file) call.0 (answers_as (Read (table_place h)) call.0) bytes ∙ table_after slot file id h)
-  settled_at Short id at call = absurd call
-  settled_at Shut id at call = absurd call
-  settled_at (Broken why) id at call = absurd call
-  settled_at (Whole h) id at call = absurd call
+  settled_at _ id at call = absurd call
 
 settles : (slot : ℕ) (file : List ℕ) (plan : Planned) (request : Asked) (made : Made) → LooksAt slot file (Some request) plan
     → made.request.id ≡ request.id → length made.request.bytes ≡ length request.bytes → is_done made.answer ≡ true → IsTold file made
@@ -186,10 +183,6 @@ not_both : (h : Header) (why : Reason) (r : Result Header Reason) → r ≡ Ok h
 not_both h why r is other = cc
 
 found_at : (file : List ℕ) (look : Look) → IsLookAt file look → calls_at look ≡ [] → IsFound file (back_at file look)
-found_at file AtSync at none = absurd (cc)
-found_at file AtLength at none = absurd (cc)
-found_at file AtFirst at none = absurd (cc)
-found_at file (AtTable h) at none = absurd (cc)
 found_at file Short at none = record {
   len = refl;
   first = λ long. absurd (omega (arith, long, at));
@@ -206,6 +199,7 @@ found_at file (Whole h) at none = record {
   first = λ long. refl;
   table = λ other has. ap (λ (k : Header). Some (table_of_file k file)) (ok_same h other (header_in (front_of_file file) (length file)) at.header has.header);
 }
+found_at file _ at none = absurd (cc)
 
 pub inspection_finds : InspectionFinds
 inspection_finds = record {

@@ -13,62 +13,38 @@ use Rattle.sd_gate.proofs.FitLemmas.{behind_is_closed, closed_is_behind, open_is
 
 -- a slot that may be written behind its gate is closed
 leaves_closed : (phase : Phase) (body file : List ℕ) → may_write phase ≡ true → PhaseLeaves phase body file → IsClosed file
-leaves_closed Raw body file ready is = absurd (false≢true ready)
-leaves_closed RawClosing body file ready is = absurd (false≢true ready)
-leaves_closed Whole body file ready is = absurd (false≢true ready)
-leaves_closed Closing body file ready is = absurd (false≢true ready)
 leaves_closed Shut body file ready is = is
 leaves_closed ShutSynced body file ready is = is
 leaves_closed Bare body file ready is = is
 leaves_closed Writing body file ready is = is
 leaves_closed Ready body file ready is = behind_is_closed body file is
-leaves_closed Opening body file ready is = absurd (false≢true ready)
-leaves_closed Doubt body file ready is = absurd (false≢true ready)
-leaves_closed DoubtSynced body file ready is = absurd (false≢true ready)
+leaves_closed _ body file ready is = absurd (false≢true ready)
 
 -- what a phase reads and leaves after a write behind the gate
 filled_reads : (phase : Phase) (at : ℕ) (body bytes file : List ℕ) → may_write phase ≡ true → 0 < at → PhaseReads phase body file
     → PhaseReads (filled phase) (file_after_write body (at - 1) bytes) (file_after_write file at bytes)
-filled_reads Raw at body bytes file ready behind is = absurd (false≢true ready)
-filled_reads RawClosing at body bytes file ready behind is = absurd (false≢true ready)
-filled_reads Whole at body bytes file ready behind is = absurd (false≢true ready)
-filled_reads Closing at body bytes file ready behind is = absurd (false≢true ready)
 filled_reads Shut at body bytes file ready behind is = written_closed at bytes file behind is
 filled_reads ShutSynced at body bytes file ready behind is = written_closed at bytes file behind is
 filled_reads Bare at body bytes file ready behind is = subst (λ b. IsBehindClosed (file_after_write b (at - 1) bytes) (file_after_write file at bytes)) (sym is.0) (filled_behind at [] bytes file behind is.1)
 filled_reads Writing at body bytes file ready behind is = filled_behind at body bytes file behind is
 filled_reads Ready at body bytes file ready behind is = filled_behind at body bytes file behind is
-filled_reads Opening at body bytes file ready behind is = absurd (false≢true ready)
-filled_reads Doubt at body bytes file ready behind is = absurd (false≢true ready)
-filled_reads DoubtSynced at body bytes file ready behind is = absurd (false≢true ready)
+filled_reads _ at body bytes file ready behind is = absurd (false≢true ready)
 
 filled_leaves : (phase : Phase) (body file : List ℕ) → may_write phase ≡ true → IsClosed file → PhaseLeaves (filled phase) body file
-filled_leaves Raw body file ready is = absurd (false≢true ready)
-filled_leaves RawClosing body file ready is = absurd (false≢true ready)
-filled_leaves Whole body file ready is = absurd (false≢true ready)
-filled_leaves Closing body file ready is = absurd (false≢true ready)
 filled_leaves Shut body file ready is = is
 filled_leaves ShutSynced body file ready is = is
 filled_leaves Bare body file ready is = is
 filled_leaves Writing body file ready is = is
 filled_leaves Ready body file ready is = is
-filled_leaves Opening body file ready is = absurd (false≢true ready)
-filled_leaves Doubt body file ready is = absurd (false≢true ready)
-filled_leaves DoubtSynced body file ready is = absurd (false≢true ready)
+filled_leaves _ body file ready is = absurd (false≢true ready)
 
 filled_unsynced : (phase : Phase) → may_write phase ≡ true → is_synced (filled phase) ≡ true → ⊥
-filled_unsynced Raw ready sync = false≢true ready
-filled_unsynced RawClosing ready sync = false≢true ready
-filled_unsynced Whole ready sync = false≢true ready
-filled_unsynced Closing ready sync = false≢true ready
 filled_unsynced Shut ready sync = false≢true sync
 filled_unsynced ShutSynced ready sync = false≢true sync
 filled_unsynced Bare ready sync = false≢true sync
 filled_unsynced Writing ready sync = false≢true sync
 filled_unsynced Ready ready sync = false≢true sync
-filled_unsynced Opening ready sync = false≢true ready
-filled_unsynced Doubt ready sync = false≢true ready
-filled_unsynced DoubtSynced ready sync = false≢true ready
+filled_unsynced _ ready sync = false≢true ready
 
 -- after a 0 over the gate
 closing_reads : (phase : Phase) (body file : List ℕ) → may_close phase ≡ true → PhaseLeaves phase body file → PhaseReads (closing phase) body (file_after_write file 0 (0 ∷ []))
@@ -76,143 +52,74 @@ closing_reads Raw body file ready is = zeroed_closed file
 closing_reads RawClosing body file ready is = zeroed_closed file
 closing_reads Whole body file ready is = zeroed_behind body file (open_is_behind body file is)
 closing_reads Closing body file ready is = zeroed_behind body file is
-closing_reads Shut body file ready is = absurd (false≢true ready)
-closing_reads ShutSynced body file ready is = absurd (false≢true ready)
-closing_reads Bare body file ready is = absurd (false≢true ready)
-closing_reads Writing body file ready is = absurd (false≢true ready)
-closing_reads Ready body file ready is = absurd (false≢true ready)
 closing_reads Opening body file ready is = zeroed_behind body file is
 closing_reads Doubt body file ready is = zeroed_behind body file is
 closing_reads DoubtSynced body file ready is = zeroed_behind body file is
+closing_reads _ body file ready is = absurd (false≢true ready)
 
 closing_leaves : (phase : Phase) (body old new : List ℕ) → may_close phase ≡ true → PhaseLeaves phase body old → Torn 0 1 old new → PhaseLeaves (closing phase) body new
 closing_leaves Raw body old new ready is torn = torn_short old new is torn
 closing_leaves RawClosing body old new ready is torn = torn_short old new is torn
 closing_leaves Whole body old new ready is torn = torn_behind body old new (open_is_behind body old is) torn
 closing_leaves Closing body old new ready is torn = torn_behind body old new is torn
-closing_leaves Shut body old new ready is torn = absurd (false≢true ready)
-closing_leaves ShutSynced body old new ready is torn = absurd (false≢true ready)
-closing_leaves Bare body old new ready is torn = absurd (false≢true ready)
-closing_leaves Writing body old new ready is torn = absurd (false≢true ready)
-closing_leaves Ready body old new ready is torn = absurd (false≢true ready)
 closing_leaves Opening body old new ready is torn = torn_behind body old new is torn
 closing_leaves Doubt body old new ready is torn = torn_behind body old new is torn
 closing_leaves DoubtSynced body old new ready is torn = torn_behind body old new is torn
+closing_leaves _ body old new ready is torn = absurd (false≢true ready)
 
 closing_unsynced : (phase : Phase) → may_close phase ≡ true → is_synced (closing phase) ≡ true → ⊥
-closing_unsynced Raw ready sync = false≢true sync
-closing_unsynced RawClosing ready sync = false≢true sync
-closing_unsynced Whole ready sync = false≢true sync
-closing_unsynced Closing ready sync = false≢true sync
 closing_unsynced Shut ready sync = false≢true ready
 closing_unsynced ShutSynced ready sync = false≢true ready
 closing_unsynced Bare ready sync = false≢true ready
 closing_unsynced Writing ready sync = false≢true ready
 closing_unsynced Ready ready sync = false≢true ready
-closing_unsynced Opening ready sync = false≢true sync
-closing_unsynced Doubt ready sync = false≢true sync
-closing_unsynced DoubtSynced ready sync = false≢true sync
+closing_unsynced _ ready sync = false≢true sync
 
 -- a failed write over the gate
 failed_closing_leaves : (phase : Phase) (body file : List ℕ) → may_close phase ≡ true → PhaseLeaves (closing phase) body file → PhaseLeaves (given_up (closing phase)) body file × PhaseReads (given_up (closing phase)) body file
-failed_closing_leaves Raw body file ready is = (is, is)
-failed_closing_leaves RawClosing body file ready is = (is, is)
-failed_closing_leaves Whole body file ready is = (is, is)
-failed_closing_leaves Closing body file ready is = (is, is)
 failed_closing_leaves Shut body file ready is = absurd (false≢true ready)
 failed_closing_leaves ShutSynced body file ready is = absurd (false≢true ready)
 failed_closing_leaves Bare body file ready is = absurd (false≢true ready)
 failed_closing_leaves Writing body file ready is = absurd (false≢true ready)
 failed_closing_leaves Ready body file ready is = absurd (false≢true ready)
-failed_closing_leaves Opening body file ready is = (is, is)
-failed_closing_leaves Doubt body file ready is = (is, is)
-failed_closing_leaves DoubtSynced body file ready is = (is, is)
+failed_closing_leaves _ body file ready is = (is, is)
 
 failed_closing_unsynced : (phase : Phase) → may_close phase ≡ true → is_synced (given_up (closing phase)) ≡ true → ⊥
-failed_closing_unsynced Raw ready sync = false≢true sync
-failed_closing_unsynced RawClosing ready sync = false≢true sync
-failed_closing_unsynced Whole ready sync = false≢true sync
-failed_closing_unsynced Closing ready sync = false≢true sync
 failed_closing_unsynced Shut ready sync = false≢true ready
 failed_closing_unsynced ShutSynced ready sync = false≢true ready
 failed_closing_unsynced Bare ready sync = false≢true ready
 failed_closing_unsynced Writing ready sync = false≢true ready
 failed_closing_unsynced Ready ready sync = false≢true ready
-failed_closing_unsynced Opening ready sync = false≢true sync
-failed_closing_unsynced Doubt ready sync = false≢true sync
-failed_closing_unsynced DoubtSynced ready sync = false≢true sync
+failed_closing_unsynced _ ready sync = false≢true sync
 
 -- after a sync what is read is what a crash leaves
 synced_reads : (phase : Phase) (body file : List ℕ) → PhaseReads phase body file → PhaseReads (synced phase) body file
-synced_reads Raw body file is = is
-synced_reads RawClosing body file is = is
-synced_reads Whole body file is = is
 synced_reads Closing body file is = behind_is_closed body file is
-synced_reads Shut body file is = is
-synced_reads ShutSynced body file is = is
 synced_reads Bare body file is = behind_is_closed [] file is.1
-synced_reads Writing body file is = is
-synced_reads Ready body file is = is
-synced_reads Opening body file is = is
-synced_reads Doubt body file is = is
-synced_reads DoubtSynced body file is = is
+synced_reads _ body file is = is
 
 synced_leaves : (phase : Phase) (body file : List ℕ) → PhaseReads (synced phase) body file → PhaseLeaves (synced phase) body file
 synced_leaves Raw body file is = is
-synced_leaves RawClosing body file is = is
-synced_leaves Whole body file is = is
-synced_leaves Closing body file is = is
-synced_leaves Shut body file is = is
-synced_leaves ShutSynced body file is = is
-synced_leaves Bare body file is = is
-synced_leaves Writing body file is = is
-synced_leaves Ready body file is = is
-synced_leaves Opening body file is = is
-synced_leaves Doubt body file is = is
-synced_leaves DoubtSynced body file is = is
+synced_leaves _ body file is = is
 
 -- a job that is given up
 given_up_reads : (phase : Phase) (body file : List ℕ) → PhaseReads phase body file → PhaseLeaves phase body file → PhaseReads (given_up phase) body file
-given_up_reads Raw body file is may = is
 given_up_reads RawClosing body file is may = may
-given_up_reads Whole body file is may = is
 given_up_reads Closing body file is may = may
-given_up_reads Shut body file is may = is
-given_up_reads ShutSynced body file is may = is
-given_up_reads Bare body file is may = is
 given_up_reads Writing body file is may = may
 given_up_reads Ready body file is may = behind_is_closed body file may
 given_up_reads Opening body file is may = may
-given_up_reads Doubt body file is may = is
-given_up_reads DoubtSynced body file is may = is
+given_up_reads _ body file is may = is
 
 given_up_leaves : (phase : Phase) (body file : List ℕ) → PhaseLeaves phase body file → PhaseLeaves (given_up phase) body file
-given_up_leaves Raw body file may = may
-given_up_leaves RawClosing body file may = may
-given_up_leaves Whole body file may = may
-given_up_leaves Closing body file may = may
-given_up_leaves Shut body file may = may
-given_up_leaves ShutSynced body file may = may
-given_up_leaves Bare body file may = may
-given_up_leaves Writing body file may = may
 given_up_leaves Ready body file may = behind_is_closed body file may
-given_up_leaves Opening body file may = may
-given_up_leaves Doubt body file may = may
-given_up_leaves DoubtSynced body file may = may
+given_up_leaves _ body file may = may
 
 given_up_synced : (phase : Phase) → is_synced (given_up phase) ≡ true → is_synced phase ≡ true
-given_up_synced Raw sync = sync
-given_up_synced RawClosing sync = sync
-given_up_synced Whole sync = sync
-given_up_synced Closing sync = sync
-given_up_synced Shut sync = sync
 given_up_synced ShutSynced sync = refl
-given_up_synced Bare sync = sync
-given_up_synced Writing sync = sync
 given_up_synced Ready sync = refl
-given_up_synced Opening sync = sync
-given_up_synced Doubt sync = sync
 given_up_synced DoubtSynced sync = refl
+given_up_synced _ sync = sync
 
 module _ (slot : ℕ) (old : List (List ℕ)) (before : List (List ℕ) → Type 0) (now_read : before old) where
   -- what is read is one outcome of a crash

@@ -25,12 +25,8 @@ use Rattle.sd_gate.specs.PlanRuns.{AreChanges, ChangesAlone, FollowsAt, IsChange
 pub makes_alone : (call : Call) (bytes : List ℕ) (slot : ℕ) (old new : List (List ℕ)) → Makes call bytes slot old new → ChangesAlone slot old new
 makes_alone Len bytes slot old new makes = record { count = ap length makes; here = tt; others = λ other apart. ap (λ c. file_at c other) makes }
 makes_alone (Read at) bytes slot old new makes = record { count = ap length makes; here = tt; others = λ other apart. ap (λ c. file_at c other) makes }
-makes_alone (Write at) bytes slot old new makes = record { count = makes.count; here = tt; others = makes.others }
-makes_alone WriteHeader bytes slot old new makes = record { count = makes.count; here = tt; others = makes.others }
-makes_alone Close bytes slot old new makes = record { count = makes.count; here = tt; others = makes.others }
-makes_alone Open bytes slot old new makes = record { count = makes.count; here = tt; others = makes.others }
-makes_alone Cut bytes slot old new makes = record { count = makes.count; here = tt; others = makes.others }
 makes_alone Sync bytes slot old new makes = record { count = ap length makes; here = tt; others = λ other apart. ap (λ c. file_at c other) makes }
+makes_alone _ bytes slot old new makes = record { count = makes.count; here = tt; others = makes.others }
 
 -- no call
 follows_itself : (slot : ℕ) (outcomes : List (List ℕ) → Type 0) → FollowsAt slot outcomes outcomes
@@ -47,33 +43,16 @@ left_so slot image body phase contents old new follows bound fits c has =
 pub done_so : (call : Call) (answer : Answer) → IsChange call → IsAnswerTo call answer → answer ≡ Done
 done_so Len answer change is = absurd change
 done_so (Read at) answer change is = absurd change
-done_so (Write at) answer change is = is
-done_so WriteHeader answer change is = is
-done_so Close answer change is = is
-done_so Open answer change is = is
-done_so Cut answer change is = is
-done_so Sync answer change is = is
+done_so _ answer change is = is
 
 pub kept_so : (call : Call) (old new : List ℕ) → IsChange call → AreKept call old new → new ≡ old
 kept_so Len old new change is = absurd change
 kept_so (Read at) old new change is = absurd change
-kept_so (Write at) old new change is = is
-kept_so WriteHeader old new change is = is
-kept_so Close old new change is = is
-kept_so Open old new change is = is
-kept_so Cut old new change is = is
-kept_so Sync old new change is = is
+kept_so _ old new change is = is
 
 pub no_read_next : (calls : Calls) → AreChanges calls → IsReadNext calls → ⊥
-no_read_next [] changes next = next
-no_read_next ((Len, bytes) ∷ calls) changes next = next
 no_read_next ((Read at, bytes) ∷ calls) changes next = changes.0
-no_read_next ((Write at, bytes) ∷ calls) changes next = next
-no_read_next ((WriteHeader, bytes) ∷ calls) changes next = next
-no_read_next ((Close, bytes) ∷ calls) changes next = next
-no_read_next ((Open, bytes) ∷ calls) changes next = next
-no_read_next ((Cut, bytes) ∷ calls) changes next = next
-no_read_next ((Sync, bytes) ∷ calls) changes next = next
+no_read_next _ changes next = next
 
 -- where no outcome is awaited, the calls that are left are those that were known
 pub known_calls : (calls : Calls) (answer : Answer) (buffer : _) → calls_then calls nothing answer buffer ≡ (calls, nothing)

@@ -16,18 +16,12 @@ use Rattle.sd_gate.proofs.LawLemmas.{behind_whole, leaves_whole_or_closed}
 
 -- a closed slot holds no image
 shut_at_most : (image : List ℕ) (phase : Phase) (body : List ℕ) → may_write phase ≡ true → LeavesAtMost image phase body
-shut_at_most image Raw body ready = absurd (false≢true ready)
-shut_at_most image RawClosing body ready = absurd (false≢true ready)
-shut_at_most image Whole body ready = absurd (false≢true ready)
-shut_at_most image Closing body ready = absurd (false≢true ready)
 shut_at_most image Shut body ready = λ file left. inl (leaves_whole_or_closed Shut body file left)
 shut_at_most image ShutSynced body ready = λ file left. inl (leaves_whole_or_closed ShutSynced body file left)
 shut_at_most image Bare body ready = λ file left. inl (leaves_whole_or_closed Bare body file left)
 shut_at_most image Writing body ready = λ file left. inl (leaves_whole_or_closed Writing body file left)
 shut_at_most image Ready body ready = λ file left. inl (leaves_whole_or_closed Ready body file left)
-shut_at_most image Opening body ready = absurd (false≢true ready)
-shut_at_most image Doubt body ready = absurd (false≢true ready)
-shut_at_most image DoubtSynced body ready = absurd (false≢true ready)
+shut_at_most image _ body ready = absurd (false≢true ready)
 
 -- nor does one that is shorter than a header
 short_at_most : (image body : List ℕ) → LeavesAtMost image Raw body
@@ -75,14 +69,10 @@ retire_takes image Raw body ready most = raw_takes image Raw body refl refl most
 retire_takes image RawClosing body ready most = raw_takes image RawClosing body refl refl most
 retire_takes image Whole body ready most = open_takes image Whole body refl refl most (most (gate ∷ body) refl)
 retire_takes image Closing body ready most = open_takes image Closing body refl refl most (most (gate ∷ body) (opened_file body))
-retire_takes image Shut body ready most = absurd (false≢true ready)
-retire_takes image ShutSynced body ready most = absurd (false≢true ready)
-retire_takes image Bare body ready most = absurd (false≢true ready)
-retire_takes image Writing body ready most = absurd (false≢true ready)
-retire_takes image Ready body ready most = absurd (false≢true ready)
 retire_takes image Opening body ready most = open_takes image Opening body refl refl most (most (gate ∷ body) (opened_file body))
 retire_takes image Doubt body ready most = open_takes image Doubt body refl refl most (most (gate ∷ body) (opened_file body))
 retire_takes image DoubtSynced body ready most = open_takes image DoubtSynced body refl refl most (most (gate ∷ body) (opened_file body))
+retire_takes image _ body ready most = absurd (false≢true ready)
 
 format_takes : (image : List ℕ) (phase : Phase) (body : List ℕ) → LeavesAtMost image phase body → Takes image phase body (format_calls (state_of phase)) Bare []
 format_takes image Raw body most = retire_takes image Raw body refl most
@@ -99,18 +89,12 @@ format_takes image Doubt body most = retire_takes image Doubt body refl most
 format_takes image DoubtSynced body most = retire_takes image DoubtSynced body refl most
 
 pub filled_writes : (phase : Phase) → may_write phase ≡ true → may_write (filled phase) ≡ true
-filled_writes Raw ready = absurd (false≢true ready)
-filled_writes RawClosing ready = absurd (false≢true ready)
-filled_writes Whole ready = absurd (false≢true ready)
-filled_writes Closing ready = absurd (false≢true ready)
 filled_writes Shut ready = refl
 filled_writes ShutSynced ready = refl
 filled_writes Bare ready = refl
 filled_writes Writing ready = refl
 filled_writes Ready ready = refl
-filled_writes Opening ready = absurd (false≢true ready)
-filled_writes Doubt ready = absurd (false≢true ready)
-filled_writes DoubtSynced ready = absurd (false≢true ready)
+filled_writes _ ready = absurd (false≢true ready)
 
 page_takes : (image : List ℕ) (phase : Phase) (body : List ℕ) (place : ℕ) (page : List ℕ) → may_write phase ≡ true
     → Takes image phase body ((Write place, page) ∷ []) (filled phase) (body_after body (Write place) page)

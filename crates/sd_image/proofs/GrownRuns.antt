@@ -16,9 +16,8 @@ use Rattle.sd_image.specs.Runs.{AreRunsOf, IsSourced, PageWay, RunsHavePages, en
 use Rattle.sd_image.proofs.PagePlaces.{kind_number_once}
 
 pub end_of-snoc : (runs : List Run) (run : Run) → end_of (runs ++ run ∷ []) ≡ run.first + run.count
-end_of-snoc [] run = refl
-end_of-snoc (r ∷ []) run = refl
 end_of-snoc (r ∷ s ∷ runs) run = end_of-snoc (s ∷ runs) run
+end_of-snoc _ run = refl
 
 -- the run before the next
 abbrev last_of : Option Run → List Run → Option Run
@@ -58,9 +57,8 @@ longer_after parent (Some last) run after within = grind (arith, nat_tests)
 -- a new run of one page
 single_after : (parent : ℕ) (last : Run) (page : ℕ) (kind : RunKind) → last.first + last.count ≤ page → page < 2 ^ 35 → is_continued last page kind ≡ false
     → IsSourced parent kind → IsTrue (is_run_after parent (Some last) (record { first = page; count = 1; kind = kind }))
-single_after parent last page Data behind within other sourced = grind (arith, nat_tests)
 single_after parent last page Parent behind within other sourced = let some : 0 < parent = sourced refl in grind (arith, nat_tests)
-single_after parent last page Zero behind within other sourced = grind (arith, nat_tests)
+single_after parent last page _ behind within other sourced = grind (arith, nat_tests)
 
 -- What a list of runs has more.
 
@@ -87,8 +85,7 @@ ways_single page kind = refl
 
 both : (a b : Bool) → (a && b) ≡ true → (a ≡ true) × (b ≡ true)
 both true true e = (refl, refl)
-both true false e = absurd (false≢true e)
-both false b e = absurd (false≢true e)
+both _ _ e = absurd (false≢true e)
 
 -- a page that goes on is the one behind the run
 pub ends_at : (run : Run) (page : ℕ) (kind : RunKind) → is_continued run page kind ≡ true → run.first + run.count ≡ page
@@ -125,9 +122,8 @@ more_runs parent pages runs page kind are begins = record {
 
 -- where it begins one
 pub begins_first : (parent page : ℕ) (kind : RunKind) → page < 2 ^ 35 → IsSourced parent kind → BeginsRun parent [] page kind
-begins_first parent page Data within sourced = grind (arith, nat_tests)
 begins_first parent page Parent within sourced = let some : 0 < parent = sourced refl in grind (arith, nat_tests)
-begins_first parent page Zero within sourced = grind (arith, nat_tests)
+begins_first parent page _ within sourced = grind (arith, nat_tests)
 
 pub begins_behind_last : (parent : ℕ) (front : List Run) (last : Run) (page : ℕ) (kind : RunKind) → last.first + last.count ≤ page → page < 2 ^ 35
     → is_continued last page kind ≡ false → IsSourced parent kind → BeginsRun parent (front ++ last ∷ []) page kind

@@ -58,17 +58,14 @@ are_kept bytes u e =
     }
 
 version_back : (n : ℕ) → 1 ≤ n → n ≤ 2 → version_number (version_of n) ≡ n
-version_back zero low high = absurd (omega arith)
 version_back (suc zero) low high = refl
 version_back (suc (suc zero)) low high = refl
-version_back (suc (suc (suc n))) low high = absurd (omega arith)
+version_back _ low high = absurd (omega arith)
 
 kind_back : (n : ℕ) → 1 ≤ n → n ≤ 3 → kind_number (kind_of_number n) ≡ n
 kind_back zero low high = absurd (omega arith)
-kind_back (suc zero) low high = refl
-kind_back (suc (suc zero)) low high = refl
-kind_back (suc (suc (suc zero))) low high = refl
 kind_back (suc (suc (suc (suc n)))) low high = absurd (omega arith)
+kind_back (suc _) low high = refl
 
 -- the bytes spell the fields
 spelled_so : (bytes : List ℕ) → length bytes ≡ 4096 → IsBytes bytes → AreKept bytes → drop 1 bytes ≡ header_text (fields_of (form_of bytes) bytes)
@@ -91,11 +88,10 @@ spelled_so bytes long fits kept =
     piece 1 7 8 bytes magic _ refl kept.magic_is p8
 
 numbers_are : (kind : Kind) (serial stands_for parent : ℕ) → stands_rightly kind serial stands_for ≡ true → parent_rightly kind serial parent ≡ true → AreNumbers kind serial stands_for parent
-numbers_are PreDump serial stands_for parent s p = (eqb-true _ _ s, ltb-true _ _ p)
-numbers_are Dump serial stands_for parent s p = (eqb-true _ _ s, ltb-true _ _ p)
 numbers_are Merged serial stands_for parent s p =
     let parts = and_parts (ltb 0 stands_for) (ltb stands_for serial) s in
     (ltb-true _ _ parts.0, ltb-true _ _ parts.1, eqb-true _ _ p)
+numbers_are _ serial stands_for parent s p = (eqb-true _ _ s, ltb-true _ _ p)
 
 -- fields whose rules hold, and that fit, are a header's
 is_header : (h : Header) (len : ℕ) (u : Unit {0}) → HasWords h → fields_kept h len ≡ Ok u → IsHeader h len
@@ -158,13 +154,11 @@ version_fits Two = (omega arith, omega arith)
 
 kind_again : (kind : Kind) → kind_of_number (kind_number kind) ≡ kind
 kind_again PreDump = refl
-kind_again Dump = refl
-kind_again Merged = refl
+kind_again _ = refl
 
 kind_fits : (kind : Kind) → (1 ≤ kind_number kind) × (kind_number kind ≤ 3)
 kind_fits PreDump = (omega arith, omega arith)
-kind_fits Dump = (omega arith, omega arith)
-kind_fits Merged = (omega arith, omega arith)
+kind_fits _ = (omega arith, omega arith)
 
 -- two headers are one where their fields are
 same_header : (g h : Header) → g.version ≡ h.version → g.kind ≡ h.kind → g.serial ≡ h.serial → g.stands_for ≡ h.stands_for → g.parent ≡ h.parent → g.checkpoint ≡ h.checkpoint → g.pages ≡ h.pages → g.table_len ≡ h.table_len → g.digest ≡ h.digest → g ≡ h
@@ -242,9 +236,8 @@ bytes_again b h words =
     keeps_first (breaks_bytes bytes) reason.Magic (reason.Version ∷ reason.Kind ∷ reason.Reserved ∷ []) all_kept magic_is (keeps_first (breaks_bytes bytes) reason.Version (reason.Kind ∷ reason.Reserved ∷ []) all_kept version_is (keeps_first (breaks_bytes bytes) reason.Kind (reason.Reserved ∷ []) all_kept kind_is (keeps_first (breaks_bytes bytes) reason.Reserved [] all_kept zero_is refl)))
 
 stand_again : (kind : Kind) (serial stands_for parent : ℕ) → AreNumbers kind serial stands_for parent → (stands_rightly kind serial stands_for ≡ true) × (parent_rightly kind serial parent ≡ true)
-stand_again PreDump serial stands_for parent n = (eq-eqb _ _ n.0, lt-ltb _ _ n.1)
-stand_again Dump serial stands_for parent n = (eq-eqb _ _ n.0, lt-ltb _ _ n.1)
 stand_again Merged serial stands_for parent n = (and_from _ _ (lt-ltb _ _ n.0) (lt-ltb _ _ n.1), eq-eqb _ _ n.2)
+stand_again _ serial stands_for parent n = (eq-eqb _ _ n.0, lt-ltb _ _ n.1)
 
 fields_are_kept : (h : Header) (len : ℕ) → IsHeader h len → fields_kept h len ≡ all_kept
 unfolding fields_kept

@@ -59,15 +59,8 @@ last_zero place next item fits n long z =
 
 prot_number : (n : ℕ) → n ≤ 7 → prot_bits (prot_of_number n) ≡ n
 unfolding prot_of_number
-prot_number zero h = refl
-prot_number (suc zero) h = refl
-prot_number (suc (suc zero)) h = refl
-prot_number (suc (suc (suc zero))) h = refl
-prot_number (suc (suc (suc (suc zero)))) h = refl
-prot_number (suc (suc (suc (suc (suc zero))))) h = refl
-prot_number (suc (suc (suc (suc (suc (suc zero)))))) h = refl
-prot_number (suc (suc (suc (suc (suc (suc (suc zero))))))) h = refl
 prot_number (suc (suc (suc (suc (suc (suc (suc (suc n)))))))) h = absurd (omega arith)
+prot_number _ h = refl
 
 area_spelled : (item : List ℕ) → length item ≡ 24 → IsBytes item → number_at 4 16 item ≤ 7 → number_at 4 20 item ≡ 0 → item ≡ area_text (area_of item)
 unfolding area_of
@@ -92,10 +85,8 @@ area_takes before bytes x fits e =
 
 kind_number_back : (n : ℕ) → 1 ≤ n → n ≤ 3 → run_kind_number (run_kind_of n) ≡ n
 kind_number_back zero low high = absurd (omega arith)
-kind_number_back (suc zero) low high = refl
-kind_number_back (suc (suc zero)) low high = refl
-kind_number_back (suc (suc (suc zero))) low high = refl
 kind_number_back (suc (suc (suc (suc n)))) low high = absurd (omega arith)
+kind_number_back (suc _) low high = refl
 
 run_spelled : (item : List ℕ) → length item ≡ 24 → IsBytes item → 1 ≤ number_at 4 16 item → number_at 4 16 item ≤ 3 → number_at 4 20 item ≡ 0 → item ≡ run_text (run_of item)
 unfolding run_of
@@ -122,13 +113,10 @@ run_takes parent before bytes x fits e =
 
 prot_small : (read write execute : Bool) → prot_bits (record { read = read; write = write; execute = execute }) ≤ 7
 prot_small false false false = omega arith
-prot_small false false true = omega arith
 prot_small false true false = omega arith
-prot_small false true true = omega arith
 prot_small true false false = omega arith
-prot_small true false true = omega arith
 prot_small true true false = omega arith
-prot_small true true true = omega arith
+prot_small _ _ _ = omega arith
 
 same_area : (a b : Area) → a.first ≡ b.first → a.count ≡ b.count → a.prot ≡ b.prot → a ≡ b
 same_area a b f n p = rw (f, n, p) refl
@@ -168,13 +156,11 @@ area_again before a rest good =
 
 kind_back : (kind : RunKind) → run_kind_of (run_kind_number kind) ≡ kind
 kind_back Data = refl
-kind_back Parent = refl
-kind_back Zero = refl
+kind_back _ = refl
 
 kind_small : (kind : RunKind) → (1 ≤ run_kind_number kind) × (run_kind_number kind ≤ 3)
 kind_small Data = (omega arith, omega arith)
-kind_small Parent = (omega arith, omega arith)
-kind_small Zero = (omega arith, omega arith)
+kind_small _ = (omega arith, omega arith)
 
 run_fields : (r : Run) → IsRange r.first r.count → (run_of (run_text r) ≡ r) × (number_at 4 16 (run_text r) ≡ run_kind_number r.kind) × (number_at 4 20 (run_text r) ≡ 0)
 unfolding run_of number_at number_bytes zero_bytes

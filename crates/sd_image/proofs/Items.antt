@@ -17,13 +17,10 @@ use Rattle.sd_image.specs.Reading.{number_at, item_at, prot_of_number, area_of, 
 prot_made : (read write execute : Bool) → prot_of_number (prot_bits (record { read = read; write = write; execute = execute })) ≡ record { read = read; write = write; execute = execute }
 unfolding prot_of_number
 prot_made false false false = refl
-prot_made false false true = refl
 prot_made false true false = refl
-prot_made false true true = refl
 prot_made true false false = refl
-prot_made true false true = refl
 prot_made true true false = refl
-prot_made true true true = refl
+prot_made _ _ _ = refl
 
 pub prot_back : (prot : Prot) → prot_of_number (prot_bits prot) ≡ prot
 prot_back prot = prot_made prot.read prot.write prot.execute

@@ -18,24 +18,7 @@ reason_with n = get_or (reason.Magic ∷ reason.Magic ∷ reason.Version ∷ rea
 number_back : (r : Reason) → reason_with (reason_number r) ≡ r
 unfolding reason_with
 number_back reason.Magic = refl
-number_back reason.Version = refl
-number_back reason.Kind = refl
-number_back reason.Reserved = refl
-number_back reason.Serial = refl
-number_back reason.StandsFor = refl
-number_back reason.Parent = refl
-number_back reason.Checkpoint = refl
-number_back reason.Length = refl
-number_back reason.PastEnd = refl
-number_back reason.Space = refl
-number_back reason.Area = refl
-number_back reason.Run = refl
-number_back reason.Zero = refl
-number_back reason.Coverage = refl
-number_back reason.Total = refl
-number_back reason.Digest = refl
-number_back reason.Chain = refl
-number_back reason.DoubleSerial = refl
+number_back _ = refl
 
 pub number_once : (q r : Reason) → reason_number q ≡ reason_number r → q ≡ r
 number_once q r e = sym (number_back q) ∙ ap reason_with e ∙ number_back r
@@ -157,16 +140,7 @@ behind_header bytes len reason.StandsFor past = absurd (omega arith)
 behind_header bytes len reason.Parent past = absurd (omega arith)
 behind_header bytes len reason.Checkpoint past = absurd (omega arith)
 behind_header bytes len reason.Length past = absurd (omega arith)
-behind_header bytes len reason.PastEnd past = refl
-behind_header bytes len reason.Space past = refl
-behind_header bytes len reason.Area past = refl
-behind_header bytes len reason.Run past = refl
-behind_header bytes len reason.Zero past = refl
-behind_header bytes len reason.Coverage past = refl
-behind_header bytes len reason.Total past = refl
-behind_header bytes len reason.Digest past = refl
-behind_header bytes len reason.Chain past = refl
-behind_header bytes len reason.DoubleSerial past = refl
+behind_header bytes len _ past = refl
 
 pub least_header_reason_lem : LeastHeaderReason
 least_header_reason_lem bytes len r = (

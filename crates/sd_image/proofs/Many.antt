@@ -45,11 +45,10 @@ abbrev pub last_of : {X : Type 0} → List X → Option X
 last_of xs = slice_get xs (length xs - 1)
 
 pub last_push : {X : Type 0} (xs : List X) (x : X) → last_of (xs ++ x ∷ []) ≡ Some x
-last_push [] x = refl
-last_push (y ∷ []) x = refl
 last_push (y ∷ z ∷ xs) x =
     let n : length (y ∷ z ∷ (xs ++ x ∷ [])) - 1 ≡ suc (length (z ∷ (xs ++ x ∷ [])) - 1) = omega arith in
     rw n (last_push (z ∷ xs) x)
+last_push _ x = refl
 
 -- one more item, where the caller sees what was read by a view, and memory may run out
 pub ends_fails : {X S : Type 0} (read : S → List ℕ → Result (X × List ℕ) Reason) (after : X → S) (front : List X) (count i : ℕ) (state : S) (bytes : List ℕ) (e : TableError) (total : Result (List X × List ℕ) Reason)

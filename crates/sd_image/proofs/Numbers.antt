@@ -41,10 +41,9 @@ number_fits n place bytes fits = little_from-lt 0 n (drop place bytes) (IsBytes-
 pub zeros_are : (n : ℕ) (bytes : List ℕ) → length bytes ≡ n → are_zero bytes ≡ true → zero_bytes n ≡ bytes
 unfolding zero_bytes are_zero
 zeros_are zero [] e z = refl
-zeros_are (suc n) [] e z = absurd (omega arith)
-zeros_are zero (b ∷ bytes) e z = absurd (omega arith)
 zeros_are (suc n) (b ∷ bytes) e z =
     let parts = and_parts (eqb b 0) (list_all (λ x. eqb x 0) bytes) z in
     let rest : replicate n 0 ≡ bytes = zeros_are n bytes (omega arith) parts.1 in
     let head : b ≡ 0 = eqb-true b 0 parts.0 in
     cc
+zeros_are _ _ e z = absurd (omega arith)

@@ -15,21 +15,18 @@ use Rattle.sd_image.proofs.Members.{contains_cases}
 -- two texts with fronts of one length
 fronts_once : (a b : List ℕ) (s t : List ℕ) → length a ≡ length b → a ++ s ≡ b ++ t → (a ≡ b) × (s ≡ t)
 fronts_once [] [] s t n e = (refl, e)
-fronts_once [] (y ∷ b) s t n e = absurd (omega arith)
-fronts_once (x ∷ a) [] s t n e = absurd (omega arith)
 fronts_once (x ∷ a) (y ∷ b) s t n e =
     let rest : a ++ s ≡ b ++ t = cc in
     let found = fronts_once a b s t (omega arith) rest in
     let front : a ≡ b = found.0 in
     let first : x ≡ y = cc in
     (cc, found.1)
+fronts_once _ _ s t n e = absurd (omega arith)
 
 -- equally many pages, each of so many bytes, and what stands behind them
 pages_once : (n : ℕ) (ps qs : List (List ℕ)) (s t : List ℕ) → AllByRecursion (λ page. length page ≡ n) ps → AllByRecursion (λ page. length page ≡ n) qs
     → length ps ≡ length qs → concat ps ++ s ≡ concat qs ++ t → (ps ≡ qs) × (s ≡ t)
 pages_once n [] [] s t a b m e = (refl, e)
-pages_once n [] (q ∷ qs) s t a b m e = absurd (omega arith)
-pages_once n (p ∷ ps) [] s t a b m e = absurd (omega arith)
 pages_once n (p ∷ ps) (q ∷ qs) s t a b m e =
     let parts : p ++ (concat ps ++ s) ≡ q ++ (concat qs ++ t) = sym (append_assoc p (concat ps) s) ∙ e ∙ append_assoc q (concat qs) t in
     let first = fronts_once p q (concat ps ++ s) (concat qs ++ t) (a.0 ∙ sym b.0) parts in
@@ -37,6 +34,7 @@ pages_once n (p ∷ ps) (q ∷ qs) s t a b m e =
     let here : p ≡ q = first.0 in
     let others : ps ≡ qs = rest.0 in
     (cc, rest.1)
+pages_once n _ _ s t a b m e = absurd (omega arith)
 
 same_image : (i j : Image) → i.header ≡ j.header → i.pages ≡ j.pages → i.spaces ≡ j.spaces → i ≡ j
 same_image i j h p s = rw (h, p, s) refl

@@ -95,9 +95,8 @@ listed_at (s ∷ spaces) space e =
 
 same_space : (a b : Option Space) → is_some a ≡ is_some b → (is_some a ≡ true → (page : ℕ) → option_and_then (λ (pages : Space). finmap.get pages page) a ≡ option_and_then (λ (pages : Space). finmap.get pages page) b) → a ≡ b
 same_space None None alive pages = refl
-same_space None (Some q) alive pages = absurd cc
-same_space (Some p) None alive pages = absurd cc
 same_space (Some p) (Some q) alive pages = ap Some (same_map nat_cmp_total nat_cmp-IsAntisymmetric p q (pages refl))
+same_space _ _ alive pages = absurd cc
 
 memory_once : (contents : List (List ℕ)) (images : List Image) (i : Image) (m n : PlainMemory) → IsStore contents images → Contains images i
     → IsMemory images i m → IsMemory images i n → m ≡ n

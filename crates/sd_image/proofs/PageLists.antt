@@ -70,21 +70,18 @@ not_met all run left wanted others h e = append_cancel_left h.met left (wanted +
 pub other_page : (all run others : List ℕ) (first page count wanted : ℕ) (behind : List ℕ) → 0 < wanted → 0 < count → (page ≡ first → ⊥)
     → IsMet all run (pages_from page count ++ behind) (pages_from first wanted) → all ≡ run ++ others → ⊥
 unfolding pages_from
-other_page all run others first page zero wanted behind w c differ h e = absurd (omega arith)
-other_page all run others first page (suc count) zero behind w c differ h e = absurd (omega arith)
 other_page all run others first page (suc count) (suc wanted) behind w c differ h e =
     let k = not_met all run (page ∷ (pages_from (suc page) count ++ behind)) (first ∷ pages_from (suc first) wanted) others h e in
     differ (cc)
+other_page all run others first page _ _ behind w c differ h e = absurd (omega arith)
 
 pub no_page : (all run others : List ℕ) (first page count wanted : ℕ) (areas : List Area) → 0 < wanted → count ≡ 0 → length areas ≡ 0
     → IsMet all run (pages_from page count ++ flat_map area_pages areas) (pages_from first wanted) → all ≡ run ++ others → ⊥
 unfolding pages_from
-no_page all run others first page (suc count) wanted areas w c none h e = absurd (omega arith)
-no_page all run others first page zero zero areas w c none h e = absurd (omega arith)
-no_page all run others first page zero (suc wanted) (area ∷ areas) w c none h e = absurd (omega arith)
 no_page all run others first page zero (suc wanted) [] w c none h e =
     let k = not_met all run [] (first ∷ pages_from (suc first) wanted) others h e in
     absurd cc
+no_page all run others first page _ _ _ w c none h e = absurd (omega arith)
 
 pub left_over : (xs ys : List ℕ) → pages_eq (xs ++ ys) xs ≡ pages_eq ys []
 left_over [] ys = refl

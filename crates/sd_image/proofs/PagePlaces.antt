@@ -142,14 +142,9 @@ few_of_kind kind h spaces good =
 
 pub kind_number_once : (a b : RunKind) → run_kind_number a ≡ run_kind_number b → a ≡ b
 kind_number_once Data Data e = refl
-kind_number_once Data Parent e = absurd (omega arith)
-kind_number_once Data Zero e = absurd (omega arith)
-kind_number_once Parent Data e = absurd (omega arith)
 kind_number_once Parent Parent e = refl
-kind_number_once Parent Zero e = absurd (omega arith)
-kind_number_once Zero Data e = absurd (omega arith)
-kind_number_once Zero Parent e = absurd (omega arith)
 kind_number_once Zero Zero e = refl
+kind_number_once _ _ e = absurd (omega arith)
 
 test_holds : (b : Bool) (xs : List (ℕ × ℕ)) (x : ℕ × ℕ) → Contains (cond b xs []) x → b ≡ true
 test_holds true xs x c = refl

@@ -106,8 +106,7 @@ done item rest = Ok (item, rest)
 
 limit_small : (kind : Kind) → area_limit kind ≤ 1024
 limit_small PreDump = omega arith
-limit_small Dump = omega arith
-limit_small Merged = omega arith
+limit_small _ = omega arith
 
 head_again : (kind : Kind) (before : ℕ) (head : SpaceHead) (rest : List ℕ) → before < head.space → head.space ≤ 16 → head.areas ≤ area_limit kind → head.runs < 256 ^ 8 → space_head_at kind before (head_text head ++ rest) ≡ Ok (head, rest)
 unfolding space_head_at
@@ -125,19 +124,16 @@ unfolding covers
 covers_so PreDump areas runs few e =
     let some : length runs ≡ 0 → ⊥ = eqb-false (length runs) 0 (not-true _ e) in
     (nil_from_length areas (omega arith), λ none. some (ap length none))
-covers_so Dump areas runs few e = sym ((bytes_eq-Decides (flat_map area_pages areas) (flat_map run_pages runs)).0 e)
-covers_so Merged areas runs few e = sym ((bytes_eq-Decides (flat_map area_pages areas) (flat_map run_pages runs)).0 e)
+covers_so _ areas runs few e = sym ((bytes_eq-Decides (flat_map area_pages areas) (flat_map run_pages runs)).0 e)
 
 covers_again : (kind : Kind) (areas : List Area) (runs : List Run) → Covers kind areas runs → covers kind areas runs ≡ true
 unfolding covers
 covers_again PreDump areas runs h = not_from_false (eqb (length runs) 0) (ne_eqb (length runs) 0 (λ none. h.1 (nil_from_length runs none)))
-covers_again Dump areas runs h = (bytes_eq-Decides (flat_map area_pages areas) (flat_map run_pages runs)).1 (sym h)
-covers_again Merged areas runs h = (bytes_eq-Decides (flat_map area_pages areas) (flat_map run_pages runs)).1 (sym h)
+covers_again _ areas runs h = (bytes_eq-Decides (flat_map area_pages areas) (flat_map run_pages runs)).1 (sym h)
 
 limit_kept : (kind : Kind) (areas : List Area) (runs : List Run) → length areas ≤ 1024 → Covers kind areas runs → length areas ≤ area_limit kind
 limit_kept PreDump areas runs few h = omega (arith, ap length h.0)
-limit_kept Dump areas runs few h = few
-limit_kept Merged areas runs few h = few
+limit_kept _ areas runs few h = few
 
 -- ---- a space has fewer runs than pages
 

@@ -132,21 +132,13 @@ pub was_mapped : (asked : Command) (answer : Reply) (memory : PlainMemory) (spac
 was_mapped (command.Mmap s address bytes prot) told.Done memory space page mapped =
     set_mapped memory s (page_of address) (pages_for bytes) _ space page (IsMadeBy (command.Mmap s address bytes prot) told.Done space page)
     (λ own within. record { touched = both _ _ own within; protected = both _ _ own within }) mapped
-was_mapped (command.Mmap s address bytes prot) answer memory space page mapped = inl mapped
 was_mapped (command.Munmap s address bytes) told.Done memory space page mapped = no_more memory space page (removed_run_mapped memory s (page_of address) (pages_for bytes) space page mapped)
-was_mapped (command.Munmap s address bytes) answer memory space page mapped = inl mapped
 was_mapped (command.Mprotect s address bytes prot) told.Done memory space page mapped =
     no_more memory space page (changed_run_mapped memory s (page_of address) (pages_for bytes) (λ (found : Page). record found { prot = prot }) space page mapped)
-was_mapped (command.Mprotect s address bytes prot) answer memory space page mapped = inl mapped
 was_mapped (command.Fork parent) (told.Child child) memory space page mapped =
     put_mapped memory child (inside memory parent) space page (IsMadeBy (command.Fork parent) (told.Child child) space page) mapped
     (λ e some. inr (record { touched = turned space child e; protected = or_second (parent == space) (child == space) (turned space child e) }))
-was_mapped (command.Fork parent) answer memory space page mapped = inl mapped
 was_mapped (command.Exit s) told.Done memory space page mapped = inl (removed_mapped memory s space page mapped)
-was_mapped (command.Exit s) answer memory space page mapped = inl mapped
-was_mapped (command.Load s address count) answer memory space page mapped = inl mapped
 was_mapped (command.TryStore s address bytes) told.Done memory space page mapped = inl (stored_mapped memory s (page_of address) _ space page mapped)
-was_mapped (command.TryStore s address bytes) answer memory space page mapped = inl mapped
-was_mapped (command.Fault s address) answer memory space page mapped = inl mapped
 was_mapped (command.Store s address bytes) told.Done memory space page mapped = inl (stored_mapped memory s (page_of address) _ space page mapped)
-was_mapped (command.Store s address bytes) answer memory space page mapped = inl mapped
+was_mapped _ answer memory space page mapped = inl mapped

@@ -95,25 +95,11 @@ applied pages effects base items old new seat command reply sound tracked none l
 
 pub frozen_passes : (command : Command) → event_of command (Refused Frozen) ≡ Passed
 frozen_passes (command.Mmap space address bytes prot) = refl
-frozen_passes (command.Munmap space address bytes) = refl
-frozen_passes (command.Mprotect space address bytes prot) = refl
-frozen_passes (command.Fork space) = refl
-frozen_passes (command.Exit space) = refl
-frozen_passes (command.Load space address count) = refl
-frozen_passes (command.TryStore space address bytes) = refl
-frozen_passes (command.Fault space address) = refl
-frozen_passes (command.Store space address bytes) = refl
+frozen_passes _ = refl
 
 pub frozen_leaves : (command : Command) (memory : PlainMemory) → effect command (Refused Frozen) memory ≡ memory
 frozen_leaves (command.Mmap space address bytes prot) memory = refl
-frozen_leaves (command.Munmap space address bytes) memory = refl
-frozen_leaves (command.Mprotect space address bytes prot) memory = refl
-frozen_leaves (command.Fork space) memory = refl
-frozen_leaves (command.Exit space) memory = refl
-frozen_leaves (command.Load space address count) memory = refl
-frozen_leaves (command.TryStore space address bytes) memory = refl
-frozen_leaves (command.Fault space address) memory = refl
-frozen_leaves (command.Store space address bytes) memory = refl
+frozen_leaves _ memory = refl
 
 pub frozen : (base : Base) (items : Marked) (contents : Contents) (seat n : ℕ) (command : Command)
     → IsTracked base items contents → pending (entries_of items) ≡ Some n

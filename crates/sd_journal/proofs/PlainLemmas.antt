@@ -238,9 +238,8 @@ module _ {X : Type 0} where
       apart first k q here = grind (arith, nat_tests)
 
   stays_by : (change : X → X) (o : Option X) (here before : Bool) → (here ≡ true → o ≡ None) → option_map (λ x. cond before (change x) x) o ≡ option_map (λ x. cond (here || before) (change x) x) o
-  stays_by change None here before none = refl
   stays_by change (Some x) true before none = absurd (let f : Some x ≡ None = none refl in cc)
-  stays_by change (Some x) false before none = refl
+  stays_by change _ _ before none = refl
 
   pub change_skips : (change : X → X) (t : Table X) (first k : ℕ) → first ≤ k → finmap.get t k ≡ None → change_within change t first (k - first) ≡ change_within change t first (k + 1 - first)
   change_skips change t first k le none = same_table _ _ (λ q. get-change_within change t first (k - first) q

@@ -321,11 +321,9 @@ allowed base kept folded n shown was ended = (
 -- ---- there is one front
 
 ends_pending : (n : ℕ) (before : History) (entry : Entry) → Ends n before entry → pending before ≡ Some n
-ends_pending n before (Applied seat command reply) ends = absurd ends
-ends_pending n before (Freeze m) ends = absurd ends
 ends_pending n before (Acked m) ends = ends.1
-ends_pending n before (Cancelled m) ends = absurd ends
 ends_pending n before (Reopened m) ends = ends.1
+ends_pending n before _ ends = absurd ends
 
 never_less : {P : Type 0} (n : ℕ) → n < n → P
 never_less n less = absurd (omega (arith, less))

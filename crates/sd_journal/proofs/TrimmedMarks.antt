@@ -33,11 +33,9 @@ memory_behind base kept folded n = trim.memory base (entries_of kept) (entries_o
 -- ---- marks
 
 ended_visits : (n : ℕ) (entry : Entry) (earlier : Marked) → Ends n (entries_of earlier) entry → visiting (Told entry ∷ earlier) ≡ None
-ended_visits n (Applied seat command reply) earlier ends = absurd ends
-ended_visits n (Freeze m) earlier ends = absurd ends
 ended_visits n (Acked m) earlier ends = refl
-ended_visits n (Cancelled m) earlier ends = absurd ends
 ended_visits n (Reopened m) earlier ends = refl
+ended_visits n _ earlier ends = absurd ends
 
 visiting_folded : (n : ℕ) (folded : Marked) → IsFolded n folded → visiting folded ≡ None
 visiting_folded n folded f =
@@ -187,11 +185,7 @@ was_there base (Told (Applied seat command reply)) items space page mapped = eli
   | inl was ↦ inl was
   | inr made ↦ inr (made.touched, made.protected)
 ]
-was_there base (Told (Freeze m)) items space page mapped = inl mapped
-was_there base (Told (Acked m)) items space page mapped = inl mapped
-was_there base (Told (Cancelled m)) items space page mapped = inl mapped
-was_there base (Told (Reopened m)) items space page mapped = inl mapped
-was_there base (Noted mark) items space page mapped = inl mapped
+was_there base _ items space page mapped = inl mapped
 
 pub due_stays : (base : Base) (kept folded : Marked) (n space page : ℕ) → IsFolded n folded → HasVisited base folded
     → is_mapped (memory_at base (kept ++ folded)) space page ≡ true

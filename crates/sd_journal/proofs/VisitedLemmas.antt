@@ -71,13 +71,11 @@ clean_since base (Noted (Visit s at number) ∷ earlier) n space page marked is 
 
 clean_end : (base : Base) (before : Marked) (n space page : ℕ) (entry : Entry) → IsMarked base before → Ends n (entries_of before) entry
     → visited_since (Told entry ∷ before) n space page ≡ true → IsClean base (Told entry ∷ before) space page
-clean_end base before n space page (Applied seat command reply) marked ends visited = absurd ends
-clean_end base before n space page (Freeze m) marked ends visited = absurd ends
 clean_end base before n space page (Acked m) marked ends visited =
     passes base (Told (Acked m)) before space page refl (clean_since base before n space page marked ends.1 visited)
-clean_end base before n space page (Cancelled m) marked ends visited = absurd ends
 clean_end base before n space page (Reopened m) marked ends visited =
     passes base (Told (Reopened m)) before space page refl (clean_since base before n space page marked ends.1 visited)
+clean_end base before n space page _ marked ends visited = absurd ends
 
 clean_folded : (base : Base) (folded : Marked) (n space page : ℕ) (entry : Entry) (before : Marked) → folded ≡ Told entry ∷ before → IsMarked base folded
     → IsEnded n (entries_of folded) → visited_since folded n space page ≡ true → IsClean base folded space page

@@ -89,11 +89,8 @@ fills law order source entries pages header tables f = law.image pages header (t
 
 pub filed_asked : (stage : Stage) (plan : Planned) (order : CopyOrder) (source : Image) (entries : List ImageEntry) (pages : Pages) → IsFiledIn stage order source entries pages
     → IsFiledIn (with_plan stage plan) order source entries pages
-filed_asked (Format old) plan order source entries pages is = tt
-filed_asked PassStage plan order source entries pages is = tt
-filed_asked (PageRead old) plan order source entries pages is = tt
-filed_asked (PageWrite old) plan order source entries pages is = tt
 filed_asked (Close old header tables) plan order source entries pages is = is
+filed_asked _ plan order source entries pages is = tt
 
 filed_after : (stage : Stage) (plan : Planned) (calls : Calls) (order : CopyOrder) (source : Image) (entries : List ImageEntry) (pages : Pages) → IsFiledIn stage order source entries pages
     → IsFiledIn (stage_after stage plan calls) order source entries pages

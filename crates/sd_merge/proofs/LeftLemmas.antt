@@ -164,11 +164,7 @@ doing_some running (retiring r) is = retiring_some r is.under_way
 
 hands_due : (running : Running) (old : Doing) (done : MergeProgress) (new : Doing) → StaysStrange old done new → is_strange done ≡ false → doing_left running new < doing_left running old
 hands_due running old progress.Strange new h strange = absurd (both_ways true strange refl)
-hands_due running old progress.Failed new h strange = absurd h
-hands_due running old progress.More new h strange = absurd h
-hands_due running old (progress.Opened one) new h strange = absurd h
-hands_due running old (progress.Closed one) new h strange = absurd h
-hands_due running old (progress.Merged serial) new h strange = absurd h
+hands_due running old _ new h strange = absurd h
 
 hands_copying : (running : Running) (old : Copying) (made : Made) (done : MergeProgress) (new : Doing) → HandsCopying old made done new → is_strange done ≡ false → ends done ≡ false
     → doing_left running new < doing_left running (copying old)
@@ -178,8 +174,7 @@ hands_copying running old made progress.More new h strange goes =
     plus_list (copy_left h.copy) (copy_left old) (6 * length running.before + 1) (doing_left running new) (goes_on_fewer old h.copy made h.hands) (ap (doing_left running) h.is)
 hands_copying running old made (progress.Opened one) new h strange goes =
     more_list (copy_left old) (6 * length running.before + 1) (doing_left running new) (opens_some old made one h.hands) (ap (doing_left running) h.is)
-hands_copying running old made (progress.Closed one) new h strange goes = absurd h
-hands_copying running old made (progress.Merged serial) new h strange goes = absurd h
+hands_copying running old made _ new h strange goes = absurd h
 
 within_list : {X : Type 0} (xs : List X) (k : ℕ) (x : X) → slice_get xs k ≡ Some x → k < length xs
 within_list {X} [] k x e = absurd (let f : ◌≡◌ {A = Option X} None (Some x) = e in cc)
@@ -209,12 +204,11 @@ ends_fewer old new made last e =
 
 hands_closing : (old new : Retiring) (made : Made) (done : MergeProgress) → HandsClosing old made done new → is_strange done ≡ false → ends done ≡ false → retiring_left new < retiring_left old
 hands_closing old new made progress.Strange h strange goes = absurd (both_ways true strange refl)
-hands_closing old new made progress.Failed h strange goes = absurd (both_ways true goes refl)
 hands_closing old new made progress.More (inl h) strange goes = goes_with_fewer old new made h.0
 hands_closing old new made progress.More (inr h) strange goes = ends_fewer old new made h.0 h.1
 hands_closing old new made (progress.Opened one) h strange goes = absurd h
 hands_closing old new made (progress.Closed one) h strange goes = goes_with_fewer old new made h.goes
-hands_closing old new made (progress.Merged serial) h strange goes = absurd (both_ways true goes refl)
+hands_closing old new made _ h strange goes = absurd (both_ways true goes refl)
 
 hands_at : (running : Running) (old : Doing) (made : Made) (done : MergeProgress) (new : Doing) → HandsAt old made done new → is_strange done ≡ false → ends done ≡ false
     → doing_left running new < doing_left running old
@@ -252,7 +246,6 @@ hands old made (progress.Merged serial) new h strange are = handed old made (pro
 retires : (running : Running) (list : List Retired) (done : MergeProgress) (new : Option Running) → TakesList (Some running) list done new → is_strange done ≡ false
     → length list ≤ length running.before → left_of new < left_of (Some running)
 retires running list progress.Strange new h strange few = absurd (both_ways true strange refl)
-retires running list progress.Failed new h strange few = absurd h
 retires running list progress.More new h strange few =
     let is : running ≡ h.running = one_running running h.running h.was in
     let was : running_left running ≡ 6 * length running.before + 1 = ap (doing_left running) (ap (λ (r : Running). r.doing) is ∙ h.opened) in
@@ -262,8 +255,6 @@ retires running list progress.More new h strange few =
   where
     one_running : (a b : Running) → Some a ≡ Some b → a ≡ b
     one_running a b e = cc
-retires running list (progress.Opened one) new h strange few = absurd h
-retires running list (progress.Closed one) new h strange few = absurd h
 retires running list (progress.Merged serial) new h strange few = by running.doing h.awaited (ap left_of h.is)
   where
     by : (d : Doing) → awaited_in d ≡ Some serial → left_of new ≡ 0 → left_of new < doing_left running d
@@ -271,6 +262,7 @@ retires running list (progress.Merged serial) new h strange few = by running.doi
     by (copying copy) e none = absurd (let f : ◌≡◌ {A = Option ℕ} None (Some serial) = e in cc)
     by (opened number) e none = omega arith
     by (retiring r) e none = absurd (let f : ◌≡◌ {A = Option ℕ} None (Some serial) = e in cc)
+retires running list _ new h strange few = absurd h
 
 idle : (running : Option Running) → AreRunning running → left_of running ≡ 0 ↔ running ≡ None
 idle None are = (λ e. refl, λ e. refl)

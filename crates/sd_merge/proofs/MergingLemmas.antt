@@ -165,11 +165,8 @@ holds_zero places catalog serial source at is lies =
 -- ---- the steps
 
 pub over_asked : (stage : Stage) (plan : Planned) (rest : List Place) → IsOverIn stage rest → IsOverIn (with_plan stage plan) rest
-over_asked (Format old) plan rest is = tt
-over_asked PassStage plan rest is = tt
-over_asked (PageRead old) plan rest is = tt
-over_asked (PageWrite old) plan rest is = tt
 over_asked (Close old header tables) plan rest is = is
+over_asked _ plan rest is = tt
 
 abbrev first_bytes : Calls → List ℕ
 first_bytes [] = []
@@ -373,14 +370,11 @@ read_more : (stage : Stage) (catalog : List Image) (source : Image) (entries : L
     → ((at : Place) (bytes : List ℕ) → taking ≡ Some at → old ≡ Some bytes → (length bytes ≡ 4096) × Holds catalog at.0 at.1 bytes source)
     → TellsIn stage catalog source taking made
     → (at : Place) (bytes : List ℕ) → taking ≡ Some at → read_after stage made old ≡ Some bytes → (length bytes ≡ 4096) × Holds catalog at.0 at.1 bytes source
-read_more (Format plan) catalog source entries taking old made was tells at bytes e f = was at bytes e f
-read_more PassStage catalog source entries taking old made was tells at bytes e f = was at bytes e f
 read_more (PageRead plan) catalog source entries taking old made was tells at bytes e f =
     let told = tells at e in
     let same : made.request.bytes ≡ bytes = sym (page_whole made.request.bytes told.0) ∙ one_some (page_or_zeros made.request.bytes) bytes f in
     subst (λ (b : List ℕ). (length b ≡ 4096) × Holds catalog at.0 at.1 b source) same told
-read_more (PageWrite plan) catalog source entries taking old made was tells at bytes e f = was at bytes e f
-read_more (Close plan header tables) catalog source entries taking old made was tells at bytes e f = was at bytes e f
+read_more _ catalog source entries taking old made was tells at bytes e f = was at bytes e f
 
 hands : (catalog : List Image) (source : Image) (pages : Pages) (old new : Copying) (made : Made) → HandsIn old made progress.More new → IsSoundCopy old
     → TellsIn old.stage catalog source old.taking made → KeepsCopy catalog source pages old → KeepsCopy catalog source pages new

@@ -80,27 +80,18 @@ next_of places inside old after next is last page =
 
 pub zero_step : (ticket : ℕ) (places : Places) (old new : Copying) (step : MergeStep) (at : Place) → (AreImages places → IsNextAt places old at found.Zero)
     → IsZeroStep step × TakesZero at old new → Steps ticket places old step new
-zero_step ticket places old new (Call request) at next is = absurd is.0
-zero_step ticket places old new (ReadCall request) at next is = absurd is.0
-zero_step ticket places old new (PageCall request) at next is = absurd is.0
-zero_step ticket places old new (TableCall request) at next is = absurd is.0
 zero_step ticket places old new Zero at next is = record { at = at; takes = is.1; next = next }
+zero_step ticket places old new _ at next is = absurd is.0
 
 pub read_step : (ticket : ℕ) (places : Places) (old new : Copying) (step : MergeStep) (at : Place) (slot place : ℕ) → (AreImages places → IsNextAt places old at (found.Data slot (data_place place)))
     → IsReadCallOf (λ request. ReadsPage at slot place old request new × IsAskedBy Merger ticket request) step → Steps ticket places old step new
-read_step ticket places old new (Call request) at slot place next is = absurd is
 read_step ticket places old new (ReadCall request) at slot place next is = (record { at = at; slot = slot; place = place; reads = is.0; next = next }, is.1)
-read_step ticket places old new (PageCall request) at slot place next is = absurd is
-read_step ticket places old new (TableCall request) at slot place next is = absurd is
-read_step ticket places old new Zero at slot place next is = absurd is
+read_step ticket places old new _ at slot place next is = absurd is
 
 pub table_step : (ticket : ℕ) (places : Places) (old new : Copying) (step : MergeStep) → (AreImages places → IsNextPageOfImage places old.order.source.serial (cursor old) None)
     → IsTableCallOf (λ request. WritesTable places old request new × IsAskedBy Merger ticket request) step → Steps ticket places old step new
-table_step ticket places old new (Call request) over is = absurd is
-table_step ticket places old new (ReadCall request) over is = absurd is
-table_step ticket places old new (PageCall request) over is = absurd is
 table_step ticket places old new (TableCall request) over is = (record { writes = is.0; over = over }, is.1)
-table_step ticket places old new Zero over is = absurd is
+table_step ticket places old new _ over is = absurd is
 
 -- where the page lies, by the number of its data page
 pub placed : FewPages → (places : Places) → IsSoundCatalog places → (old : Copying) (at : Place) (slot offset place : ℕ) → ((number : ℕ) → offset ≡ data_place number → place ≡ number)

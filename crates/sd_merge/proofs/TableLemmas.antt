@@ -148,8 +148,7 @@ record IsJoined (h : Header) (before : ℕ) (taken tables : List Listed) : Type 
 
 pub covers : (kind : Kind) (areas : List Area) (runs : List Run) → kind ≢ PreDump → Covers kind areas runs → flat_map run_pages runs ≡ flat_map area_pages areas
 covers PreDump areas runs other is = absurd (other refl)
-covers Dump areas runs other is = is
-covers Merged areas runs other is = is
+covers _ areas runs other is = is
 
 -- a space with other runs that have its pages
 other_space : (old h : Header) (before : ℕ) (s : Listed) (runs : List Run) → old.kind ≢ PreDump → h.kind ≡ Merged → h.parent ≡ 0 → IsSpace old before s → AreRuns 0 None runs

@@ -52,8 +52,6 @@ abbrev length_read : Bool → ℕ → Following
 length_read test n = if test then ((Read 0, zero_bytes 4096) ∷ [], the_header n) else ([], nothing)
 
 length_came : (found : Back) (answer : Answer) → found.first ≡ None → Comes (after_length answer) (found_after found answer None)
-length_came found DoneAnswer first some = absurd (some refl)
-length_came found FailedAnswer first some = absurd (some refl)
 length_came found (LenIs n) first some = elim (cases_lt n 4096) [
   | inl short ↦
       let test : nat_le 4096 n ≡ false = grind (arith, nat_tests) in
@@ -62,6 +60,7 @@ length_came found (LenIs n) first some = elim (cases_lt n 4096) [
       subst (λ b. HasCome (length_read b n).1 (names (length_read b n).0) (found_after found (LenIs n) None))
       (sym (le-leb 4096 n long)) (refl, long, refl, first)
 ]
+length_came found _ first some = absurd (some refl)
 
 length_ends : (found : Back) (n : ℕ) → found.first ≡ None → Ends (after_length (LenIs n)) (found_after found (LenIs n) None)
 length_ends found n first none = record {
@@ -75,9 +74,8 @@ length_ends found n first none = record {
 -- the header was read
 
 len_some : (before : Option ℕ) (len : ℕ) (answer : Answer) → before ≡ Some len → IsSome (length_told before answer)
-len_some before len DoneAnswer is = subst IsSome (sym is) refl
 len_some before len (LenIs n) is = refl
-len_some before len FailedAnswer is = subst IsSome (sym is) refl
+len_some before len _ is = subst IsSome (sym is) refl
 
 abbrev header_read : Bool → List ℕ → ℕ → Following
 header_read test bytes len = if test then table_read (header_in bytes len) else ([], nothing)

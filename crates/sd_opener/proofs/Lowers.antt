@@ -9,13 +9,11 @@ use Rattle.sd_opener.specs.Sees.{IsOpenStage}
 
 pub some_left : (stage : Stage) → 0 < slot_left stage
 some_left (Asking plan) = omega arith
-some_left (Read header table) = omega arith
-some_left (Broken reason) = omega arith
+some_left _ = omega arith
 
 pub open_left : (stage : Stage) → IsOpenStage stage → slot_left stage ≡ 1
 open_left (Asking plan) is = absurd is
-open_left (Read header table) is = refl
-open_left (Broken reason) is = refl
+open_left _ is = refl
 
 -- an opener with a request out has a slot to look at
 pub within_slots : (opener : Looking) (capacity : ℕ) (id : RequestId) → IsLooking opener.slots opener.told capacity opener.stage opener.scanned

@@ -83,13 +83,11 @@ none_left (call ∷ calls) is = absurd (let no : More ≡ Finished = is in cc)
 -- a slot that is to be decoded has nothing out, and is any slot's stage
 pub open_out : (stage : Stage) → IsOpenStage stage → out_of_look stage ≡ None
 open_out (Asking plan) is = absurd is
-open_out (Read header table) is = refl
-open_out (Broken reason) is = refl
+open_out _ is = refl
 
 pub open_stage : (stage : Stage) (slot : ℕ) → IsOpenStage stage → IsStageOf slot stage
 open_stage (Asking plan) slot is = absurd is
-open_stage (Read header table) slot is = tt
-open_stage (Broken reason) slot is = tt
+open_stage _ slot is = tt
 
 -- ---- damage
 

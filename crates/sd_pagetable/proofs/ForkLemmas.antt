@@ -22,9 +22,8 @@ pub no_longer : (page : ℕ) → is_from (Excluded page) page ≡ false
 no_longer page = grind (arith, nat_tests)
 
 up_from : (start : Bound ℕ) (page q : ℕ) → is_from start page ≡ true → nat_lt page q ≡ true → is_from start q ≡ true
-up_from (Included first) page q from less = grind (arith, nat_tests)
-up_from (Excluded before) page q from less = grind (arith, nat_tests)
 up_from Unbounded page q from less = refl
+up_from _ page q from less = grind (arith, nat_tests)
 
 less_of : (page q : ℕ) → page ≤ q → nat_eq q page ≡ false → nat_lt page q ≡ true
 less_of page q le differs = grind (arith, nat_tests)
@@ -127,9 +126,8 @@ with_swap c s u t v apart = ap (λ spaces. record { pool = c.pool; spaces = spac
 
     cond_swap : (a b : Bool) (x y z : Option PageState) → (a ≡ true → b ≡ true → ⊥) → cond a x (cond b y z) ≡ cond b y (cond a x z)
     cond_swap true true x y z never = absurd (never refl refl)
-    cond_swap true false x y z never = refl
     cond_swap false true x y z never = refl
-    cond_swap false false x y z never = refl
+    cond_swap _ _ x y z never = refl
 
 abbrev pub shared_so_far : Contents → ℕ → ℕ → Bound ℕ → Contents
 shared_so_far old parent child start = with_space (with_space old parent (parted (λ page. page) shared_page start (inside old.spaces parent))) child (parted bare_page inherited_page start (inside old.spaces parent))

@@ -34,28 +34,13 @@ writable_more event history space page = any_since (makes_writable space page) (
 
 -- a clear write_protects, and what makes_writable touches
 clear_write_protects : (event : MemoryEvent) (space page : ℕ) → write_protects space page event ≡ false → clears space page event ≡ false
-clear_write_protects (Mapped s first count prot) space page e = refl
-clear_write_protects (Unmapped s first count) space page e = refl
-clear_write_protects (Protected s first count prot) space page e = refl
-clear_write_protects (Forked parent child) space page e = refl
-clear_write_protects (Exited s) space page e = refl
-clear_write_protects (Faulted s p) space page e = refl
-clear_write_protects (Tried s p offset bytes) space page e = refl
-clear_write_protects (Stored s p offset bytes) space page e = refl
 clear_write_protects (Cleared s p) space page e = e
-clear_write_protects Passed space page e = refl
+clear_write_protects _ space page e = refl
 
 making_writable_touches : (event : MemoryEvent) (space page : ℕ) → makes_writable space page event ≡ true → touches space page event ≡ true
-making_writable_touches (Mapped s first count prot) space page e = absurd (let f : false ≡ true = e in cc)
-making_writable_touches (Unmapped s first count) space page e = absurd (let f : false ≡ true = e in cc)
-making_writable_touches (Protected s first count prot) space page e = absurd (let f : false ≡ true = e in cc)
-making_writable_touches (Forked parent child) space page e = absurd (let f : false ≡ true = e in cc)
-making_writable_touches (Exited s) space page e = absurd (let f : false ≡ true = e in cc)
 making_writable_touches (Faulted s p) space page e = e
-making_writable_touches (Tried s p offset bytes) space page e = absurd (let f : false ≡ true = e in cc)
 making_writable_touches (Stored s p offset bytes) space page e = e
-making_writable_touches (Cleared s p) space page e = absurd (let f : false ≡ true = e in cc)
-making_writable_touches Passed space page e = absurd (let f : false ≡ true = e in cc)
+making_writable_touches _ space page e = absurd (let f : false ≡ true = e in cc)
 
 writable_dirty : (close clear opens_it touch was_open was_dirty : Bool) → (close ≡ false → clear ≡ false) → (opens_it ≡ true → touch ≡ true) → (was_open ≡ true → was_dirty ≡ true)
     → cond close false (opens_it || was_open) ≡ true → cond clear false (touch || was_dirty) ≡ true

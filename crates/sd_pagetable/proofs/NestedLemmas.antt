@@ -44,9 +44,8 @@ module _ {X : Type 0} where
   value_at-insert m s t q p = ap (λ u. finmap.get u p) (inside-insert m s t q) ∙ got (nat_eq q s) t (inside m q) p
 
   both : (a b : Bool) (x y z : Option X) → (a ≡ true → z ≡ y) → cond a (cond b x z) y ≡ cond (a && b) x y
-  both true true x y z e = refl
   both true false x y z e = e refl
-  both false b x y z e = refl
+  both _ _ x y z e = refl
 
   same_value : (m : Nested X) (s q r : ℕ) → nat_eq q s ≡ true → value_at m s r ≡ value_at m q r
   same_value m s q r e = ap (λ k. value_at m k r) (sym (tests q s e))

@@ -77,8 +77,7 @@ nothing_due c s answer own alive is = ap (λ b. cond b (area_due answer) (Some (
 -- a first refusal is due before a second
 pub first_due : (alive : Bool) (first second : Option AccessError) (denied : AccessError) → cond alive first (Some (Refused NoSuchSpace)) ≡ Some denied → cond alive (or_else first second) (Some (Refused NoSuchSpace)) ≡ Some denied
 first_due true None second denied e = absurd (let f : None ≡ Some denied = e in cc)
-first_due true (Some first) second denied e = e
-first_due false first second denied e = e
+first_due _ _ second denied e = e
 
 pub mapped_due : (c : Contents) (s : ℕ) (answer : Result PageMap Errno) (own : PageMap) (pages : ℕ) (many : Bool) → is_alive c.spaces s ≡ true → answer ≡ Ok own → nat_lt 65536 pages ≡ many
     → in_space c.spaces s (or_else (area_due answer) (cond (nat_lt 65536 pages) (Some (Refused NoMemory)) None)) ≡ cond many (Some (Refused NoMemory)) None
@@ -153,10 +152,9 @@ own_unmapped t own first count law = same_table _ _ (λ q. law q ∙ ap (cond (i
 
 change_prot : (b : Bool) (prot : Prot) (o : Option PageState) → (b ≡ true → IsSome (option_map (λ (page : PageState). page.prot) o))
     → cond b (Some prot) (option_map (λ (page : PageState). page.prot) o) ≡ option_map (λ (page : PageState). page.prot) (option_map (λ x. cond b (protected_page prot x) x) o)
-change_prot true prot (Some x) there = refl
 change_prot true prot None there = absurd (let f : false ≡ true = there refl in cc)
 change_prot false prot (Some x) there = refl
-change_prot false prot None there = refl
+change_prot _ prot _ there = refl
 
 pub own_protected : (t : Table PageState) (own : PageMap) (first count : ℕ) (prot : Prot)
     → ((q : ℕ) → (finmap.get own q ≡ cond (is_within first count q) (Some prot) (finmap.get (prots_of t) q)) × (is_within first count q ≡ true → IsSome (finmap.get (prots_of t) q)))

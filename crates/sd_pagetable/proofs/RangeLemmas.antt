@@ -131,9 +131,8 @@ fill_more t first k x le none = same_table _ _ (λ q. get_put (fill_within t fir
     ∙ ap (λ b. option_or (finmap.get t q) (cond b (Some x) None)) (sym (within_more first k q le)) ∙ sym (get-fill_within t first (k + 1 - first) x q))
 
 skip_by : (o : Option PageState) (x : PageState) (here before : Bool) → (here ≡ true → IsSome o) → option_or o (cond before (Some x) None) ≡ option_or o (cond (here || before) (Some x) None)
-skip_by (Some y) x here before there = refl
 skip_by None x true before there = absurd (let f : false ≡ true = there refl in cc)
-skip_by None x false before there = refl
+skip_by _ x _ before there = refl
 
 -- a page of the run was there
 pub fill_skips : (t : Table PageState) (first k : ℕ) (x : PageState) → first ≤ k → IsSome (finmap.get t k) → fill_within t first (k - first) x ≡ fill_within t first (k + 1 - first) x
@@ -171,9 +170,8 @@ change_more change t first k y le there = same_table _ _ (λ q. get_put (change_
     apart first k q here = grind (arith, nat_tests)
 
 stays_by : (change : PageState → PageState) (o : Option PageState) (here before : Bool) → (here ≡ true → o ≡ None) → option_map (λ x. cond before (change x) x) o ≡ option_map (λ x. cond (here || before) (change x) x) o
-stays_by change None here before none = refl
 stays_by change (Some x) true before none = absurd (let f : Some x ≡ None = none refl in cc)
-stays_by change (Some x) false before none = refl
+stays_by change _ _ before none = refl
 
 pub change_skips : (change : PageState → PageState) (t : Table PageState) (first k : ℕ) → first ≤ k → finmap.get t k ≡ None → change_within change t first (k - first) ≡ change_within change t first (k + 1 - first)
 change_skips change t first k le none = same_table _ _ (λ q. get-change_within change t first (k - first) q

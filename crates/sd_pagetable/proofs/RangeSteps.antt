@@ -99,8 +99,7 @@ cleared_same old new s test other cleared same = record {
 
 cleared_by : (a b : Bool) (o : Option PageState) → cond b None (cond a None o) ≡ cond (a || b) None o
 cleared_by true true o = refl
-cleared_by true false o = refl
-cleared_by false b o = refl
+cleared_by _ _ o = refl
 
 pub cleared_both : (a b c : Contents) (s : ℕ) (first then both : ℕ → Bool) → IsCleared a b s first → IsCleared b c s then → ((page : ℕ) → both page ≡ (first page || then page)) → IsCleared a c s both
 cleared_both a b c s first then both one two is = record {
@@ -176,17 +175,14 @@ none_unfilled gone c s first alive = cleared_none c s _ alive (λ q. ap (λ b. b
 
 then_gone : (here before it : Bool) → (here ≡ true → it ≡ true) → ((here || before) && it) ≡ ((before && it) || here)
 then_gone true true true h = refl
-then_gone true false true h = refl
 then_gone true before false h = absurd (let f : false ≡ true = h refl in cc)
 then_gone false true true h = refl
-then_gone false true false h = refl
-then_gone false false it h = refl
+then_gone _ _ _ h = refl
 
 then_kept : (here before it : Bool) → (here ≡ true → it ≡ false) → ((here || before) && it) ≡ (before && it)
 then_kept true true false h = refl
-then_kept true false false h = refl
 then_kept true before true h = absurd (let f : true ≡ false = h refl in cc)
-then_kept false before it h = refl
+then_kept _ _ _ h = refl
 
 -- this page isn't in the areas, and was taken out
 pub unfilled_more : (gone : ℕ → Bool) (a b c : Contents) (s first k : ℕ) → first ≤ k → gone k ≡ true → IsCleared a b s (λ q. is_within first (k - first) q && gone q) → IsCleared b c s (λ q. nat_eq q k)

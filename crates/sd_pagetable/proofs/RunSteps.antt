@@ -54,8 +54,7 @@ renewed_run old now new s first k to x le more was step =
 change_by : (f : PageState → PageState) (a b : Bool) (o : Option PageState) → (a ≡ true → b ≡ false) → option_map (λ x. cond a (f x) x) (option_map (λ x. cond b (f x) x) o) ≡ option_map (λ x. cond (a || b) (f x) x) o
 change_by f a b None apart = refl
 change_by f true true (Some x) apart = absurd (let g : true ≡ false = apart refl in cc)
-change_by f true false (Some x) apart = refl
-change_by f false b (Some x) apart = refl
+change_by f _ _ _ apart = refl
 
 change_run : (f : PageState → PageState) (t : Table PageState) (first k to : ℕ) → first ≤ k → k ≤ to → change_within f (change_within f t first (k - first)) k (to - k) ≡ change_within f t first (to - first)
 change_run f t first k to le more = same_table _ _ (λ q. get-change_within f (change_within f t first (k - first)) k (to - k) q
@@ -73,10 +72,9 @@ from_within : (first to q : ℕ) → is_within first (to - first) q ≡ true →
 from_within first to q e = (grind (arith, nat_tests), grind (arith, nat_tests))
 
 set_there : (w : Bool) (x : PageState) (o : Option PageState) → (w ≡ true → IsSome o) → option_map (λ y. cond w x y) o ≡ cond w (Some x) o
-set_there true x (Some y) there = refl
 set_there true x None there = absurd (let f : false ≡ true = there refl in cc)
 set_there false x (Some y) there = refl
-set_there false x None there = refl
+set_there _ x _ there = refl
 
 pub set_mapped : (t : Table PageState) (first to : ℕ) (x : PageState) → ((page : ℕ) → first ≤ page → page < to → IsSome (finmap.get t page)) → change_within (λ _. x) t first (to - first) ≡ set_within t first (to - first) x
 set_mapped t first to x there = same_table _ _ (λ q. get-change_within (λ _. x) t first (to - first) q

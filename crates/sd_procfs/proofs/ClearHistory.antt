@@ -68,9 +68,8 @@ module _ (space page : ℕ) (old now new : Contents) (next : Option ℕ) (was : 
       unchanged = cleared.others space p (grind (arith, nat_tests)) ∙ was.ahead p (is_above p page (omega (arith, above)))
 
       of : (behind : Bool) (o : Option PageState) → is_behind next p ≡ behind → page_at old space p ≡ o → (behind && is_some o) ≡ false
-      of false o e f = refl
-      of true None e f = refl
       of true (Some x) e f = absurd (between next new space page p least above e (ap is_some (unchanged ∙ f)))
+      of _ _ e f = refl
 
   order : (p : ℕ) → (p < page) ⊎ ((p ≡ page) ⊎ (page < p))
   order p = elim (cases_Bool (nat_lt p page)) [

@@ -76,8 +76,7 @@ prints_then_nothing reader.Verify contents before a b none is = record {
 pub outside : (fault : Fault) → FaultNames (λ _ _. ⊥) fault → fault ≢ EmptyChain → IsOutsideStore (stop.Fault fault)
 outside EmptyChain named some = absurd (some refl)
 outside (Damaged slot reason) named some = absurd named
-outside Device named some = refl
-outside OutOfMemory named some = refl
+outside _ named some = refl
 
 -- a stop that says nothing against the store may come behind lines
 pub not_alone : (before after : Option (List ℕ)) (why : Stop) → IsOutsideStore why → StandsAlone before after why

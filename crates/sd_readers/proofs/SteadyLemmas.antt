@@ -56,15 +56,8 @@ module _ (by : Reader) (contents : List (List ℕ)) where
   any_part : (ended : Result Unit Stop) (before after : Option (List ℕ)) → writer_failed ended ≡ false → OnOk ended (Prints by contents before after)
       → OnFault ended (BeginsToPrint by contents before after) → BeginsToPrint by contents before after
   any_part (Ok value) before after fine whole begun = whole_begins by contents before after whole
-  any_part (Err (stop.Fault fault)) before after fine whole begun = begun
-  any_part (Err stop.NoFrame) before after fine whole begun = begun
-  any_part (Err (stop.ScriptLine number)) before after fine whole begun = begun
-  any_part (Err stop.CannotReadScript) before after fine whole begun = begun
-  any_part (Err stop.CannotOpenFolder) before after fine whole begun = begun
-  any_part (Err stop.NotEmpty) before after fine whole begun = begun
-  any_part (Err (stop.Order why)) before after fine whole begun = begun
-  any_part (Err stop.Refused) before after fine whole begun = begun
   any_part (Err (stop.Writer error)) before after fine whole begun = no_two fine
+  any_part (Err _) before after fine whole begun = begun
 
   -- a fault of the device or of the memory behind it
   pub faulty_behind : (honest : Type 0) (ended : Result Unit Stop) (fault : Fault) (before after : Option (List ℕ)) → writer_failed ended ≡ false → IsOutsideStore (stop.Fault fault)
@@ -103,8 +96,7 @@ module _ (by : Reader) (contents : List (List ℕ)) where
 
   unknown : (by : Reader) (before : Option (List ℕ)) → Prints by contents (Some []) None → Prints by contents before None
   unknown reader.Restore before is = absurd is.printed
-  unknown reader.List before is = absurd is.printed
-  unknown reader.Verify before is = absurd is.printed
+  unknown _ before is = absurd is.printed
 
   unknown_text : (ended : Result Unit Stop) (before : Option (List ℕ)) → OnOk ended (Prints by contents (Some []) None) → OnOk ended (Prints by contents before None)
   unknown_text (Ok value) before is = unknown by before is

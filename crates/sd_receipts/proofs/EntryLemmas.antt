@@ -19,10 +19,7 @@ one_entry first journal number a b is_a is_b =
 pub has_command : (first : ℕ) (journal : List Entry) (number : ℕ) (entry : Entry) → IsEntryAt first journal number entry → is_command entry ≡ true
     → HasCommand first journal number
 has_command first journal number (Applied seat command reply) is holds = (seat, command, reply, is)
-has_command first journal number (Freeze n) is holds = absurd (let e : false ≡ true = holds in cc)
-has_command first journal number (Acked n) is holds = absurd (let e : false ≡ true = holds in cc)
-has_command first journal number (Cancelled n) is holds = absurd (let e : false ≡ true = holds in cc)
-has_command first journal number (Reopened m) is holds = absurd (let e : false ≡ true = holds in cc)
+has_command first journal number _ is holds = absurd (let e : false ≡ true = holds in cc)
 
 -- the acknowledgements of one entry more
 pub acked_more : (journal : List Entry) (i : ℕ) (d entry : Entry) → i < length journal → entry ≡ get_or journal i d
@@ -72,8 +69,5 @@ never e = let f : false ≡ true = e in cc
 
 -- an entry that is no acknowledgement
 pub acked_none : (entry : Entry) → ((n : ℕ) → entry ≡ Acked n → ⊥) → acked_number entry ≡ None
-acked_none (Applied seat command reply) not = refl
-acked_none (Freeze n) not = refl
 acked_none (Acked n) not = absurd (not n refl)
-acked_none (Cancelled n) not = refl
-acked_none (Reopened m) not = refl
+acked_none _ not = refl

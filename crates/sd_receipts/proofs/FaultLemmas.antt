@@ -74,11 +74,9 @@ fault_at first journal receipts i r last fault within is checked after =
 -- the first of a receipt is the first of all
 pub fault_is : (first : ℕ) (journal : List Entry) (receipts : List Receipt) (acks : List ℕ) (fault : CloseFault)
     → IsFaultAt first journal receipts fault → IsFault first journal receipts acks fault
-fault_is first journal receipts acks (NotThere n) at = at
-fault_is first journal receipts acks (Differs n) at = at
-fault_is first journal receipts acks (OutOfOrder seat) at = at
 fault_is first journal receipts acks Count at = absurd (at.5)
 fault_is first journal receipts acks Acks at = absurd (at.5)
+fault_is first journal receipts acks _ at = at
 
 -- receipts that stand and rise have none at fault
 pub none_after : (first : ℕ) (journal : List Entry) (receipts : List Receipt) (k : ℕ) (r : Receipt) (fault : CloseFault)
@@ -91,8 +89,7 @@ none_after first journal receipts k r (OutOfOrder seat) stand rising got after =
     let before = got_before receipts k found.0 found.1 found.2 in
     let less = rising found.0 k found.1 r before (got_taken receipts k found.0 found.1 found.2) got found.3 in
     omega (arith, less, found.4)
-none_after first journal receipts k r Count stand rising got after = after
-none_after first journal receipts k r Acks stand rising got after = after
+none_after first journal receipts k r _ stand rising got after = after
 
 pub none_at : (first : ℕ) (journal : List Entry) (receipts : List Receipt) (fault : CloseFault)
     → AllStand first journal receipts → AreRising receipts → IsFaultAt first journal receipts fault → ⊥
@@ -119,20 +116,15 @@ one_after : (first : ℕ) (journal : List Entry) (before : List Receipt) (r : Re
 one_after first journal before r (NotThere n) (NotThere m) a b = ap NotThere (a.0 ∙ sym b.0)
 one_after first journal before r (NotThere n) (Differs m) a b = absurd (a.1 (subst (HasCommand first journal) (b.0 ∙ sym a.0) b.1))
 one_after first journal before r (NotThere n) (OutOfOrder seat) a b = absurd (a.1 (stands_there first journal r n a.0 b.1))
-one_after first journal before r (NotThere n) Count a b = absurd b
-one_after first journal before r (NotThere n) Acks a b = absurd b
 one_after first journal before r (Differs n) (NotThere m) a b = absurd (b.1 (subst (HasCommand first journal) (a.0 ∙ sym b.0) a.1))
 one_after first journal before r (Differs n) (Differs m) a b = ap Differs (a.0 ∙ sym b.0)
 one_after first journal before r (Differs n) (OutOfOrder seat) a b = absurd (a.2 b.1)
-one_after first journal before r (Differs n) Count a b = absurd b
-one_after first journal before r (Differs n) Acks a b = absurd b
 one_after first journal before r (OutOfOrder seat) (NotThere m) a b = absurd (b.1 (stands_there first journal r m b.0 a.1))
 one_after first journal before r (OutOfOrder seat) (Differs m) a b = absurd (b.2 a.1)
 one_after first journal before r (OutOfOrder seat) (OutOfOrder other) a b = ap OutOfOrder (a.0 ∙ sym b.0)
-one_after first journal before r (OutOfOrder seat) Count a b = absurd b
-one_after first journal before r (OutOfOrder seat) Acks a b = absurd b
 one_after first journal before r Count other a b = absurd a
 one_after first journal before r Acks other a b = absurd a
+one_after first journal before r _ _ a b = absurd b
 
 module _ (first : ℕ) (journal : List Entry) (receipts : List Receipt) where
   -- a receipt at fault has none at fault before it
@@ -164,11 +156,9 @@ module _ (first : ℕ) (journal : List Entry) (receipts : List Receipt) where
       ⊎ (((fault ≡ Count) × AreWell × (command_count journal ≡ length receipts → ⊥)) ⊎ ((fault ≡ Acks) × AreWell × (command_count journal ≡ length receipts)))
 
   kind_of : (acks : List ℕ) (fault : CloseFault) → IsFault first journal receipts acks fault → Kind acks fault
-  kind_of acks (NotThere n) is = inl is
-  kind_of acks (Differs n) is = inl is
-  kind_of acks (OutOfOrder seat) is = inl is
   kind_of acks Count is = inr (inl (refl, (is.0, is.1), is.2))
   kind_of acks Acks is = inr (inr (refl, (is.0, is.1), is.2))
+  kind_of acks _ is = inl is
 
   not_both : (fault : CloseFault) → AreWell → IsFaultAt first journal receipts fault → ⊥
   not_both fault well at = none_at first journal receipts fault well.0 well.1 at

@@ -30,25 +30,21 @@ module _ {X : Type 0} where
   got_set (x ∷ xs) (suc i) y l = got_set xs i y (omega arith)
 
   pub got_other : (xs : List X) (i j : ℕ) (y : X) → (j ≡ i → ⊥) → slice_get (set xs i y) j ≡ slice_get xs j
-  got_other [] i j y n = refl
   got_other (x ∷ xs) zero zero y n = absurd (n refl)
-  got_other (x ∷ xs) zero (suc j) y n = refl
-  got_other (x ∷ xs) (suc i) zero y n = refl
   got_other (x ∷ xs) (suc i) (suc j) y n = got_other xs i j y (λ e. n (ap suc e))
+  got_other _ _ _ y n = refl
 
   pub got_taken : (xs : List X) (i k : ℕ) (x : X) → slice_get (take i xs) k ≡ Some x → slice_get xs k ≡ Some x
   got_taken [] zero k x e = none_is_some x e
-  got_taken [] (suc i) k x e = none_is_some x e
-  got_taken (y ∷ xs) zero k x e = none_is_some x e
   got_taken (y ∷ xs) (suc i) zero x e = e
   got_taken (y ∷ xs) (suc i) (suc k) x e = got_taken xs i k x e
+  got_taken _ _ k x e = none_is_some x e
 
   pub got_before : (xs : List X) (i k : ℕ) (x : X) → slice_get (take i xs) k ≡ Some x → k < i
   got_before [] zero k x e = none_is_some x e
-  got_before [] (suc i) k x e = none_is_some x e
-  got_before (y ∷ xs) zero k x e = none_is_some x e
   got_before (y ∷ xs) (suc i) zero x e = omega arith
   got_before (y ∷ xs) (suc i) (suc k) x e = let less = got_before xs i k x e in omega (arith, less)
+  got_before _ _ k x e = none_is_some x e
 
   pub got_in_front : (xs : List X) (i k : ℕ) (x : X) → k < i → slice_get xs k ≡ Some x → slice_get (take i xs) k ≡ Some x
   got_in_front [] i k x l e = none_is_some x e
@@ -58,10 +54,8 @@ module _ {X : Type 0} where
 
   pub front_of_front : (xs : List X) (i j : ℕ) → i ≤ j → take i (take j xs) ≡ take i xs
   front_of_front [] zero zero l = refl
-  front_of_front [] zero (suc j) l = refl
   front_of_front [] (suc i) zero l = refl
-  front_of_front [] (suc i) (suc j) l = refl
   front_of_front (x ∷ xs) zero zero l = refl
-  front_of_front (x ∷ xs) zero (suc j) l = refl
   front_of_front (x ∷ xs) (suc i) zero l = absurd (omega arith)
   front_of_front (x ∷ xs) (suc i) (suc j) l = ap (λ ys. x ∷ ys) (front_of_front xs i j (omega arith))
+  front_of_front _ _ _ l = refl

@@ -9,9 +9,8 @@ use Rattle.sd_relay.specs.Relays.{total_of_hands}
 pub at_set : (views : List Hand) (i j : ℕ) (w u : Hand) → get_elem? (set views i w) j ≡ some u → ((j ≡ i) × (w ≡ u)) ⊎ ((j ≢ i) × (get_elem? views j ≡ some u))
 at_set [] i j w u e = absurd (some-ne-none u (sym e))
 at_set (x ∷ xs) zero zero w u e = inl (refl, some-injective w u e)
-at_set (x ∷ xs) zero (suc j) w u e = inr ((λ h. omega arith), e)
-at_set (x ∷ xs) (suc i) zero w u e = inr ((λ h. omega arith), e)
 at_set (x ∷ xs) (suc i) (suc j) w u e = ⊎_elim (λ t. inl (ap suc t.0, t.1)) (λ t. let n = t.0 in inr ((λ h. n (omega arith)), t.1)) (at_set xs i j w u e)
+at_set (x ∷ xs) _ _ w u e = inr ((λ h. omega arith), e)
 
 pub at_snoc : (views : List Hand) (w u : Hand) (j : ℕ) → get_elem? (views ++ w ∷ []) j ≡ some u → (get_elem? views j ≡ some u) ⊎ (w ≡ u)
 at_snoc [] w u zero e = inr (some-injective w u e)

@@ -106,9 +106,8 @@ unfolding breaks_digest
 kept_so h file kept is = right_digest h.version h.digest (digest_of_file file) kept is
 
 not_broken : {X Y : Type 0} (spaces : Result X Reason) (broken : Bool) (value : X → Y) (y : Y) → (spaces >>= λ x. cond broken (Err Digest) (Ok (value x))) ≡ Ok y → broken ≡ false
-not_broken (Err reason) broken value y is = absurd cc
-not_broken (Ok x) true value y is = absurd cc
 not_broken (Ok x) false value y is = refl
+not_broken _ _ value y is = absurd cc
 
 pub image_digested : GoodFileHasNoReason → GoodHeaderHasNoReason → ImageIsRightlyDigested
 image_digested good law file i image h has =

@@ -53,9 +53,8 @@ pub readable_open : (files : List (List ℕ)) (file : List ℕ) (image : Image) 
 readable_open files file image was opens is = record { images = was.images ++ image ∷ []; are = open_more files was.images file image was.are opens is }
 
 no_image : (place : Option (Option Opened)) → ((other : Opened) → place ≡ Some (Some other) → ⊥) → has_image place ≡ false
-no_image None none = refl
-no_image (Some None) none = refl
 no_image (Some (Some i)) none = absurd (none i refl)
+no_image _ none = refl
 
 one_more : (b : Bool) (x y : Option (Option Opened)) (c : Bool) → has_image y ≡ true → has_image x ≡ c → has_image (cond b y x) ≡ (c || (b || false))
 one_more true x y true e f = e
@@ -217,10 +216,8 @@ double_again contents slot scanned new image none is_none has less opens is was 
 -- A fault at a slot, and what was found in the slots before it.
 
 pub names_more : (P Q : ℕ → Reason → Type 0) (fault : Fault) → ((slot : ℕ) (reason : Reason) → P slot reason → Q slot reason) → FaultNames P fault → FaultNames Q fault
-names_more P Q EmptyChain more names = tt
 names_more P Q (Damaged slot reason) more names = more slot reason names
-names_more P Q Device more names = tt
-names_more P Q OutOfMemory more names = tt
+names_more P Q _ more names = tt
 
 pub first_faulty : (contents : List (List ℕ)) (slot : ℕ) (fault : Fault) → AreReadable (take slot contents)
     → FaultNames (λ s reason. (s ≡ slot) × IsFaulty (file_at contents slot) reason) fault → FaultNames (IsFirstFaulty contents) fault

@@ -60,27 +60,21 @@ gives_same old new request g =
 
 pub past_with : (stage : Stage) (plan : Planned) → is_past_freeze (with_plan stage plan) ≡ is_past_freeze stage
 past_with (Format old) plan = refl
-past_with Freeze plan = refl
-past_with PassStage plan = refl
-past_with (Close old header tables) plan = refl
+past_with _ plan = refl
 
 closing_with : (stage : Stage) (plan : Planned) → closing_outcomes (with_plan stage plan) ≡ closing_outcomes stage
 closing_with (Format old) plan = refl
-closing_with Freeze plan = refl
-closing_with PassStage plan = refl
-closing_with (Close old header tables) plan = refl
+closing_with _ plan = refl
 
 left_of : (stage : Stage) (plan : Planned) → plan_of stage ≡ Some plan → outcomes_left stage ≡ outcomes_of plan
 left_of (Format old) plan e = ap outcomes_of (one_plan old plan e)
-left_of Freeze plan e = absurd (let f : None ≡ Some plan = e in cc)
-left_of PassStage plan e = absurd (let f : None ≡ Some plan = e in cc)
 left_of (Close old header tables) plan e = ap outcomes_of (one_plan old plan e)
+left_of _ plan e = absurd (let f : None ≡ Some plan = e in cc)
 
 left_with : (stage : Stage) (old plan : Planned) → plan_of stage ≡ Some old → outcomes_left (with_plan stage plan) ≡ outcomes_of plan
-left_with (Format o) old plan e = refl
 left_with Freeze old plan e = absurd (let f : None ≡ Some old = e in cc)
 left_with PassStage old plan e = absurd (let f : None ≡ Some old = e in cc)
-left_with (Close o header tables) old plan e = refl
+left_with _ old plan e = refl
 
 -- in the pass the counts are even
 pass_count : (since : ℕ) (image : Making) → image.stage ≡ PassStage → IsCounted since image → since + writes_out image.writes ≡ data_pages image.pass.entries
@@ -276,7 +270,6 @@ counted_is since running image e = ap (λ (o : Option Making). if is_frozen_imag
 pub hands_running : (since : ℕ) (old new : Running) (made : Made) (progress : Progress) → IsRunning since old → HandsTo old made progress new
     → is_strange progress ≡ false → ends progress ≡ false → IsRunning (outcomes_since_freeze old since) new
 hands_running since old new made Strange is hands strange ended = absurd (both_ways true strange refl)
-hands_running since old new made HasFailed is hands strange ended = absurd (both_ways true ended refl)
 hands_running since old new made GoesOnWith is hands strange ended =
     let same : hands.next.order ≡ hands.image.order = more_order hands.image hands.next made hands.hands in
     subst (λ (r : Running). IsRunning (outcomes_since_freeze old since) r) (sym hands.is) (record {
@@ -294,15 +287,12 @@ hands_running since old new made (PreDumpOpen opened) is hands strange ended =
   where
     more : (a b : ℕ) → nat_le b a ≡ false → a + 1 ≤ b
     more a b e = grind (arith, nat_tests)
-hands_running since old new made (DumpOpen opened) is hands strange ended = absurd (both_ways true ended refl)
+hands_running since old new made _ is hands strange ended = absurd (both_ways true ended refl)
 
 -- an outcome that was awaited
 pub handed : (old new : Dumping) (made : Made) (progress : Progress) → is_strange progress ≡ false → IsHanded old made progress new → Hands old made progress new
 handed old new made Strange strange is = absurd (both_ways true strange refl)
-handed old new made HasFailed strange is = is
-handed old new made GoesOnWith strange is = is
-handed old new made (PreDumpOpen opened) strange is = is
-handed old new made (DumpOpen opened) strange is = is
+handed old new made _ strange is = is
 
 -- a step freezes the memory exactly where the image is behind its format
 freezes_is : (ticket : ℕ) (old new : Making) (before after : Contents) (step : ImageStep) → Steps ticket old before step new after → freezes step ≡ is_freeze_next old.stage
@@ -313,11 +303,9 @@ freezes_is ticket old new before after (Call request) s = sym (has_plan old.stag
     has_plan Freeze plan e = absurd (let f : None ≡ Some plan = e in cc)
     has_plan PassStage plan e = refl
     has_plan (Close p header tables) plan e = refl
-freezes_is ticket old new before after (PageCall lane request) s = sym (ap is_freeze_next s.0.stage)
-freezes_is ticket old new before after (TableCall request) s = sym (ap is_freeze_next s.0.stage)
-freezes_is ticket old new before after Frozen s = sym (ap is_freeze_next s.0.stage)
 freezes_is ticket old new before after (Visited visit) s = sym (ap is_freeze_next s.passes.0)
 freezes_is ticket old new before after (Copied c) s = sym (ap is_freeze_next s.0.passes.0)
+freezes_is ticket old new before after _ s = sym (ap is_freeze_next s.0.stage)
 
 from_freeze : (running : Running) (serial : ℕ) (state : SlotState) (image : Option Making) → is_freeze_next (image_from running serial state image).stage ≡ is_to_freeze image
 from_freeze running serial state None = refl

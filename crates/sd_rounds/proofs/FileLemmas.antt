@@ -61,9 +61,8 @@ entries law stored chain cut memory pass dumped same = are_the_pages law cut mem
 -- ---- the table is written
 
 own_numbers : (kind : Kind) (serial parent : ℕ) → kind ≢ Merged → parent < serial → AreNumbers kind serial serial parent
-own_numbers PreDump serial parent own l = (refl, l)
-own_numbers Dump serial parent own l = (refl, l)
 own_numbers Merged serial parent own l = absurd (own refl)
+own_numbers _ serial parent own l = (refl, l)
 
 filed : TextIsImage → (pages : Pages) (chain : Chain) (old new : Making) (memory : Contents) (request : Asked) (w : WritesTable old memory request new)
     → old.order.kind ≢ Merged → AreItsNumbers old.order → KeepsImage pages chain old memory → TablesEntries old.pass.entries w.header w.tables
@@ -132,16 +131,12 @@ fills law order pass pages header tables is = law.image pages header (table_text
 -- ---- until the image is open
 
 pub asked_files : (stage : Stage) (plan : Planned) (order : ImageOrder) (pass : Pass) (pages : Pages) → IsFiledIn stage order pass pages → IsFiledIn (with_plan stage plan) order pass pages
-asked_files (Format old) plan order pass pages is = tt
-asked_files Freeze plan order pass pages is = tt
-asked_files PassStage plan order pass pages is = tt
 asked_files (Close old header tables) plan order pass pages is = is
+asked_files _ plan order pass pages is = tt
 
 pub asked_areas : (stage : Stage) (plan : Planned) (cut : Contents) → HasAreasIn stage cut → HasAreasIn (with_plan stage plan) cut
-asked_areas (Format old) plan cut is = tt
-asked_areas Freeze plan cut is = tt
-asked_areas PassStage plan cut is = tt
 asked_areas (Close old header tables) plan cut is = is
+asked_areas _ plan cut is = tt
 
 asks : (ticket : ℕ) (cut : Contents) (pages : Pages) (old new : Making) (before after : Contents) (request : Asked) → Steps ticket old before (Call request) new after
     → FilesImage pages old × HasAreasAtFreeze cut old → FilesImage pages new × HasAreasAtFreeze cut new
@@ -155,16 +150,14 @@ behind_files Dump (Format plan) order pass pages = tt
 behind_files PreDump (Format plan) order pass pages = tt
 behind_files Merged (Format plan) order pass pages = tt
 behind_files kind Freeze order pass pages = tt
-behind_files kind PassStage order pass pages = tt
-behind_files kind (Close plan header tables) order pass pages = tt
+behind_files _ _ order pass pages = tt
 
 behind_areas : (kind : Kind) (stage : Stage) (cut : Contents) → HasAreasIn (stage_behind kind stage) cut
 behind_areas Dump (Format plan) cut = tt
 behind_areas PreDump (Format plan) cut = tt
 behind_areas Merged (Format plan) cut = tt
 behind_areas kind Freeze cut = tt
-behind_areas kind PassStage cut = tt
-behind_areas kind (Close plan header tables) cut = tt
+behind_areas _ _ cut = tt
 
 goes_on : (cut : Contents) (pages : Pages) (old new : Making) (made : Made) → PlanGoesOn old made new
     → FilesImage pages old × HasAreasAtFreeze cut old → FilesImage pages new × HasAreasAtFreeze cut new

@@ -142,8 +142,7 @@ AreItsPages memory entries = (space page : ℕ) → is_some (kind_at entries (sp
 
 is_covered : (kind : Kind) (areas : List Area) (runs : List Run) → kind ≢ PreDump → flat_map run_pages runs ≡ flat_map area_pages areas → Covers kind areas runs
 is_covered PreDump areas runs other e = absurd (other refl)
-is_covered Dump areas runs other e = e
-is_covered Merged areas runs other e = e
+is_covered _ areas runs other e = e
 
 dump_spaces : (takes_all : Bool) (h : Header) (memory : PlainMemory) (before : ℕ) (kept spaces : List Listed) → h.kind ≢ PreDump → takes_all ≡ nat_eq h.parent 0
     → AreTables (entry_parent takes_all) 0 kept → AreItsPages memory (entries_listed kept) → Rise before spaces → AllByRecursion (IsSpaceOf memory kept) spaces → AreSpaces h before spaces
@@ -271,8 +270,7 @@ pre_dump_for order pass memory h kept spaces law is kind parent pages takes are 
 other_kind : (kind : Kind) → kind ≢ PreDump → (memory : Contents) (entries : List ImageEntry) (h : Header) (spaces : List Listed)
     → (AreThePages entries memory → TablesMemory memory entries h spaces) → HasTable kind memory entries h spaces
 other_kind PreDump other memory entries h spaces has = absurd (other refl)
-other_kind Dump other memory entries h spaces has = has
-other_kind Merged other memory entries h spaces has = has
+other_kind _ other memory entries h spaces has = has
 
 pub dump_for : PlainLaw → (order : ImageOrder) (pass : Pass) (memory : Contents) (h : Header) (kept spaces : List Listed) → ((l : List Listed) → Lists (entries_listed l) l)
     → order.kind ≢ PreDump → h.kind ≡ order.kind → h.parent ≡ order.parent → h.pages ≡ data_pages pass.entries → pass.takes_all ≡ nat_eq order.parent 0

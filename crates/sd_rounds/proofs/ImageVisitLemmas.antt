@@ -68,15 +68,13 @@ tests laws still visits old new before after visit t free mapped is swept =
 
 steps : VisitLaws → (still : Place → Bool) (ticket : ℕ) (visits : List Visit) (old new : Making) (before after : Contents) (step : ImageStep) → Steps ticket old before step new after
     → AreStillMapped still before → IsVisited still visits old → IsVisited still (visits_after step visits) new
-steps laws still ticket visits old new before after (Call request) s mapped was = same_pass still visits old new (ap (λ (m : Making). m.pass) s.0.is) was
 steps laws still ticket visits old new before after (PageCall lane request) s mapped was =
     visited_as still visits new new.pass refl (takes laws still visits old.pass new.pass request.bytes s.0.taken was.pass was.swept)
-steps laws still ticket visits old new before after (TableCall request) s mapped was = same_pass still visits old new (ap (λ (m : Making). m.pass) s.0.is) was
-steps laws still ticket visits old new before after Frozen s mapped was = same_pass still visits old new (ap (λ (m : Making). m.pass) s.0.is) was
 steps laws still ticket visits old new before after (Visited visit) s mapped was =
     visited_as still _ new new.pass refl (tests laws still visits old.pass new.pass before after visit s.tests s.free mapped was.pass was.swept)
 steps laws still ticket visits old new before after (Copied c) s mapped was =
     visited_as still visits new new.pass refl (copies laws still visits old.pass new.pass before c s.0.copies was.pass was.swept)
+steps laws still ticket visits old new before after _ s mapped was = same_pass still visits old new (ap (λ (m : Making). m.pass) s.0.is) was
 
 hands : (still : Place → Bool) (visits : List Visit) (old new : Making) (made : Made) → HandsIn old made More new
     → IsVisited still visits old → IsVisited still visits new

@@ -38,9 +38,8 @@ use Rattle.sd_rounds.proofs.WriteLemmas.{put_count, take_count}
 
 asked_fewer : (stage : Stage) (old new : Planned) (pass : ℕ) → plan_of stage ≡ Some old → plan_left new + 1 ≡ plan_left old → stage_left (with_plan stage new) pass < stage_left stage pass
 asked_fewer (Format plan) old new pass is fewer = (let same : plan_left plan ≡ plan_left old = ap plan_left (one_plan plan old is) in omega arith)
-asked_fewer Freeze old new pass is fewer = absurd (let f : None ≡ Some old = is in cc)
-asked_fewer PassStage old new pass is fewer = absurd (let f : None ≡ Some old = is in cc)
 asked_fewer (Close plan header tables) old new pass is fewer = (let same : plan_left plan ≡ plan_left old = ap plan_left (one_plan plan old is) in omega arith)
+asked_fewer _ old new pass is fewer = absurd (let f : None ≡ Some old = is in cc)
 
 -- in the pass
 in_pass : (image : Making) (memory : PlainMemory) → image.stage ≡ PassStage → image_left image memory ≡ pass_left image.pass memory + writes_out image.writes + 10
@@ -96,12 +95,10 @@ copy_fewer old new memory Gone g =
 
 -- the memory keeps its pages through a step
 step_plain : (ticket : ℕ) (old new : Making) (before after : Contents) (step : ImageStep) → Steps ticket old before step new after → plain_of after ≡ plain_of before
-step_plain ticket old new before after (Call request) s = ap plain_of s.2
-step_plain ticket old new before after (PageCall lane request) s = ap plain_of s.2
-step_plain ticket old new before after (TableCall request) s = ap plain_of s.2
 step_plain ticket old new before after Frozen s = ap plain_of s.1
 step_plain ticket old new before after (Visited visit) s = s.tests.plain
 step_plain ticket old new before after (Copied c) s = ap plain_of s.1
+step_plain ticket old new before after _ s = ap plain_of s.2
 
 step_fewer : PlainLaw → (ticket : ℕ) (old new : Making) (before after : Contents) (step : ImageStep) → Steps ticket old before step new after
     → image_left new (plain_of before) < image_left old (plain_of before)
@@ -148,9 +145,7 @@ step_fewer law ticket old new before after (Copied c) s =
 
 pub few_calls : (state : SlotState) → length (format_calls state) ≤ 3
 few_calls Raw = omega arith
-few_calls Closed = omega arith
-few_calls OpenSlot = omega arith
-few_calls Writing = omega arith
+few_calls _ = omega arith
 
 from_left : (running : Running) (serial : ℕ) (state : SlotState) (memory : PlainMemory) (image : Option Making) → image_left (image_from running serial state image) memory ≤ making_left image memory
 from_left running serial state memory None = omega (arith, few_calls state)
@@ -182,11 +177,10 @@ goes_on_fewer old new made memory g =
 
     ended : (kind : Kind) (stage : Stage) → plan_of stage ≡ Some g.plan → (closing_outcomes stage ≢ 0 → ⊥) → stage_left (stage_behind kind stage) (pass_left old.pass memory + writes_out old.writes) < stage_left stage (pass_left old.pass memory + writes_out old.writes)
     ended Dump (Format plan) is closes = (let same : plan_left plan ≡ plan_left g.plan = ap plan_left (one_plan plan g.plan is) in omega (arith, fewer))
-    ended PreDump (Format plan) is closes = omega arith
-    ended Merged (Format plan) is closes = omega arith
     ended kind Freeze is closes = absurd (let f : None ≡ Some g.plan = is in cc)
     ended kind PassStage is closes = absurd (let f : None ≡ Some g.plan = is in cc)
     ended kind (Close plan header tables) is closes = absurd (closes (λ e. omega (arith, e)))
+    ended _ (Format plan) is closes = omega arith
 
     by : (calls : Calls) → (plan_after g.plan made).calls ≡ calls
         → image_left (record old { stage = stage_after old.order.kind old.stage (plan_after g.plan made) calls }) memory < image_left old memory

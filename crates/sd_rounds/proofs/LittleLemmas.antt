@@ -149,9 +149,7 @@ freezes laws ticket old new before after s =
 
 asked_due : (stage : Stage) (plan : Planned) (cut : Contents) (pass : Pass) (memory : Contents) → TakesDueIn stage cut pass memory → TakesDueIn (with_plan stage plan) cut pass memory
 asked_due (Format old) plan cut pass memory is = is
-asked_due Freeze plan cut pass memory is = is
-asked_due PassStage plan cut pass memory is = is
-asked_due (Close old header tables) plan cut pass memory is = is
+asked_due _ plan cut pass memory is = is
 
 -- the table that is written has the entries
 table_lists : PlainLaw → (cut : Contents) (old new : Making) (memory : Contents) (request : Asked) (w : WritesTable old memory request new)
@@ -195,10 +193,9 @@ steps law rises dumps laws ticket cut old new before after (Copied c) s past ris
 
 behind_due : (kind : Kind) (stage : Stage) (cut : Contents) (pass : Pass) (memory : Contents) → closing_outcomes stage ≡ 0 → is_past_freeze stage ≡ true
     → TakesDueIn stage cut pass memory → TakesDueIn (stage_behind kind stage) cut pass memory
-behind_due kind (Format plan) cut pass memory none past is = absurd (both_ways false refl past)
-behind_due kind Freeze cut pass memory none past is = absurd (both_ways false refl past)
 behind_due kind PassStage cut pass memory none past is = is
 behind_due kind (Close plan header tables) cut pass memory none past is = absurd (omega arith)
+behind_due kind _ cut pass memory none past is = absurd (both_ways false refl past)
 
 image_goes_on : (cut : Contents) (old new : Making) (memory : Contents) (made : Made) → PlanGoesOn old made new
     → is_past_freeze old.stage ≡ true → TakesDue cut old memory → TakesDue cut new memory
@@ -234,17 +231,14 @@ begins laws order = record { pass = laws.opens (nat_eq order.parent 0); lists = 
 
 asked_lists : (stage : Stage) (plan : Planned) (entries : List ImageEntry) → ListsIn stage entries → ListsIn (with_plan stage plan) entries
 asked_lists (Format old) plan entries is = is
-asked_lists Freeze plan entries is = is
-asked_lists PassStage plan entries is = is
-asked_lists (Close old header tables) plan entries is = is
+asked_lists _ plan entries is = is
 
 behind_lists : (kind : Kind) (stage : Stage) (entries : List ImageEntry) → ListsIn (stage_behind kind stage) entries
 behind_lists Dump (Format plan) entries = tt
 behind_lists PreDump (Format plan) entries = tt
 behind_lists Merged (Format plan) entries = tt
 behind_lists kind Freeze entries = tt
-behind_lists kind PassStage entries = tt
-behind_lists kind (Close plan header tables) entries = tt
+behind_lists _ _ entries = tt
 
 -- every page, for the laws that ask which were mapped all the time: none
 abbrev never : Place → Bool

@@ -42,8 +42,7 @@ use Rattle.sd_rounds.proofs.TableLemmas.{all_put}
 
 other_kind : (pass : Pass) (kind : RunKind) → kind ≢ Data → (at : Place) → data_pages (with_entry pass at kind).entries ≡ data_pages pass.entries
 other_kind pass Data other at = absurd (other refl)
-other_kind pass Parent other at = ap length (pages_append Data pass.entries _) ∙ length-append (pages_by Data pass.entries) [] ∙ omega arith
-other_kind pass Zero other at = ap length (pages_append Data pass.entries _) ∙ length-append (pages_by Data pass.entries) [] ∙ omega arith
+other_kind pass _ other at = ap length (pages_append Data pass.entries _) ∙ length-append (pages_by Data pass.entries) [] ∙ omega arith
 
 one_more : (pass : Pass) (at : Place) → data_pages (with_entry pass at Data).entries ≡ data_pages pass.entries + 1
 one_more pass at = ap length (pages_append Data pass.entries _) ∙ length-append (pages_by Data pass.entries) (at ∷ [])
@@ -67,16 +66,12 @@ take_counts old bytes new t = ap (λ (p : Pass). data_pages p.entries) t.is ∙ 
 
 asked_keeps : (stage : Stage) (plan : Planned) (pages : Pages) (chain : Chain) (pass : Pass) (memory : Contents) → IsKeptIn stage pages chain pass memory → IsKeptIn (with_plan stage plan) pages chain pass memory
 asked_keeps (Format old) plan pages chain pass memory kept = kept
-asked_keeps Freeze plan pages chain pass memory kept = kept
-asked_keeps PassStage plan pages chain pass memory kept = kept
-asked_keeps (Close old header tables) plan pages chain pass memory kept = kept
+asked_keeps _ plan pages chain pass memory kept = kept
 
 pub asked_dumps : (stage : Stage) (plan : Planned) (cut : Contents) (pages : Pages) (chain : Chain) (pass : Pass) (memory : Contents) → IsDumpedIn stage cut pages chain pass memory
     → IsDumpedIn (with_plan stage plan) cut pages chain pass memory
 asked_dumps (Format old) plan cut pages chain pass memory dumped = dumped
-asked_dumps Freeze plan cut pages chain pass memory dumped = dumped
-asked_dumps PassStage plan cut pages chain pass memory dumped = dumped
-asked_dumps (Close old header tables) plan cut pages chain pass memory dumped = dumped
+asked_dumps _ plan cut pages chain pass memory dumped = dumped
 
 -- in the pass
 pass_kept : (stage : Stage) (pages : Pages) (chain : Chain) (pass : Pass) (memory : Contents) → stage ≡ PassStage → IsKeptIn stage pages chain pass memory → Keeps (listed_pages pages) chain pass memory
@@ -149,17 +144,12 @@ steps keeps laws ticket pages chain old new before after (Copied c) s was =
 behind_keeps : (kind : Kind) (stage : Stage) (pages : Pages) (chain : Chain) (pass : Pass) (memory : Contents) → closing_outcomes stage ≡ 0 → IsKeptIn stage pages chain pass memory
     → IsKeptIn (stage_behind kind stage) pages chain pass memory
 behind_keeps Dump (Format plan) pages chain pass memory none kept = kept
-behind_keeps PreDump (Format plan) pages chain pass memory none kept = kept
-behind_keeps Merged (Format plan) pages chain pass memory none kept = kept
-behind_keeps kind Freeze pages chain pass memory none kept = kept
-behind_keeps kind PassStage pages chain pass memory none kept = kept
 behind_keeps kind (Close plan header tables) pages chain pass memory none kept = absurd (omega arith)
+behind_keeps _ _ pages chain pass memory none kept = kept
 
 pub none_closing : (stage : Stage) (calls : Calls) → (closing_outcomes stage ≢ 0 → calls ≢ []) → calls ≡ [] → closing_outcomes stage ≡ 0
-none_closing (Format plan) calls closes none = refl
-none_closing Freeze calls closes none = refl
-none_closing PassStage calls closes none = refl
 none_closing (Close plan header tables) calls closes none = absurd (closes (λ e. omega (arith, e)) none)
+none_closing _ calls closes none = refl
 
 goes_on : (pages : Pages) (chain : Chain) (old new : Making) (memory : Contents) (made : Made) → PlanGoesOn old made new
     → KeepsImage pages chain old memory → KeepsImage pages chain new memory
@@ -191,11 +181,9 @@ calls laws pages one other making old new event sound step call within was = rec
         (laws.calls (listed_pages pages) one making.pass old new event sound step call kept)
 
     by : (stage : Stage) → IsKeptIn stage pages one making.pass old → IsKeptIn stage pages other making.pass new
-    by (Format plan) kept = passes kept
-    by Freeze kept = passes kept
-    by PassStage kept = passes kept
     by (Close plan header tables) kept =
         laws.still_gave (listed_pages pages) (listed_pages pages) one other making.pass.entries old new event sound step call (λ place few. refl) within kept
+    by _ kept = passes kept
 
 agrees : KeepsLaws → (pages : Pages) (one other : Chain) (making : Making) (memory : Contents) → ChainWithin one other
     → KeepsImage pages one making memory → KeepsImage pages other making memory
@@ -210,11 +198,9 @@ agrees laws pages one other making memory within was = record {
     passes kept = laws.agrees (listed_pages pages) (listed_pages pages) one other making.pass memory (λ place few. refl) within kept
 
     by : (stage : Stage) → IsKeptIn stage pages one making.pass memory → IsKeptIn stage pages other making.pass memory
-    by (Format plan) kept = passes kept
-    by Freeze kept = passes kept
-    by PassStage kept = passes kept
     by (Close plan header tables) kept = λ space number bytes clean.
         gives_agrees (listed_pages pages) (listed_pages pages) one other making.pass.entries (space, number) bytes (λ place few. refl) within (kept space number bytes clean)
+    by _ kept = passes kept
 
 agrees_dump : (cut : Contents) (pages : Pages) (one other : Chain) (making : Making) (memory : Contents) → ChainWithin one other
     → DumpsImage cut pages one making memory → DumpsImage cut pages other making memory
@@ -268,10 +254,9 @@ dumps dump laws ticket cut pages chain old new before after (Copied c) s past ri
 
 behind_dumps : (kind : Kind) (stage : Stage) (cut : Contents) (pages : Pages) (chain : Chain) (pass : Pass) (memory : Contents) → closing_outcomes stage ≡ 0 → is_past_freeze stage ≡ true
     → IsDumpedIn stage cut pages chain pass memory → IsDumpedIn (stage_behind kind stage) cut pages chain pass memory
-behind_dumps kind (Format plan) cut pages chain pass memory none past dumped = absurd (both_ways false refl past)
-behind_dumps kind Freeze cut pages chain pass memory none past dumped = absurd (both_ways false refl past)
 behind_dumps kind PassStage cut pages chain pass memory none past dumped = dumped
 behind_dumps kind (Close plan header tables) cut pages chain pass memory none past dumped = absurd (omega arith)
+behind_dumps kind _ cut pages chain pass memory none past dumped = absurd (both_ways false refl past)
 
 goes_on_dump : (cut : Contents) (pages : Pages) (chain : Chain) (old new : Making) (memory : Contents) (made : Made) → PlanGoesOn old made new
     → is_past_freeze old.stage ≡ true → DumpsImage cut pages chain old memory → DumpsImage cut pages chain new memory

@@ -217,10 +217,7 @@ record EndsAt {X : Type 0} (xs : List X) (place : ℕ) (d : X) : Type 0 where
   got : slice_get xs place ≡ Some (get_or xs place d)
 
 at_end : {X : Type 0} (xs : List X) (place : ℕ) (d : X) → length xs ≡ suc place → EndsAt xs place d
-at_end [] place d long = absurd (omega arith)
 at_end (x ∷ []) zero d long = record { front = []; is = refl; put = λ _. refl; got = refl }
-at_end (x ∷ []) (suc place) d long = absurd (omega arith)
-at_end (x ∷ y ∷ xs) zero d long = absurd (omega arith)
 at_end (x ∷ y ∷ xs) (suc place) d long =
     let behind : EndsAt (y ∷ xs) place d = at_end (y ∷ xs) place d (omega arith) in
     record {
@@ -229,6 +226,7 @@ at_end (x ∷ y ∷ xs) (suc place) d long =
       put = λ z. ap (λ l. x ∷ l) (behind.put z);
       got = behind.got;
     }
+at_end _ _ d long = absurd (omega arith)
 
 -- the last of some tables is of a space
 abbrev pub end_in : List SpaceTable → ℕ → Bool

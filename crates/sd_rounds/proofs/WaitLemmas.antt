@@ -22,10 +22,9 @@ some_more : (n m : ℕ) → n ≡ m + 1 → nat_eq n 0 ≡ false
 some_more n m e = grind (arith, nat_tests)
 
 pub bool_flip : {X : Type 0} (o : Option X) (b : Bool) → is_some o ≡ not b → b ≡ is_none o
-bool_flip None true e = refl
 bool_flip None false e = absurd (both_ways false refl e)
 bool_flip (Some x) true e = absurd (both_ways true e refl)
-bool_flip (Some x) false e = refl
+bool_flip _ _ e = refl
 
 pub free_taking : {X Y : Type 0} (f : X → Y) (o : Option X) → is_some o ≡ false → is_none (option_map f o) ≡ true
 free_taking f None e = refl
@@ -53,9 +52,8 @@ pass_waits image memory all any over stage a n o =
 -- ---- where no outcome is awaited
 
 or_none : (a b c : Bool) → (a || b || c) ≡ false → (a ≡ false) × (b ≡ false) × (c ≡ false)
-or_none true b c e = absurd (both_ways true e refl)
-or_none false true c e = absurd (both_ways true e refl)
 or_none false false c e = (refl, refl, e)
+or_none _ _ c e = absurd (both_ways true e refl)
 
 -- where the pass is over all writes are done
 pub all_written : PlainLaw → (image : Making) (contents : Contents) → maker_must_wait image (plain_of contents) ≡ false → length image.writes ≡ 8 → image.pass.taking ≡ None

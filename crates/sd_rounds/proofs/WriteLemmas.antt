@@ -14,21 +14,19 @@ use Rattle.sd_rounds.specs.Writes.{AreWrites, IsPageWrite, are_all_out, no_write
 -- ---- a list with one element replaced
 
 pub set_count : {X : Type 0} (xs : List X) (at : ℕ) (x : X) → length (slice_set xs at x) ≡ length xs
-set_count [] at x = refl
-set_count (y ∷ xs) zero x = refl
 set_count (y ∷ xs) (suc at) x = ap suc (set_count xs at x)
+set_count _ _ x = refl
 
 -- what stands in a place is what was set there, or stood there
 pub set_cases : {X : Type 0} (xs : List X) (at other : ℕ) (x one : X) → slice_get (slice_set xs at x) other ≡ Some one
     → ((other ≢ at) × (slice_get xs other ≡ Some one)) ⊎ ((other ≡ at) × (one ≡ x))
 set_cases [] at other x one is = absurd (let no : None ≡ Some one = is in cc)
 set_cases (y ∷ xs) zero zero x one is = inr (refl, sym (same_Some x one is))
-set_cases (y ∷ xs) zero (suc other) x one is = inl ((λ same. omega (arith, same)), is)
-set_cases (y ∷ xs) (suc at) zero x one is = inl ((λ same. omega (arith, same)), is)
 set_cases (y ∷ xs) (suc at) (suc other) x one is = elim (set_cases xs at other x one is) [
   | inl was ↦ inl ((λ same. was.0 (omega (arith, same))), was.1)
   | inr here ↦ inr (ap suc here.0, here.1)
 ]
+set_cases (y ∷ xs) _ _ x one is = inl ((λ same. omega (arith, same)), is)
 
 -- ---- where a write is out
 

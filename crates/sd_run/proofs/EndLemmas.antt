@@ -20,10 +20,9 @@ module _ (contents : List (List ℕ)) (before now : ℕ) where
   -- an end that says nothing against the store is no fault of it
   no_fault : (P : Stop → Type 0) → ((slot : ℕ) (reason : Reason) → P (stop.Fault (fault.Damaged slot reason)) → ⊥) → (P (stop.Fault fault.Device) → ⊥)
       → (ended : Result Unit Stop) (why : OpenFault) → IfErr ended P → ended ≡ Err (unopened why) → IsFaultOf contents before now why
-  no_fault P damaged device ended opening.NoFrame stops is = record {}
-  no_fault P damaged device ended opening.OutOfMemory stops is = record {}
   no_fault P damaged device ended (opening.Damaged slot reason) stops is = absurd (damaged slot reason (subst (λ (r : Result Unit Stop). IfErr r P) is stops))
   no_fault P damaged device ended opening.Device stops is = absurd (device (subst (λ (r : Result Unit Stop). IfErr r P) is stops))
+  no_fault P damaged device ended _ stops is = record {}
 
   pub unprinted_is_no_fault : (ended : Result Unit Stop) (why : OpenFault) → IfErr ended IsUnprinted → ended ≡ Err (unopened why) → IsFaultOf contents before now why
   unprinted_is_no_fault = no_fault IsUnprinted (λ slot reason is. is) (λ is. is)
@@ -58,23 +57,13 @@ module _ (contents : List (List ℕ)) (before now : ℕ) where
 
 pub unopened_is_one : (why : OpenFault) → status_of (unopened why) ≡ 1
 unopened_is_one opening.NoFrame = refl
-unopened_is_one (opening.Damaged slot reason) = refl
-unopened_is_one opening.Device = refl
-unopened_is_one opening.OutOfMemory = refl
+unopened_is_one _ = refl
 
 end_is_one : (why : Stop) → IsEndOfMerge why → status_of why ≡ 1
-end_is_one (stop.Fault fault.EmptyChain) is = absurd is
-end_is_one (stop.Fault (fault.Damaged slot reason)) is = absurd is
-end_is_one (stop.Fault fault.Device) is = absurd is
 end_is_one (stop.Fault fault.OutOfMemory) is = refl
-end_is_one stop.NoFrame is = absurd is
-end_is_one (stop.ScriptLine number) is = absurd is
-end_is_one stop.CannotReadScript is = absurd is
-end_is_one stop.CannotOpenFolder is = absurd is
-end_is_one stop.NotEmpty is = absurd is
-end_is_one (stop.Order why) is = absurd is
 end_is_one stop.Refused is = refl
 end_is_one (stop.Writer why) is = refl
+end_is_one _ is = absurd is
 
 pub ends_with_one : (ended : Result Unit Stop) → IfErr ended IsEndOfMerge → IfErr ended (λ why. status_of why ≡ 1)
 ends_with_one (Ok value) is = record {}

@@ -32,10 +32,9 @@ module _ {D : Type 0} (g : Ghosts D) where
       → AnswersLines g first lines answers mid → AnswersLine g line mid given last
       → AnswersLines g first (lines ++ line ∷ []) (answers ++ given ∷ []) last
   answers_more first mid last [] [] line given answered one = (last, subst (λ world. AnswersLine g line world given last) answered one, refl)
-  answers_more first mid last [] (a ∷ others) line given answered one = absurd answered
-  answers_more first mid last (l ∷ ls) [] line given answered one = absurd answered
   answers_more first mid last (l ∷ ls) (a ∷ others) line given answered one =
       (answered.0, answered.1, answers_more answered.0 mid last ls others line given answered.2 one)
+  answers_more first mid last _ _ line given answered one = absurd answered
 
 -- ---- what is printed
 

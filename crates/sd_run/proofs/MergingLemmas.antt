@@ -5,16 +5,5 @@ use Rattle.sd_command.specs.declared.reply.Reply.TheVariants as reply
 use Rattle.sd_run.specs.Merging.{is_reopened}
 
 pub not_reopened : (answer : Reply) → ((m : Option ℕ) → answer ≡ reply.Reopened m → ⊥) → is_reopened answer ≡ false
-not_reopened reply.Done other = refl
-not_reopened (reply.Bytes bytes) other = refl
-not_reopened (reply.Child space) other = refl
-not_reopened reply.NeedsFault other = refl
-not_reopened (reply.Segv why) other = refl
-not_reopened (reply.Begun n) other = refl
-not_reopened reply.Worked other = refl
-not_reopened (reply.Acked n) other = refl
-not_reopened (reply.Cancelled n) other = refl
-not_reopened (reply.Merged serial) other = refl
-not_reopened (reply.Trimmed count) other = refl
 not_reopened (reply.Reopened m) other = absurd (other m refl)
-not_reopened (reply.Refused why) other = refl
+not_reopened _ other = refl

@@ -105,45 +105,33 @@ module _ {D : Type 0} (g : Ghosts D) (follow : PointsFollow g) where
     subst (λ (w : WorldView D). StandsAt w from) (sym answers.1) stands,
     record { others = []; replies = []; goes = refl; others_are = refl; answer = tt; ends = tt },
   )
-  line_reaches (line.Command command) first last (answer.Words words) answers honest = absurd answers
   line_reaches (line.Command command) first last (answer.Reply r) answers honest =
       by_event (line.Command command) (Command script_seat command) first last r refl refl ([], r, refl, refl) tt answers honest
-  line_reaches (line.Begin rounds) first last (answer.Words words) answers honest = absurd answers
   line_reaches (line.Begin rounds) first last (answer.Reply r) answers honest =
       by_event (line.Begin rounds) (Begin rounds) first last r refl refl ([], r, refl, refl) tt answers honest
-  line_reaches line.BeginMerge first last (answer.Words words) answers honest = absurd answers
   line_reaches line.BeginMerge first last (answer.Reply r) answers honest =
       by_event line.BeginMerge (Merge) first last r refl refl ([], r, refl, refl) tt answers honest
-  line_reaches line.Cancel first last (answer.Words words) answers honest = absurd answers
   line_reaches line.Cancel first last (answer.Reply r) answers honest =
       by_event line.Cancel (Cancel) first last r refl refl ([], r, refl, refl) tt answers honest
-  line_reaches (line.Work worker) first last (answer.Words words) answers honest = absurd answers
   line_reaches (line.Work worker) first last (answer.Reply r) answers honest =
       by_event (line.Work worker) (Work worker) first last r refl refl ([], r, refl, refl) tt answers honest
-  line_reaches (line.Perform worker) first last (answer.Words words) answers honest = absurd answers
   line_reaches (line.Perform worker) first last (answer.Reply r) answers honest =
       by_event (line.Perform worker) (Perform worker) first last r refl refl ([], r, refl, refl) tt answers honest
-  line_reaches (line.PerformAt worker place) first last (answer.Words words) answers honest = absurd answers
   line_reaches (line.PerformAt worker place) first last (answer.Reply r) answers honest =
       by_event (line.PerformAt worker place) (PerformAt worker place) first last r refl refl ([], r, refl, refl) tt answers honest
-  line_reaches line.Trim first last (answer.Words words) answers honest = absurd answers
   line_reaches line.Trim first last (answer.Reply r) answers honest =
       by_event line.Trim (Trim) first last r refl refl ([], r, refl, refl) tt answers honest
-  line_reaches (line.Step worker count) first last (answer.Words words) answers honest = absurd answers
   line_reaches (line.Step worker count) first last (answer.Reply r) answers honest =
       by_worker (line.Step worker count) worker first last answers.before r refl refl (answers.before, r, refl, refl) tt answers.drives honest
-  line_reaches (line.Finish worker) first last (answer.Words words) answers honest = absurd answers
   line_reaches (line.Finish worker) first last (answer.Reply r) answers honest =
       by_worker (line.Finish worker) worker first last answers.driven.before r refl refl (answers.driven.before, r, refl, refl) answers.ends answers.driven.drives honest
-  line_reaches (line.Checkpoint rounds) first last (answer.Words words) answers honest = absurd answers
   line_reaches (line.Checkpoint rounds) first last (answer.Reply r) answers honest =
       by_job (line.Checkpoint rounds) (Begin rounds) Dumper first last r refl refl (λ before. (before, r, refl, refl)) (λ ended. ended) answers honest
-  line_reaches line.Merge first last (answer.Words words) answers honest = absurd answers
   line_reaches line.Merge first last (answer.Reply r) answers honest =
       by_job line.Merge (Merge) Merger first last r refl refl (λ before. (before, r, refl, refl)) (λ ended. ended) answers honest
-  line_reaches line.Reopen first last (answer.Words words) answers honest = absurd answers
   line_reaches line.Reopen first last (answer.Reply r) answers honest =
       by_job line.Reopen (Reopen) Opener first last r refl refl (λ before. (before, r, refl, refl)) (λ ended. ended) answers honest
+  line_reaches _ first last (answer.Words words) answers honest = absurd answers
 
   pub runs_line : {E : Type 0} (asked : Line) (first last : WorldView D) (given : Answer) (ended : Result Answer E) (before now : Option (List ℕ))
       → AnswersLine g asked first given last → IfOk ended (Tells given before now) → g.is_honest last.disk
@@ -160,52 +148,31 @@ module _ {D : Type 0} (g : Ghosts D) (follow : PointsFollow g) where
 
   line_honest : (asked : Line) (first last : WorldView D) (given : Answer) → AnswersLine g asked first given last → g.is_honest last.disk → g.is_honest first.disk
   line_honest (line.Words space address count) first last given answers honest = subst (λ (w : WorldView D). g.is_honest w.disk) answers.1 honest
-  line_honest (line.Command command) first last (answer.Words words) answers honest = absurd answers
-  line_honest (line.Command command) first last (answer.Reply r) answers honest = answers.honest honest
-  line_honest (line.Begin rounds) first last (answer.Words words) answers honest = absurd answers
-  line_honest (line.Begin rounds) first last (answer.Reply r) answers honest = answers.honest honest
-  line_honest line.BeginMerge first last (answer.Words words) answers honest = absurd answers
-  line_honest line.BeginMerge first last (answer.Reply r) answers honest = answers.honest honest
-  line_honest line.Cancel first last (answer.Words words) answers honest = absurd answers
-  line_honest line.Cancel first last (answer.Reply r) answers honest = answers.honest honest
-  line_honest (line.Work worker) first last (answer.Words words) answers honest = absurd answers
-  line_honest (line.Work worker) first last (answer.Reply r) answers honest = answers.honest honest
-  line_honest (line.Perform worker) first last (answer.Words words) answers honest = absurd answers
-  line_honest (line.Perform worker) first last (answer.Reply r) answers honest = answers.honest honest
-  line_honest (line.PerformAt worker place) first last (answer.Words words) answers honest = absurd answers
-  line_honest (line.PerformAt worker place) first last (answer.Reply r) answers honest = answers.honest honest
-  line_honest line.Trim first last (answer.Words words) answers honest = absurd answers
-  line_honest line.Trim first last (answer.Reply r) answers honest = answers.honest honest
-  line_honest (line.Step worker count) first last (answer.Words words) answers honest = absurd answers
   line_honest (line.Step worker count) first last (answer.Reply r) answers honest = drives_honest g worker first last (answers.before ++ r ∷ []) answers.drives honest
-  line_honest (line.Finish worker) first last (answer.Words words) answers honest = absurd answers
   line_honest (line.Finish worker) first last (answer.Reply r) answers honest = drives_honest g worker first last (answers.driven.before ++ r ∷ []) answers.driven.drives honest
-  line_honest (line.Checkpoint rounds) first last (answer.Words words) answers honest = absurd answers
   line_honest (line.Checkpoint rounds) first last (answer.Reply r) answers honest = job_honest (Begin rounds) Dumper first last r answers honest
-  line_honest line.Merge first last (answer.Words words) answers honest = absurd answers
   line_honest line.Merge first last (answer.Reply r) answers honest = job_honest (Merge) Merger first last r answers honest
-  line_honest line.Reopen first last (answer.Words words) answers honest = absurd answers
   line_honest line.Reopen first last (answer.Reply r) answers honest = job_honest (Reopen) Opener first last r answers honest
+  line_honest _ first last (answer.Reply r) answers honest = answers.honest honest
+  line_honest _ first last (answer.Words words) answers honest = absurd answers
 
   -- ---- lines
 
   lines_honest : (first last : WorldView D) (lines : List Line) (answers : List Answer) → AnswersLines g first lines answers last → g.is_honest last.disk
       → g.is_honest first.disk
   lines_honest first last [] [] answered honest = subst (λ (w : WorldView D). g.is_honest w.disk) answered honest
-  lines_honest first last [] (a ∷ answers) answered honest = absurd answered
-  lines_honest first last (l ∷ lines) [] answered honest = absurd answered
   lines_honest first last (l ∷ lines) (a ∷ answers) answered honest =
       line_honest l first answered.0 a answered.1 (lines_honest answered.0 last lines answers answered.2 honest)
+  lines_honest first last _ _ answered honest = absurd answered
 
   lines_reach : (first last : WorldView D) (lines : List Line) (answers : List Answer) → AnswersLines g first lines answers last → g.is_honest last.disk
       → Reaches first last (λ from to. GoesByLines g from lines answers to)
   lines_reach first last [] [] answered honest from stands = (from, subst (λ (w : WorldView D). StandsAt w from) (sym answered) stands, refl)
-  lines_reach first last [] (a ∷ answers) answered honest from stands = absurd answered
-  lines_reach first last (l ∷ lines) [] answered honest from stands = absurd answered
   lines_reach first last (l ∷ lines) (a ∷ answers) answered honest from stands =
       let one = line_reaches l first answered.0 a answered.1 (lines_honest answered.0 last lines answers answered.2 honest) from stands in
       let rest = lines_reach answered.0 last lines answers answered.2 honest one.0 one.1 in
       (rest.0, rest.1, (one.0, one.2, rest.2))
+  lines_reach first last _ _ answered honest from stands = absurd answered
 
   -- ---- a whole run
 

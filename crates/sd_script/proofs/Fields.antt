@@ -14,108 +14,72 @@ texts fields = map (λ field. field.now) fields
 
 -- each kind of line takes its own number of arguments
 pub mmap_of-other : (xs : List (Bor (List ℕ))) → length xs ≢ 4 → mmap_of (texts xs) ≡ None
-mmap_of-other [] h = refl
-mmap_of-other (a ∷ []) h = refl
-mmap_of-other (a ∷ b ∷ []) h = refl
-mmap_of-other (a ∷ b ∷ d ∷ []) h = refl
 mmap_of-other (a ∷ b ∷ d ∷ e ∷ []) h = absurd (h refl)
-mmap_of-other (a ∷ b ∷ d ∷ e ∷ f ∷ more) h = refl
+mmap_of-other _ h = refl
 
 pub munmap_of-other : (xs : List (Bor (List ℕ))) → length xs ≢ 3 → munmap_of (texts xs) ≡ None
-munmap_of-other [] h = refl
-munmap_of-other (a ∷ []) h = refl
-munmap_of-other (a ∷ b ∷ []) h = refl
 munmap_of-other (a ∷ b ∷ d ∷ []) h = absurd (h refl)
-munmap_of-other (a ∷ b ∷ d ∷ e ∷ more) h = refl
+munmap_of-other _ h = refl
 
 pub mprotect_of-other : (xs : List (Bor (List ℕ))) → length xs ≢ 4 → mprotect_of (texts xs) ≡ None
-mprotect_of-other [] h = refl
-mprotect_of-other (a ∷ []) h = refl
-mprotect_of-other (a ∷ b ∷ []) h = refl
-mprotect_of-other (a ∷ b ∷ d ∷ []) h = refl
 mprotect_of-other (a ∷ b ∷ d ∷ e ∷ []) h = absurd (h refl)
-mprotect_of-other (a ∷ b ∷ d ∷ e ∷ f ∷ more) h = refl
+mprotect_of-other _ h = refl
 
 pub fork_of-other : (xs : List (Bor (List ℕ))) → length xs ≢ 1 → fork_of (texts xs) ≡ None
-fork_of-other [] h = refl
 fork_of-other (a ∷ []) h = absurd (h refl)
-fork_of-other (a ∷ b ∷ more) h = refl
+fork_of-other _ h = refl
 
 pub exit_of-other : (xs : List (Bor (List ℕ))) → length xs ≢ 1 → exit_of (texts xs) ≡ None
-exit_of-other [] h = refl
 exit_of-other (a ∷ []) h = absurd (h refl)
-exit_of-other (a ∷ b ∷ more) h = refl
+exit_of-other _ h = refl
 
 pub try_of-other : (xs : List (Bor (List ℕ))) → length xs ≢ 3 → try_of (texts xs) ≡ None
-try_of-other [] h = refl
-try_of-other (a ∷ []) h = refl
-try_of-other (a ∷ b ∷ []) h = refl
 try_of-other (a ∷ b ∷ d ∷ []) h = absurd (h refl)
-try_of-other (a ∷ b ∷ d ∷ e ∷ more) h = refl
+try_of-other _ h = refl
 
 pub fault_of-other : (xs : List (Bor (List ℕ))) → length xs ≢ 2 → fault_of (texts xs) ≡ None
-fault_of-other [] h = refl
-fault_of-other (a ∷ []) h = refl
 fault_of-other (a ∷ b ∷ []) h = absurd (h refl)
-fault_of-other (a ∷ b ∷ d ∷ more) h = refl
+fault_of-other _ h = refl
 
 pub words_of-other : (xs : List (Bor (List ℕ))) → length xs ≢ 3 → words_of (texts xs) ≡ None
-words_of-other [] h = refl
-words_of-other (a ∷ []) h = refl
-words_of-other (a ∷ b ∷ []) h = refl
 words_of-other (a ∷ b ∷ d ∷ []) h = absurd (h refl)
-words_of-other (a ∷ b ∷ d ∷ e ∷ more) h = refl
+words_of-other _ h = refl
 
 pub store_of-other : (xs : List (Bor (List ℕ))) → length xs ≢ 3 → store_of (texts xs) ≡ None
-store_of-other [] h = refl
-store_of-other (a ∷ []) h = refl
-store_of-other (a ∷ b ∷ []) h = refl
 store_of-other (a ∷ b ∷ d ∷ []) h = absurd (h refl)
-store_of-other (a ∷ b ∷ d ∷ e ∷ more) h = refl
+store_of-other _ h = refl
 
 pub load_of-other : (xs : List (Bor (List ℕ))) → length xs ≢ 3 → load_of (texts xs) ≡ None
-load_of-other [] h = refl
-load_of-other (a ∷ []) h = refl
-load_of-other (a ∷ b ∷ []) h = refl
 load_of-other (a ∷ b ∷ d ∷ []) h = absurd (h refl)
-load_of-other (a ∷ b ∷ d ∷ e ∷ more) h = refl
+load_of-other _ h = refl
 
 pub begin_of-other : (xs : List (Bor (List ℕ))) → length xs ≢ 1 → begin_of (texts xs) ≡ None
-begin_of-other [] h = refl
 begin_of-other (a ∷ []) h = absurd (h refl)
-begin_of-other (a ∷ b ∷ more) h = refl
+begin_of-other _ h = refl
 
 pub work_of-other : (xs : List (Bor (List ℕ))) → length xs ≢ 1 → work_of (texts xs) ≡ None
-work_of-other [] h = refl
 work_of-other (a ∷ []) h = absurd (h refl)
-work_of-other (a ∷ b ∷ more) h = refl
+work_of-other _ h = refl
 
 pub perform_of-other : (xs : List (Bor (List ℕ))) → length xs ≢ 1 → perform_of (texts xs) ≡ None
-perform_of-other [] h = refl
 perform_of-other (a ∷ []) h = absurd (h refl)
-perform_of-other (a ∷ b ∷ more) h = refl
+perform_of-other _ h = refl
 
 pub perform_at_of-other : (xs : List (Bor (List ℕ))) → length xs ≢ 2 → perform_at_of (texts xs) ≡ None
-perform_at_of-other [] h = refl
-perform_at_of-other (a ∷ []) h = refl
 perform_at_of-other (a ∷ b ∷ []) h = absurd (h refl)
-perform_at_of-other (a ∷ b ∷ d ∷ more) h = refl
+perform_at_of-other _ h = refl
 
 pub step_of-other : (xs : List (Bor (List ℕ))) → length xs ≢ 2 → step_of (texts xs) ≡ None
-step_of-other [] h = refl
-step_of-other (a ∷ []) h = refl
 step_of-other (a ∷ b ∷ []) h = absurd (h refl)
-step_of-other (a ∷ b ∷ d ∷ more) h = refl
+step_of-other _ h = refl
 
 pub finish_of-other : (xs : List (Bor (List ℕ))) → length xs ≢ 1 → finish_of (texts xs) ≡ None
-finish_of-other [] h = refl
 finish_of-other (a ∷ []) h = absurd (h refl)
-finish_of-other (a ∷ b ∷ more) h = refl
+finish_of-other _ h = refl
 
 pub checkpoint_of-other : (xs : List (Bor (List ℕ))) → length xs ≢ 1 → checkpoint_of (texts xs) ≡ None
-checkpoint_of-other [] h = refl
 checkpoint_of-other (a ∷ []) h = absurd (h refl)
-checkpoint_of-other (a ∷ b ∷ more) h = refl
+checkpoint_of-other _ h = refl
 
 -- the first field is the word, and the others are its arguments
 pub asked_by_fields-parts : (xs : List (Bor (List ℕ))) → 1 ≤ length xs → asked_by_fields (texts xs) ≡ asked_by_word (get_or xs 0 (record { ref_ptr = (0, 0); now = [] })).now (texts (take (length xs - 1) (drop 1 xs)))
@@ -213,12 +177,8 @@ asked_by_word-many word a b d e f more =
 
 asked_by_fields-many : (fields : List (List ℕ)) → 5 < length fields → asked_by_fields fields ≡ None
 asked_by_fields-many [] many = refl
-asked_by_fields-many (word ∷ []) many = absurd (omega arith)
-asked_by_fields-many (word ∷ a ∷ []) many = absurd (omega arith)
-asked_by_fields-many (word ∷ a ∷ b ∷ []) many = absurd (omega arith)
-asked_by_fields-many (word ∷ a ∷ b ∷ d ∷ []) many = absurd (omega arith)
-asked_by_fields-many (word ∷ a ∷ b ∷ d ∷ e ∷ []) many = absurd (omega arith)
 asked_by_fields-many (word ∷ a ∷ b ∷ d ∷ e ∷ f ∷ more) many = asked_by_word-many word a b d e f more
+asked_by_fields-many (word ∷ _) many = absurd (omega arith)
 
 pub asked_by-many : (line : List ℕ) → 5 < length (slice_split is_space line) → asked_by line ≡ None
 asked_by-many line many = asked_by_fields-many (slice_split is_space line) many

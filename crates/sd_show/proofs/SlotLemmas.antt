@@ -65,8 +65,7 @@ table_stands file h read fills =
 behind_table : (read : Result (List Listed) Reason) (other : Bool) (h : Header)
     → or_digest (reason_of read) other ≡ reason_of {X = Header × List Listed} (read >>= λ spaces. cond other (Err Digest) (Ok (h, spaces)))
 behind_table (Ok spaces) true h = refl
-behind_table (Ok spaces) false h = refl
-behind_table (Err r) other h = refl
+behind_table _ _ h = refl
 
 pub others_named : (file table : List ℕ) (h : Header) (fault : Option Reason) (other : Bool) → header_in (slice_range file 0 4096) (length file) ≡ Ok h
     → IsHeader h (length file) → table ≡ table_bytes file → fault ≡ reason_of (table_in h table) → other ≡ breaks_digest h file → or_digest fault other ≡ reason_of (file_in file)

@@ -116,32 +116,20 @@ closes_failed phase body other strong is =
 
 -- a slot that is written is closed before and afterwards
 written : (phase : Phase) (body new : List ℕ) → may_write phase ≡ true → AllowsOn phase (filled phase) body new
-written Raw body new ready = absurd (false≢true ready)
-written RawClosing body new ready = absurd (false≢true ready)
-written Whole body new ready = absurd (false≢true ready)
-written ClosingPhase body new ready = absurd (false≢true ready)
 written Shut body new ready = same Shut Shut body new (λ b is. is)
 written ShutSynced body new ready = same ShutSynced Shut body new (λ b is. is)
 written Bare body new ready = same Bare Writing body new (λ b is. is)
 written Writing body new ready = same Writing Writing body new (λ b is. is)
 written Ready body new ready = same Ready Writing body new (λ b is. is)
-written OpeningPhase body new ready = absurd (false≢true ready)
-written Doubt body new ready = absurd (false≢true ready)
-written DoubtSynced body new ready = absurd (false≢true ready)
+written _ body new ready = absurd (false≢true ready)
 
 pub is_closed : (phase : Phase) (body : List ℕ) (strong : Belief) → may_write phase ≡ true → IsBelievedAs phase body strong → strong ≡ Closed
-is_closed Raw body strong ready is = is
-is_closed RawClosing body strong ready is = is
 is_closed Whole body strong ready is = absurd (false≢true ready)
 is_closed ClosingPhase body strong ready is = absurd (false≢true ready)
-is_closed Shut body strong ready is = is
-is_closed ShutSynced body strong ready is = is
-is_closed Bare body strong ready is = is
-is_closed Writing body strong ready is = is
-is_closed Ready body strong ready is = is
 is_closed OpeningPhase body strong ready is = absurd (false≢true ready)
 is_closed Doubt body strong ready is = absurd (false≢true ready)
 is_closed DoubtSynced body strong ready is = absurd (false≢true ready)
+is_closed _ body strong ready is = is
 
 to_shut : (phase : Phase) (body new : List ℕ) → may_write phase ≡ true → AllowsOn phase Shut body new
 to_shut phase body new ready = same phase Shut body new (λ strong is. is_closed phase body strong ready is)
@@ -156,8 +144,6 @@ either phase first second body new false one other = other
 
 allows : (phase : Phase) (body bytes : List ℕ) (call : Call) (done : Bool) → is_ready phase call ≡ true → call ≢ Open → (call ≡ Close → phase ≢ Whole)
     → AllowsOn phase (after phase call done) body (body_after body call bytes)
-allows phase body bytes Len done ready other unkept = same phase phase body body (λ b is. is)
-allows phase body bytes (Read at) done ready other unkept = same phase phase body body (λ b is. is)
 allows phase body bytes (Write at) done ready other unkept =
     let new : List ℕ = body_after body (Write at) bytes in
     either phase (filled phase) Shut body new done (written phase body new ready) (to_shut phase body new ready)
@@ -169,6 +155,7 @@ allows phase body bytes Close done ready other unkept =
 allows phase body bytes Open done ready other unkept = absurd (other refl)
 allows phase body bytes Cut done ready other unkept = either phase Bare Shut body [] done (to_bare phase body [] ready) (to_shut phase body [] ready)
 allows phase body bytes Sync done ready other unkept = either phase (synced phase) (given_up phase) body body done (syncs phase body) (gives_up phase body)
+allows phase body bytes _ done ready other unkept = same phase phase body body (λ b is. is)
 
 -- ---- the calls on a gate
 
@@ -177,18 +164,8 @@ doubtful body first second true belief one other = one
 doubtful body first second false belief one other = other
 
 before_open : (phase : Phase) (body : List ℕ) (i : Image) → is_ready phase Open ≡ true → MayBelieve phase body (Opening i)
-before_open Raw body i ready = absurd (false≢true ready)
-before_open RawClosing body i ready = absurd (false≢true ready)
-before_open Whole body i ready = absurd (false≢true ready)
-before_open ClosingPhase body i ready = absurd (false≢true ready)
-before_open Shut body i ready = absurd (false≢true ready)
-before_open ShutSynced body i ready = absurd (false≢true ready)
-before_open Bare body i ready = absurd (false≢true ready)
-before_open Writing body i ready = absurd (false≢true ready)
 before_open Ready body i ready = record { strong = Closed; is = refl; weaker = λ file shut. inl shut }
-before_open OpeningPhase body i ready = absurd (false≢true ready)
-before_open Doubt body i ready = absurd (false≢true ready)
-before_open DoubtSynced body i ready = absurd (false≢true ready)
+before_open _ body i ready = absurd (false≢true ready)
 
 opening : (phase : Phase) (body : List ℕ) (done : Bool) (i : Image) → IsImage (gate ∷ body) i → MayBelieve (after phase Open done) body (Opening i)
 opening phase body done i is = doubtful body OpeningPhase Doubt done (Opening i)
@@ -256,9 +233,8 @@ given_up_is_believed_lem phases bodies beliefs are = record {
     mapped (p ∷ phases) (suc slot) phase e = mapped phases slot phase e
 
 set_count : {X : Type 0} (xs : List X) (slot : ℕ) (y : X) → length (slice_set xs slot y) ≡ length xs
-set_count [] slot y = refl
-set_count (x ∷ xs) zero y = refl
 set_count (x ∷ xs) (suc slot) y = ap suc (set_count xs slot y)
+set_count _ _ y = refl
 
 set_at : {X : Type 0} (xs : List X) (slot : ℕ) (y : X) → slot < length xs → slice_get (slice_set xs slot y) slot ≡ Some y
 set_at [] slot y within = absurd (omega (arith, within))
@@ -271,11 +247,9 @@ file_set (f ∷ files) zero file within = refl
 file_set (f ∷ files) (suc slot) file within = file_set files slot file (omega (arith, within))
 
 file_other : (files : List (List ℕ)) (slot k : ℕ) (file : List ℕ) → k ≢ slot → slice_index_or (slice_set files slot file) k [] ≡ slice_index_or files k []
-file_other [] slot k file other = refl
 file_other (f ∷ files) zero zero file other = absurd (other refl)
-file_other (f ∷ files) zero (suc k) file other = refl
-file_other (f ∷ files) (suc slot) zero file other = refl
 file_other (f ∷ files) (suc slot) (suc k) file other = file_other files slot k file (λ same. other (ap suc same))
+file_other _ _ _ file other = refl
 
 pub one_belief_changes_lem : OneBeliefChanges
 one_belief_changes_lem phases bodies beliefs slot phase body belief stored within are may = record {
@@ -340,8 +314,7 @@ found_one file (Kept i) found =
         | inr shut ↦ absurd (shut.0 first)
       ]
     ]
-found_one file (Closing i) found = absurd found
-found_one file (Opening i) found = absurd found
+found_one file _ found = absurd found
 
 found_each : (contents : List (List ℕ)) (beliefs : List Belief) → AllZip IsFoundAs beliefs contents → (slot : ℕ) (phase : Phase) (belief : Belief)
     → slice_get (map found_phase contents) slot ≡ Some phase → slice_get beliefs slot ≡ Some belief → MayBelieve phase (file_at (map (drop 1) contents) slot) belief
@@ -354,9 +327,8 @@ found_each (file ∷ contents) (b ∷ beliefs) all (suc slot) phase belief at ha
 
 found_count : (contents : List (List ℕ)) (beliefs : List Belief) → AllZip IsFoundAs beliefs contents → length beliefs ≡ length (map found_phase contents)
 found_count [] [] all = refl
-found_count [] (b ∷ beliefs) all = absurd all
-found_count (file ∷ contents) [] all = absurd all
 found_count (file ∷ contents) (b ∷ beliefs) all = ap suc (found_count contents beliefs all.1)
+found_count _ _ all = absurd all
 
 pub found_is_exact_lem : FoundIsExact
 found_is_exact_lem [] beliefs all slot phase belief at has = absurd cc
@@ -383,13 +355,4 @@ synced_is_found_lem contents may_leave law phase body slot (inr raw) fits =
 pub given_up_syncs_lem : GivenUpSyncs
 given_up_syncs_lem Raw = inr refl
 given_up_syncs_lem RawClosing = inr refl
-given_up_syncs_lem Whole = inl refl
-given_up_syncs_lem ClosingPhase = inl refl
-given_up_syncs_lem Shut = inl refl
-given_up_syncs_lem ShutSynced = inl refl
-given_up_syncs_lem Bare = inl refl
-given_up_syncs_lem Writing = inl refl
-given_up_syncs_lem Ready = inl refl
-given_up_syncs_lem OpeningPhase = inl refl
-given_up_syncs_lem Doubt = inl refl
-given_up_syncs_lem DoubtSynced = inl refl
+given_up_syncs_lem _ = inl refl

@@ -46,12 +46,11 @@ record FitAt (beliefs : List Belief) (files : List (List ℕ)) : Type 0 where
 
 all_fit : (beliefs : List Belief) (files : List (List ℕ)) → FitAt beliefs files → AllZip FitsBelief beliefs files
 all_fit [] [] at = tt
-all_fit [] (file ∷ files) at = let count = at.count in absurd (omega arith)
-all_fit (belief ∷ beliefs) [] at = let count = at.count in absurd (omega arith)
 all_fit (belief ∷ beliefs) (file ∷ files) at = (
   at.each 0 belief file refl refl,
   all_fit beliefs files (record { count = let count = at.count in omega arith; each = λ slot. at.each (suc slot) }),
 )
+all_fit _ _ at = let count = at.count in absurd (omega arith)
 
 -- the element at a place
 there : {X : Type 0} (xs : List X) (k : ℕ) (d : X) → k < length xs → (x : X) × (slice_get xs k ≡ Some x)

@@ -104,8 +104,7 @@ file_of (f ∷ contents) (c ∷ beliefs) all (suc slot) b at = file_of contents 
 kept_so : OneImage → (b : Belief) (file : List ℕ) (i : Image) → IsImage file i → IsFoundAs b file → b ≡ Kept i
 kept_so one Closed file i is found = absurd (false≢true (sym found ∙ image_opens file i is))
 kept_so one (Kept j) file i is found = ap Kept (one file j i found is)
-kept_so one (Closing j) file i is found = absurd found
-kept_so one (Opening j) file i is found = absurd found
+kept_so one _ file i is found = absurd found
 
 pub catalog_is_found_lem : OneImage → CatalogIsFound
 catalog_is_found_lem one places contents beliefs order of all = record {

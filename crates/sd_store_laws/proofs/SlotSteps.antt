@@ -38,11 +38,9 @@ set_back (z ∷ xs) (suc slot) y x c = elim (contains_cases z x (slice_set xs sl
 ]
 
 pub set_other : {X : Type 0} (xs : List X) (slot k : ℕ) (y : X) → k ≢ slot → slice_get (slice_set xs slot y) k ≡ slice_get xs k
-set_other [] slot k y other = refl
 set_other (z ∷ xs) zero zero y other = absurd (other refl)
-set_other (z ∷ xs) zero (suc k) y other = refl
-set_other (z ∷ xs) (suc slot) zero y other = refl
 set_other (z ∷ xs) (suc slot) (suc k) y other = set_other xs slot k y (λ same. other (ap suc same))
+set_other _ _ _ y other = refl
 
 pub set_same : {X : Type 0} (xs : List X) (slot : ℕ) (z y : X) → slice_get xs slot ≡ Some z → slice_get (slice_set xs slot y) slot ≡ Some y
 set_same [] slot z y e = absurd cc

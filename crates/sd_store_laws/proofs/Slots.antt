@@ -19,10 +19,8 @@ use Rattle.sd_store_laws.proofs.Harmless.{dump_is_pending_lem, pre_dump_is_harml
 
 -- the images that are being opened
 abbrev opening_in : Belief → Option Image
-opening_in Closed = None
-opening_in (Kept i) = None
-opening_in (Closing i) = None
 opening_in (Opening i) = Some i
+opening_in _ = None
 
 abbrev openings : List Belief → List Image
 openings = filter_map opening_in

@@ -9,8 +9,6 @@ module _ {X : Type 0} where
   got_set (x ∷ xs) (suc i) y l = got_set xs i y (omega arith)
 
   pub got_other : (xs : List X) (i j : ℕ) (y : X) → (j ≡ i → ⊥) → slice_get (set xs i y) j ≡ slice_get xs j
-  got_other [] i j y n = refl
   got_other (x ∷ xs) zero zero y n = absurd (n refl)
-  got_other (x ∷ xs) zero (suc j) y n = refl
-  got_other (x ∷ xs) (suc i) zero y n = refl
   got_other (x ∷ xs) (suc i) (suc j) y n = got_other xs i j y (λ e. n (ap suc e))
+  got_other _ _ _ y n = refl

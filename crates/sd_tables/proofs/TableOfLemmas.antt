@@ -120,9 +120,8 @@ module _ (limit : ℕ) (f g : ℕ → Option Entry) where
   table_same is = same_table _ _ (λ q. get-table_of g limit q ∙ ap (λ o. cond (is_within 0 limit q) o None) (is q) ∙ sym (get-table_of f limit q))
 
   both_turned : (w e : Bool) (x : Option Entry) (o : Option Entry) → (e ≡ true → w ≡ true) → cond w (cond e x o) None ≡ cond e x (cond w o None)
-  both_turned true e x o h = refl
   both_turned false true x o h = absurd (let c : false ≡ true = h refl in cc)
-  both_turned false false x o h = refl
+  both_turned _ _ x o h = refl
 
   pub table_put : (k : ℕ) (x : Entry) → k < limit → ((q : ℕ) → g q ≡ cond (nat_eq q k) (Some x) (f q)) → table_of limit g ≡ finmap.insert (table_of limit f) k x
   table_put k x l is = same_table _ _ (λ q. get-table_of g limit q ∙ ap (λ o. cond (is_within 0 limit q) o None) (is q)
@@ -186,8 +185,7 @@ module _ (limit : ℕ) (f : ℕ → Option Entry) (k page : ℕ) (same : k ≡ p
 -- ---- the first page from a bound on
 from_is : (start : Bound ℕ) (page : ℕ) → is_from start page ≡ nat_le (first_allowed start) page
 from_is (Included first) page = refl
-from_is (Excluded before) page = grind (arith, nat_tests)
-from_is Unbounded page = grind (arith, nat_tests)
+from_is _ page = grind (arith, nat_tests)
 
 module _ (limit span : ℕ) (at : ℕ → Option Entry) (start : Bound ℕ) where
   some_below : (page : ℕ) → IsSome (finmap.get (table_of limit at) page) → page < limit

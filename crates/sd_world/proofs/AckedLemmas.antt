@@ -139,37 +139,10 @@ record IsFirstRound (core : CoreView) : Type 0 where
 -- the core is as it was, or the checkpoint begins that was asked for
 begins_or_stays : (old : CoreView) (rounds : ℕ) (answer : Reply) (new : CoreView) → BeginsAs old rounds answer new
     → (new ≡ old) ⊎ ((n : ℕ) × (answer ≡ reply.Begun n) × Begins old rounds n new)
-begins_or_stays old rounds reply.Done new begins = absurd begins
-begins_or_stays old rounds (reply.Bytes bytes) new begins = absurd begins
-begins_or_stays old rounds (reply.Child space) new begins = absurd begins
-begins_or_stays old rounds reply.NeedsFault new begins = absurd begins
-begins_or_stays old rounds (reply.Segv why) new begins = absurd begins
 begins_or_stays old rounds (reply.Begun n) new begins = inr (n, refl, begins)
-begins_or_stays old rounds reply.Worked new begins = absurd begins
-begins_or_stays old rounds (reply.Acked n) new begins = absurd begins
-begins_or_stays old rounds (reply.Cancelled n) new begins = absurd begins
-begins_or_stays old rounds (reply.Merged serial) new begins = absurd begins
-begins_or_stays old rounds (reply.Trimmed count) new begins = absurd begins
-begins_or_stays old rounds (reply.Reopened m) new begins = absurd begins
-begins_or_stays old rounds (reply.Refused refusal.Einval) new begins = absurd begins
-begins_or_stays old rounds (reply.Refused refusal.Enomem) new begins = absurd begins
-begins_or_stays old rounds (reply.Refused refusal.NoSuchSpace) new begins = absurd begins
-begins_or_stays old rounds (reply.Refused refusal.TooManySpaces) new begins = absurd begins
-begins_or_stays old rounds (reply.Refused refusal.NoFrame) new begins = absurd begins
-begins_or_stays old rounds (reply.Refused refusal.Frozen) new begins = absurd begins
-begins_or_stays old rounds (reply.Refused refusal.JournalFull) new begins = absurd begins
 begins_or_stays old rounds (reply.Refused refusal.OutOfMemory) new begins = inl begins
-begins_or_stays old rounds (reply.Refused refusal.UnsupportedValue) new begins = absurd begins
-begins_or_stays old rounds (reply.Refused refusal.NotOpen) new begins = absurd begins
-begins_or_stays old rounds (reply.Refused refusal.Busy) new begins = absurd begins
 begins_or_stays old rounds (reply.Refused refusal.NoSlot) new begins = inl begins.1
-begins_or_stays old rounds (reply.Refused refusal.StoreDown) new begins = absurd begins
-begins_or_stays old rounds (reply.Refused refusal.Idle) new begins = absurd begins
-begins_or_stays old rounds (reply.Refused refusal.LastSpace) new begins = absurd begins
-begins_or_stays old rounds (reply.Refused refusal.LockBusy) new begins = absurd begins
-begins_or_stays old rounds (reply.Refused refusal.NumbersUsed) new begins = absurd begins
-begins_or_stays old rounds (reply.Refused refusal.Damaged) new begins = absurd begins
-begins_or_stays old rounds (reply.Refused refusal.Device) new begins = absurd begins
+begins_or_stays old rounds _ new begins = absurd begins
 
 begins_there : (old : CoreView) (rounds : ℕ) (answer : Reply) (new : CoreView) → BeginsAs old rounds answer new → (new ≡ old) ⊎ IsFirstRound new
 begins_there old rounds answer new begins = elim (begins_or_stays old rounds answer new begins) [
@@ -194,8 +167,7 @@ none_goes old new idle = by new.dumper.running idle
 -- another worker's call leaves the dumper
 others_dumper : (worker : Worker) (old new : CoreView) → LeavesOthers worker old new → worker ≢ Dumper → new.dumper ≡ old.dumper
 others_dumper Dumper old new others other = absurd (other refl)
-others_dumper Merger old new others other = others.0
-others_dumper Opener old new others other = others.0
+others_dumper _ old new others other = others.0
 
 is_dumper : (worker : Worker) → (worker ≡ Dumper) ⊎ (worker ≢ Dumper)
 is_dumper Dumper = inl refl
@@ -455,14 +427,13 @@ module _ {D : Type 0} (g : Ghosts D) (old new : WorldView D) (pre_new : HasItsPr
     step_pre_dumps (HandInAt worker place) answer looks alone does = hand_in_there worker place answer (ap g.contents does.disk) does.hands
     step_pre_dumps (Perform worker) answer looks alone does = perform_there worker 0 answer looks does.core does.performs
     step_pre_dumps (PerformAt worker place) answer looks alone does = perform_there worker place answer looks does.core does.performs
-    step_pre_dumps Merge answer looks alone does = same_there (ap g.contents does.0.disk) does.1.beside.images (same_dumper old.core new.core does.1.beside.others.0)
     step_pre_dumps Cancel answer looks alone does = cancel_there answer (ap g.contents does.0.disk) does.1.beside.images does.1.refused does.1.cancelled
-    step_pre_dumps Reopen answer looks alone does = same_there (ap g.contents does.0.disk) does.1.beside.images (same_dumper old.core new.core does.1.beside.others.0)
     step_pre_dumps Trim answer looks alone does = elim (trim_cases old.core answer new.core does.trims) [
       | inl gone ↦ same_there (ap g.contents does.disk) (λ serial image other at its. same_image other image (sym its ∙ ap (λ (v : CoreView). place_of v.catalog serial) gone.is ∙ at))
           (same_dumper old.core new.core (ap (λ (v : CoreView). v.dumper) gone.is))
       | inr all ↦ core_there (ap g.contents does.disk) all.is
     ]
+    step_pre_dumps _ answer looks alone does = same_there (ap g.contents does.0.disk) does.1.beside.images (same_dumper old.core new.core does.1.beside.others.0)
 
     -- ---- the acknowledgement
 
@@ -481,17 +452,10 @@ module _ {D : Type 0} (g : Ghosts D) (old new : WorldView D) (pre_new : HasItsPr
     hand_in_acks worker place answer still few there (HandsInIfAny.none none idle) n is = absurd (let no : reply.Refused refusal.Idle ≡ reply.Acked n = sym idle.refused ∙ is in cc)
 
     pub step_acks : (event : Event) (answer : Reply) → HasFewOpen old.core.dumper.running → HasPreDumpsThere g old → Does g event old answer new → DoesAck g event old answer new
-    step_acks (Command seat command) answer few there does = tt
-    step_acks (Begin rounds) answer few there does = tt
     step_acks (Work worker) answer few there does = works_ack worker answer (ap g.contents does.disk) few there does.works
     step_acks (TakeUp worker) answer few there does = none_taken worker answer does.takes
     step_acks (HandInAt worker place) answer few there does = hand_in_acks worker place answer (ap g.contents does.disk) few there does.hands
-    step_acks (Perform worker) answer few there does = tt
-    step_acks (PerformAt worker place) answer few there does = tt
-    step_acks Merge answer few there does = tt
-    step_acks Cancel answer few there does = tt
-    step_acks Reopen answer few there does = tt
-    step_acks Trim answer few there does = tt
+    step_acks _ answer few there does = tt
 
 -- ---- the checkpoint that runs
 
@@ -563,8 +527,6 @@ module _ {D : Type 0} (g : Ghosts D) (old new : WorldView D) (pre_new : HasItsPr
   step_checkpoint (Work worker) answer does = KeepsCheckpoint.ran (works_ran worker answer does.works)
   step_checkpoint (TakeUp worker) answer does = KeepsCheckpoint.ran (takes_ran worker answer does.takes)
   step_checkpoint (HandInAt worker place) answer does = KeepsCheckpoint.ran (hand_in_ran worker place answer does.hands)
-  step_checkpoint (Perform worker) answer does = KeepsCheckpoint.ran (core_ran does.core)
-  step_checkpoint (PerformAt worker place) answer does = KeepsCheckpoint.ran (core_ran does.core)
   step_checkpoint Merge answer does = KeepsCheckpoint.ran (same_ran (same_dumper old.core new.core does.1.beside.others.0))
   step_checkpoint Cancel answer does = KeepsCheckpoint.ran (cancel_ran answer does.1.refused does.1.cancelled)
   step_checkpoint Reopen answer does = KeepsCheckpoint.ran (same_ran (same_dumper old.core new.core does.1.beside.others.0))
@@ -572,3 +534,4 @@ module _ {D : Type 0} (g : Ghosts D) (old new : WorldView D) (pre_new : HasItsPr
     | inl gone ↦ KeepsCheckpoint.ran (same_ran (same_dumper old.core new.core (ap (λ (v : CoreView). v.dumper) gone.is)))
     | inr all ↦ KeepsCheckpoint.ran (core_ran all.is)
   ]
+  step_checkpoint _ answer does = KeepsCheckpoint.ran (core_ran does.core)

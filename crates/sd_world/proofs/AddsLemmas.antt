@@ -29,40 +29,22 @@ use Rattle.sd_world.proofs.TrimLemmas.{trim_cases}
 
 adds_by_step : (worker : Worker) (core : CoreView) (answer : Reply) (old new : History) → AddsByStep worker core answer old new
     → AddsByWork worker core answer old new
-adds_by_step worker core reply.Done old new adds = absurd adds
-adds_by_step worker core (reply.Bytes bytes) old new adds = absurd adds
-adds_by_step worker core (reply.Child space) old new adds = absurd adds
-adds_by_step worker core reply.NeedsFault old new adds = absurd adds
-adds_by_step worker core (reply.Segv why) old new adds = absurd adds
-adds_by_step worker core (reply.Begun n) old new adds = absurd adds
 adds_by_step worker core reply.Worked old new adds = adds
-adds_by_step worker core (reply.Acked n) old new adds = absurd adds
-adds_by_step worker core (reply.Cancelled n) old new adds = absurd adds
-adds_by_step worker core (reply.Merged serial) old new adds = absurd adds
-adds_by_step worker core (reply.Trimmed count) old new adds = absurd adds
 adds_by_step worker core (reply.Reopened m) old new adds = adds
 adds_by_step worker core (reply.Refused why) old new adds = adds
+adds_by_step worker core _ old new adds = absurd adds
 
 adds_by_outcome : (worker : Worker) (core : CoreView) (answer : Reply) (old new : History) → AddsByOutcome worker answer old new
     → AddsByWork worker core answer old new
-adds_by_outcome worker core reply.Done old new adds = absurd adds
-adds_by_outcome worker core (reply.Bytes bytes) old new adds = absurd adds
-adds_by_outcome worker core (reply.Child space) old new adds = absurd adds
-adds_by_outcome worker core reply.NeedsFault old new adds = absurd adds
-adds_by_outcome worker core (reply.Segv why) old new adds = absurd adds
-adds_by_outcome worker core (reply.Begun n) old new adds = absurd adds
 adds_by_outcome worker core reply.Worked old new adds = inl adds
 adds_by_outcome worker core (reply.Acked n) old new adds = adds
-adds_by_outcome worker core (reply.Cancelled n) old new adds = absurd adds
 adds_by_outcome worker core (reply.Merged serial) old new adds = adds
-adds_by_outcome worker core (reply.Trimmed count) old new adds = absurd adds
-adds_by_outcome worker core (reply.Reopened m) old new adds = absurd adds
 adds_by_outcome worker core (reply.Refused why) old new adds = adds
+adds_by_outcome worker core _ old new adds = absurd adds
 
 adds_by_perform : (answer : Answer) (old new : History) → new ≡ old → AddsByPerform (reply_of_answer answer) old new
 adds_by_perform Done old new same = same
-adds_by_perform (Len len) old new same = same
-adds_by_perform Failed old new same = same
+adds_by_perform _ old new same = same
 
 told_adds : (seat : ℕ) (command : CommandOf) (told : Result (ℕ × Reply) Refusal) (old new : CoreView) → Applies seat command told old new
     → AddsByCommand seat command (answer_of told) (history_of old) (history_of new)
@@ -129,16 +111,13 @@ module _ {D : Type 0} (g : Ghosts D) (old new : WorldView D) (world : IsWorld g 
 
   pub step_adds : (event : Event) (answer : Reply) → Does g event old answer new → AddsToJournal event answer old.core new.core
   step_adds (Command seat command) answer does = command_adds seat command answer does
-  step_adds (Begin rounds) answer does = does.1.adds
   step_adds (Work worker) answer does = work_adds worker answer does.works
   step_adds (TakeUp worker) answer does = taken_adds worker answer does.takes
   step_adds (HandInAt worker place) answer does = hand_in_adds worker place answer does.hands
   step_adds (Perform worker) answer does = perform_adds worker 0 answer does.performs does.core
   step_adds (PerformAt worker place) answer does = perform_adds worker place answer does.performs does.core
-  step_adds Merge answer does = does.1.adds
-  step_adds Cancel answer does = does.1.adds
-  step_adds Reopen answer does = does.1.adds
   step_adds Trim answer does = trim_adds answer does.trims
+  step_adds _ answer does = does.1.adds
 
   -- ---- the base
 
@@ -159,16 +138,13 @@ module _ {D : Type 0} (g : Ghosts D) (old new : WorldView D) (world : IsWorld g 
 
   pub step_base : (event : Event) (answer : Reply) → Does g event old answer new → event ≢ Trim → new.core.base ≡ old.core.base
   step_base (Command seat command) answer does other = does.applied.keeps.base
-  step_base (Begin rounds) answer does other = does.1.keeps.base
   step_base (Work worker) answer does other = work_base worker answer does.works
   step_base (TakeUp worker) answer does other = taken_base worker answer does.takes
   step_base (HandInAt worker place) answer does other = hand_in_base worker place answer does.hands
   step_base (Perform worker) answer does other = ap (λ (c : CoreView). c.base) does.core
   step_base (PerformAt worker place) answer does other = ap (λ (c : CoreView). c.base) does.core
-  step_base Merge answer does other = does.1.keeps.base
-  step_base Cancel answer does other = does.1.keeps.base
-  step_base Reopen answer does other = does.1.keeps.base
   step_base Trim answer does other = absurd (other refl)
+  step_base _ answer does other = does.1.keeps.base
 
   -- ---- the disk
 
@@ -179,16 +155,13 @@ module _ {D : Type 0} (g : Ghosts D) (old new : WorldView D) (world : IsWorld g 
 
   pub step_honest : (event : Event) (answer : Reply) → Does g event old answer new → g.is_honest new.disk → g.is_honest old.disk
   step_honest (Command seat command) answer does = subst g.is_honest does.rest.disk
-  step_honest (Begin rounds) answer does = subst g.is_honest does.0.disk
   step_honest (Work worker) answer does = subst g.is_honest does.disk
   step_honest (TakeUp worker) answer does = subst g.is_honest does.disk
   step_honest (HandInAt worker place) answer does = subst g.is_honest does.disk
   step_honest (Perform worker) answer does = perform_honest worker 0 answer does.performs
   step_honest (PerformAt worker place) answer does = perform_honest worker place answer does.performs
-  step_honest Merge answer does = subst g.is_honest does.0.disk
-  step_honest Cancel answer does = subst g.is_honest does.0.disk
-  step_honest Reopen answer does = subst g.is_honest does.0.disk
   step_honest Trim answer does = subst g.is_honest does.disk
+  step_honest _ answer does = subst g.is_honest does.0.disk
 
   module _ (P : List (List ℕ) → Type 0) (only_now : Within (g.left_since old.disk (g.moment old.disk)) (g.may_leave old.disk))
       (before : Within (g.may_leave old.disk) P) where
@@ -208,13 +181,10 @@ module _ {D : Type 0} (g : Ghosts D) (old new : WorldView D) (world : IsWorld g 
     pub step_span : (event : Event) (answer : Reply) → Does g event old answer new
         → (new.core ≡ old.core → Within (g.may_leave new.disk) P) → LeavesOnly g old.disk new.disk P
     step_span (Command seat command) answer does after = no_call does.rest.disk
-    step_span (Begin rounds) answer does after = no_call does.0.disk
     step_span (Work worker) answer does after = no_call does.disk
     step_span (TakeUp worker) answer does after = no_call does.disk
     step_span (HandInAt worker place) answer does after = no_call does.disk
     step_span (Perform worker) answer does after = perform_span worker 0 answer does.performs (after does.core)
     step_span (PerformAt worker place) answer does after = perform_span worker place answer does.performs (after does.core)
-    step_span Merge answer does after = no_call does.0.disk
-    step_span Cancel answer does after = no_call does.0.disk
-    step_span Reopen answer does after = no_call does.0.disk
     step_span Trim answer does after = no_call does.disk
+    step_span _ answer does after = no_call does.0.disk

@@ -56,13 +56,12 @@ fits_one left phase body file belief may leaves = all.0
 all_zipped : {A B : Type 0} (R : A → B → Type 0) (xs : List A) (ys : List B) → length ys ≡ length xs
     → ((i : ℕ) (x : A) (y : B) → slice_get xs i ≡ Some x → slice_get ys i ≡ Some y → R x y) → AllZip R xs ys
 all_zipped R [] [] same each = tt
-all_zipped R [] (y ∷ ys) same each = absurd cc
-all_zipped R (x ∷ xs) [] same each = absurd cc
 all_zipped R (x ∷ xs) (y ∷ ys) same each =
     (each 0 x y refl refl, all_zipped R xs ys (suc_same (length ys) (length xs) same) (λ i a b at there. each (suc i) a b at there))
   where
     suc_same : (m n : ℕ) → suc m ≡ suc n → m ≡ n
     suc_same m n e = cc
+all_zipped R _ _ same each = absurd cc
 
 -- by what the store shows, and would show with the dump that is being opened
 shows_allowed : ContentsShow → (base : Base) (history : History) (store : Store) (dump : Option Image) (beliefs : List Belief) (c : List (List ℕ))
@@ -95,18 +94,12 @@ closed_belief p q body other belief may too m = record { strong = Closed; is = c
     closed ph.DoubtSynced is = absurd (false≢true is)
 
     its : (phase : Phase) → may_write phase ≡ true → (strong : Belief) → IsBelievedAs phase body strong → strong ≡ Closed
-    its ph.Raw is strong believed = believed
-    its ph.RawClosing is strong believed = believed
     its ph.Whole is strong believed = absurd (false≢true is)
     its ph.Closing is strong believed = absurd (false≢true is)
-    its ph.Shut is strong believed = believed
-    its ph.ShutSynced is strong believed = believed
-    its ph.Bare is strong believed = believed
-    its ph.Writing is strong believed = believed
-    its ph.Ready is strong believed = believed
     its ph.Opening is strong believed = absurd (false≢true is)
     its ph.Doubt is strong believed = absurd (false≢true is)
     its ph.DoubtSynced is strong believed = absurd (false≢true is)
+    its _ is strong believed = believed
 
 -- it may be written, and is believed so
 record MayBoth (belief : Belief) (s : SlotNow) : Type 0 where

@@ -85,13 +85,12 @@ module _ {D : Type 0} (g : Ghosts D) (first : WorldView D) where
       → HasBegun before told mid → Runs g mid events answers last → HasBegun (before ++ events) (told ++ answers) last
   go_on before told mid last [] [] there has runs = subst (λ events. HasBegun events (told ++ []) last) (sym (append-nil before))
       (subst (λ answers. HasBegun before answers last) (sym (append-nil told)) (subst (HasBegun before told) (sym runs) has))
-  go_on before told mid last [] (answer ∷ answers) there has runs = absurd runs
-  go_on before told mid last (event ∷ events) [] there has runs = absurd runs
   go_on before told mid last (event ∷ events) (answer ∷ answers) there has runs =
       subst (λ e. HasBegun e (told ++ answer ∷ answers) last) (append_assoc before (event ∷ []) events)
       (subst (λ a. HasBegun ((before ++ event ∷ []) ++ events) a last) (append_assoc told (answer ∷ []) answers)
       (go_on (before ++ event ∷ []) (told ++ answer ∷ []) runs.0 last events answers (runs_more g first mid runs.0 before told event answer there runs.1)
       (one_more before told event answer mid runs.0 there has runs.1) runs.2))
+  go_on before told mid last _ _ there has runs = absurd runs
 
 pub runs_as_begun : {D : Type 0} (g : Ghosts D) → RunsAsBegun g
 runs_as_begun g first last events answers none runs =

@@ -10,9 +10,4 @@ pub tells_now : (call : Call) (old new : List ℕ) (answer : Answer) (bytes : Li
     → CallTells call new answer bytes
 tells_now Len old new answer bytes same tells = subst (λ file. CallTells Len file answer bytes) (sym (same tt)) tells
 tells_now (Read at) old new answer bytes same tells = subst (λ file. CallTells (Read at) file answer bytes) (sym (same tt)) tells
-tells_now (Write at) old new answer bytes same tells = tt
-tells_now WriteHeader old new answer bytes same tells = tt
-tells_now Close old new answer bytes same tells = tt
-tells_now Open old new answer bytes same tells = tt
-tells_now Cut old new answer bytes same tells = tt
-tells_now Sync old new answer bytes same tells = tt
+tells_now _ old new answer bytes same tells = tt

@@ -107,9 +107,8 @@ none_accepted (command.Load space address count) memory serial is = (let no = is
 none_accepted (command.TryStore space address bytes) memory serial (inl is) = (let no : reply.Merged serial ≡ reply.Done = is in cc)
 none_accepted (command.TryStore space address bytes) memory serial (inr is) = (let no : reply.Merged serial ≡ reply.NeedsFault = is in cc)
 none_accepted (command.Fault space address) memory serial (inl is) = (let no : reply.Merged serial ≡ reply.Done = is in cc)
-none_accepted (command.Fault space address) memory serial (inr is) = (let no = is in cc)
 none_accepted (command.Store space address bytes) memory serial (inl is) = (let no : reply.Merged serial ≡ reply.Done = is in cc)
-none_accepted (command.Store space address bytes) memory serial (inr is) = (let no = is in cc)
+none_accepted _ memory serial (inr is) = (let no = is in cc)
 
 none_denied : (why : AccessError) (serial : ℕ) → reply.Merged serial ≡ denied_as why → ⊥
 none_denied (Refused why) serial is = (let no = is in cc)
@@ -126,8 +125,7 @@ none_answered false asked serial old new is = none_legal (plain_of old) asked se
 
 none_replied : (answer : Answer) (serial : ℕ) → reply_of_answer answer ≡ reply.Merged serial → ⊥
 none_replied Done serial is = (let no = is in cc)
-none_replied (Len len) serial is = (let no = is in cc)
-none_replied Failed serial is = (let no = is in cc)
+none_replied _ serial is = (let no = is in cc)
 
 -- ---- an event
 
@@ -238,39 +236,13 @@ module _ {D : Type 0} (g : Ghosts D) (old new : WorldView D) (world : IsWorld g 
       refused : (why : Refusal) → MergesAs old.core (reply.Refused why) new.core → ClosesBehind g old new
       refused refusal.NoSlot merges = stays merges.1
       refused refusal.OutOfMemory merges = stays merges
-      refused refusal.Einval merges = absurd merges
-      refused refusal.Enomem merges = absurd merges
-      refused refusal.NoSuchSpace merges = absurd merges
-      refused refusal.TooManySpaces merges = absurd merges
-      refused refusal.NoFrame merges = absurd merges
-      refused refusal.Frozen merges = absurd merges
-      refused refusal.JournalFull merges = absurd merges
-      refused refusal.UnsupportedValue merges = absurd merges
-      refused refusal.NotOpen merges = absurd merges
-      refused refusal.Busy merges = absurd merges
-      refused refusal.StoreDown merges = absurd merges
-      refused refusal.Idle merges = absurd merges
-      refused refusal.LastSpace merges = absurd merges
-      refused refusal.LockBusy merges = absurd merges
-      refused refusal.NumbersUsed merges = absurd merges
-      refused refusal.Damaged merges = absurd merges
-      refused refusal.Device merges = absurd merges
+      refused _ merges = absurd merges
 
       begun : (a : Reply) → MergesAs old.core a new.core → ClosesBehind g old new
       begun reply.Worked merges slot serial c =
           absurd (let no : due ≡ retiring c.r = ap (λ (m : merger.Running). m.doing) (same_Some (begun_merge (source_from merges.tip) merges.slot (map serial_of (images old.core.catalog))) c.merge (sym merges.is ∙ c.runs)) ∙ c.doing in cc)
       begun (reply.Refused why) merges slot serial c = refused why merges slot serial c
-      begun reply.Done merges slot serial c = absurd merges
-      begun (reply.Bytes bytes) merges slot serial c = absurd merges
-      begun (reply.Child space) merges slot serial c = absurd merges
-      begun reply.NeedsFault merges slot serial c = absurd merges
-      begun (reply.Segv why) merges slot serial c = absurd merges
-      begun (reply.Begun n) merges slot serial c = absurd merges
-      begun (reply.Acked n) merges slot serial c = absurd merges
-      begun (reply.Cancelled n) merges slot serial c = absurd merges
-      begun (reply.Merged number) merges slot serial c = absurd merges
-      begun (reply.Trimmed count) merges slot serial c = absurd merges
-      begun (reply.Reopened m) merges slot serial c = absurd merges
+      begun _ merges slot serial c = absurd merges
 
       by : (why : Option Refusal) → merge_refusal old.core ≡ why → ClosesBehind g old new
       by (Some why) is = same_core (ap (λ (v : CoreView). v.merger) (order.refused why is).1)
@@ -284,16 +256,15 @@ module _ {D : Type 0} (g : Ghosts D) (old new : WorldView D) (world : IsWorld g 
 
   pub step_closes : (event : Event) (answer : Reply) → Does g event old answer new → DoesMerge g event old answer new → ClosesBehind g old new
   step_closes (Command seat command) answer does merges = same_core does.applied.merge
-  step_closes (Begin rounds) answer does merges = same_core does.1.beside.others.0
   step_closes (Work worker) answer does merges = work_closes worker answer merges does.works
   step_closes (TakeUp worker) answer does merges = taken_closes worker answer does.takes
   step_closes (HandInAt worker place) answer does merges = hand_in_closes worker place answer merges does.hands
   step_closes (Perform worker) answer does merges = same_core (ap (λ (v : CoreView). v.merger) does.core)
   step_closes (PerformAt worker place) answer does merges = same_core (ap (λ (v : CoreView). v.merger) does.core)
   step_closes Merge answer does merges = order_closes answer does.1
-  step_closes Cancel answer does merges = same_core does.1.beside.others.0
   step_closes Reopen answer does merges = same_core does.1.beside.others.1
   step_closes Trim answer does merges = trim_closes answer does.trims
+  step_closes _ answer does merges = same_core does.1.beside.others.0
 
   -- ---- what ends one
 
@@ -325,13 +296,11 @@ module _ {D : Type 0} (g : Ghosts D) (old new : WorldView D) (world : IsWorld g 
 
   pub step_ends : (event : Event) (answer : Reply) → Does g event old answer new → DoesMerge g event old answer new → EndsBehind g old answer new
   step_ends (Command seat command) answer does merges serial is = absurd (commands_merge_none seat command answer serial does is)
-  step_ends (Begin rounds) answer does merges serial is = absurd (subst (λ a. AddsByOrder a (history_of old.core) (history_of new.core)) is does.1.adds)
   step_ends (Work worker) answer does merges serial is = work_ends worker answer merges does.works serial is
   step_ends (TakeUp worker) answer does merges serial is = absurd (take_up_ends worker answer serial does.takes is)
   step_ends (HandInAt worker place) answer does merges serial is = hand_in_ends worker place answer merges does.hands serial is
   step_ends (Perform worker) answer does merges serial is = absurd (perform_ends worker 0 answer serial does.performs is)
   step_ends (PerformAt worker place) answer does merges serial is = absurd (perform_ends worker place answer serial does.performs is)
-  step_ends Merge answer does merges serial is = absurd (subst (λ a. AddsByOrder a (history_of old.core) (history_of new.core)) is does.1.adds)
   step_ends Cancel answer does merges serial is = absurd (subst (λ a. AddsByCancel a (history_of old.core) (history_of new.core)) is does.1.adds)
-  step_ends Reopen answer does merges serial is = absurd (subst (λ a. AddsByOrder a (history_of old.core) (history_of new.core)) is does.1.adds)
   step_ends Trim answer does merges serial is = absurd (trim_ends answer serial does.trims is)
+  step_ends _ answer does merges serial is = absurd (subst (λ a. AddsByOrder a (history_of old.core) (history_of new.core)) is does.1.adds)

@@ -124,14 +124,6 @@ module _ {D : Type 0} (g : Ghosts D) (old new : WorldView D) (world : IsWorld g 
   hand_in_copies worker place answer (HandsInIfAny.none none idle) same was is_now = λ lane is at. absurd (none lane at)
 
   pub step_copies : (event : Event) (answer : Reply) → Does g event old answer new → IsConsistent g old → IsConsistent g new → DoesCopy g event old new
-  step_copies (Command seat command) answer does was is_now = tt
-  step_copies (Begin rounds) answer does was is_now = tt
   step_copies (Work worker) answer does was is_now = works_copies worker answer does.works does.disk was is_now
-  step_copies (TakeUp worker) answer does was is_now = tt
   step_copies (HandInAt worker place) answer does was is_now = hand_in_copies worker place answer does.hands does.disk was is_now
-  step_copies (Perform worker) answer does was is_now = tt
-  step_copies (PerformAt worker place) answer does was is_now = tt
-  step_copies Merge answer does was is_now = tt
-  step_copies Cancel answer does was is_now = tt
-  step_copies Reopen answer does was is_now = tt
-  step_copies Trim answer does was is_now = tt
+  step_copies _ answer does was is_now = tt

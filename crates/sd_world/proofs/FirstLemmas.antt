@@ -80,14 +80,9 @@ count_set test n (z ∷ xs) (suc i) x y at passes fails = count_set test (n + co
 
 same_worker : (a b : Worker) → index a ≡ index b → a ≡ b
 same_worker Dumper Dumper e = refl
-same_worker Dumper Merger e = absurd cc
-same_worker Dumper Opener e = absurd cc
-same_worker Merger Dumper e = absurd cc
 same_worker Merger Merger e = refl
-same_worker Merger Opener e = absurd cc
-same_worker Opener Dumper e = absurd cc
-same_worker Opener Merger e = absurd cc
 same_worker Opener Opener e = refl
+same_worker _ _ e = absurd cc
 
 pub same_number : (n : ℕ) → (n == n) ≡ true
 same_number n = grind (arith, nat_tests)
@@ -138,9 +133,8 @@ asked_any kept worker place lane at = any_at (λ k. is_of_worker worker (asked_i
 -- ---- how a device call is answered
 
 answered : (answer : Answer) (before now : ℕ) → AnswerHasCause before now answer → IsAnsweredByDevice before now (reply_of_answer answer)
-answered Done before now cause = inl (refl, cause.done refl)
-answered (Len len) before now cause = inl (refl, cause.done refl)
 answered Failed before now cause = inr (refl, cause.failed refl)
+answered _ before now cause = inl (refl, cause.done refl)
 
 module _ {D : Type 0} (g : Ghosts D) (old new : WorldView D) (worker : Worker) (answer : Reply) where
   same_world : new.core ≡ old.core → new.disk ≡ old.disk → new.kept ≡ old.kept → new ≡ old

@@ -116,20 +116,10 @@ module _ (laws : TrimLaws) where
 
   pub told_back : (answer : Reply) (first : Base) (gone kept : History) (now : Base) → Folds first gone now
       → Within (ShowsReply answer now kept) (ShowsReply answer first (kept ++ gone))
-  told_back reply.Done first gone kept now folds contents shows = tt
-  told_back (reply.Bytes bytes) first gone kept now folds contents shows = tt
-  told_back (reply.Child space) first gone kept now folds contents shows = tt
-  told_back reply.NeedsFault first gone kept now folds contents shows = tt
-  told_back (reply.Segv why) first gone kept now folds contents shows = tt
-  told_back (reply.Begun n) first gone kept now folds contents shows = tt
-  told_back reply.Worked first gone kept now folds contents shows = tt
   told_back (reply.Acked n) first gone kept now folds contents shows = shows_freeze_back first gone kept now n folds contents shows
-  told_back (reply.Cancelled n) first gone kept now folds contents shows = tt
-  told_back (reply.Merged serial) first gone kept now folds contents shows = tt
-  told_back (reply.Trimmed count) first gone kept now folds contents shows = tt
   told_back (reply.Reopened None) first gone kept now folds contents shows = shows
   told_back (reply.Reopened (Some n)) first gone kept now folds contents shows = shows_freeze_back first gone kept now n folds contents shows
-  told_back (reply.Refused why) first gone kept now folds contents shows = tt
+  told_back _ first gone kept now folds contents shows = tt
 
   -- ---- numbers
 

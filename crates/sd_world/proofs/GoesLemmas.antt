@@ -44,11 +44,10 @@ module _ {D : Type 0} (g : Ghosts D) (only_now : (disk : D) → Within (g.left_s
   goes_span first last [] [] begins goes = subst (λ (point : Point D). LeavesOnly g first.disk point.disk (ShowsOnTheWay g first [] [] point)) (sym goes)
       (nothing_called g first.disk (ShowsOnTheWay g first [] [] first) (g.may_leave first.disk) (only_now first.disk)
       (λ contents may. shown_at_once first first [] [] refl contents (begins contents may)))
-  goes_span first last [] (a ∷ answers) begins goes = absurd goes
-  goes_span first last (e ∷ events) [] begins goes = absurd goes
   goes_span first last (e ∷ events) (a ∷ answers) begins goes =
       let whole = ShowsOnTheWay g first (e ∷ events) (a ∷ answers) last in
       spans_join g first.disk goes.0.disk last.disk whole
       (span_widened g first.disk goes.0.disk (ShowsAllowed first.base first.entries) whole (shown_at_once first last (e ∷ events) (a ∷ answers) goes) goes.1.any_moment)
       (span_widened g goes.0.disk last.disk (ShowsOnTheWay g goes.0 events answers last) whole (shown_later first goes.0 last e a events answers goes.1)
       (goes_span goes.0 last events answers goes.1.at_end goes.2))
+  goes_span first last _ _ begins goes = absurd goes

@@ -58,10 +58,9 @@ module _ {D : Type 0} (g : Ghosts D) where
   runs_join : (first mid last : WorldView D) (events others : List Event) (replies more : List Reply) → Runs g first events replies mid
       → Runs g mid others more last → Runs g first (events ++ others) (replies ++ more) last
   runs_join first mid last [] others [] more runs further = subst (λ world. Runs g world others more last) runs further
-  runs_join first mid last [] others (r ∷ rs) more runs further = absurd runs
-  runs_join first mid last (e ∷ es) others [] more runs further = absurd runs
   runs_join first mid last (e ∷ es) others (r ∷ rs) more runs further =
       (runs.0, runs.1, runs_join runs.0 mid last es others rs more runs.2 further)
+  runs_join first mid last _ others _ more runs further = absurd runs
 
   -- what is shown within the first part of a run, or within the rest of it, is so within the whole
   module _ (old mid new : WorldView D) (first : GoesOn g old mid) (second : GoesOn g mid new) where

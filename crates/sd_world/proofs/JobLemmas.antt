@@ -30,50 +30,24 @@ data Ends (worker : Worker) (answer : Reply) : Type 0 where
   refused : (why : Refusal) → answer ≡ reply.Refused why → Ends worker answer
 
 by_order : (worker : Worker) (answer : Reply) (old new : History) → AddsByOrder answer old new → is_end answer ≡ true → Ends worker answer
-by_order worker reply.Done old new adds ends = absurd adds
-by_order worker (reply.Bytes bytes) old new adds ends = absurd adds
-by_order worker (reply.Child space) old new adds ends = absurd adds
-by_order worker reply.NeedsFault old new adds ends = absurd adds
-by_order worker (reply.Segv why) old new adds ends = absurd adds
 by_order worker (reply.Begun n) old new adds ends = absurd (let no : false ≡ true = ends in cc)
 by_order worker reply.Worked old new adds ends = absurd (let no : false ≡ true = ends in cc)
-by_order worker (reply.Acked n) old new adds ends = absurd adds
-by_order worker (reply.Cancelled n) old new adds ends = absurd adds
-by_order worker (reply.Merged serial) old new adds ends = absurd adds
-by_order worker (reply.Trimmed count) old new adds ends = absurd adds
-by_order worker (reply.Reopened m) old new adds ends = absurd adds
 by_order worker (reply.Refused why) old new adds ends = Ends.refused why refl
+by_order worker _ old new adds ends = absurd adds
 
 by_call : (worker : Worker) (answer : Reply) (old new : History) → AddsByPerform answer old new → is_end answer ≡ true → Ends worker answer
-by_call worker reply.Done old new adds ends = absurd adds
-by_call worker (reply.Bytes bytes) old new adds ends = absurd adds
-by_call worker (reply.Child space) old new adds ends = absurd adds
-by_call worker reply.NeedsFault old new adds ends = absurd adds
-by_call worker (reply.Segv why) old new adds ends = absurd adds
-by_call worker (reply.Begun n) old new adds ends = absurd adds
 by_call worker reply.Worked old new adds ends = absurd (let no : false ≡ true = ends in cc)
-by_call worker (reply.Acked n) old new adds ends = absurd adds
-by_call worker (reply.Cancelled n) old new adds ends = absurd adds
-by_call worker (reply.Merged serial) old new adds ends = absurd adds
-by_call worker (reply.Trimmed count) old new adds ends = absurd adds
-by_call worker (reply.Reopened m) old new adds ends = absurd adds
 by_call worker (reply.Refused why) old new adds ends = Ends.refused why refl
+by_call worker _ old new adds ends = absurd adds
 
 by_work : (worker : Worker) (core : CoreView) (answer : Reply) (old new : History) → ((serial : ℕ) → answer ≡ reply.Merged serial → worker ≡ Merger)
     → AddsByWork worker core answer old new → is_end answer ≡ true → Ends worker answer
-by_work worker core reply.Done old new merger adds ends = absurd adds
-by_work worker core (reply.Bytes bytes) old new merger adds ends = absurd adds
-by_work worker core (reply.Child space) old new merger adds ends = absurd adds
-by_work worker core reply.NeedsFault old new merger adds ends = absurd adds
-by_work worker core (reply.Segv why) old new merger adds ends = absurd adds
-by_work worker core (reply.Begun n) old new merger adds ends = absurd adds
 by_work worker core reply.Worked old new merger adds ends = absurd (let no : false ≡ true = ends in cc)
 by_work worker core (reply.Acked n) old new merger adds ends = Ends.acked n adds.0 refl
-by_work worker core (reply.Cancelled n) old new merger adds ends = absurd adds
 by_work worker core (reply.Merged serial) old new merger adds ends = Ends.merged serial (merger serial refl) refl
-by_work worker core (reply.Trimmed count) old new merger adds ends = absurd adds
 by_work worker core (reply.Reopened m) old new merger adds ends = Ends.reopened m adds.0 refl
 by_work worker core (reply.Refused why) old new merger adds ends = Ends.refused why refl
+by_work worker core _ old new merger adds ends = absurd adds
 
 -- ---- a merge is ended by the merger alone
 

@@ -37,14 +37,12 @@ pub same_request : (a b : Asked) → Some (Request a) ≡ Some (Request b) → a
 same_request a b e = cc
 
 made_of : (k : Kept) (id : RequestId) → made_id k ≡ Some id → (made : Made) × (k ≡ Outcome made) × (made.request.id ≡ id)
-made_of Nothing id is = absurd (let no : None ≡ Some id = is in cc)
-made_of (Request request) id is = absurd (let no : None ≡ Some id = is in cc)
 made_of (Outcome made) id is = (made, refl, same_Some made.request.id id is)
+made_of _ id is = absurd (let no : None ≡ Some id = is in cc)
 
 request_of : (k : Kept) (id : RequestId) → asked_id k ≡ Some id → (request : Asked) × (k ≡ Request request) × (request.id ≡ id)
-request_of Nothing id is = absurd (let no : None ≡ Some id = is in cc)
 request_of (Request request) id is = (request, refl, same_Some request.id id is)
-request_of (Outcome made) id is = absurd (let no : None ≡ Some id = is in cc)
+request_of _ id is = absurd (let no : None ≡ Some id = is in cc)
 
 -- the outcome at a place, and the request
 pub made_there : (kept : List Kept) (worker : Worker) (place lane : ℕ) → IsAt kept its.Made worker place lane
@@ -92,9 +90,8 @@ outcome_off made slot off other is = λ on. off (ap (λ (x : Made). x.request.id
 
 with_off : (k : Kept) (slot : ℕ) (s : SlotNow) → IsNotOn k slot → slot_with k slot s ≡ s
 unfolding IsNotOn
-with_off Nothing slot s off = refl
-with_off (Request request) slot s off = refl
 with_off (Outcome made) slot s off = ap (λ b. cond b (slot_after s made) s) (ne_eqb made.request.id.slot slot (off made refl))
+with_off _ slot s off = refl
 
 with_on : (made : Made) (slot : ℕ) (s : SlotNow) → made.request.id.slot ≡ slot → slot_with (Outcome made) slot s ≡ slot_after s made
 with_on made slot s on = ap (λ n. cond (n == slot) (slot_after s made) s) on ∙ ap (λ b. cond b (slot_after s made) s) (same_number slot)
@@ -135,9 +132,8 @@ wrote p done = cond done (filled p) phase.Shut
 wrote_twice : (p : Phase) (one other : Bool) → wrote (wrote p one) other ≡ wrote (wrote p other) one
 unfolding wrote
 wrote_twice p true true = refl
-wrote_twice p true false = refl
 wrote_twice p false true = refl
-wrote_twice p false false = refl
+wrote_twice p _ _ = refl
 
 after_write : (slot : ℕ) (made : Made) (p : Phase) (done : Bool) → IsPageOf slot made.request → after p made.request.id.call done ≡ wrote p done
 unfolding wrote
@@ -190,14 +186,13 @@ WriteOthers made slot kept = (lane : ℕ) (other : Made) → slice_get kept lane
 with_commutes : WritesCommute → (k : Kept) (slot : ℕ) (s : SlotNow) (made : Made)
     → ((other : Made) → k ≡ Outcome other → other.request.id.slot ≡ slot → WritePages slot made other)
     → slot_with k slot (slot_after s made) ≡ slot_after (slot_with k slot s) made
-with_commutes law Nothing slot s made others = refl
-with_commutes law (Request request) slot s made others = refl
 with_commutes law (Outcome other) slot s made others = elim (cases_eq other.request.id.slot slot) [
   | inl on ↦ with_on other slot (slot_after s made) on ∙ commute law slot s made other (others other refl on)
       ∙ sym (ap (λ t. slot_after t made) (with_on other slot s on))
   | inr off ↦ with_off (Outcome other) slot (slot_after s made) (outcome_off other slot off)
       ∙ sym (ap (λ t. slot_after t made) (with_off (Outcome other) slot s (outcome_off other slot off)))
 ]
+with_commutes law _ slot s made others = refl
 
 now_after : WritesCommute → (kept : List Kept) (slot : ℕ) (s : SlotNow) (made : Made) → WriteOthers made slot kept
     → slot_now kept slot (slot_after s made) ≡ slot_after (slot_now kept slot s) made
@@ -276,9 +271,8 @@ is_set kept lane old new at other k there = elim (cases_eq other lane) [
 ]
 
 length_set : {A : Type 0} (xs : List A) (i : ℕ) (x : A) → length (slice_set xs i x) ≡ length xs
-length_set [] i x = refl
-length_set (y ∷ xs) zero x = refl
 length_set (y ∷ xs) (suc i) x = ap suc (length_set xs i x)
+length_set _ _ x = refl
 
 -- nothing is out in the lane any more
 pub cleared_places : (kept : List Kept) (slots lane : ℕ) (old : Kept) → slice_get kept lane ≡ Some old → AreInPlace kept slots
@@ -363,10 +357,8 @@ alone_beside kept slots lane k request places at asks few other_lane other diffe
 
 -- a lane of a worker, or one of pages
 pub lane_cases : (lane : ℕ) → (lane < 3) ⊎ (2 < lane)
-lane_cases zero = inl (omega arith)
-lane_cases (suc zero) = inl (omega arith)
-lane_cases (suc (suc zero)) = inl (omega arith)
 lane_cases (suc (suc (suc k))) = inr (omega arith)
+lane_cases _ = inl (omega arith)
 
 -- the outcome in a lane of a worker is the one on its slot
 pub alone_now : (kept : List Kept) (slots lane : ℕ) (made : Made) (s : SlotNow) → WritesCommute → AreInPlace kept slots → slice_get kept lane ≡ Some (Outcome made) → lane < 3

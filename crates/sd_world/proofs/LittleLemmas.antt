@@ -63,14 +63,7 @@ module _ {D : Type 0} (g : Ghosts D) (old new : WorldView D) (world : IsWorld g 
   }
 
   pub step_little : (event : Event) (answer : Reply) → Does g event old answer new → DoesLittle event old answer new
-  step_little (Command seat command) answer does = tt
-  step_little (Begin rounds) answer does = tt
   step_little (Work worker) answer does = works_little worker answer does.works
   step_little (TakeUp worker) answer does = λ n is. none_taken worker answer n does.takes is
   step_little (HandInAt worker place) answer does = hand_in_little worker place answer does.hands
-  step_little (Perform worker) answer does = tt
-  step_little (PerformAt worker place) answer does = tt
-  step_little Merge answer does = tt
-  step_little Cancel answer does = tt
-  step_little Reopen answer does = tt
-  step_little Trim answer does = tt
+  step_little _ answer does = tt

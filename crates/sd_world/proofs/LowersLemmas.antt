@@ -19,35 +19,21 @@ use Rattle.sd_world.proofs.AddsLemmas.{is_out}
 use Rattle.sd_world.proofs.KeptLemmas.{whose}
 
 by_step : (old : CoreView) (worker : Worker) (answer : Reply) (new : CoreView) → LeavesByStep old worker answer new → LeavesLess answer (left_by old worker) (left_by new worker)
-by_step old worker reply.Done new leaves = leaves
-by_step old worker (reply.Bytes bytes) new leaves = leaves
-by_step old worker (reply.Child space) new leaves = leaves
-by_step old worker reply.NeedsFault new leaves = leaves
-by_step old worker (reply.Segv why) new leaves = leaves
-by_step old worker (reply.Begun n) new leaves = leaves
 by_step old worker reply.Worked new leaves = leaves.lowers
 by_step old worker (reply.Acked n) new leaves = tt
-by_step old worker (reply.Cancelled n) new leaves = leaves
 by_step old worker (reply.Merged serial) new leaves = tt
-by_step old worker (reply.Trimmed count) new leaves = leaves
 by_step old worker (reply.Reopened m) new leaves = tt
 by_step old worker (reply.Refused why) new leaves = tt
+by_step old worker _ new leaves = leaves
 
 by_outcome : (old : CoreView) (worker : Worker) (answer : Reply) (new : CoreView) → LeavesByOutcome old worker answer new
     → LeavesLess answer (left_by old worker) (left_by new worker)
-by_outcome old worker reply.Done new leaves = leaves
-by_outcome old worker (reply.Bytes bytes) new leaves = leaves
-by_outcome old worker (reply.Child space) new leaves = leaves
-by_outcome old worker reply.NeedsFault new leaves = leaves
-by_outcome old worker (reply.Segv why) new leaves = leaves
-by_outcome old worker (reply.Begun n) new leaves = leaves
 by_outcome old worker reply.Worked new leaves = leaves.lowers
 by_outcome old worker (reply.Acked n) new leaves = tt
-by_outcome old worker (reply.Cancelled n) new leaves = leaves
 by_outcome old worker (reply.Merged serial) new leaves = tt
-by_outcome old worker (reply.Trimmed count) new leaves = leaves
 by_outcome old worker (reply.Reopened m) new leaves = tt
 by_outcome old worker (reply.Refused why) new leaves = tt
+by_outcome old worker _ new leaves = leaves
 
 refused : (old : CoreView) (worker : Worker) (answer : Reply) (new : CoreView) (why : Refusal) → answer ≡ reply.Refused why
     → LeavesLess answer (left_by old worker) (left_by new worker)

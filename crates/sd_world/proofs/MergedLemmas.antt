@@ -103,8 +103,6 @@ module _ {D : Type 0} (g : Ghosts D) where
         (subst (Entered first before told) (sym rest) entered)),
     subst (λ (w : WorldView D). g.is_honest w.disk) rest honest,
   )
-  entered_all first mid last before told [] (r ∷ rs) runs entered rest honest = absurd rest
-  entered_all first mid last before told (e ∷ es) [] runs entered rest honest = absurd rest
   entered_all first mid last before told (e ∷ es) (r ∷ rs) runs entered rest honest =
       let next = rest.0 in
       let ahead = honest_before next last es rs rest.2 honest in
@@ -120,6 +118,7 @@ module _ {D : Type 0} (g : Ghosts D) where
       honest_before w last [] (r ∷ rs) runs honest = absurd runs
       honest_before w last (e ∷ es) [] runs honest = absurd runs
       honest_before w last (e ∷ es) (r ∷ rs) runs honest = runs.1.honest (honest_before runs.0 last es rs runs.2 honest)
+  entered_all first mid last before told _ _ runs entered rest honest = absurd rest
 
   pub merges_stand : MergesStand g
   merges_stand first last end events answers event serial none runs step honest =

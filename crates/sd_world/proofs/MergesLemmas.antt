@@ -136,17 +136,10 @@ module _ {D : Type 0} (g : Ghosts D) (old new : WorldView D) (world : IsWorld g 
   }
 
   pub step_merges : (event : Event) (answer : Reply) → Does g event old answer new → g.is_honest old.disk → DoesMerge g event old answer new
-  step_merges (Command seat command) answer does honest = tt
-  step_merges (Begin rounds) answer does honest = tt
   step_merges (Work worker) answer does honest = works_merges worker answer does.works does.disk honest
   step_merges (TakeUp worker) answer does honest = λ serial is. none_taken worker answer serial does.takes is
   step_merges (HandInAt worker place) answer does honest = hand_in_merges worker place answer does.hands does.disk honest
-  step_merges (Perform worker) answer does honest = tt
-  step_merges (PerformAt worker place) answer does honest = tt
-  step_merges Merge answer does honest = tt
-  step_merges Cancel answer does honest = tt
-  step_merges Reopen answer does honest = tt
-  step_merges Trim answer does honest = tt
+  step_merges _ answer does honest = tt
 
   -- ---- the file of the merged image
 
@@ -162,13 +155,10 @@ module _ {D : Type 0} (g : Ghosts D) (old new : WorldView D) (world : IsWorld g 
 
     pub step_keeps : (event : Event) (answer : Reply) → Does g event old answer new → KeepsMerged g old new
     step_keeps (Command seat command) answer does = same_file does.rest.disk
-    step_keeps (Begin rounds) answer does = same_file does.0.disk
     step_keeps (Work worker) answer does = same_file does.disk
     step_keeps (TakeUp worker) answer does = same_file does.disk
     step_keeps (HandInAt worker place) answer does = same_file does.disk
     step_keeps (Perform worker) answer does = perform_keeps worker 0 answer does.performs
     step_keeps (PerformAt worker place) answer does = perform_keeps worker place answer does.performs
-    step_keeps Merge answer does = same_file does.0.disk
-    step_keeps Cancel answer does = same_file does.0.disk
-    step_keeps Reopen answer does = same_file does.0.disk
     step_keeps Trim answer does = same_file does.disk
+    step_keeps _ answer does = same_file does.0.disk

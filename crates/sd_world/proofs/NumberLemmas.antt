@@ -61,78 +61,24 @@ none_begins : (old new : CoreView) → is_none new.dumper.running ≡ true → K
 none_begins old new idle n is = none_runs new.dumper.running (running_number old.dumper.running ≡ Some n) n idle is
 
 by_dumper_step : (old new : CoreView) (answer : Reply) → LeavesByStep old Dumper answer new → KeepsNumber old new
-by_dumper_step old new reply.Done leaves = absurd leaves
-by_dumper_step old new (reply.Bytes bytes) leaves = absurd leaves
-by_dumper_step old new (reply.Child space) leaves = absurd leaves
-by_dumper_step old new reply.NeedsFault leaves = absurd leaves
-by_dumper_step old new (reply.Segv why) leaves = absurd leaves
-by_dumper_step old new (reply.Begun n) leaves = absurd leaves
-by_dumper_step old new (reply.Acked n) leaves = absurd leaves
-by_dumper_step old new (reply.Cancelled n) leaves = absurd leaves
-by_dumper_step old new (reply.Merged serial) leaves = absurd leaves
-by_dumper_step old new (reply.Trimmed count) leaves = absurd leaves
 by_dumper_step old new reply.Worked leaves = same_job old new leaves.job
 by_dumper_step old new (reply.Reopened m) leaves = none_begins old new leaves.idle
-by_dumper_step old new (reply.Refused refusal.Einval) leaves = absurd leaves
-by_dumper_step old new (reply.Refused refusal.Enomem) leaves = absurd leaves
-by_dumper_step old new (reply.Refused refusal.NoSuchSpace) leaves = absurd leaves
-by_dumper_step old new (reply.Refused refusal.TooManySpaces) leaves = absurd leaves
-by_dumper_step old new (reply.Refused refusal.NoFrame) leaves = absurd leaves
-by_dumper_step old new (reply.Refused refusal.Frozen) leaves = absurd leaves
-by_dumper_step old new (reply.Refused refusal.JournalFull) leaves = absurd leaves
 by_dumper_step old new (reply.Refused refusal.OutOfMemory) leaves = same_core old new leaves
-by_dumper_step old new (reply.Refused refusal.UnsupportedValue) leaves = absurd leaves
-by_dumper_step old new (reply.Refused refusal.NotOpen) leaves = absurd leaves
-by_dumper_step old new (reply.Refused refusal.Busy) leaves = absurd leaves
-by_dumper_step old new (reply.Refused refusal.NoSlot) leaves = absurd leaves
-by_dumper_step old new (reply.Refused refusal.StoreDown) leaves = absurd leaves
-by_dumper_step old new (reply.Refused refusal.Idle) leaves = absurd leaves
-by_dumper_step old new (reply.Refused refusal.LastSpace) leaves = absurd leaves
-by_dumper_step old new (reply.Refused refusal.LockBusy) leaves = absurd leaves
-by_dumper_step old new (reply.Refused refusal.NumbersUsed) leaves = absurd leaves
-by_dumper_step old new (reply.Refused refusal.Damaged) leaves = absurd leaves
-by_dumper_step old new (reply.Refused refusal.Device) leaves = absurd leaves
+by_dumper_step old new _ leaves = absurd leaves
 
 by_dumper_outcome : (old new : CoreView) (answer : Reply) → LeavesByOutcome old Dumper answer new → KeepsNumber old new
-by_dumper_outcome old new reply.Done leaves = absurd leaves
-by_dumper_outcome old new (reply.Bytes bytes) leaves = absurd leaves
-by_dumper_outcome old new (reply.Child space) leaves = absurd leaves
-by_dumper_outcome old new reply.NeedsFault leaves = absurd leaves
-by_dumper_outcome old new (reply.Segv why) leaves = absurd leaves
-by_dumper_outcome old new (reply.Begun n) leaves = absurd leaves
-by_dumper_outcome old new (reply.Cancelled n) leaves = absurd leaves
-by_dumper_outcome old new (reply.Trimmed count) leaves = absurd leaves
-by_dumper_outcome old new (reply.Reopened m) leaves = absurd leaves
 by_dumper_outcome old new reply.Worked leaves = same_job old new leaves.job
 by_dumper_outcome old new (reply.Acked n) leaves = none_begins old new leaves.idle
 by_dumper_outcome old new (reply.Merged serial) leaves = absurd (let no : Dumper ≡ Merger = leaves.0 in cc)
-by_dumper_outcome old new (reply.Refused refusal.Einval) leaves = absurd leaves
-by_dumper_outcome old new (reply.Refused refusal.Enomem) leaves = absurd leaves
-by_dumper_outcome old new (reply.Refused refusal.NoSuchSpace) leaves = absurd leaves
-by_dumper_outcome old new (reply.Refused refusal.TooManySpaces) leaves = absurd leaves
-by_dumper_outcome old new (reply.Refused refusal.NoFrame) leaves = absurd leaves
-by_dumper_outcome old new (reply.Refused refusal.Frozen) leaves = absurd leaves
-by_dumper_outcome old new (reply.Refused refusal.JournalFull) leaves = absurd leaves
-by_dumper_outcome old new (reply.Refused refusal.OutOfMemory) leaves = absurd leaves
-by_dumper_outcome old new (reply.Refused refusal.UnsupportedValue) leaves = absurd leaves
-by_dumper_outcome old new (reply.Refused refusal.NotOpen) leaves = absurd leaves
-by_dumper_outcome old new (reply.Refused refusal.Busy) leaves = absurd leaves
-by_dumper_outcome old new (reply.Refused refusal.NoSlot) leaves = absurd leaves
 by_dumper_outcome old new (reply.Refused refusal.StoreDown) leaves = none_begins old new (leaves.idle Dumper)
-by_dumper_outcome old new (reply.Refused refusal.Idle) leaves = absurd leaves
-by_dumper_outcome old new (reply.Refused refusal.LastSpace) leaves = absurd leaves
-by_dumper_outcome old new (reply.Refused refusal.LockBusy) leaves = absurd leaves
-by_dumper_outcome old new (reply.Refused refusal.NumbersUsed) leaves = absurd leaves
-by_dumper_outcome old new (reply.Refused refusal.Damaged) leaves = absurd leaves
-by_dumper_outcome old new (reply.Refused refusal.Device) leaves = absurd leaves
+by_dumper_outcome old new _ leaves = absurd leaves
 
 -- ---- a step of a worker, and an outcome
 
 step_number : (old new : CoreView) (worker : Worker) (taken : Taken) → LeavesByWork old worker taken new → LeavesOthers worker old new → KeepsNumber old new
-step_number old new Merger taken leaves others = same_dumper old new others.0
-step_number old new Opener taken leaves others = same_dumper old new others.0
 step_number old new Dumper (Step answer) leaves others = by_dumper_step old new answer leaves
 step_number old new Dumper (Call request) leaves others = same_job old new leaves.job
+step_number old new _ taken leaves others = same_dumper old new others.0
 
 taken_number : (old new : CoreView) (worker : Worker) (taken : Taken) → IsTakenUp worker old taken new → KeepsNumber old new
 taken_number old new worker taken up = by (work_refusal old worker) refl
@@ -144,8 +90,7 @@ taken_number old new worker taken up = by (work_refusal old worker) refl
 done_number : (old new : CoreView) (worker : Worker) (answer : Reply) → LeavesByOutcome old worker answer new → LeavesOthers worker old new
     → KeepsNumber old new
 done_number old new Dumper answer leaves others = by_dumper_outcome old new answer leaves
-done_number old new Merger answer leaves others = same_dumper old new others.0
-done_number old new Opener answer leaves others = same_dumper old new others.0
+done_number old new _ answer leaves others = same_dumper old new others.0
 
 out_number : (old new : CoreView) (made : Made) (answer : Reply) → IsHandedIn made answer old new → IsOut old made.request.id → KeepsNumber old new
 out_number old new made answer handed out = by (is_done made.answer) refl
@@ -178,37 +123,10 @@ handed_number old new made answer handed n is = elim (number_or (running_number 
 -- ---- the order to begin
 
 begins_as : (old : CoreView) (rounds : ℕ) (answer : Reply) (new : CoreView) → BeginsAs old rounds answer new → NumberGoes (Begin rounds) answer old new
-begins_as old rounds reply.Done new begins = absurd begins
-begins_as old rounds (reply.Bytes bytes) new begins = absurd begins
-begins_as old rounds (reply.Child space) new begins = absurd begins
-begins_as old rounds reply.NeedsFault new begins = absurd begins
-begins_as old rounds (reply.Segv why) new begins = absurd begins
 begins_as old rounds (reply.Begun n) new begins = λ m is. sym (ap running_number begins.running) ∙ is
-begins_as old rounds reply.Worked new begins = absurd begins
-begins_as old rounds (reply.Acked n) new begins = absurd begins
-begins_as old rounds (reply.Cancelled n) new begins = absurd begins
-begins_as old rounds (reply.Merged serial) new begins = absurd begins
-begins_as old rounds (reply.Trimmed count) new begins = absurd begins
-begins_as old rounds (reply.Reopened m) new begins = absurd begins
-begins_as old rounds (reply.Refused refusal.Einval) new begins = absurd begins
-begins_as old rounds (reply.Refused refusal.Enomem) new begins = absurd begins
-begins_as old rounds (reply.Refused refusal.NoSuchSpace) new begins = absurd begins
-begins_as old rounds (reply.Refused refusal.TooManySpaces) new begins = absurd begins
-begins_as old rounds (reply.Refused refusal.NoFrame) new begins = absurd begins
-begins_as old rounds (reply.Refused refusal.Frozen) new begins = absurd begins
-begins_as old rounds (reply.Refused refusal.JournalFull) new begins = absurd begins
 begins_as old rounds (reply.Refused refusal.OutOfMemory) new begins = same_core old new begins
-begins_as old rounds (reply.Refused refusal.UnsupportedValue) new begins = absurd begins
-begins_as old rounds (reply.Refused refusal.NotOpen) new begins = absurd begins
-begins_as old rounds (reply.Refused refusal.Busy) new begins = absurd begins
 begins_as old rounds (reply.Refused refusal.NoSlot) new begins = same_core old new begins.1
-begins_as old rounds (reply.Refused refusal.StoreDown) new begins = absurd begins
-begins_as old rounds (reply.Refused refusal.Idle) new begins = absurd begins
-begins_as old rounds (reply.Refused refusal.LastSpace) new begins = absurd begins
-begins_as old rounds (reply.Refused refusal.LockBusy) new begins = absurd begins
-begins_as old rounds (reply.Refused refusal.NumbersUsed) new begins = absurd begins
-begins_as old rounds (reply.Refused refusal.Damaged) new begins = absurd begins
-begins_as old rounds (reply.Refused refusal.Device) new begins = absurd begins
+begins_as old rounds _ new begins = absurd begins
 
 begin_number : (old : CoreView) (rounds : ℕ) (answer : Reply) (new : CoreView)
     → ((why : Refusal) → begin_refusal old rounds ≡ Some why → (answer ≡ reply.Refused why) × (new ≡ old))
@@ -222,37 +140,10 @@ begin_number old rounds answer new refused begins = by (begin_refusal old rounds
 -- ---- the order to merge
 
 merges_as : (old : CoreView) (answer : Reply) (new : CoreView) → MergesAs old answer new → KeepsNumber old new
-merges_as old reply.Done new merges = absurd merges
-merges_as old (reply.Bytes bytes) new merges = absurd merges
-merges_as old (reply.Child space) new merges = absurd merges
-merges_as old reply.NeedsFault new merges = absurd merges
-merges_as old (reply.Segv why) new merges = absurd merges
-merges_as old (reply.Begun n) new merges = absurd merges
 merges_as old reply.Worked new merges = same_dumper old new merges.dumper
-merges_as old (reply.Acked n) new merges = absurd merges
-merges_as old (reply.Cancelled n) new merges = absurd merges
-merges_as old (reply.Merged serial) new merges = absurd merges
-merges_as old (reply.Trimmed count) new merges = absurd merges
-merges_as old (reply.Reopened m) new merges = absurd merges
-merges_as old (reply.Refused refusal.Einval) new merges = absurd merges
-merges_as old (reply.Refused refusal.Enomem) new merges = absurd merges
-merges_as old (reply.Refused refusal.NoSuchSpace) new merges = absurd merges
-merges_as old (reply.Refused refusal.TooManySpaces) new merges = absurd merges
-merges_as old (reply.Refused refusal.NoFrame) new merges = absurd merges
-merges_as old (reply.Refused refusal.Frozen) new merges = absurd merges
-merges_as old (reply.Refused refusal.JournalFull) new merges = absurd merges
 merges_as old (reply.Refused refusal.OutOfMemory) new merges = same_core old new merges
-merges_as old (reply.Refused refusal.UnsupportedValue) new merges = absurd merges
-merges_as old (reply.Refused refusal.NotOpen) new merges = absurd merges
-merges_as old (reply.Refused refusal.Busy) new merges = absurd merges
 merges_as old (reply.Refused refusal.NoSlot) new merges = same_core old new merges.1
-merges_as old (reply.Refused refusal.StoreDown) new merges = absurd merges
-merges_as old (reply.Refused refusal.Idle) new merges = absurd merges
-merges_as old (reply.Refused refusal.LastSpace) new merges = absurd merges
-merges_as old (reply.Refused refusal.LockBusy) new merges = absurd merges
-merges_as old (reply.Refused refusal.NumbersUsed) new merges = absurd merges
-merges_as old (reply.Refused refusal.Damaged) new merges = absurd merges
-merges_as old (reply.Refused refusal.Device) new merges = absurd merges
+merges_as old _ new merges = absurd merges
 
 merge_number : (old : CoreView) (answer : Reply) (new : CoreView)
     → ((why : Refusal) → merge_refusal old ≡ Some why → (answer ≡ reply.Refused why) × (new ≡ old))
@@ -307,9 +198,8 @@ module _ {D : Type 0} (g : Ghosts D) where
   number_goes (Work worker) old answer new does = works_number worker old new answer does.works
   number_goes (TakeUp worker) old answer new does = takes_number worker old new answer does.takes
   number_goes (HandInAt worker place) old answer new does = hands_number worker place old new answer does.hands
-  number_goes (Perform worker) old answer new does = same_core old.core new.core does.core
-  number_goes (PerformAt worker place) old answer new does = same_core old.core new.core does.core
   number_goes Merge old answer new does = merge_number old.core answer new.core does.1.refused does.1.merges
   number_goes Cancel old answer new does = cancel_number old.core answer new.core does.1.refused does.1.cancelled
   number_goes Reopen old answer new does = same_dumper old.core new.core does.1.beside.others.0
   number_goes Trim old answer new does = trim_number old.core answer new.core does.trims
+  number_goes _ old answer new does = same_core old.core new.core does.core

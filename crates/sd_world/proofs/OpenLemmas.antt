@@ -26,10 +26,9 @@ synced_more contents slot old new before crash now other within c may = elim (ca
 -- or by memory alone
 pub fault_of_want : (contents : List (List ℕ)) (before now frames : ℕ) (memory : PlainMemory) (fault : OpenFault) → IsWantOf frames memory fault
     → IsFaultOf contents before now fault
-fault_of_want contents before now frames memory NoFrame is = tt
 fault_of_want contents before now frames memory (Damaged slot reason) is = absurd is
 fault_of_want contents before now frames memory Device is = absurd is
-fault_of_want contents before now frames memory OutOfMemory is = tt
+fault_of_want contents before now frames memory _ is = tt
 
 -- ---- a world in which nothing is out
 

@@ -35,60 +35,25 @@ use Rattle.sd_world.proofs.TrimLemmas.{trim_cases}
 
 module _ (old new gone : History) where
   adds_order : (answer : Reply) → AddsByOrder answer old new → new ++ gone ≡ old ++ gone
-  adds_order reply.Done adds = absurd adds
-  adds_order (reply.Bytes bytes) adds = absurd adds
-  adds_order (reply.Child space) adds = absurd adds
-  adds_order reply.NeedsFault adds = absurd adds
-  adds_order (reply.Segv why) adds = absurd adds
   adds_order (reply.Begun n) adds = ap (λ h. h ++ gone) adds
   adds_order reply.Worked adds = ap (λ h. h ++ gone) adds
-  adds_order (reply.Acked n) adds = absurd adds
-  adds_order (reply.Cancelled n) adds = absurd adds
-  adds_order (reply.Merged serial) adds = absurd adds
-  adds_order (reply.Trimmed count) adds = absurd adds
-  adds_order (reply.Reopened m) adds = absurd adds
   adds_order (reply.Refused why) adds = ap (λ h. h ++ gone) adds
+  adds_order _ adds = absurd adds
 
   adds_perform : (answer : Reply) → AddsByPerform answer old new → new ++ gone ≡ old ++ gone
-  adds_perform reply.Done adds = absurd adds
-  adds_perform (reply.Bytes bytes) adds = absurd adds
-  adds_perform (reply.Child space) adds = absurd adds
-  adds_perform reply.NeedsFault adds = absurd adds
-  adds_perform (reply.Segv why) adds = absurd adds
-  adds_perform (reply.Begun n) adds = absurd adds
   adds_perform reply.Worked adds = ap (λ h. h ++ gone) adds
-  adds_perform (reply.Acked n) adds = absurd adds
-  adds_perform (reply.Cancelled n) adds = absurd adds
-  adds_perform (reply.Merged serial) adds = absurd adds
-  adds_perform (reply.Trimmed count) adds = absurd adds
-  adds_perform (reply.Reopened m) adds = absurd adds
   adds_perform (reply.Refused why) adds = ap (λ h. h ++ gone) adds
+  adds_perform _ adds = absurd adds
 
   adds_cancel : (answer : Reply) → AddsByCancel answer old new → AddsCancelled answer (old ++ gone) (new ++ gone)
-  adds_cancel reply.Done adds = absurd adds
-  adds_cancel (reply.Bytes bytes) adds = absurd adds
-  adds_cancel (reply.Child space) adds = absurd adds
-  adds_cancel reply.NeedsFault adds = absurd adds
-  adds_cancel (reply.Segv why) adds = absurd adds
-  adds_cancel (reply.Begun n) adds = absurd adds
-  adds_cancel reply.Worked adds = absurd adds
-  adds_cancel (reply.Acked n) adds = absurd adds
   adds_cancel (reply.Cancelled n) adds = ap (λ h. h ++ gone) adds
-  adds_cancel (reply.Merged serial) adds = absurd adds
-  adds_cancel (reply.Trimmed count) adds = absurd adds
-  adds_cancel (reply.Reopened m) adds = absurd adds
   adds_cancel (reply.Refused why) adds = ap (λ h. h ++ gone) adds
+  adds_cancel _ adds = absurd adds
 
   adds_work : (worker : Worker) (core : CoreView) (base : Base) (begun : Option ℕ) (answer : Reply)
       → ((n : ℕ) → running_number core.dumper.running ≡ Some n → begun ≡ Some n)
       → ((n : ℕ) → new ≡ Freeze n ∷ old → at_freeze base (old ++ gone) n ≡ None)
       → AddsByWork worker core answer old new → AddsByReply answer base begun (old ++ gone) (new ++ gone)
-  adds_work worker core base begun reply.Done last fresh adds = absurd adds
-  adds_work worker core base begun (reply.Bytes bytes) last fresh adds = absurd adds
-  adds_work worker core base begun (reply.Child space) last fresh adds = absurd adds
-  adds_work worker core base begun reply.NeedsFault last fresh adds = absurd adds
-  adds_work worker core base begun (reply.Segv why) last fresh adds = absurd adds
-  adds_work worker core base begun (reply.Begun n) last fresh adds = absurd adds
   adds_work worker core base begun reply.Worked last fresh adds = elim adds [
     | inl same ↦ inl (ap (λ h. h ++ gone) same)
     | inr freeze ↦ inr (record {
@@ -99,45 +64,16 @@ module _ (old new gone : History) where
     })
   ]
   adds_work worker core base begun (reply.Acked n) last fresh adds = ap (λ h. h ++ gone) adds.1
-  adds_work worker core base begun (reply.Cancelled n) last fresh adds = absurd adds
   adds_work worker core base begun (reply.Merged serial) last fresh adds = ap (λ h. h ++ gone) adds
-  adds_work worker core base begun (reply.Trimmed count) last fresh adds = absurd adds
   adds_work worker core base begun (reply.Reopened m) last fresh adds = ap (λ h. h ++ gone) adds.1
   adds_work worker core base begun (reply.Refused why) last fresh adds = ap (λ h. h ++ gone) adds
+  adds_work worker core base begun _ last fresh adds = absurd adds
 
   journaled : (seat : ℕ) (command : Command) (answer : Reply) → IsJournaled answer → new ≡ Applied seat command answer ∷ old
       → AddsCommand seat command answer (old ++ gone) (new ++ gone)
-  journaled seat command reply.Done is adds = ap (λ h. h ++ gone) adds
-  journaled seat command (reply.Bytes bytes) is adds = ap (λ h. h ++ gone) adds
-  journaled seat command (reply.Child space) is adds = ap (λ h. h ++ gone) adds
-  journaled seat command reply.NeedsFault is adds = ap (λ h. h ++ gone) adds
-  journaled seat command (reply.Segv why) is adds = ap (λ h. h ++ gone) adds
-  journaled seat command (reply.Begun n) is adds = ap (λ h. h ++ gone) adds
-  journaled seat command reply.Worked is adds = ap (λ h. h ++ gone) adds
-  journaled seat command (reply.Acked n) is adds = ap (λ h. h ++ gone) adds
-  journaled seat command (reply.Cancelled n) is adds = ap (λ h. h ++ gone) adds
-  journaled seat command (reply.Merged serial) is adds = ap (λ h. h ++ gone) adds
-  journaled seat command (reply.Trimmed count) is adds = ap (λ h. h ++ gone) adds
-  journaled seat command (reply.Reopened m) is adds = ap (λ h. h ++ gone) adds
-  journaled seat command (reply.Refused refusal.Einval) is adds = ap (λ h. h ++ gone) adds
-  journaled seat command (reply.Refused refusal.Enomem) is adds = ap (λ h. h ++ gone) adds
-  journaled seat command (reply.Refused refusal.NoSuchSpace) is adds = ap (λ h. h ++ gone) adds
-  journaled seat command (reply.Refused refusal.TooManySpaces) is adds = ap (λ h. h ++ gone) adds
-  journaled seat command (reply.Refused refusal.NoFrame) is adds = ap (λ h. h ++ gone) adds
-  journaled seat command (reply.Refused refusal.Frozen) is adds = ap (λ h. h ++ gone) adds
   journaled seat command (reply.Refused refusal.JournalFull) is adds = absurd is
   journaled seat command (reply.Refused refusal.OutOfMemory) is adds = absurd is
-  journaled seat command (reply.Refused refusal.UnsupportedValue) is adds = ap (λ h. h ++ gone) adds
-  journaled seat command (reply.Refused refusal.NotOpen) is adds = ap (λ h. h ++ gone) adds
-  journaled seat command (reply.Refused refusal.Busy) is adds = ap (λ h. h ++ gone) adds
-  journaled seat command (reply.Refused refusal.NoSlot) is adds = ap (λ h. h ++ gone) adds
-  journaled seat command (reply.Refused refusal.StoreDown) is adds = ap (λ h. h ++ gone) adds
-  journaled seat command (reply.Refused refusal.Idle) is adds = ap (λ h. h ++ gone) adds
-  journaled seat command (reply.Refused refusal.LastSpace) is adds = ap (λ h. h ++ gone) adds
-  journaled seat command (reply.Refused refusal.LockBusy) is adds = ap (λ h. h ++ gone) adds
-  journaled seat command (reply.Refused refusal.NumbersUsed) is adds = ap (λ h. h ++ gone) adds
-  journaled seat command (reply.Refused refusal.Damaged) is adds = ap (λ h. h ++ gone) adds
-  journaled seat command (reply.Refused refusal.Device) is adds = ap (λ h. h ++ gone) adds
+  journaled seat command _ is adds = ap (λ h. h ++ gone) adds
 
   unjournaled : (seat : ℕ) (command : Command) (why : Refusal) → IsUnjournaled why → new ≡ old
       → AddsCommand seat command (reply.Refused why) (old ++ gone) (new ++ gone)
@@ -158,48 +94,26 @@ adds_entry : (event : Event) (answer : Reply) (old new : CoreView) (base : Base)
     → ((n : ℕ) → history_of new ≡ Freeze n ∷ history_of old → at_freeze base (history_of old ++ gone) n ≡ None)
     → AddsToJournal event answer old new → AddsEntry event answer base begun (history_of old ++ gone) (history_of new ++ gone)
 adds_entry (CommandEvent seat command) answer old new base begun gone other last fresh adds = adds_command (history_of old) (history_of new) gone seat command answer adds
-adds_entry (Begin rounds) answer old new base begun gone other last fresh adds = adds_order (history_of old) (history_of new) gone answer adds
 adds_entry (Work worker) answer old new base begun gone other last fresh adds = adds_work (history_of old) (history_of new) gone worker old base begun answer last fresh adds
 adds_entry (TakeUp worker) answer old new base begun gone other last fresh adds = adds_work (history_of old) (history_of new) gone worker old base begun answer last fresh adds
 adds_entry (HandInAt worker place) answer old new base begun gone other last fresh adds = adds_work (history_of old) (history_of new) gone worker old base begun answer last fresh adds
 adds_entry (Perform worker) answer old new base begun gone other last fresh adds = adds_perform (history_of old) (history_of new) gone answer adds
 adds_entry (PerformAt worker place) answer old new base begun gone other last fresh adds = adds_perform (history_of old) (history_of new) gone answer adds
-adds_entry Merge answer old new base begun gone other last fresh adds = adds_order (history_of old) (history_of new) gone answer adds
 adds_entry Cancel answer old new base begun gone other last fresh adds = adds_cancel (history_of old) (history_of new) gone answer adds
-adds_entry Reopen answer old new base begun gone other last fresh adds = adds_order (history_of old) (history_of new) gone answer adds
 adds_entry Trim answer old new base begun gone other last fresh adds = absurd (other refl)
+adds_entry _ answer old new base begun gone other last fresh adds = adds_order (history_of old) (history_of new) gone answer adds
 
 -- ---- the number that was begun last
 
 begins_so : (answer : Reply) (rounds : ℕ) (one other : Option ℕ) → ((n : ℕ) → one ≡ Some n → other ≡ Some n)
     → (n : ℕ) → begun_after (Begin rounds) answer one ≡ Some n → begun_after (Begin rounds) answer other ≡ Some n
-begins_so reply.Done rounds one other so k is = so k is
-begins_so (reply.Bytes bytes) rounds one other so k is = so k is
-begins_so (reply.Child space) rounds one other so k is = so k is
-begins_so reply.NeedsFault rounds one other so k is = so k is
-begins_so (reply.Segv why) rounds one other so k is = so k is
 begins_so (reply.Begun n) rounds one other so k is = is
-begins_so reply.Worked rounds one other so k is = so k is
-begins_so (reply.Acked n) rounds one other so k is = so k is
-begins_so (reply.Cancelled n) rounds one other so k is = so k is
-begins_so (reply.Merged serial) rounds one other so k is = so k is
-begins_so (reply.Trimmed count) rounds one other so k is = so k is
-begins_so (reply.Reopened m) rounds one other so k is = so k is
-begins_so (reply.Refused why) rounds one other so k is = so k is
+begins_so _ rounds one other so k is = so k is
 
 begun_so : (event : Event) (answer : Reply) (one other : Option ℕ) → ((n : ℕ) → one ≡ Some n → other ≡ Some n)
     → (n : ℕ) → begun_after event answer one ≡ Some n → begun_after event answer other ≡ Some n
-begun_so (CommandEvent seat command) answer one other so n is = so n is
 begun_so (Begin rounds) answer one other so n is = begins_so answer rounds one other so n is
-begun_so (Work worker) answer one other so n is = so n is
-begun_so (TakeUp worker) answer one other so n is = so n is
-begun_so (HandInAt worker place) answer one other so n is = so n is
-begun_so (Perform worker) answer one other so n is = so n is
-begun_so (PerformAt worker place) answer one other so n is = so n is
-begun_so Merge answer one other so n is = so n is
-begun_so Cancel answer one other so n is = so n is
-begun_so Reopen answer one other so n is = so n is
-begun_so Trim answer one other so n is = so n is
+begun_so _ answer one other so n is = so n is
 
 -- ---- what a trim folds
 
@@ -312,16 +226,14 @@ module _ {D : Type 0} (g : Ghosts D) (follow : PointsFollow g) where
   runs_honest : (first last : WorldView D) (events : List Event) (answers : List Reply) → Runs g first events answers last → g.is_honest last.disk
       → g.is_honest first.disk
   runs_honest first last [] [] runs honest = subst (λ (w : WorldView D). g.is_honest w.disk) runs honest
-  runs_honest first last [] (a ∷ answers) runs honest = absurd runs
-  runs_honest first last (e ∷ events) [] runs honest = absurd runs
   runs_honest first last (e ∷ events) (a ∷ answers) runs honest = runs.1.honest (runs_honest runs.0 last events answers runs.2 honest)
+  runs_honest first last _ _ runs honest = absurd runs
 
   pub points_reached : (first last : WorldView D) (events : List Event) (answers : List Reply) → Runs g first events answers last → g.is_honest last.disk
       → (from : Point D) → StandsAt first from → (to : Point D) × StandsAt last to × Goes g from events answers to
   points_reached first last [] [] runs honest from stands = (from, subst (λ (w : WorldView D). StandsAt w from) (sym runs) stands, refl)
-  points_reached first last [] (a ∷ answers) runs honest from stands = absurd runs
-  points_reached first last (e ∷ events) [] runs honest from stands = absurd runs
   points_reached first last (e ∷ events) (a ∷ answers) runs honest from stands =
       let one = follow e first a runs.0 runs.1 (runs_honest runs.0 last events answers runs.2 honest) from stands in
       let rest = points_reached runs.0 last events answers runs.2 honest one.0 one.1 in
       (rest.0, rest.1, (one.0, one.2, rest.2))
+  points_reached first last _ _ runs honest from stands = absurd runs

@@ -37,10 +37,9 @@ outcome_refused old worker why new leaves = absurd leaves
 step_refused : (kept : List Kept) (old : CoreView) (worker : Worker) (why : Refusal) (new : CoreView) → LeavesByStep old worker (reply.Refused why) new
     → (worker ≡ Merger → why ≢ Damaged) → (worker ≡ Opener → why ≢ Damaged) → MayBeRefused kept worker why
 step_refused kept old worker OutOfMemory new leaves found opens = tt
-step_refused kept old Dumper Damaged new leaves found opens = absurd leaves
 step_refused kept old Merger Damaged new leaves found opens = absurd (found refl refl)
 step_refused kept old Opener Damaged new leaves found opens = absurd (opens refl refl)
-step_refused kept old worker why new leaves found opens = absurd leaves
+step_refused kept old _ _ new leaves found opens = absurd leaves
 
 -- a worker of which no call waits, and no outcome is kept, has none out
 none_out : (kept : List Kept) (worker : Worker) → is_asked kept worker ≡ false → IsNowhere kept its.Made worker 0 → HasNoneOut (map kept_id kept) worker

@@ -55,11 +55,7 @@ module _ (base : Base) (history : History) (contents : List (List ℕ)) where
     | inl done ↦ says_done answer done
     | inr needs ↦ subst (λ a. ShowsReply a base history contents) (sym needs) tt
   ]
-  says_accepted (command.Fault space address) memory answer is = elim is [
-    | inl done ↦ says_done answer done
-    | inr refused ↦ subst (λ a. ShowsReply a base history contents) (sym refused) tt
-  ]
-  says_accepted (command.Store space address bytes) memory answer is = elim is [
+  says_accepted _ memory answer is = elim is [
     | inl done ↦ says_done answer done
     | inr refused ↦ subst (λ a. ShowsReply a base history contents) (sym refused) tt
   ]
@@ -74,49 +70,19 @@ module _ (base : Base) (history : History) (contents : List (List ℕ)) where
   says_legal memory false asked answer is = says_judged (denial_in memory asked) asked memory answer is
 
   says_order : (answer : Reply) (old new : History) → AddsByOrder answer old new → Says answer
-  says_order reply.Done old new adds = tt
-  says_order (reply.Bytes bytes) old new adds = tt
-  says_order (reply.Child space) old new adds = tt
-  says_order reply.NeedsFault old new adds = tt
-  says_order (reply.Segv why) old new adds = tt
-  says_order (reply.Begun n) old new adds = tt
-  says_order reply.Worked old new adds = tt
   says_order (reply.Acked n) old new adds = absurd adds
-  says_order (reply.Cancelled n) old new adds = tt
-  says_order (reply.Merged serial) old new adds = tt
-  says_order (reply.Trimmed count) old new adds = tt
   says_order (reply.Reopened m) old new adds = absurd adds
-  says_order (reply.Refused why) old new adds = tt
+  says_order _ old new adds = tt
 
   says_cancel : (answer : Reply) (old new : History) → AddsByCancel answer old new → Says answer
-  says_cancel reply.Done old new adds = tt
-  says_cancel (reply.Bytes bytes) old new adds = tt
-  says_cancel (reply.Child space) old new adds = tt
-  says_cancel reply.NeedsFault old new adds = tt
-  says_cancel (reply.Segv why) old new adds = tt
-  says_cancel (reply.Begun n) old new adds = tt
-  says_cancel reply.Worked old new adds = tt
   says_cancel (reply.Acked n) old new adds = absurd adds
-  says_cancel (reply.Cancelled n) old new adds = tt
-  says_cancel (reply.Merged serial) old new adds = tt
-  says_cancel (reply.Trimmed count) old new adds = tt
   says_cancel (reply.Reopened m) old new adds = absurd adds
-  says_cancel (reply.Refused why) old new adds = tt
+  says_cancel _ old new adds = tt
 
   says_perform : (answer : Reply) (old new : History) → AddsByPerform answer old new → Says answer
-  says_perform reply.Done old new adds = tt
-  says_perform (reply.Bytes bytes) old new adds = tt
-  says_perform (reply.Child space) old new adds = tt
-  says_perform reply.NeedsFault old new adds = tt
-  says_perform (reply.Segv why) old new adds = tt
-  says_perform (reply.Begun n) old new adds = tt
-  says_perform reply.Worked old new adds = tt
   says_perform (reply.Acked n) old new adds = absurd adds
-  says_perform (reply.Cancelled n) old new adds = tt
-  says_perform (reply.Merged serial) old new adds = tt
-  says_perform (reply.Trimmed count) old new adds = tt
   says_perform (reply.Reopened m) old new adds = absurd adds
-  says_perform (reply.Refused why) old new adds = tt
+  says_perform _ old new adds = tt
 
 -- ---- an acknowledgement, and a reopening
 
@@ -174,23 +140,13 @@ module _ (base : Base) (earlier : History) (contents : List (List ℕ)) where
 
 says_work : (base : Base) (contents : List (List ℕ)) (worker : Worker) (core : CoreView) (answer : Reply) (old new : History)
     → AddsByWork worker core answer old new → IsLegal base new → ShowsAllowed base new contents → ShowsReply answer base new contents
-says_work base contents worker core reply.Done old new adds legal allowed = tt
-says_work base contents worker core (reply.Bytes bytes) old new adds legal allowed = tt
-says_work base contents worker core (reply.Child space) old new adds legal allowed = tt
-says_work base contents worker core reply.NeedsFault old new adds legal allowed = tt
-says_work base contents worker core (reply.Segv why) old new adds legal allowed = tt
-says_work base contents worker core (reply.Begun n) old new adds legal allowed = tt
-says_work base contents worker core reply.Worked old new adds legal allowed = tt
 says_work base contents worker core (reply.Acked n) old new adds legal allowed =
     subst (λ h. ShowsFreeze base h n contents) (sym adds.1)
     (acked_shows base old contents n (subst (IsLegal base) adds.1 legal) (subst (λ h. ShowsAllowed base h contents) adds.1 allowed))
-says_work base contents worker core (reply.Cancelled n) old new adds legal allowed = tt
-says_work base contents worker core (reply.Merged serial) old new adds legal allowed = tt
-says_work base contents worker core (reply.Trimmed count) old new adds legal allowed = tt
 says_work base contents worker core (reply.Reopened m) old new adds legal allowed =
     subst (λ h. ShowsReply (reply.Reopened m) base h contents) (sym adds.1)
     (reopened_shows base old contents m (subst (λ h. ShowsAllowed base h contents) adds.1 allowed))
-says_work base contents worker core (reply.Refused why) old new adds legal allowed = tt
+says_work base contents worker core _ old new adds legal allowed = tt
 
 says_command : (base : Base) (contents : List (List ℕ)) (seat : ℕ) (asked : Command) (answer : Reply) (old new : History)
     → AddsByCommand seat asked answer old new → IsLegal base new → ShowsReply answer base new contents
@@ -202,23 +158,12 @@ says_command base contents seat asked answer old new adds legal = elim adds [
 says_trim : (base : Base) (history : History) (contents : List (List ℕ)) (answer : Reply) (old new : History) → AddsByTrim answer old new → ShowsReply answer base history contents
 says_trim base history contents (reply.Trimmed count) old new adds = tt
 says_trim base history contents (reply.Refused why) old new adds = tt
-says_trim base history contents reply.Done old new adds = absurd adds
-says_trim base history contents (reply.Bytes bytes) old new adds = absurd adds
-says_trim base history contents (reply.Child space) old new adds = absurd adds
-says_trim base history contents reply.NeedsFault old new adds = absurd adds
-says_trim base history contents (reply.Segv why) old new adds = absurd adds
-says_trim base history contents (reply.Begun n) old new adds = absurd adds
-says_trim base history contents reply.Worked old new adds = absurd adds
-says_trim base history contents (reply.Acked n) old new adds = absurd adds
-says_trim base history contents (reply.Cancelled n) old new adds = absurd adds
-says_trim base history contents (reply.Merged serial) old new adds = absurd adds
-says_trim base history contents (reply.Reopened m) old new adds = absurd adds
+says_trim base history contents _ old new adds = absurd adds
 
 pub says : (event : Event) (answer : Reply) (old new : CoreView) (contents : List (List ℕ)) → AddsToJournal event answer old new → IsLegal new.base (history_of new)
     → ShowsAllowed new.base (history_of new) contents → ShowsReply answer new.base (history_of new) contents
 says (CommandEvent seat asked) answer old new contents adds legal allowed =
     says_command new.base contents seat asked answer (history_of old) (history_of new) adds legal
-says (Begin rounds) answer old new contents adds legal allowed = says_order new.base (history_of new) contents answer (history_of old) (history_of new) adds
 says (Work worker) answer old new contents adds legal allowed =
     says_work new.base contents worker old answer (history_of old) (history_of new) adds legal allowed
 says (TakeUp worker) answer old new contents adds legal allowed =
@@ -227,7 +172,6 @@ says (HandInAt worker place) answer old new contents adds legal allowed =
     says_work new.base contents worker old answer (history_of old) (history_of new) adds legal allowed
 says (Perform worker) answer old new contents adds legal allowed = says_perform new.base (history_of new) contents answer (history_of old) (history_of new) adds
 says (PerformAt worker place) answer old new contents adds legal allowed = says_perform new.base (history_of new) contents answer (history_of old) (history_of new) adds
-says Merge answer old new contents adds legal allowed = says_order new.base (history_of new) contents answer (history_of old) (history_of new) adds
 says Cancel answer old new contents adds legal allowed = says_cancel new.base (history_of new) contents answer (history_of old) (history_of new) adds
-says Reopen answer old new contents adds legal allowed = says_order new.base (history_of new) contents answer (history_of old) (history_of new) adds
 says Trim answer old new contents adds legal allowed = says_trim new.base (history_of new) contents answer (history_of old) (history_of new) adds
+says _ answer old new contents adds legal allowed = says_order new.base (history_of new) contents answer (history_of old) (history_of new) adds

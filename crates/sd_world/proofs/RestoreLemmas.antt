@@ -18,8 +18,7 @@ restored_as : ShownOnce → (contents : List (List ℕ)) (shown : Shown) (result
 restored_as once contents shown (Ok snapshot) shows ok none good = once contents shown (Some (snapshot.checkpoint, memory_of snapshot)) shows ok
 restored_as once contents shown (Err EmptyChain) shows ok none good = once contents shown None shows (none refl)
 restored_as once contents shown (Err (Damaged slot reason)) shows ok none good = good
-restored_as once contents shown (Err Device) shows ok none good = tt
-restored_as once contents shown (Err OutOfMemory) shows ok none good = tt
+restored_as once contents shown (Err _) shows ok none good = tt
 
 pub is_restored : ShownOnce → (contents : List (List ℕ)) (base : Base) (history : History) (result : Result Snapshot Fault)
     → IfOk result (λ snapshot. Shows contents (Some (snapshot.checkpoint, memory_of snapshot)))

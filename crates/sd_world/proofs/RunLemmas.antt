@@ -15,10 +15,9 @@ use Rattle.sd_world.specs.View.{WorldView}
 pub runs_more : {D : Type 0} (g : Ghosts D) (first mid last : WorldView D) (events : List Event) (answers : List Reply) (event : Event) (answer : Reply)
     → Runs g first events answers mid → IsStep g event mid answer last → Runs g first (events ++ event ∷ []) (answers ++ answer ∷ []) last
 runs_more g first mid last [] [] event answer runs step = (last, subst (λ world. IsStep g event world answer last) runs step, refl)
-runs_more g first mid last [] (r ∷ rs) event answer runs step = absurd runs
-runs_more g first mid last (e ∷ es) [] event answer runs step = absurd runs
 runs_more g first mid last (e ∷ es) (r ∷ rs) event answer runs step =
     (runs.0, runs.1, runs_more g runs.0 mid last es rs event answer runs.2 step)
+runs_more g first mid last _ _ event answer runs step = absurd runs
 
 module _ {D : Type 0} (g : Ghosts D) where
   -- what is shown within a run is so within a longer one

@@ -30,49 +30,23 @@ use Rattle.sd_world.proofs.JobLemmas.{last_event}
 -- ---- what goes on adds nothing
 
 by_order : (answer : Reply) (old new : History) → AddsByOrder answer old new → is_end answer ≡ false → new ≡ old
-by_order reply.Done old new adds goes = absurd adds
-by_order (reply.Bytes bytes) old new adds goes = absurd adds
-by_order (reply.Child space) old new adds goes = absurd adds
-by_order reply.NeedsFault old new adds goes = absurd adds
-by_order (reply.Segv why) old new adds goes = absurd adds
 by_order (reply.Begun n) old new adds goes = adds
 by_order reply.Worked old new adds goes = adds
-by_order (reply.Acked n) old new adds goes = absurd adds
-by_order (reply.Cancelled n) old new adds goes = absurd adds
-by_order (reply.Merged serial) old new adds goes = absurd adds
-by_order (reply.Trimmed count) old new adds goes = absurd adds
-by_order (reply.Reopened m) old new adds goes = absurd adds
 by_order (reply.Refused why) old new adds goes = adds
+by_order _ old new adds goes = absurd adds
 
 by_call : (answer : Reply) (old new : History) → AddsByPerform answer old new → is_end answer ≡ false → new ≡ old
-by_call reply.Done old new adds goes = absurd adds
-by_call (reply.Bytes bytes) old new adds goes = absurd adds
-by_call (reply.Child space) old new adds goes = absurd adds
-by_call reply.NeedsFault old new adds goes = absurd adds
-by_call (reply.Segv why) old new adds goes = absurd adds
-by_call (reply.Begun n) old new adds goes = absurd adds
 by_call reply.Worked old new adds goes = adds
-by_call (reply.Acked n) old new adds goes = absurd adds
-by_call (reply.Cancelled n) old new adds goes = absurd adds
-by_call (reply.Merged serial) old new adds goes = absurd adds
-by_call (reply.Trimmed count) old new adds goes = absurd adds
-by_call (reply.Reopened m) old new adds goes = absurd adds
 by_call (reply.Refused why) old new adds goes = adds
+by_call _ old new adds goes = absurd adds
 
 by_work : (core : CoreView) (answer : Reply) (old new : History) → AddsByWork Opener core answer old new → is_end answer ≡ false → new ≡ old
-by_work core reply.Done old new adds goes = absurd adds
-by_work core (reply.Bytes bytes) old new adds goes = absurd adds
-by_work core (reply.Child space) old new adds goes = absurd adds
-by_work core reply.NeedsFault old new adds goes = absurd adds
-by_work core (reply.Segv why) old new adds goes = absurd adds
-by_work core (reply.Begun n) old new adds goes = absurd adds
 by_work core reply.Worked old new adds goes = elim adds [ inl same ↦ same | inr freezes ↦ absurd (let no : Opener ≡ Dumper = freezes.1.dumper in cc) ]
 by_work core (reply.Acked n) old new adds goes = absurd (let no : true ≡ false = goes in cc)
-by_work core (reply.Cancelled n) old new adds goes = absurd adds
 by_work core (reply.Merged serial) old new adds goes = adds
-by_work core (reply.Trimmed count) old new adds goes = absurd adds
 by_work core (reply.Reopened m) old new adds goes = absurd (let no : true ≡ false = goes in cc)
 by_work core (reply.Refused why) old new adds goes = adds
+by_work core _ old new adds goes = absurd adds
 
 either : (b : Bool) (n : Option ℕ) → (if b then n else n) ≡ n
 either true n = refl

@@ -85,13 +85,10 @@ module _ {D : Type 0} (g : Ghosts D) (old new : WorldView D) (gives : GivenUpFit
 
   pub step_world : (event : Event) (answer : Reply) → Does g event old answer new → IsWorld g new
   step_world (Command seat command) answer does = order_world does.rest does.applied.keeps
-  step_world (Begin rounds) answer does = order_world does.0 does.1.keeps
   step_world (Work worker) answer does = works_world worker answer does.works does.disk
   step_world (TakeUp worker) answer does = takes_world worker answer does.takes does.disk
   step_world (HandInAt worker place) answer does = hand_in_world worker place answer does.hands does.disk
   step_world (Perform worker) answer does = performs_world worker 0 answer does.performs does.core
   step_world (PerformAt worker place) answer does = performs_world worker place answer does.performs does.core
-  step_world Merge answer does = order_world does.0 does.1.keeps
-  step_world Cancel answer does = order_world does.0 does.1.keeps
-  step_world Reopen answer does = order_world does.0 does.1.keeps
   step_world Trim answer does = trim_world answer does
+  step_world _ answer does = order_world does.0 does.1.keeps

@@ -31,64 +31,20 @@ same_numbers : (old new : CoreView) (grows committing : Bool) → HasFlags grows
 same_numbers old new grows committing flags = ap (λ (n : Numbers). n.ticket) flags.numbers_are
 
 begin_ticket : (old : CoreView) (answer : Reply) (new : CoreView) → FlagsByBegin old answer new → new.numbers.ticket ≡ old.numbers.ticket
-begin_ticket old reply.Done new flags = same_numbers old new _ _ flags
-begin_ticket old (reply.Bytes bytes) new flags = same_numbers old new _ _ flags
-begin_ticket old (reply.Child space) new flags = same_numbers old new _ _ flags
-begin_ticket old reply.NeedsFault new flags = same_numbers old new _ _ flags
-begin_ticket old (reply.Segv why) new flags = same_numbers old new _ _ flags
 begin_ticket old (reply.Begun n) new flags = ap (λ (n : Numbers). n.ticket) flags.numbers_are
-begin_ticket old reply.Worked new flags = same_numbers old new _ _ flags
-begin_ticket old (reply.Acked n) new flags = same_numbers old new _ _ flags
-begin_ticket old (reply.Cancelled n) new flags = same_numbers old new _ _ flags
-begin_ticket old (reply.Merged serial) new flags = same_numbers old new _ _ flags
-begin_ticket old (reply.Trimmed count) new flags = same_numbers old new _ _ flags
-begin_ticket old (reply.Reopened m) new flags = same_numbers old new _ _ flags
-begin_ticket old (reply.Refused why) new flags = same_numbers old new _ _ flags
+begin_ticket old _ new flags = same_numbers old new _ _ flags
 
 cancel_ticket : (old : CoreView) (answer : Reply) (new : CoreView) → FlagsByCancel old answer new → new.numbers.ticket ≡ old.numbers.ticket
 cancel_ticket old reply.Done new flags = same_numbers old new _ _ flags
-cancel_ticket old (reply.Bytes bytes) new flags = same_numbers old new _ _ flags
-cancel_ticket old (reply.Child space) new flags = same_numbers old new _ _ flags
-cancel_ticket old reply.NeedsFault new flags = same_numbers old new _ _ flags
-cancel_ticket old (reply.Segv why) new flags = same_numbers old new _ _ flags
-cancel_ticket old (reply.Begun n) new flags = same_numbers old new _ _ flags
-cancel_ticket old reply.Worked new flags = same_numbers old new _ _ flags
-cancel_ticket old (reply.Acked n) new flags = same_numbers old new _ _ flags
-cancel_ticket old (reply.Cancelled n) new flags = same_numbers old new _ _ flags
-cancel_ticket old (reply.Merged serial) new flags = same_numbers old new _ _ flags
-cancel_ticket old (reply.Trimmed count) new flags = same_numbers old new _ _ flags
-cancel_ticket old (reply.Reopened m) new flags = same_numbers old new _ _ flags
-cancel_ticket old (reply.Refused why) new flags = same_numbers old new _ _ flags
+cancel_ticket old _ new flags = same_numbers old new _ _ flags
 
 reply_ticket : (old : CoreView) (answer : Reply) (new : CoreView) → FlagsByReply old answer new → new.numbers.ticket ≡ old.numbers.ticket
-reply_ticket old reply.Done new flags = same_numbers old new _ _ flags
-reply_ticket old (reply.Bytes bytes) new flags = same_numbers old new _ _ flags
-reply_ticket old (reply.Child space) new flags = same_numbers old new _ _ flags
-reply_ticket old reply.NeedsFault new flags = same_numbers old new _ _ flags
-reply_ticket old (reply.Segv why) new flags = same_numbers old new _ _ flags
-reply_ticket old (reply.Begun n) new flags = same_numbers old new _ _ flags
-reply_ticket old reply.Worked new flags = same_numbers old new _ _ flags
-reply_ticket old (reply.Acked n) new flags = same_numbers old new _ _ flags
-reply_ticket old (reply.Cancelled n) new flags = same_numbers old new _ _ flags
-reply_ticket old (reply.Merged serial) new flags = same_numbers old new _ _ flags
-reply_ticket old (reply.Trimmed count) new flags = same_numbers old new _ _ flags
 reply_ticket old (reply.Reopened m) new flags = flags.finds.ticket
-reply_ticket old (reply.Refused why) new flags = same_numbers old new _ _ flags
+reply_ticket old _ new flags = same_numbers old new _ _ flags
 
 outcome_ticket : (old : CoreView) (answer : Reply) (new : CoreView) → FlagsByOutcome old answer new → new.numbers.ticket ≡ old.numbers.ticket
 outcome_ticket old reply.Done new flags = same_numbers old new _ _ flags
-outcome_ticket old (reply.Bytes bytes) new flags = same_numbers old new _ _ flags
-outcome_ticket old (reply.Child space) new flags = same_numbers old new _ _ flags
-outcome_ticket old reply.NeedsFault new flags = same_numbers old new _ _ flags
-outcome_ticket old (reply.Segv why) new flags = same_numbers old new _ _ flags
-outcome_ticket old (reply.Begun n) new flags = same_numbers old new _ _ flags
-outcome_ticket old reply.Worked new flags = same_numbers old new _ _ flags
-outcome_ticket old (reply.Acked n) new flags = same_numbers old new _ _ flags
-outcome_ticket old (reply.Cancelled n) new flags = same_numbers old new _ _ flags
-outcome_ticket old (reply.Merged serial) new flags = same_numbers old new _ _ flags
-outcome_ticket old (reply.Trimmed count) new flags = same_numbers old new _ _ flags
-outcome_ticket old (reply.Reopened m) new flags = same_numbers old new _ _ flags
-outcome_ticket old (reply.Refused why) new flags = same_numbers old new _ _ flags
+outcome_ticket old _ new flags = same_numbers old new _ _ flags
 
 asked_ticket : (begins : Bool) (numbers : Numbers) → (numbers_asked begins numbers).ticket ≡ ticket_after numbers.ticket
 asked_ticket true numbers = refl
@@ -255,18 +211,16 @@ module _ {D : Type 0} (g : Ghosts D) where
   event_keeps (Work worker) old answer new does = works_keeps worker old answer new does.works
   event_keeps (TakeUp worker) old answer new does = takes_keeps worker old answer new does.takes
   event_keeps (HandInAt worker place) old answer new does = hands_keeps worker place old answer new does.hands
-  event_keeps (Perform worker) old answer new does = same_core old.core new.core does.core
-  event_keeps (PerformAt worker place) old answer new does = same_core old.core new.core does.core
   event_keeps Merge old answer new does = stays old.core new.core does.1.keeps (same_numbers old.core new.core _ _ does.1.flags)
   event_keeps Cancel old answer new does = stays old.core new.core does.1.keeps (cancel_ticket old.core answer new.core does.1.flags)
   event_keeps Reopen old answer new does = stays old.core new.core does.1.keeps (same_numbers old.core new.core _ _ does.1.flags)
   event_keeps Trim old answer new does = trim_keeps old.core new.core answer does.trims
+  event_keeps _ old answer new does = same_core old.core new.core does.core
 
   pub tickets_last : TicketsLast g
   tickets_last first last [] [] runs has room = subst (λ (w : WorldView D). HasOwnTickets w.core) (sym runs) has
-  tickets_last first last [] (a ∷ answers) runs has room = absurd runs
-  tickets_last first last (e ∷ events) [] runs has room = absurd runs
   tickets_last first last (e ∷ events) (a ∷ answers) runs has room =
       let one = event_keeps e first a runs.0 runs.1.does (omega (arith, room)) has in
       let less = one.0 in
       tickets_last runs.0 last events answers runs.2 one.1 (omega (arith, room, less))
+  tickets_last first last _ _ runs has room = absurd runs

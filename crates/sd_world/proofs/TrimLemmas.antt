@@ -63,17 +63,7 @@ front_cases : (n : ℕ) (old : CoreView) (kept front : Marked) (answer : Reply) 
 front_cases n old kept front (reply.Trimmed count) new parts ended does =
     inl (record { n = n; kept = kept; front = front; parts = parts; ended = ended; answered = ap reply.Trimmed does.0; is = does.2 })
 front_cases n old kept front (reply.Refused refusal) new parts ended does = inr (record { refusal = refusal; answered = refl; is = does.1 })
-front_cases n old kept front reply.Done new parts ended does = absurd does
-front_cases n old kept front (reply.Bytes bytes) new parts ended does = absurd does
-front_cases n old kept front (reply.Child space) new parts ended does = absurd does
-front_cases n old kept front reply.NeedsFault new parts ended does = absurd does
-front_cases n old kept front (reply.Segv stop) new parts ended does = absurd does
-front_cases n old kept front (reply.Begun k) new parts ended does = absurd does
-front_cases n old kept front reply.Worked new parts ended does = absurd does
-front_cases n old kept front (reply.Acked k) new parts ended does = absurd does
-front_cases n old kept front (reply.Cancelled k) new parts ended does = absurd does
-front_cases n old kept front (reply.Merged serial) new parts ended does = absurd does
-front_cases n old kept front (reply.Reopened m) new parts ended does = absurd does
+front_cases n old kept front _ new parts ended does = absurd does
 
 pub trim_cases : (old : CoreView) (answer : Reply) (new : CoreView) → TrimsJournal old answer new → LeavesFront old answer new ⊎ LeavesAll old answer new
 trim_cases old answer new trims = by (unfolded (last old.base (history_of old)) old.base.number) refl
