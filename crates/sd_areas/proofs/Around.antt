@@ -4,7 +4,7 @@ use Rattle.std.specs.Prelude.{nat_lt, slice_range}
 use Rattle.std.specs.List.{splice, AllWithin, position}
 use Rattle.std.specs.List.Sorted.{IsPartitionedBy, IsPartitionPoint}
 use Rattle.std.specs.FinMap as finmap
-use Rattle.std.proofs.lemmas.Bool.{lt-ltb, ltb-true}
+use Rattle.std.proofs.lemmas.Bool.{lt-ltb, ltb-true, cond-false}
 use Rattle.std.proofs.lemmas.List.{take-append-drop, drop-drop, get_or-drop}
 use Rattle.std.proofs.lemmas.List.Quantifiers.{position-Some}
 use Rattle.sd_areas.specs.declared.area.Area.{Area}
@@ -20,7 +20,6 @@ use Rattle.sd_areas.specs.Runs.{last_after, HasRun, HasGap}
 use Rattle.sd_areas.proofs.Find.{later_begins, starts_rise}
 use Rattle.sd_areas.proofs.Joined.{EndsBelow, BeginsAbove, AreAround, middle_is, replaced_are, replaced_same, in_middle}
 use Rattle.sd_areas.proofs.PagesOf.{get-pages_of}
-use Rattle.std.proofs.lemmas.Bool.{cond-false}
 
 -- ---- the two searches
 -- whether an area ends before a page

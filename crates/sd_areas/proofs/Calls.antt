@@ -1,24 +1,18 @@
 -- What a call gives, from the areas that it made.
-use Rattle.std.proofs.Common.{◌≡◌, ℕ, ◌<◌, ◌≤◌, ◌^◌, Bool, true, false, not, cond, ◌==◌, List, [], length, Option, Some, None, refl, sym, ap, subst, ◌∙◌, inl, inr}
-use Rattle.std.specs.Prelude.{nat_lt, IsSome}
+use Rattle.std.proofs.Common.{◌≡◌, ℕ, ◌<◌, ◌≤◌, ◌^◌, Bool, true, false, not, cond, ◌==◌, List, [], length, Option, Some, None, refl, sym, ap, subst, ◌∙◌, inl, inr, ◌%◌}
+use Rattle.std.specs.Prelude.{nat_lt, IsSome, Ok, Err, Result, IfSome, IfOk, IfErr, is_some}
 use Rattle.std.specs.Cmp.{nat_cmp_total}
 use Rattle.std.specs.Ordering.{nat_cmp}
 use Rattle.std.specs.FinMap as finmap
-use Rattle.std.specs.FinMap.{get-empty, get-from_entries, get-entries, nat_cmp-IsAntisymmetric}
-use Rattle.std.proofs.lemmas.Bool.{eq-eqb, ne_eqb, cond-true, cond-false, cases_lt, lt-ltb, le-ltb}
+use Rattle.std.specs.FinMap.{get-empty, get-from_entries, get-entries, nat_cmp-IsAntisymmetric, get-retain_keys}
+use Rattle.std.proofs.lemmas.Bool.{eq-eqb, ne_eqb, cond-true, cond-false, cases_lt, lt-ltb, le-ltb, not_from_true, not_from_false}
 use Rattle.sd_areas.specs.declared.area.Area.{Area}
 use Rattle.sd_areas.specs.declared.prot.Prot.{Prot}
-use Rattle.sd_areas.specs.Pages.{is_within}
+use Rattle.sd_areas.specs.Pages.{is_within, page_of, pages_for, is_invalid, is_outside}
 use Rattle.sd_areas.specs.Areas.{PageMap, AreMaximal, AreAreasOf, AreInSpace, page_map_of, areas_of}
-use Rattle.std.specs.Prelude.{Ok, Err}
-use Rattle.std.specs.FinMap.{get-retain_keys}
-use Rattle.std.proofs.Common.{◌%◌}
-use Rattle.std.proofs.lemmas.Bool.{not_from_true, not_from_false}
 use Rattle.sd_areas.specs.declared.errno.Errno.TheVariants.{Einval, Enomem}
-use Rattle.sd_areas.specs.Pages.{page_of, pages_for, is_invalid, is_outside}
 use Rattle.sd_areas.specs.Calls.{set_pages, remove_pages, within_areas, map_result, unmap_result, has_hole, protect_result}
 use Rattle.sd_areas.specs.Runs.{HasRun, HasGap}
-use Rattle.std.specs.Prelude.{Result, IfSome, IfOk, IfErr, is_some}
 use Rattle.std.specs.Option.{ok_or}
 use Rattle.sd_areas.specs.declared.errno.Errno.{Errno}
 use Rattle.sd_areas.specs.declared.page_range.PageRange.{PageRange}

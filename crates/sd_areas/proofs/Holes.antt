@@ -1,21 +1,16 @@
 -- Whether a run of pages meets a hole.
-use Rattle.std.proofs.Common.{◌≡◌, ℕ, ◌+◌, ◌<◌, ◌≤◌, Bool, true, false, cond, List, [], ◌∷◌, ◌++◌, length, take, get_or, Option, Some, None, refl, sym, ap, subst, ◌∙◌, arith, inl, inr}
+use Rattle.std.proofs.Common.{◌≡◌, ℕ, ◌+◌, ◌<◌, ◌≤◌, Bool, true, false, cond, List, [], ◌∷◌, ◌++◌, length, take, get_or, Option, Some, None, refl, sym, ap, subst, ◌∙◌, arith, inl, inr, suc, zero}
 use Rattle.std.specs.Prelude.{IsSome, is_some, nat_lt}
-use Rattle.std.proofs.lemmas.Bool.{cases_Bool, cases_lt, lt-ltb, le-ltb}
+use Rattle.std.proofs.lemmas.Bool.{cases_Bool, cases_lt, lt-ltb, le-ltb, or_from, or_left, or_right, not_from_true, not_from_false}
 use Rattle.sd_areas.specs.declared.area.Area.{Area}
 use Rattle.sd_areas.specs.declared.prot.Prot.{Prot}
-use Rattle.sd_areas.specs.Pages.{is_within}
-use Rattle.sd_areas.specs.Areas.{prot_in, AreMaximal}
-use Rattle.sd_areas.specs.Runs.{last_after}
+use Rattle.sd_areas.specs.Pages.{is_within, pages_from}
+use Rattle.sd_areas.specs.Areas.{prot_in, AreMaximal, PageMap, page_map_of}
+use Rattle.sd_areas.specs.Runs.{last_after, IsMappedUpTo}
 use Rattle.sd_areas.proofs.Maximal.{FollowsOn, last_after-append, prot_in-append, none_behind, inside, inside_parts}
-use Rattle.std.proofs.Common.{suc, zero}
 use Rattle.std.proofs.Math.Seq.{take-length}
 use Rattle.std.specs.FinMap as finmap
-use Rattle.std.proofs.lemmas.Bool.{or_from, or_left, or_right, not_from_true, not_from_false}
-use Rattle.sd_areas.specs.Pages.{pages_from}
-use Rattle.sd_areas.specs.Areas.{PageMap, page_map_of}
 use Rattle.sd_areas.specs.Calls.{has_hole}
-use Rattle.sd_areas.specs.Runs.{IsMappedUpTo}
 use Rattle.sd_areas.proofs.Parts.{take_next, next_follows, AreMaximal-take}
 use Rattle.sd_areas.proofs.PagesOf.{get-pages_of}
 

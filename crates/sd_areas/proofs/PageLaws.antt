@@ -1,26 +1,20 @@
 -- The laws of address spaces.
-use Rattle.std.proofs.Common.{◌≡◌, ℕ, ◌<◌, Bool, true, false, not, cond, ◌==◌, List, length, Option, Some, None, refl, sym, ap, subst, ◌∙◌, arith, inl, inr}
-use Rattle.std.specs.Prelude.{nat_lt, IsTrue, if◌then◌else◌, IsSome}
+use Rattle.std.proofs.Common.{◌≡◌, ℕ, ◌<◌, Bool, true, false, not, cond, ◌==◌, List, length, Option, Some, None, refl, sym, ap, subst, ◌∙◌, arith, inl, inr, ◌%◌}
+use Rattle.std.specs.Prelude.{nat_lt, IsTrue, if◌then◌else◌, IsSome, Result, Ok, Err, ◌↔◌}
 use Rattle.std.specs.FinMap as finmap
-use Rattle.std.proofs.lemmas.Bool.{eqb-true, cases_Bool, cond-true, cond-false, cases_lt, lt-ltb}
+use Rattle.std.proofs.lemmas.Bool.{eqb-true, cases_Bool, cond-true, cond-false, cases_lt, lt-ltb, ltb-true, both_ways}
 use Rattle.sd_areas.specs.declared.area.Area.{Area}
 use Rattle.sd_areas.specs.declared.prot.Prot.{Prot}
-use Rattle.sd_areas.specs.Pages.{is_within}
+use Rattle.sd_areas.specs.Pages.{is_within, page_of, pages_for, is_invalid, is_outside}
 use Rattle.sd_areas.specs.Areas.{PageMap, AreInSpace, areas_of}
 use Rattle.sd_areas.proofs.Maximal.{below, above, inside_parts}
-use Rattle.std.specs.Prelude.{Result, Ok, Err}
-use Rattle.std.proofs.Common.{◌%◌}
 use Rattle.sd_areas.specs.declared.errno.Errno.{Errno}
 use Rattle.sd_areas.specs.declared.errno.Errno.TheVariants.{Einval, Enomem}
-use Rattle.sd_areas.specs.Pages.{page_of, pages_for, is_invalid, is_outside}
 use Rattle.sd_areas.specs.Calls.{set_pages, remove_pages, within_areas, map_result, unmap_result, has_hole, protect_result}
 use Rattle.sd_areas.proofs.Entries.{areas_of_is, areas_of_are}
-use Rattle.std.specs.Prelude.{◌↔◌}
-use Rattle.std.proofs.lemmas.Bool.{ltb-true}
 use Rattle.sd_areas.specs.Laws.{IsCrowded}
 use Rattle.sd_areas.proofs.Calls.{get-set_pages, get-remove_pages}
 use Rattle.sd_areas.proofs.Holes.{hole_at}
-use Rattle.std.proofs.lemmas.Bool.{both_ways}
 
 ok_same : (m n : PageMap) → ◌≡◌ {A = Result PageMap Errno} (Ok m) (Ok n) → m ≡ n
 ok_same m n e = cc

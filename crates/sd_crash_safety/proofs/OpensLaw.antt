@@ -12,17 +12,15 @@ use Rattle.sd_gate.specs.declared.call.Call.{Call}
 use Rattle.sd_gate.specs.declared.phase.Phase.{Phase}
 use Rattle.sd_gate.specs.declared.phase.Phase.TheVariants.{Whole}
 use Rattle.sd_gate.specs.Laws.{Leads}
-use Rattle.sd_gate.specs.Phases.{after, body_after}
+use Rattle.sd_gate.specs.Phases.{after, body_after, bodies_after, phases_after}
 use Rattle.sd_gate.specs.Plans.{Planned}
-use Rattle.sd_gate.specs.Requests.{Asked}
+use Rattle.sd_gate.specs.Requests.{Asked, Made}
 use Rattle.sd_gate.specs.Sequences.{body_calls}
 use Rattle.sd_rounds.specs.declared.image_order.ImageOrder.{ImageOrder}
 use Rattle.sd_store_laws.specs.Beliefs.{Belief, Kept, Opening, image_at, image_in}
 use Rattle.sd_crash_safety.specs.InUse.{AreExact, ClosesBody, IsImageOn, IsInUseOn, IsMakingOn, IsRunningOn, IsSlotFor, NoneAt, kind_of_call, chain_of, is_opening_at, pending_dump, body_written, ids_of, lanes_of}
 use Rattle.sd_chain.specs.Catalog.{Changes, place_of}
 use Rattle.sd_gate.specs.Calls.{is_done}
-use Rattle.sd_gate.specs.Phases.{bodies_after, phases_after}
-use Rattle.sd_gate.specs.Requests.{Made}
 use Rattle.sd_journal.specs.declared.entry.Entry.TheVariants.{Acked}
 use Rattle.sd_journal.specs.History.{History, pending}
 use Rattle.sd_journal.specs.Legal.{IsLegal}

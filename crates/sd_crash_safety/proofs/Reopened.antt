@@ -9,14 +9,13 @@ use Rattle.sd_journal.specs.History.{Base, History}
 use Rattle.sd_journal.specs.Laws.{JournalLaws}
 use Rattle.sd_journal.specs.Legal.{IsLegal}
 use Rattle.sd_journal.specs.Marked.{entries_of}
-use Rattle.sd_store_laws.specs.Beliefs.{ContentsShow}
+use Rattle.sd_store_laws.specs.Beliefs.{ContentsShow, Belief}
 use Rattle.sd_store_laws.specs.Gates.{LeftAsBelieved}
 use Rattle.sd_crash_safety.specs.Believes.{HasStore}
 use Rattle.sd_crash_safety.specs.Laws.{FoundIsBelieved, LeftShowsAllowed, ReopenedIsBelieved}
 use Rattle.sd_crash_safety.specs.Shown.{ShowsAllowed}
 use Rattle.sd_crash_safety.specs.View.{history_of}
 use Rattle.sd_gate.specs.declared.phase.Phase.{Phase}
-use Rattle.sd_store_laws.specs.Beliefs.{Belief}
 use Rattle.sd_store_laws.specs.Store.{Store}
 
 left_by : LeftAsBelieved → ContentsShow → (base : Base) (history : History) (phases : List Phase) (asked : List (Option Asked)) (bodies left : List (List ℕ))

@@ -2,8 +2,7 @@
 use Rattle.std.proofs.Common.{zero-add, ◌≡◌, ℕ, ◌+◌, ◌<◌, max, min, Bool, true, not, cond, ◌&&◌, ◌||◌, nat_lt, List, [], length, take, slice_index, slice_set, refl, sym, ◌∙◌, subst, arith}
 use Rattle.std.proofs.lemmas.Grind.{common_steps}
 use Rattle.std.proofs.lemmas.List.{get_or-set_same, get_or-set_other, get_or-take, length-take}
-use Rattle.std.proofs.lemmas.List.FromFn.{get_or-map-range_with_len}
-use Rattle.std.proofs.lemmas.List.FromFn.{length-map-range_with_len}
+use Rattle.std.proofs.lemmas.List.FromFn.{get_or-map-range_with_len, length-map-range_with_len}
 use Rattle.sd_disk.specs.Contents.{file_at, file_after_write, Torn, Cut, AtSlot}
 use Rattle.sd_disk.specs.Events.{mixed, torn_write, torn_cut}
 

@@ -1,9 +1,8 @@
 -- Segments one after the other.
-use Rattle.std.proofs.Common.{◌≡◌, ◌+◌, ◌<◌, ℕ, Bool, true, false, List, [], ◌∷◌, ◌++◌, inl, inr, refl, sym, ap, ◌∙◌, subst, arith}
+use Rattle.std.proofs.Common.{◌≡◌, ◌+◌, ◌<◌, ℕ, Bool, true, false, List, [], ◌∷◌, ◌++◌, inl, inr, refl, sym, ap, ◌∙◌, subst, arith, append-nil}
 use Rattle.std.specs.Prelude.{filter, take, drop, slice_index_or, length}
 use Rattle.std.proofs.lemmas.Bool.{cond-true, cond-false}
 use Rattle.std.proofs.lemmas.List.{drop_more, get_or_default, take-append-drop}
-use Rattle.std.proofs.Common.{append-nil}
 use Rattle.sd_restore.proofs.TakeLemmas.{taken_at}
 use Rattle.sd_elf.specs.declared.fault.SegmentFault.{SegmentFault}
 use Rattle.sd_elf.specs.declared.fault.SegmentFault.TheVariants as fault

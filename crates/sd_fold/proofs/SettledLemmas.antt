@@ -7,11 +7,9 @@ use Rattle.sd_areas.specs.PlainMemory.{Page, Space, PlainMemory}
 use Rattle.sd_pagetable.specs.Nested.{inside, is_alive, put_at}
 use Rattle.sd_fold.specs.Overlay.{PageChanges, Layers, with_page, with_space, pages_over, memory_over}
 use Rattle.sd_fold.specs.Room.{HasPages, HasRoom}
-use Rattle.sd_fold.proofs.OverLemmas.{change_of, get_with}
-use Rattle.sd_fold.proofs.OverlayLemmas.{Layer, space_over}
+use Rattle.sd_fold.proofs.OverLemmas.{change_of, get_with, over_apart}
+use Rattle.sd_fold.proofs.OverlayLemmas.{Layer, space_over, next_memory, other_space}
 use Rattle.sd_fold.proofs.RoomLemmas.{inside_put, put_twice, put_alive, space_stays}
-use Rattle.sd_fold.proofs.OverlayLemmas.{next_memory, other_space}
-use Rattle.sd_fold.proofs.OverLemmas.{over_apart}
 use Rattle.sd_fold.proofs.WalkLemmas.{Rising, at_head, gone_on, not_left, later, still_later}
 
 -- the pages of a space so far: with those left they are as they are to be

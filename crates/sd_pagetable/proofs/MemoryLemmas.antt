@@ -6,8 +6,7 @@ use Rattle.std.specs.Option.{option_map, option_map_or}
 use Rattle.std.specs.Ordering.{nat_cmp, is_eq}
 use Rattle.std.specs.FinMap.{get-empty}
 use Rattle.std.specs.Map.{lookup}
-use Rattle.std.specs.BTreeMap.{is_at}
-use Rattle.std.specs.BTreeMap.{BTreeMap, get}
+use Rattle.std.specs.BTreeMap.{is_at, BTreeMap, get}
 use Rattle.std.specs.FinMap as finmap
 use Rattle.sd_areas.specs.Areas.{PageMap}
 use Rattle.sd_areas.specs.Pages.{page_of}

@@ -18,7 +18,7 @@ use Rattle.sd_pagetable.specs.declared.access_error.AccessError.TheVariants.{Ref
 use Rattle.sd_pagetable.specs.declared.memory_refusal.MemoryRefusal.TheVariants.{NoSuchSpace, Einval as BadRange, Enomem as NoMemory}
 use Rattle.sd_pagetable.specs.Nested.{Table, inside, is_alive, set_within, remove_within, change_within, fill_within}
 use Rattle.sd_pagetable.specs.Page.{PageState, fresh_page, protected_page}
-use Rattle.sd_pagetable.specs.Contents.{Contents, plain_of, page_count}
+use Rattle.sd_pagetable.specs.Contents.{Contents, plain_of, page_count, page_at}
 use Rattle.sd_pagetable.specs.Due.{answer, area_due, in_space, or_else, mmap_due, munmap_due, mprotect_due}
 use Rattle.sd_pagetable.specs.Effects.{after_mmap}
 use Rattle.sd_pagetable.specs.declared.memory_error.MemoryError.{MemoryError}
@@ -29,7 +29,6 @@ use Rattle.sd_pagetable.specs.Ranges.{IsCleared}
 use Rattle.sd_pagetable.specs.Tracking.{with_space}
 use Rattle.sd_pagetable.proofs.TableLemmas.{same_table, get-map_values, get-set_within, get-remove_within, get-change_within, get-fill_within}
 use Rattle.std.specs.Prelude.{nat_le}
-use Rattle.sd_pagetable.specs.Contents.{page_at}
 use Rattle.sd_pagetable.proofs.MemoryLemmas.{plain_alive}
 use Rattle.sd_pagetable.proofs.RangeLemmas.{with_itself, with_twice, inside_with, at_table, change_none}
 use Rattle.sd_pagetable.proofs.PlainRanges.{prots_seen, plain_mapped, plain_many}

@@ -23,14 +23,13 @@ use Rattle.sd_image.specs.Shows.{IsMemory, page_in}
 use Rattle.sd_image.specs.Table.{AreSpaces, Listed}
 use Rattle.sd_restore.specs.Fits.{prots_in}
 use Rattle.sd_restore.specs.Mapped.{Mapped, mapped_with, area_mapped, space_mapped, mapped_pages}
-use Rattle.sd_restore.specs.Placed.{IsLaidOut, PlacedPage, mapped_of, placed_memory, placed_page, placed_entries, with_spaces}
+use Rattle.sd_restore.specs.Placed.{IsLaidOut, PlacedPage, mapped_of, placed_memory, placed_page, placed_entries, with_spaces, ArePlaced}
 use Rattle.sd_restore.proofs.FitsLemmas.{get_prots, in_space, same_prot}
 use Rattle.sd_restore.proofs.MappedLemmas.{space_of}
 use Rattle.std.specs.Borrow.{Bor}
 use Rattle.sd_image.proofs.Members.{contains_cases}
 use Rattle.sd_chain.specs.Catalog.{Opened, Places}
 use Rattle.sd_chain.specs.Store.{IsCatalogOf, FindsTip}
-use Rattle.sd_restore.specs.Placed.{ArePlaced}
 use Rattle.sd_restore.proofs.ShowLemmas.{is_memory}
 use Rattle.sd_restore.proofs.MemoryLemmas.{After, empty_bare, pages_are, spaces_bare}
 

@@ -1,7 +1,6 @@
-use Rattle.std.proofs.Common.{◌≡◌, ℕ, List, ◌∷◌, ◌++◌, take, drop, ap, ◌∙◌}
+use Rattle.std.proofs.Common.{◌≡◌, ℕ, List, ◌∷◌, ◌++◌, take, drop, ap, ◌∙◌, length}
 use Rattle.std.specs.Int.{w16, to_le_bytes}
 use Rattle.sd_image.proofs.HeaderBytes.{put_at, header_written}
-use Rattle.std.proofs.Common.{length}
 use Rattle.sd_image.proofs.HeaderRules.{text_again, text_length}
 use Rattle.sd_image.specs.Reading.{header_in}
 use Rattle.sd_image.proofs.header_codec.encode_header.Goals as goal

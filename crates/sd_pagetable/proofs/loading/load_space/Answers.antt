@@ -1,9 +1,8 @@
 use Rattle.std.proofs.Common.{◌≡◌, ℕ, ◌∙◌, ap}
 use Rattle.std.specs.FinMap as finmap
-use Rattle.sd_pagetable.specs.Nested.{map_values}
+use Rattle.sd_pagetable.specs.Nested.{map_values, inside}
 use Rattle.sd_pagetable.specs.Page.{plain_page}
 use Rattle.sd_pagetable.specs.Contents.{Contents, plain_of}
-use Rattle.sd_pagetable.specs.Nested.{inside}
 use Rattle.sd_pagetable.proofs.TableLemmas.{map_values-empty}
 use Rattle.sd_pagetable.proofs.PlainRanges.{plain_inside}
 use Rattle.sd_pagetable.proofs.SnapshotLemmas.{filling_none, filling_hole, filling_few, filling_room, filling_next, filling_all}

@@ -1,12 +1,10 @@
-use Rattle.std.proofs.Common.{◌≡◌, List, [], ℕ, All, Some, length, inr, refl, sym, subst}
+use Rattle.std.proofs.Common.{◌≡◌, List, [], ℕ, All, Some, length, inr, refl, sym, subst, map}
 use Rattle.sd_chain.specs.Store.{IsCatalogOf}
 use Rattle.sd_restore.specs.declared.placed_run.PlacedRun.{PlacedRun}
-use Rattle.sd_restore.specs.Placed.{IsInSlots}
-use Rattle.std.proofs.Common.{map}
+use Rattle.sd_restore.specs.Placed.{IsInSlots, placed_pages}
 use Rattle.std.proofs.lemmas.Result.{on_ok_weaker}
 use Rattle.std.specs.Io.KnownBytes.{Appends}
 use Rattle.sd_image.specs.Table.{listing_of}
-use Rattle.sd_restore.specs.Placed.{placed_pages}
 use Rattle.sd_readers.specs.Texts.{placed_memory_text}
 use Rattle.sd_exit.specs.Texts.{PrintsBeginning}
 use Rattle.sd_exit.proofs.EndingLemmas.{on_fault}

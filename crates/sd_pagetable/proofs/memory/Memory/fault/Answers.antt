@@ -3,7 +3,7 @@ use Rattle.sd_areas.specs.Pages.{page_of}
 use Rattle.sd_pagetable.specs.Nested.{is_alive, value_at}
 use Rattle.sd_pagetable.specs.Contents.{Contents, page_at, plain_of}
 use Rattle.sd_pagetable.specs.Kept.{HasAreas}
-use Rattle.sd_pagetable.proofs.MemoryLemmas.{either_result, fault_dead, fault_stopped, fault_goes, answers_err, write_there, plain_made_writable}
+use Rattle.sd_pagetable.proofs.MemoryLemmas.{either_result, fault_dead, fault_stopped, fault_goes, answers_err, write_there, plain_made_writable, areas_made_writable}
 use Rattle.std.specs.Prelude.{Result, Err}
 use Rattle.sd_tables.specs.declared.entry.Entry.{Entry}
 use Rattle.sd_pagetable.specs.declared.access.Access.TheVariants.{Write}
@@ -12,7 +12,6 @@ use Rattle.sd_pagetable.specs.declared.memory_error.MemoryError.{MemoryError}
 use Rattle.sd_pagetable.specs.declared.memory_error.MemoryError.TheVariants.{Denied as DeniedError, OutOfMemory}
 use Rattle.std.proofs.lemmas.Result.{err_from_is_err_and}
 use Rattle.sd_pagetable.specs.Due.{Answers, page_due, frame_due, fault_due}
-use Rattle.sd_pagetable.proofs.MemoryLemmas.{areas_made_writable}
 use Rattle.sd_pagetable.proofs.memory.Memory.fault.Goals as goal
 
 pub returns-then-not-is_alive-clause-due : goal.returns-then-not-is_alive-clause-due

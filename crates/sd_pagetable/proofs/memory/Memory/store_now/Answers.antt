@@ -6,9 +6,8 @@ use Rattle.sd_pagetable.specs.Contents.{Contents, page_at, put_page, plain_of}
 use Rattle.sd_pagetable.specs.Access.{stored_at}
 use Rattle.sd_pagetable.specs.Effects.{after_store}
 use Rattle.sd_pagetable.specs.Kept.{HasAreas}
-use Rattle.sd_pagetable.proofs.MemoryLemmas.{either_result, write_there, writable_there, stored_after}
+use Rattle.sd_pagetable.proofs.MemoryLemmas.{either_result, write_there, writable_there, stored_after, areas_made_writable, areas_stored}
 use Rattle.sd_pagetable.specs.Tracking.{MakesWritable}
-use Rattle.sd_pagetable.proofs.MemoryLemmas.{areas_made_writable, areas_stored}
 use Rattle.sd_pagetable.proofs.memory.Memory.store_now.Goals as goal
 
 pub make_writable-requires-clause-permitted : goal.make_writable-requires-clause-permitted

@@ -5,8 +5,7 @@ use Rattle.sd_pagetable.specs.Contents.{Contents, page_at, put_page, plain_of}
 use Rattle.sd_pagetable.specs.View.{HasEntry}
 use Rattle.sd_pagetable.specs.Access.{stored_at}
 use Rattle.sd_pagetable.specs.Effects.{after_store}
-use Rattle.sd_pagetable.proofs.MemoryLemmas.{plain_stored, page_of_seen}
-use Rattle.sd_pagetable.proofs.MemoryLemmas.{areas_stored}
+use Rattle.sd_pagetable.proofs.MemoryLemmas.{plain_stored, page_of_seen, areas_stored}
 use Rattle.sd_pagetable.proofs.memory.Memory.try_store.Goals as goal
 
 pub returns-clause-memory : goal.returns-clause-memory

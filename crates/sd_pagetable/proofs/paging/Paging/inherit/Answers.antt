@@ -7,11 +7,9 @@ use Rattle.sd_pagetable.specs.Contents.{Contents, page_at, put_page}
 use Rattle.sd_frames.specs.Frames.{Pool}
 use Rattle.sd_pagetable.specs.Ranges.{bare_page}
 use Rattle.sd_pagetable.specs.View.{page_of_entry, entry_of, contents_of, IsKept}
-use Rattle.sd_pagetable.proofs.NestedLemmas.{alive_at}
-use Rattle.sd_pagetable.proofs.ViewLemmas.{entry_there, entry_seen, view_put, same_pool}
+use Rattle.sd_pagetable.proofs.NestedLemmas.{alive_at, value_at-put}
+use Rattle.sd_pagetable.proofs.ViewLemmas.{entry_there, entry_seen, view_put, same_pool, page_entry}
 use Rattle.sd_pagetable.proofs.KeptLemmas.{frame_counted, kept_write_protected}
-use Rattle.sd_pagetable.proofs.ViewLemmas.{page_entry}
-use Rattle.sd_pagetable.proofs.NestedLemmas.{value_at-put}
 use Rattle.std.proofs.lemmas.Bool.{cond-true, cond-false, and_from, and_left, ne_eqb, eq-eqb}
 use Rattle.sd_pagetable.proofs.InheritLemmas.{members_le, kept_inherited, view_inherited}
 use Rattle.sd_pagetable.proofs.paging.Paging.inherit.Goals as goal

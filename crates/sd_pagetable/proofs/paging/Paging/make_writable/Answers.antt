@@ -1,4 +1,4 @@
-use Rattle.std.proofs.Common.{◌≡◌, ℕ, ap, ◌∙◌, sym, subst, refl, Option, Some, true}
+use Rattle.std.proofs.Common.{◌≡◌, ℕ, ap, ◌∙◌, sym, subst, refl, Option, Some, true, inl, inr}
 use Rattle.std.specs.Option.{IfSome}
 use Rattle.sd_tables.specs.declared.entry.Entry.{Entry}
 use Rattle.sd_pagetable.specs.Nested.{Nested, value_at, put_at}
@@ -10,7 +10,6 @@ use Rattle.sd_pagetable.proofs.ViewLemmas.{entry_there, entry_seen, put_seen}
 use Rattle.sd_pagetable.proofs.MemoryLemmas.{writable_already, none_due}
 use Rattle.sd_pagetable.proofs.KeptLemmas.{frame_counted}
 use Rattle.std.specs.Prelude.{Result, Err}
-use Rattle.std.proofs.Common.{inl, inr}
 use Rattle.std.proofs.lemmas.Result.{err_from_is_err_and}
 use Rattle.sd_pagetable.specs.declared.memory_error.MemoryError.{MemoryError}
 use Rattle.sd_pagetable.specs.declared.memory_error.MemoryError.TheVariants.{Denied as DeniedError, OutOfMemory}

@@ -1,6 +1,5 @@
-use Rattle.std.proofs.Common.{Err, refl, sym, ◌∙◌, ap}
+use Rattle.std.proofs.Common.{Err, refl, sym, ◌∙◌, ap, subst}
 use Rattle.sd_restore.proofs.ScanLemmas.{open_scanned, double_first, double_again, one_more_read}
-use Rattle.std.proofs.Common.{subst}
 use Rattle.sd_image.specs.Table.{IsTable}
 use Rattle.sd_restore.proofs.scanned.Scanned.add.Goals as goal
 
