@@ -81,10 +81,6 @@ run_cut old front new first count m w a c = record {
       (two_parts first count (2 ^ 35) page (prot_in old page) w (λ o. none_outside None old page m o));
 }
 
--- the part before a run ends where the run begins
-pub front_ends : (old front : List Area) (to : ℕ) → HasParts [] front old 0 to → end_of_all front ≤ to
-front_ends old front to h = omega (arith, h.ends)
-
 pub run_put_at : (old start front joined new : List Area) (area : Area) (begin : ℕ) → start ≡ [] → begin ≡ area.first → AreMaximal None old → area.first + area.count ≤ 2 ^ 35 →
     HasParts start front old 0 begin → IsExtended front joined area → HasParts joined new old (begin + area.count) (2 ^ 35) → HasRun old new area
 run_put_at old start front joined new area begin s e m w a b c =

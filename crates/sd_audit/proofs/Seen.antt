@@ -12,19 +12,16 @@ use Rattle.std.specs.Map.{keys_of}
 use Rattle.std.specs.Ordering.{nat_cmp, is_lt}
 use Rattle.std.specs.Prelude.{T}
 use Rattle.std.specs.declared.cmp.Ordering.TheVariants.{Less}
+use Rattle.std.proofs.Math.Facts.{yes_and}
 pub use Rattle.sd_fold.proofs.Seen.{Rise, mapped, seen, pages_in}
-
-both : (a b : Bool) → T a → T b → T (a && b)
-both true b p q = q
-both false b p q = p
 
 below : {X : Type 0} (k : ℕ) (es : List (ℕ × X)) → AllByRecursion (λ y. nat_cmp k y ≡ Less) (keys_of es) → T (below_all nat_cmp k es)
 below k [] h = tt
-below k (e ∷ es) h = both _ _ (subst (λ o. T (is_lt o)) (sym h.0) tt) (below k es h.1)
+below k (e ∷ es) h = yes_and _ _ (subst (λ o. T (is_lt o)) (sym h.0) tt) (below k es h.1)
 
 is_in_order : {X : Type 0} (es : List (ℕ × X)) → Rise es → T (is_sorted nat_cmp es)
 is_in_order [] h = tt
-is_in_order (e ∷ es) h = both _ _ (below e.0 es (sorted_head nat_cmp e.0 (keys_of es) h)) (is_in_order es (sorted_tail nat_cmp e.0 (keys_of es) h))
+is_in_order (e ∷ es) h = yes_and _ _ (below e.0 es (sorted_head nat_cmp e.0 (keys_of es) h)) (is_in_order es (sorted_tail nat_cmp e.0 (keys_of es) h))
 
 module _ {X Y : Type 0} (f : X → Y) where
   pub rise_mapped : (es : List (ℕ × X)) → Rise es → Rise (mapped f es)

@@ -6,7 +6,7 @@ use Rattle.std.specs.List.{slice_get}
 use Rattle.std.proofs.lemmas.Bool.{cases_lt}
 use Rattle.std.proofs.lemmas.List.{length-append, length-map}
 use Rattle.std.proofs.lemmas.List.Elements.{All-contains}
-use Rattle.std.proofs.lemmas.Option.{slice_get-get_or, slice_get-map, none-some, same_Some, slice_get_within}
+use Rattle.std.proofs.lemmas.Option.{slice_get-get_or, slice_get-map, none-some, same_Some, slice_get_within, slice_get_past}
 use Rattle.sd_image.specs.declared.run.RunKind.TheVariants.{Data}
 use Rattle.sd_image.specs.Laws.{FewPages, OneKind, OnePlace}
 use Rattle.sd_image.specs.Shows.{pages_of}
@@ -36,11 +36,6 @@ append-nil : {X : Type 0} (xs : List X) → xs ++ [] ≡ xs
 append-nil [] = refl
 append-nil (x ∷ xs) = ap (λ ys. x ∷ ys) (append-nil xs)
 
-past_end : {X : Type 0} (xs : List X) (k : ℕ) → length xs ≤ k → slice_get xs k ≡ None
-past_end [] k past = refl
-past_end (x ∷ xs) zero past = absurd (omega (arith, past))
-past_end (x ∷ xs) (suc k) past = past_end xs k (omega (arith, past))
-
 -- the images that a list of references leads to
 abbrev pub opened_in : List (Bor Opened) → List Opened
 opened_in = map (λ (i : Bor Opened). i.now)
@@ -49,7 +44,7 @@ pub image_at : (list : List (Bor Opened)) (k : ℕ) (i : Bor Opened) → k < len
 image_at list k i less is = slice_get-map (λ (i : Bor Opened). i.now) list k ∙ ap (option_map (λ (i : Bor Opened). i.now)) (slice_get-get_or list k i less ∙ ap Some (sym is))
 
 pub no_image_at : (list : List (Bor Opened)) (k : ℕ) → length list ≤ k → slice_get (opened_in list) k ≡ None
-no_image_at list k past = past_end (opened_in list) k (omega (arith, past, length-map list (λ (i : Bor Opened). i.now)))
+no_image_at list k past = slice_get_past (opened_in list) k (omega (arith, past, length-map list (λ (i : Bor Opened). i.now)))
 
 -- ---- building it
 

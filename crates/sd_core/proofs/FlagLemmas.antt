@@ -1,6 +1,7 @@
 -- Whether the next checkpoint goes on from the tip, and whether a gate's opening was taken up.
 use Rattle.std.proofs.Common.{◌≡◌, ◌⊎◌, ℕ, Bool, true, false, ◌||◌, ◌&&◌, if◌then◌else◌, List, [], ◌∷◌, ◌++◌, Option, Some, None, IfSome, IsSome, is_some, refl, sym, ◌∙◌, ap, subst, inl, inr}
 use Rattle.std.proofs.lemmas.Option.{same_Some}
+use Rattle.std.proofs.Math.Bool.{or-true}
 use Rattle.sd_gate.specs.declared.answer.Answer.{Answer}
 use Rattle.sd_gate.specs.declared.slot_state.SlotState.{SlotState}
 use Rattle.sd_gate.specs.declared.slot_state.SlotState.TheVariants.{Raw, Closed, Open as OpenSlot, Writing}
@@ -161,8 +162,4 @@ table_sure committing last opens swept now is sure commits = is ∙ by committin
     by false false false had commits_now = no_true commits_now
 
 pub table_gated : (last swept now : Bool) → now ≡ (swept || last) → last ≡ true → now ≡ true
-table_gated last swept now is dump = is ∙ ap (λ l. swept || l) dump ∙ by swept
-  where
-    by : (s : Bool) → (s || true) ≡ true
-    by true = refl
-    by false = refl
+table_gated last swept now is dump = is ∙ ap (λ l. swept || l) dump ∙ or-true swept

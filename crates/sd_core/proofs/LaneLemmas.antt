@@ -1,6 +1,7 @@
 -- In which lane a request of the dumper is, and what is out once its outcome was handed in.
 use Rattle.std.proofs.Common.{◌≡◌, ◌⊎◌, ℕ, suc, ◌<◌, ◌&&◌, Bool, true, false, List, ◌∷◌, is_none, Option, Some, None, slice_get, slice_set, refl, sym, ◌∙◌, ap, subst, inl, inr, arith}
 use Rattle.std.proofs.lemmas.Option.{same_Some}
+use Rattle.std.proofs.Math.Bool.{and-false}
 use Rattle.sd_gate.specs.declared.call.Call.TheVariants.{Write}
 use Rattle.sd_gate.specs.declared.phase.Phase.{Phase}
 use Rattle.sd_gate.specs.declared.request_id.RequestId.{RequestId}
@@ -104,11 +105,7 @@ pub write_closes_none : (core : Parts) (running : Running) (image : Making) (k :
 write_closes_none core running image k phase id sound is making out =
     let w = at_work core running sound is in
     let page = (subst (λ i. HasWrites running i) making w.writes).0.each k id out in
-    ap (closes_for_sure phase) page.call ∙ and_false (is_being_closed phase)
-  where
-    and_false : (b : Bool) → (b && false) ≡ false
-    and_false true = refl
-    and_false false = refl
+    ap (closes_for_sure phase) page.call ∙ and-false (is_being_closed phase)
 
 -- ---- what is out then
 

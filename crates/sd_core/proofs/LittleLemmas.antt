@@ -2,7 +2,7 @@
 use Rattle.std.proofs.Common.{◌≡◌, ◌⊎◌, ◌↔◌, ℕ, ◌==◌, ◌&&◌, ◌||◌, Bool, true, false, if◌then◌else◌, [], ◌∷◌, ◌++◌, Contains, Option, Some, None, IfSome, IsSome, is_some, not, refl, sym, ◌∙◌, ap, subst, inr, inl}
 use Rattle.std.specs.List.{list_any}
 use Rattle.std.specs.Option.{option_map}
-use Rattle.std.proofs.lemmas.Bool.{both_ways, eq-eqb}
+use Rattle.std.proofs.lemmas.Bool.{both_ways, eq-eqb, or_parts}
 use Rattle.std.proofs.lemmas.Option.{same_Some}
 use Rattle.sd_areas.specs.PlainMemory as plain
 use Rattle.sd_gate.specs.Requests.{Asked, Made}
@@ -50,20 +50,16 @@ use Rattle.sd_core.proofs.WorkLemmas.{at_work}
 
 -- ---- the visits of an image
 
-either : (one other : Bool) → (one || other) ≡ false → (one ≡ false) × (other ≡ false)
-either true other is = absurd (both_ways true is refl)
-either false other is = (refl, is)
-
 -- none under a serial that no mark has
 pub no_visits : (base : Base) (items : Marked) (serial : ℕ) → list_any (is_of serial) items ≡ false → visits_of base items serial ≡ []
 no_visits base [] serial none = refl
 no_visits base (Told entry ∷ items) serial none = no_visits base items serial none
-no_visits base (Noted (Start s) ∷ items) serial none = no_visits base items serial (either (s == serial) (list_any (is_of serial) items) none).1
+no_visits base (Noted (Start s) ∷ items) serial none = no_visits base items serial (or_parts (s == serial) (list_any (is_of serial) items) none).1
 no_visits base (Noted (Visit s space page) ∷ items) serial none =
-    let both = either (s == serial) (list_any (is_of serial) items) none in
+    let both = or_parts (s == serial) (list_any (is_of serial) items) none in
     ap (λ b. if b then visits_of base items serial ++ (record { place = (space, page); soft_dirty = is_due base items space page }) ∷ [] else visits_of base items serial) both.0
     ∙ no_visits base items serial both.1
-no_visits base (Noted (Table s) ∷ items) serial none = no_visits base items serial (either (s == serial) (list_any (is_of serial) items) none).1
+no_visits base (Noted (Table s) ∷ items) serial none = no_visits base items serial (or_parts (s == serial) (list_any (is_of serial) items) none).1
 
 -- a visit finds whether the page is due
 pub visit_more : DueLaws → (base : Base) (items : Marked) (before after : Contents) (image next : Making) (visit : PageVisit) (serial : ℕ) → IsTracked base items before

@@ -1,6 +1,6 @@
 -- The next call of an image's plan is asked for.
 use Rattle.std.proofs.Common.{◌≡◌, ◌≢◌, ◌⊎◌, ℕ, ◌<◌, ◌≤◌, ◌==◌, ◌&&◌, ◌||◌, Bool, true, false, if◌then◌else◌, List, [], ◌∷◌, Option, Some, None, IfSome, Contains, option_and_then, slice_get, slice_set, refl, sym, ◌∙◌, ap, subst, inl, inr, arith}
-use Rattle.std.proofs.lemmas.Bool.{cases_eq, false≢true}
+use Rattle.std.proofs.lemmas.Bool.{cases_eq, false≢true, or_parts}
 use Rattle.std.proofs.lemmas.Option.{same_Some}
 use Rattle.sd_disk.specs.Contents.{file_at}
 use Rattle.sd_image.specs.declared.header.Header.{Header}
@@ -169,12 +169,8 @@ module _ (quiet : QuietSteps) (gates : GateSteps) (made : MadeLaws) (follows : C
 
   -- ---- whether the dump's gate is being opened
 
-  neither : (a b : Bool) → (a || b) ≡ false → (a ≡ false) × (b ≡ false)
-  neither true b is = absurd (false≢true (sym is))
-  neither false b is = (refl, is)
-
   sure_still : new.committing ≡ false → b.dump ≡ None
-  sure_still is = b.knows.sure (neither old.committing (commits_dump running request.id.call) (sym s.committing ∙ is)).0
+  sure_still is = b.knows.sure (or_parts old.committing (commits_dump running request.id.call) (sym s.committing ∙ is)).0
 
   -- ---- a quiet call
 
@@ -314,7 +310,7 @@ module _ (quiet : QuietSteps) (gates : GateSteps) (made : MadeLaws) (follows : C
     sure_then is = by_place (is_last running) refl
       where
         no_commit : commits_dump running request.id.call ≡ false
-        no_commit = (neither old.committing (commits_dump running request.id.call) (sym s.committing ∙ is)).1
+        no_commit = (or_parts old.committing (commits_dump running request.id.call) (sym s.committing ∙ is)).1
 
         by_place : (last : Bool) → is_last running ≡ last → pending_dump image.order.kind i ≡ None
         by_place true last = absurd (false≢true (sym no_commit ∙ (ap (λ l. l && opens_gate request.id.call) last ∙ ap opens_gate q.call)))

@@ -1,6 +1,7 @@
 -- What a slot is once an outcome of its plan's call was handed in.
 use Rattle.std.proofs.Common.{◌≡◌, ◌≢◌, ◌⊎◌, ℕ, zero, suc, ◌≤◌, ◌&&◌, nat_le, nat_eq, slice_index, Bool, true, false, List, [], ◌∷◌, drop, length, map, Option, Some, None, refl, sym, ◌∙◌, ap, subst, inl, inr, arith}
-use Rattle.std.proofs.lemmas.Bool.{and_from, eq-eqb, false≢true, le-leb}
+use Rattle.std.proofs.lemmas.Bool.{and_from, eq-eqb, false≢true, le-leb, and_parts}
+use Rattle.std.proofs.Math.Bool.{and-false}
 use Rattle.sd_image.specs.declared.header.Header.{Header}
 use Rattle.sd_image.specs.Image.{Image, IsImage, gate, image_text, is_open}
 use Rattle.sd_image.specs.Table.{Listed, table_text}
@@ -26,10 +27,6 @@ use Rattle.sd_crash_safety.specs.DumperOutcomes.{closes_for_sure, is_being_close
 use Rattle.sd_crash_safety.specs.InUse.{ClosesBody, IsFilledSlot, IsFormatting, IsSlotFor, is_opening_at, kind_of_call, pending_dump}
 use Rattle.sd_store_laws.proofs.GateSteps.{is_closed as writes_closed}
 use Rattle.sd_crash_safety.proofs.Leads.{leads_end, leads_head}
-
-pub and_false : (b : Bool) → (b && false) ≡ false
-and_false true = refl
-and_false false = refl
 
 -- ---- what is closed is believed so in its phase
 
@@ -73,7 +70,7 @@ formatted_sync _ body belief may is = is
 -- no other call than a sync closes for sure
 only_syncs : (phase : Phase) (call : Call) → call ≢ Sync → closes_for_sure phase call ≡ false
 only_syncs phase Sync other = absurd (other refl)
-only_syncs phase _ other = and_false (is_being_closed phase)
+only_syncs phase _ other = and-false (is_being_closed phase)
 
 -- ---- the calls that are left
 
@@ -301,10 +298,6 @@ module _ (order : ImageOrder) (i : Image) (plan next : Planned) (phase : Phase) 
 
 -- ---- a sync behind a close
 
-both_true : (a b : Bool) → (a && b) ≡ true → (a ≡ true) × (b ≡ true)
-both_true true b is = (refl, is)
-both_true false b is = absurd (false≢true is)
-
 is_closing_phase : (phase : Phase) → is_being_closed phase ≡ true → phase ≡ ClosingPhase
 is_closing_phase ClosingPhase is = refl
 is_closing_phase _ is = absurd (false≢true is)
@@ -315,7 +308,7 @@ is_sync_call _ is = absurd (false≢true is)
 
 pub syncs_closing : (phase : Phase) (call : Call) → closes_for_sure phase call ≡ true → (phase ≡ ClosingPhase) × (call ≡ Sync)
 syncs_closing phase call is =
-    let both = both_true (is_being_closed phase) (is_sync call) is in
+    let both = and_parts (is_being_closed phase) (is_sync call) is in
     (is_closing_phase phase both.0, is_sync_call call both.1)
 
 -- only a slot that is formatted is closed so, and its image is in doubt

@@ -2,6 +2,7 @@
 use Rattle.std.proofs.Common.{◌≡◌, ◌≢◌, ℕ, suc, ◌<◌, Bool, true, false, List, [], ◌∷◌, length, Option, Some, None, IfSome, slice_get, slice_set, refl, sym, ◌∙◌, ap, subst, inl, inr, arith}
 use Rattle.std.proofs.lemmas.Bool.{cases_eq}
 use Rattle.std.proofs.lemmas.Option.{same_Some, slice_get_within}
+use Rattle.std.proofs.Math.Bool.{and-false}
 use Rattle.sd_disk.specs.Contents.{file_at}
 use Rattle.sd_image.specs.declared.header.Header.{Header}
 use Rattle.sd_image.specs.Image.{Image, IsImage, gate, image_text}
@@ -56,7 +57,7 @@ use Rattle.sd_crash_safety.specs.StoreSteps.{QuietSteps}
 use Rattle.sd_crash_safety.specs.View.{CoreView, history_of}
 use Rattle.sd_crash_safety.proofs.HandsImage.{SlotGoesOn, calls_of_done, hands_slot}
 use Rattle.sd_crash_safety.proofs.HandsLaw.{file_set, opening_before}
-use Rattle.sd_crash_safety.proofs.HandsSlot.{and_false, belief_after, closed_exact}
+use Rattle.sd_crash_safety.proofs.HandsSlot.{belief_after, closed_exact}
 use Rattle.sd_merge.proofs.MergingLemmas.{stays as copy_stays}
 use Rattle.sd_crash_safety.proofs.MergeStays.{holds_same, slots_at}
 use Rattle.sd_crash_safety.proofs.MergerOutcome.{SlotHandedIn, asked_then, believes_handed, bodies_then, count_handed, has_handed, ids_handed, others_handed, phases_then, slot_handed, store_same, use_handed}
@@ -477,7 +478,7 @@ module _ (quiet : QuietSteps) (making : MakingLaws) (merges : MergeLaws) (files_
     has_written = has_handed old new call phase asked bodies files s.outcome at b quiet
 
     no_close : closes_for_sure phase call.request.id.call ≡ false
-    no_close = ap (λ x. closes_for_sure phase x) write.call ∙ and_false (is_being_closed phase)
+    no_close = ap (λ x. closes_for_sure phase x) write.call ∙ and-false (is_being_closed phase)
 
     catalog_still : new.catalog ≡ old.catalog
     catalog_still = subst (λ sure. LeavesCatalog sure call.request.id.slot old.catalog new.catalog) no_close s.catalog

@@ -9,6 +9,7 @@ use Rattle.std.specs.Map.{lookup}
 use Rattle.std.specs.BTreeMap.{BTreeMap, is_at}
 use Rattle.std.specs.BTreeMap.Range.{IsFromStart, IsLeBy}
 use Rattle.std.specs.declared.ops.Bound.TheVariants.{Included}
+use Rattle.std.proofs.lemmas.Option.{same_Some}
 use Rattle.sd_areas.specs.declared.snapshot_page.SnapshotPage.{SnapshotPage}
 use Rattle.sd_areas.specs.declared.snapshot.Snapshot.{Snapshot}
 use Rattle.sd_areas.specs.Memory.{memory_of, space_of}
@@ -50,15 +51,12 @@ pub on_ok : {A E : Type 0} (r : Result A E) (P Q : Type 0) → (P → Q) → OnO
 on_ok (Ok x) P Q f p = f p
 on_ok (Err e) P Q f p = p
 
-pub some_is : {A : Type 0} (a b : A) → Some a ≡ Some b → a ≡ b
-some_is a b e = cc
-
 -- a page that was taken out, changed and put back
 pub put_changed : (old mid new : Space) (k : ℕ) (change : Page → Page) (found : Page) → mid ≡ finmap.remove old k → Some found ≡ finmap.get old k
     → new ≡ finmap.insert mid k (change found) → (before : Page) → finmap.get old k ≡ Some before → new ≡ finmap.insert old k (change before)
 put_changed old mid new k change found taken there put before e =
     put ∙ ap (λ m. finmap.insert m k (change found)) taken ∙ put_back old k (change found)
-    ∙ ap (λ page. finmap.insert old k (change page)) (some_is found before (there ∙ e))
+    ∙ ap (λ page. finmap.insert old k (change page)) (same_Some found before (there ∙ e))
 
 -- a page of a run was changed, where it is there
 pub changed_step : (change : Page → Page) (old now new : Space) (first k : ℕ) → first ≤ k → now ≡ change_within change old first (k - first)

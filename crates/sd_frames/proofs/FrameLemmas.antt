@@ -4,6 +4,7 @@ use Rattle.std.proofs.lemmas.Bool.Decides.{nat_tests}
 use Rattle.std.proofs.lemmas.Bool.{cases_Bool, cases_eq, cases_lt, or_cases, or_parts, or_left, or_right, eq-eqb, eqb-false}
 use Rattle.std.specs.List.{slice_get}
 use Rattle.std.specs.Option.{option_and_then, option_map_or, IfSome}
+use Rattle.std.proofs.lemmas.Option.{slice_get_past}
 use Rattle.sd_frames.specs.Bytes.{zeros}
 use Rattle.sd_frames.specs.Frames.{Cell, Pool, cell_at, count_at, cell_bytes, SetsCell, IsExhausted, HasFree}
 use Rattle.sd_frames.specs.declared.frame_cell.FrameCell.{FrameCell}
@@ -155,20 +156,8 @@ sets_cell size slots k s l = record {
   others = λ other n. at_cell (set slots k s) other ∙ ap (option_and_then cell_of) (got_other slots k other s n) ∙ sym (at_cell slots other);
 }
 
-pub pushes_cell : (size : ℕ) (slots : List FrameCell) (d : Cell) → SetsCell (record { size = size; cells = cells_of slots }) (record { size = size; cells = cells_of (slots ++ Used d ∷ []) }) (length slots) (Some d)
-pushes_cell size slots d = record {
-  size = refl;
-  here = at_cell (slots ++ Used d ∷ []) (length slots) ∙ ap (option_and_then cell_of) (got_pushed slots (Used d));
-  others = λ other n. at_cell (slots ++ Used d ∷ []) other ∙ ap (option_and_then cell_of) (got_before slots (Used d) other n) ∙ sym (at_cell slots other);
-}
-
-past : {X : Type 0} (xs : List X) (i : ℕ) → length xs ≤ i → slice_get xs i ≡ None
-past [] i l = refl
-past (x ∷ xs) zero l = absurd (omega arith)
-past (x ∷ xs) (suc i) l = past xs i (omega arith)
-
 pub past_none : (slots : List FrameCell) (k : ℕ) → length slots ≤ k → get_or (cells_of slots) k None ≡ None
-past_none slots k l = at_cell slots k ∙ ap (option_and_then cell_of) (past slots k l)
+past_none slots k l = at_cell slots k ∙ ap (option_and_then cell_of) (slice_get_past slots k l)
 
 pub free_none : (slots : List FrameCell) (k : ℕ) (next : Option ℕ) → slice_get slots k ≡ Some (Free next) → get_or (cells_of slots) k None ≡ None
 free_none slots k next e = at_cell slots k ∙ ap (option_and_then cell_of) e

@@ -1,6 +1,7 @@
 -- A table's reason is the least of the first item at which a rule breaks.
 use Rattle.std.proofs.Common.{◌≡◌, ◌⊎◌, ◌<◌, ◌≤◌, ℕ, zero, suc, Bool, true, false, not, cond, ◌&&◌, eqb, ltb, leb, List, [], ◌∷◌, take, drop, length, Option, Some, None, Result, Ok, Err, refl, sym, ◌∙◌, ap, subst, arith, inl, inr}
 use Rattle.std.proofs.lemmas.Bool.{cases_lt, eq-eqb, ne_eqb}
+use Rattle.std.proofs.Math.Bool.{and-false}
 use Rattle.sd_areas.specs.declared.area.Area.{Area}
 use Rattle.sd_image.specs.declared.header.Header.{Header}
 use Rattle.sd_image.specs.declared.header.Kind.{Kind}
@@ -36,12 +37,8 @@ none_low n (rule ∷ rules) q rising low =
     rw (ne_eqb (reason_number rule.0) (reason_number q) (λ e. let le = rising.0 in absurd (omega arith)))
     (none_low (suc (reason_number rule.0)) rules q rising.1 (let le = rising.0 in omega arith))
 
-and_false : (b : Bool) → (b && false) ≡ false
-and_false true = refl
-and_false false = refl
-
 kept_does_not_apply : (c : Reason) (rules : List (Reason × Bool)) (q : Reason) → applies ((c, false) ∷ rules) q ≡ applies rules q
-kept_does_not_apply c rules q = rw (and_false (eqb (reason_number c) (reason_number q))) refl
+kept_does_not_apply c rules q = rw (and-false (eqb (reason_number c) (reason_number q))) refl
 
 broken_applies : (c : Reason) (rules : List (Reason × Bool)) → applies ((c, true) ∷ rules) c ≡ true
 broken_applies c rules = rw (eq-eqb (reason_number c) (reason_number c) refl) refl

@@ -1,6 +1,6 @@
 -- Runs that grow by a page at their end.
 use Rattle.std.proofs.Common.{◌≡◌, ℕ, zero, suc, ◌<◌, ◌≤◌, ◌+◌, ◌^◌, Bool, true, false, nat_eq, ◌&&◌, IsTrue, List, [], ◌∷◌, ◌++◌, Option, Some, None, map, filter, refl, sym, ◌∙◌, ap, subst, arith, append_assoc, append-nil, cond}
-use Rattle.std.proofs.lemmas.Bool.{false≢true, eqb-true}
+use Rattle.std.proofs.lemmas.Bool.{false≢true, eqb-true, and_parts}
 use Rattle.std.proofs.lemmas.List.{map-append}
 use Rattle.std.proofs.lemmas.List.Elements.{filter-append}
 use Rattle.std.proofs.lemmas.Bool.Decides.{nat_tests}
@@ -83,21 +83,17 @@ ways_single : (page : ℕ) (kind : RunKind) → run_ways (record { first = page;
 unfolding pages_from
 ways_single page kind = refl
 
-both : (a b : Bool) → (a && b) ≡ true → (a ≡ true) × (b ≡ true)
-both true true e = (refl, refl)
-both _ _ e = absurd (false≢true e)
-
 -- a page that goes on is the one behind the run
 pub ends_at : (run : Run) (page : ℕ) (kind : RunKind) → is_continued run page kind ≡ true → run.first + run.count ≡ page
 ends_at run page kind goes_on =
-    eqb-true (run.first + run.count) page (both (nat_eq (run_kind_number run.kind) (run_kind_number kind)) (nat_eq (run.first + run.count) page) goes_on).1
+    eqb-true (run.first + run.count) page (and_parts (nat_eq (run_kind_number run.kind) (run_kind_number kind)) (nat_eq (run.first + run.count) page) goes_on).1
 
 -- the last run with a page more
 pub longer_runs : (parent : ℕ) (pages : List PageWay) (front : List Run) (last : Run) (page : ℕ) (kind : RunKind)
     → AreRunsOf parent pages (front ++ last ∷ []) → page < 2 ^ 35 → is_continued last page kind ≡ true
     → AreRunsOf parent (pages ++ (page, kind) ∷ []) (front ++ (record { first = last.first; count = last.count + 1; kind = last.kind }) ∷ [])
 longer_runs parent pages front last page kind are within goes_on =
-    let tests = both (nat_eq (run_kind_number last.kind) (run_kind_number kind)) (nat_eq (last.first + last.count) page) goes_on in
+    let tests = and_parts (nat_eq (run_kind_number last.kind) (run_kind_number kind)) (nat_eq (last.first + last.count) page) goes_on in
     let ends : last.first + last.count ≡ page = ends_at last page kind goes_on in
     let same : last.kind ≡ kind = kind_number_once last.kind kind (eqb-true (run_kind_number last.kind) (run_kind_number kind) tests.0) in
     let split = AreRuns-front parent None front last are.maximal in

@@ -2,6 +2,7 @@
 use Rattle.std.proofs.Common.{◌≡◌, ◌<◌, ◌≤◌, ◌+◌, ℕ, suc, Bool, true, false, cond, ◌||◌, List, [], ◌∷◌, ◌++◌, length, get_or, Result, Ok, Err, refl, sym, ◌∙◌, ap, subst, arith, inl, inr}
 use Rattle.std.specs.List.{AllByRecursion}
 use Rattle.std.proofs.lemmas.Bool.{cases_lt}
+use Rattle.std.proofs.Math.Bool.{or-false}
 use Rattle.sd_image.specs.declared.header.Header.{Header}
 use Rattle.sd_image.specs.declared.header.Version.{Version}
 use Rattle.sd_image.specs.declared.header.Kind.{Kind}
@@ -98,14 +99,10 @@ kept_same : (a b : Reason → Bool) (rules : List Reason) → AllByRecursion (λ
 kept_same a b [] same = refl
 kept_same a b (rule ∷ rules) same = rw (same.0, kept_same a b rules same.1) refl
 
-or_false : (b : Bool) → (b || false) ≡ b
-or_false true = refl
-or_false false = refl
-
 bytes_part : (bytes : List ℕ) (len : ℕ) → rules_kept (breaks_header bytes len) of_bytes ≡ bytes_kept bytes
 unfolding bytes_kept
 bytes_part bytes len = kept_same (breaks_header bytes len) (breaks_bytes bytes) of_bytes
-    (or_false (breaks_bytes bytes reason.Magic), (or_false (breaks_bytes bytes reason.Version), (or_false (breaks_bytes bytes reason.Kind), (or_false (breaks_bytes bytes reason.Reserved), tt))))
+    (or-false (breaks_bytes bytes reason.Magic), (or-false (breaks_bytes bytes reason.Version), (or-false (breaks_bytes bytes reason.Kind), (or-false (breaks_bytes bytes reason.Reserved), tt))))
 
 abbrev header_of : List ℕ → Header
 header_of bytes = fields_of (form_of bytes) bytes

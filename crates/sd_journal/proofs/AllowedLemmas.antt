@@ -1,5 +1,6 @@
 -- What each entry makes of what a journal allows.
 use Rattle.std.proofs.Common.{◌≡◌, ◌≢◌, ◌⊎◌, ◌↔◌, ℕ, ◌∷◌, Option, Some, None, refl, sym, ◌∙◌, ap, subst, inl, inr}
+use Rattle.std.proofs.lemmas.Option.{same_Some}
 use Rattle.sd_areas.specs.PlainMemory.{PlainMemory}
 use Rattle.sd_command.specs.declared.command.Command.{Command}
 use Rattle.sd_command.specs.declared.reply.Reply.{Reply}
@@ -7,7 +8,7 @@ use Rattle.sd_journal.specs.declared.entry.Entry.TheVariants.{Applied, Freeze, A
 use Rattle.sd_journal.specs.History.{Base, History, memory_after, at_freeze, last, pending, unless_it_is}
 use Rattle.sd_journal.specs.Legal.{IsAbove, IsLegal}
 use Rattle.sd_journal.specs.Allowed.{Shown, shown_number, IsLastPair, IsPendingPair, IsAllowed}
-use Rattle.sd_journal.proofs.HistoryLemmas.{same, some_is, none_is_some, unless_some, at_freeze-other, at_freeze-own, last_below}
+use Rattle.sd_journal.proofs.HistoryLemmas.{same, none_is_some, unless_some, at_freeze-other, at_freeze-own, last_below}
 
 pub applied_allows : (base : Base) (history : History) (seat : ℕ) (command : Command) (reply : Reply) (shown : Shown)
     → IsAllowed base (Applied seat command reply ∷ history) shown ↔ IsAllowed base history shown
@@ -27,10 +28,10 @@ freeze_leaves base history n None none above (inr never) = absurd never
 freeze_leaves base history n (Some pair) none above (inl was) =
     inl (inl (was.0, sym (at_freeze-other base history n pair.0 (last_below base history n pair.0 above was.0)) ∙ was.1))
 freeze_leaves base history n (Some pair) none above (inr is) =
-    let own : n ≡ pair.0 = some_is n pair.0 is.0 in
+    let own : n ≡ pair.0 = same_Some n pair.0 is.0 in
     let memory : Some (memory_after base history) ≡ Some pair.1 =
     sym (at_freeze-own base history n) ∙ ap (λ k. at_freeze base (Freeze n ∷ history) k) own ∙ is.1 in
-    inr (pair_is n pair.0 (memory_after base history) pair.1 own (some_is (memory_after base history) pair.1 memory))
+    inr (pair_is n pair.0 (memory_after base history) pair.1 own (same_Some (memory_after base history) pair.1 memory))
 
 freeze_keeps : (base : Base) (history : History) (n : ℕ) (shown : Shown) → pending history ≡ None → IsAbove base history n
     → IsAllowed base history shown → IsAllowed base (Freeze n ∷ history) shown

@@ -1,5 +1,6 @@
 -- What is due stays due while a checkpoint is pending.
 use Rattle.std.proofs.Common.{◌≡◌, ℕ, Bool, true, false, cond, ◌||◌, [], ◌∷◌, Some, None, is_some, refl, sym, ◌∙◌, ap, inl, inr}
+use Rattle.std.proofs.lemmas.Option.{same_Some}
 use Rattle.sd_pagetable.specs.Tracking.{is_page, touches, clears}
 use Rattle.sd_command.specs.declared.command.Command.{Command}
 use Rattle.sd_command.specs.declared.refusal.Refusal.TheVariants.{Frozen}
@@ -13,7 +14,7 @@ use Rattle.sd_journal.specs.History.{Base, pending, unless_it_is}
 use Rattle.sd_journal.specs.Marked.{Item, Told, Noted, Marked, entries_of, is_due, item_event, memory_at, IsMarked}
 use Rattle.sd_journal.specs.TrackedLaws.{before_freeze, visited_since}
 use Rattle.sd_journal.proofs.BitLemmas.{due_more, due_passes}
-use Rattle.sd_journal.proofs.HistoryLemmas.{same, some_is, none_is_some}
+use Rattle.sd_journal.proofs.HistoryLemmas.{same, none_is_some}
 use Rattle.sd_journal.proofs.MarkedLemmas.{never, frozen_passes}
 
 -- a page that an event neither touches nor clears is as due as before
@@ -48,10 +49,10 @@ still base (Told (Applied seat command reply) ∷ earlier) frozen n space page m
     let other = unseen (clears space page (event_of command reply)) (visited_since earlier n space page) unvisited in
     passed_by base earlier n seat command reply space page is marked.0 ∙ still base earlier frozen n space page marked.1 is at other.1
 still base (Told (Freeze m) ∷ earlier) frozen n space page marked is at unvisited =
-    let own : m ≡ n = some_is m n is in
+    let own : m ≡ n = same_Some m n is in
     let here : before_freeze (Told (Freeze m) ∷ earlier) m ≡ Some earlier = rw (same m) refl in
     let found : Some earlier ≡ Some frozen = sym here ∙ ap (before_freeze (Told (Freeze m) ∷ earlier)) own ∙ at in
-    passes base (Told (Freeze m)) earlier space page refl refl ∙ ap (λ items. is_due base items space page) (some_is earlier frozen found)
+    passes base (Told (Freeze m)) earlier space page refl refl ∙ ap (λ items. is_due base items space page) (same_Some earlier frozen found)
 still base (Told (Acked m) ∷ earlier) frozen n space page marked is at unvisited = ended n m (ap (unless_it_is m) (sym marked.0) ∙ is)
 still base (Told (Cancelled m) ∷ earlier) frozen n space page marked is at unvisited = elim marked.0 [
   | inl was ↦ ended n m (ap (unless_it_is m) (sym was) ∙ is)

@@ -5,6 +5,7 @@ use Rattle.std.specs.Option.{option_map, option_map_or}
 use Rattle.std.specs.Ordering.{nat_cmp}
 use Rattle.std.specs.FinMap as finmap
 use Rattle.std.specs.FinMap.{get-empty}
+use Rattle.std.proofs.lemmas.Bool.{or_right, and_from}
 use Rattle.sd_areas.specs.Pages.{is_within, page_of, pages_for}
 use Rattle.sd_areas.specs.PlainMemory.{Page, Space, PlainMemory}
 use Rattle.sd_pagetable.specs.Nested.{inside, value_at, put_at, set_within, remove_within, change_within}
@@ -57,14 +58,6 @@ some_of (Some page) change e = refl
 
 here : (memory : PlainMemory) (s space page : ℕ) → space ≡ s → is_some (finmap.get (inside memory s) page) ≡ true → is_mapped memory space page ≡ true
 here memory s space page e some = subst (λ o. is_mapped memory o page ≡ true) (sym e) some
-
-both : (a b : Bool) → a ≡ true → b ≡ true → (a && b) ≡ true
-both true b e f = f
-both false b e f = e
-
-or_second : (a b : Bool) → b ≡ true → (a || b) ≡ true
-or_second true b e = refl
-or_second false b e = e
 
 -- a run is set, removed or changed
 set_mapped : (memory : PlainMemory) (s first count : ℕ) (x : Page) (space page : ℕ) (P : Type 0) → (s == space ≡ true → is_within first count page ≡ true → P)
@@ -131,13 +124,13 @@ pub was_mapped : (asked : Command) (answer : Reply) (memory : PlainMemory) (spac
     → (is_mapped memory space page ≡ true) ⊎ IsMadeBy asked answer space page
 was_mapped (command.Mmap s address bytes prot) told.Done memory space page mapped =
     set_mapped memory s (page_of address) (pages_for bytes) _ space page (IsMadeBy (command.Mmap s address bytes prot) told.Done space page)
-    (λ own within. record { touched = both _ _ own within; protected = both _ _ own within }) mapped
+    (λ own within. record { touched = and_from _ _ own within; protected = and_from _ _ own within }) mapped
 was_mapped (command.Munmap s address bytes) told.Done memory space page mapped = no_more memory space page (removed_run_mapped memory s (page_of address) (pages_for bytes) space page mapped)
 was_mapped (command.Mprotect s address bytes prot) told.Done memory space page mapped =
     no_more memory space page (changed_run_mapped memory s (page_of address) (pages_for bytes) (λ (found : Page). record found { prot = prot }) space page mapped)
 was_mapped (command.Fork parent) (told.Child child) memory space page mapped =
     put_mapped memory child (inside memory parent) space page (IsMadeBy (command.Fork parent) (told.Child child) space page) mapped
-    (λ e some. inr (record { touched = turned space child e; protected = or_second (parent == space) (child == space) (turned space child e) }))
+    (λ e some. inr (record { touched = turned space child e; protected = or_right (parent == space) (child == space) (turned space child e) }))
 was_mapped (command.Exit s) told.Done memory space page mapped = inl (removed_mapped memory s space page mapped)
 was_mapped (command.TryStore s address bytes) told.Done memory space page mapped = inl (stored_mapped memory s (page_of address) _ space page mapped)
 was_mapped (command.Store s address bytes) told.Done memory space page mapped = inl (stored_mapped memory s (page_of address) _ space page mapped)

@@ -3,6 +3,7 @@ use Rattle.std.proofs.Common.{◌≡◌, ℕ, ◌==◌, Bool, true, false, ◌&&
 use Rattle.std.proofs.lemmas.Bool.Decides.{nat_tests}
 use Rattle.std.specs.List.{list_any}
 use Rattle.std.specs.Option.{option_map}
+use Rattle.std.proofs.lemmas.Bool.{or_right, or_parts, and_parts}
 use Rattle.sd_areas.specs.PlainMemory.{PlainMemory}
 use Rattle.sd_pagetable.specs.Contents.{Contents, IsSound, page_at, plain_of}
 use Rattle.sd_pagetable.specs.EventEffects.{EventEffectLaw}
@@ -29,26 +30,6 @@ use Rattle.sd_journal.specs.Receipts.{is_command}
 use Rattle.sd_journal.proofs.BitLemmas.{bits_clear, bits_pass, bits_step}
 use Rattle.sd_journal.proofs.HistoryLemmas.{same}
 
-pub and_left : (a b : Bool) → (a && b) ≡ true → a ≡ true
-and_left true b e = refl
-and_left false b e = e
-
-pub and_right : (a b : Bool) → (a && b) ≡ true → b ≡ true
-and_right true b e = e
-and_right false b e = absurd (cc)
-
-pub or_left : (a b : Bool) → (a || b) ≡ false → a ≡ false
-or_left true b e = e
-or_left false b e = refl
-
-pub or_right : (a b : Bool) → (a || b) ≡ false → b ≡ false
-or_right true b e = absurd (cc)
-or_right false b e = e
-
-or_holds : (a b : Bool) → b ≡ true → (a || b) ≡ true
-or_holds true b e = refl
-or_holds false b e = e
-
 pub never : {P : Type 0} → true ≡ false → P
 never e = absurd (cc)
 
@@ -73,7 +54,7 @@ legal base (Noted mark ∷ earlier) marked = legal base earlier marked.1
 
 swept_told : (base : Base) (items : Marked) (entry : Entry) (serial : ℕ) → IsSwept base items serial → IsSwept base (Told entry ∷ items) serial
 swept_told base items entry serial swept space page above stays =
-    swept space page above (and_right (is_mapped (memory_at base (Told entry ∷ items)) space page) (stays_mapped base items serial space page) stays)
+    swept space page above ((and_parts (is_mapped (memory_at base (Told entry ∷ items)) space page) (stays_mapped base items serial space page) stays).1)
 
 still_swept : (base : Base) (items : Marked) (entry : Entry) → IfSome (visiting items) (λ serial. IsSwept base items serial)
     → IfSome (visiting items) (λ serial. IsSwept base (Told entry ∷ items) serial)
@@ -148,10 +129,10 @@ told base items contents (Reopened m) tracked may other = record {
 pub no_visit : (items : Marked) (serial : ℕ) → list_any (is_of serial) items ≡ false → last_visit items serial ≡ None
 no_visit [] serial e = refl
 no_visit (Told entry ∷ earlier) serial e = no_visit earlier serial e
-no_visit (Noted (Start s) ∷ earlier) serial e = no_visit earlier serial (or_right (s == serial) (list_any (is_of serial) earlier) e)
+no_visit (Noted (Start s) ∷ earlier) serial e = no_visit earlier serial ((or_parts (s == serial) (list_any (is_of serial) earlier) e).1)
 no_visit (Noted (Visit s space page) ∷ earlier) serial e =
-    rw (or_left (s == serial) (list_any (is_of serial) earlier) e) (no_visit earlier serial (or_right (s == serial) (list_any (is_of serial) earlier) e))
-no_visit (Noted (Table s) ∷ earlier) serial e = no_visit earlier serial (or_right (s == serial) (list_any (is_of serial) earlier) e)
+    rw ((or_parts (s == serial) (list_any (is_of serial) earlier) e).0) (no_visit earlier serial ((or_parts (s == serial) (list_any (is_of serial) earlier) e).1))
+no_visit (Noted (Table s) ∷ earlier) serial e = no_visit earlier serial ((or_parts (s == serial) (list_any (is_of serial) earlier) e).1)
 
 swept_start : (base : Base) (items : Marked) (serial : ℕ) → list_any (is_of serial) items ≡ false → IsSwept base (Noted (Start serial) ∷ items) serial
 swept_start base items serial new space page above stays =
@@ -188,9 +169,9 @@ swept_visit : PlainLaw → (base : Base) (items : Marked) (old : Contents) (seri
     → IsNextPage old.spaces (last_visit items serial) (Some (s, p)) → IsSwept base (Noted (Visit serial s p) ∷ items) serial
 swept_visit plain base items old serial s p tracked is next space page behind stays =
     let mapped : is_mapped (memory_at base items) space page ≡ true =
-    and_left (is_mapped (memory_at base items) space page) (stays_mapped base items serial space page) stays in
+    (and_parts (is_mapped (memory_at base items) space page) (stays_mapped base items serial space page) stays).0 in
     let stayed : stays_mapped base items serial space page ≡ true =
-    and_right (is_mapped (memory_at base items) space page) (stays_mapped base items serial space page) stays in
+    (and_parts (is_mapped (memory_at base items) space page) (stays_mapped base items serial space page) stays).1 in
     let swept : IsSwept base items serial = rw is at tracked.swept in
     let last : is_above (Some (s, p)) space page ≡ false = rw (same serial) at behind in
     go mapped stayed swept last (is_page s p space page) refl (is_above (last_visit items serial) space page) refl
@@ -201,7 +182,7 @@ swept_visit plain base items old serial s p tracked is next space page behind st
         → is_visited (Noted (Visit serial s p) ∷ items) serial space page ≡ true
     go mapped stayed swept last true here after e = rw (same serial, here) refl
     go mapped stayed swept last false other false e =
-        or_holds (serial == serial && is_page s p space page) (is_visited items serial space page) (swept space page e stayed)
+        or_right (serial == serial && is_page s p space page) (is_visited items serial space page) (swept space page e stayed)
     go mapped stayed swept last false other true e =
         never (sym (below s p space page last other) ∙ next.2 space page (in_memory plain base items old space page tracked.memory mapped) e)
 
@@ -232,7 +213,7 @@ tabled plain base items contents serial tracked is next =
   where
     now_mapped : (more : Marked) (space page : ℕ) → stays_mapped base more serial space page ≡ true → is_mapped (memory_at base more) space page ≡ true
     now_mapped [] space page e = never (sym e)
-    now_mapped (item ∷ earlier) space page e = and_left (is_mapped (memory_at base (item ∷ earlier)) space page) _ e
+    now_mapped (item ∷ earlier) space page e = (and_parts (is_mapped (memory_at base (item ∷ earlier)) space page) _ e).0
 
     all : IsSwept base items serial → (space page : ℕ) → stays_mapped base items serial space page ≡ true → is_visited items serial space page ≡ true
     all swept space page stays =

@@ -344,25 +344,3 @@ pub all_copied : (all rest copy : Entries) → IsCopied all rest copy → rest �
 all_copied all rest copy copied none = same_table _ _ (λ q. sym (copied.same q ∙ ap (λ (es : Entries). first_of (option_map page_of_snapshot (lookup (is_at (nat_cmp q)) es)) (finmap.get (space_of copy) q)) none))
 
 -- ---- spaces of a memory
-
--- a space whose pages were taken out, changed and put back
-pub changed_space : (old mid new : PlainMemory) (s : ℕ) (pages changed : Space) → mid ≡ finmap.remove old s → changed ≡ pages
-    → new ≡ finmap.insert mid s changed → new ≡ finmap.insert old s pages
-changed_space old mid new s pages changed taken is put =
-    put ∙ ap (λ p. finmap.insert mid s p) is ∙ ap (λ m. finmap.insert m s pages) taken ∙ put_back old s pages
-
-pub stored_space : (old mid new : PlainMemory) (s address : ℕ) (bytes : List ℕ) (pages changed : Space)
-    → mid ≡ finmap.remove old s → pages ≡ inside old s
-    → ((before : Page) → finmap.get pages (page_of address) ≡ Some before
-    → changed ≡ finmap.insert pages (page_of address) (record before { bytes = stored_at before.bytes (address % 4096) bytes }))
-    → IsSome (value_at old s (page_of address)) → new ≡ finmap.insert mid s changed → new ≡ after_store old s address bytes
-unfolding put_at
-stored_space old mid new s address bytes pages changed taken is mapped there put = go (value_at old s (page_of address)) refl there
-  where
-    go : (o : Option Page) → value_at old s (page_of address) ≡ o → IsSome o
-        → new ≡ option_map_or (λ (page : Page). put_at old s (page_of address) (record page { bytes = stored_at page.bytes (address % 4096) bytes })) o old
-    go None e some = absurd (let f : false ≡ true = some in cc)
-    go (Some before) e some =
-        let page : Page = record before { bytes = stored_at before.bytes (address % 4096) bytes } in
-        changed_space old mid new s (finmap.insert (inside old s) (page_of address) page) changed taken
-        (mapped before (ap (λ (p : Space). finmap.get p (page_of address)) is ∙ e) ∙ ap (λ (p : Space). finmap.insert p (page_of address) page) is) put

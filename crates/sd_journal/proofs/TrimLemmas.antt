@@ -1,6 +1,7 @@
 -- What a trim leaves of a legal journal: it allows the same, and makes the same memory.
 use Rattle.std.proofs.Common.{◌≡◌, ◌≢◌, ◌⊎◌, ◌↔◌, ℕ, ◌<◌, ◌==◌, false, [], ◌∷◌, ◌++◌, Option, Some, None, IfSome, is_some, if◌then◌else◌, refl, sym, ◌∙◌, ap, subst, arith, inl, inr}
 use Rattle.std.proofs.lemmas.Bool.Decides.{nat_tests}
+use Rattle.std.proofs.lemmas.Option.{same_Some}
 use Rattle.sd_areas.specs.PlainMemory.{PlainMemory}
 use Rattle.sd_command.specs.declared.refusal.Refusal.TheVariants.{Frozen}
 use Rattle.sd_command.specs.declared.reply.Reply.{Reply}
@@ -12,7 +13,7 @@ use Rattle.sd_journal.specs.History.{Base, History, memory_after, at_base, at_fr
 use Rattle.sd_journal.specs.Legal.{IsAbove, IsLegal}
 use Rattle.sd_journal.specs.Allowed.{Shown, IsAllowed, IsLastPair, IsPendingPair}
 use Rattle.sd_journal.specs.Trimming.{Ends, IsEnded, base_after}
-use Rattle.sd_journal.proofs.HistoryLemmas.{same, some_is, none_is_some, unless_some, at_freeze-other, at_freeze-own}
+use Rattle.sd_journal.proofs.HistoryLemmas.{same, none_is_some, unless_some, at_freeze-other, at_freeze-own}
 use Rattle.sd_journal.proofs.AllowedLemmas.{none_left}
 use Rattle.sd_journal.proofs.MarkedLemmas.{frozen_leaves}
 
@@ -55,7 +56,7 @@ above_pending : (base : Base) (history : History) (n k : ℕ) → IsLegal base h
 above_pending base [] n k legal e less = none_is_some n e
 above_pending base (Applied seat command reply ∷ earlier) n k legal e less = above_pending base earlier n k legal.1 e less
 above_pending base (Freeze m ∷ earlier) n k legal e less =
-    let below : m < k = subst (λ o. o < k) (sym (some_is m n e)) less in
+    let below : m < k = subst (λ o. o < k) (sym (same_Some m n e)) less in
     (below, above_more base earlier m k legal.0.1 below)
 above_pending base (Acked m ∷ earlier) n k legal e less = none_left base earlier m n (inl legal.0) e
 above_pending base (Cancelled m ∷ earlier) n k legal e less = none_left base earlier m n legal.0 e
@@ -172,7 +173,7 @@ frozen_memory base (Applied seat command reply ∷ earlier) n legal e =
     frozen_memory base earlier n legal.1 e
     ∙ ap Some (sym (ap (λ r. effect command r (memory_after base earlier)) is ∙ frozen_leaves command (memory_after base earlier)))
 frozen_memory base (Freeze m ∷ earlier) n legal e =
-    subst (λ k. at_freeze base (Freeze m ∷ earlier) k ≡ Some (memory_after base earlier)) (some_is m n e) (at_freeze-own base earlier m)
+    subst (λ k. at_freeze base (Freeze m ∷ earlier) k ≡ Some (memory_after base earlier)) (same_Some m n e) (at_freeze-own base earlier m)
 frozen_memory base (Acked m ∷ earlier) n legal e = none_left base earlier m n (inl legal.0) e
 frozen_memory base (Cancelled m ∷ earlier) n legal e = none_left base earlier m n legal.0 e
 frozen_memory base (Reopened m ∷ earlier) n legal e = none_is_some n e
@@ -214,13 +215,13 @@ IsFrom n k = (k ≡ n) ⊎ (n < k)
 pending_from : (base : Base) (kept : History) (n k : ℕ) → base.number ≡ Some n → IsLegal base kept → pending kept ≡ Some k → n < k
 pending_from base [] n k is legal e = none_is_some k e
 pending_from base (Applied seat command reply ∷ earlier) n k is legal e = pending_from base earlier n k is legal.1 e
-pending_from base (Freeze m ∷ earlier) n k is legal e = subst (λ o. n < o) (some_is m k e) (above_kept base earlier n m is legal.0.1)
+pending_from base (Freeze m ∷ earlier) n k is legal e = subst (λ o. n < o) (same_Some m k e) (above_kept base earlier n m is legal.0.1)
 pending_from base (Acked m ∷ earlier) n k is legal e = pending_from base earlier n k is legal.1 (unless_some m (pending earlier) k e)
 pending_from base (Cancelled m ∷ earlier) n k is legal e = pending_from base earlier n k is legal.1 (unless_some m (pending earlier) k e)
 pending_from base (Reopened m ∷ earlier) n k is legal e = none_is_some k e
 
 last_from : (base : Base) (kept : History) (n k : ℕ) → base.number ≡ Some n → IsLegal base kept → last base kept ≡ Some k → IsFrom n k
-last_from base [] n k is legal e = inl (some_is k n (sym e ∙ is))
+last_from base [] n k is legal e = inl (same_Some k n (sym e ∙ is))
 last_from base (Applied seat command reply ∷ earlier) n k is legal e = last_from base earlier n k is legal.1 e
 last_from base (Freeze m ∷ earlier) n k is legal e = last_from base earlier n k is legal.1 e
 last_from base (Acked m ∷ earlier) n k is legal e = inr (pending_from base earlier n k is legal.1 (legal.0 ∙ e))
@@ -358,7 +359,7 @@ some base (Applied seat command reply ∷ earlier) n was is other =
 some base (Freeze m ∷ earlier) n was is other =
     let found = some base earlier n was.1 is other in
     (Freeze m ∷ found.0, found.1, ap (λ h. Freeze m ∷ h) found.2, found.3)
-some base (Acked m ∷ earlier) n was is other = ([], Acked m ∷ earlier, refl, (some_is m n is, was.0 ∙ is))
+some base (Acked m ∷ earlier) n was is other = ([], Acked m ∷ earlier, refl, (same_Some m n is, was.0 ∙ is))
 some base (Cancelled m ∷ earlier) n was is other =
     let found = some base earlier n was.1 is other in
     (Cancelled m ∷ found.0, found.1, ap (λ h. Cancelled m ∷ h) found.2, found.3)

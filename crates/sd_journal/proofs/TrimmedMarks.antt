@@ -1,8 +1,10 @@
 -- What a trim leaves of a marked journal, and of the bits that it gives.
 use Rattle.std.proofs.Common.{◌≡◌, ◌⊎◌, ℕ, ◌==◌, ◌&&◌, ◌||◌, Bool, true, false, cond, [], ◌∷◌, ◌++◌, Option, Some, None, IfSome, is_some, if◌then◌else◌, refl, sym, ◌∙◌, ap, subst, inl, inr}
-use Rattle.std.proofs.lemmas.Bool.{eqb-true}
+use Rattle.std.proofs.lemmas.Bool.{eqb-true, or_parts}
 use Rattle.std.specs.List.{list_any}
 use Rattle.std.specs.Option.{option_map}
+use Rattle.std.proofs.lemmas.Option.{same_Some}
+use Rattle.std.proofs.Math.Bool.{and-false}
 use Rattle.sd_pagetable.specs.Contents.{Contents, page_at, plain_of}
 use Rattle.sd_pagetable.specs.Law.{PlainLaw}
 use Rattle.sd_pagetable.specs.Order.{is_above}
@@ -17,9 +19,9 @@ use Rattle.sd_journal.specs.Legal.{IsLegal}
 use Rattle.sd_journal.specs.Marked.{Item, Told, Noted, Marked, entries_of, events_of, is_due, is_mapped, is_of, is_visit, is_visited, item_event, last_visit, memory_at, starts, stays_mapped, visiting, IsMarked, IsSwept, IsTracked, MayBeNoted}
 use Rattle.sd_journal.specs.Trimming.{Ends, HasVisited, IsEnded, IsFolded, base_after}
 use Rattle.sd_journal.proofs.BitLemmas.{due_by, due_more, writable_more}
-use Rattle.sd_journal.proofs.HistoryLemmas.{none_is_some, some_is}
+use Rattle.sd_journal.proofs.HistoryLemmas.{none_is_some}
 use Rattle.sd_journal.proofs.MappedLemmas.{was_mapped}
-use Rattle.sd_journal.proofs.MarkedLemmas.{legal, never, no_visit, or_left, or_right}
+use Rattle.sd_journal.proofs.MarkedLemmas.{legal, never, no_visit}
 use Rattle.sd_journal.proofs.TrimLemmas as trim
 
 pub entries_behind : (kept folded : Marked) → entries_of (kept ++ folded) ≡ entries_of kept ++ entries_of folded
@@ -55,8 +57,8 @@ visiting_stays (Noted (Table serial) ∷ kept) folded n f = refl
 
 any_left : (test : Item → Bool) (one other : Marked) → list_any test (one ++ other) ≡ false → list_any test one ≡ false
 any_left test [] other e = refl
-any_left test (item ∷ one) other e = none (test item) (list_any test one) (or_left (test item) (list_any test (one ++ other)) e)
-    (any_left test one other (or_right (test item) (list_any test (one ++ other)) e))
+any_left test (item ∷ one) other e = none (test item) (list_any test one) ((or_parts (test item) (list_any test (one ++ other)) e).0)
+    (any_left test one other ((or_parts (test item) (list_any test (one ++ other)) e).1))
   where
     none : (a b : Bool) → a ≡ false → b ≡ false → (a || b) ≡ false
     none true b e f = e
@@ -64,7 +66,7 @@ any_left test (item ∷ one) other e = none (test item) (list_any test one) (or_
 
 any_right : (test : Item → Bool) (one other : Marked) → list_any test (one ++ other) ≡ false → list_any test other ≡ false
 any_right test [] other e = e
-any_right test (item ∷ one) other e = any_right test one other (or_right (test item) (list_any test (one ++ other)) e)
+any_right test (item ∷ one) other e = any_right test one other ((or_parts (test item) (list_any test (one ++ other)) e).1)
 
 any_same : (test : Item → Bool) (one other : Marked) → list_any test other ≡ false → list_any test (one ++ other) ≡ list_any test one
 any_same test [] other e = e
@@ -79,7 +81,7 @@ fresh base (Told (Acked m) ∷ kept) folded serial marked e = none_is_some seria
 fresh base (Told (Cancelled m) ∷ kept) folded serial marked e = none_is_some serial e
 fresh base (Told (Reopened m) ∷ kept) folded serial marked e = none_is_some serial e
 fresh base (Noted (Start s) ∷ kept) folded serial marked e =
-    subst (λ k. list_any (is_of k) folded ≡ false) (some_is s serial e) (any_right (is_of s) kept folded marked.0)
+    subst (λ k. list_any (is_of k) folded ≡ false) (same_Some s serial e) (any_right (is_of s) kept folded marked.0)
 fresh base (Noted (Visit s space page) ∷ kept) folded serial marked e = fresh base kept folded serial marked.1 e
 fresh base (Noted (Table s) ∷ kept) folded serial marked e = none_is_some serial e
 
@@ -112,36 +114,32 @@ cursor_stays base kept folded n serial marked f e = cursor_behind kept folded se
 no_visits : (folded : Marked) (serial space page : ℕ) → list_any (is_of serial) folded ≡ false → is_visited folded serial space page ≡ false
 no_visits [] serial space page e = refl
 no_visits (Told entry ∷ earlier) serial space page e = no_visits earlier serial space page e
-no_visits (Noted (Start s) ∷ earlier) serial space page e = no_visits earlier serial space page (or_right (s == serial) (list_any (is_of serial) earlier) e)
+no_visits (Noted (Start s) ∷ earlier) serial space page e = no_visits earlier serial space page ((or_parts (s == serial) (list_any (is_of serial) earlier) e).1)
 no_visits (Noted (Visit s at number) ∷ earlier) serial space page e =
-    ap (λ b. (b && is_page at number space page) || is_visited earlier serial space page) (or_left (s == serial) (list_any (is_of serial) earlier) e)
-    ∙ no_visits earlier serial space page (or_right (s == serial) (list_any (is_of serial) earlier) e)
-no_visits (Noted (Table s) ∷ earlier) serial space page e = no_visits earlier serial space page (or_right (s == serial) (list_any (is_of serial) earlier) e)
+    ap (λ b. (b && is_page at number space page) || is_visited earlier serial space page) ((or_parts (s == serial) (list_any (is_of serial) earlier) e).0)
+    ∙ no_visits earlier serial space page ((or_parts (s == serial) (list_any (is_of serial) earlier) e).1)
+no_visits (Noted (Table s) ∷ earlier) serial space page e = no_visits earlier serial space page ((or_parts (s == serial) (list_any (is_of serial) earlier) e).1)
 
 visited_behind : (kept folded : Marked) (serial space page : ℕ) → list_any (is_of serial) folded ≡ false
     → is_visited (kept ++ folded) serial space page ≡ is_visited kept serial space page
 visited_behind kept folded serial space page none = any_same (is_visit serial space page) kept folded (no_visits folded serial space page none)
-
-never_both : (a : Bool) → (a && false) ≡ false
-never_both true = refl
-never_both false = refl
 
 -- no page stays mapped since a start that isn't there
 never_stays : (base : Base) (folded : Marked) (serial space page : ℕ) → list_any (is_of serial) folded ≡ false → stays_mapped base folded serial space page ≡ false
 never_stays base [] serial space page e = refl
 never_stays base (Told entry ∷ earlier) serial space page e =
     ap (λ b. is_mapped (memory_at base (Told entry ∷ earlier)) space page && b) (never_stays base earlier serial space page e)
-    ∙ never_both (is_mapped (memory_at base (Told entry ∷ earlier)) space page)
+    ∙ and-false (is_mapped (memory_at base (Told entry ∷ earlier)) space page)
 never_stays base (Noted (Start s) ∷ earlier) serial space page e =
-    ap (λ b. is_mapped (memory_at base earlier) space page && (b || stays_mapped base earlier serial space page)) (or_left (s == serial) (list_any (is_of serial) earlier) e)
-    ∙ ap (λ b. is_mapped (memory_at base earlier) space page && b) (never_stays base earlier serial space page (or_right (s == serial) (list_any (is_of serial) earlier) e))
-    ∙ never_both (is_mapped (memory_at base earlier) space page)
+    ap (λ b. is_mapped (memory_at base earlier) space page && (b || stays_mapped base earlier serial space page)) ((or_parts (s == serial) (list_any (is_of serial) earlier) e).0)
+    ∙ ap (λ b. is_mapped (memory_at base earlier) space page && b) (never_stays base earlier serial space page ((or_parts (s == serial) (list_any (is_of serial) earlier) e).1))
+    ∙ and-false (is_mapped (memory_at base earlier) space page)
 never_stays base (Noted (Visit s at number) ∷ earlier) serial space page e =
-    ap (λ b. is_mapped (memory_at base earlier) space page && b) (never_stays base earlier serial space page (or_right (s == serial) (list_any (is_of serial) earlier) e))
-    ∙ never_both (is_mapped (memory_at base earlier) space page)
+    ap (λ b. is_mapped (memory_at base earlier) space page && b) (never_stays base earlier serial space page ((or_parts (s == serial) (list_any (is_of serial) earlier) e).1))
+    ∙ and-false (is_mapped (memory_at base earlier) space page)
 never_stays base (Noted (Table s) ∷ earlier) serial space page e =
-    ap (λ b. is_mapped (memory_at base earlier) space page && b) (never_stays base earlier serial space page (or_right (s == serial) (list_any (is_of serial) earlier) e))
-    ∙ never_both (is_mapped (memory_at base earlier) space page)
+    ap (λ b. is_mapped (memory_at base earlier) space page && b) (never_stays base earlier serial space page ((or_parts (s == serial) (list_any (is_of serial) earlier) e).1))
+    ∙ and-false (is_mapped (memory_at base earlier) space page)
 
 stays_behind : (base : Base) (kept folded : Marked) (n serial space page : ℕ) → list_any (is_of serial) folded ≡ false
     → stays_mapped (base_after base n (entries_of folded)) kept serial space page ≡ stays_mapped base (kept ++ folded) serial space page

@@ -1,5 +1,6 @@
 -- A page that was visited since a freeze is clean as long as that is pending.
 use Rattle.std.proofs.Common.{◌≡◌, ℕ, ◌==◌, Bool, true, false, cond, if◌then◌else◌, [], ◌∷◌, Some, is_some, refl, sym, ◌∙◌, ap, subst, inl}
+use Rattle.std.proofs.lemmas.Option.{same_Some}
 use Rattle.sd_pagetable.specs.Tracking.{Passed, clears, is_page, is_writable}
 use Rattle.sd_command.specs.declared.refusal.Refusal.TheVariants.{Frozen}
 use Rattle.sd_command.specs.declared.reply.Reply.TheVariants.{Refused}
@@ -14,7 +15,7 @@ use Rattle.sd_journal.specs.TrackedLaws.{visited_since}
 use Rattle.sd_journal.specs.Trimming.{Ends, HasVisited, IsEnded, IsFolded}
 use Rattle.sd_journal.proofs.AllowedLemmas.{none_left}
 use Rattle.sd_journal.proofs.BitLemmas.{due_more, due_passes, writable_more, writable_passes}
-use Rattle.sd_journal.proofs.HistoryLemmas.{none_is_some, same, some_is}
+use Rattle.sd_journal.proofs.HistoryLemmas.{none_is_some, same}
 use Rattle.sd_journal.proofs.MarkedLemmas.{frozen_passes, never}
 
 -- the page is neither due nor writable
@@ -41,7 +42,7 @@ clean_since base (Told (Applied seat command reply) ∷ earlier) n space page ma
     (clean_since base earlier n space page marked.1 is
     (visited_rest (clears space page (event_of command reply)) (visited_since earlier n space page) (ap (clears space page) by) visited))
 clean_since base (Told (Freeze m) ∷ earlier) n space page marked is visited =
-    let own : (m == n) ≡ true = ap (λ k. k == n) (some_is m n is) ∙ same n in
+    let own : (m == n) ≡ true = ap (λ k. k == n) (same_Some m n is) ∙ same n in
     never (sym (sym (ap (λ b. if b then false else (if clears space page Passed then true else visited_since earlier n space page)) own) ∙ visited))
 clean_since base (Told (Acked m) ∷ earlier) n space page marked is visited = none_left base (entries_of earlier) m n (inl marked.0) is
 clean_since base (Told (Cancelled m) ∷ earlier) n space page marked is visited = none_left base (entries_of earlier) m n marked.0 is

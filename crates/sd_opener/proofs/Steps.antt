@@ -1,5 +1,6 @@
 -- What the steps of an opener keep of what it knows.
 use Rattle.std.proofs.Common.{◌≡◌, ◌≢◌, ℕ, zero, suc, ◌+◌, ◌<◌, ◌≤◌, true, List, [], ◌∷◌, ◌++◌, length, map, take, Option, Some, None, Ok, Err, refl, sym, ◌∙◌, ap, subst, arith}
+use Rattle.std.proofs.Math.Numerals.{add-one}
 use Rattle.sd_disk.specs.Contents.{file_at}
 use Rattle.sd_image.specs.declared.reason.Reason.{Reason}
 use Rattle.sd_image.specs.ReasonLaws.{GoodStoreHasNoReason}
@@ -28,9 +29,6 @@ take_more [] n within = absurd (omega (arith, within))
 take_more (file ∷ files) zero within = refl
 take_more (file ∷ files) (suc n) within = ap (λ all. file ∷ all) (take_more files n (omega (arith, within)))
 
-next_is : (n : ℕ) → n + 1 ≡ suc n
-next_is n = omega arith
-
 map_back : (files : List (List ℕ)) (file : List ℕ) → map found_phase (files ++ file ∷ []) ≡ map found_phase files ++ found_phase file ∷ []
 map_back [] file = refl
 map_back (f ∷ files) file = ap (λ all. found_phase f ∷ all) (map_back files file)
@@ -52,7 +50,7 @@ pub passes : InspectionFinds → (files : List (List ℕ)) (request : Option Ask
 passes finds files request old new phase sees is =
     let n = length old.told in
     let more : length new.told ≡ suc n = ap length is.told_more ∙ back_count old.told phase in
-    let at : n + 1 ≡ length new.told = next_is n ∙ sym more in
+    let at : n + 1 ≡ length new.told = add-one n ∙ sym more in
     record {
       count = sees.count ∙ sym is.same_slots;
       told = is.told_more ∙ ap (λ all. all ++ phase ∷ []) sees.told ∙ ap (λ p. map found_phase (take n files) ++ p ∷ []) is.phase_is

@@ -67,10 +67,6 @@ pub dead_due : (c : Contents) (s : ℕ) (due : Option AccessError) → is_alive 
 dead_due c s due dead = cond-false _ _ _ dead
 
 -- ---- refusals
--- what a call on areas was refused
-pub refused_by_areas : (r : Result PageMap Errno) (e : AreaError) (second : Option AccessError) → calls.RefusesAsDue r e → Refuses (error_of e) (or_else (area_due r) second)
-refused_by_areas r (AreaRefused errno) second answers = ap (λ (x : Result PageMap Errno). or_else (area_due x) second) answers
-refused_by_areas r AreaOutOfMemory second answers = tt
 
 -- over 65,536 pages, and perhaps over 1,024 areas
 pub refused_by_pages : (pages : PageMap) (after : Contents) → 65536 < page_count after.spaces → or_else (area_due (within_areas pages)) (pages_due after) ≡ Some (Refused NoMemory)
@@ -83,12 +79,6 @@ refused_by_pages pages after many = by_limit (nat_lt 1024 (length (areas_of page
 
 pub nothing_over : (r : Result PageMap Errno) (own : PageMap) (after : Contents) → r ≡ Ok own → page_count after.spaces ≤ 65536 → or_else (area_due r) (pages_due after) ≡ None
 nothing_over r own after is few = ap (λ x. or_else (area_due x) (pages_due after)) is ∙ cond-false _ _ _ (le-ltb _ _ few)
-
--- an accepted range is one
-pub valid_range : (invalid outside : Bool) → (invalid ≡ true → ⊥) → (invalid ≡ false → outside ≡ true → ⊥) → (invalid ≡ false) × (outside ≡ false)
-valid_range true outside a b = absurd (a refl)
-valid_range false true a b = absurd (b refl refl)
-valid_range false false a b = (refl, refl)
 
 pub pages_refused : (e : MemoryError) (pages : PageMap) (r : Result PageMap Errno) (after : Contents) → r ≡ within_areas pages → (e ≡ OutOfMemory) ⊎ (e ≡ DeniedError (Refused NoMemory))
     → (e ≡ DeniedError (Refused NoMemory) → 65536 < page_count after.spaces) → Refuses e (or_else (area_due r) (pages_due after))

@@ -1,5 +1,6 @@
 -- A page that is clean after an event.
 use Rattle.std.proofs.Common.{◌≡◌, ℕ, Bool, true, false, cond, ◌||◌, List, Option, Some, None, refl, sym, ◌∙◌, ap, inl, inr}
+use Rattle.std.proofs.lemmas.Bool.{or_parts}
 use Rattle.sd_pagetable.specs.Page.{PageState}
 use Rattle.sd_pagetable.specs.Contents.{Contents, page_at}
 use Rattle.sd_pagetable.specs.Tracking.{MemoryEvent, touches, clears}
@@ -18,15 +19,11 @@ clean_page (Some page) bytes e = by page.soft_dirty refl
 clean_there : (o : Option PageState) (page : PageState) (bytes : List ℕ) → o ≡ Some page → page.soft_dirty ≡ false → page.bytes ≡ bytes → clean_bytes o ≡ Some bytes
 clean_there o page bytes there d b = ap clean_bytes there ∙ ap (λ x. cond x None (Some page.bytes)) d ∙ ap Some b
 
-neither : (touch was : Bool) → (touch || was) ≡ false → (touch ≡ false) × (was ≡ false)
-neither true was e = absurd (let f : true ≡ false = e in cc)
-neither false was e = (refl, e)
-
 was_clean : (old : Contents) (event : MemoryEvent) (space number : ℕ) (bytes : List ℕ) (after : PageState) → clears space number event ≡ false → after.soft_dirty ≡ false → after.bytes ≡ bytes
     → ComesFrom old event space number after → clean_at old space number ≡ Some bytes
 was_clean old event space number bytes after c d b (inr made) = absurd (let f : true ≡ false = sym made.soft_dirty ∙ d in cc)
 was_clean old event space number bytes after c d b (inl (before, there, is)) =
-    let n = neither (touches space number event) before.soft_dirty (sym (is.soft_dirty ∙ ap (λ x. cond x false (touches space number event || before.soft_dirty)) c) ∙ d) in
+    let n = or_parts (touches space number event) before.soft_dirty (sym (is.soft_dirty ∙ ap (λ x. cond x false (touches space number event || before.soft_dirty)) c) ∙ d) in
     clean_there (page_at old space number) before bytes there n.1 (sym (is.bytes n.0) ∙ b)
 
 pub clean_law : CleanLaw

@@ -8,6 +8,8 @@ use Rattle.std.specs.Ordering.{nat_cmp}
 use Rattle.std.specs.BTreeMap.{BTreeMap, get}
 use Rattle.std.specs.FinMap as finmap
 use Rattle.std.specs.FinMap.{get-empty, len-entries}
+use Rattle.std.proofs.Math.Bool.{or-true}
+use Rattle.std.proofs.lemmas.Bool.{cases_Bool}
 use Rattle.sd_areas.specs.Areas.{PageMap}
 use Rattle.sd_areas.specs.PlainMemory as plain
 use Rattle.sd_areas.specs.Pages.{is_within}
@@ -25,7 +27,7 @@ use Rattle.sd_pagetable.specs.Tracking.{with_space, contents_after_fork}
 use Rattle.sd_pagetable.proofs.TableLemmas.{same_table, get_put, get_removed, get-map_values, entries-map_values}
 use Rattle.sd_pagetable.proofs.NestedLemmas.{alive-insert}
 use Rattle.sd_pagetable.proofs.TotalLemmas.{total-empty, total-insert, total-remove, total_within-remove_space}
-use Rattle.sd_pagetable.proofs.RangeLemmas.{cases_bool, same_of, inside_with, inside_other, with_twice}
+use Rattle.sd_pagetable.proofs.RangeLemmas.{same_of, inside_with, inside_other, with_twice}
 use Rattle.sd_pagetable.proofs.PlainRanges.{composed, map_removed, same_many, plain_many, plain_inside, plain_with, areas_with}
 use Rattle.sd_pagetable.proofs.ForkLemmas.{with_swap}
 
@@ -144,12 +146,8 @@ copied_parent c copied s child t apart is = ap (λ (m : Contents). inside m.spac
 pub copied_child : (c copied : Contents) (s child : ℕ) → (s ≡ child → ⊥) → copied ≡ with_space c child (map_values bare_page (inside c.spaces s)) → inside copied.spaces child ≡ map_values bare_page (inside copied.spaces s)
 copied_child c copied s child apart is = ap (λ (m : Contents). inside m.spaces child) is ∙ inside_with c child _ ∙ ap (map_values bare_page) (sym (copied_parent c copied s child _ apart is))
 
-or_true : (b : Bool) → (b || true) ≡ true
-or_true true = refl
-or_true false = refl
-
 pub still_alive : (c : Contents) (s u : ℕ) (t : Table PageState) → is_alive c.spaces u ≡ true → is_alive (with_space c s t).spaces u ≡ true
-still_alive c s u t alive = alive-insert c.spaces s t u ∙ ap (λ b. nat_eq u s || b) alive ∙ or_true (nat_eq u s)
+still_alive c s u t alive = alive-insert c.spaces s t u ∙ ap (λ b. nat_eq u s || b) alive ∙ or-true (nat_eq u s)
 
 pub shared : (c copied new : Contents) (s child : ℕ) (t : Table PageState) → (s ≡ child → ⊥) → copied ≡ with_space c child t
     → new ≡ with_space (with_space copied s (map_values shared_page (inside copied.spaces s))) child (map_values inherited_page (inside copied.spaces s)) → new ≡ contents_after_fork c s child
@@ -221,7 +219,7 @@ has_sixteen c number past alive =
     below q within = grind (arith, nat_tests)
 
 pub one_alive_more : (c : Contents) (number : ℕ) → is_alive c.spaces number ≡ true → ((q : ℕ) → 1 ≤ q → q < number → is_alive c.spaces q ≡ true) → (q : ℕ) → 1 ≤ q → q < number + 1 → is_alive c.spaces q ≡ true
-one_alive_more c number alive before q from below = elim (cases_bool (nat_eq q number)) [
+one_alive_more c number alive before q from below = elim (cases_Bool (nat_eq q number)) [
   | inl here ↦ ap (is_alive c.spaces) (same_of q number here) ∙ alive
   | inr there ↦ before q from (differs q number there below)
 ]
@@ -249,7 +247,7 @@ is_free c number child is sound from upto free before =
     within q a b = grind (arith, nat_tests)
 
     inner : (q : ℕ) → IsSome (cond (nat_eq q number) (Some finmap.empty) (finmap.get c.spaces q)) → is_within 1 16 q ≡ true
-    inner q there = elim (cases_bool (nat_eq q number)) [
+    inner q there = elim (cases_Bool (nat_eq q number)) [
       | inl here ↦ ap (is_within 1 16) (same_of q number here) ∙ within number from upto
       | inr other ↦ (let alive = sound.spaces q (subst IsSome (ap (λ b. cond b (Some finmap.empty) (finmap.get c.spaces q)) other) there) in within q alive.0 alive.1)
     ]

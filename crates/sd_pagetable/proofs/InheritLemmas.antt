@@ -1,6 +1,6 @@
 -- What is kept where a child's page takes the frame of the parent's.
 use Rattle.std.proofs.Common.{◌≡◌, ℕ, ◌+◌, ◌<◌, ◌≤◌, Bool, true, false, cond, nat_eq, List, Option, Some, None, refl, sym, ◌∙◌, ap, inl, inr, arith}
-use Rattle.std.proofs.lemmas.Bool.{cases_Bool, cases_eq}
+use Rattle.std.proofs.lemmas.Bool.{cases_Bool, cases_eq, both_ways}
 use Rattle.std.proofs.lemmas.Bool.Decides.{nat_tests}
 use Rattle.std.proofs.lemmas.List.Sums.{sum_by-le-sum_by}
 use Rattle.std.specs.Option.{option_map_or}
@@ -14,7 +14,7 @@ use Rattle.sd_pagetable.specs.View.{page_of_entry, contents_of, IsKept}
 use Rattle.sd_pagetable.specs.Owning.{SharesFrame}
 use Rattle.sd_pagetable.proofs.NestedLemmas.{alive_at}
 use Rattle.sd_pagetable.proofs.ViewLemmas.{view_put, SameOthers, is_at, entry_there, alone_apart, one_share}
-use Rattle.sd_pagetable.proofs.KeptLemmas.{kept_put, other_class, never, one_page}
+use Rattle.sd_pagetable.proofs.KeptLemmas.{kept_put, other_class, one_page}
 
 at_most_one : (k : ℕ) (o : Option ℕ) → option_map_or (λ j. cond {A = ℕ} (nat_eq j k) 1 0) o 0 ≤ 1
 at_most_one k None = omega arith
@@ -70,7 +70,7 @@ module _ (old new : Pool) (tables : Nested Entry) (n parent child p : ℕ) (e ow
           let p_is : r ≡ p = grind (arith, nat_tests) in
           let z : ◌≡◌ {A = Option PageState} (Some (page_of_entry old e)) (Some y) = sym (entry_there old tables parent p e there) ∙ ap (λ a. page_at (contents_of old tables) a p) (sym s_is) ∙ ap (page_at (contents_of old tables) q) (sym p_is) ∙ hy in
           let same_page : page_of_entry old e ≡ y = cc in
-          never e.writable closed (ap (λ (x : PageState). x.writable) same_page ∙ w)
+          both_ways e.writable closed (ap (λ (x : PageState). x.writable) same_page ∙ w)
       | inr apart ↦
           let a = alone_apart (contents_of old tables) parent p q r (page_of_entry old e) y k one (entry_there old tables parent p e there) hy c apart in
           let b = one_share k (page_of_entry old e) (f ∙ ap Some here) in
@@ -89,7 +89,7 @@ module _ (old new : Pool) (tables : Nested Entry) (n parent child p : ℕ) (e ow
       (λ k. let a = counts_more e' same k e.frame refl in let b : share_of k (page_of_entry old own) ≡ 0 = ap (λ o. option_map_or (λ j. cond {A = ℕ} (nat_eq j k) 1 0) o 0) none in omega (arith, a, b))
       (λ k c hc. used_more k c e.frame refl hc) refl (omega (arith, few, mapped))
       (λ k g. kept.sound.classes parent p (page_of_entry old e) k (entry_there old tables parent p e there) (sym same ∙ g))
-      (λ t. absurd (never e'.writable not_open t))
+      (λ t. absurd (both_ways e'.writable not_open t))
       (λ q r y k apart hy w c one. apart_shared e' same q r y k e.frame refl hy w c one)
 
   pub view_inherited : (e' : Entry) → e'.frame ≡ e.frame → contents_of new (put_at tables child p e') ≡ put_page (contents_of old tables) child p (page_of_entry old e')

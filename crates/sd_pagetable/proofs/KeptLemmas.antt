@@ -1,7 +1,7 @@
 -- What a change of one entry keeps.
 use Rattle.std.proofs.Common.{◌≡◌, ℕ, ◌+◌, ◌<◌, ◌≤◌, ◌^◌, Bool, true, false, cond, nat_eq, List, Option, Some, None, IsSome, refl, sym, ◌∙◌, ap, subst, inl, inr, arith}
 use Rattle.std.proofs.lemmas.Bool.Decides.{nat_tests}
-use Rattle.std.proofs.lemmas.Bool.{cases_Bool, cases_eq, cond-false, ne_eqb}
+use Rattle.std.proofs.lemmas.Bool.{cases_Bool, cases_eq, cond-false, ne_eqb, both_ways}
 use Rattle.std.specs.Option.{option_map_or}
 use Rattle.sd_tables.specs.declared.entry.Entry.{Entry}
 use Rattle.sd_pagetable.specs.Nested.{Nested, value_at, is_alive, put_at, total}
@@ -85,9 +85,6 @@ frame_used old tables n s p e k kept h f = counted (cell_at old k) (frame_counte
     counted None l = absurd (omega arith)
     counted (Some c) l = refl
 
-pub never : (b : Bool) → b ≡ false → b ≡ true → ⊥
-never b f t = (let e : false ≡ true = sym f ∙ t in cc)
-
 -- an entry with the same frame, which isn't writable
 pub kept_write_protected : (old : Pool) (tables : Nested Entry) (n s p : ℕ) (e was : Entry) → IsKept old tables n → value_at tables s p ≡ Some was → e.frame ≡ was.frame → e.writable ≡ false → IsKept old (put_at tables s p e) n
 kept_write_protected old tables n s p e was kept h same closed =
@@ -99,7 +96,7 @@ kept_write_protected old tables n s p e was kept h same closed =
     (λ k. let a = share_class k (page_of_entry old e) (page_of_entry old was) same in omega (arith, a))
     kept.used refl (omega (arith, k_few, k_mapped))
     (λ k f. kept.sound.classes s p (page_of_entry old was) k there (sym same ∙ f))
-    (λ t. absurd (never e.writable closed t))
+    (λ t. absurd (both_ways e.writable closed t))
     (apart_same (contents_of old tables) s p (page_of_entry old e) (page_of_entry old was) there same)
 
 -- a page mapped where none was
@@ -109,7 +106,7 @@ kept_added old tables n s p e kept alive hole number few none closed =
     (λ k. let a : share_of k (page_of_entry old e) ≡ 0 = ap (λ o. option_map_or (λ j. cond (nat_eq j k) 1 0) o 0) none in omega (arith, a))
     kept.used (omega arith) (omega (arith, few))
     (λ k f. absurd (let g : ◌≡◌ {A = Option ℕ} None (Some k) = sym none ∙ f in cc))
-    (λ t. absurd (never e.writable closed t))
+    (λ t. absurd (both_ways e.writable closed t))
     (apart_none (contents_of old tables) s p (page_of_entry old e) none)
 
 cell_kept : (old new : Pool) (j : ℕ) (cell : Option Cell) (k : ℕ) → SetsCell old new j cell → (k ≡ j → ⊥) → count_at new k ≡ count_at old k

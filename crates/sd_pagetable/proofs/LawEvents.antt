@@ -5,6 +5,8 @@ use Rattle.std.specs.Option.{option_map}
 use Rattle.std.specs.Ordering.{nat_cmp}
 use Rattle.std.specs.FinMap as finmap
 use Rattle.std.specs.FinMap.{get-empty}
+use Rattle.std.proofs.lemmas.Bool.{or_right}
+use Rattle.std.proofs.lemmas.Option.{same_Some}
 use Rattle.sd_areas.specs.declared.prot.Prot.{Prot}
 use Rattle.sd_areas.specs.Pages.{is_within}
 use Rattle.sd_pagetable.specs.Nested.{Table, Nested, map_values, inside, value_at}
@@ -17,13 +19,6 @@ use Rattle.sd_pagetable.proofs.NestedLemmas.{tests, value_at-insert, value_at-pu
 
 pub turned : (a b : ℕ) → nat_eq a b ≡ nat_eq b a
 turned a b = grind (arith, nat_tests)
-
-cases_bool : (b : Bool) → (b ≡ true) ⊎ (b ≡ false)
-cases_bool true = inl refl
-cases_bool false = inr refl
-
-same : {A : Type 0} (x y : A) → Some x ≡ Some y → x ≡ y
-same x y e = (let f : Some x ≡ Some y = e in cc)
 
 -- a test that is both true and false
 both_tests : (b : Bool) → b ≡ true → b ≡ false → ⊥
@@ -64,8 +59,8 @@ mapped old s first count prot space number after true true e f is = inr (record 
   touched = ap (λ h. h && is_within first count number) e ∙ f;
   uncleared = refl;
   protected = ap (λ h. h && is_within first count number) e ∙ f;
-  soft_dirty = ap (λ (p : PageState). p.soft_dirty) (sym (same _ _ is));
-  writable = ap (λ (p : PageState). p.writable) (sym (same _ _ is));
+  soft_dirty = ap (λ (p : PageState). p.soft_dirty) (sym (same_Some _ _ is));
+  writable = ap (λ (p : PageState). p.writable) (sym (same_Some _ _ is));
 })
 
 -- `munmap`
@@ -80,7 +75,7 @@ unmapped old s first count space number after true true e f is = gone after is
 -- `mprotect`
 pub changed : {A B : Type 0} (f : A → B) (o : Option A) (y : B) → option_map f o ≡ Some y → (x : A) × (o ≡ Some x) × (y ≡ f x)
 changed f None y e = gone y e
-changed f (Some x) y e = (x, refl, sym (same _ _ e))
+changed f (Some x) y e = (x, refl, sym (same_Some _ _ e))
 
 protected : (old : Contents) (s first count : ℕ) (prot : Prot) (space number : ℕ) (after : PageState) (here within : Bool) → nat_eq s space ≡ here → is_within first count number ≡ within
     → cond here (option_map (λ (p : PageState). cond within (protected_page prot p) p) (finmap.get (inside old.spaces s) number)) (page_at old space number) ≡ Some after
@@ -112,14 +107,10 @@ forked_page old parent child space number after true is_parent e f is =
     inr (record {
       touched = e;
       uncleared = refl;
-      protected = either (nat_eq parent space) (nat_eq child space) e;
+      protected = or_right (nat_eq parent space) (nat_eq child space) e;
       soft_dirty = ap (λ (p : PageState). p.soft_dirty) was.2;
       writable = ap (λ (p : PageState). p.writable) was.2;
     })
-  where
-    either : (a b : Bool) → b ≡ true → (a || b) ≡ true
-    either true b e = refl
-    either false b e = e
 forked_page old parent child space number after false true e f is =
     let was = changed shared_page _ after is in
     inl (
@@ -151,8 +142,8 @@ opened old s p event bytes class space number before after true t o c d there e 
       before,
       at_page s p space number e ∙ there,
       record {
-        soft_dirty = ap (λ (q : PageState). q.soft_dirty) (sym (same _ _ is)) ∙ sym (ap (λ b. cond b false (touches space number event || before.soft_dirty)) c ∙ ap (λ b. b || before.soft_dirty) (t ∙ e));
-        writable = ap (λ (q : PageState). q.writable) (sym (same _ _ is)) ∙ sym (ap (λ b. cond b false (makes_writable space number event || before.writable)) d ∙ ap (λ b. b || before.writable) (o ∙ e));
+        soft_dirty = ap (λ (q : PageState). q.soft_dirty) (sym (same_Some _ _ is)) ∙ sym (ap (λ b. cond b false (touches space number event || before.soft_dirty)) c ∙ ap (λ b. b || before.soft_dirty) (t ∙ e));
+        writable = ap (λ (q : PageState). q.writable) (sym (same_Some _ _ is)) ∙ sym (ap (λ b. cond b false (makes_writable space number event || before.writable)) d ∙ ap (λ b. b || before.writable) (o ∙ e));
         bytes = λ untouched. absurd (both_tests _ (t ∙ e) untouched);
       },
     )
@@ -177,7 +168,7 @@ replaced : (old : Contents) (s p : ℕ) (event : MemoryEvent) (space number : �
     → cond here (Some page) (page_at old space number) ≡ Some after → ComesFrom old event space number after
 replaced old s p event space number before page after false k i there e is = kept old event space number after is (i e)
 replaced old s p event space number before page after true k i there e is =
-    inl (before, at_page s p space number e ∙ there, subst (IsChangedBy event space number before) (same _ _ is) (k e))
+    inl (before, at_page s p space number e ∙ there, subst (IsChangedBy event space number before) (same_Some _ _ is) (k e))
   where
     left_of : (a b : Bool) → (a && b) ≡ true → a ≡ true
     left_of true b e = refl

@@ -1,6 +1,6 @@
 -- What one more page of a snapshot keeps.
 use Rattle.std.proofs.Common.{◌≡◌, ◌≢◌, ◌⊎◌, ℕ, zero, suc, ◌+◌, ◌<◌, ◌≤◌, Bool, true, false, cond, nat_eq, nat_lt, List, [], ◌∷◌, length, replicate, Option, Some, None, refl, sym, ◌∙◌, ap, subst, inl, inr, arith, filter}
-use Rattle.std.proofs.lemmas.Bool.{cases_Bool, cases_eq, eqb-true, eq-eqb, lt-ltb, le-ltb, and_parts}
+use Rattle.std.proofs.lemmas.Bool.{cases_Bool, cases_eq, eqb-true, eq-eqb, lt-ltb, le-ltb, and_parts, both_ways}
 use Rattle.std.specs.List.{range_with_len}
 use Rattle.std.specs.Option.{option_map, option_map_or}
 use Rattle.sd_areas.specs.PlainMemory as plain
@@ -14,7 +14,7 @@ use Rattle.sd_pagetable.specs.Loaded.{is_zero_page, frames_for, nonzero_pages, l
 use Rattle.sd_pagetable.proofs.NestedLemmas.{alive_at, value_at-put}
 use Rattle.sd_pagetable.proofs.TotalLemmas.{total_within-put}
 use Rattle.sd_pagetable.proofs.ViewLemmas.{view_put, is_at, SameOthers, entry_there, alone_in, is_alone_in, one_share}
-use Rattle.sd_pagetable.proofs.KeptLemmas.{kept_put, apart_new, same_frame, frame_counted, other_class, never}
+use Rattle.sd_pagetable.proofs.KeptLemmas.{kept_put, apart_new, same_frame, frame_counted, other_class}
 use Rattle.sd_pagetable.proofs.MemoryLemmas.{plain_put, plain_at, put_twice}
 
 -- ---- how many numbers of a run pass a test
@@ -118,7 +118,7 @@ module _ (m : Contents) (s p : ℕ) (page : plain.Page) (begun : IsBegunMemory m
         begins = λ q r y h. elim (added_at m s p x hole q r y h) [ inl here ↦ (ap (λ (z : PageState). z.soft_dirty) (sym here.1), ap (λ (z : PageState). z.writable) (sym here.1)) | inr there ↦ begun.begins q r y there ];
         zeros = λ q r y h z. elim (added_at m s p x hole q r y h) [ inl here ↦ ap (λ (z : PageState). z.class) (sym here.1) | inr there ↦ begun.zeros q r y there z ];
         alone = λ q r y h z. elim (added_at m s p x hole q r y h) [
-          | inl here ↦ absurd (never (is_zero_page y.bytes) z (ap (λ (z : PageState). is_zero_page z.bytes) (sym here.1) ∙ blank))
+          | inl here ↦ absurd (both_ways (is_zero_page y.bytes) z (ap (λ (z : PageState). is_zero_page z.bytes) (sym here.1) ∙ blank))
           | inr there ↦ (
               let a = alone_in m y (begun.alone q r y there z) in
               is_alone_in (put_page m s p x) y a.0 a.1 (same_members m s p x hole refl a.0 ∙ a.2))
@@ -137,7 +137,7 @@ module _ (m : Contents) (s p : ℕ) (page : plain.Page) (begun : IsBegunMemory m
       record {
         begins = λ q r y h. elim (added_at m s p x hole q r y h) [ inl here ↦ (ap (λ (z : PageState). z.soft_dirty) (sym here.1), ap (λ (z : PageState). z.writable) (sym here.1)) | inr there ↦ begun.begins q r y there ];
         zeros = λ q r y h z. elim (added_at m s p x hole q r y h) [
-          | inl here ↦ absurd (never (is_zero_page page.bytes) some (ap (λ (z : PageState). is_zero_page z.bytes) here.1 ∙ z))
+          | inl here ↦ absurd (both_ways (is_zero_page page.bytes) some (ap (λ (z : PageState). is_zero_page z.bytes) here.1 ∙ z))
           | inr there ↦ begun.zeros q r y there z
         ];
         alone = λ q r y h z. elim (added_at m s p x hole q r y h) [
@@ -173,7 +173,7 @@ count_none pool k h = ap (λ o. option_map_or (λ (c : Cell). c.count) o 0) h
 
 pub free_room : (pool : Pool) (tables : Nested Entry) (n : ℕ) → IsKept pool tables n → is_full (contents_of pool tables) ≡ false → HasFree pool
 free_room pool tables n kept h =
-    let left = one_left (λ k. nat_lt 0 (members (contents_of pool tables) k)) 0 pool.size (λ e. never (is_full (contents_of pool tables)) h (eq-eqb _ _ e)) in
+    let left = one_left (λ k. nat_lt 0 (members (contents_of pool tables) k)) 0 pool.size (λ e. both_ways (is_full (contents_of pool tables)) h (eq-eqb _ _ e)) in
     let g = left.2 in
     (left.0, omega (arith, g), unused left.0 (cell_at pool left.0) refl left.3)
   where
@@ -183,7 +183,7 @@ free_room pool tables n kept h =
         let a = kept.used k c e in
         let b : count_at pool k ≡ c.count = ap (λ o. option_map_or (λ (z : Cell). z.count) o 0) e in
         let d = kept.counts k in
-        absurd (never _ none (lt-ltb 0 _ (omega (arith, a, b, d))))
+        absurd (both_ways _ none (lt-ltb 0 _ (omega (arith, a, b, d))))
 
 module _ (old new : Pool) (tables : Nested Entry) (n s p : ℕ) (e : Entry) (own : ℕ) (bytes : List ℕ) (kept : IsKept old tables n) (h : value_at tables s p ≡ Some e) (none : e.frame ≡ None) (closed : e.writable ≡ false)
     (free : cell_at old own ≡ None) (within : own < old.size) (sets : SetsCell old new own (Some (record { count = 1; bytes = bytes }))) where
@@ -226,7 +226,7 @@ module _ (old new : Pool) (tables : Nested Entry) (n s p : ℕ) (e : Entry) (own
       (kept.sound.numbers s p (page_of_entry old e) there)
       given_counts given_used refl k_few
       (λ k g. let x : own ≡ k = (let y : ◌≡◌ {A = Option ℕ} (Some own) (Some k) = g in cc) in subst (λ j. j < old.size) x within)
-      (λ w. absurd (never e.writable closed w))
+      (λ w. absurd (both_ways e.writable closed w))
       (apart_new (contents_of old tables) s p (page_of_entry new given) own refl given_members)
 
   pub view_given : contents_of new (put_at tables s p (record e { frame = Some own })) ≡ put_page (contents_of old tables) s p (record (page_of_entry old e) { bytes = bytes; class = Some own })

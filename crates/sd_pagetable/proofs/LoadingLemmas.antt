@@ -1,6 +1,6 @@
 -- A memory that is being loaded, and the areas beside it.
 use Rattle.std.proofs.Common.{◌≡◌, ℕ, ◌+◌, ◌≤◌, Bool, true, false, cond, nat_eq, nat_lt, ◌||◌, is_some, List, [], ◌∷◌, map, length, Option, Some, None, unwrap_or, refl, sym, ◌∙◌, ap, subst, inl, inr, arith, zero, suc, filter}
-use Rattle.std.proofs.lemmas.Bool.{cases_Bool, cond-true, eq-eqb, le-ltb, ltb-false}
+use Rattle.std.proofs.lemmas.Bool.{cases_Bool, cond-true, eq-eqb, le-ltb, ltb-false, both_ways}
 use Rattle.std.specs.List.{list_any, range_with_len}
 use Rattle.std.specs.Option.{option_map, option_or}
 use Rattle.std.specs.Ordering.{nat_cmp, eq_by_cmp}
@@ -26,7 +26,6 @@ use Rattle.sd_pagetable.proofs.TableLemmas.{same_table, same_test, get_put, get_
 use Rattle.sd_pagetable.proofs.TotalLemmas.{total_within-empty}
 use Rattle.sd_pagetable.proofs.SpaceLemmas.{added_at, added_total}
 use Rattle.sd_pagetable.proofs.ViewLemmas.{alone_in, is_alone_in}
-use Rattle.sd_pagetable.proofs.KeptLemmas.{never}
 use Rattle.sd_pagetable.proofs.MemoryLemmas.{plain_alive}
 use Rattle.sd_pagetable.proofs.PlainRanges.{plain_many, composed}
 use Rattle.sd_pagetable.specs.Kept.{HasAreas, prots_of}
@@ -159,7 +158,7 @@ module _ (pool : ℕ) (saved : PlainMemory) (cur : Contents) (rest later : List 
   within_limits = allowed is_over_in_space (finmap.entries saved) space (space_in pages) (none_left _ _ (due_parts pool saved due).1) (sym (get-entries saved space) ∙ found)
 
   pub loading_least : 1 ≤ space
-  loading_least = (let n : space ≡ 0 → ⊥ = λ z. never _ (none_left _ _ (none_left _ _ within_limits)) (eq-eqb space 0 z) in omega (arith, n))
+  loading_least = (let n : space ≡ 0 → ⊥ = λ z. both_ways _ (none_left _ _ (none_left _ _ within_limits)) (eq-eqb space 0 z) in omega (arith, n))
 
   pub loading_greatest : space ≤ 16
   loading_greatest = ltb-false 16 space (none_right _ _ (none_left _ _ within_limits))

@@ -28,6 +28,7 @@ use Rattle.sd_pagetable.specs.Effects.{after_store}
 use Rattle.sd_pagetable.specs.Due.{page_due, access_due, fault_due, frame_due, or_else, Answers}
 use Rattle.sd_pagetable.specs.Tracking.{MakesWritable, IsBeginning}
 use Rattle.std.specs.Prelude.{Result, Ok, Err, OnOk, OnErr, IfSome}
+use Rattle.std.proofs.Math.Bool.{or_self_left}
 use Rattle.sd_pagetable.specs.declared.memory_error.MemoryError.{MemoryError}
 use Rattle.sd_pagetable.specs.declared.memory_error.MemoryError.TheVariants.{Denied as DeniedError}
 use Rattle.sd_pagetable.specs.Kept.{prots_of, HasAreas}
@@ -99,13 +100,6 @@ seen_page (Some x) e h = (x, refl, (let f : ◌≡◌ {A = Option Entry} (Some (
 
 pub page_of_seen : (m : Contents) (s p : ℕ) (e : Entry) → option_map entry_of (page_at m s p) ≡ Some e → (x : PageState) × (page_at m s p ≡ Some x) × (entry_of x ≡ e)
 page_of_seen m s p e h = seen_page (page_at m s p) e h
-
-none_seen_page : (o : Option PageState) → option_map entry_of o ≡ None → o ≡ None
-none_seen_page None h = refl
-none_seen_page (Some x) h = absurd (let f : ◌≡◌ {A = Option Entry} (Some (entry_of x)) None = h in cc)
-
-pub no_page_seen : (m : Contents) (s p : ℕ) → option_map entry_of (page_at m s p) ≡ None → page_at m s p ≡ None
-no_page_seen m s p h = none_seen_page (page_at m s p) h
 
 -- a writable page is as a fault makes it, and needs no frame
 same_page : (x : PageState) (k : ℕ) → x.class ≡ Some k → x.writable ≡ true → x.soft_dirty ≡ true → writable_page x k x.bytes ≡ x
@@ -187,12 +181,8 @@ put_twice m s p x y = λ i. record { pool = m.pool; spaces = twice i }
   where
     twice : put_at (put_at m.spaces s p x) s p y ≡ put_at m.spaces s p y
     twice = same_nested _ _
-        (λ q. alive-put (put_at m.spaces s p x) s p y q ∙ ap (λ b. nat_eq q s || b) (alive-put m.spaces s p x q) ∙ or_again (nat_eq q s) (is_alive m.spaces q) ∙ sym (alive-put m.spaces s p y q))
+        (λ q. alive-put (put_at m.spaces s p x) s p y q ∙ ap (λ b. nat_eq q s || b) (alive-put m.spaces s p x q) ∙ or_self_left (nat_eq q s) (is_alive m.spaces q) ∙ sym (alive-put m.spaces s p y q))
         (λ q r. value_at-put (put_at m.spaces s p x) s p y q r ∙ ap (cond (nat_eq q s && nat_eq r p) (Some y)) (value_at-put m.spaces s p x q r) ∙ over (nat_eq q s && nat_eq r p) (Some x) (Some y) (value_at m.spaces q r) ∙ sym (value_at-put m.spaces s p y q r))
-      where
-        or_again : (a b : Bool) → (a || (a || b)) ≡ (a || b)
-        or_again true b = refl
-        or_again false b = refl
 
 pub either_result : {T E : Type 0} (r : Result T E) (P Q R : Type 0) → OnOk r P → OnErr r Q → (P → R) → (Q → R) → R
 either_result (Ok x) P Q R p q f g = f p

@@ -5,6 +5,7 @@ use Rattle.std.specs.Option.{option_map}
 use Rattle.std.specs.Ordering.{nat_cmp}
 use Rattle.std.specs.FinMap as finmap
 use Rattle.std.specs.FinMap.{get-empty}
+use Rattle.std.proofs.lemmas.Bool.{cases_Bool}
 use Rattle.sd_pagetable.specs.Nested.{Table, Nested, map_values, inside, value_at, is_alive, put_at, remove_at}
 use Rattle.sd_pagetable.proofs.TableLemmas.{same_table, get_put, get_removed, get-map_values, map_values-empty}
 
@@ -79,14 +80,10 @@ module _ {X : Type 0} where
   alive_at m s p x e = alive_inner (finmap.get m s) p x e
 
   absorbed : (m : Nested X) (s q : ℕ) → is_alive m s ≡ true → (nat_eq q s || is_alive m q) ≡ is_alive m q
-  absorbed m s q h = elim (or_dec (nat_eq q s)) [
+  absorbed m s q h = elim (cases_Bool (nat_eq q s)) [
     | inl t ↦ ap (λ b. b || is_alive m q) t ∙ sym (ap (λ k. is_alive m k) (tests q s t) ∙ h)
     | inr f ↦ ap (λ b. b || is_alive m q) f
   ]
-    where
-      or_dec : (b : Bool) → (b ≡ true) ⊎ (b ≡ false)
-      or_dec true = inl refl
-      or_dec false = inr refl
 
   pub alive-put_same : (m : Nested X) (s p : ℕ) (x : X) (q : ℕ) → is_alive m s ≡ true → is_alive (put_at m s p x) q ≡ is_alive m q
   alive-put_same m s p x q h = alive-put m s p x q ∙ absorbed m s q h

@@ -78,12 +78,6 @@ pub first_due : (alive : Bool) (first second : Option AccessError) (denied : Acc
 first_due true None second denied e = absurd (let f : None ≡ Some denied = e in cc)
 first_due _ _ second denied e = e
 
-pub mapped_due : (c : Contents) (s : ℕ) (answer : Result PageMap Errno) (own : PageMap) (pages : ℕ) (many : Bool) → is_alive c.spaces s ≡ true → answer ≡ Ok own → nat_lt 65536 pages ≡ many
-    → in_space c.spaces s (or_else (area_due answer) (cond (nat_lt 65536 pages) (Some (Refused NoMemory)) None)) ≡ cond many (Some (Refused NoMemory)) None
-mapped_due c s answer own pages many alive is e =
-    ap (λ b. cond b (or_else (area_due answer) (cond (nat_lt 65536 pages) (Some (Refused NoMemory)) None)) (Some (Refused NoSuchSpace))) alive
-    ∙ ap (λ r. or_else (area_due r) (cond (nat_lt 65536 pages) (Some (Refused NoMemory)) None)) is ∙ ap (λ b. cond b (Some (Refused NoMemory)) None) e
-
 pub many_pages : (n : ℕ) → 65536 < n → nat_lt 65536 n ≡ true
 many_pages n less = grind (arith, nat_tests)
 
@@ -162,11 +156,6 @@ own_protected t own first count prot law = same_table _ _ (λ q. (law q).0 ∙ a
     ∙ change_prot (is_within first count q) prot (finmap.get t q) (λ within. subst IsSome (get-map_values (λ (page : PageState). page.prot) t q) ((law q).1 within))
     ∙ ap (option_map (λ (page : PageState). page.prot)) (sym (get-change_within (protected_page prot) t first count q)) ∙ sym (get-map_values (λ (page : PageState). page.prot) (change_within (protected_page prot) t first count) q))
 
--- a living space has areas
-pub has_own : (o : Option PageMap) (t : Option (Table PageState)) → o ≡ option_map prots_of t → is_some t ≡ true → IsSome o
-has_own o None e alive = absurd (let f : false ≡ true = alive in cc)
-has_own o (Some t) e alive = ap is_some e
-
 -- a range of no bytes has no page
 pub no_bytes : (c : Contents) (s address bytes : ℕ) (change : PageState → PageState) → is_alive c.spaces s ≡ true → bytes ≡ 0 → c ≡ with_space c s (change_within change (inside c.spaces s) (page_of address) (pages_for bytes))
 no_bytes c s address bytes change alive none =
@@ -177,18 +166,6 @@ no_bytes c s address bytes change alive none =
 hole_by_areas : (o : Option PageState) → not (is_some (option_map (λ (page : PageState). page.prot) o)) ≡ not (is_some o)
 hole_by_areas None = refl
 hole_by_areas (Some x) = refl
-
--- what a failed call was due
-pub refuses_first : (error : MemoryError) (c : Contents) (s : ℕ) (first second : Option AccessError) → Refuses error (in_space c.spaces s first) → Refuses error (in_space c.spaces s (or_else first second))
-refuses_first (DeniedError denied) c s first second due = first_due (is_alive c.spaces s) first second denied due
-refuses_first OutOfMemory c s first second due = due
-
-pub refuses_many : (error : MemoryError) (c : Contents) (s : ℕ) (answer : Result PageMap Errno) (own : PageMap) (pages : ℕ) → is_alive c.spaces s ≡ true → answer ≡ Ok own
-    → (error ≡ OutOfMemory) ⊎ (error ≡ DeniedError (Refused NoMemory)) → (error ≡ DeniedError (Refused NoMemory) → 65536 < pages)
-    → Refuses error (in_space c.spaces s (or_else (area_due answer) (cond (nat_lt 65536 pages) (Some (Refused NoMemory)) None)))
-refuses_many error c s answer own pages alive is (inl e) many = subst (λ x. Refuses x (in_space c.spaces s (or_else (area_due answer) (cond (nat_lt 65536 pages) (Some (Refused NoMemory)) None)))) (sym e) tt
-refuses_many error c s answer own pages alive is (inr e) many = subst (λ x. Refuses x (in_space c.spaces s (or_else (area_due answer) (cond (nat_lt 65536 pages) (Some (Refused NoMemory)) None)))) (sym e)
-    (mapped_due c s answer own pages true alive is (many_pages pages (many e)))
 
 -- ---- mapping a run
 or_filled : (within hole : Bool) (o : Option PageState) (x : PageState) → hole ≡ not (is_some o) → cond (within && hole) None (option_or o (cond within (Some x) None)) ≡ o

@@ -3,6 +3,8 @@ use Rattle.std.proofs.Common.{◌≡◌, ◌⊎◌, ℕ, ◌+◌, ◌-◌, ◌�
 use Rattle.std.proofs.lemmas.Bool.Decides.{nat_tests}
 use Rattle.std.specs.Option.{option_map, option_or}
 use Rattle.std.specs.FinMap as finmap
+use Rattle.std.proofs.Math.Bool.{or_self_left}
+use Rattle.std.proofs.lemmas.Bool.{cases_Bool}
 use Rattle.sd_areas.specs.Pages.{is_within}
 use Rattle.sd_pagetable.specs.Nested.{Table, Nested, inside, value_at, is_alive, put_at, remove_at, set_within, change_within, fill_within}
 use Rattle.sd_pagetable.specs.Page.{PageState}
@@ -19,10 +21,6 @@ not_same a b differs = grind (arith, nat_tests)
 
 pub same_of : (a b : ℕ) → nat_eq a b ≡ true → a ≡ b
 same_of a b e = grind (arith, nat_tests)
-
-pub cases_bool : (b : Bool) → (b ≡ true) ⊎ (b ≡ false)
-cases_bool true = inl refl
-cases_bool false = inr refl
 
 abbrev of_spaces : Contents → Nested PageState → Contents
 of_spaces c spaces = record { pool = c.pool; spaces = spaces }
@@ -42,13 +40,9 @@ got_twice : (b : Bool) (x y z : Option PageState) → cond b y (cond b x z) ≡ 
 got_twice true x y z = refl
 got_twice false x y z = refl
 
-alive_twice : (a b : Bool) → (a || (a || b)) ≡ (a || b)
-alive_twice true b = refl
-alive_twice false b = refl
-
 pub with_twice : (c : Contents) (s : ℕ) (t u : Table PageState) → with_space (with_space c s t) s u ≡ with_space c s u
 with_twice c s t u = ap (of_spaces c) (same_nested _ _
-    (λ q. alive-insert (finmap.insert c.spaces s t) s u q ∙ ap (λ b. nat_eq q s || b) (alive-insert c.spaces s t q) ∙ alive_twice (nat_eq q s) (is_alive c.spaces q) ∙ sym (alive-insert c.spaces s u q))
+    (λ q. alive-insert (finmap.insert c.spaces s t) s u q ∙ ap (λ b. nat_eq q s || b) (alive-insert c.spaces s t q) ∙ or_self_left (nat_eq q s) (is_alive c.spaces q) ∙ sym (alive-insert c.spaces s u q))
     (λ q p. value_at-insert (finmap.insert c.spaces s t) s u q p ∙ ap (cond (nat_eq q s) (finmap.get u p)) (value_at-insert c.spaces s t q p)
     ∙ got_twice (nat_eq q s) (finmap.get t p) (finmap.get u p) (value_at c.spaces q p) ∙ sym (value_at-insert c.spaces s u q p)))
 

@@ -4,6 +4,7 @@ use Rattle.std.specs.Prelude.{count_by, IfSome}
 use Rattle.std.proofs.lemmas.Bool.Decides.{nat_tests}
 use Rattle.std.specs.Option.{option_map}
 use Rattle.std.specs.FinMap as finmap
+use Rattle.std.proofs.lemmas.Bool.{both_ways, cases_Bool}
 use Rattle.sd_areas.specs.Pages.{pages_from, is_within}
 use Rattle.sd_pagetable.specs.Nested.{Table, inside, is_alive, fill_within, change_within, remove_within}
 use Rattle.sd_pagetable.specs.Page.{PageState}
@@ -12,7 +13,7 @@ use Rattle.sd_pagetable.specs.Ranges.{IsCleared}
 use Rattle.sd_pagetable.specs.Tracking.{with_space}
 use Rattle.sd_pagetable.proofs.TableLemmas.{same_table, get-remove_within}
 use Rattle.sd_pagetable.proofs.NestedLemmas.{alive-insert, value_at-remove}
-use Rattle.sd_pagetable.proofs.RangeLemmas.{cases_bool, same_self, not_same, same_of, inside_with, with_twice, with_itself, put_in, remove_in, at_table, fill_none, fill_more, fill_skips, fill_outside, change_none, change_more, change_skips, change_outside}
+use Rattle.sd_pagetable.proofs.RangeLemmas.{same_self, not_same, same_of, inside_with, with_twice, with_itself, put_in, remove_in, at_table, fill_none, fill_more, fill_skips, fill_outside, change_none, change_more, change_skips, change_outside}
 use Rattle.sd_pagetable.proofs.RangeCounts.{left_to_count, one_more}
 
 cases_option : (o : Option PageState) → (o ≡ None) ⊎ ((x : PageState) × (o ≡ Some x))
@@ -108,7 +109,7 @@ cleared_both a b c s first then both one two is = record {
 }
 
 removed_by : (q p : ℕ) (o : Option PageState) → (nat_eq q p ≡ true → o ≡ None) → cond (nat_eq q p) None o ≡ o
-removed_by q p o none = elim (cases_bool (nat_eq q p)) [
+removed_by q p o none = elim (cases_Bool (nat_eq q p)) [
   | inl here ↦ ap (λ b. cond b None o) here ∙ sym (none here)
   | inr there ↦ ap (λ b. cond b None o) there
 ]
@@ -158,7 +159,7 @@ pub unmapped_run : (old now : Contents) (s first count : ℕ) → now ≡ with_s
 unmapped_run old now s first count others outside none = others ∙ ap (with_space old s) (same_table _ _ (λ q. at q ∙ sym (get-remove_within (inside old.spaces s) first count q)))
   where
     at : (q : ℕ) → page_at now s q ≡ cond (is_within first count q) None (page_at old s q)
-    at q = elim (cases_bool (is_within first count q)) [
+    at q = elim (cases_Bool (is_within first count q)) [
       | inl here ↦ not_some (page_at now s q) (none q here) ∙ ap (λ b. cond b None (page_at old s q)) (sym here)
       | inr there ↦ outside q there ∙ ap (λ b. cond b None (page_at old s q)) (sym there)
     ]
@@ -218,11 +219,8 @@ pub in_run : (first end page : ℕ) → nat_le first page ≡ true → page < en
 in_run first end page from below = grind (arith, nat_tests)
 
 pub none_in_run : (c : Contents) (s first end : ℕ) → ((page : ℕ) → IsSome (page_at c s page) → nat_le first page ≡ false) → (q : ℕ) → is_within first (end - first) q ≡ true → IsSome (page_at c s q) → ⊥
-none_in_run c s first end none q within there = apart (nat_le first q) (none q there) (from first end q within)
+none_in_run c s first end none q within there = both_ways (nat_le first q) (none q there) (from first end q within)
   where
-    apart : (b : Bool) → b ≡ false → b ≡ true → ⊥
-    apart b e f = absurd (let g : false ≡ true = sym e ∙ f in cc)
-
     from : (first end q : ℕ) → is_within first (end - first) q ≡ true → nat_le first q ≡ true
     from first end q within = grind (arith, nat_tests)
 
@@ -241,7 +239,7 @@ past_run c s first end page past least q within there =
 
 pub unfilled_step : {A : Type 0} (areas : ℕ → Option A) (a b c : Contents) (s first k : ℕ) → first ≤ k → (is_some (areas k) ≡ true → c ≡ b) → (is_some (areas k) ≡ false → IsCleared b c s (λ q. nat_eq q k))
     → IsCleared a b s (λ q. is_within first (k - first) q && not (is_some (areas q))) → IsCleared a c s (λ q. is_within first (k + 1 - first) q && not (is_some (areas q)))
-unfilled_step areas a b c s first k le stays gone was = elim (cases_bool (is_some (areas k))) [
+unfilled_step areas a b c s first k le stays gone was = elim (cases_Bool (is_some (areas k))) [
   | inl there ↦ subst (λ d. IsCleared a d s (λ q. is_within first (k + 1 - first) q && not (is_some (areas q)))) (sym (stays there))
       (unfilled_same (λ q. not (is_some (areas q))) a b s first k le (ap not there) was)
   | inr hole ↦ unfilled_more (λ q. not (is_some (areas q))) a b c s first k le (ap not hole) was (gone hole)

@@ -1,6 +1,6 @@
 -- What is kept where an entry gives its frame up.
 use Rattle.std.proofs.Common.{◌≡◌, ℕ, ◌+◌, ◌-◌, ◌<◌, ◌≤◌, false, cond, nat_eq, List, Option, Some, None, refl, sym, ◌∙◌, ap, subst, inl, inr, arith}
-use Rattle.std.proofs.lemmas.Bool.{cases_Bool, cases_eq}
+use Rattle.std.proofs.lemmas.Bool.{cases_Bool, cases_eq, both_ways}
 use Rattle.std.specs.Option.{option_map_or}
 use Rattle.sd_tables.specs.declared.entry.Entry.{Entry}
 use Rattle.sd_pagetable.specs.Nested.{Nested, value_at, put_at, remove_at}
@@ -12,7 +12,7 @@ use Rattle.sd_pagetable.specs.Owning.{ReleasesFrame}
 use Rattle.sd_pagetable.proofs.NestedLemmas.{alive_at, alive-remove_same, value_at-remove}
 use Rattle.sd_pagetable.proofs.TotalLemmas.{total_within-remove}
 use Rattle.sd_pagetable.proofs.ViewLemmas.{view_put, view_remove, SameOthers, is_at, entry_there, alone_in, is_alone_in, alone_apart, one_share}
-use Rattle.sd_pagetable.proofs.KeptLemmas.{kept_put, apart_none, other_class, never, one_page}
+use Rattle.sd_pagetable.proofs.KeptLemmas.{kept_put, apart_none, other_class, one_page}
 
 module _ (old new : Pool) (tables : Nested Entry) (n s p : ℕ) (e : Entry) (kept : IsKept old tables n) (h : value_at tables s p ≡ Some e) (released : ReleasesFrame old new e.frame) where
   -- a frame that another entry has keeps its bytes
@@ -65,7 +65,7 @@ module _ (old new : Pool) (tables : Nested Entry) (n s p : ℕ) (e : Entry) (kep
       (λ k. let a = counts_less k e.frame refl in let b : share_of k (page_of_entry new e') ≡ 0 = ap (λ o. option_map_or (λ j. cond {A = ℕ} (nat_eq j k) 1 0) o 0) none in omega (arith, a, b))
       (λ k c hc. used_left k c e.frame refl hc) refl few_here
       (λ k f. absurd (let g : ◌≡◌ {A = Option ℕ} None (Some k) = sym none ∙ f in cc))
-      (λ t. absurd (never e'.writable closed t))
+      (λ t. absurd (both_ways e'.writable closed t))
       (apart_none (contents_of old tables) s p (page_of_entry new e') none)
 
   pub view_renewed : (e' : Entry) → contents_of new (put_at tables s p e') ≡ put_page (contents_of old tables) s p (page_of_entry new e')

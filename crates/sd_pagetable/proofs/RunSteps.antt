@@ -81,15 +81,6 @@ set_mapped t first to x there = same_table _ _ (λ q. get-change_within (λ _. x
     ∙ set_there (is_within first (to - first) q) x (finmap.get t q) (λ e. let l = from_within first to q e in there q l.0 l.1) ∙ sym (get-set_within t first (to - first) x q))
 
 -- ---- pages that are there, where others are filled
-pub filled_run : (old now : Contents) (s first k end : ℕ) (x : PageState) → first ≤ k → (count : ℕ) → k + count ≤ end → ((page : ℕ) → k ≤ page → page < k + count → IsSome (page_at now s page))
-    → Fills old now s first k end x → Fills old now s first (k + count) end x
-filled_run old now s first k end x le zero within there was = subst (λ n. Fills old now s first n end x) (let z : k ≡ k + 0 = omega arith in z) was
-filled_run old now s first k end x le (suc count) within there was =
-    let before = filled_run old now s first k end x le count (omega arith) (λ page l m. there page l (omega arith)) was in
-    let here = there (k + count) (omega arith) (omega arith) in
-    subst (λ n. Fills old now s first n end x) (let z : k + count + 1 ≡ k + suc count = omega arith in z)
-    (filled_more old now now s first (k + count) end x (omega arith) (omega arith) before
-    (λ none. absurd (let f : false ≡ true = sym (ap is_some none) ∙ here in cc)) (λ _. refl))
 
 -- ---- holes that are counted, and then pages that are there
 is_hole : Contents → ℕ → ℕ → Bool

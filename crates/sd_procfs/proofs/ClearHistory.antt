@@ -24,21 +24,6 @@ HasHistoryBehind cursor space old now = (pages : List ℕ) × HistoryBehind curs
 none_behind : (page cursor : ℕ) → cursor ≡ 0 → nat_lt page cursor ≡ false
 none_behind page cursor zero = grind (arith, nat_tests)
 
-pub no_history : (cursor : Option ℕ) (space : ℕ) (memory : Contents) → IsSome cursor → IfSome cursor (λ page. page ≡ 0) → HasHistoryBehind cursor space memory memory
-no_history None space memory some zero = absurd (let f : false ≡ true = some in cc)
-no_history (Some cursor) space memory some zero = (
-  [],
-  record {
-    falls = tt;
-    passed = tt;
-    each = λ page. sym (ap (λ b. b && is_some (page_at memory space page)) (none_behind page cursor zero));
-    run = refl;
-  },
-)
-
-pub whole_history : (space : ℕ) (old now : Contents) → HasHistoryBehind None space old now → HasHistory space old now
-whole_history space old now (pages, was) = (pages, record { falls = was.falls; each = was.each; run = was.run })
-
 all_mapped : {P Q : ℕ → Type 0} (pages : List ℕ) → ((page : ℕ) → P page → Q page) → AllByRecursion P pages → AllByRecursion Q pages
 all_mapped [] f all = tt
 all_mapped (page ∷ pages) f all = (f page all.0, all_mapped pages f all.1)

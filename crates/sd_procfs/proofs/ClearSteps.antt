@@ -123,15 +123,3 @@ module _ (space page : ℕ) (old now new : Contents) (was : ClearsBehind (Some p
     ahead = not_passed next least;
     others = λ other p differs. cleared.others other p (apart_from space page other p differs) ∙ was.others other p differs;
   }
-
-pub closer : (memory : Contents) (space page : ℕ) (next : Option ℕ) → page < 2 ^ 35 → IsNextIn memory space page next → way_left next < 2 ^ 35 - page
-closer memory space page None within least = omega (arith, within)
-closer memory space page (Some next) within least = omega (arith, within, least.0)
-
-pub all_cleared : (space : ℕ) (old now : Contents) → ClearsBehind None space old now → Clears space old now
-all_cleared space old now was = record {
-  pool = was.pool;
-  alive = was.alive;
-  here = λ page. was.behind page refl;
-  others = was.others;
-}

@@ -4,16 +4,16 @@ use Rattle.std.specs.List.{filter_map}
 use Rattle.std.proofs.lemmas.List.{take_more, length-take-le}
 use Rattle.std.proofs.Math.Seq.{get_or-append_seam}
 use Rattle.std.proofs.lemmas.List.Elements.{filter_map-append}
+use Rattle.std.proofs.lemmas.Option.{same_Some}
 use Rattle.sd_journal.specs.declared.entry.Entry.{Entry}
 use Rattle.sd_journal.specs.declared.entry.Entry.TheVariants.{Applied, Freeze, Acked, Cancelled, Reopened}
 use Rattle.sd_journal.specs.Receipts.{HasCommand, IsEntryAt, acked_number, acked_numbers, is_command}
-use Rattle.sd_receipts.proofs.GotLemmas.{some_is}
 
 -- a number has one entry
 pub one_entry : (first : ℕ) (journal : List Entry) (number : ℕ) (a b : Entry) → IsEntryAt first journal number a → IsEntryAt first journal number b → a ≡ b
 one_entry first journal number a b is_a is_b =
     let place : is_a.0 ≡ is_b.0 = omega (arith, is_a.1, is_b.1) in
-    some_is a b (sym is_a.2 ∙ ap (slice_get journal) place ∙ is_b.2)
+    same_Some a b (sym is_a.2 ∙ ap (slice_get journal) place ∙ is_b.2)
 
 -- a command at a number
 pub has_command : (first : ℕ) (journal : List Entry) (number : ℕ) (entry : Entry) → IsEntryAt first journal number entry → is_command entry ≡ true

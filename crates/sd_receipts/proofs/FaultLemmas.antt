@@ -2,14 +2,14 @@
 use Rattle.std.proofs.Common.{◌≡◌, ◌⊎◌, ◌+◌, ◌<◌, ◌≤◌, ◌++◌, ℕ, List, [], ◌∷◌, length, take, get_or, Option, Some, slice_get, refl, sym, ◌∙◌, ap, subst, arith, inl, inr}
 use Rattle.std.proofs.lemmas.Bool.{cases_order}
 use Rattle.std.proofs.lemmas.List.{take_more, take_all}
-use Rattle.std.proofs.lemmas.Option.{slice_get_within, slice_get_read}
+use Rattle.std.proofs.lemmas.Option.{slice_get_within, slice_get_read, same_Some}
 use Rattle.sd_journal.specs.declared.close_fault.CloseFault.{CloseFault}
 use Rattle.sd_journal.specs.declared.close_fault.CloseFault.TheVariants.{NotThere, Differs, OutOfOrder, Count, Acks}
 use Rattle.sd_journal.specs.declared.entry.Entry.{Entry}
 use Rattle.sd_journal.specs.declared.receipt.Receipt.{Receipt}
 use Rattle.sd_journal.specs.Receipts.{Accounts, AllStand, AreRising, HasCommand, IsFault, IsFaultAfter, IsFaultAt, Stands, command_count}
 use Rattle.sd_receipts.specs.Noted.{AreNoted, Rises}
-use Rattle.sd_receipts.proofs.GotLemmas.{front_of_front, got_before, got_in_front, got_push, got_taken, none_is_some, some_is}
+use Rattle.sd_receipts.proofs.GotLemmas.{front_of_front, got_before, got_in_front, got_push, got_taken, none_is_some}
 
 -- what is known of the receipts so far
 pub record Checked (first : ℕ) (journal : List Entry) (receipts : List Receipt) (last : List (Option ℕ)) : Type 0 where
@@ -137,7 +137,7 @@ module _ (first : ℕ) (journal : List Entry) (receipts : List Receipt) where
   one_at : (fault other : CloseFault) → IsFaultAt first journal receipts fault → IsFaultAt first journal receipts other → fault ≡ other
   one_at fault other a b = elim (cases_order a.0 b.0) [
     | inl same ↦
-        let own : a.1 ≡ b.1 = some_is a.1 b.1 (sym a.2 ∙ ap (slice_get receipts) same ∙ b.2) in
+        let own : a.1 ≡ b.1 = same_Some a.1 b.1 (sym a.2 ∙ ap (slice_get receipts) same ∙ b.2) in
         one_after first journal (take b.0 receipts) b.1 fault other
         (subst (λ r. IsFaultAfter first journal (take b.0 receipts) r fault) own (subst (λ k. IsFaultAfter first journal (take k receipts) a.1 fault) same a.5)) b.5
     | inr apart ↦ elim apart [

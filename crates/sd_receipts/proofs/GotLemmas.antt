@@ -1,9 +1,7 @@
 -- Elements of lists by their places.
 use Rattle.std.proofs.Common.{◌≡◌, ◌⊎◌, ◌<◌, ◌≤◌, ◌++◌, ℕ, zero, suc, List, [], ◌∷◌, length, take, Option, Some, None, slice_get, refl, sym, ap, arith, inl, inr}
 use Rattle.std.proofs.Math.ListN.{set}
-
-pub some_is : {A : Type 0} (a b : A) → Some a ≡ Some b → a ≡ b
-some_is a b e = cc
+use Rattle.std.proofs.lemmas.Option.{same_Some}
 
 pub none_is_some : {A : Type 0} {P : Type 0} (a : A) → (let n : Option A = None in n ≡ Some a) → P
 none_is_some a e = absurd (cc)
@@ -19,7 +17,7 @@ module _ {X : Type 0} where
   got_last (y ∷ xs) r = got_last xs r
 
   pub got_push : (xs : List X) (r x : X) (k : ℕ) → slice_get (xs ++ r ∷ []) k ≡ Some x → (slice_get xs k ≡ Some x) ⊎ ((k ≡ length xs) × (x ≡ r))
-  got_push [] r x zero e = inr (refl, sym (some_is r x e))
+  got_push [] r x zero e = inr (refl, sym (same_Some r x e))
   got_push [] r x (suc k) e = none_is_some x e
   got_push (y ∷ xs) r x zero e = inl e
   got_push (y ∷ xs) r x (suc k) e = elim (got_push xs r x k e) [ inl was ↦ inl was | inr is ↦ inr (ap suc is.0, is.1) ]

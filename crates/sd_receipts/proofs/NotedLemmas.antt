@@ -3,9 +3,10 @@ use Rattle.std.proofs.Common.{◌≡◌, ◌+◌, ◌<◌, ◌≤◌, ◌++◌, 
 use Rattle.std.proofs.Math.ListN.{set}
 use Rattle.std.proofs.lemmas.Bool.{cases_eq}
 use Rattle.std.proofs.lemmas.List.{length-replicate, take_all, take_more}
+use Rattle.std.proofs.lemmas.Option.{same_Some}
 use Rattle.sd_journal.specs.declared.receipt.Receipt.{Receipt}
 use Rattle.sd_receipts.specs.Noted.{AreNoted, Rises}
-use Rattle.sd_receipts.proofs.GotLemmas.{got_front, got_last, got_other, got_push, got_set, none_is_some, some_is}
+use Rattle.sd_receipts.proofs.GotLemmas.{got_front, got_last, got_other, got_push, got_set, none_is_some}
 
 -- one more of the receipts before it
 pub rises_more : (before : List Receipt) (i : ℕ) (r item : Receipt) → i < length before → item ≡ get_or before i item → Rises (take i before) r
@@ -26,7 +27,7 @@ rises_all before i r end rises = subst (λ xs. Rises xs r) (take_all i before en
 -- no seat has a number yet
 no_number : (n seat number : ℕ) → slice_get (let none : Option ℕ = None in replicate n none) seat ≡ Some (Some number) → ⊥
 no_number zero seat number e = none_is_some (Some number) e
-no_number (suc n) zero number e = none_is_some number (some_is None (Some number) e)
+no_number (suc n) zero number e = none_is_some number (same_Some None (Some number) e)
 no_number (suc n) (suc seat) number e = no_number n seat number e
 
 pub none_noted : (last : List (Option ℕ)) → last ≡ replicate 1000 None → AreNoted [] last
@@ -45,8 +46,8 @@ module _ (receipts : List Receipt) (last : List (Option ℕ)) (r : Receipt) (not
         room = length-set last r.seat (Some r.number) ∙ noted.room;
         has = λ seat number got. elim (cases_eq seat r.seat) [
           | inl same ↦
-              let is : Some r.number ≡ Some number = some_is (Some r.number) (Some number) (sym own ∙ ap (slice_get (set last r.seat (Some r.number))) (sym same) ∙ got) in
-              (length receipts, r, got_last receipts r, sym same, some_is r.number number is)
+              let is : Some r.number ≡ Some number = same_Some (Some r.number) (Some number) (sym own ∙ ap (slice_get (set last r.seat (Some r.number))) (sym same) ∙ got) in
+              (length receipts, r, got_last receipts r, sym same, same_Some r.number number is)
           | inr other ↦
               let was = noted.has seat number (sym (got_other last r.seat seat (Some r.number) other) ∙ got) in
               (was.0, was.1, got_front receipts (r ∷ []) was.0 was.1 was.2, was.3, was.4)

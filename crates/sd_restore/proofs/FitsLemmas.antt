@@ -12,6 +12,7 @@ use Rattle.std.proofs.lemmas.Bool.Decides.{nat_tests}
 use Rattle.std.proofs.lemmas.List.{length-map}
 use Rattle.std.proofs.lemmas.List.Folds.{Any-from_list_any}
 use Rattle.std.proofs.lemmas.List.Sums.{sum_by-cons}
+use Rattle.std.proofs.Math.Facts.{and_yes}
 use Rattle.sd_areas.specs.declared.area.Area.{Area}
 use Rattle.sd_areas.specs.declared.prot.Prot.{Prot}
 use Rattle.sd_areas.specs.Areas.{AreAreasOf, AreInSpace, AreMaximal, areas_of, begins_after, prot_in}
@@ -81,15 +82,11 @@ is_less a b is = grind (arith, nat_tests)
 below_in : (k : ℕ) (es : List (ℕ × Space)) (e : ℕ × Space) → T (below_all nat_cmp k es) → Contains es e → k < e.0
 below_in k [] e below c = absurd (omega (arith, c.1))
 below_in k (f ∷ es) e below c =
-    let parts = t_parts (is_lt (nat_cmp k f.0)) (below_all nat_cmp k es) below in
+    let parts = and_yes (is_lt (nat_cmp k f.0)) (below_all nat_cmp k es) below in
     elim (contains_cases f e es c) [
       | inl same ↦ let less = is_less k f.0 parts.0 in let key = ap (λ (x : ℕ × Space). x.0) same in omega (arith, less, key)
       | inr later ↦ below_in k es e parts.1 later
     ]
-  where
-    t_parts : (a b : Bool) → T (a && b) → T a × T b
-    t_parts true b t = (tt, t)
-    t_parts false b t = absurd t
 
 sorted_parts : (k : ℕ) (es : List (ℕ × Space)) → T (below_all nat_cmp k es && is_sorted nat_cmp es) → T (below_all nat_cmp k es) × T (is_sorted nat_cmp es)
 sorted_parts k es t = by (below_all nat_cmp k es) t

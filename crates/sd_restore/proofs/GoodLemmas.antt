@@ -3,6 +3,7 @@ use Rattle.std.proofs.Common.{◌≡◌, ℕ, zero, suc, Bool, true, false, ◌|
 use Rattle.std.specs.List.{list_any, AllByRecursion, IsDistinct}
 use Rattle.std.proofs.lemmas.Bool.Decides.{nat_tests}
 use Rattle.std.proofs.lemmas.List.{map-append}
+use Rattle.std.proofs.lemmas.Bool.{or_from}
 use Rattle.sd_disk.specs.Contents.{file_at}
 use Rattle.sd_image.specs.declared.reason.Reason.{Reason}
 use Rattle.sd_image.specs.Image.{Image, IsImage, OpenImages, is_open}
@@ -32,13 +33,10 @@ differs x (w ∷ xs) y zs all = differs x xs y zs all.1
 apart : (x y : ℕ) → nat_eq x y ≡ false → nat_eq y x ≡ false
 apart x y e = grind (arith, nat_tests)
 
-neither : (a b : Bool) → a ≡ false → b ≡ false → (a || b) ≡ false
-neither a b e f = ap (λ a. a || b) e ∙ f
-
 stands_once : (xs : List ℕ) (y : ℕ) (zs : List ℕ) → IsDistinct nat_eq (xs ++ y ∷ zs) → list_any (nat_eq y) xs ≡ false
 unfolding IsDistinct
 stands_once [] y zs distinct = refl
-stands_once (x ∷ xs) y zs distinct = neither (nat_eq y x) (list_any (nat_eq y) xs) (apart x y (differs x xs y zs distinct.0)) (stands_once xs y zs distinct.1)
+stands_once (x ∷ xs) y zs distinct = or_from (nat_eq y x) (list_any (nat_eq y) xs) (apart x y (differs x xs y zs distinct.0)) (stands_once xs y zs distinct.1)
 
 -- the images of all slots are those of the slots before one, that of this one, and those behind it
 split_at_slot : OneImage → (contents : List (List ℕ)) (slot : ℕ) (earlier images : List Image) (image : Image) → OpenImages (take slot contents) earlier

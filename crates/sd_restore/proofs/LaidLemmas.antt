@@ -27,6 +27,8 @@ use Rattle.sd_restore.specs.Placed.{IsLaidOut, PlacedPage, mapped_of, placed_mem
 use Rattle.sd_restore.proofs.FitsLemmas.{get_prots, in_space, same_prot}
 use Rattle.sd_restore.proofs.MappedLemmas.{space_of}
 use Rattle.std.specs.Borrow.{Bor}
+use Rattle.std.proofs.Math.Bool.{or-true}
+use Rattle.std.proofs.Math.Facts.{and_yes}
 use Rattle.sd_image.proofs.Members.{contains_cases}
 use Rattle.sd_chain.specs.Catalog.{Opened, Places}
 use Rattle.sd_chain.specs.Store.{IsCatalogOf, FindsTip}
@@ -38,10 +40,6 @@ use Rattle.sd_restore.proofs.MemoryLemmas.{After, empty_bare, pages_are, spaces_
 both : (a b : Bool) → T a → T b → T (a && b)
 both true b p q = q
 both false b p q = absurd p
-
-parts : (a b : Bool) → T (a && b) → T a × T b
-parts true b t = (tt, t)
-parts false b t = absurd t
 
 less_is : (a b : ℕ) → a < b → T (is_lt (nat_cmp a b))
 less_is a b less = grind (arith, nat_tests)
@@ -110,7 +108,7 @@ module _ {X Y : Type 0} (v : X → Y) where
 below_in : {X : Type 0} (k : ℕ) (es : List (ℕ × X)) (e : ℕ × X) → T (below_all nat_cmp k es) → Contains es e → k < e.0
 below_in k [] e below c = absurd (omega (arith, c.1))
 below_in k (f ∷ es) e below c =
-    let two = parts (is_lt (nat_cmp k f.0)) (below_all nat_cmp k es) below in
+    let two = and_yes (is_lt (nat_cmp k f.0)) (below_all nat_cmp k es) below in
     elim (contains_cases f e es c) [
       | inl same ↦ let less = is_less k f.0 two.0 in let key = ap (λ x. x.0) same in omega (arith, less, key)
       | inr later ↦ below_in k es e two.1 later
@@ -119,7 +117,7 @@ below_in k (f ∷ es) e below c =
 find_in : {X : Type 0} (es : List (ℕ × X)) (e : ℕ × X) → T (is_sorted nat_cmp es) → Contains es e → find nat_cmp e.0 es ≡ Some e.1
 find_in [] e sorted c = absurd (omega (arith, c.1))
 find_in (f ∷ es) e sorted c =
-    let two = parts (below_all nat_cmp f.0 es) (is_sorted nat_cmp es) sorted in
+    let two = and_yes (below_all nat_cmp f.0 es) (is_sorted nat_cmp es) sorted in
     elim (contains_cases f e es c) [
       | inl same ↦ subst (λ x. find nat_cmp x.0 (f ∷ es) ≡ Some x.1) (sym same) (ap (λ b. cond b (Some f.1) (find nat_cmp f.0 es)) (tied f.0 f.0 refl))
       | inr later ↦ (let less = below_in f.0 es e two.0 later in
@@ -322,12 +320,8 @@ module _ (areas_law : AreasLaw) (one_list : OneListLaw) (contents : List (List �
       any_at [] s c e = absurd (omega (arith, c.1))
       any_at (t ∷ spaces) s c e = elim (contains_cases t s spaces c) [
         | inl first ↦ ap (λ b. b || list_any (λ (t : Listed). nat_eq t.space q) spaces) (same_number t.space q (ap (λ (x : Listed). x.space) (sym first) ∙ e))
-        | inr later ↦ ap (λ b. nat_eq t.space q || b) (any_at spaces s later e) ∙ or_true (nat_eq t.space q)
+        | inr later ↦ ap (λ b. nat_eq t.space q || b) (any_at spaces s later e) ∙ or-true (nat_eq t.space q)
       ]
-        where
-          or_true : (b : Bool) → (b || true) ≡ true
-          or_true true = refl
-          or_true false = refl
 
       no_one : (s : Listed) × Contains spaces s × (s.space ≡ q) × (find nat_cmp q (by_space said spaces) ≡ Some (said s)) → ⊥
       no_one one = absurd (let e : false ≡ true = alive ∙ any_at spaces one.0 one.1 one.2 in cc)

@@ -29,15 +29,6 @@ use Rattle.sd_restore.proofs.FileLemmas.{open_more, closed_more}
 abbrev pub serials_of : List Image → List ℕ
 serials_of = map (λ (i : Image). i.header.serial)
 
-pub scan_of_nothing : EmptyCatalog → IsScan [] []
-unfolding IsDistinct
-scan_of_nothing law = record {
-  catalog = law;
-  images = [];
-  store = record { slots = refl; serials = tt };
-  serials = λ serial. refl;
-}
-
 pub scan_closed : ClosedSlotAddsNothing → (files : List (List ℕ)) (places : Places) (file : List ℕ) → IsScan files places → is_open file ≡ false → IsScan (files ++ file ∷ []) places
 scan_closed law files places file was closed = record {
   catalog = law files places file was.catalog closed;

@@ -6,6 +6,7 @@ use Rattle.std.specs.Option.{option_map}
 use Rattle.std.specs.FinMap as finmap
 use Rattle.std.proofs.lemmas.Bool.Decides.{nat_tests}
 use Rattle.std.proofs.lemmas.List.Elements.{All-contains}
+use Rattle.std.proofs.Math.Bool.{or-true}
 use Rattle.sd_areas.specs.declared.prot.Prot.{Prot}
 use Rattle.sd_areas.specs.Areas.{prot_in}
 use Rattle.sd_areas.specs.PlainMemory.{Page, PlainMemory}
@@ -54,15 +55,11 @@ any_at spaces s c = by spaces c.0 c.1 c.2
     self : (n : ℕ) → nat_eq n n ≡ true
     self n = grind (arith, nat_tests)
 
-    or_true : (b : Bool) → (b || true) ≡ true
-    or_true true = refl
-    or_true false = refl
-
     by : (spaces : List Listed) (k : ℕ) → k < length spaces → get_or spaces k s ≡ s → list_any (λ (t : Listed). nat_eq t.space s.space) spaces ≡ true
     by [] k less is = absurd (omega (arith, less))
     by (t ∷ spaces) zero less is = ap (λ (u : Listed). nat_eq u.space s.space || list_any (λ (t : Listed). nat_eq t.space s.space) spaces) is
         ∙ ap (λ b. b || list_any (λ (t : Listed). nat_eq t.space s.space) spaces) (self s.space)
-    by (t ∷ spaces) (suc k) less is = ap (λ b. nat_eq t.space s.space || b) (by spaces k (omega (arith, less)) is) ∙ or_true (nat_eq t.space s.space)
+    by (t ∷ spaces) (suc k) less is = ap (λ b. nat_eq t.space s.space || b) (by spaces k (omega (arith, less)) is) ∙ or-true (nat_eq t.space s.space)
 
 alive_in : (spaces : List Listed) (space : ℕ) → finmap.contains_key (with_spaces finmap.empty spaces) space ≡ list_any (λ (s : Listed). nat_eq s.space space) spaces
 alive_in spaces space = spaces_alive finmap.empty spaces space ∙ ap (λ b. b || list_any (λ (s : Listed). nat_eq s.space space) spaces) (empty_dead finmap.empty space refl)

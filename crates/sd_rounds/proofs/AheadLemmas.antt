@@ -6,7 +6,7 @@ use Rattle.std.specs.Ordering.{nat_cmp, eq_by_cmp, is_lt}
 use Rattle.std.specs.FinMap as finmap
 use Rattle.std.specs.FinMap.{find, is_sorted, entries_sorted, get-entries}
 use Rattle.std.specs.FinMap.Entries.{below_all}
-use Rattle.std.proofs.lemmas.Bool.{and_parts, both_ways, cases_Bool, cases_lt}
+use Rattle.std.proofs.lemmas.Bool.{and_parts, both_ways, cases_Bool, cases_lt, or_right}
 use Rattle.std.proofs.lemmas.Bool.Decides.{nat_tests}
 use Rattle.std.proofs.lemmas.List.Folds.{list_any-append}
 use Rattle.std.proofs.lemmas.List.Sums.{sum_by-cons}
@@ -67,10 +67,6 @@ few_counted after (at ∷ places) = by (ahead_of after at) refl (few_counted aft
 
 has_head : (at : Place) (places : List Place) → has at (at ∷ places) ≡ true
 has_head at places = ap (λ b. b || has at places) (page_here at)
-
-or_right : (a b : Bool) → b ≡ true → (a || b) ≡ true
-or_right true b e = refl
-or_right false b e = e
 
 has_tail : (q at : Place) (places : List Place) → has at places ≡ true → has at (q ∷ places) ≡ true
 has_tail q at places e = or_right (is_page q.0 q.1 at.0 at.1) (has at places) e

@@ -4,6 +4,7 @@ use Rattle.std.specs.List.{AllByRecursion, flat_map, list_any}
 use Rattle.std.specs.Option.{option_map}
 use Rattle.std.proofs.lemmas.Bool.{both_ways, cases_lt, eqb-true}
 use Rattle.std.proofs.lemmas.Bool.Decides.{nat_tests}
+use Rattle.std.proofs.Math.Bool.{or-false}
 use Rattle.sd_areas.specs.declared.area.Area.{Area}
 use Rattle.sd_areas.specs.Areas.{AreMaximal, area_pages, is_area_after, prot_in}
 use Rattle.sd_areas.specs.Pages.{is_within}
@@ -89,11 +90,7 @@ runs_have_entries parent before (t ∷ source) space page are =
         ≡ has page (flat_map run_pages (if b then t.runs else space_runs source space))
     by tail true e =
         ap (λ b. has page (flat_map run_pages t.runs) || b) (none_above parent t.space source (space, page) are.1 (let f : t.space ≡ space = eqb-true t.space space e in omega arith))
-        ∙ or_false (has page (flat_map run_pages t.runs))
-      where
-        or_false : (b : Bool) → (b || false) ≡ b
-        or_false true = refl
-        or_false false = refl
+        ∙ or-false (has page (flat_map run_pages t.runs))
     by tail false e = tail
 
 -- ---- Pages of areas and runs rise

@@ -20,6 +20,7 @@ use Rattle.sd_rounds.specs.declared.progress.Progress.{Progress}
 use Rattle.sd_rounds.specs.declared.progress.Progress.TheVariants.{Strange, Failed as HasFailed, More as GoesOnWith, PreDump as PreDumpOpen, Dump as DumpOpen}
 use Rattle.sd_rounds.specs.declared.stage.Stage.{Stage}
 use Rattle.std.specs.declared.alloc.AllocError.{AllocError}
+use Rattle.std.proofs.Math.Bool.{and-false}
 use Rattle.sd_rounds.specs.declared.stage.Stage.TheVariants.{Format, Freeze, Pass as PassStage, Close}
 use Rattle.sd_rounds.specs.Dumper.{AreRunning, AreCounted, Dumping, Hands, HandsTo, IsHanded, IsCounted, IsItsImage, IsRunning, Running, WorksOn, outcomes_since_freeze, ends, freezes, image_from, is_frozen_image, is_strange, order_of, running_of}
 use Rattle.sd_gate.specs.PlanUse.{outcomes_of}
@@ -38,11 +39,7 @@ from_counts : (since : ℕ) (running : Running) (serial : ℕ) (state : SlotStat
 from_counts since running serial state is = by running.image is.counts
   where
     by : (image : Option Making) → AreCounted since image → is_frozen_dump (image_from running serial state image) ≡ true → IsCounted since (image_from running serial state image)
-    by None counts frozen = absurd (both_ways false refl (sym (never (nat_eq (kind_number (order_of running serial state).kind) 2)) ∙ frozen))
-      where
-        never : (b : Bool) → (b && false) ≡ false
-        never true = refl
-        never false = refl
+    by None counts frozen = absurd (both_ways false refl (sym (and-false (nat_eq (kind_number (order_of running serial state).kind) 2)) ∙ frozen))
     by (Some image) counts frozen = counts frozen
 
 from_own : (running : Running) (serial : ℕ) (state : SlotState) (image : Option Making) → IsItsImage running image

@@ -4,7 +4,7 @@ use Rattle.std.specs.Prelude.{slice_index_or}
 use Rattle.std.specs.List.{AllByRecursion, flat_map, list_any}
 use Rattle.std.specs.Option.{option_map, option_and_then}
 use Rattle.std.specs.FinMap as finmap
-use Rattle.std.proofs.lemmas.Bool.{both_ways, cases_lt}
+use Rattle.std.proofs.lemmas.Bool.{both_ways, cases_lt, or_right}
 use Rattle.std.proofs.lemmas.Bool.Decides.{nat_tests}
 use Rattle.std.proofs.lemmas.List.Sums.{sum_by-cons}
 use Rattle.sd_areas.specs.declared.area.Area.{Area}
@@ -193,10 +193,6 @@ among parent before spaces (t ∷ rest) are law =
     split : (space page : ℕ) → is_some (kind_at (entries_listed (t ∷ rest)) (space, page))
         ≡ (is_some (kind_at (flat_map (run_entries t.space) t.runs) (space, page)) || is_some (kind_at (entries_listed rest) (space, page)))
     split space page = kind_append (flat_map (run_entries t.space) t.runs) (entries_listed rest) (space, page)
-
-    or_right : (a b : Bool) → b ≡ true → (a || b) ≡ true
-    or_right true b e = refl
-    or_right false b e = e
 
     same_number : (a : ℕ) → nat_eq a a ≡ true
     same_number a = grind (arith, nat_tests)

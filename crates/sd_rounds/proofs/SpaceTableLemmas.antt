@@ -5,7 +5,7 @@ use Rattle.std.specs.Option.{option_map}
 use Rattle.std.specs.Ordering.{nat_cmp}
 use Rattle.std.specs.FinMap as finmap
 use Rattle.std.specs.FinMap.{len-empty}
-use Rattle.std.proofs.lemmas.Bool.{cases_lt}
+use Rattle.std.proofs.lemmas.Bool.{cases_lt, false_from_ne_true}
 use Rattle.std.proofs.lemmas.Bool.Decides.{nat_tests}
 use Rattle.std.proofs.lemmas.List.Folds.{list_any-append}
 use Rattle.std.proofs.lemmas.List.Sums.{sum_by-append}
@@ -145,11 +145,7 @@ count_of_table law counts memory tables table found has are was =
     ∙ ap (pages_below memory.spaces) (let e : suc table.space ≡ table.space + 1 = omega arith in e)
 
 dead_beyond : PlainLaw → (memory : Contents) → IsSound memory → (space : ℕ) → (is_alive memory.spaces space ≡ true → ⊥) → finmap.contains_key (plain_of memory) space ≡ false
-dead_beyond law memory sound space dead = law.alive memory space ∙ not_alive (is_alive memory.spaces space) dead
-  where
-    not_alive : (b : Bool) → (b ≡ true → ⊥) → b ≡ false
-    not_alive true dies = absurd (dies refl)
-    not_alive false dies = refl
+dead_beyond law memory sound space dead = law.alive memory space ∙ false_from_ne_true (is_alive memory.spaces space) dead
 
 dead_zero : (memory : Contents) → IsSound memory → is_alive memory.spaces 0 ≡ true → ⊥
 dead_zero memory sound alive = omega (arith, (sound.spaces 0 alive).0)

@@ -81,13 +81,6 @@ pub checkpoint_of-other : (xs : List (Bor (List ℕ))) → length xs ≢ 1 → c
 checkpoint_of-other (a ∷ []) h = absurd (h refl)
 checkpoint_of-other _ h = refl
 
--- the first field is the word, and the others are its arguments
-pub asked_by_fields-parts : (xs : List (Bor (List ℕ))) → 1 ≤ length xs → asked_by_fields (texts xs) ≡ asked_by_word (get_or xs 0 (record { ref_ptr = (0, 0); now = [] })).now (texts (take (length xs - 1) (drop 1 xs)))
-asked_by_fields-parts [] h = absurd (omega arith)
-asked_by_fields-parts (x ∷ xs) h =
-    let e : take (suc (length xs) - 1) xs ≡ xs = take_all _ xs (omega arith) in
-    ap (λ ys. asked_by_word x.now (texts ys)) (sym e)
-
 -- ---- a line, taken apart field by field
 abbrev pub is_space : ℕ → Bool
 is_space byte = byte == 32
@@ -156,29 +149,3 @@ splits-many line rest fields room splits found =
     omega arith
 
 -- ---- no line has more than five fields
-none_either : (b : Bool) (line : Option Line) → line ≡ None → (if b then None else line) ≡ None
-none_either true line e = refl
-none_either false line e = e
-
-asked_by_word-many : (word a b d e f : List ℕ) (more : List (List ℕ)) → asked_by_word word (a ∷ b ∷ d ∷ e ∷ f ∷ more) ≡ None
-asked_by_word-many word a b d e f more =
-    none_either (bytes_eq word (codes "mmap")) _ (none_either (bytes_eq word (codes "munmap")) _ (
-    none_either (bytes_eq word (codes "mprotect")) _ (none_either (bytes_eq word (codes "fork")) _ (
-    none_either (bytes_eq word (codes "exit")) _ (none_either (bytes_eq word (codes "load")) _ (
-    none_either (bytes_eq word (codes "try")) _ (none_either (bytes_eq word (codes "fault")) _ (
-    none_either (bytes_eq word (codes "store")) _ (none_either (bytes_eq word (codes "words")) _ (
-    none_either (bytes_eq word (codes "begin")) _ (none_either (bytes_eq word (codes "begin-merge")) _ (
-    none_either (bytes_eq word (codes "cancel")) _ (none_either (bytes_eq word (codes "work")) _ (
-    none_either (bytes_eq word (codes "perform")) _ (none_either (bytes_eq word (codes "perform-at")) _ (
-    none_either (bytes_eq word (codes "step")) _ (none_either (bytes_eq word (codes "finish")) _ (
-    none_either (bytes_eq word (codes "checkpoint")) _ (none_either (bytes_eq word (codes "merge")) _ (
-    none_either (bytes_eq word (codes "reopen")) _ (none_either (bytes_eq word (codes "trim")) _ (
-    refl))))))))))))))))))))))
-
-asked_by_fields-many : (fields : List (List ℕ)) → 5 < length fields → asked_by_fields fields ≡ None
-asked_by_fields-many [] many = refl
-asked_by_fields-many (word ∷ a ∷ b ∷ d ∷ e ∷ f ∷ more) many = asked_by_word-many word a b d e f more
-asked_by_fields-many (word ∷ _) many = absurd (omega arith)
-
-pub asked_by-many : (line : List ℕ) → 5 < length (slice_split is_space line) → asked_by line ≡ None
-asked_by-many line many = asked_by_fields-many (slice_split is_space line) many

@@ -35,22 +35,11 @@ digit_below radix [] i all within = absurd (omega arith)
 digit_below radix (c ∷ cs) zero all within = all.0
 digit_below radix (c ∷ cs) (suc i) all within = digit_below radix cs i all.1 (omega arith)
 
--- a number that a digit more leaves below 2^64, and one that it doesn't
-pub fits-more : (radix number : ℕ) → number ≤ (2 ^ 64 - 1) / radix → number * radix < 2 ^ 64
-fits-more radix number le =
-    let most = div-mul-le_self (2 ^ 64 - 1) radix in
-    let product : number * radix ≤ (2 ^ 64 - 1) / radix * radix = mul-le-mul_right radix le in
-    omega arith
-
 pub large-more : (radix number : ℕ) → 1 ≤ radix → (2 ^ 64 - 1) / radix < number → 2 ^ 64 ≤ number * radix
 large-more radix number some less = elim (cases_lt (number * radix) (2 ^ 64)) [
   | inl below ↦ (let most = le-div number (2 ^ 64 - 1) radix some (omega arith) in absurd (omega arith))
   | inr above ↦ above
 ]
-
--- no digits at all
-pub numeral-empty : (radix : ℕ) (ds : List ℕ) → length ds ≡ 0 → numeral_of radix ds ≡ None
-numeral-empty radix ds none = not_chosen _ _ (digits_value radix ds) (Decides-numeral radix ds) (λ own. let some = own.0.0 in omega arith)
 
 -- a byte that is no digit
 pub numeral-unfit : (radix : ℕ) (ds : List ℕ) (i : ℕ) → i < length ds → radix ≤ digit_value (get_or ds i 0) → numeral_of radix ds ≡ None

@@ -3,7 +3,7 @@ use Rattle.std.proofs.Common.{◌≡◌, ℕ, ◌+◌, ◌<◌, ◌≤◌, ◌==
 use Rattle.std.specs.List.{filter_map, position_or_len}
 use Rattle.std.specs.Option.{option_map}
 use Rattle.std.specs.Prelude.{position}
-use Rattle.std.proofs.lemmas.Bool.{cases_Bool}
+use Rattle.std.proofs.lemmas.Bool.{cases_Bool, false_from_ne_true}
 use Rattle.std.proofs.lemmas.Bool.Decides.{nat_tests, Decides-ltb}
 use Rattle.std.proofs.lemmas.List.Elements.{filter_map-append}
 use Rattle.std.proofs.lemmas.List.Splits.{slice_split_first}
@@ -28,23 +28,17 @@ pub record Parsed (script rest : List ℕ) (number : ℕ) (requests : List Line)
   pub in_order : requests ≡ filter_map request_in before
   pub room : number + length rest ≤ length script + 1
 
-pub parsed-none : (script : List ℕ) → Parsed script script 1 []
-parsed-none script = record { before = []; parted = refl; counted = omega arith; fit = refl; in_order = refl; room = omega arith }
-
 -- ---- where a text's first line ends
-not_so : (b : Bool) → (b ≡ true → ⊥) → b ≡ false
-not_so true never = absurd (never refl)
-not_so false never = refl
 
 pub line_at : (text : List ℕ) (end : ℕ) → IsFirstByte (is_byte 10) text (Some end) → lines_of text ≡ take end text ∷ lines_of (drop (end + 1) text)
 line_at text end first =
     let within = first.0.high in
-    let place = position_or_len_is is_newline text end 0 (omega arith) (λ k l. not_so (is_newline (get_or text k 0)) (first.0.before k (omega arith) l)) (λ _. first.1) in
+    let place = position_or_len_is is_newline text end 0 (omega arith) (λ k l. false_from_ne_true (is_newline (get_or text k 0)) (first.0.before k (omega arith) l)) (λ _. first.1) in
     slice_split_first is_newline text 0 (omega arith) ∙ ap (λ k. take k text ∷ lines_of (drop (k + 1) text)) place
 
 pub line_alone : (text : List ℕ) → IsFirstByte (is_byte 10) text None → lines_of text ≡ text ∷ []
 line_alone text none = one_part is_newline text
-    (position_or_len_is is_newline text (length text) 0 (omega arith) (λ k l. not_so (is_newline (get_or text k 0)) (none k (omega arith) l)) (λ l. absurd (omega arith)))
+    (position_or_len_is is_newline text (length text) 0 (omega arith) (λ k l. false_from_ne_true (is_newline (get_or text k 0)) (none k (omega arith) l)) (λ l. absurd (omega arith)))
 
 -- ---- lists of which none passes a test
 module _ {X : Type 0} (p : X → Bool) where

@@ -1,6 +1,7 @@
 -- The images of a checkpoint, in the contents of a disk, from event to event.
 use Rattle.std.proofs.Common.{◌≡◌, ◌≢◌, ◌⊎◌, ℕ, zero, suc, ◌+◌, ◌<◌, ◌≤◌, Bool, true, false, List, get_or, length, map, is_none, Option, Some, None, IfSome, slice_get, refl, sym, ◌∙◌, ap, subst, inl, inr, arith}
 use Rattle.std.proofs.lemmas.Bool.{cases_eq, leb-true}
+use Rattle.std.proofs.Math.Numerals.{add-one}
 use Rattle.sd_chain.specs.Catalog.{Opened, Places, place_of}
 use Rattle.sd_command.specs.declared.refusal.Refusal.{Refusal}
 use Rattle.sd_command.specs.declared.refusal.Refusal.TheVariants as refusal
@@ -83,9 +84,6 @@ there_after before after job places (suc place) serial same there = (
 -- no checkpoint runs
 pub none_there : {D : Type 0} (g : Ghosts D) (world : WorldView D) → world.core.dumper.running ≡ None → HasPreDumpsThere g world
 none_there g world is = subst (λ o. IfSome o (λ r. ArePreDumpsThere (g.contents world.disk) (begun_as r) world.core.catalog r.opened r.parent)) (sym is) tt
-
-one_more : (n : ℕ) → n + 1 ≡ suc n
-one_more n = omega arith
 
 -- one more entered, and stands
 there_next : (contents : List (List ℕ)) (job from : Running) (old new : Places) (opened serial : ℕ) (image : Opened) → KeepsEach old new → HasPreDumps job new (suc opened) serial
@@ -328,7 +326,7 @@ module _ {D : Type 0} (g : Ghosts D) (old new : WorldView D) (pre_new : HasItsPr
           let stands = entered running round.image round.image.header.serial opens round.has.slot round.has.is_in in
           let had = subst (λ o. IfSome o (λ r. ArePreDumpsThere contents (begun_as r) old.core.catalog r.opened r.parent)) from there in
           let has = subst (λ o. IfSome o (λ r. HasPreDumps (begun_as r) new.core.catalog r.opened r.parent)) is pre_new in
-          let suc_is : next.opened ≡ suc running.opened = round.opened ∙ one_more running.opened in
+          let suc_is : next.opened ≡ suc running.opened = round.opened ∙ add-one running.opened in
           let has_more : HasPreDumps (begun_as next) new.core.catalog (suc running.opened) next.parent = subst (λ n. HasPreDumps (begun_as next) new.core.catalog n next.parent) suc_is has in
           subst (λ o. IfSome o (λ r. ArePreDumpsThere (g.contents new.disk) (begun_as r) new.core.catalog r.opened r.parent)) (sym is)
           (subst (λ n. ArePreDumpsThere (g.contents new.disk) (begun_as next) new.core.catalog n next.parent) (sym suc_is)

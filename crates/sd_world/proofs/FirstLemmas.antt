@@ -1,7 +1,7 @@
 -- The first call of a worker that was asked for, and how its event is answered.
 use Rattle.std.proofs.Common.{◌≡◌, ◌⊎◌, ℕ, ◌+◌, ◌<◌, ◌==◌, ◌&&◌, ◌||◌, nat_lt, Bool, true, false, cond, List, [], ◌∷◌, Option, Some, None, slice_get, slice_set, zero, suc, refl, sym, ◌∙◌, ap, subst, inl, inr, arith}
 use Rattle.std.specs.List.{count_by, fold, list_any}
-use Rattle.std.proofs.lemmas.Bool.{false≢true}
+use Rattle.std.proofs.lemmas.Bool.{false≢true, and_parts}
 use Rattle.std.proofs.lemmas.Bool.Decides.{nat_tests}
 use Rattle.std.proofs.lemmas.Option.{same_Some}
 use Rattle.sd_command.specs.declared.refusal.Refusal.TheVariants.{Idle}
@@ -93,15 +93,11 @@ same_index m n is = grind (arith, nat_tests, is)
 lesser : (m n : ℕ) → nat_lt m n ≡ true → m < n
 lesser m n is = grind (arith, nat_tests, is)
 
-both : (a b : Bool) → (a && b) ≡ true → (a ≡ true) × (b ≡ true)
-both true b is = (refl, is)
-both false b is = absurd (false≢true is)
-
 before_at : (worker : Worker) (ticket : ℕ) (o : Option RequestId) → is_before worker ticket o ≡ true
     → (id : RequestId) × (o ≡ Some id) × (id.worker ≡ worker) × (id.ticket < ticket)
 before_at worker ticket None is = absurd (false≢true is)
 before_at worker ticket (Some id) is =
-    let parts = both (index id.worker == index worker) (nat_lt id.ticket ticket) is in
+    let parts = and_parts (index id.worker == index worker) (nat_lt id.ticket ticket) is in
     (id, refl, same_worker id.worker worker (same_index (index id.worker) (index worker) parts.0), lesser id.ticket ticket parts.1)
 
 of_at : (worker : Worker) (o : Option RequestId) → is_of_worker worker o ≡ true → (id : RequestId) × (o ≡ Some id) × (id.worker ≡ worker)

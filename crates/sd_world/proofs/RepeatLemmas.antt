@@ -1,14 +1,12 @@
 -- Events that are alike, each answered alike.
 use Rattle.std.proofs.Common.{◌≡◌, ℕ, ◌+◌, zero, suc, replicate, refl, subst}
+use Rattle.std.proofs.Math.Numerals.{suc-eq-add-one}
 use native.Mathlib.Numerals.{unary_clauses}
 use Rattle.sd_command.specs.declared.reply.Reply.{Reply}
 use Rattle.sd_disk.specs.declared.disk.Disk.{Ghosts}
 use Rattle.sd_world.specs.declared.event.Event.{Event}
 use Rattle.sd_world.specs.Runs.{IsStep, Runs}
 use Rattle.sd_world.specs.View.{WorldView}
-
-one_more : (count : ℕ) → suc count ≡ count + 1
-one_more count = simp unary_clauses refl
 
 module _ {D : Type 0} (g : Ghosts D) (event : Event) (answer : Reply) where
   repeated_on : (count : ℕ) (first mid last : WorldView D) → Runs g first (replicate count event) (replicate count answer) mid
@@ -19,5 +17,5 @@ module _ {D : Type 0} (g : Ghosts D) (event : Event) (answer : Reply) where
   -- one more behind those so far
   pub repeated : (count : ℕ) (first mid last : WorldView D) → Runs g first (replicate count event) (replicate count answer) mid
       → IsStep g event mid answer last → Runs g first (replicate (count + 1) event) (replicate (count + 1) answer) last
-  repeated count first mid last runs step = subst (λ n. Runs g first (replicate n event) (replicate n answer) last) (one_more count)
+  repeated count first mid last runs step = subst (λ n. Runs g first (replicate n event) (replicate n answer) last) (suc-eq-add-one count)
       (repeated_on count first mid last runs step)

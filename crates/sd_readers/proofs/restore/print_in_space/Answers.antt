@@ -1,23 +1,16 @@
 use Rattle.std.proofs.Common.{◌≡◌, nat_eq, Bool, true, false, not, refl, sym, ◌∙◌, subst}
 use Rattle.std.specs.Io.KnownBytes.{Appends}
 use Rattle.std.proofs.KnownBytes.{Appends-nil}
+use Rattle.std.proofs.lemmas.Bool.{not-false, not-true}
 use Rattle.sd_exit.specs.Ending.{OnFault}
 use Rattle.sd_exit.specs.Texts.{PrintsBeginning}
 use Rattle.sd_readers.proofs.PageLemmas.{lines_apart, lines_of_zeros, lines_within, same_printed}
 use Rattle.sd_readers.proofs.restore.print_in_space.Goals as goal
 
-no_more : (b : Bool) → not b ≡ true → b ≡ false
-no_more true e = sym e
-no_more false e = refl
-
-yet : (b : Bool) → not b ≡ false → b ≡ true
-yet true e = refl
-yet false e = sym e
-
 pub returns-then-ne-clause-text : goal.returns-then-ne-clause-text
 returns-then-ne-clause-text g c = λ honest.
     let from = g.W.Write.contents c.args.out.now.writer in
-    let apart = no_more (nat_eq c.args.run.now.space c.args.space) (sym c.ne.ensures ∙ c.if-ne.true) in
+    let apart = not-true (nat_eq c.args.run.now.space c.args.space) (sym c.ne.ensures ∙ c.if-ne.true) in
     subst (Appends from from) (sym (lines_apart (g.D.Disk.contents c.args.disk.now) c.args.space c.args.run.now apart)) (Appends-nil from)
 
 pub returns-in-Zero-clause-text : goal.returns-in-Zero-clause-text
@@ -27,12 +20,12 @@ returns-in-Zero-clause-text g c = λ honest.
 
 pub returns-in-Data-clause-text : goal.returns-in-Data-clause-text
 returns-in-Data-clause-text g c = λ honest.
-    let within = yet (nat_eq c.args.run.now.space c.args.space) (sym c.ne.ensures ∙ c.if-ne.false) in
+    let within = not-false (nat_eq c.args.run.now.space c.args.space) (sym c.ne.ensures ∙ c.if-ne.false) in
     same_printed c.print_run.result (g.W.Write.contents c.args.out.now.writer) (g.W.Write.contents c.print_run.new.out.writer) _ _
     (sym (lines_within (g.D.Disk.contents c.args.disk.now) c.args.space c.args.run.now within)) (c.print_run.ensures.text honest)
 
 pub returns-in-Data-clause-begins : goal.returns-in-Data-clause-begins
 returns-in-Data-clause-begins g c = λ honest.
-    let within = yet (nat_eq c.args.run.now.space c.args.space) (sym c.ne.ensures ∙ c.if-ne.false) in
+    let within = not-false (nat_eq c.args.run.now.space c.args.space) (sym c.ne.ensures ∙ c.if-ne.false) in
     subst (λ text. OnFault c.print_run.result (PrintsBeginning (g.W.Write.contents c.args.out.now.writer) (g.W.Write.contents c.print_run.new.out.writer) text))
     (sym (lines_within (g.D.Disk.contents c.args.disk.now) c.args.space c.args.run.now within)) (c.print_run.ensures.begins honest)
