@@ -75,9 +75,8 @@ was_frozen kind Freeze plan own [] was is = absurd (let no : None ≡ Some own =
 was_frozen kind PassStage plan own [] was is = refl
 was_frozen kind (Close o header tables) plan own [] was is = refl
 was_frozen kind Freeze plan own (c ∷ calls) was is = absurd (let no : None ≡ Some own = was in cc)
-was_frozen kind PassStage plan own (c ∷ calls) was is = refl
-was_frozen kind (Close o header tables) plan own (c ∷ calls) was is = refl
 was_frozen _ (Format o) plan own _ was is = absurd (false≢true is)
+was_frozen kind _ plan own _ was is = refl
 
 -- ---- its slot
 

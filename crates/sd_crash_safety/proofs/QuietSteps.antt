@@ -81,10 +81,12 @@ written_closed Shut at body belief true ready may = closed_so Shut body belief m
 written_closed Shut at body belief false ready may = closed_so Shut body belief may refl (λ strong is. is)
 written_closed ShutSynced at body belief true ready may = closed_so Shut body belief may refl (λ strong is. is)
 written_closed ShutSynced at body belief false ready may = closed_so Shut body belief may refl (λ strong is. is)
+written_closed Bare at body belief true ready may = closed_so Writing body belief may refl (λ strong is. is)
 written_closed Bare at body belief false ready may = closed_so Shut body belief may refl (λ strong is. is)
+written_closed Writing at body belief true ready may = closed_so Writing body belief may refl (λ strong is. is)
 written_closed Writing at body belief false ready may = closed_so Shut body belief may refl (λ strong is. is)
+written_closed Ready at body belief true ready may = closed_so Writing body belief may refl (λ strong is. is)
 written_closed Ready at body belief false ready may = closed_so Shut body belief may refl (λ strong is. is)
-written_closed _ at body belief true ready may = closed_so Writing body belief may refl (λ strong is. is)
 written_closed _ at body belief done ready may = absurd (both_ways false refl ready)
 
 still_closed : (phase : Phase) (at : ℕ) (body : List ℕ) (belief : Belief) (done : Bool) → may_write phase ≡ true → IsWeaker Closed belief → MayBelieve (after phase (Write at) done) body belief
