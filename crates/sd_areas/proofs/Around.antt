@@ -126,11 +126,7 @@ hole_around xs from to first count m l h below above =
 pub hole_around_at : (xs seen part : List Area) (from to first count : ℕ) → seen ≡ xs → part ≡ xs → AreMaximal None xs → from ≤ to → to ≤ length seen
     → AllWithin (λ (x : Area). x.first + x.count < first) seen 0 from → AllWithin (λ (x : Area). first + count < x.first) seen to (length seen)
     → has_hole (page_map_of (slice_range part from to)) first count ≡ has_hole (page_map_of xs) first count
-hole_around_at xs seen part from to first count e f m l h below above =
-    let below' = subst (λ (ys : List Area). AllWithin (λ (x : Area). x.first + x.count < first) ys 0 from) e below in
-    let above' = subst (λ (ys : List Area). AllWithin (λ (x : Area). first + count < x.first) ys to (length ys)) e above in
-    ap (λ (ys : List Area). has_hole (page_map_of (slice_range ys from to)) first count) f
-    ∙ hole_around xs from to first count m l (subst (λ (ys : List Area). to ≤ length ys) e h) below' above'
+hole_around_at xs seen part from to first count e f m l h below above = grind (arith, hole_around)
 
 -- what the searches tell
 pub below_by : (xs : List Area) (i begin first : ℕ) → IsPartitionPoint (λ y. ends_by begin y ≡ true) (λ y. ends_by begin y ≡ false) xs i → begin ≡ first
@@ -147,27 +143,21 @@ above_by xs from met begin first count m found e k d low high =
 
 -- ---- what the list is afterwards
 pub run_fits : (old new placed : List Area) (area : Area) → HasRun old placed area → new ≡ placed → length new ≤ 1024 → within_areas (set_pages (page_map_of old) area.first area.count area.prot) ≡ Ok (page_map_of new)
-run_fits old new placed area run e few =
-    let now : HasRun old new area = subst (λ (l : List Area). HasRun old l area) (sym e) run in
-    ap within_areas (run_is old new area now) ∙ within_ok new now.maximal few
+run_fits old new placed area run e few = grind (arith, run_is, within_ok)
 
 pub gap_fits : (old new placed : List Area) (first count : ℕ) → HasGap old placed first count → new ≡ placed → length new ≤ 1024 → within_areas (remove_pages (page_map_of old) first count) ≡ Ok (page_map_of new)
-gap_fits old new placed first count gap e few =
-    let now : HasGap old new first count = subst (λ (l : List Area). HasGap old l first count) (sym e) gap in
-    ap within_areas (gap_is old new first count now) ∙ within_ok new now.maximal few
+gap_fits old new placed first count gap e few = grind (arith, gap_is, within_ok)
 
 -- without areas nothing is unmapped
 bare_gap : (page : ℕ) (b : Bool) → prot_in [] page ≡ cond b None (prot_in [] page)
-bare_gap page true = refl
-bare_gap page false = refl
+bare_gap page b = grind arith
 
 pub bare_fits : (areas : List Area) (first count : ℕ) → length areas ≡ 0 → within_areas (remove_pages (page_map_of areas) first count) ≡ Ok (page_map_of areas)
 bare_fits [] first count e = gap_fits [] [] [] first count (record { maximal = tt; same = λ page. bare_gap page (is_within first count page) }) refl (omega arith)
 bare_fits (area ∷ areas) first count e = absurd (omega (arith, e))
 
 refused_by : (r : Result PageMap Errno) (e : AreaError) (long : Type 0) → (long → r ≡ Err Enomem) → (e ≡ OutOfMemory) ⊎ ((e ≡ Refused Enomem) × long) → RefusesAsDue r e
-refused_by r e long full (inl out) = subst (RefusesAsDue r) (sym out) tt
-refused_by r e long full (inr many) = subst (RefusesAsDue r) (sym many.0) (full many.1)
+refused_by r e long full h4 = grind arith
 
 pub run_refused : (old placed : List Area) (area : Area) (e : AreaError) → HasRun old placed area → (e ≡ OutOfMemory) ⊎ ((e ≡ Refused Enomem) × (1024 < length placed))
     → RefusesAsDue (within_areas (set_pages (page_map_of old) area.first area.count area.prot)) e
@@ -182,5 +172,4 @@ on_ok_both (Ok x) f p q = f p q
 on_ok_both (Err e) f p q = tt
 
 pub if_err_weaker : {A E : Type 0} {P Q : E → Type 0} (r : Result A E) → ((e : E) → P e → Q e) → IfErr r P → IfErr r Q
-if_err_weaker (Ok x) f p = tt
-if_err_weaker (Err e) f p = f e p
+if_err_weaker r f p = grind arith

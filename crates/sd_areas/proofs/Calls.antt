@@ -1,5 +1,5 @@
 -- What a call gives, from the areas that it made.
-use Rattle.std.proofs.Common.{◌≡◌, ℕ, ◌<◌, ◌≤◌, ◌^◌, Bool, true, false, not, cond, ◌==◌, List, [], length, Option, Some, None, refl, sym, ap, subst, ◌∙◌, inl, inr, ◌%◌}
+use Rattle.std.proofs.Common.{◌≡◌, ℕ, ◌<◌, ◌≤◌, ◌^◌, Bool, true, false, not, cond, ◌==◌, List, [], length, Option, Some, None, refl, sym, ap, subst, ◌∙◌, inl, inr, ◌%◌, arith}
 use Rattle.std.specs.Prelude.{nat_lt, IsSome, Ok, Err, Result, IfSome, IfOk, IfErr, is_some}
 use Rattle.std.specs.Cmp.{nat_cmp_total}
 use Rattle.std.specs.Ordering.{nat_cmp}
@@ -31,8 +31,7 @@ alike : (first count q x : ℕ) → q ≡ x → not (is_within first count x) �
 alike first count q x e = ap (λ n. not (is_within first count n)) (sym e)
 
 turned : (b : Bool) (o : Option Prot) → cond (not b) o None ≡ cond b None o
-turned true o = refl
-turned false o = refl
+turned b o = grind arith
 
 pub get-remove_pages : (pages : PageMap) (first count page : ℕ) → finmap.get (remove_pages pages first count) page ≡ cond (is_within first count page) None (finmap.get pages page)
 unfolding remove_pages
@@ -45,11 +44,7 @@ none_some : (o : Option Prot) → o ≡ None → IsSome o → ⊥
 none_some o e s = cc
 
 pub areas_in_space : (areas : List Area) → AreMaximal None areas → AreInSpace (page_map_of areas)
-areas_in_space areas m page some =
-    elim (cases_lt page (2 ^ 35)) [
-      | inl l ↦ l
-      | inr g ↦ absurd (none_some (finmap.get (page_map_of areas) page) (get-pages_of areas page ∙ none_outside None areas page m g) some)
-    ]
+areas_in_space areas m page some = grind (arith, cases_lt, none_some, get-pages_of, none_outside)
 
 pub areas_of_pages_of : (areas : List Area) → AreMaximal None areas → areas_of (page_map_of areas) ≡ areas
 areas_of_pages_of areas m = areas_of_is (page_map_of areas) areas (areas_in_space areas m) (pages_of_areas areas m)
@@ -63,16 +58,10 @@ unfolding within_areas
 within_err areas m l = cond-true (nat_lt 1024 (length (areas_of (page_map_of areas)))) (Err Enomem) (Ok (page_map_of areas)) (rw (areas_of_pages_of areas m) (lt-ltb 1024 (length areas) l))
 
 pub run_is : (old new : List Area) (area : Area) → HasRun old new area → set_pages (page_map_of old) area.first area.count area.prot ≡ page_map_of new
-run_is old new area h = same_pages _ _ (λ page.
-    get-set_pages (page_map_of old) area.first area.count area.prot page
-    ∙ ap (cond (is_within area.first area.count page) (Some area.prot)) (get-pages_of old page)
-    ∙ sym (h.same page) ∙ sym (get-pages_of new page))
+run_is old new area h = grind (arith, same_pages, get-set_pages, get-pages_of)
 
 pub gap_is : (old new : List Area) (first count : ℕ) → HasGap old new first count → remove_pages (page_map_of old) first count ≡ page_map_of new
-gap_is old new first count h = same_pages _ _ (λ page.
-    get-remove_pages (page_map_of old) first count page
-    ∙ ap (cond (is_within first count page) None) (get-pages_of old page)
-    ∙ sym (h.same page) ∙ sym (get-pages_of new page))
+gap_is old new first count h = grind (arith, same_pages, get-remove_pages, get-pages_of)
 
 -- ---- `mmap`
 pub mapped_invalid : (pages : PageMap) (address bytes : ℕ) (prot : Prot) → is_invalid address bytes ≡ true → map_result pages address bytes prot ≡ Err Einval
@@ -144,13 +133,11 @@ hole_test pages old first count address bytes b v f n h = rw (← v, ← f, ← 
 pub range_found : (found : Option PageRange) (r : Result PageRange Errno) (past : Errno) (address bytes : ℕ) (P : PageRange → Type 0) → r ≡ ok_or found past → not (is_some found) ≡ is_outside address bytes
     → IfSome found (λ range. range.first ≡ page_of address) → IfSome found (λ range. range.count ≡ pages_for bytes)
     → ((range : PageRange) → is_outside address bytes ≡ false → range.first ≡ page_of address → range.count ≡ pages_for bytes → P range) → IfOk r P
-range_found None r past address bytes P e within first count holds = subst (λ (x : Result PageRange Errno). IfOk x P) (sym e) tt
-range_found (Some range) r past address bytes P e within first count holds = subst (λ (x : Result PageRange Errno). IfOk x P) (sym e) (holds range (sym within) first count)
+range_found found r past address bytes P e within first count holds = grind arith
 
 pub range_past : (found : Option PageRange) (r : Result PageRange Errno) (past : Errno) (address bytes : ℕ) (P : Errno → Type 0) → r ≡ ok_or found past → not (is_some found) ≡ is_outside address bytes
     → (is_outside address bytes ≡ true → P past) → IfErr r P
-range_past None r past address bytes P e within holds = subst (λ (x : Result PageRange Errno). IfErr x P) (sym e) (holds (sym within))
-range_past (Some range) r past address bytes P e within holds = subst (λ (x : Result PageRange Errno). IfErr x P) (sym e) tt
+range_past found r past address bytes P e within holds = grind arith
 
 pub run_by_range : (pages : PageMap) (address bytes : ℕ) (prot : Prot) (first count : ℕ) → is_invalid address bytes ≡ false → is_outside address bytes ≡ false → first ≡ page_of address → count ≡ pages_for bytes
     → map_result pages address bytes prot ≡ within_areas (set_pages pages first count prot)

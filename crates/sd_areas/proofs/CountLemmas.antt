@@ -62,8 +62,7 @@ abbrev area_entries : List Area → List Entry
 area_entries areas = flat_map (λ (area : Area). map (λ page. (page, area.prot)) (area_pages area)) areas
 
 begins : (before : Option Area) (area : Area) → is_area_after before area ≡ true → end_before before ≤ area.first
-begins None area is = omega arith
-begins (Some b) area is = grind (arith, nat_tests)
+begins before area is = grind arith
 
 areas_from : (before : Option Area) (areas : List Area) → AreMaximal before areas → AreFrom (end_before before) (area_entries areas)
 areas_from before [] are = tt

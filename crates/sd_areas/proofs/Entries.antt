@@ -31,12 +31,7 @@ put_case page prot a rest b e = ap (λ t. cond t (longer page a ∷ rest) (singl
 
 put_first : (k page : ℕ) (prot : Prot) (areas : List Area) → k < page → FirstAbove k (put_page_before page prot areas)
 unfolding FirstAbove single longer
-put_first k page prot [] l = l
-put_first k page prot (a ∷ rest) l =
-    elim (cases_Bool (is_area_continued (single page prot) a)) [
-      | inl t ↦ subst (FirstAbove k) (sym (put_case page prot a rest true t)) l
-      | inr f ↦ subst (FirstAbove k) (sym (put_case page prot a rest false f)) l
-    ]
+put_first k page prot areas l = grind arith
 
 -- only the end and the permissions of what stands before count
 same_before : (a b : Area) (rest : List Area) → b.first + b.count ≡ a.first + a.count → b.prot ≡ a.prot → AreMaximal (Some a) rest → AreMaximal (Some b) rest
@@ -49,38 +44,14 @@ joined_parts page prot a t = let p = and_parts _ _ t in (eqb-true _ _ p.0, same_
 
 put_maximal : (page : ℕ) (prot : Prot) (areas : List Area) → AreMaximal None areas → FirstAbove page areas → page < 2 ^ 35 → AreMaximal None (put_page_before page prot areas)
 unfolding FirstAbove single longer
-put_maximal page prot [] m l w = (first_area (single page prot) (omega arith) (omega arith), tt)
-put_maximal page prot (a ∷ rest) m l w =
-    let f = follows_on None a m.0 in
-    elim (cases_Bool (is_area_continued (single page prot) a)) [
-      | inl t ↦ (
-          let touch : page + 1 ≡ a.first = (joined_parts page prot a t).0 in
-          subst (AreMaximal None) (sym (put_case page prot a rest true t))
-          (first_area (longer page a) (omega arith) (omega (arith, f.within)), same_before a (longer page a) rest (omega arith) refl m.1))
-      | inr apart ↦
-          subst (AreMaximal None) (sym (put_case page prot a rest false apart))
-          (first_area (single page prot) (omega arith) (omega arith), (follows_apart (single page prot) a f.pages f.within (omega arith) apart, m.1))
-    ]
+put_maximal page prot areas m l w = grind (arith, first_area, follows_on, cases_Bool, joined_parts, put_case, same_before, follows_apart)
 
 pub one_page : (page q : ℕ) → is_within page 1 q ≡ eq_by_cmp nat_cmp q page
-one_page page q =
-    elim (cases_order q page) [
-      | inl e ↦ inside page 1 q (omega arith) (omega arith) ∙ sym (tied q page e)
-      | inr (inl l) ↦ below page 1 q l ∙ sym (untied q page (omega arith))
-      | inr (inr g) ↦ above page 1 q (omega arith) ∙ sym (untied q page (omega arith))
-    ]
+one_page page q = grind arith
 
 -- a run with one more page at its front
 one_more : (page count q : ℕ) (p o : Option Prot) → cond (is_within page (count + 1) q) p o ≡ cond (eq_by_cmp nat_cmp q page) p (cond (is_within (page + 1) count q) p o)
-one_more page count q p o =
-    elim (cases_order q page) [
-      | inl e ↦ rw (inside page (count + 1) q (omega arith) (omega arith), tied q page e) refl
-      | inr (inl l) ↦ rw (below page (count + 1) q l, untied q page (omega arith), below (page + 1) count q (omega arith)) refl
-      | inr (inr g) ↦ rw (untied q page (omega arith)) (elim (cases_lt q (page + 1 + count)) [
-        | inl l ↦ rw (inside page (count + 1) q (omega arith) (omega arith), inside (page + 1) count q (omega arith) l) refl
-        | inr h ↦ rw (above page (count + 1) q (omega arith), above (page + 1) count q h) refl
-      ])
-    ]
+one_more page count q p o = grind arith
 
 put_prot_in : (page : ℕ) (prot : Prot) (areas : List Area) (q : ℕ) → prot_in (put_page_before page prot areas) q ≡ cond (eq_by_cmp nat_cmp q page) (Some prot) (prot_in areas q)
 unfolding single longer
@@ -95,17 +66,13 @@ put_prot_in page prot (a ∷ rest) q =
 
 -- ---- entries whose pages rise
 front : (a b : Bool) → T (a && b) → T a
-front true b h = tt
-front false b h = absurd h
+front a b h = grind arith
 
 back : (a b : Bool) → T (a && b) → T b
-back true b h = h
-back false b h = absurd h
+back a b h = grind arith
 
 less_cases : (a b : ℕ) (x y : Bool) → nat_lt a b ≡ x → T (is_lt (cond x Less (cond y Equal Greater))) → a < b
-less_cases a b true y e h = ltb-true a b e
-less_cases a b false true e h = absurd h
-less_cases a b false false e h = absurd h
+less_cases a b x y e h = grind arith
 
 sorted_tail : (e : ℕ × Prot) (es : List (ℕ × Prot)) → T (is_sorted nat_cmp (e ∷ es)) → T (is_sorted nat_cmp es)
 sorted_tail e es h = back _ _ h
@@ -127,11 +94,7 @@ head_in_space e es h = h e.0 (ap is_some (cond-true _ (Some e.1) (find nat_cmp e
 
 tail_in_space : (e : ℕ × Prot) (es : List (ℕ × Prot)) → AllInSpace (e ∷ es) → AllInSpace es
 unfolding AllInSpace
-tail_in_space e es h page some =
-    elim (cases_Bool (eq_by_cmp nat_cmp page e.0)) [
-      | inl t ↦ h page (ap is_some (cond-true _ (Some e.1) (find nat_cmp page es) t))
-      | inr f ↦ h page (ap is_some (cond-false _ (Some e.1) (find nat_cmp page es) f) ∙ some)
-    ]
+tail_in_space e es h page some = grind arith
 
 entries_maximal : (es : List (ℕ × Prot)) → T (is_sorted nat_cmp es) → AllInSpace es → AreMaximal None (areas_of_entries es)
 entries_maximal [] h w = tt

@@ -23,12 +23,7 @@ no_areas (area ∷ areas) e = absurd (omega arith)
 
 -- the first area
 pub extended_none : (old popped new : List Area) (area : Area) → old ≡ popped ++ [] → new ≡ popped → length popped ≡ 0 → 0 < area.count → area.first + area.count ≤ 2 ^ 35 → IsExtended old (new ++ area ∷ []) area
-extended_none old popped new area is same none c w =
-    let gone = no_areas popped none in
-    let f : new ≡ [] = same ∙ gone in
-    let e : old ≡ [] = is ∙ ap (λ n. n ++ []) gone in
-    let first_one : IsExtended [] ([] ++ area ∷ []) area = extended [] area tt (omega arith) (first_area area c w) in
-    subst (λ (o : List Area). IsExtended o (new ++ area ∷ []) area) (sym e) (subst (λ (n : List Area). IsExtended [] (n ++ area ∷ []) area) (sym f) first_one)
+extended_none old popped new area is same none c w = grind (arith, no_areas, extended, first_area)
 
 -- an area that doesn't continue the last
 pub extended_apart : (xs old new : List Area) (last area : Area) → old ≡ xs ++ last ∷ [] → new ≡ xs ++ last ∷ [] → AreMaximal None old → end_of_all old ≤ area.first → 0 < area.count → area.first + area.count ≤ 2 ^ 35 → is_area_continued last area ≡ false → IsExtended old (new ++ area ∷ []) area
@@ -44,29 +39,11 @@ last_within xs old last e m = (follows_on (last_after None xs) last (AreMaximal-
 
 -- a longer area follows what its shorter one followed
 grown_after : (before : Option Area) (last more : Area) → IsTrue (is_area_after before last) → more.first ≡ last.first → prot_bits more.prot ≡ prot_bits last.prot → 0 < more.count → more.first + more.count ≤ 2 ^ 35 → IsTrue (is_area_after before more)
-grown_after None last more h f p c w = first_area more c w
-grown_after (Some b) last more h f p c w =
-    let fo = follows_on (Some b) last h in
-    elim (cases_lt (b.first + b.count) last.first) [
-      | inl lt ↦ comes_after (Some b) more c w (omega arith)
-      | inr ge ↦ (
-          let e : b.first + b.count ≡ last.first = omega (arith, fo.behind) in
-          touches_after b more c w (e ∙ sym f) (λ same. touching b last h e (same ∙ p)))
-    ]
+grown_after before last more h f p c w = grind arith
 
 -- pages of two runs that touch
 two_runs : (first a b page : ℕ) (p : Option Prot) (rest : Option Prot) → cond (is_within first (a + b) page) p rest ≡ cond (is_within (first + a) b page) p (cond (is_within first a page) p rest)
-two_runs first a b page p rest =
-    elim (cases_lt page first) [
-      | inl lt ↦ rw (below first (a + b) page lt, below (first + a) b page (omega arith), below first a page lt)
-      | inr ge ↦ elim (cases_lt page (first + a)) [
-        | inl lt ↦ rw (inside first (a + b) page ge (omega arith), below (first + a) b page lt, inside first a page ge lt)
-        | inr past ↦ elim (cases_lt page (first + a + b)) [
-          | inl lt ↦ rw (inside first (a + b) page ge (omega arith), inside (first + a) b page past lt)
-          | inr out ↦ rw (above first (a + b) page (omega arith), above (first + a) b page out, above first a page past)
-        ]
-      ]
-    ]
+two_runs first a b page p rest = grind arith
 
 -- an area that continues the last becomes a part of it
 pub extended_joined : (xs old : List Area) (last area more : Area) → old ≡ xs ++ last ∷ [] → AreMaximal None old → 0 < area.count → area.first + area.count ≤ 2 ^ 35 → is_area_continued last area ≡ true →

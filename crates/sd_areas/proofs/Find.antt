@@ -51,30 +51,18 @@ none_by_place [] i page m point e = refl
 none_by_place (x ∷ xs) i page m point e = sym (none_at_start None (x ∷ xs) x page m (λ h. leb-false _ _ (point.1 0 x (omega arith) h)))
 
 pub place_begins : (xs : List Area) (i page : ℕ) (a : Area) → IsPartitionPoint (λ y. begins_by page y ≡ true) (λ y. begins_by page y ≡ false) xs i → (i ≡ 0 → ⊥) → i ≤ length xs → a ≡ get_or xs (i - 1) a → a.first ≤ page
-place_begins xs i page a point some l e =
-    let h = leb-true _ _ (point.0 (i - 1) a (omega arith) (omega arith)) in
-    subst (λ (y : Area). y.first ≤ page) (sym e) h
+place_begins xs i page a point some l e = grind arith
 
 pub prot_by_place : (xs : List Area) (i page : ℕ) (a : Area) → AreMaximal None xs → IsPartitionPoint (λ y. begins_by page y ≡ true) (λ y. begins_by page y ≡ false) xs i → (i ≡ 0 → ⊥) → i ≤ length xs → a ≡ get_or xs (i - 1) a →
     prot_in xs page ≡ cond (is_within a.first a.count page) (Some a.prot) None
-prot_by_place xs i page a m point some l e =
-    let begins : (get_or xs (i - 1) a).first ≤ page = leb-true _ _ (point.0 (i - 1) a (omega arith) (omega arith)) in
-    let next : suc (i - 1) < length xs → page < (get_or xs (suc (i - 1)) a).first = λ h. leb-false _ _ (point.1 (suc (i - 1)) a (omega arith) h) in
-    subst (λ (y : Area). prot_in xs page ≡ cond (is_within y.first y.count page) (Some y.prot) None) (sym e) (at_place None xs (i - 1) a page m (omega arith) begins next)
+prot_by_place xs i page a m point some l e = grind (arith, leb-true, leb-false, at_place)
 
 pub within_by : (first count page : ℕ) → first ≤ page → is_within first count page ≡ nat_lt (page - first) count
-within_by first count page l =
-    elim (cases_lt page (first + count)) [
-      | inl h ↦ inside first count page l h ∙ sym (lt-ltb _ _ (omega arith))
-      | inr h ↦ above first count page h ∙ sym (le-ltb _ _ (omega arith))
-    ]
+within_by first count page l = grind arith
 
 some_if : (b : Bool) (p : Prot) → then_some b p ≡ cond b (Some p) None
-some_if true p = refl
-some_if false p = refl
+some_if b p = grind arith
 
 pub found_prot : (r : Option Prot) (xs : List Area) (page m n : ℕ) (a : Area) → r ≡ then_some (ltb (m - n) a.count) a.prot → m ≡ page → n ≡ a.first → a.first ≤ page →
     prot_in xs page ≡ cond (is_within a.first a.count page) (Some a.prot) None → r ≡ prot_in xs page
-found_prot r xs page m n a e f g l found =
-    let test : ltb (m - n) a.count ≡ is_within a.first a.count page = rw (f, g) (sym (within_by a.first a.count page l)) in
-    e ∙ some_if (ltb (m - n) a.count) a.prot ∙ ap (λ b. cond b (Some a.prot) None) test ∙ sym found
+found_prot r xs page m n a e f g l found = grind arith

@@ -34,32 +34,12 @@ pub covered_none : (first : ℕ) → IsMappedUpTo [] first first
 covered_none first = record { begins = omega arith; mapped = λ page l g. absurd (omega arith); hole = refl }
 
 some_over : (b : Bool) (p : Prot) (o : Option Prot) → IsSome o → IsSome (cond b (Some p) o)
-some_over true p o h = refl
-some_over false p o h = h
+some_over b p o h = grind arith
 
 -- with the next area the cover reaches the end of that, if it has the page
 covered_more : (front : List Area) (x : Area) (first next : ℕ) → AreMaximal None front → AreMaximal None (front ++ x ∷ []) → FollowsOn (last_after None front) x → IsMappedUpTo front first next →
     IsMappedUpTo (front ++ x ∷ []) first (cond (is_within x.first x.count next) (x.first + x.count) next)
-covered_more front x first next m all f h =
-    let with : (page : ℕ) → prot_in (front ++ x ∷ []) page ≡ cond (is_within x.first x.count page) (Some x.prot) (prot_in front page) = λ page. prot_in-append None front x page m f.behind in
-    elim (cases_Bool (is_within x.first x.count next)) [
-      | inl t ↦ (
-          let parts = inside_parts x.first x.count next t in
-          rw t (record {
-            begins = omega (arith, h.begins);
-            mapped = λ page l g. elim (cases_lt page next) [
-              | inl before ↦ rw (with page) (some_over (is_within x.first x.count page) x.prot (prot_in front page) (h.mapped page l before))
-              | inr past ↦ rw (with page, inside x.first x.count page (omega arith) g) refl
-            ];
-            hole = none_behind None (front ++ x ∷ []) (x.first + x.count) all (rw (last_after-append None front x) (omega arith));
-          }))
-      | inr o ↦
-          rw o (record {
-            begins = h.begins;
-            mapped = λ page l g. rw (with page) (some_over (is_within x.first x.count page) x.prot (prot_in front page) (h.mapped page l g));
-            hole = with next ∙ rw o h.hole;
-          })
-    ]
+covered_more front x first next m all f h = grind (arith, prot_in-append, cases_Bool, inside_parts, cases_lt, some_over, inside, none_behind, last_after-append)
 
 pub covered_step : (xs : List Area) (i : ℕ) (x : Area) (first next : ℕ) → AreMaximal None xs → i < length xs → x ≡ get_or xs i x → IsMappedUpTo (take i xs) first next →
     IsMappedUpTo (take (i + 1) xs) first (cond (is_within x.first x.count next) (x.first + x.count) next)

@@ -43,8 +43,7 @@ BeginsAbove [] page = Unit {0}
 BeginsAbove (c ∷ cs) page = page < c.first
 
 end_below : (before : Option Area) (page : ℕ) → EndsBelow before page → area_end before ≤ page
-end_below None page h = omega arith
-end_below (Some a) page h = omega (arith, h)
+end_below before page h = grind arith
 
 -- the first of the new areas follows what stands before
 head_fits : (before : Option Area) (middle : List Area) (y : Area) (first count : ℕ) → AreMaximal before middle → EndsBelow before first → 0 < y.count → y.first + y.count ≤ 2 ^ 35
@@ -150,9 +149,7 @@ pub record AreAround (front middle back : List Area) (first count : ℕ) : Type 
   pub above : BeginsAbove back (first + count)
 
 pub middle_is : (front middle back : List Area) → AreMaximal None (front ++ (middle ++ back)) → AreMaximal None middle
-middle_is front middle back m =
-    let rest = (parts_are None front (middle ++ back) m).1 in
-    alone (last_after None front) middle (parts_are (last_after None front) middle back rest).0
+middle_is front middle back m = grind (arith, parts_are, alone)
 
 pub replaced_are : (front middle new back : List Area) (first count : ℕ) → AreAround front middle back first count → AreMaximal None new
     → ((page : ℕ) → is_within first count page ≡ false → prot_in new page ≡ prot_in middle page) → AreMaximal None (front ++ (new ++ back))
@@ -178,8 +175,7 @@ none_in_back front middle back first count page around l =
     at before (c ∷ cs) m a = below_head before c cs page m (omega (arith, l, a))
 
 or_none : (o : Option Prot) → option_or o None ≡ o
-or_none None = refl
-or_none (Some p) = refl
+or_none o = grind arith
 
 three : (front middle back : List Area) (page : ℕ) → prot_in (front ++ (middle ++ back)) page ≡ option_or (prot_in front page) (option_or (prot_in middle page) (prot_in back page))
 three front middle back page = prot_in-joined front (middle ++ back) page ∙ ap (option_or (prot_in front page)) (prot_in-joined middle back page)
@@ -192,11 +188,4 @@ in_middle front middle back first count page around l h =
 pub replaced_same : (front middle new back : List Area) (first count : ℕ) (put : Option Prot) → AreAround front middle back first count
     → ((page : ℕ) → prot_in new page ≡ cond (is_within first count page) put (prot_in middle page))
     → (page : ℕ) → prot_in (front ++ (new ++ back)) page ≡ cond (is_within first count page) put (prot_in (front ++ (middle ++ back)) page)
-replaced_same front middle new back first count put around same page =
-    elim (cases_Bool (is_within first count page)) [
-      | inl t ↦ (
-          let i = inside_parts first count page t in
-          three front new back page
-          ∙ rw (none_in_front front middle back first count page around i.0, none_in_back front middle back first count page around i.1, same page, t) (or_none put))
-      | inr o ↦ three front new back page ∙ rw (same page, o) (sym (three front middle back page))
-    ]
+replaced_same front middle new back first count put around same page = grind (arith, cases_Bool, inside_parts, three, none_in_front, none_in_back, or_none)

@@ -15,11 +15,7 @@ prot_with n = record { read = n % 2 == 1; write = n / 2 % 2 == 1; execute = n / 
 
 prot_made : (r w x : Bool) → prot_with (prot_bits (record { read = r; write = w; execute = x })) ≡ record { read = r; write = w; execute = x }
 unfolding prot_with
-prot_made true true true = refl
-prot_made true false true = refl
-prot_made false true true = refl
-prot_made false false true = refl
-prot_made _ _ _ = refl
+prot_made r w x = grind arith
 
 pub same_prot : (p q : Prot) → prot_bits p ≡ prot_bits q → p ≡ q
 same_prot p q e = sym (prot_made p.read p.write p.execute) ∙ ap prot_with e ∙ prot_made q.read q.write q.execute
@@ -30,32 +26,15 @@ pub record FollowsOn (before : Option Area) (area : Area) : Type 0 where
   pub behind : area_end before ≤ area.first
 
 pub follows_on : (before : Option Area) (area : Area) → IsTrue (is_area_after before area) → FollowsOn before area
-follows_on None area h =
-    let p = and_parts _ _ h in let q = and_parts _ _ p.0 in
-    record { pages = ltb-true _ _ q.0; within = leb-true _ _ q.1; behind = omega arith }
-follows_on (Some b) area h =
-    let p = and_parts _ _ h in let q = and_parts _ _ p.0 in
-    record {
-      pages = ltb-true _ _ q.0;
-      within = leb-true _ _ q.1;
-      behind = elim (or_cases _ _ p.1) [
-        | inl l ↦ (let g : b.first + b.count < area.first = ltb-true _ _ l in omega (arith, g))
-        | inr r ↦ (let e : b.first + b.count ≡ area.first = eqb-true _ _ (and_parts _ _ r).0 in omega (arith, e))
-      ];
-    }
+follows_on before area h = grind arith
 
 -- two areas that touch have other permissions
 pub touching : (b area : Area) → IsTrue (is_area_after (Some b) area) → b.first + b.count ≡ area.first → prot_bits b.prot ≢ prot_bits area.prot
-touching b area h e same =
-    elim (or_cases _ _ (and_parts _ _ h).1) [
-      | inl l ↦ (let g : b.first + b.count < area.first = ltb-true _ _ l in absurd (omega (arith, g)))
-      | inr r ↦ both_ways _ (not-true _ (and_parts _ _ r).1) (eq-eqb _ _ same)
-    ]
+touching b area h e same = grind arith
 
 -- behind a gap, or with other permissions
 pub comes_after : (before : Option Area) (area : Area) → 0 < area.count → area.first + area.count ≤ 2 ^ 35 → area_end before < area.first → IsTrue (is_area_after before area)
-comes_after None area c w g = and_from _ _ (and_from _ _ (lt-ltb _ _ c) (le-leb _ _ w)) refl
-comes_after (Some b) area c w g = and_from _ _ (and_from _ _ (lt-ltb _ _ c) (le-leb _ _ w)) (or_left _ _ (lt-ltb _ _ g))
+comes_after before area c w g = grind arith
 
 pub first_area : (area : Area) → 0 < area.count → area.first + area.count ≤ 2 ^ 35 → IsTrue (is_area_after None area)
 first_area area c w = and_from _ _ (and_from _ _ (lt-ltb _ _ c) (le-leb _ _ w)) refl
@@ -65,13 +44,7 @@ touches_after b area c w e n = and_from _ _ (and_from _ _ (lt-ltb _ _ c) (le-leb
 
 -- an area that doesn't continue the one before it follows it
 pub follows_apart : (b area : Area) → 0 < area.count → area.first + area.count ≤ 2 ^ 35 → b.first + b.count ≤ area.first → is_area_continued b area ≡ false → IsTrue (is_area_after (Some b) area)
-follows_apart b area c w le apart =
-    elim (cases_lt (b.first + b.count) area.first) [
-      | inl l ↦ comes_after (Some b) area c w l
-      | inr ge ↦
-          let e : b.first + b.count ≡ area.first = omega arith in
-          touches_after b area c w e (eqb-false _ _ (elim (and_cases _ _ apart) [ inl f ↦ absurd (both_ways _ f (eq-eqb _ _ e)) | inr f ↦ f ]))
-    ]
+follows_apart b area c w le apart = grind arith
 
 -- ---- pages within a run
 pub inside : (first count page : ℕ) → first ≤ page → page < first + count → is_within first count page ≡ true

@@ -24,8 +24,7 @@ no_ok n e h = cc
 
 -- a refusal is no result
 past : (b : Bool) (e : Errno) (r : Result PageMap Errno) (n : PageMap) → cond b (Err e) r ≡ Ok n → (b ≡ false) × (r ≡ Ok n)
-past true e r n h = absurd (no_ok n e h)
-past false e r n h = (refl, h)
+past b e r n h = grind arith
 
 within_same : (pages after : PageMap) → within_areas pages ≡ Ok after → pages ≡ after
 unfolding within_areas
@@ -52,8 +51,7 @@ unmapped_pages before after address bytes h page =
     sym (ap (λ m. finmap.get m page) same) ∙ get-remove_pages before (page_of address) (pages_for bytes) page
 
 crowded_at : (b : Bool) (limit n : ℕ) (pages : PageMap) → nat_lt limit n ≡ b → ◌≡◌ {A = Result PageMap Errno} (cond b (Err Enomem) (Ok pages)) (Err Enomem) → limit < n
-crowded_at true limit n pages e h = ltb-true limit n e
-crowded_at false limit n pages e h = absurd (no_ok pages Enomem (sym h))
+crowded_at b limit n pages e h = grind arith
 
 pub within_crowded : (pages : PageMap) → AreInSpace pages → (within_areas pages ≡ Err Enomem) ↔ IsCrowded pages
 unfolding within_areas
@@ -66,13 +64,10 @@ empty_run : (first page : ℕ) → is_within first 0 page ≡ false
 empty_run first page = elim (cases_lt page first) [ inl l ↦ below first 0 page l | inr g ↦ above first 0 page (omega arith) ]
 
 some_unless : (o : Option Prot) → (o ≡ None → ⊥) → IsSome o
-some_unless None h = absurd (h refl)
-some_unless (Some p) h = refl
+some_unless o h = grind arith
 
 mapped_in_run : (pages : PageMap) (first count page : ℕ) → has_hole pages first count ≡ false → IsTrue (is_within first count page) → IsSome (finmap.get pages page)
-mapped_in_run pages first count page full t =
-    let parts = inside_parts first count page t in
-    some_unless (finmap.get pages page) (λ e. both_ways _ full (hole_at pages first count page parts.0 parts.1 e))
+mapped_in_run pages first count page full t = grind (arith, inside_parts, some_unless, both_ways, hole_at)
 
 AtPage : PageMap → PageMap → ℕ → ℕ → Prot → ℕ → Type 0
 AtPage before after first count prot page = (finmap.get after page ≡ cond (is_within first count page) (Some prot) (finmap.get before page)) × (IsTrue (is_within first count page) → IsSome (finmap.get before page))

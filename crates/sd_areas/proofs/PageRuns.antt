@@ -37,25 +37,18 @@ pub record IsBuilt (all rest : List (ℕ × SnapshotPage)) (areas : List Area) :
   same : (q : ℕ) → find nat_cmp q (prot_entries all) ≡ or_else (prot_in areas q) (find nat_cmp q (prot_entries rest))
 
 first_from_zero : (es : List (ℕ × SnapshotPage)) → FirstFrom 0 es
-first_from_zero [] = tt
-first_from_zero (e ∷ es) = omega arith
+first_from_zero es = grind arith
 
 pub built_none : (all rest : List (ℕ × SnapshotPage)) (areas : List Area) → rest ≡ all → areas ≡ [] → IsStrictlySortedBy nat_cmp (keys_of all) → IsBuilt all rest areas
 unfolding or_else
-built_none all rest areas e f sorted = rw (e, f) (record {
-  maximal = tt;
-  behind = first_from_zero all;
-  rises = sorted;
-  same = λ q. refl;
-})
+built_none all rest areas e f sorted = grind arith
 
 less_than : (a b : ℕ) → nat_cmp a b ≡ Less → a < b
 less_than a b e = grind (arith, nat_tests)
 
 next_from : (e : ℕ × SnapshotPage) (es : List (ℕ × SnapshotPage)) → IsStrictlySortedBy nat_cmp (keys_of (e ∷ es)) → FirstFrom (e.0 + 1) es
 unfolding IsStrictlySortedBy
-next_from e [] h = tt
-next_from e (f ∷ es) h = omega (arith, less_than e.0 f.0 h.0.0)
+next_from e es h = grind arith
 
 rest_rises : (e : ℕ × SnapshotPage) (es : List (ℕ × SnapshotPage)) → IsStrictlySortedBy nat_cmp (keys_of (e ∷ es)) → IsStrictlySortedBy nat_cmp (keys_of es)
 unfolding IsStrictlySortedBy
@@ -63,8 +56,7 @@ rest_rises e es h = h.1
 
 moved : (b : Bool) (was rest : Option Prot) (p : Prot) → (b ≡ true → was ≡ None) → or_else was (cond b (Some p) rest) ≡ or_else (cond b (Some p) was) rest
 unfolding or_else
-moved true was rest p h = rw (h refl) refl
-moved false was rest p h = refl
+moved b was rest p h = grind arith
 
 tie_le : (q page : ℕ) → eq_by_cmp nat_cmp q page ≡ true → page ≤ q
 tie_le q page t = grind (arith, nat_tests)
@@ -94,8 +86,7 @@ built_behind all rest left areas page found h e = subst (FirstFrom (end_of_all a
 
 nothing_else : (o : Option Prot) → or_else o None ≡ o
 unfolding or_else
-nothing_else None = refl
-nothing_else (Some p) = refl
+nothing_else o = grind arith
 
 pub built_all : (all rest : List (ℕ × SnapshotPage)) (areas : List Area) → IsBuilt all rest areas → rest ≡ [] → AreAreasOf (snapshot_prots all) areas
 unfolding snapshot_prots prot_entries

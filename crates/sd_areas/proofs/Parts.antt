@@ -27,28 +27,13 @@ next_follows i xs x m l e =
     follows_on (last_after None (take i xs)) x (AreMaximal-front None (take i xs) x (subst (AreMaximal None) (take_next i xs x l e) (AreMaximal-take (i + 1) xs m))).1
 
 pub parts_none : (old : List Area) (from to : ℕ) → AreMaximal None old → end_of_all old ≤ from → HasParts old old [] from to
-parts_none old from to m l = record {
-  maximal = m;
-  ends = omega arith;
-  same = λ page. elim (cases_Bool (nat_le from page && nat_lt page to)) [
-    | inl t ↦ none_behind None old page m (omega (arith, leb-true from page (and_parts _ _ t).0)) ∙ sym (cond-true _ _ _ t)
-    | inr f ↦ sym (cond-false _ _ _ f)
-  ];
-}
+parts_none old from to m l = grind (arith, cases_Bool, none_behind, leb-true, and_parts, cond-true, cond-false)
 
 both : (r w : Bool) (s f o : Option Prot) → cond (r && w) s (cond r f o) ≡ cond r (cond w s f) o
-both true true s f o = refl
-both _ _ s f o = refl
+both r w s f o = grind arith
 
 pub parts_next : (old done new front : List Area) (x : Area) (from to : ℕ) → AreMaximal None front → FollowsOn (last_after None front) x → HasParts old done front from to → HasPart done new x from to → HasParts old new (front ++ x ∷ []) from to
-parts_next old done new front x from to m f so_far part = record {
-  maximal = part.maximal;
-  ends = rw (last_after-append None front x) (omega (arith, part.ends, so_far.ends, f.behind));
-  same = λ page.
-      part.same page
-      ∙ rw (so_far.same page, prot_in-append None front x page m f.behind)
-      (both (nat_le from page && nat_lt page to) (is_within x.first x.count page) (Some x.prot) (prot_in front page) (prot_in old page));
-}
+parts_next old done new front x from to m f so_far part = grind (arith, last_after-append, prot_in-append, both)
 
 pub parts_step : (old done new xs : List Area) (i : ℕ) (x : Area) (from to : ℕ) → AreMaximal None xs → i < length xs → x ≡ get_or xs i x → HasParts old done (take i xs) from to → HasPart done new x from to → HasParts old new (take (i + 1) xs) from to
 parts_step old done new xs i x from to m l e so_far part =
@@ -57,6 +42,4 @@ parts_step old done new xs i x from to m l e so_far part =
 
 -- where the parts so far end, the next may begin
 pub parts_behind : (old done xs : List Area) (i : ℕ) (x : Area) (from to : ℕ) → AreMaximal None xs → i < length xs → x ≡ get_or xs i x → HasParts old done (take i xs) from to → end_of_all done ≤ max x.first from
-parts_behind old done xs i x from to m l e so_far =
-    let f = next_follows i xs x m l e in
-    omega (arith, f.behind, so_far.ends)
+parts_behind old done xs i x from to m l e so_far = grind (arith, next_follows)

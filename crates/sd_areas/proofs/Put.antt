@@ -35,61 +35,26 @@ past_span from to page l = and_right _ _ (le-ltb _ _ l)
 -- what the three parts give a page
 three_parts : (first count limit page : ℕ) (was put : Option Prot) → first + count ≤ limit → (limit ≤ page → was ≡ None) →
     cond (span (first + count) limit page) was (cond (is_within first count page) put (cond (span 0 first page) was None)) ≡ cond (is_within first count page) put was
-three_parts first count limit page was put w out =
-    elim (cases_lt page first) [
-      | inl l ↦ rw (before_span (first + count) limit page (omega arith), below first count page l, in_span 0 first page (omega arith) l) refl
-      | inr g ↦ elim (cases_lt page (first + count)) [
-        | inl l ↦ rw (before_span (first + count) limit page l, inside first count page g l) refl
-        | inr h ↦ elim (cases_lt page limit) [
-          | inl l ↦ rw (in_span (first + count) limit page h l, above first count page h) refl
-          | inr o ↦ rw (past_span (first + count) limit page o, above first count page h, past_span 0 first page g) (sym (out o))
-        ]
-      ]
-    ]
+three_parts first count limit page was put w out = grind (arith, cases_lt, before_span, below, in_span, inside, above, past_span)
 
 two_parts : (first count limit page : ℕ) (was : Option Prot) → first + count ≤ limit → (limit ≤ page → was ≡ None) →
     cond (span (first + count) limit page) was (cond (span 0 first page) was None) ≡ cond (is_within first count page) None was
-two_parts first count limit page was w out =
-    elim (cases_lt page first) [
-      | inl l ↦ rw (before_span (first + count) limit page (omega arith), below first count page l, in_span 0 first page (omega arith) l) refl
-      | inr g ↦ elim (cases_lt page (first + count)) [
-        | inl l ↦ rw (before_span (first + count) limit page l, inside first count page g l, past_span 0 first page g) refl
-        | inr h ↦ elim (cases_lt page limit) [
-          | inl l ↦ rw (in_span (first + count) limit page h l, above first count page h) refl
-          | inr o ↦ rw (past_span (first + count) limit page o, above first count page h, past_span 0 first page g) (sym (out o))
-        ]
-      ]
-    ]
+two_parts first count limit page was w out = grind (arith, cases_lt, before_span, below, in_span, inside, past_span, above)
 
 pub run_put : (old front joined new : List Area) (area : Area) → AreMaximal None old → area.first + area.count ≤ 2 ^ 35 →
     HasParts [] front old 0 area.first → IsExtended front joined area → HasParts joined new old (area.first + area.count) (2 ^ 35) → HasRun old new area
 unfolding span
-run_put old front joined new area m w a b c = record {
-  maximal = c.maximal;
-  same = λ page.
-      c.same page ∙ rw (b.same page, a.same page)
-      (three_parts area.first area.count (2 ^ 35) page (prot_in old page) (Some area.prot) w (λ o. none_outside None old page m o));
-}
+run_put old front joined new area m w a b c = grind (arith, three_parts, none_outside)
 
 pub run_cut : (old front new : List Area) (first count : ℕ) → AreMaximal None old → first + count ≤ 2 ^ 35 →
     HasParts [] front old 0 first → HasParts front new old (first + count) (2 ^ 35) → HasGap old new first count
 unfolding span
-run_cut old front new first count m w a c = record {
-  maximal = c.maximal;
-  same = λ page.
-      c.same page ∙ rw (a.same page)
-      (two_parts first count (2 ^ 35) page (prot_in old page) w (λ o. none_outside None old page m o));
-}
+run_cut old front new first count m w a c = grind (arith, two_parts, none_outside)
 
 pub run_put_at : (old start front joined new : List Area) (area : Area) (begin : ℕ) → start ≡ [] → begin ≡ area.first → AreMaximal None old → area.first + area.count ≤ 2 ^ 35 →
     HasParts start front old 0 begin → IsExtended front joined area → HasParts joined new old (begin + area.count) (2 ^ 35) → HasRun old new area
-run_put_at old start front joined new area begin s e m w a b c =
-    let a' : HasParts [] front old 0 area.first = subst (λ (n : ℕ). HasParts [] front old 0 n) e (subst (λ (l : List Area). HasParts l front old 0 begin) s a) in
-    let c' : HasParts joined new old (area.first + area.count) (2 ^ 35) = subst (λ (n : ℕ). HasParts joined new old (n + area.count) (2 ^ 35)) e c in
-    run_put old front joined new area m w a' b c'
+run_put_at old start front joined new area begin s e m w a b c = grind (arith, run_put)
 
 pub run_cut_at : (old start front new : List Area) (first count begin : ℕ) → start ≡ [] → begin ≡ first → AreMaximal None old → first + count ≤ 2 ^ 35 →
     HasParts start front old 0 begin → HasParts front new old (begin + count) (2 ^ 35) → HasGap old new first count
-run_cut_at old start front new first count begin s e m w a c =
-    let a' : HasParts [] front old 0 first = subst (λ (n : ℕ). HasParts [] front old 0 n) e (subst (λ (l : List Area). HasParts l front old 0 begin) s a) in
-    run_cut old front new first count m w a' (subst (λ (n : ℕ). HasParts front new old (n + count) (2 ^ 35)) e c)
+run_cut_at old start front new first count begin s e m w a c = grind (arith, run_cut)

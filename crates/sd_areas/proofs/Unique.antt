@@ -41,10 +41,7 @@ first_not_below before x y xs ys m n is l =
     cc
 
 count_not_below : (before : Option Area) (x y : Area) (xs ys : List Area) → AreMaximal before (x ∷ xs) → AreMaximal before (y ∷ ys) → ((page : ℕ) → prot_in (x ∷ xs) page ≡ prot_in (y ∷ ys) page) → x.first ≡ y.first → x.prot ≡ y.prot → x.count < y.count → ⊥
-count_not_below before x y xs ys m n is e p l =
-    let past = cond-false _ (Some x.prot) (prot_in xs (x.first + x.count)) (above x.first x.count (x.first + x.count) (omega arith)) in
-    let there = at_head y ys (x.first + x.count) (omega arith) (omega arith) in
-    behind_differs x xs m.1 (sym past ∙ is (x.first + x.count) ∙ there ∙ ap Some (sym p))
+count_not_below before x y xs ys m n is e p l = grind (arith, cond-false, above, at_head, behind_differs)
 
 equal_unless : (a b : ℕ) → (a < b → ⊥) → (b < a → ⊥) → a ≡ b
 equal_unless a b f g = elim (cases_order a b) [ inl e ↦ e | inr (inl l) ↦ absurd (f l) | inr (inr l) ↦ absurd (g l) ]
@@ -62,11 +59,7 @@ same_heads before x y xs ys m n is =
     same_area x y first (equal_unless _ _ (count_not_below before x y xs ys m n is first prot) (count_not_below before y x ys xs n m back (sym first) (sym prot))) prot
 
 same_tails : (x : Area) (xs ys : List Area) → AreMaximal (Some x) xs → AreMaximal (Some x) ys → ((page : ℕ) → prot_in (x ∷ xs) page ≡ prot_in (x ∷ ys) page) → (page : ℕ) → prot_in xs page ≡ prot_in ys page
-same_tails x xs ys m n is page =
-    elim (cases_Bool (is_within x.first x.count page)) [
-      | inl t ↦ (let l : page < x.first + x.count = (inside_parts x.first x.count page t).1 in none_before (Some x) xs page m l ∙ sym (none_before (Some x) ys page n l))
-      | inr f ↦ sym (cond-false _ _ _ f) ∙ is page ∙ cond-false _ _ _ f
-    ]
+same_tails x xs ys m n is page = grind (arith, cases_Bool, inside_parts, none_before, cond-false)
 
 -- areas that give each page the same permissions are the same
 pub same_areas : (before : Option Area) (xs ys : List Area) → AreMaximal before xs → AreMaximal before ys → ((page : ℕ) → prot_in xs page ≡ prot_in ys page) → xs ≡ ys

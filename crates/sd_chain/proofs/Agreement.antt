@@ -60,12 +60,10 @@ module _ (places : Places) (all : List Image) (order : AreInOrder places) (tells
   }
 
   after_there : (i j : Opened) (a b : Image) → IsToldAs i a → IsToldAs j b → catalog.IsNotNewer i j → IsNotAfter a b
-  after_there i j a b ta tb (inl less) = inl (omega (arith, less, checkpoints i a ta, checkpoints j b tb))
-  after_there i j a b ta tb (inr same) = inr (checkpoints i a ta ∙ same.0 ∙ sym (checkpoints j b tb), omega (arith, same.1, serials i a ta, serials j b tb))
+  after_there i j a b ta tb h6 = grind arith
 
   after_back : (i j : Opened) (a b : Image) → IsToldAs i a → IsToldAs j b → IsNotAfter a b → catalog.IsNotNewer i j
-  after_back i j a b ta tb (inl less) = inl (omega (arith, less, checkpoints i a ta, checkpoints j b tb))
-  after_back i j a b ta tb (inr same) = inr (sym (checkpoints i a ta) ∙ same.0 ∙ checkpoints j b tb, omega (arith, same.1, serials i a ta, serials j b tb))
+  after_back i j a b ta tb h6 = grind arith
 
   tip_there : (i : Opened) (image : Image) → Contains all image → IsToldAs i image → catalog.IsTip places i → IsTip all image
   tip_there i image c told tip = record {
@@ -172,15 +170,11 @@ moved old new all before after there back tells = record {
 }
 
 other_stays : (b : Bool) (place was : Option (Option Opened)) (i : Opened) → ((j : Opened) → place ≡ Some (Some j) → ⊥) → cond b place was ≡ Some (Some i) → was ≡ Some (Some i)
-other_stays true place was i none e = absurd (none i e)
-other_stays false place was i none e = e
+other_stays b place was i none e = grind arith
 
 held_other : (old : Places) (serial other : ℕ) (place : Option (Option Opened)) (i : Opened) → ((j : Opened) → place_of old serial ≡ Some (Some j) → ⊥)
     → place_of old other ≡ Some (Some i) → cond (nat_eq serial other) place (place_of old other) ≡ Some (Some i)
-held_other old serial other place i none e = elim (cases_eq serial other) [
-  | inl same ↦ absurd (none i (ap (place_of old) same ∙ e))
-  | inr differ ↦ ap (λ b. cond b place (place_of old other)) (ne_eqb serial other differ) ∙ e
-]
+held_other old serial other place i none e = grind arith
 
 pub held_places_tell_nothing : HeldPlacesTellNothing
 held_places_tell_nothing old new serial place all before after none held changes =

@@ -60,16 +60,7 @@ pub record IsChainTo (places : Places) (serial : ℕ) (list : List Opened) (next
   pub member : IfSome next (λ i. Contains (images places) i.now)
 
 pub chain_begins : (places : Places) (serial : ℕ) (next : Option (Bor Opened)) → IsImageOf places serial next → IsChainTo places serial [] next
-chain_begins places serial None none = record {
-  first = λ i. (λ e. absurd (none i e), λ e. absurd (none-some i e));
-  linked = λ k i p less got. absurd (omega (arith, less));
-  member = tt;
-}
-chain_begins places serial (Some b) there = record {
-  first = λ i. (λ e. same_Some (Some b.now) (Some i) (sym there.0 ∙ e), λ e. there.0 ∙ ap Some e);
-  linked = λ k i p less got. absurd (omega (arith, less));
-  member = member_of places serial b.now there.0;
-}
+chain_begins places serial next none = grind (arith, none-some, same_Some, member_of)
 
 next_is : (places : Places) (i p : Opened) (next : Option (Bor Opened)) → i.header.parent < i.header.stands_for → ((p q : Opened) → Names places i.header.parent p → Names places i.header.parent q → p ≡ q)
     → IsNext places i next → Names places i.header.parent p ↔ (slice_get (shown next) 0 ≡ Some p)
@@ -77,8 +68,7 @@ next_is places i p None falls one is = (λ named. absurd (is.all falls refl p na
 next_is places i p (Some q) falls one is = (λ named. ap Some (one q.now p is.named named), λ e. subst (Names places i.header.parent) (same_Some q.now p e) is.named)
 
 next_member : (places : Places) (i : Opened) (next : Option (Bor Opened)) → IsNext places i next → IfSome next (λ p. Contains (images places) p.now)
-next_member places i None is = tt
-next_member places i (Some q) is = is.named.member
+next_member places i next is = grind arith
 
 pub chain_goes_on : (places : Places) (serial : ℕ) (list : List Opened) (i : Bor Opened) (next : Option (Bor Opened)) → i.now.header.parent < i.now.header.stands_for
     → ((p q : Opened) → Names places i.now.header.parent p → Names places i.now.header.parent q → p ≡ q)
@@ -225,11 +215,4 @@ pub data_below : FewPages → (places : Places) (serial : ℕ) (chain : List Ope
     → AreImages places → IsFollowed places serial chain space page k count answer → slice_get chain k ≡ Some i
     → AreAlike i.spaces (space, page) (way.Data place) alike_count → less_count ≡ min count alike_count → (4096 + 4096 * place < 2 ^ 64 → offset ≡ 4096 + 4096 * place)
     → offset + 4096 * less_count ≤ 2 ^ 52
-data_below few places serial chain space page k count answer i place offset alike_count less_count some good was got alike least sum =
-    let table = table_here places serial chain space page k count answer i some good was got in
-    let there = alike.some in
-    let has = alike.each (alike_count - 1) (omega (arith, there)) in
-    let within = slice_get_within (pages_of Data i.spaces) (place + (alike_count - 1)) (space, page + (alike_count - 1)) has in
-    let room = few i.header i.spaces Data table in
-    let plain : offset ≡ 4096 + 4096 * place = sum (omega (arith, within, room)) in
-    omega (arith, plain, within, room, least, there)
+data_below few places serial chain space page k count answer i place offset alike_count less_count some good was got alike least sum = grind (arith, table_here, slice_get_within)

@@ -6,22 +6,10 @@ use Rattle.std.proofs.lemmas.List.Elements.{Contains-push, Contains-push_cases, 
 use Rattle.sd_chain.specs.Catalog.{Opened, Places, images, IsDumpOrMerged, IsNotNewer, IsNewestAmong, IsNamedAmong, IsNewestChoice, IsNamedChoice, IsGreatest, number_at_place}
 
 not_after_step : (a b c : Opened) → IsNotNewer a b → IsNotNewer b c → IsNotNewer a c
-not_after_step a b c (inl x) (inl y) = inl (omega arith)
-not_after_step a b c (inl x) (inr y) = inl (omega (arith, y.0))
-not_after_step a b c (inr x) (inl y) = inl (omega (arith, x.0))
-not_after_step a b c (inr x) (inr y) = inr (x.0 ∙ y.0, omega (arith, x.1, y.1))
+not_after_step a b c h3 h4 = grind arith
 
 order_cases : (a b : Opened) → IsNotNewer a b ⊎ IsNotNewer b a
-order_cases a b = elim (cases_lt a.header.checkpoint b.header.checkpoint) [
-  | inl l ↦ inl (inl l)
-  | inr g ↦ elim (cases_lt b.header.checkpoint a.header.checkpoint) [
-    | inl h ↦ inr (inl h)
-    | inr k ↦ elim (cases_lt a.header.serial b.header.serial) [
-      | inl m ↦ inl (inr (omega arith, omega arith))
-      | inr n ↦ inr (inr (omega arith, omega arith))
-    ]
-  ]
-]
+order_cases a b = grind arith
 
 pub not_after : (a b : Opened) → (IsNotNewer a b → ⊥) → IsNotNewer b a
 not_after a b never = elim (order_cases a b) [ inl x ↦ absurd (never x) | inr y ↦ y ]

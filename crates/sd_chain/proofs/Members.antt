@@ -73,10 +73,7 @@ abbrev IsOwned : ℕ × Option Opened → Type 0
 IsOwned e = (i : Opened) → e.1 ≡ Some i → i.header.serial ≡ e.0
 
 apart : (a b : ℕ) → a ≤ b → nat_eq a b ≡ false → a < b
-apart a b le ne = elim (cases_lt a b) [
-  | inl l ↦ l
-  | inr g ↦ absurd (let e : a ≡ b = omega arith in false≢true (sym ne ∙ eq-eqb a b e))
-]
+apart a b le ne = grind arith
 
 all_apart : (a : ℕ) (fs : Places) → ((j : ℕ) (d : ℕ × Option Opened) → j < length fs → a ≤ (slice_index_or fs j d).0)
     → AllByRecursion (λ k. nat_eq a k ≡ false) (keys_of fs) → AllByRecursion (λ (f : ℕ × Option Opened). a < f.0) fs
@@ -93,8 +90,7 @@ places_rise (e ∷ es) sorted distinct = (
 
 above_step : (a k : ℕ) (o : Option Opened) (es : Places) → a < k → IsOwned (k, o) → AllByRecursion (λ (j : Opened). a < j.header.serial) (images es)
     → AllByRecursion (λ (j : Opened). a < j.header.serial) (images ((k, o) ∷ es))
-above_step a k None es l own rest = rest
-above_step a k (Some i) es l own rest = (let e = own i refl in omega (arith, e, l), rest)
+above_step a k o es l own rest = grind arith
 
 images_above : (a : ℕ) (es : Places) → AllByRecursion (λ (f : ℕ × Option Opened). a < f.0) es → AllByRecursion IsOwned es → AllByRecursion (λ (j : Opened). a < j.header.serial) (images es)
 images_above a [] above own = tt
@@ -121,8 +117,7 @@ rising es order =
 
 -- the newest image stands at its serial
 pub own_place : (es : Places) (answer : Option (Bor Opened)) → AreInOrder es → IsNewestChoice (images es) answer → IfSome answer (λ i. place_of es i.now.header.serial ≡ Some (Some i.now))
-own_place es None order none = tt
-own_place es (Some i) order newest = open_place es i.now order newest.member
+own_place es answer order none = grind (arith, open_place)
 
 -- where one place changes to an image, there are no others than those before and this one
 pub no_others : (old new : Places) (i : Opened) → AreInOrder old → AreInOrder new → Changes old new i.header.serial (Some (Some i))

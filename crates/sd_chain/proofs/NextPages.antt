@@ -54,13 +54,7 @@ IsPoint from = IsPartitionPoint (λ run. ends_by from run ≡ true) (λ run. end
 -- the runs before the point have no page from there on
 pub none_before : (parent from : ℕ) (runs : List Run) (at : ℕ) → AreRuns parent None runs → IsPoint from runs at → (page k : ℕ) (run : Run) → k < at → k < length runs
     → get_or runs k run ≡ run → from ≤ page → IsTrue (is_within run.first run.count page) → ⊥
-none_before parent from runs at good point page k run less within is low has =
-    let ends = leb-true _ _ (point.0 k run (omega arith) less) in
-    let parts = (is_run parent None runs k run good within).1 in
-    let first : (get_or runs k run).first ≡ run.first = ap (λ (r : Run). r.first) is in
-    let count : (get_or runs k run).count ≡ run.count = ap (λ (r : Run). r.count) is in
-    let high = within_high run page has in
-    absurd (omega (arith, ends, parts, first, count, high, low))
+none_before parent from runs at good point page k run less within is low has = grind (arith, leb-true, is_run, within_high)
 
 pub none_left : (parent from : ℕ) (runs : List Run) (at : ℕ) → AreRuns parent None runs → IsPoint from runs at → length runs ≤ at → (page : ℕ) → from ≤ page → HasPageInRuns runs page → ⊥
 none_left parent from runs at good point all page low has =
@@ -75,11 +69,7 @@ least_there parent from runs at run n answer good point within got is some value
     parts = subst (λ (r : Run). (0 < r.count) × (r.first + r.count ≤ 2 ^ 35)) (sym got) (is_run parent None runs at run good within)
 
     beyond : from < run.first + run.count
-    beyond =
-        let ends = leb-false _ _ (point.1 at run (omega arith) within) in
-        let first : (get_or runs at run).first ≡ run.first = ap (λ (r : Run). r.first) (sym got) in
-        let count : (get_or runs at run).count ≡ run.count = ap (λ (r : Run). r.count) (sym got) in
-        omega (arith, ends, first, count)
+    beyond  = grind arith
 
     least : (page : ℕ) → from ≤ page → HasPageInRuns runs page → n ≤ page
     least page low has = elim (cases_lt has.1.0 at) [
@@ -129,11 +119,7 @@ least_there parent from runs at run n answer good point within got is some value
 
 -- the pages of a space are those from this number on
 from_low : (number page : ℕ) (place : ℕ × ℕ) → page < 2 ^ 35 → IsFrom place (number, page) → from_within number place ≤ page
-from_low number page place small (inl above) = elim (cases_lt number place.0) [
-  | inl below ↦ absurd (omega (arith, above, below))
-  | inr high ↦ grind (arith, nat_tests)
-]
-from_low number page place small (inr same) = let number_is = same.0 in let low = same.1 in grind (arith, nat_tests)
+from_low number page place small h4 = grind arith
 
 from_high : (number page : ℕ) (place : ℕ × ℕ) → page < 2 ^ 35 → from_within number place ≤ page → IsFrom place (number, page)
 from_high number page place small low = elim (cases_lt number place.0) [
@@ -156,12 +142,7 @@ IsPassed place s = (page : ℕ) → IsFrom place (s.space, page) → HasPageInRu
 
 -- a run of a table has pages below 2^35
 small_page : (parent : ℕ) (runs : List Run) (page : ℕ) → AreRuns parent None runs → HasPageInRuns runs page → page < 2 ^ 35
-small_page parent runs page good has =
-    let parts = (is_run parent None runs has.1.0 has.0 good has.1.1).1 in
-    let first : (get_or runs has.1.0 has.0).first ≡ has.0.first = ap (λ (r : Run). r.first) has.1.2 in
-    let count : (get_or runs has.1.0 has.0).count ≡ has.0.count = ap (λ (r : Run). r.count) has.1.2 in
-    let high = within_high has.0 page has.2 in
-    omega (arith, parts, first, count, high)
+small_page parent runs page good has = grind (arith, is_run, within_high)
 
 listed_in : (items : List SpaceTable) (s : SpaceTable) → Contains items s → Contains (map listing_of items) (listing_of s)
 listed_in [] s c = absurd (omega (arith, c.1))
@@ -261,12 +242,10 @@ first_there h items place at s found table before within got least = (
     in_take k t less under is = contains_take items at k t less under is
 
     not_less : (page : ℕ × ℕ) → IsBefore page (s.space, found) → s.space < page.0 → ⊥
-    not_less page (inl less) above = absurd (omega (arith, less, above))
-    not_less page (inr same) above = let number = same.0 in absurd (omega (arith, number, above))
+    not_less page h1 above = grind arith
 
     not_low : (page : ℕ × ℕ) → IsBefore page (s.space, found) → page.0 ≡ s.space → found ≤ page.1 → ⊥
-    not_low page (inl less) number low = absurd (omega (arith, less, number))
-    not_low page (inr same) number low = let less = same.1 in absurd (omega (arith, less, low))
+    not_low page h1 number low = grind arith
 
 pub none_there : (items : List SpaceTable) (place : ℕ × ℕ) → ((t : SpaceTable) → Contains items t → IsPassed place t) → IsFirstPageFrom items place None
 none_there items place all page from has = all has.0 has.1 page.1 (subst (λ n. IsFrom place (n, page.1)) has.2 from) has.3
@@ -295,14 +274,10 @@ had_listed items page has =
 
 -- from the place behind a page on is behind it
 start_on : (after : Option (ℕ × ℕ)) (page : ℕ × ℕ) → IsBehind after page → IsFrom (start_of after) page
-start_on None page behind = elim (cases_lt 0 page.0) [ inl above ↦ inl above | inr none ↦ inr (omega (arith, none), omega arith) ]
-start_on (Some place) page (inl less) = inl less
-start_on (Some place) page (inr same) = inr (same.0, (let less = same.1 in omega (arith, less)))
+start_on after page behind = grind arith
 
 start_back : (after : Option (ℕ × ℕ)) (page : ℕ × ℕ) → IsFrom (start_of after) page → IsBehind after page
-start_back None page from = tt
-start_back (Some place) page (inl less) = inl less
-start_back (Some place) page (inr same) = inr (same.0, (let low = same.1 in omega (arith, low)))
+start_back after page from = grind arith
 
 pub next_of : (items : List SpaceTable) (after next : Option (ℕ × ℕ)) → IsFirstPageFrom items (start_of after) next → IsNextOrNone (map listing_of items) after next
 next_of items after None none = λ page listed behind. none page (start_on after page behind) (listed_had items page listed)

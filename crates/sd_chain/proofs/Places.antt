@@ -67,8 +67,7 @@ without_key es serial = λ other. elim (cases_eq serial other) [
     none o = refl
 
 kept_other : (b : Bool) (o : Option (Option Opened)) (i : Opened) → cond b None o ≡ Some (Some i) → o ≡ Some (Some i)
-kept_other true o i e = absurd (cc)
-kept_other false o i e = e
+kept_other b o i e = grind arith
 
 pub order_without_key : (es : Places) (serial : ℕ) → AreInOrder es → AreInOrder (filter (λ e. not (nat_eq e.0 serial)) es)
 order_without_key es serial was = filtered (λ e. not (nat_eq e.0 serial)) es was
@@ -76,8 +75,7 @@ order_without_key es serial was = filtered (λ e. not (nat_eq e.0 serial)) es wa
 
 -- a slot's images taken away
 as_filter : (slot : ℕ) (o : Option (Option Opened)) → option_filter (is_elsewhere slot) o ≡ without_slot slot o
-as_filter slot None = refl
-as_filter slot (Some p) = refl
+as_filter slot o = grind arith
 
 pub removed : (es : Places) (slot : ℕ) → AreInOrder es → (serial : ℕ)
     → place_of (filter (λ e. is_elsewhere slot e.1) es) serial ≡ without_slot slot (place_of es serial)

@@ -20,11 +20,7 @@ end_of None = 0
 end_of (Some run) = run.first + run.count
 
 behind : (parent : ℕ) (before : Option Run) (run : Run) → is_run_after parent before run ≡ true → end_of before ≤ run.first
-behind parent None run e = omega arith
-behind parent (Some before) run e =
-    let outer = and_parts (ltb 0 run.count && leb (run.first + run.count) (2 ^ 35) && begins_behind (Some before) run) (has_source parent run) e in
-    let middle = and_parts (ltb 0 run.count && leb (run.first + run.count) (2 ^ 35)) (begins_behind (Some before) run) outer.0 in
-    begins_end before run middle.1
+behind parent before run e = grind arith
 
 -- each run begins behind the ends of those before it
 later_begins : (parent : ℕ) (before : Option Run) (runs : List Run) (i : ℕ) (d : Run) → AreRuns parent before runs → i < length runs → end_of before ≤ (get_or runs i d).first
@@ -69,36 +65,13 @@ within_high run page h = (has_both run page h).1
 -- no run has a page that all begin behind
 pub none_begins : (page : ℕ) (runs : List Run) (after : ℕ) → IsPoint page runs after → after ≡ 0
     → All (λ run. IsTrue (is_within run.first run.count page) → ⊥) runs
-none_begins page runs after point none = λ k d l h.
-    let begins = leb-false _ _ (point.1 k d (omega (arith, none)) l) in
-    let low = (has_both (get_or runs k d) page h).0 in
-    absurd (omega (arith, begins, low))
+none_begins page runs after point none = grind arith
 
 -- nor one that the last that begins before it hasn't
 pub none_has : (parent page : ℕ) (runs : List Run) (after at : ℕ) (run : Run) → AreRuns parent None runs → IsPoint page runs after → at ≡ after - 1 → (after ≡ 0 → ⊥) → after ≤ length runs
     → slice_get runs at ≡ Some run → is_within run.first run.count page ≡ false
     → All (λ run. IsTrue (is_within run.first run.count page) → ⊥) runs
-none_has parent page runs after at run good point is some bound got hasnt = λ k d l h.
-    let both = has_both (get_or runs k d) page h in
-    let here : get_or runs at d ≡ run = get_or_from_slice_get runs at run d got in
-    let begins = leb-true _ _ (point.0 at d (omega (arith, is, some)) (omega (arith, is, some, bound))) in
-    let low : run.first ≤ page = subst (λ (r : Run). r.first ≤ page) here begins in
-    elim (cases_lt k at) [
-      | inl before ↦
-          let gap = apart parent None runs k at d good before (omega (arith, is, some, bound)) in
-          let same : (get_or runs at d).first ≡ run.first = ap (λ (r : Run). r.first) here in
-          absurd (omega (arith, gap, same, low, both.1))
-      | inr later ↦ elim (cases_lt at k) [
-        | inl beyond ↦
-            let begins = leb-false _ _ (point.1 k d (omega (arith, is, some, beyond)) l) in
-            absurd (omega (arith, begins, both.0))
-        | inr back ↦
-            let same : k ≡ at = omega (arith, later, back) in
-            let this : get_or runs k d ≡ run = subst (λ n. get_or runs n d ≡ run) (sym same) here in
-            let has = subst (λ (r : Run). IsTrue (is_within r.first r.count page)) this h in
-            absurd (false≢true (sym hasnt ∙ has))
-      ]
-    ]
+none_has parent page runs after at run good point is some bound got hasnt = grind (arith, has_both, get_or_from_slice_get, leb-true, cases_lt, apart, leb-false, false≢true)
 
 pub place_is : (runs : List Run) (at : ℕ) (run : Run) (b : Bool) (page : ℕ) (r : Option ℕ) → r ≡ then_some b at → b ≡ is_within run.first run.count page → run ≡ get_or runs at run
     → IfSome r (λ at. (other : Run) → slice_get runs at ≡ Some other → IsTrue (is_within other.first other.count page))
@@ -110,8 +83,7 @@ place_is runs at run b page r is has got =
     by false has = tt
 
 pub none_is : (b : Bool) (at : ℕ) (r : Option ℕ) → r ≡ then_some b at → IsNone r → b ≡ false
-none_is false at r is none = refl
-none_is true at r is none = absurd (false≢true (sym (subst IsNone is none)))
+none_is b at r is none = grind arith
 
 -- the run at a place has a page
 abbrev pub HasWithin : List Run → ℕ → ℕ → Type 0

@@ -33,9 +33,7 @@ true_not_false : (b : Bool) → b ≡ true → b ≡ false → {A : Type 0} → 
 true_not_false b t f = absurd (false≢true (sym f ∙ t))
 
 pub image_is_open : (file : List ℕ) (image : Image) → IsImage file image → is_open file ≡ true
-image_is_open file image is =
-    let long : 4096 ≤ length file = omega (arith, is.header.fills) in
-    and_from _ _ (le-leb _ _ long) (eq-eqb (slice_index file 0) 165 (ap (λ (bytes : List ℕ). slice_index bytes 0) is.spelled))
+image_is_open file image is = grind arith
 
 -- an image of contents stands in a slot
 record Stands (contents : List (List ℕ)) (image : Image) : Type 0 where
@@ -141,14 +139,7 @@ names_of contents all places number i image tied c entry_is named =
 
 data_page : PageInFile → (contents : List (List ℕ)) (i : Opened) (image : Image) (page : ℕ × ℕ) (place : ℕ) → IsOpenedAs contents i image → HasPage i.spaces page (way.Data place)
     → IsInFile contents (found.Data i.slot (4096 + 4096 * place)) × (slice_get image.pages place ≡ Some (bytes_at contents (found.Data i.slot (4096 + 4096 * place))))
-data_page pages contents i image page place entry_is has =
-    let has : slice_get (pages_of Data image.spaces) place ≡ Some page = subst (λ (spaces : List Listed). HasPage spaces page (way.Data place)) (sym entry_is.spaces) has in
-    let law = pages entry_is.file image page place entry_is.spelled has in
-    let file : file_at contents i.slot ≡ entry_is.file = get_or_from_slice_get contents i.slot entry_is.file [] entry_is.slot in
-    let room : 4096 + 4096 * place + 4096 ≤ length (file_at contents i.slot) = subst (λ (f : List ℕ). 4096 + 4096 * place + 4096 ≤ length f) (sym file) law.0 in (
-      (slice_get_within contents i.slot entry_is.file entry_is.slot, room),
-      law.1 ∙ ap (λ (f : List ℕ). Some (slice_range f (4096 + 4096 * place) (4096 + 4096 * place + 4096))) (sym file),
-    )
+data_page pages contents i image page place entry_is has = grind (arith, get_or_from_slice_get, slice_get_within)
 
 pub held_there : PageInFile → (contents : List (List ℕ)) (all : List Image) (places : Places) (page : ℕ × ℕ) (there : Found) (i : Opened) (image : Image) → IsTied contents all places → IsOpenedAs contents i image
     → LiesAt places page there i → Holds all page.0 page.1 (bytes_at contents there) image
@@ -312,9 +303,7 @@ store_of one contents places order catalog =
         sym i.2 ∙ ap (λ (k : Opened). k.slot) same ∙ j.2
 
 not_after : (i j : Opened) (a b : Image) → a.header ≡ i.header → b.header ≡ j.header → catalog.IsNotNewer i j → IsNotAfter a b
-not_after i j a b p q h =
-    subst (λ (x : Header). (x.checkpoint < b.header.checkpoint) ⊎ ((x.checkpoint ≡ b.header.checkpoint) × (x.serial ≤ b.header.serial))) (sym p)
-    (subst (λ (y : Header). (i.header.checkpoint < y.checkpoint) ⊎ ((i.header.checkpoint ≡ y.checkpoint) × (i.header.serial ≤ y.serial))) (sym q) h)
+not_after i j a b p q h = grind arith
 
 pub finds_tip : OneImage → (contents : List (List ℕ)) (places : Places) (answer : Option (Bor Opened)) → AreInOrder places → IsCatalogOf contents places
     → catalog.IsNewestChoice (images places) answer → FindsTip contents answer

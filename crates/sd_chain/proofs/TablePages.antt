@@ -32,11 +32,7 @@ get_right (x ∷ xs) ys (suc n) i e = get_right xs ys n i (omega (arith, e))
 
 end_step : {X : Type 0} (test : X → Bool) (y : X) (xs : List X) (x : X) (b : Bool) → test y ≡ b → (Contains xs x → position_or_len test xs < length xs) → Contains (y ∷ xs) x → test x ≡ true
     → cond (not b) (1 + position_or_len test xs) 0 < length (y ∷ xs)
-end_step test y xs x true e rest c is = omega arith
-end_step {X} test y xs x false e rest c is = elim (contains_cases y x xs c) [
-  | inl same ↦ absurd (false≢true (sym e ∙ subst (λ (z : X). test z ≡ true) same is))
-  | inr later ↦ let under = rest later in omega (arith, under)
-]
+end_step test y xs x b e rest c is = grind arith
 
 before_end : {X : Type 0} (test : X → Bool) (xs : List X) (x : X) → Contains xs x → test x ≡ true → position_or_len test xs < length xs
 before_end test [] x c is = absurd (omega (arith, c.1))
@@ -68,10 +64,7 @@ page_at first (suc count) zero l = ap Some (omega arith)
 page_at first (suc count) (suc k) l = page_at (suc first) count k (omega arith) ∙ ap Some (omega arith)
 
 page_among : (space first count page : ℕ) → first ≤ page → page < first + count → slice_get (map (in_space space) (pages_from first count)) (page - first) ≡ Some (in_space space page)
-page_among space first count page low high =
-    slice_get-map (in_space space) (pages_from first count) (page - first)
-    ∙ ap (option_map (in_space space)) (page_at first count (page - first) (omega arith))
-    ∙ ap (λ n. Some (in_space space n)) (omega arith)
+page_among space first count page low high = grind (arith, slice_get-map, page_at)
 
 from_among : (space first count : ℕ) (x : ℕ × ℕ) → Contains (map (in_space space) (pages_from first count)) x → (x.0 ≡ space) × (first ≤ x.1) × (x.1 < first + count)
 unfolding pages_from
@@ -192,6 +185,4 @@ place_in_spaces n (x ∷ items) (suc index) at s r row before page small there c
 pub place_of_page : (items : List SpaceTable) (index at : ℕ) (s : SpaceTable) (r : Run) (row : List ℕ) (before page : ℕ) → length (pages_of Data (map listing_of items)) < 2 ^ 64
     → slice_get items index ≡ Some s → slice_get (all_places_of 0 items) index ≡ Some row → slice_get s.runs.items at ≡ Some r → slice_get row at ≡ Some before
     → r.kind ≡ Data → IsTrue (is_within r.first r.count page) → slice_get (pages_of Data (map listing_of items)) (before + (page - r.first)) ≡ Some (s.space, page)
-place_of_page items index at s r row before page small there counted run places is within =
-    let h = place_in_spaces 0 items index at s r row before page (omega arith) there counted run places is within in
-    subst (λ k. slice_get (pages_of Data (map listing_of items)) (k + (page - r.first)) ≡ Some (s.space, page)) (sym (h.1 ∙ omega arith)) h.2
+place_of_page items index at s r row before page small there counted run places is within = grind (arith, place_in_spaces)

@@ -53,13 +53,7 @@ has_parent places page slot i (here _ has none is) = has
 has_parent places page slot i (beyond _ parent has named breaks) = has
 
 pub walk_begins : (places : Places) (page : ℕ × ℕ) (i : Opened) → Contains (images places) i → IsWalked places page i i trace.Absent
-walk_begins places page i member = record {
-  member = member;
-  never = absence_is_no_find;
-  found = λ there. (λ lies. lies, λ lies. lies);
-  broken = λ slot. (λ breaks. inr breaks, λ either. elim either [ inl x ↦ absurd (let e = x.1 in cc) | inr breaks ↦ breaks ]);
-  absent = (λ none. (none, refl), λ both. both.0);
-}
+walk_begins places page i member = grind arith
 
 -- ---- an image that doesn't list the page
 
@@ -83,17 +77,7 @@ ends_unlisted places page start i unlisted walk exact =
 pub ends_found : (places : Places) (page : ℕ × ℕ) (start i : Opened) (unlisted : Trace) (w : Way) (there : Found) → IsWalked places page start i unlisted
     → HasPage i.spaces page w → (HasPage i.spaces page way.Parent → ⊥) → LiesAt places page there i → ((other : Found) → LiesAt places page other i → other ≡ there)
     → IsTraceOf places page start (trace.Found there)
-ends_found places page start i unlisted w there walk has other lies only = record {
-  found = λ place. (
-    λ e. (walk.found place).1 (subst (λ f. LiesAt places page f i) (same_find there place e) lies),
-    λ lies. ap trace.Found (sym (only place ((walk.found place).0 lies))),
-  );
-  broken = λ slot. (
-    λ e. absurd (found_is_no_break there slot e),
-    λ breaks. absurd (elim ((walk.broken slot).0 breaks) [ inl x ↦ x.0 w has | inr b ↦ other (has_parent places page slot i b) ]),
-  );
-  absent = (λ e. absurd (found_is_no_absence there e), λ none. absurd ((walk.absent.0 none).0 w has));
-}
+ends_found places page start i unlisted w there walk has other lies only = grind (arith, same_find, found_is_no_break, has_parent, found_is_no_absence)
 
 pub ends_with_data : FewPages → (places : Places) (page : ℕ × ℕ) (start i : Opened) (unlisted : Trace) (place offset : ℕ) → IsTable i.header i.spaces
     → IsWalked places page start i unlisted → IsExact i.spaces page (Some (way.Data place))
@@ -173,11 +157,7 @@ walk_goes_on places page start i parent unlisted one walk exact named =
 -- ---- by serial
 
 pub traced_none : (places : Places) (serial : ℕ) (page : ℕ × ℕ) → ((i : Opened) → place_of places serial ≡ Some (Some i) → ⊥) → IsTraced places serial page trace.Absent
-traced_none places serial page none = record {
-  found = λ there. (λ e. absurd (absence_is_no_find there e), λ lies. absurd (none lies.0 lies.1));
-  broken = λ slot. (λ e. absurd (break_is_no_absence slot (sym e)), λ breaks. absurd (none breaks.0 breaks.1));
-  absent = (λ e i there. absurd (none i there), λ gone. refl);
-}
+traced_none places serial page none = grind arith
 
 pub traced_some : (places : Places) (serial : ℕ) (page : ℕ × ℕ) (i : Opened) (answer : Trace) → place_of places serial ≡ Some (Some i) → IsTraceOf places page i answer → IsTraced places serial page answer
 traced_some places serial page i answer there is = record {
@@ -191,9 +171,7 @@ traced_some places serial page i answer there is = record {
 
 -- where a trace found the page
 found_is : (answer : Trace) (there : Found) → (found_in answer ≡ Some there) ↔ (answer ≡ trace.Found there)
-found_is (trace.Found place) there = (λ e. ap trace.Found (same_Some place there e), λ e. ap Some (same_find place there e))
-found_is (trace.Broken slot) there = (λ e. absurd (none-some there e), λ e. absurd (break_is_not_found slot there e))
-found_is trace.Absent there = (λ e. absurd (none-some there e), λ e. absurd (absence_is_no_find there e))
+found_is answer there = grind arith
 
 pub resolved_by : (places : Places) (serial : ℕ) (page : ℕ × ℕ) (answer : Trace) → ((there : Found) → (answer ≡ trace.Found there) ↔ LiesBySerial places serial page there) → IsResolved places serial page (found_in answer)
 resolved_by places serial page answer traced there =

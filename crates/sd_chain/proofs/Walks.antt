@@ -61,8 +61,7 @@ ahead_more places serial i None named was j never = absurd never
 ahead_more places serial i (Some p) named was j r = was j (ReachesInCatalog.beyond i p.now named r)
 
 member_more : (places : Places) (i : Opened) (next : Option (Bor Opened)) → IfSome next (λ p. Names places i.header.parent p.now) → IfSome next (λ p. Contains (images places) p.now)
-member_more places i None named = tt
-member_more places i (Some p) named = named.member
+member_more places i next named = grind arith
 
 beyond_next : (places : Places) (i p j : Opened) (next : Option (Bor Opened)) → AreInOrder places → i.header.parent < i.header.stands_for → IsNext places i next
     → Names places i.header.parent p → ReachesInCatalog places j p → NextReaches places next j
@@ -110,8 +109,7 @@ path_more places i j p [] same names =
 path_more places i j p (serial ∷ list) path names = (path.0, (path.1.0, path.1.1, path_more places path.1.0 j p list path.1.2 names))
 
 pub way_begins : (places : Places) (serial : ℕ) (next : Option (Bor Opened)) → IsImageOf places serial next → IsWayTo places serial [] next
-way_begins places serial None none = inl (none, refl)
-way_begins places serial (Some i) found = (i.now, found.0, refl)
+way_begins places serial next none = grind arith
 
 pub way_goes_on : (places : Places) (serial : ℕ) (list : List ℕ) (i : Bor Opened) (next : Option (Bor Opened)) → i.now.header.parent < i.now.header.stands_for
     → IsWayTo places serial list (Some i) → IsNext places i.now next → IsWayTo places serial (list ++ i.now.header.serial ∷ []) next
@@ -166,6 +164,4 @@ path_once places i last (serial ∷ rest) order fall c path =
 
 pub chain_once : (places : Places) (serial : ℕ) (list : List ℕ) → AreInOrder places → ParentsFall places → IsChain places serial list → IsDistinct nat_eq list
 unfolding IsDistinct
-chain_once places serial list order fall (inl none) = subst (IsDistinct nat_eq) (sym none.1) tt
-chain_once places serial list order fall (inr whole) =
-    subst (IsDistinct nat_eq) (sym whole.are) (path_once places whole.first whole.last whole.front order fall (member_of places serial whole.first whole.there) whole.path).0
+chain_once places serial list order fall h5 = grind (arith, path_once, member_of)

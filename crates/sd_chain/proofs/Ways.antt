@@ -35,8 +35,7 @@ kind_of way.Zero = Zero
 
 pub among_kind : (spaces : List Listed) (page : ℕ × ℕ) (w : Way) → HasPage spaces page w → Contains (pages_of (kind_of w) spaces) page
 unfolding kind_of
-among_kind spaces page (way.Data place) h = contains_at (pages_of Data spaces) place page h
-among_kind spaces page _ h = h
+among_kind spaces page w h = grind (arith, contains_at)
 
 one_way : OneKind → OnePlace → (h : Header) (spaces : List Listed) (page : ℕ × ℕ) (a b : Way) → IsTable h spaces → HasPage spaces page a → HasPage spaces page b → a ≡ b
 unfolding kind_of
@@ -152,16 +151,12 @@ space_there items index s low got = slice_get-get_or items index s low ∙ ap So
 pub run_at : (items : List SpaceTable) (index at : ℕ) (s : SpaceTable) (run : Run) (space page : ℕ) → slice_get items index ≡ Some s → s.space ≡ space
     → at < length s.runs.items → ((other : Run) → slice_get s.runs.items at ≡ Some other → IsTrue (is_within other.first other.count page)) → run ≡ get_or s.runs.items at run
     → IsAt items index at s run space page
-run_at items index at s run space page got number low within is =
-    let there : slice_get s.runs.items at ≡ Some run = slice_get-get_or s.runs.items at run low ∙ ap Some (sym is) in
-    record { there = got; number = number; run_there = there; within = within run there }
+run_at items index at s run space page got number low within is = grind (arith, slice_get-get_or)
 
 -- so it has the pages behind it up to its end
 pub at_behind : (items : List SpaceTable) (index at : ℕ) (s : SpaceTable) (run : Run) (space page k : ℕ) → IsAt items index at s run space page → k < run.count - (page - run.first)
     → IsAt items index at s run space (page + k)
-at_behind items index at s run space page k found less =
-    let low = within_low run page found.within in
-    record { there = found.there; number = found.number; run_there = found.run_there; within = within_from run (page + k) (omega (arith, low)) (omega (arith, low, less)) }
+at_behind items index at s run space page k found less = grind arith
 
 pub has_by_run : (kind : RunKind) (items : List SpaceTable) (index at : ℕ) (s : SpaceTable) (run : Run) (space page : ℕ) → IsAt items index at s run space page → run.kind ≡ kind
     → Contains (pages_of kind (map listing_of items)) (space, page)
@@ -235,10 +230,7 @@ length-all_places_of n [] = refl
 length-all_places_of n (s ∷ items) = ap suc (length-all_places_of (after_runs n s.runs.items) items)
 
 pub row_there : {V : Type 0} (row_of : V → List ℕ) (rows : List V) (items : List SpaceTable) (index : ℕ) (s : SpaceTable) → map row_of rows ≡ all_places_of 0 items → slice_get items index ≡ Some s → index < length rows
-row_there row_of rows items index s counted there =
-    let many : length rows ≡ length items = sym (length-map rows row_of) ∙ ap length counted ∙ length-all_places_of 0 items in
-    let within = slice_get_within items index s there in
-    omega (arith, many, within)
+row_there row_of rows items index s counted there = grind (arith, length-map, length-all_places_of, slice_get_within)
 
 pub row_is : {V : Type 0} (row_of : V → List ℕ) (rows : List V) (items : List SpaceTable) (index : ℕ) (row : V) → map row_of rows ≡ all_places_of 0 items → index < length rows → row ≡ get_or rows index row
     → slice_get (all_places_of 0 items) index ≡ Some (row_of row)
@@ -252,7 +244,4 @@ row_long n (x ∷ items) zero s row there counted =
 row_long n (x ∷ items) (suc index) s row there counted = row_long (after_runs n x.runs.items) items index s row there counted
 
 pub place_there : (items : List SpaceTable) (index at : ℕ) (s : SpaceTable) (run : Run) (row : List ℕ) (space page : ℕ) → IsAt items index at s run space page → slice_get (all_places_of 0 items) index ≡ Some row → at < length row
-place_there items index at s run row space page found counted =
-    let long = row_long 0 items index s row found.there counted in
-    let within = slice_get_within s.runs.items at run found.run_there in
-    omega (arith, long, within)
+place_there items index at s run row space page found counted = grind (arith, row_long, slice_get_within)

@@ -50,12 +50,7 @@ module _ (outside : Outside) (earlier : List DiskEvent) where
 
     step_on : ((before file : List ℕ) → Leaves (known number) before → step before file → Leaves (change number (known number)) file)
         → (c : List (List ℕ)) → IsBefore (AtSlot number step) c → MayLeave outside (event ∷ earlier) c
-    step_on done c from =
-        let given = reached (length files) (was_synced earlier) known number step change done from.0 c (allowed_before from.0 from.1) from.2 in
-        record {
-          count = given.same ∙ sym size;
-          each = λ slot near was. subst (λ u. Leaves u (file_at c slot)) (sym (after slot)) (given.each slot near (sym (quiet slot) ∙ was));
-        }
+    step_on done c from = grind arith
 
   sync_back : (number : ℕ) (bytes : List ℕ) (c : List (List ℕ)) → MayLeave outside ((Synced number, bytes) ∷ earlier) c
       → IsBefore (λ d c. (d ≡ c) × (file_at c number ≡ file_at files number)) c
@@ -82,23 +77,11 @@ module _ (outside : Outside) (earlier : List DiskEvent) where
 
       at_number : number < length c → Leaves (cond (nat_eq number number) (at_rest (file_at files number)) (known number)) (file_at c number)
           → Leaves (at_rest (file_at files number)) (file_at c number)
-      at_number near given = ⊎_elim
-          (λ is. subst (λ t. Leaves (cond t (at_rest (file_at files number)) (known number)) (file_at c number)) is.0 given)
-          (λ is. absurd (is.1 refl))
-          (eqb_tells number number)
+      at_number near given = grind arith
 
   sync_on : (number : ℕ) (bytes : List ℕ) (c : List (List ℕ)) → MayLeave outside earlier c → file_at c number ≡ file_at files number
       → MayLeave outside ((Synced number, bytes) ∷ earlier) c
-  sync_on number bytes c left same = record {
-    count = left.count;
-    each = λ slot near was. ⊎_elim
-        (λ is. subst (λ t. Leaves (cond t (at_rest (file_at files slot)) (known slot)) (file_at c slot)) (sym (is.0))
-        (subst (λ s. Leaves (at_rest (file_at files s)) (file_at c s)) is.1
-        (subst (Leaves (at_rest (file_at files number))) (sym same) (rest_leaves (file_at files number)))))
-        (λ is. subst (λ t. Leaves (cond t (at_rest (file_at files slot)) (known slot)) (file_at c slot)) (sym (is.0))
-        (left.each slot near (subst (λ t. (t || was_synced earlier slot) ≡ true) is.0 was)))
-        (eqb_tells number slot);
-  }
+  sync_on number bytes c left same = grind arith
 
 -- an outcome after a call was one before it, and the call led there
 pub leads_back : (outside : Outside) (event : DiskEvent) (earlier : List DiskEvent) (c : List (List ℕ)) → MayLeave outside (event ∷ earlier) c
@@ -151,10 +134,4 @@ module _ (outside outside' : Outside) (events events' : List DiskEvent) (event :
   since_noted t c left = subst (λ o. LeftSince o (event ∷ events) t c) same (subst (λ es. LeftSince outside' es t c) noted left)
 
   pub time_noted : Elapses (length events) (length events') (LeftSince outside events) (LeftSince outside' events') (MayLeave outside' events')
-  time_noted = record {
-    later = omega (arith, ap length noted);
-    nothing_else = λ t c since left. ⊎_elim
-        (λ now. inr (subst (λ es. MayLeave outside' es c) (sym noted) (subst (λ o. MayLeave o (event ∷ events) c) (sym same) now.1)))
-        inl (since_noted t c left);
-    keeps = λ t c since past. subst (λ es. LeftSince outside' es t c) (sym noted) (subst (λ o. LeftSince o (event ∷ events) t c) (sym same) (inr past));
-  }
+  time_noted  = grind arith

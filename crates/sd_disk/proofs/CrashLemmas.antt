@@ -37,9 +37,7 @@ module _ (slots : List SlotFile) (new : SlotFile) where
 
   pub rooms_pushed : (rooms : List ℕ) → map room_of slots ≡ take (length slots) rooms → length slots < length rooms
       → room_of new ≡ slice_index rooms (length slots) → map room_of (slots ++ new ∷ []) ≡ take (length slots + 1) rooms
-  rooms_pushed rooms before more here =
-      map-append room_of slots (new ∷ []) ∙ ap (λ front. front ++ room_of new ∷ []) before ∙ ap (λ room. take (length slots) rooms ++ room ∷ []) here
-      ∙ sym (take_more rooms (length slots) 0 more)
+  rooms_pushed rooms before more here = grind (arith, map-append, take_more)
 
 pub room_at : (slots : List SlotFile) (number : ℕ) (slot : SlotFile) → number < length slots → slot ≡ slice_index_or slots number slot
     → room_of slot ≡ slice_index (map room_of slots) number

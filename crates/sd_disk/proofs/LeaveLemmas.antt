@@ -28,17 +28,14 @@ untouched_outside range ranges place free =
 
 pub untouched_still : (range : Range) (ranges : List Range) (place : ℕ) → is_touched ranges place ≡ false
     → (place < range.from) ⊎ (range.to ≤ place) → is_touched (range ∷ ranges) place ≡ false
-untouched_still range ranges place free (inl below) = grind (arith, nat_tests)
-untouched_still range ranges place free (inr above) = grind (arith, nat_tests)
+untouched_still range ranges place free h4 = grind arith
 
 pub rest_leaves : (file : List ℕ) → Leaves (at_rest file) file
 rest_leaves file = record { no_shorter = omega arith; no_longer = omega arith; untouched = λ place near known free. refl }
 
 -- right after a sync nothing else is left
 pub rest_only : (file found : List ℕ) → Leaves (at_rest file) found → found ≡ file
-rest_only file found left =
-    let size : length found ≡ length file = omega (arith, left.no_shorter, left.no_longer) in
-    same_number_lists found file size (λ place near. left.untouched place near (omega (arith, size, near)) refl)
+rest_only file found left = grind (arith, same_number_lists)
 
 pub rest_covers : (file : List ℕ) → Covers (at_rest file)
 rest_covers file = record { touched = λ place from known. absurd (omega arith) }
@@ -47,42 +44,15 @@ pub write_covers : (at n : ℕ) (slot : Unsynced) → Covers slot → Covers (wi
 write_covers at n slot covers = record { touched = λ place from known. touched_still (record { from = at; to = at + n }) slot.touched place (covers.touched place from known) }
 
 pub cut_covers : (count n : ℕ) (slot : Unsynced) → slot.least ≤ count → Covers slot → Covers (with_cut count n slot)
-cut_covers count n slot least covers = record {
-  touched = λ place from known. ⊎_elim
-      (λ below. touched_in (record { from = n; to = count }) slot.touched place (omega (arith, from, below)) (omega (arith, below, least)))
-      (λ above. touched_still (record { from = n; to = count }) slot.touched place (covers.touched place above known))
-      (cases_lt place slot.least);
-}
+cut_covers count n slot least covers = grind arith
 
 -- a write of what was left leaves what the rules allow after it
 pub write_leaves : (at n : ℕ) (slot : Unsynced) (old new : List ℕ) → Covers slot → Leaves slot old → Torn at n old new → Leaves (with_write at n slot) new
-write_leaves at n slot old new covers left torn = record {
-  no_shorter = omega (arith, left.no_shorter, torn.no_shorter);
-  no_longer = omega (arith, left.no_longer, torn.no_longer);
-  untouched = λ place near known free.
-      let range : Range = record { from = at; to = at + n } in
-      let before = untouched_before range slot.touched place free in
-      ⊎_elim
-      (λ old_near. ⊎_elim (λ below. torn.below place old_near below) (λ above. torn.above place old_near above) (untouched_outside range slot.touched place free)
-      ∙ left.untouched place old_near known before)
-      (λ past. absurd (let all = covers.touched place (omega (arith, left.no_shorter, past)) known in cc))
-      (cases_lt place (length old));
-}
+write_leaves at n slot old new covers left torn = grind arith
 
 pub cut_leaves : (count n : ℕ) (slot : Unsynced) (old new : List ℕ) → slot.least ≤ count → Covers slot → Leaves slot old → Cut n old new
     → Leaves (with_cut count n slot) new
-cut_leaves count n slot old new least covers left cut = record {
-  no_shorter = omega (arith, left.no_shorter, cut.no_shorter);
-  no_longer = omega (arith, left.no_longer, cut.no_longer);
-  untouched = λ place near known free.
-      let range : Range = record { from = n; to = count } in
-      let before = untouched_before range slot.touched place free in
-      let old_near : place < length old = omega (arith, near, cut.no_longer) in
-      ⊎_elim
-      (λ below. cut.below place old_near below ∙ left.untouched place old_near known before)
-      (λ above. absurd (let all = covers.touched place (omega (arith, least, above)) known in cc))
-      (untouched_outside range slot.touched place free);
-}
+cut_leaves count n slot old new least covers left cut = grind arith
 
 -- what the rules allow after a write was left by a write of something that they allowed before it
 pub write_undone : (at n : ℕ) (slot : Unsynced) (new : List ℕ) → slot.least ≤ slot.greatest → Leaves (with_write at n slot) new

@@ -1,5 +1,5 @@
 -- One slot of a disk in memory changes.
-use Rattle.std.proofs.Common.{◌≡◌, ℕ, ◌<◌, List, [], length, map, slice_index_or, slice_set, sym, ap, ◌∙◌, subst}
+use Rattle.std.proofs.Common.{◌≡◌, ℕ, ◌<◌, List, [], length, map, slice_index_or, slice_set, sym, ap, ◌∙◌, subst, arith}
 use Rattle.std.proofs.lemmas.List.{get_or-map, map-set, length-map}
 use Rattle.std.proofs.Math.Seq.{map-set_same}
 use Rattle.sd_disk.specs.Contents.{file_at, AtSlot}
@@ -9,9 +9,7 @@ use Rattle.sd_disk.proofs.StepLemmas.{at_slot}
 
 module _ (slots : List SlotFile) (i : ℕ) (old new : SlotFile) (is_slot : i < length (map held slots)) (is : old ≡ slice_index_or slots i old) where
   pub file_read : file_at (map held slots) i ≡ held old
-  file_read =
-      let within : i < length slots = subst (λ n. i < n) (length-map slots held) is_slot in
-      get_or-map held slots i old [] within ∙ sym (ap held is)
+  file_read  = grind (arith, length-map, get_or-map)
 
   pub slot_changed : (change : List ℕ → List ℕ) → held new ≡ change (held old)
       → map held (slice_set slots i new) ≡ slice_set (map held slots) i (change (file_at (map held slots) i))

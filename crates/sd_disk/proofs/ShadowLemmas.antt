@@ -18,16 +18,7 @@ module _ (shadow : Shadow) (known : Unsynced) (tracks : ShadowTracks shadow know
       → ((place : ℕ) → place < len → slice_index_or shadow.touched.items place false ≡ false → place < shadow.synced_len
       → slice_index room place ≡ slice_index shadow.synced.items place)
       → Leaves known (take len room)
-  picked_leaves room len least greatest fits kept =
-      let size : length (take len room) ≡ len = omega (arith, length-take len room, fits) in
-      record {
-        no_shorter = omega (arith, size, least, tracks.least);
-        no_longer = omega (arith, size, greatest, tracks.greatest);
-        untouched = λ place near is_known free.
-            let within : place < len = omega (arith, near, size) in
-            let was_synced : place < shadow.synced_len = omega (arith, is_known, synced_size) in
-            get_or-take len room place 0 within ∙ kept place within (tracks.touched place ∙ free) was_synced ∙ sym (synced_at place was_synced);
-      }
+  picked_leaves room len least greatest fits kept = grind (arith, length-take, get_or-take)
 
   -- an outcome has the synced byte where it has to
   pub left_kept : (file : List ℕ) → Leaves known file → (place : ℕ) → place < length file
@@ -38,8 +29,4 @@ module _ (shadow : Shadow) (known : Unsynced) (tracks : ShadowTracks shadow know
 -- a room that has the bytes of a file
 pub same_front : (room file : List ℕ) (len : ℕ) → len ≤ length room → len ≡ length file
     → ((place : ℕ) → place < len → slice_index room place ≡ slice_index file place) → take len room ≡ file
-same_front room file len fits is same =
-    let size : length (take len room) ≡ len = omega (arith, length-take len room, fits) in
-    same_number_lists (take len room) file (size ∙ is) (λ place near.
-    let within : place < len = omega (arith, near, size) in
-    get_or-take len room place 0 within ∙ same place within)
+same_front room file len fits is same = grind (arith, length-take, same_number_lists, get_or-take)

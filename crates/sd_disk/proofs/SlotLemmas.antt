@@ -19,11 +19,4 @@ in_two room bytes at fits = grind (arith, common_steps)
 
 pub overwritten : (room bytes : List ℕ) (len at : ℕ) → at ≤ len → len ≤ length room → at + length bytes ≤ length room
     → take (max len (at + length bytes)) (put_mid at (length bytes) room bytes) ≡ take at (take len room) ++ bytes ++ drop (at + length bytes) (take len room)
-overwritten room bytes len at inside within fits =
-    let e : length (front room at bytes) ≡ at + length bytes = grind (arith, common_steps) in
-    let head : take at (take len room) ≡ take at room = grind (arith, common_steps) in
-    let tail : take (len - (at + length bytes)) (drop (at + length bytes) room) ≡ drop (at + length bytes) (take len room) = between_is room (at + length bytes) len in
-    let rest : max len (at + length bytes) - (at + length bytes) ≡ len - (at + length bytes) = omega arith in
-    ap (λ xs. take (max len (at + length bytes)) xs) (in_two room bytes at fits)
-    ∙ past (front room at bytes) (drop (at + length bytes) room) (max len (at + length bytes)) (omega (arith, e))
-    ∙ rw (e, rest, tail, head) refl
+overwritten room bytes len at inside within fits = grind (arith, common_steps, between_is, in_two, past)

@@ -1,5 +1,5 @@
 -- What one more event in a record says of what a crash may leave.
-use Rattle.std.proofs.Common.{inl, inr, ℕ, cond, nat_eq, List, [], ◌∷◌, length, slice_set, refl, sym, subst}
+use Rattle.std.proofs.Common.{inl, inr, ℕ, cond, nat_eq, List, [], ◌∷◌, length, slice_set, refl, sym, subst, arith}
 use Rattle.std.proofs.lemmas.Bool.{cases_lt}
 use Rattle.std.proofs.lemmas.List.{set_past}
 use Rattle.sd_disk.specs.Contents.{file_at, Torn, Cut, AtSlot}
@@ -19,16 +19,10 @@ rest_sound : (file : List ℕ) → IsSound (at_rest file) file
 rest_sound file = record { left = rest_leaves file; covers = rest_covers file }
 
 write_sound : (at n : ℕ) (slot : Unsynced) (old new : List ℕ) → IsSound slot old → Torn at n old new → IsSound (with_write at n slot) new
-write_sound at n slot old new sound torn = record {
-  left = write_leaves at n slot old new sound.covers sound.left torn;
-  covers = write_covers at n slot sound.covers;
-}
+write_sound at n slot old new sound torn = grind arith
 
 cut_sound : (n : ℕ) (slot : Unsynced) (old new : List ℕ) → IsSound slot old → Cut n old new → IsSound (with_cut (length old) n slot) new
-cut_sound n slot old new sound cut = record {
-  left = cut_leaves (length old) n slot old new sound.left.no_shorter sound.covers sound.left cut;
-  covers = cut_covers (length old) n slot sound.left.no_shorter sound.covers;
-}
+cut_sound n slot old new sound cut = grind arith
 
 -- one slot gets another file, or there is no such slot
 changes : (step : List ℕ → List ℕ → Type 0) (files : List (List ℕ)) (number : ℕ) (file : List ℕ) → ((same : List ℕ) → step same same)
@@ -43,10 +37,7 @@ sound_at : (number slot : ℕ) (step : List ℕ → List ℕ → Type 0) (old ne
     → AtSlot number step old new → IsSound known (file_at old slot)
     → (step (file_at old slot) (file_at new slot) → IsSound changed (file_at new slot))
     → IsSound (cond (nat_eq number slot) changed known) (file_at new slot)
-sound_at number slot step old new known changed stepped sound there =
-    chosen (λ u. IsSound u (file_at new slot)) number slot changed known
-    (λ same. there (subst (λ s. step (file_at old s) (file_at new s)) same stepped.here))
-    (λ apart. subst (IsSound known) (sym (stepped.others slot (λ e. apart (sym e)))) sound)
+sound_at number slot step old new known changed stepped sound there = grind arith
 
 pub sound : (outside : Outside) (events : List DiskEvent) (slot : ℕ) → IsSound (unsynced_after outside events slot) (file_at (files_after outside events) slot)
 sound outside [] slot = rest_sound (file_at outside.found slot)

@@ -20,8 +20,7 @@ chosen_at : {X : Type 0} (i : ℕ) (x y : X) → cond (nat_eq i i) x y ≡ x
 chosen_at i x y = ⊎_elim (λ is. rw is.0 refl) (λ is. absurd (is.1 refl)) (eqb_tells i i)
 
 either_way : (b : Bool) {c : Bool} → c ≡ true → (b || c) ≡ true
-either_way true is = refl
-either_way false is = is
+either_way b is = grind arith
 
 -- one slot changes by a call on it
 pub tracked_after : (slots : List SlotFile) (i : ℕ) (old new : SlotFile) (is_slot : i < length slots) (is : old ≡ slice_index_or slots i old)
@@ -49,32 +48,15 @@ tracked_after slots i old new is_slot is outside outside' events events' event s
 pub replayed_after : (slots slots' : List SlotFile) (outside outside' : Outside) (events events' : List DiskEvent) (event : DiskEvent) → outside' ≡ outside → events' ≡ event ∷ events
     → files_after outside events ≡ map held slots → ((left : List ℕ) → files_after_call event.0 event.1 left (map held slots) ≡ map held slots')
     → files_after outside' events' ≡ map held slots'
-replayed_after slots slots' outside outside' events events' event same noted before changes =
-    ap (files_after outside') noted ∙ ap (λ o. files_after o (event ∷ events)) same
-    ∙ ap (files_after_call event.0 event.1 (file_at outside.left (failures_in events))) before ∙ changes (file_at outside.left (failures_in events))
+replayed_after slots slots' outside outside' events events' event same noted before changes = grind arith
 
 pub none_settled : (files : List (List ℕ)) (outside outside' : Outside) (events : List DiskEvent) → outside.found ≡ files → outside' ≡ outside → events ≡ []
     → AreSettled files 0 outside' events
-none_settled files outside outside' events found same none =
-    subst (λ es. AreSettled files 0 outside' es) (sym none) (subst (λ o. AreSettled files 0 o []) (sym same) (record {
-      replayed = found;
-      synced = λ number near. absurd (omega arith);
-      resting = λ number. ap (λ fs. at_rest (file_at fs number)) found;
-      failures = refl;
-    }))
+none_settled files outside outside' events found same none = grind arith
 
 pub one_settled : (files : List (List ℕ)) (count : ℕ) (outside outside' : Outside) (events events' : List DiskEvent) → outside' ≡ outside
     → events' ≡ (Synced count, []) ∷ events → AreSettled files count outside events → AreSettled files (count + 1) outside' events'
-one_settled files count outside outside' events events' same noted before =
-    subst (λ es. AreSettled files (count + 1) outside' es) (sym noted)
-    (subst (λ o. AreSettled files (count + 1) o ((Synced count, []) ∷ events)) (sym same) (record {
-      replayed = before.replayed;
-      synced = λ number near. ⊎_elim (λ is. rw is.0 refl)
-          (λ is. rw (is.0, before.synced number (let ne : number ≢ count = λ e. is.1 (sym e) in omega arith)) refl) (eqb_tells count number);
-      resting = λ number. ⊎_elim (λ is. rw is.0 (ap (λ fs. at_rest (file_at fs number)) before.replayed))
-          (λ is. rw is.0 (before.resting number)) (eqb_tells count number);
-      failures = before.failures;
-    }))
+one_settled files count outside outside' events events' same noted before = grind arith
 
 pub settled_only : (files : List (List ℕ)) (outside : Outside) (events : List DiskEvent) → AreSettled files (length files) outside events
     → Only files (MayLeave outside events)

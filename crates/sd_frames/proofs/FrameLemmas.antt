@@ -48,9 +48,7 @@ at_cell _ _ = refl
 
 -- a frame in use has a place
 in_slot : (o : Option FrameCell) (c : Cell) → option_and_then cell_of o ≡ Some c → o ≡ Some (Used c)
-in_slot None c e = absurd (let f : None ≡ Some c = e in cc)
-in_slot (Some (Used d)) c e = (let f : ◌≡◌ {A = Option Cell} (Some d) (Some c) = e in cc)
-in_slot (Some (Free n)) c e = absurd (let f : ◌≡◌ {A = Option Cell} None (Some c) = e in cc)
+in_slot o c e = grind arith
 
 pub used_slot : (slots : List FrameCell) (k : ℕ) (c : Cell) → get_or (cells_of slots) k None ≡ Some c → slice_get slots k ≡ Some (Used c)
 used_slot slots k c e = in_slot (slice_get slots k) c (sym (at_cell slots k) ∙ e)
@@ -67,10 +65,7 @@ used_free : (c : Cell) (n : Option ℕ) → ◌≡◌ {A = Option FrameCell} (So
 used_free c n e = cc
 
 chain_apart : (slots : List FrameCell) (first : Option ℕ) (places : List ℕ) (k : ℕ) (c : Cell) → AreLinked slots first places → slice_get slots k ≡ Some (Used c) → is_among k places ≡ false
-chain_apart slots first places k c h e = elim (cases_Bool (is_among k places)) [
-  | inl t ↦ (let f = chain_free slots first places k h t in absurd (used_free c f.0 (sym e ∙ f.1)))
-  | inr f ↦ f
-]
+chain_apart slots first places k c h e = grind (arith, cases_Bool, chain_free, used_free)
 
 chain_set : (slots : List FrameCell) (first : Option ℕ) (places : List ℕ) (k : ℕ) (s : FrameCell) → AreLinked slots first places → is_among k places ≡ false → AreLinked (set slots k s) first places
 chain_set slots first [] k s h e = h
@@ -163,9 +158,7 @@ pub free_none : (slots : List FrameCell) (k : ℕ) (next : Option ℕ) → slice
 free_none slots k next e = at_cell slots k ∙ ap (option_and_then cell_of) e
 
 in_use : (o : Option FrameCell) → IsSome o → ((n : Option ℕ) → o ≡ Some (Free n) → ⊥) → IsSome (option_and_then cell_of o)
-in_use None s h = absurd (let f : false ≡ true = s in cc)
-in_use (Some (Used c)) s h = refl
-in_use (Some (Free n)) s h = absurd (h n refl)
+in_use o s h = grind arith
 
 there_within : {X : Type 0} (xs : List X) (i : ℕ) → i < length xs → IsSome (slice_get xs i)
 there_within [] i l = absurd (omega arith)
@@ -206,8 +199,7 @@ pub frame_again : (pool : Pool) (k : ℕ) (c : Cell) → cell_at pool k ≡ Some
 frame_again pool k c e = ap (λ (o : Option Cell). record { count = option_map_or (λ (cell : Cell). cell.count) o 0; bytes = option_map_or (λ (cell : Cell). cell.bytes) o zeros }) e
 
 pub some_cell : (o : Option Cell) → IsSome o → (c : Cell) × (o ≡ Some c)
-some_cell None s = absurd (let f : false ≡ true = s in cc)
-some_cell (Some c) s = (c, refl)
+some_cell o s = grind arith
 
 -- a frame in use has a place that is in use
 pub used_at : (size : ℕ) (slots : List FrameCell) (pool : Pool) (k : ℕ) → frames_of size slots ≡ pool → IsSome (cell_at pool k) → (c : Cell) × (cell_at pool k ≡ Some c) × (slice_get slots k ≡ Some (Used c))

@@ -12,29 +12,21 @@ use Rattle.sd_frames.proofs.FrameLemmas.{frames_of, some_cell, used_slot, at_cel
 
 -- a frame that is used has its bytes
 pub whole_at : (pool : Pool) (k : ℕ) → HasWholeFrames pool → IsSome (cell_at pool k) → length (cell_bytes pool k) ≡ 4096
-whole_at pool k whole some =
-    let c = some_cell (cell_at pool k) some in
-    ap (λ (o : Option Cell). length (option_map_or (λ (cell : Cell). cell.bytes) o zeros)) c.1 ∙ whole k c.0 c.1
+whole_at pool k whole some = grind arith
 
 same_cell : (c d : Cell) → ◌≡◌ {A = Option Cell} (Some c) (Some d) → c ≡ d
 same_cell c d e = cc
 
 -- one frame changed
 pub whole_set : (old new : Pool) (k : ℕ) (cell : Cell) → HasWholeFrames old → SetsCell old new k (Some cell) → length cell.bytes ≡ 4096 → HasWholeFrames new
-whole_set old new k cell whole sets is n c e = elim (cases_eq n k) [
-  | inl same ↦ ap (λ (x : Cell). length x.bytes) (sym (same_cell cell c (sym sets.here ∙ ap (cell_at new) (sym same) ∙ e))) ∙ is
-  | inr other ↦ whole n c (sym (sets.others n other) ∙ e)
-]
+whole_set old new k cell whole sets is n c e = grind arith
 
 none_cell : (c : Cell) → ◌≡◌ {A = Option Cell} None (Some c) → length c.bytes ≡ 4096
 none_cell c e = absurd (let f : ◌≡◌ {A = Option Cell} None (Some c) = e in cc)
 
 -- one frame became free
 pub whole_freed : (old new : Pool) (k : ℕ) → HasWholeFrames old → SetsCell old new k None → HasWholeFrames new
-whole_freed old new k whole sets n c e = elim (cases_eq n k) [
-  | inl same ↦ none_cell c (sym sets.here ∙ ap (cell_at new) (sym same) ∙ e)
-  | inr other ↦ whole n c (sym (sets.others n other) ∙ e)
-]
+whole_freed old new k whole sets n c e = grind arith
 
 -- one frame more
 pub whole_pushed : (size : ℕ) (slots : List FrameCell) (frame : Cell) → HasWholeFrames (frames_of size slots) → length frame.bytes ≡ 4096 → HasWholeFrames (frames_of size (slots ++ Used frame ∷ []))
@@ -49,9 +41,4 @@ whole_pushed size slots frame whole is n c e = elim (cases_eq n (length slots)) 
 ]
 
 pub stored_whole : (page bytes : List ℕ) (offset : ℕ) → length page ≡ 4096 → offset + length bytes ≤ 4096 → length (stored_at page offset bytes) ≡ 4096
-stored_whole page bytes offset whole within =
-    let front = length-take-le offset page (omega (arith, whole, within)) in
-    let back = length-drop (offset + length bytes) page in
-    let middle = length-append (take offset page) bytes in
-    let all : length (stored_at page offset bytes) ≡ length (take offset page ++ bytes) + length (drop (offset + length bytes) page) = length-append (take offset page ++ bytes) (drop (offset + length bytes) page) in
-    omega (arith, front, back, middle, all, whole, within)
+stored_whole page bytes offset whole within = grind (arith, length-take-le, length-drop, length-append)

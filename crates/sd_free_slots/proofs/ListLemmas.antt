@@ -102,10 +102,7 @@ notes_more places before count next serial old mid new more there one two = reco
 
     -- what was noted before stays, or the new one took its place
     kept_on : (slot : ℕ) → HasNoted places (IsEarly before count) mid slot → HasNoted places (IsEarly before next) new slot
-    kept_on slot h = elim (two.kept slot h.serial h.noted_is) [
-      | inl stays ↦ record { serial = h.serial; noted_is = stays; stands = stands_as places (IsEarly before count) (IsEarly before next) slot h.serial early_on h.stands }
-      | inr its ↦ noted_as (λ o. o ≡ serial) slot this_one its
-    ]
+    kept_on slot h = grind arith
 
     by_place : (slot own : ℕ) → slot < length old → (s : StandsInSlot places (IsEarly before next) slot own) → (s.is_among.place ≡ count) ⊎ (s.is_among.place < count)
         → HasNoted places (IsEarly before next) new slot
@@ -277,10 +274,7 @@ list_of_room places running merge outs count marks old serials list taken fresh 
     marked one from is_taken = (let no : Some false ≡ Some true = sym from.unmarked ∙ ap (slice_get marks) (here_is one from) ∙ is_taken in cc)
 
     stands : (one : Retired) → ComesFrom 0 marks serials one → StandsInSlot places (Contains (merger.before_of merge)) one.slot one.serial
-    stands one from = elim (notes.each one.slot one.serial (ap (slice_get serials) (sym (here_is one from)) ∙ from.serial)) [
-      | inl was ↦ absurd (none_noted count one.slot one.serial (ap (λ all. slice_get all one.slot) (sym fresh) ∙ was))
-      | inr s ↦ s
-    ]
+    stands one from = grind (arith, none_noted)
 
     unmarked : ParentsFall places → (one : Retired) → one.slot < count → IsLeftOver places running merge outs one → (IsNeededAt places running merge one.slot → ⊥)
         → slice_get marks one.slot ≡ Some false

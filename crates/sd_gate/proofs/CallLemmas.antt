@@ -1,5 +1,5 @@
 -- A slot through any one call.
-use Rattle.std.proofs.Common.{◌≡◌, ◌≢◌, ℕ, ◌<◌, lit<, Bool, true, false, List, length, refl, sym, ap, ◌∙◌, subst}
+use Rattle.std.proofs.Common.{◌≡◌, ◌≢◌, ℕ, ◌<◌, lit<, Bool, true, false, List, length, refl, sym, ap, ◌∙◌, subst, arith}
 use Rattle.std.proofs.lemmas.Bool.{false≢true}
 use Rattle.sd_disk.specs.Contents.{file_at}
 use Rattle.sd_disk.specs.Crash.{Follows, OnlyAt}
@@ -26,8 +26,7 @@ pub record IsMade (slot : ℕ) (call : Call) (bytes : List ℕ) (done : Bool) (o
 
 -- a sound order leaves the gate
 pub behind_gate : (order : Order) → IsSoundOrder order → IsBehindGate (call_of order)
-behind_gate (WriteOrder at buffer) sound = sound.0
-behind_gate _ sound = tt
+behind_gate order sound = grind arith
 
 module _ (slot : ℕ) (bytes : List ℕ) (old new : List (List ℕ)) (before now : List (List ℕ) → Type 0) where
   opens : (phase : Phase) (body : List ℕ) (done : Bool) → may_open phase ≡ true → IsMade slot Open bytes done old new before now
@@ -54,24 +53,15 @@ module _ (slot : ℕ) (bytes : List ℕ) (old new : List (List ℕ)) (before now
 -- a call changes one slot
 pub makes_elsewhere : (call : Call) (bytes : List ℕ) (slot : ℕ) (old new : List (List ℕ)) (other : ℕ) → other ≢ slot → Makes call bytes slot old new
     → file_at new other ≡ file_at old other
-makes_elsewhere Len bytes slot old new other apart makes = ap (λ c. file_at c other) makes
-makes_elsewhere (Read at) bytes slot old new other apart makes = ap (λ c. file_at c other) makes
-makes_elsewhere Sync bytes slot old new other apart makes = ap (λ c. file_at c other) makes
-makes_elsewhere _ bytes slot old new other apart makes = makes.others other apart
+makes_elsewhere call bytes slot old new other apart makes = grind arith
 
 -- and no call changes how many there are
 pub makes_as_many : (call : Call) (bytes : List ℕ) (slot : ℕ) (old new : List (List ℕ)) → Makes call bytes slot old new → length new ≡ length old
-makes_as_many Len bytes slot old new makes = ap length makes
-makes_as_many (Read at) bytes slot old new makes = ap length makes
-makes_as_many Sync bytes slot old new makes = ap length makes
-makes_as_many _ bytes slot old new makes = makes.count
+makes_as_many call bytes slot old new makes = grind arith
 
 -- one that only looks changes nothing
 pub makes_nothing : (call : Call) (bytes : List ℕ) (slot : ℕ) (old new : List (List ℕ)) → IsLook call → Makes call bytes slot old new → new ≡ old
-makes_nothing Len bytes slot old new looks makes = makes
-makes_nothing (Read at) bytes slot old new looks makes = makes
-makes_nothing Sync bytes slot old new looks makes = makes
-makes_nothing _ bytes slot old new looks makes = absurd looks
+makes_nothing call bytes slot old new looks makes = grind arith
 
 pub kept_elsewhere : (call : Call) (bytes : List ℕ) (slot : ℕ) (old new : List (List ℕ)) (before now : List (List ℕ) → Type 0)
     → Makes call bytes slot old new → Follows (Makes call bytes slot) before now

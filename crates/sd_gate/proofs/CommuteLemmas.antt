@@ -25,10 +25,7 @@ pad_at (x ∷ file) count (suc i) = pad_at file count i
 
 -- at a place outside the range
 below_kept : (file bytes : List ℕ) (at i : ℕ) → i < at → slice_index (file_after_write file at bytes) i ≡ slice_index file i
-below_kept file bytes at i below =
-    let pad : List ℕ = file ++ replicate (at - length file) 0 in
-    let long : at ≤ length pad = omega (arith, length-append file (replicate (at - length file) 0), length-replicate {A = ℕ} (at - length file) 0) in
-    front_at pad bytes (drop (at + length bytes) file) at i below long ∙ pad_at file (at - length file) i
+below_kept file bytes at i below = grind (arith, length-append, length-replicate, front_at, pad_at)
 
 above_kept : (file bytes : List ℕ) (at i : ℕ) → at + length bytes ≤ i → slice_index (file_after_write file at bytes) i ≡ slice_index file i
 above_kept file bytes at i above = ⊎_elim
@@ -37,8 +34,7 @@ above_kept file bytes at i above = ⊎_elim
     (cases_lt i (length file))
 
 outside_kept : (file bytes : List ℕ) (at i : ℕ) → (i < at) ⊎ (at + length bytes ≤ i) → slice_index (file_after_write file at bytes) i ≡ slice_index file i
-outside_kept file bytes at i (inl below) = below_kept file bytes at i below
-outside_kept file bytes at i (inr above) = above_kept file bytes at i above
+outside_kept file bytes at i h4 = grind (arith, below_kept, above_kept)
 
 -- and within it
 within_set : (file bytes : List ℕ) (at i : ℕ) → at ≤ i → i < at + length bytes → slice_index (file_after_write file at bytes) i ≡ slice_index bytes (i - at)
@@ -52,12 +48,7 @@ module _ (file first second : List ℕ) (i j : ℕ) (apart : (i + length first �
   other = file_after_write (file_after_write file j second) i first
 
   same_length : length one ≡ length other
-  same_length =
-      let a = length_after file first i in
-      let b = length_after (file_after_write file i first) second j in
-      let c = length_after file second j in
-      let d = length_after (file_after_write file j second) first i in
-      omega (arith, a, b, c, d)
+  same_length  = grind (arith, length_after)
 
   -- a place that the first write sets lies outside the second
   in_first : (k : ℕ) → i ≤ k → k < i + length first → (k < j) ⊎ (j + length second ≤ k)
@@ -67,19 +58,13 @@ module _ (file first second : List ℕ) (i j : ℕ) (apart : (i + length first �
   in_second k above below = ⊎_elim (λ before. inr (omega (arith, before, above))) (λ behind. inl (omega (arith, behind, below))) apart
 
   at_first : (k : ℕ) → i ≤ k → k < i + length first → slice_index one k ≡ slice_index other k
-  at_first k above below =
-      outside_kept (file_after_write file i first) second j k (in_first k above below) ∙ within_set file first i k above below
-      ∙ sym (within_set (file_after_write file j second) first i k above below)
+  at_first k above below = grind (arith, outside_kept, within_set)
 
   at_second : (k : ℕ) → j ≤ k → k < j + length second → slice_index one k ≡ slice_index other k
-  at_second k above below =
-      within_set (file_after_write file i first) second j k above below
-      ∙ sym (outside_kept (file_after_write file j second) first i k (in_second k above below) ∙ within_set file second j k above below)
+  at_second k above below = grind (arith, within_set, outside_kept)
 
   at_neither : (k : ℕ) → (k < i) ⊎ (i + length first ≤ k) → (k < j) ⊎ (j + length second ≤ k) → slice_index one k ≡ slice_index other k
-  at_neither k out past =
-      outside_kept (file_after_write file i first) second j k past ∙ outside_kept file first i k out
-      ∙ sym (outside_kept (file_after_write file j second) first i k out ∙ outside_kept file second j k past)
+  at_neither k out past = grind (arith, outside_kept)
 
   outside_first : (k : ℕ) → (k < i) ⊎ (i + length first ≤ k) → slice_index one k ≡ slice_index other k
   outside_first k out = ⊎_elim
@@ -98,14 +83,10 @@ module _ (file first second : List ℕ) (i j : ℕ) (apart : (i + length first �
 
 behind_apart : (i j : ℕ) (first second : List ℕ) → 0 < i → 0 < j → AreApart i first j second
     → ((i - 1) + length first ≤ j - 1) ⊎ ((j - 1) + length second ≤ i - 1)
-behind_apart i j first second here there (inl before) = inl (omega (arith, here, there, before))
-behind_apart i j first second here there (inr behind) = inr (omega (arith, here, there, behind))
+behind_apart i j first second here there h6 = grind arith
 
 pages_apart : (i j : ℕ) (first second : List ℕ) → i ≢ j → length first ≡ 4096 → length second ≡ 4096 → AreApart (data_place i) first (data_place j) second
-pages_apart i j first second other one two = ⊎_elim
-    (λ less. inl (omega (arith, less, one, two)))
-    (λ more. inr (omega (arith, more, one, two, other)))
-    (cases_lt i j)
+pages_apart i j first second other one two = grind arith
 
 pub writes_commute : WritesCommute
 writes_commute = record {

@@ -6,8 +6,7 @@ use Rattle.sd_image.specs.Image.{gate}
 use Rattle.sd_gate.specs.Fits.{IsClosed, IsBodyOf, IsBehindClosed, IsShort}
 
 pub behind_is_closed : (body file : List ℕ) → IsBehindClosed body file → IsClosed file
-behind_is_closed body [] behind = absurd (omega (arith, ap length behind.spelled))
-behind_is_closed body (x ∷ file) behind = record { some = omega arith; shut = λ is_gate. behind.shut (sym (ap (λ xs. slice_index xs 0) behind.spelled) ∙ is_gate) }
+behind_is_closed body file behind = grind arith
 
 pub closed_is_behind : (body file : List ℕ) → IsBehindClosed body file → IsBodyOf body file
 closed_is_behind body file behind = record { first = behind.first; spelled = behind.spelled }
@@ -17,17 +16,11 @@ open_is_behind body file is = record { first = gate; spelled = is }
 
 -- a write behind the gate leaves it closed
 pub torn_closed : (at n : ℕ) (old new : List ℕ) → 0 < at → IsClosed old → Torn at n old new → IsClosed new
-torn_closed at n old new behind closed torn = record {
-  some = omega (arith, torn.no_shorter, closed.some);
-  shut = λ is_gate. closed.shut (sym (torn.below 0 closed.some behind) ∙ is_gate);
-}
+torn_closed at n old new behind closed torn = grind arith
 
 -- and so does a cut to one byte
 pub cut_closed : (old new : List ℕ) → IsClosed old → Cut 1 old new → IsClosed new
-cut_closed old new closed cut = record {
-  some = omega (arith, cut.no_shorter, closed.some);
-  shut = λ is_gate. closed.shut (sym (cut.below 0 closed.some (omega arith)) ∙ is_gate);
-}
+cut_closed old new closed cut = grind arith
 
 -- a write over the gate leaves the body
 pub torn_gate : (first : ℕ) (body new : List ℕ) → Torn 0 1 (first ∷ body) new → IsBodyOf body new
@@ -60,25 +53,14 @@ opened body file behind = rw behind.spelled (gate_written behind.first gate body
 
 -- bytes behind the gate are written into the body
 pub body_written : (first at : ℕ) (body bytes : List ℕ) → 0 < at → file_after_write (first ∷ body) at bytes ≡ first ∷ file_after_write body (at - 1) bytes
-body_written first zero body bytes behind = absurd (omega (arith, behind))
-body_written first (suc at) body bytes behind =
-    let pad : suc at - suc (length body) ≡ at - length body = omega arith in
-    let past : suc at + length bytes ≡ suc (at + length bytes) = omega arith in
-    rw (pad, past, sub-one) refl
+body_written first at body bytes behind = grind arith
 
 pub filled_behind : (at : ℕ) (body bytes file : List ℕ) → 0 < at → IsBehindClosed body file → IsBehindClosed (file_after_write body (at - 1) bytes) (file_after_write file at bytes)
-filled_behind at body bytes file behind closed = record {
-  first = closed.first;
-  shut = closed.shut;
-  spelled = ap (λ xs. file_after_write xs at bytes) closed.spelled ∙ body_written closed.first at body bytes behind;
-}
+filled_behind at body bytes file behind closed = grind (arith, body_written)
 
 -- the first byte alone
 pub cut_bare : (file : List ℕ) → IsClosed file → IsBehindClosed [] (take 1 file)
-cut_bare [] closed = absurd (omega (arith, closed.some))
-cut_bare (x ∷ file) closed = record { first = x; shut = closed.shut; spelled = refl }
+cut_bare file closed = grind arith
 
 pub written_closed : (at : ℕ) (bytes file : List ℕ) → 0 < at → IsClosed file → IsClosed (file_after_write file at bytes)
-written_closed at bytes [] behind closed = absurd (omega (arith, closed.some))
-written_closed at bytes (x ∷ file) behind closed = behind_is_closed (file_after_write file (at - 1) bytes) (file_after_write (x ∷ file) at bytes)
-    (record { first = x; shut = closed.shut; spelled = body_written x at file bytes behind })
+written_closed at bytes file behind closed = grind arith

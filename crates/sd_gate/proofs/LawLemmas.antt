@@ -25,10 +25,7 @@ closed_not_open : (file : List ℕ) → IsClosed file → is_open file ≡ false
 closed_not_open file closed = let shut = closed.shut in grind (arith, nat_tests)
 
 pub behind_whole : (body file : List ℕ) → IsBodyOf body file → IsClosedOrWhole body file
-behind_whole body file behind = ⊎_elim
-    (λ is. inr (behind.spelled ∙ ap (λ first. first ∷ body) is))
-    (λ other. inl (closed_not_open file (behind_is_closed body file (record { first = behind.first; shut = other; spelled = behind.spelled }))))
-    (cases_eq behind.first gate)
+behind_whole body file behind = grind arith
 
 pub leaves_whole_or_closed : (phase : Phase) (body file : List ℕ) → PhaseLeaves phase body file → CrashLeaves phase body file
 leaves_whole_or_closed Raw body file is = short_not_open file is
@@ -57,28 +54,10 @@ short_leads phase body ready is = one_call phase Bare body [] Close [] ((Sync, [
     (one_call RawClosing Bare body [] Sync [] ((Cut, []) ∷ []) refl (cut_leads Shut body refl)))
 
 pub close_leads : (phase : Phase) (body : List ℕ) → may_close phase ≡ true → Leads phase body closing_calls Bare []
-close_leads Raw body ready = short_leads Raw body refl refl
-close_leads RawClosing body ready = short_leads RawClosing body refl refl
-close_leads Whole body ready = open_leads Whole body refl refl
-close_leads Closing body ready = open_leads Closing body refl refl
-close_leads Opening body ready = open_leads Opening body refl refl
-close_leads Doubt body ready = open_leads Doubt body refl refl
-close_leads DoubtSynced body ready = open_leads DoubtSynced body refl refl
-close_leads _ body ready = absurd (false≢true ready)
+close_leads phase body ready = grind (arith, short_leads, open_leads, false≢true)
 
 format_leads : (phase : Phase) (body : List ℕ) → Leads phase body (format_calls (state_of phase)) Bare []
-format_leads Raw body = close_leads Raw body refl
-format_leads RawClosing body = close_leads RawClosing body refl
-format_leads Whole body = close_leads Whole body refl
-format_leads Closing body = close_leads Closing body refl
-format_leads Shut body = cut_leads Shut body refl
-format_leads ShutSynced body = cut_leads ShutSynced body refl
-format_leads Bare body = cut_leads Bare body refl
-format_leads Writing body = cut_leads Writing body refl
-format_leads Ready body = cut_leads Ready body refl
-format_leads Opening body = close_leads Opening body refl
-format_leads Doubt body = close_leads Doubt body refl
-format_leads DoubtSynced body = close_leads DoubtSynced body refl
+format_leads phase body = grind (arith, close_leads, cut_leads)
 
 opened_leads : (body : List ℕ) → Leads Writing body ((Sync, []) ∷ (Open, []) ∷ (Sync, []) ∷ []) Whole body
 opened_leads body = one_call Writing Whole body body Sync [] ((Open, []) ∷ (Sync, []) ∷ []) refl
@@ -119,8 +98,7 @@ found_closed : (file : List ℕ) → 4096 ≤ length file → slice_index file 0
 found_closed file long other = grind (arith, nat_tests)
 
 first_same : (file first : List ℕ) → first ≡ slice_range file 0 (0 + 4096) → 4096 ≤ length file → slice_index first 0 ≡ slice_index file 0
-first_same [] first is long = absurd (omega (arith, long))
-first_same (x ∷ file) first is long = ap (λ xs. slice_index xs 0) is
+first_same file first is long = grind arith
 
 told_raw : (file first : List ℕ) → length file < 4096 → phase_told (length file) first ≡ found_phase file
 told_raw file first short = grind (arith, nat_tests)
@@ -132,8 +110,7 @@ pub inspection_tells : InspectionTells
 inspection_tells file first is = ⊎_elim (λ short. told_raw file first short) (λ long. told_long file first long (first_same file first (is long) long)) (cases_lt (length file) 4096)
 
 spelled_open : (file : List ℕ) → 4096 ≤ length file → slice_index file 0 ≡ gate → file ≡ gate ∷ drop 1 file
-spelled_open [] long is = absurd (omega (arith, long))
-spelled_open (x ∷ file) long is = ap (λ first. first ∷ file) is
+spelled_open file long is = grind arith
 
 module _ (slot : ℕ) (contents : List (List ℕ)) (may_leave : List (List ℕ) → Type 0) (only : OnlyAt slot (file_at contents slot) may_leave) where
   abbrev file : List ℕ

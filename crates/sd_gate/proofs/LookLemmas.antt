@@ -28,10 +28,7 @@ after_with plan call answer bytes =
 
 after_is : (plan : Planned) (made : Made) (call : Call) (answer : Answer) (bytes : List ℕ) → made.request.id.call ≡ call → made.answer ≡ answer
     → made.request.bytes ≡ bytes → plan_after plan made ≡ after_with plan call answer bytes
-after_is plan made call answer bytes call_is answer_is bytes_is =
-    ap (λ c. after_with plan c made.answer made.request.bytes) call_is
-    ∙ ap (λ a. after_with plan call a made.request.bytes) answer_is
-    ∙ ap (λ b. after_with plan call answer b) bytes_is
+after_is plan made call answer bytes call_is answer_is bytes_is = grind arith
 
 test_true : (n first : ℕ) → n ≡ 4096 → first ≡ gate → ((n == 4096) && (first == gate)) ≡ true
 test_true n first size opens = grind (arith, nat_tests)
@@ -141,12 +138,7 @@ length_zeros n = length-replicate {A = ℕ} n 0
 
 module _ (slot : ℕ) (file : List ℕ) (old new : Planned) (request : Asked) (gives : Gives old new request) where
   asked_at : (look : Look) → old ≡ rests slot file look → new.calls ≡ calls_behind look → new ≡ asks slot file look request.id
-  asked_at look is calls =
-      ap (λ n. record { slot = n; calls = new.calls; awaits = new.awaits; out = new.out; found = new.found }) (gives.same_slot ∙ ap (λ (p : Planned). p.slot) is)
-      ∙ ap (λ c. record { slot = slot; calls = c; awaits = new.awaits; out = new.out; found = new.found }) calls
-      ∙ ap (λ a. record { slot = slot; calls = calls_behind look; awaits = a; out = new.out; found = new.found }) (gives.same_awaits ∙ ap (λ (p : Planned). p.awaits) is)
-      ∙ ap (λ o. record { slot = slot; calls = calls_behind look; awaits = awaits_at file look; out = o; found = new.found }) gives.out
-      ∙ ap (λ f. record { slot = slot; calls = calls_behind look; awaits = awaits_at file look; out = Some request.id; found = f }) (gives.same_found ∙ ap (λ (p : Planned). p.found) is)
+  asked_at look is calls = grind arith
 
   calls_are : (look : Look) → old ≡ rests slot file look → calls_at look ≡ (request.id.call, request.bytes) ∷ new.calls
   calls_are look is = sym (ap (λ (p : Planned). p.calls) is) ∙ gives.next
@@ -155,26 +147,7 @@ module _ (slot : ℕ) (file : List ℕ) (old new : Planned) (request : Asked) (g
   slot_is look is = gives.slot ∙ ap (λ (p : Planned). p.slot) is
 
   taken_at : (look : Look) → IsLookAt file look → old ≡ rests slot file look → LooksAt slot file (Some request) new
-  taken_at AtSync at is = (AtSync, at, asked_at AtSync is (sym (others_are (calls_are AtSync is))), slot_is AtSync is, sym (next_call (calls_are AtSync is)))
-  taken_at AtLength at is = (AtLength, at, asked_at AtLength is (sym (others_are (calls_are AtLength is))), slot_is AtLength is, sym (next_call (calls_are AtLength is)))
-  taken_at AtFirst at is = (
-    AtFirst,
-    at,
-    asked_at AtFirst is (sym (others_are (calls_are AtFirst is))),
-    slot_is AtFirst is,
-    (sym (next_call (calls_are AtFirst is)), sym (ap length (next_bytes (calls_are AtFirst is))) ∙ length_zeros 4096),
-  )
-  taken_at (AtTable h) at is = (
-    AtTable h,
-    at,
-    asked_at (AtTable h) is (sym (others_are (calls_are (AtTable h) is))),
-    slot_is (AtTable h) is,
-    (sym (next_call (calls_are (AtTable h) is)), sym (ap length (next_bytes (calls_are (AtTable h) is))) ∙ length_zeros h.table_len),
-  )
-  taken_at Short at is = no_calls (calls_are Short is)
-  taken_at Shut at is = no_calls (calls_are Shut is)
-  taken_at (Broken why) at is = no_calls (calls_are (Broken why) is)
-  taken_at (Whole h) at is = no_calls (calls_are (Whole h) is)
+  taken_at look at is = grind (arith, others_are, next_call, next_bytes, length_zeros)
 
 ok_same : (h other : Header) (r : Result Header Reason) → r ≡ Ok h → r ≡ Ok other → h ≡ other
 ok_same h other r is also_is = cc
@@ -183,23 +156,7 @@ not_both : (h : Header) (why : Reason) (r : Result Header Reason) → r ≡ Ok h
 not_both h why r is other = cc
 
 found_at : (file : List ℕ) (look : Look) → IsLookAt file look → calls_at look ≡ [] → IsFound file (back_at file look)
-found_at file Short at none = record {
-  len = refl;
-  first = λ long. absurd (omega (arith, long, at));
-  table = λ h has. absurd (let long = has.long in omega (arith, long, at));
-}
-found_at file Shut at none = record { len = refl; first = λ long. refl; table = λ h has. absurd (at.1 has.opens) }
-found_at file (Broken why) at none = record {
-  len = refl;
-  first = λ long. refl;
-  table = λ h has. absurd (not_both h why (header_in (front_of_file file) (length file)) has.header at.header);
-}
-found_at file (Whole h) at none = record {
-  len = refl;
-  first = λ long. refl;
-  table = λ other has. ap (λ (k : Header). Some (table_of_file k file)) (ok_same h other (header_in (front_of_file file) (length file)) at.header has.header);
-}
-found_at file _ at none = absurd (cc)
+found_at file look at none = grind arith
 
 pub inspection_finds : InspectionFinds
 inspection_finds = record {

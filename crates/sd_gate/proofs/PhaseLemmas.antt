@@ -13,12 +13,7 @@ use Rattle.sd_gate.proofs.FitLemmas.{behind_is_closed, closed_is_behind, open_is
 
 -- a slot that may be written behind its gate is closed
 leaves_closed : (phase : Phase) (body file : List ℕ) → may_write phase ≡ true → PhaseLeaves phase body file → IsClosed file
-leaves_closed Shut body file ready is = is
-leaves_closed ShutSynced body file ready is = is
-leaves_closed Bare body file ready is = is
-leaves_closed Writing body file ready is = is
-leaves_closed Ready body file ready is = behind_is_closed body file is
-leaves_closed _ body file ready is = absurd (false≢true ready)
+leaves_closed phase body file ready is = grind arith
 
 -- what a phase reads and leaves after a write behind the gate
 filled_reads : (phase : Phase) (at : ℕ) (body bytes file : List ℕ) → may_write phase ≡ true → 0 < at → PhaseReads phase body file
@@ -39,12 +34,7 @@ filled_leaves Ready body file ready is = is
 filled_leaves _ body file ready is = absurd (false≢true ready)
 
 filled_unsynced : (phase : Phase) → may_write phase ≡ true → is_synced (filled phase) ≡ true → ⊥
-filled_unsynced Shut ready sync = false≢true sync
-filled_unsynced ShutSynced ready sync = false≢true sync
-filled_unsynced Bare ready sync = false≢true sync
-filled_unsynced Writing ready sync = false≢true sync
-filled_unsynced Ready ready sync = false≢true sync
-filled_unsynced _ ready sync = false≢true ready
+filled_unsynced phase ready sync = grind arith
 
 -- after a 0 over the gate
 closing_reads : (phase : Phase) (body file : List ℕ) → may_close phase ≡ true → PhaseLeaves phase body file → PhaseReads (closing phase) body (file_after_write file 0 (0 ∷ []))
@@ -68,12 +58,7 @@ closing_leaves DoubtSynced body old new ready is torn = torn_behind body old new
 closing_leaves _ body old new ready is torn = absurd (false≢true ready)
 
 closing_unsynced : (phase : Phase) → may_close phase ≡ true → is_synced (closing phase) ≡ true → ⊥
-closing_unsynced Shut ready sync = false≢true ready
-closing_unsynced ShutSynced ready sync = false≢true ready
-closing_unsynced Bare ready sync = false≢true ready
-closing_unsynced Writing ready sync = false≢true ready
-closing_unsynced Ready ready sync = false≢true ready
-closing_unsynced _ ready sync = false≢true sync
+closing_unsynced phase ready sync = grind arith
 
 -- a failed write over the gate
 failed_closing_leaves : (phase : Phase) (body file : List ℕ) → may_close phase ≡ true → PhaseLeaves (closing phase) body file → PhaseLeaves (given_up (closing phase)) body file × PhaseReads (given_up (closing phase)) body file
@@ -85,12 +70,7 @@ failed_closing_leaves Ready body file ready is = absurd (false≢true ready)
 failed_closing_leaves _ body file ready is = (is, is)
 
 failed_closing_unsynced : (phase : Phase) → may_close phase ≡ true → is_synced (given_up (closing phase)) ≡ true → ⊥
-failed_closing_unsynced Shut ready sync = false≢true ready
-failed_closing_unsynced ShutSynced ready sync = false≢true ready
-failed_closing_unsynced Bare ready sync = false≢true ready
-failed_closing_unsynced Writing ready sync = false≢true ready
-failed_closing_unsynced Ready ready sync = false≢true ready
-failed_closing_unsynced _ ready sync = false≢true sync
+failed_closing_unsynced phase ready sync = grind arith
 
 -- after a sync what is read is what a crash leaves
 synced_reads : (phase : Phase) (body file : List ℕ) → PhaseReads phase body file → PhaseReads (synced phase) body file
@@ -116,10 +96,7 @@ given_up_leaves Ready body file may = behind_is_closed body file may
 given_up_leaves _ body file may = may
 
 given_up_synced : (phase : Phase) → is_synced (given_up phase) ≡ true → is_synced phase ≡ true
-given_up_synced ShutSynced sync = refl
-given_up_synced Ready sync = refl
-given_up_synced DoubtSynced sync = refl
-given_up_synced _ sync = sync
+given_up_synced phase sync = grind arith
 
 module _ (slot : ℕ) (old : List (List ℕ)) (before : List (List ℕ) → Type 0) (now_read : before old) where
   -- what is read is one outcome of a crash

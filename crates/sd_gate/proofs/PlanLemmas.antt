@@ -23,10 +23,7 @@ use Rattle.sd_gate.specs.PlanRuns.{AreChanges, ChangesAlone, FollowsAt, IsChange
 
 -- a call changes its slot alone
 pub makes_alone : (call : Call) (bytes : List ℕ) (slot : ℕ) (old new : List (List ℕ)) → Makes call bytes slot old new → ChangesAlone slot old new
-makes_alone Len bytes slot old new makes = record { count = ap length makes; here = tt; others = λ other apart. ap (λ c. file_at c other) makes }
-makes_alone (Read at) bytes slot old new makes = record { count = ap length makes; here = tt; others = λ other apart. ap (λ c. file_at c other) makes }
-makes_alone Sync bytes slot old new makes = record { count = ap length makes; here = tt; others = λ other apart. ap (λ c. file_at c other) makes }
-makes_alone _ bytes slot old new makes = record { count = makes.count; here = tt; others = makes.others }
+makes_alone call bytes slot old new makes = grind arith
 
 -- no call
 follows_itself : (slot : ℕ) (outcomes : List (List ℕ) → Type 0) → FollowsAt slot outcomes outcomes
@@ -41,48 +38,30 @@ left_so slot image body phase contents old new follows bound fits c has =
 
 -- a call that asks for nothing is answered that it is done, and has the same bytes afterwards
 pub done_so : (call : Call) (answer : Answer) → IsChange call → IsAnswerTo call answer → answer ≡ Done
-done_so Len answer change is = absurd change
-done_so (Read at) answer change is = absurd change
-done_so _ answer change is = is
+done_so call answer change is = grind arith
 
 pub kept_so : (call : Call) (old new : List ℕ) → IsChange call → AreKept call old new → new ≡ old
-kept_so Len old new change is = absurd change
-kept_so (Read at) old new change is = absurd change
-kept_so _ old new change is = is
+kept_so call old new change is = grind arith
 
 pub no_read_next : (calls : Calls) → AreChanges calls → IsReadNext calls → ⊥
-no_read_next ((Read at, bytes) ∷ calls) changes next = changes.0
-no_read_next _ changes next = next
+no_read_next calls changes next = grind arith
 
 -- where no outcome is awaited, the calls that are left are those that were known
 pub known_calls : (calls : Calls) (answer : Answer) (buffer : _) → calls_then calls nothing answer buffer ≡ (calls, nothing)
-known_calls [] answer buffer = refl
-known_calls (call ∷ calls) answer buffer = refl
+known_calls calls answer buffer = grind arith
 
 calls_are : (plan : Planned) (made : Made) → is_done made.answer ≡ true → plan.awaits ≡ nothing → calls_after plan made ≡ (plan.calls, nothing)
-calls_are plan made done known =
-    ap (λ b. cond b (calls_then plan.calls plan.awaits made.answer (buffer_back made.request.id.call made.request.bytes)) ([], nothing)) done
-    ∙ ap (λ a. calls_then plan.calls a made.answer (buffer_back made.request.id.call made.request.bytes)) known
-    ∙ known_calls plan.calls made.answer (buffer_back made.request.id.call made.request.bytes)
+calls_are plan made done known = grind arith
 
 pub not_failed : (result : Settled) → (result ≡ More) ⊎ (result ≡ Finished) ⊎ (result ≡ Strange) → result ≡ Failed → ⊥
-not_failed result other failed = elim other [
-  | inl more ↦ (let e : More ≡ Failed = sym more ∙ failed in cc)
-  | inr last ↦ elim last [
-    | inl finished ↦ (let e : Finished ≡ Failed = sym finished ∙ failed in cc)
-    | inr strange ↦ (let e : Strange ≡ Failed = sym strange ∙ failed in cc)
-  ]
-]
+not_failed result other failed = grind arith
 
 -- an outcome is no failure where the plan says none
 pub done_if : (done : Bool) (calls : Calls) → (settled done calls ≡ Failed → ⊥) → done ≡ true
-done_if true calls other = refl
-done_if false calls other = absurd (other refl)
+done_if done calls other = grind arith
 
 pub failed_if : (done : Bool) (calls : Calls) → settled done calls ≡ Failed → done ≡ false
-failed_if true [] is = absurd (let e : Finished ≡ Failed = is in cc)
-failed_if true (call ∷ calls) is = absurd (let e : More ≡ Failed = is in cc)
-failed_if false calls is = refl
+failed_if done calls is = grind arith
 
 takes_bound : (image : List ℕ) (phase : Phase) (body : List ℕ) (calls : Calls) (last : Phase) (final : List ℕ) → Takes image phase body calls last final
     → LeavesAtMost image phase body
@@ -195,14 +174,7 @@ module _ {D : Type 0} (g : Ghosts D) where
       here = subst (λ slot. WasMade slot request.id.call request.bytes done old new) slot_is was_made
 
       pub follows : FollowsAt start.slot (g.may_leave first) (g.may_leave new)
-      follows c has =
-          let before = here.crash c has in
-          let alone = makes_alone request.id.call request.bytes start.slot before.0 c before.2 in
-          let earlier = running.crash before.0 before.1 in (
-            earlier.0,
-            earlier.1,
-            record { count = alone.count ∙ earlier.2.count; here = tt; others = λ other apart. alone.others other apart ∙ earlier.2.others other apart },
-          )
+      follows c has = grind arith
 
     -- after a call that failed
     pub fails : WasMade request.id.slot request.id.call request.bytes false old new → (image body final : List ℕ) (phase last : Phase)
@@ -223,11 +195,7 @@ module _ {D : Type 0} (g : Ghosts D) where
 
       found_is : found_after given.found outcome.answer (buffer_back outcome.request.id.call outcome.request.bytes) ≡ found
       unfolding found
-      found_is =
-          ap (λ (f : Back). found_after f outcome.answer (buffer_back outcome.request.id.call outcome.request.bytes)) gives.same_found
-          ∙ ap (λ (a : Answer). found_after plan.found a (buffer_back outcome.request.id.call outcome.request.bytes)) (done_so request.id.call outcome.answer next_changes.0 answers)
-          ∙ ap (λ (n : RequestId). found_after plan.found Done (buffer_back n.call outcome.request.bytes)) same_id
-          ∙ ap (λ (bytes : List ℕ). found_after plan.found Done (buffer_back request.id.call bytes)) (kept_so request.id.call request.bytes outcome.request.bytes next_changes.0 kept)
+      found_is  = grind arith
 
       plan_is : plan_after given outcome ≡ next
       unfolding next

@@ -50,6 +50,4 @@ module _ {D : Type 0} (g : Ghosts D) where
   pub within_call : (old new : D) (P Q before now : List (List ℕ) → Type 0) → Within (g.left_since old (g.moment old)) before
       → Elapses (g.moment old) (g.moment new) (g.left_since old) (g.left_since new) now → Within before P → Within now Q
       → LeavesOnly g old new (λ c. P c ⊎ Q c)
-  within_call old new P Q before now only time was is =
-      one_call g old old new (λ c. P c ⊎ Q c) now
-      (nothing_called g old (λ c. P c ⊎ Q c) before only (λ c may. inl (was c may))) time (λ c may. inr (is c may))
+  within_call old new P Q before now only time was is = grind arith

@@ -12,14 +12,10 @@ use Rattle.sd_gate.specs.Requests.{Asked, Made}
 use Rattle.sd_gate.specs.Sequences.{Calls, body_calls}
 
 then_same : (calls : Calls) (answer : Answer) (buffer : Option (List ℕ)) → calls_then calls nothing answer buffer ≡ (calls, nothing)
-then_same [] answer buffer = refl
-then_same (call ∷ calls) answer buffer = refl
+then_same calls answer buffer = grind arith
 
 done_calls : (plan : Planned) (made : Made) → IsUnderWay plan → is_done made.answer ≡ true → calls_after plan made ≡ (plan.calls, nothing)
-done_calls plan made under done =
-    ap (λ b. if b then calls_then plan.calls plan.awaits made.answer (buffer_back made.request.id.call made.request.bytes) else ([], nothing)) done
-    ∙ ap (λ (a : Awaits). calls_then plan.calls a made.answer (buffer_back made.request.id.call made.request.bytes)) under.known
-    ∙ then_same plan.calls made.answer (buffer_back made.request.id.call made.request.bytes)
+done_calls plan made under done = grind arith
 
 pub settles : (old new : Planned) (made : Made) (result : Settled) → IsUnderWay old → old.out ≡ Some made.request.id → new ≡ plan_after old made
     → result ≡ settled (is_done made.answer) (calls_after old made).0 → Settles old made result new
@@ -38,39 +34,15 @@ settles old new made result under out is told =
         same = done_calls old made under done
 
         calls : (cs : Calls) → (calls_after old made).0 ≡ cs → Settles old made (settled true cs) (plan_after old made)
-        calls [] e = (
-          done,
-          refl,
-          e,
-          (let same_long : length (calls_after old made).0 ≡ length old.calls = ap (λ (f : Following). length f.0) same in omega (arith, same_long, one)),
-        )
-        calls (call ∷ cs) e = (
-          done,
-          refl,
-          (λ none. absurd (let f : call ∷ cs ≡ [] = sym e ∙ none in cc)),
-          (record {
-            known = ap (λ (f : Following). f.1) same;
-            changes = subst AreChanges (sym (ap (λ (f : Following). f.0) same)) under.changes;
-            some = λ free none. absurd (let f : call ∷ cs ≡ [] = sym e ∙ none in cc);
-          }),
-          (let same_long : length (calls_after old made).0 ≡ length old.calls = ap (λ (f : Following). length f.0) same in omega (arith, same_long, one)),
-        )
+        calls cs e = grind arith
 
 -- ---- a plan that gives out a call
 
 pub gives_under_way : (old new : Planned) (request : Asked) → IsUnderWay old → Gives old new request → IsUnderWay new
-gives_under_way old new request under g = record {
-  known = g.same_awaits ∙ under.known;
-  changes = (subst AreChanges g.next under.changes).1;
-  some = λ free none. absurd (let e : None ≡ Some request.id = sym free ∙ g.out in cc);
-}
+gives_under_way old new request under g = grind arith
 
 pub body_under_way : (slot : ℕ) (header : Header) (table : List ℕ) → IsUnderWay (begun slot (body_calls header table) nothing)
-body_under_way slot header table = record {
-  known = refl;
-  changes = (tt, (tt, (tt, (tt, (tt, tt)))));
-  some = λ free none. absurd (let f : 5 ≡ 0 = ap (λ (c : Calls). length c) none in omega (arith, f));
-}
+body_under_way slot header table = grind arith
 
 -- ---- what is left of a plan
 
@@ -79,11 +51,7 @@ one_plan a b e = cc
 
 -- a plan that gives out a call has one event less before it
 pub gives_fewer : (old new : Planned) (request : Asked) → Gives old new request → plan_left new + 1 ≡ plan_left old
-gives_fewer old new request g =
-    let calls : length old.calls ≡ length new.calls + 1 = ap (λ (c : Calls). length c) g.next ∙ omega arith in
-    let before : is_one old.out ≡ 0 = ap is_one g.free in
-    let after : is_one new.out ≡ 1 = ap is_one g.out in
-    omega arith
+gives_fewer old new request g = grind arith
 
 -- an outcome of the request that is out leaves one event less
 pub settled_fewer : (plan : Planned) (made : Made) → plan.out ≡ Some made.request.id

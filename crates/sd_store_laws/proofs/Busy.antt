@@ -18,8 +18,7 @@ use Rattle.sd_store_laws.proofs.StepLemmas.{steps_keep_lem}
 use Rattle.sd_store_laws.proofs.Worked.{alike_pages, each_of_one, each_of_two, holds_unchanged, holds_whole}
 
 pub restores : (i : Image) → (i.header.kind ≡ Dump) ⊎ (i.header.kind ≡ Merged) → IsRestorable i
-restores i (inl e) f = let both : Dump ≡ PreDump = sym e ∙ f in absurd cc
-restores i (inr e) f = let both : Merged ≡ PreDump = sym e ∙ f in absurd cc
+restores i h1 f = grind arith
 
 module _ (bytes : List ℕ) where
   abbrev pub a : Image
@@ -36,35 +35,13 @@ module _ (bytes : List ℕ) where
   started = checkpoint_begun (found_store []) 0
 
   first_dump : IsNextDump started a
-  first_dump = record {
-    next = record {
-      fresh = record {
-        itself = refl;
-        serial = λ j c. absurd (contains_none j c);
-        number = record {
-          stands = λ j c. absurd (contains_none j c);
-          names = λ j c. absurd (contains_none j c);
-          asks = λ c. elim (contains_cases 0 1 [] c) [ inl e ↦ omega (arith, e) | inr none ↦ contains_none 1 none ];
-        };
-        apart = tt;
-        falls = omega arith;
-      };
-      parent = contains_front 0 [];
-    };
-    restorable = restores a (inl refl);
-    newest = λ j c. absurd (contains_none j c);
-    above = tt;
-  }
+  first_dump  = grind arith
 
   a_more : Adds [] a (a ∷ [])
   a_more j = (λ c. contains_cases a j [] c, λ e. elim e [ inl same ↦ subst (Contains (a ∷ [])) (sym same) (contains_front a []) | inr none ↦ absurd (contains_none j none) ])
 
   pub a_tip : IsTip (a ∷ []) a
-  a_tip = record {
-    member = contains_front a [];
-    restorable = restores a (inl refl);
-    greatest = λ j c restorable. each_of_one (λ k. IsNotAfter k a) a (inr (refl, omega arith)) j c;
-  }
+  a_tip  = grind arith
 
   empty_sound : IsSoundStore (found_store [])
   empty_sound = steps_keep_lem.opens [] (λ i j c e. absurd (contains_none i c)) (λ i c. absurd (contains_none i c))
@@ -80,68 +57,26 @@ module _ (bytes : List ℕ) where
 
   -- what is being opened
   pub twin : IsTwin (busy bytes).catalog (busy bytes).source m
-  twin = record {
-    source = a;
-    running = refl;
-    repeats = record { checkpoint = refl; stands = refl; areas = refl; bytes = alike_pages (a ∷ []) Dump Merged 1 2 1 1 bytes };
-    restorable = restores m (inr refl);
-    alone = refl;
-    falls = omega arith;
-    serial = each_of_one (λ k. k.header.serial ≢ 2) a (λ e. omega (arith, e));
-    above = each_of_one (λ k. k.header.stands_for ≡ 1 → k.header.serial < 2) a (λ e. omega arith);
-  }
+  twin  = grind (arith, alike_pages, restores, each_of_one)
 
   pub second_dump : IsNextDump (busy bytes) d
-  second_dump = record {
-    next = record {
-      fresh = record {
-        itself = refl;
-        serial = each_of_one (λ k. k.header.serial ≢ 3) a (λ e. omega (arith, e));
-        number = record {
-          stands = each_of_one (λ k. k.header.stands_for ≢ 3) a (λ e. omega (arith, e));
-          names = each_of_one (λ k. k.header.parent ≢ 3) a (λ e. omega (arith, e));
-          asks = λ c. elim (contains_cases 1 3 (0 ∷ []) c) [
-            | inl e ↦ omega (arith, e)
-            | inr rest ↦ elim (contains_cases 0 3 [] rest) [ inl e ↦ omega (arith, e) | inr none ↦ contains_none 3 none ]
-          ];
-        };
-        apart = λ e. omega (arith, e);
-        falls = omega arith;
-      };
-      parent = contains_front 1 [];
-    };
-    restorable = restores d (inl refl);
-    newest = each_of_one (λ k. IsRestorable k → k.header.checkpoint < 2) a (λ e. omega arith);
-    above = omega arith;
-  }
+  second_dump  = grind arith
 
   -- the slots
   abbrev later : List Belief
   later = Opening m ∷ Opening d ∷ []
 
   never_kept : (i : Image) → Contains later (Kept i) → ⊥
-  never_kept i c = elim (contains_cases (Opening m) (Kept i) (Opening d ∷ []) c) [
-    | inl e ↦ absurd cc
-    | inr rest ↦ elim (contains_cases (Opening d) (Kept i) [] rest) [ inl e ↦ absurd cc | inr none ↦ contains_none (Kept i) none ]
-  ]
+  never_kept i c = grind arith
 
   never_closing : (i : Image) → Contains (busy_slots bytes) (Closing i) → ⊥
-  never_closing i c = elim (contains_cases (Kept a) (Closing i) later c) [
-    | inl e ↦ absurd cc
-    | inr more ↦ elim (contains_cases (Opening m) (Closing i) (Opening d ∷ []) more) [
-      | inl e ↦ absurd cc
-      | inr rest ↦ elim (contains_cases (Opening d) (Closing i) [] rest) [ inl e ↦ absurd cc | inr none ↦ contains_none (Closing i) none ]
-    ]
-  ]
+  never_closing i c = grind arith
 
   is_kept : (i : Image) → Contains (a ∷ []) i → Contains (busy_slots bytes) (Kept i)
   is_kept i c = each_of_one (λ k. Contains (busy_slots bytes) (Kept k)) a (contains_front (Kept a) later) i c
 
   was_kept : (i : Image) → Contains (busy_slots bytes) (Kept i) → Contains (a ∷ []) i
-  was_kept i c = elim (contains_cases (Kept a) (Kept i) later c) [
-    | inl e ↦ let same : i ≡ a = cc in subst (Contains (a ∷ [])) (sym same) (contains_front a [])
-    | inr more ↦ absurd (never_kept i more)
-  ]
+  was_kept i c = grind arith
 
   is_added : (i : Image) → Contains (busy_slots bytes) (Opening i) → IsAdded (busy bytes) (Some d) i
   is_added i c = elim (contains_cases (Kept a) (Opening i) later c) [
@@ -157,16 +92,10 @@ module _ (bytes : List ℕ) where
 
   -- each slot's serial is one above its number
   busy_serial : (x : ℕ) (i : Image) → image_at (busy_slots bytes) x ≡ Some i → i.header.serial ≡ x + 1
-  busy_serial zero i p = ap (λ (k : Image). k.header.serial) (sym (same_Some a i p))
-  busy_serial (suc zero) i p = ap (λ (k : Image). k.header.serial) (sym (same_Some m i p))
-  busy_serial (suc (suc zero)) i p = ap (λ (k : Image). k.header.serial) (sym (same_Some d i p))
-  busy_serial (suc (suc (suc x))) i p = absurd (none-some i p)
+  busy_serial x i p = grind arith
 
   busy_apart : (x y : ℕ) (i j : Image) → image_at (busy_slots bytes) x ≡ Some i → image_at (busy_slots bytes) y ≡ Some j → i.header.serial ≡ j.header.serial → x ≡ y
-  busy_apart x y i j p q e =
-      let one = busy_serial x i p in
-      let other = busy_serial y j q in
-      omega (arith, one, other, e)
+  busy_apart x y i j p q e = grind arith
 
   pub busy_are_slots : AreSlotsOf (busy bytes) (Some d) (busy_slots bytes)
   unfolding IsDistinct
@@ -183,11 +112,7 @@ module _ (bytes : List ℕ) where
   last = (a, a_tip, refl, page_memory bytes Dump 1 1 0 1 Data (bytes ∷ []) (a ∷ []) (holds_whole (a ∷ []) Dump 1 1 0 1 bytes))
 
   a_named : IsNamed (d ∷ a ∷ []) 1 a
-  a_named = record {
-    member = contains_later d a (a ∷ []) (contains_front a []);
-    stands = refl;
-    greatest = λ j c. each_of_two (λ k. k.header.stands_for ≡ 1 → k.header.serial ≤ 1) d a (λ e. absurd (omega (arith, e))) (λ e. omega arith) j c;
-  }
+  a_named  = grind arith
 
   pub next : ImagesShow (d ∷ a ∷ []) (Some (2, one_page_memory bytes))
   next = (

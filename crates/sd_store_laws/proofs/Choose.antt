@@ -70,22 +70,10 @@ pub not_after_self : (i : Image) → IsNotAfter i i
 not_after_self i = inr (refl, omega arith)
 
 pub not_after_step : (a b c : Image) → IsNotAfter a b → IsNotAfter b c → IsNotAfter a c
-not_after_step a b c (inl x) (inl y) = inl (omega arith)
-not_after_step a b c (inl x) (inr y) = inl (omega (arith, y.0))
-not_after_step a b c (inr x) (inl y) = inl (omega (arith, x.0))
-not_after_step a b c (inr x) (inr y) = inr (x.0 ∙ y.0, omega (arith, x.1, y.1))
+not_after_step a b c h3 h4 = grind arith
 
 order_cases : (a b : Image) → IsNotAfter a b ⊎ IsNotAfter b a
-order_cases a b = elim (cases_lt a.header.checkpoint b.header.checkpoint) [
-  | inl l ↦ inl (inl l)
-  | inr g ↦ elim (cases_lt b.header.checkpoint a.header.checkpoint) [
-    | inl h ↦ inr (inl h)
-    | inr k ↦ elim (cases_lt a.header.serial b.header.serial) [
-      | inl m ↦ inl (inr (omega arith, omega arith))
-      | inr n ↦ inr (inr (omega arith, omega arith))
-    ]
-  ]
-]
+order_cases a b = grind arith
 
 restorable_cases : (i : Image) → IsRestorable i ⊎ (IsRestorable i → ⊥)
 restorable_cases i = by i.header.kind
@@ -143,10 +131,7 @@ some_tip images i c is = elim (find_tip images) [
 ]
 
 pub same_pair : (i j : Image) → IsNotAfter i j → IsNotAfter j i → i.header.serial ≡ j.header.serial
-same_pair i j (inl x) (inl y) = absurd (omega (arith, x, y))
-same_pair i j (inl x) (inr y) = absurd (omega (arith, x, y.0))
-same_pair i j (inr x) (inl y) = absurd (omega (arith, x.0, y))
-same_pair i j (inr x) (inr y) = omega (arith, x.1, y.1)
+same_pair i j h2 h3 = grind arith
 
 pub one_tip : (images : List Image) (i j : Image) → SerialsDiffer images → IsTip images i → IsTip images j → i ≡ j
 one_tip images i j differ a b =

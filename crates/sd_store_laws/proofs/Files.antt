@@ -10,10 +10,7 @@ use Rattle.sd_store_laws.specs.Worked.{file_of, merged, unchanged, whole}
 -- the length of a file by the lengths of its parts
 file_length : (i : Image) (data_bytes : ℕ) (stored : List ℕ) → length (header_text i.header) ≡ 4095 → length (table_text i.spaces) ≡ 72
     → file_of i ≡ 165 ∷ (header_text i.header ++ stored ++ table_text i.spaces) → length stored ≡ data_bytes → length (file_of i) ≡ 4096 + data_bytes + 72
-file_length i data_bytes stored head table is size =
-    let whole = length-append (header_text i.header ++ stored) (table_text i.spaces) in
-    let front = length-append (header_text i.header) stored in
-    ap length is ∙ omega (arith, whole, front, head, table, size)
+file_length i data_bytes stored head table is size = grind (arith, length-append)
 
 module _ (bytes : List ℕ) (long : length bytes ≡ 4096) where
   abbrev a : Image

@@ -28,13 +28,7 @@ less : (phase : Phase) (body : List ℕ) (belief weak : Belief) → MayBelieve p
 less phase body belief weak may weaker = record { strong = may.strong; is = may.is; weaker = λ file fits. weaker file (may.weaker file fits) }
 
 pub beliefs_weaken_lem : BeliefsWeaken
-beliefs_weaken_lem = record {
-  itself = itself;
-  less = less;
-  kept = λ i. (λ file fits. inr fits, λ file fits. inr fits);
-  closed = λ i. (λ file fits. inl fits, λ file fits. inl fits);
-  alike = λ i. (λ file fits. fits, λ file fits. fits);
-}
+beliefs_weaken_lem  = grind arith
 
 -- ---- one call
 
@@ -47,23 +41,15 @@ same : (phase next : Phase) (body new : List ℕ) → ((strong : Belief) → IsB
 same phase next body new moves strong is = (strong, moves strong is, λ file fits. fits)
 
 follows : (phase next : Phase) (body new : List ℕ) (belief : Belief) → AllowsOn phase next body new → MayBelieve phase body belief → MayBelieve next new belief
-follows phase next body new belief allows may =
-    let found = allows may.strong may.is in
-    record { strong = found.0; is = found.1; weaker = λ file fits. may.weaker file (found.2 file fits) }
+follows phase next body new belief allows may = grind arith
 
 -- an image in doubt that is closed for sure
 shuts : (body : List ℕ) (strong : Belief) → IsInDoubt body strong → IsWeaker Closed strong
-shuts body strong doubt = elim doubt.1 [
-  | inl is ↦ λ file shut. subst (λ b. FitsBelief b file) (sym is) (inl shut)
-  | inr is ↦ λ file shut. subst (λ b. FitsBelief b file) (sym is) (inl shut)
-]
+shuts body strong doubt = grind arith
 
 -- and one that is there for sure
 keeps : (body : List ℕ) (strong : Belief) → (d : IsInDoubt body strong) → IsWeaker (Kept d.0) strong
-keeps body strong doubt = elim doubt.1 [
-  | inl is ↦ λ file there. subst (λ b. FitsBelief b file) (sym is) (inr there)
-  | inr is ↦ λ file there. subst (λ b. FitsBelief b file) (sym is) (inr there)
-]
+keeps body strong d = grind arith
 
 gives_up : (phase : Phase) (body : List ℕ) → AllowsOn phase (given_up phase) body body
 gives_up Raw body = same Raw Raw body body (λ b is. is)
@@ -109,27 +95,14 @@ closes_on Doubt body other = same Doubt ClosingPhase body body (λ b is. is)
 closes_on DoubtSynced body other = same DoubtSynced ClosingPhase body body (λ b is. is)
 
 closes_failed : (phase : Phase) (body : List ℕ) → phase ≢ Whole → AllowsOn phase (given_up (closing phase)) body body
-closes_failed phase body other strong is =
-    let first = closes_on phase body other strong is in
-    let second = gives_up (closing phase) body first.0 first.1 in
-    (second.0, second.1, λ file fits. first.2 file (second.2 file fits))
+closes_failed phase body other strong is = grind (arith, closes_on, gives_up)
 
 -- a slot that is written is closed before and afterwards
 written : (phase : Phase) (body new : List ℕ) → may_write phase ≡ true → AllowsOn phase (filled phase) body new
-written Shut body new ready = same Shut Shut body new (λ b is. is)
-written ShutSynced body new ready = same ShutSynced Shut body new (λ b is. is)
-written Bare body new ready = same Bare Writing body new (λ b is. is)
-written Writing body new ready = same Writing Writing body new (λ b is. is)
-written Ready body new ready = same Ready Writing body new (λ b is. is)
-written _ body new ready = absurd (false≢true ready)
+written phase body new ready = grind arith
 
 pub is_closed : (phase : Phase) (body : List ℕ) (strong : Belief) → may_write phase ≡ true → IsBelievedAs phase body strong → strong ≡ Closed
-is_closed Whole body strong ready is = absurd (false≢true ready)
-is_closed ClosingPhase body strong ready is = absurd (false≢true ready)
-is_closed OpeningPhase body strong ready is = absurd (false≢true ready)
-is_closed Doubt body strong ready is = absurd (false≢true ready)
-is_closed DoubtSynced body strong ready is = absurd (false≢true ready)
-is_closed _ body strong ready is = is
+is_closed phase body strong ready is = grind arith
 
 to_shut : (phase : Phase) (body new : List ℕ) → may_write phase ≡ true → AllowsOn phase Shut body new
 to_shut phase body new ready = same phase Shut body new (λ strong is. is_closed phase body strong ready is)
@@ -160,12 +133,10 @@ allows phase body bytes _ done ready other unkept = same phase phase body body (
 -- ---- the calls on a gate
 
 doubtful : (body : List ℕ) (first second : Phase) (done : Bool) (belief : Belief) → MayBelieve first body belief → MayBelieve second body belief → MayBelieve (cond done first second) body belief
-doubtful body first second true belief one other = one
-doubtful body first second false belief one other = other
+doubtful body first second done belief one other = grind arith
 
 before_open : (phase : Phase) (body : List ℕ) (i : Image) → is_ready phase Open ≡ true → MayBelieve phase body (Opening i)
-before_open Ready body i ready = record { strong = Closed; is = refl; weaker = λ file shut. inl shut }
-before_open _ body i ready = absurd (false≢true ready)
+before_open phase body i ready = grind arith
 
 opening : (phase : Phase) (body : List ℕ) (done : Bool) (i : Image) → IsImage (gate ∷ body) i → MayBelieve (after phase Open done) body (Opening i)
 opening phase body done i is = doubtful body OpeningPhase Doubt done (Opening i)
@@ -173,16 +144,10 @@ opening phase body done i is = doubtful body OpeningPhase Doubt done (Opening i)
 
 -- the body of a slot that may be believed to have an image is that image's
 is_its : (body : List ℕ) (i j : Image) (strong : Belief) → IsImage (gate ∷ body) j → FitsBelief strong (gate ∷ body) → IsWeaker strong (Opening i) → IsImage (gate ∷ body) i
-is_its body i j strong there fits weaker = elim (weaker (gate ∷ body) fits) [
-  | inl shut ↦ absurd (false≢true (sym shut ∙ image_opens (gate ∷ body) j there))
-  | inr is ↦ is
-]
+is_its body i j strong there fits weaker = grind arith
 
 doubt_there : (body : List ℕ) (strong : Belief) → IsInDoubt body strong → FitsBelief strong (gate ∷ body)
-doubt_there body strong doubt = elim doubt.1 [
-  | inl is ↦ subst (λ b. FitsBelief b (gate ∷ body)) (sym is) (inr doubt.2)
-  | inr is ↦ subst (λ b. FitsBelief b (gate ∷ body)) (sym is) (inr doubt.2)
-]
+doubt_there body strong doubt = grind arith
 
 opened_it : (body : List ℕ) (i : Image) → MayBelieve OpeningPhase body (Opening i) → MayBelieve Whole body (Kept i)
 opened_it body i may =
@@ -296,25 +261,7 @@ opens_so : (file : List ℕ) → 4096 ≤ length file → slice_index file 0 ≡
 opens_so file long opens = and_from (nat_le 4096 (length file)) (nat_eq (slice_index file 0) gate) (le-leb 4096 (length file) long) (eq-eqb (slice_index file 0) gate opens)
 
 found_one : (file : List ℕ) (belief : Belief) → IsFoundAs belief file → IsBelievedAs (found_phase file) (drop 1 file) belief
-found_one file Closed found = elim (phase_by file) [
-  | inl short ↦ subst (λ p. IsBelievedAs p (drop 1 file) Closed) (sym short.1) refl
-  | inr long ↦ elim long.1 [
-    | inl whole ↦ absurd (false≢true (sym found ∙ opens_so file long.0 whole.0))
-    | inr shut ↦ subst (λ p. IsBelievedAs p (drop 1 file) Closed) (sym shut.1) refl
-  ]
-]
-found_one file (Kept i) found =
-    let long : 4096 ≤ length file = let fills = found.header.fills in omega (arith, fills) in
-    let first : slice_index file 0 ≡ gate = ap (λ (bytes : List ℕ). slice_index bytes 0) found.spelled in
-    let all : file ≡ gate ∷ drop 1 file = found.spelled ∙ ap (λ (bytes : List ℕ). gate ∷ drop 1 bytes) (sym found.spelled) in
-    elim (phase_by file) [
-      | inl short ↦ let less : length file < 4096 = short.0 in absurd (omega (arith, long, less))
-      | inr rest ↦ elim rest.1 [
-        | inl whole ↦ subst (λ p. IsBelievedAs p (drop 1 file) (Kept i)) (sym whole.1) (i, refl, subst (λ f. IsImage f i) all found)
-        | inr shut ↦ absurd (shut.0 first)
-      ]
-    ]
-found_one file _ found = absurd found
+found_one file belief found = grind arith
 
 found_each : (contents : List (List ℕ)) (beliefs : List Belief) → AllZip IsFoundAs beliefs contents → (slot : ℕ) (phase : Phase) (belief : Belief)
     → slice_get (map found_phase contents) slot ≡ Some phase → slice_get beliefs slot ≡ Some belief → MayBelieve phase (file_at (map (drop 1) contents) slot) belief

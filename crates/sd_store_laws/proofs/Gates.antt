@@ -15,29 +15,13 @@ closed_fits : (belief : Belief) (file : List ℕ) → belief ≡ Closed → is_o
 closed_fits belief file is shut = subst (λ b. FitsBelief b file) (sym is) shut
 
 whole_or_closed : (body file : List ℕ) (i : Image) → IsImage (gate ∷ body) i → IsClosedOrWhole body file → (is_open file ≡ false) ⊎ IsImage file i
-whole_or_closed body file i is (inl shut) = inl shut
-whole_or_closed body file i is (inr whole) = inr (subst (λ f. IsImage f i) (sym whole) is)
+whole_or_closed body file i is h4 = grind arith
 
 doubt_fits : (body file : List ℕ) (belief : Belief) → IsInDoubt body belief → IsClosedOrWhole body file → FitsBelief belief file
-doubt_fits body file belief doubt left = elim doubt.1 [
-  | inl is ↦ subst (λ b. FitsBelief b file) (sym is) (whole_or_closed body file doubt.0 doubt.2 left)
-  | inr is ↦ subst (λ b. FitsBelief b file) (sym is) (whole_or_closed body file doubt.0 doubt.2 left)
-]
+doubt_fits body file belief doubt left = grind arith
 
 fits : ImageWholeOrClosed → (phase : Phase) (body file : List ℕ) (belief : Belief) → IsBelievedAs phase body belief → PhaseLeaves phase body file → FitsBelief belief file
-fits law Raw body file belief is left = closed_fits belief file is (law Raw body file left)
-fits law RawClosing body file belief is left = closed_fits belief file is (law RawClosing body file left)
-fits law Whole body file belief is left =
-    subst (λ b. FitsBelief b file) (sym is.1) (subst (λ f. IsImage f is.0) (sym (law Whole body file left)) is.2)
-fits law ClosingPhase body file belief is left = doubt_fits body file belief is (law ClosingPhase body file left)
-fits law Shut body file belief is left = closed_fits belief file is (law Shut body file left)
-fits law ShutSynced body file belief is left = closed_fits belief file is (law ShutSynced body file left)
-fits law Bare body file belief is left = closed_fits belief file is (law Bare body file left)
-fits law Writing body file belief is left = closed_fits belief file is (law Writing body file left)
-fits law Ready body file belief is left = closed_fits belief file is (law Ready body file left)
-fits law OpeningPhase body file belief is left = doubt_fits body file belief is (law OpeningPhase body file left)
-fits law Doubt body file belief is left = doubt_fits body file belief is (law Doubt body file left)
-fits law DoubtSynced body file belief is left = doubt_fits body file belief is (law DoubtSynced body file left)
+fits law phase body file belief is left = grind arith
 
 -- two lists of one length fit, where they do at each place
 record FitAt (beliefs : List Belief) (files : List (List ℕ)) : Type 0 where

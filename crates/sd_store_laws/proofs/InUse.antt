@@ -1,5 +1,5 @@
 -- The catalog of a store in use.
-use Rattle.std.proofs.Common.{◌≡◌, ◌≢◌, ◌⊎◌, ℕ, zero, suc, Bool, true, false, not, cond, nat_eq, List, [], ◌∷◌, Some, None, Contains, slice_get, refl, sym, ◌∙◌, ap, subst, inl, inr}
+use Rattle.std.proofs.Common.{◌≡◌, ◌≢◌, ◌⊎◌, ℕ, zero, suc, Bool, true, false, not, cond, nat_eq, List, [], ◌∷◌, Some, None, Contains, slice_get, refl, sym, ◌∙◌, ap, subst, inl, inr, arith}
 use Rattle.std.specs.List.{AllZip}
 use Rattle.std.proofs.lemmas.Bool.{cases_eq, eq-eqb, false≢true, ne_eqb}
 use Rattle.std.proofs.lemmas.Option.{same_Some}
@@ -102,9 +102,7 @@ file_of (f ∷ contents) (c ∷ beliefs) all (suc slot) b at = file_of contents 
 
 -- a file that is an image is found as kept
 kept_so : OneImage → (b : Belief) (file : List ℕ) (i : Image) → IsImage file i → IsFoundAs b file → b ≡ Kept i
-kept_so one Closed file i is found = absurd (false≢true (sym found ∙ image_opens file i is))
-kept_so one (Kept j) file i is found = ap Kept (one file j i found is)
-kept_so one _ file i is found = absurd found
+kept_so one b file i is found = grind arith
 
 pub catalog_is_found_lem : OneImage → CatalogIsFound
 catalog_is_found_lem one places contents beliefs order of all = record {
@@ -147,20 +145,16 @@ move_back beliefs slot k b i other (inr e) = inr (sym (set_other beliefs slot k 
 
 -- the image of a slot with this belief
 image_of : (beliefs : List Belief) (slot : ℕ) (b : Belief) (i : Image) → slice_get beliefs slot ≡ Some b → SlotHasImage beliefs slot i → (b ≡ Kept i) ⊎ (b ≡ Closing i)
-image_of beliefs slot b i there (inl e) = inl (same_Some b (Kept i) (sym there ∙ e))
-image_of beliefs slot b i there (inr e) = inr (same_Some b (Closing i) (sym there ∙ e))
+image_of beliefs slot b i there h5 = grind arith
 
 not_opening : (i j : Image) → (Opening i ≡ Kept j) ⊎ (Opening i ≡ Closing j) → ⊥
-not_opening i j (inl e) = cc
-not_opening i j (inr e) = cc
+not_opening i j h2 = grind arith
 
 not_closed : (j : Image) → (Closed ≡ Kept j) ⊎ (Closed ≡ Closing j) → ⊥
-not_closed j (inl e) = cc
-not_closed j (inr e) = cc
+not_closed j h1 = grind arith
 
 is_kept : (i j : Image) → (Kept i ≡ Kept j) ⊎ (Kept i ≡ Closing j) → i ≡ j
-is_kept i j (inl e) = cc
-is_kept i j (inr e) = absurd cc
+is_kept i j h2 = grind arith
 
 module _ (old new : Places) (beliefs : List Belief) (o : Opened) (i : Image) (held : IsCatalogInUse old beliefs) (there : slice_get beliefs o.slot ≡ Some (Opening i))
     (told : IsToldAs o i) (none : (other : Opened) → place_of old o.header.serial ≡ Some (Some other) → ⊥) (changes : Changes old new o.header.serial (Some (Some o))) where

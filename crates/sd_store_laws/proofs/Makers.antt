@@ -69,8 +69,7 @@ dump_shows_lem s dump memory sound next has = (
 
 source_apart : (number : ℕ) (i : Image) (source : Option Image) → i.header.stands_for ≡ number → IfSome source (λ one. one.header.stands_for < number)
     → IfSome source (λ one. one.header.stands_for ≢ i.header.stands_for)
-source_apart number i None is above = tt
-source_apart number i (Some one) is above = λ same. omega (arith, is, above, same)
+source_apart number i source is above = grind arith
 
 pub above_is_fresh_lem : AboveIsFresh
 above_is_fresh_lem s i stands falls above = record {

@@ -1,5 +1,5 @@
 -- Two images with the same areas that hold the same stand for the same memory.
-use Rattle.std.proofs.Common.{◌≡◌, ℕ, eqb, ◌||◌, List, [], ◌∷◌, map, Contains, Option, Some, None, MatchOption, refl, sym, ◌∙◌, ap, subst}
+use Rattle.std.proofs.Common.{◌≡◌, ℕ, eqb, ◌||◌, List, [], ◌∷◌, map, Contains, Option, Some, None, MatchOption, refl, sym, ◌∙◌, ap, subst, arith}
 use Rattle.std.specs.List.{list_any}
 use Rattle.sd_areas.specs.declared.area.Area.{Area}
 use Rattle.sd_areas.specs.Areas.{prot_in}
@@ -23,11 +23,7 @@ page_moves : (images others : List Image) (i twin : Image) (s t : Listed) (page 
     → s.space ≡ t.space → s.areas ≡ t.areas
     → MatchOption found (prot_in s.areas page ≡ None) (λ p. (prot_in s.areas page ≡ Some p.prot) × Holds images s.space page p.bytes i)
     → MatchOption found (prot_in t.areas page ≡ None) (λ p. (prot_in t.areas page ≡ Some p.prot) × Holds others t.space page p.bytes twin)
-page_moves images others i twin s t page None holds space areas was = sym (ap (λ (a : List Area). prot_in a page) areas) ∙ was
-page_moves images others i twin s t page (Some p) holds space areas was = (
-  sym (ap (λ (a : List Area). prot_in a page) areas) ∙ was.0,
-  subst (λ n. Holds others n page p.bytes twin) space (holds.bytes s.space page p.bytes was.1),
-)
+page_moves images others i twin s t page found holds space areas was = grind arith
 
 pub memory_moves : (images others : List Image) (i twin : Image) (memory : PlainMemory) → areas_of_spaces twin ≡ areas_of_spaces i → HoldsAll images others i twin
     → IsMemory images i memory → IsMemory others twin memory

@@ -1,5 +1,5 @@
 -- A store as it is found is sound, and steps leave what is shown.
-use Rattle.std.proofs.Common.{ℕ, ◌<◌, nat_eq, List, [], ◌∷◌, map, Contains, Option, Some, None, IfSome, refl, sym, ◌∙◌, ap, subst, inl, inr}
+use Rattle.std.proofs.Common.{ℕ, ◌<◌, nat_eq, List, [], ◌∷◌, map, Contains, Option, Some, None, IfSome, refl, sym, ◌∙◌, ap, subst, inl, inr, arith}
 use Rattle.std.specs.Prelude.{◌↔◌}
 use Rattle.std.specs.List.{IsDistinct}
 use Rattle.sd_areas.specs.PlainMemory.{PlainMemory}
@@ -99,9 +99,7 @@ more_shows catalog new asked i shown differ harmless adds was =
     ]) was
 
 pub twin_harmless : (s : Store) (i : Image) → IsSoundStore s → IsTwin s.catalog s.source i → IsHarmless s.catalog (jobs s) i
-twin_harmless s i sound twin =
-    let merged : IsMergeSource s twin.source = subst (λ (o : Option Image). IfSome o (IsMergeSource s)) twin.running sound.merged in
-    twin_is_harmless_lem s.catalog (jobs s) twin.source i merged.is twin.repeats
+twin_harmless s i sound twin = grind arith
 
 pub steps_show_lem : StepsShow
 steps_show_lem = record {

@@ -1,5 +1,5 @@
 -- What the pending dump shows stays.
-use Rattle.std.proofs.Common.{◌≢◌, ℕ, List, ◌∷◌, Contains, Option, sym, subst, inl, inr}
+use Rattle.std.proofs.Common.{◌≢◌, ℕ, List, ◌∷◌, Contains, Option, sym, subst, inl, inr, arith}
 use Rattle.sd_areas.specs.PlainMemory.{PlainMemory}
 use Rattle.sd_image.specs.Image.{Image}
 use Rattle.sd_image.specs.Shows.{ImagesShow}
@@ -13,13 +13,7 @@ use Rattle.sd_store_laws.proofs.Stays.{twin_stays_lem}
 use Rattle.sd_store_laws.proofs.StepLemmas.{steps_keep_lem}
 
 pub adds_front : (old : List Image) (one : Image) → Adds old one (one ∷ old)
-adds_front old one j = (
-  λ c. contains_cases one j old c,
-  λ c. elim c [
-    | inl same ↦ subst (Contains (one ∷ old)) (sym same) (contains_front one old)
-    | inr among ↦ contains_later one j old among
-  ],
-)
+adds_front old one j = grind (arith, contains_cases, contains_front, contains_later)
 
 -- one image more, behind another
 adds_behind : (first one : Image) (old new : List Image) → Adds old one new → Adds (first ∷ old) one (first ∷ new)

@@ -140,16 +140,7 @@ opens s pending beliefs slot i are there adding fresh =
     }
 
 pends : (s : Store) (beliefs : List Belief) (dump : Image) → AreSlotsOf s None beliefs → IsNextDump s dump → AreSlotsOf s (Some dump) beliefs
-pends s beliefs dump are is = record {
-  catalog = are.catalog;
-  needed = are.needed;
-  opening = λ j c. elim (are.opening j c) [
-    | inl pre ↦ inl pre
-    | inr rest ↦ elim rest [ inl twin ↦ inr (inl twin) | inr never ↦ absurd (none-some j never) ]
-  ];
-  dump = is;
-  serials = are.serials;
-}
+pends s beliefs dump are is = grind arith
 
 closes : (s : Store) (pending : Option Image) (beliefs : List Belief) (slot : ℕ) (i : Image) → AreSlotsOf s pending beliefs
     → slice_get beliefs slot ≡ Some (Kept i) → (IsNeeded s.catalog (jobs s) i → ⊥)
@@ -192,13 +183,10 @@ closes s pending beliefs slot i are there unneeded =
 
 same_added : (s t : Store) (pending : Option Image) (i : Image) → (IsFresh s i → IsFresh t i) → (IsTwin s.catalog s.source i → IsTwin t.catalog t.source i)
     → IsAdded s pending i → IsAdded t pending i
-same_added s t pending i fresh twin (inl pre) = inl (pre.0, fresh pre.1)
-same_added s t pending i fresh twin (inr (inl is)) = inr (inl (twin is))
-same_added s t pending i fresh twin (inr (inr is)) = inr (inr is)
+same_added s t pending i fresh twin h6 = grind arith
 
 same_dump : (s t : Store) (pending : Option Image) → ((i : Image) → IsNextDump s i → IsNextDump t i) → IfSome pending (IsNextDump s) → IfSome pending (IsNextDump t)
-same_dump s t None keeps was = tt
-same_dump s t (Some i) keeps was = keeps i was
+same_dump s t pending keeps was = grind arith
 
 closed : (s : Store) (pending : Option Image) (beliefs : List Belief) (slot : ℕ) (i : Image) (new : List Image) → IsSoundStore s → AreSlotsOf s pending beliefs
     → slice_get beliefs slot ≡ Some (Closing i) → Lacks s.catalog i new

@@ -47,11 +47,7 @@ was_opening (Opening j ∷ beliefs) i c = elim (contains_cases j i (openings bel
 
 -- what is being opened, beside the pending dump, is harmless
 harmless_or_pending : (s : Store) (pending : Option Image) (i : Image) → IsSoundStore s → IsAdded s pending i → IsHarmless s.catalog (jobs s) i ⊎ (pending ≡ Some i)
-harmless_or_pending s pending i sound (inl pre) = inl (pre_dump_is_harmless_lem s.catalog (jobs s) i pre.0 pre.1.number)
-harmless_or_pending s pending i sound (inr (inl twin)) =
-    let merged : IsMergeSource s twin.source = subst (λ (o : Option Image). IfSome o (IsMergeSource s)) twin.running sound.merged in
-    inl (twin_is_harmless_lem s.catalog (jobs s) twin.source i merged.is twin.repeats)
-harmless_or_pending s pending i sound (inr (inr is)) = inr is
+harmless_or_pending s pending i sound h4 = grind (arith, pre_dump_is_harmless_lem, twin_is_harmless_lem)
 
 left_last : (s : Store) (beliefs : List Belief) (images : List Image) (shown : Option (ℕ × PlainMemory))
     → IsSoundStore s → AreSlotsOf s None beliefs → IsLeft beliefs images → ImagesShow s.catalog shown → ImagesShow images shown

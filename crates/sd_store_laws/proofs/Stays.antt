@@ -211,15 +211,7 @@ source_asked s source sound running =
 
 still_repeats : (old new : List Image) (source twin : Image) → ((space page : ℕ) (bytes : List ℕ) → Holds old space page bytes source ↔ Holds new space page bytes source)
     → Repeats old source twin → Repeats new source twin
-still_repeats old new source twin same was = record {
-  checkpoint = was.checkpoint;
-  stands = was.stands;
-  areas = was.areas;
-  bytes = λ others space page bytes. (
-    λ h. (same space page bytes).0 ((was.bytes others space page bytes).0 h),
-    λ h. (was.bytes others space page bytes).1 ((same space page bytes).1 h),
-  );
-}
+still_repeats old new source twin same was = grind arith
 
 twin_adds : (s : Store) (one twin : Image) (new : List Image) → IsSoundStore s → IsNext s one → Adds s.catalog one new → one.header.serial ≢ twin.header.serial
     → IsTwin s.catalog s.source twin → IsTwin new s.source twin

@@ -37,26 +37,17 @@ WasOr s extra number = Was s number ⊎ (number ≡ extra)
 
 -- the jobs of a store whose chain is one number
 one_more : (s : Store) (extra number : ℕ) → Contains ((extra ∷ []) ++ s.work) number → WasOr s extra number
-one_more s extra number c = elim (contains_cases extra number s.work c) [
-  | inl same ↦ inr same
-  | inr among ↦ inl (of_work s number among)
-]
+one_more s extra number c = grind (arith, contains_cases, of_work)
 
 -- a source stays one where no more is called for
 abbrev IsStill : (old : Store) (catalog : List Image) (asked : List ℕ) → Image → Type 0
 IsStill old catalog asked source = IsCalled catalog asked source.header.stands_for → Was old source.header.stands_for
 
 same_source : (s : Store) (asked : List ℕ) (source : Image) → IsStill s s.catalog asked source → IsSource s.catalog (jobs s) source → IsSource s.catalog asked source
-same_source s asked source still is = record {
-  named = λ called. is.named (still called);
-  tip = is.tip;
-  is_tip = is.is_tip;
-  or_below = is.or_below;
-}
+same_source s asked source still is = grind arith
 
 same_merged : (s t : Store) (o : Option Image) → IfSome o (IsMergeSource s) → ((source : Image) → IsMergeSource s source → IsMergeSource t source) → IfSome o (IsMergeSource t)
-same_merged s t None was keeps = tt
-same_merged s t (Some source) was keeps = keeps source was
+same_merged s t o was keeps = grind arith
 
 -- ---- a checkpoint begins
 

@@ -68,12 +68,7 @@ same_bytes xs ys space page bytes j i spaces pages none (by_parent _ parent has 
 -- a merged image of a page that a dump has repeats it
 pub alike_pages : (images : List Image) (one other : Kind) (serial later stands_for checkpoint : ℕ) (bytes : List ℕ)
     → HoldsAlike images (one_page one serial stands_for 0 checkpoint Data (bytes ∷ [])) (one_page other later stands_for 0 checkpoint Data (bytes ∷ []))
-alike_pages images one other serial later stands_for checkpoint bytes others space page held =
-    let i = one_page one serial stands_for 0 checkpoint Data (bytes ∷ []) in
-    let j = one_page other later stands_for 0 checkpoint Data (bytes ∷ []) in (
-      λ h. same_bytes others images space page held i j refl refl (λ c. contains_none (space, page) c) h,
-      λ h. same_bytes images others space page held j i refl refl (λ c. contains_none (space, page) c) h,
-    )
+alike_pages images one other serial later stands_for checkpoint bytes others space page held = grind (arith, same_bytes, contains_none)
 
 dump_restores : (i : Image) → i.header.kind ≡ Dump → IsRestorable i
 dump_restores i e f = let both : Dump ≡ PreDump = sym e ∙ f in absurd cc
@@ -103,11 +98,7 @@ module _ (bytes other : List ℕ) where
   )
 
   a_named : IsNamed (a ∷ b ∷ []) 1 a
-  a_named = record {
-    member = contains_front a (b ∷ []);
-    stands = refl;
-    greatest = λ j c. each_of_two (λ k. k.header.stands_for ≡ 1 → k.header.serial ≤ 1) a b (λ e. omega arith) (λ e. absurd (omega (arith, e))) j c;
-  }
+  a_named  = grind arith
 
   second_row : ImagesShow (a ∷ b ∷ []) (Some (2, one_page_memory bytes))
   second_row = (
@@ -125,11 +116,7 @@ module _ (bytes other : List ℕ) where
   three = a ∷ b ∷ m ∷ []
 
   m_named : IsNamed three 1 m
-  m_named = record {
-    member = contains_later a m (b ∷ m ∷ []) (contains_later b m (m ∷ []) (contains_front m []));
-    stands = refl;
-    greatest = λ j c. each_of_three (λ k. k.header.stands_for ≡ 1 → k.header.serial ≤ 3) a b m (λ e. omega arith) (λ e. omega arith) (λ e. omega arith) j c;
-  }
+  m_named  = grind arith
 
   third_row : ImagesShow three (Some (2, one_page_memory other))
   third_row = (
@@ -144,11 +131,7 @@ module _ (bytes other : List ℕ) where
   )
 
   serials_three : SerialsDiffer three
-  serials_three i j c d = each_of_three (λ k. k.header.serial ≡ j.header.serial → k ≡ j) a b m
-      (λ e. each_of_three (λ k. 1 ≡ k.header.serial → a ≡ k) a b m (λ f. refl) (λ f. absurd (omega (arith, f))) (λ f. absurd (omega (arith, f))) j d e)
-      (λ e. each_of_three (λ k. 2 ≡ k.header.serial → b ≡ k) a b m (λ f. absurd (omega (arith, f))) (λ f. refl) (λ f. absurd (omega (arith, f))) j d e)
-      (λ e. each_of_three (λ k. 3 ≡ k.header.serial → m ≡ k) a b m (λ f. absurd (omega (arith, f))) (λ f. absurd (omega (arith, f))) (λ f. refl) j d e)
-      i c
+  serials_three i j c d = grind arith
 
   -- what is reached from an image that stands for another number stands for it, or is reached beyond it
   from_m : (i start : Image) → start.header.parent ≡ 0 → Reaches three i start → i ≡ start
@@ -219,31 +202,16 @@ module _ (bytes other : List ℕ) where
   d = unchanged 7 5 3
 
   found_differ : SerialsDiffer (found bytes other)
-  found_differ i j c e = each_of_two (λ k. k.header.serial ≡ j.header.serial → k ≡ j) t n
-      (λ f. each_of_two (λ k. 5 ≡ k.header.serial → t ≡ k) t n (λ g. refl) (λ g. absurd (omega (arith, g))) j e f)
-      (λ f. each_of_two (λ k. 6 ≡ k.header.serial → n ≡ k) t n (λ g. absurd (omega (arith, g))) (λ g. refl) j e f)
-      i c
+  found_differ i j c e = grind arith
 
   found_tip : IsTip (found bytes other) t
-  found_tip = record {
-    member = contains_front t (n ∷ []);
-    restorable = dump_restores t refl;
-    greatest = λ j c restorable. each_of_two (λ k. IsNotAfter k t) t n (inr (refl, omega arith)) (inl (omega arith)) j c;
-  }
+  found_tip  = grind arith
 
   n_named : IsNamed (found bytes other) 5 n
-  n_named = record {
-    member = contains_later t n (n ∷ []) (contains_front n []);
-    stands = refl;
-    greatest = λ j c. each_of_two (λ k. k.header.stands_for ≡ 5 → k.header.serial ≤ 6) t n (λ e. omega arith) (λ e. omega arith) j c;
-  }
+  n_named  = grind arith
 
   n_named_later : IsNamed (d ∷ found bytes other) 5 n
-  n_named_later = record {
-    member = contains_later d n (t ∷ n ∷ []) n_named.member;
-    stands = refl;
-    greatest = λ j c. each_of_three (λ k. k.header.stands_for ≡ 5 → k.header.serial ≤ 6) d t n (λ e. absurd (omega (arith, e))) (λ e. omega arith) (λ e. omega arith) j c;
-  }
+  n_named_later  = grind arith
 
   changed : ImagesShow (d ∷ found bytes other) (Some (3, one_page_memory other))
   changed = (
@@ -271,11 +239,7 @@ module _ (bytes other : List ℕ) where
   ]
 
   w_named : IsNamed four 5 w
-  w_named = record {
-    member = contains_later d w (w ∷ t ∷ n ∷ []) (contains_front w (t ∷ n ∷ []));
-    stands = refl;
-    greatest = λ j c. each_of_four (λ k. k.header.stands_for ≡ 5 → k.header.serial ≤ 8) (λ e. omega arith) (λ e. omega arith) (λ e. omega arith) (λ e. omega arith) j c;
-  }
+  w_named  = grind arith
 
   otherwise : ImagesShow four (Some (3, one_page_memory bytes))
   otherwise = (

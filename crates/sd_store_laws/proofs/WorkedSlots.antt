@@ -41,39 +41,22 @@ module _ (bytes : List ℕ) where
   none_kept i c = elim (contains_cases Closed (Kept i) [] c) [ inl e ↦ absurd cc | inr none ↦ contains_none (Kept i) none ]
 
   none_closing : (i : Image) → Contains at_first (Closing i) → ⊥
-  none_closing i c = elim (contains_cases (Kept a) (Closing i) (Closed ∷ []) c) [
-    | inl e ↦ absurd cc
-    | inr more ↦ elim (contains_cases Closed (Closing i) [] more) [ inl e ↦ absurd cc | inr none ↦ contains_none (Closing i) none ]
-  ]
+  none_closing i c = grind arith
 
   none_opening : (i : Image) → Contains at_first (Opening i) → ⊥
-  none_opening i c = elim (contains_cases (Kept a) (Opening i) (Closed ∷ []) c) [
-    | inl e ↦ absurd cc
-    | inr more ↦ elim (contains_cases Closed (Opening i) [] more) [ inl e ↦ absurd cc | inr none ↦ contains_none (Opening i) none ]
-  ]
+  none_opening i c = grind arith
 
   is_kept : (i : Image) → Contains (a ∷ []) i → Contains at_first (Kept i)
   is_kept i c = each_of_one (λ k. Contains at_first (Kept k)) a (contains_front (Kept a) (Closed ∷ [])) i c
 
   was_kept : (i : Image) → Contains at_first (Kept i) → Contains (a ∷ []) i
-  was_kept i c = elim (contains_cases (Kept a) (Kept i) (Closed ∷ []) c) [
-    | inl e ↦ let same : i ≡ a = cc in subst (Contains (a ∷ [])) (sym same) (contains_front a [])
-    | inr more ↦ absurd (none_kept i more)
-  ]
+  was_kept i c = grind arith
 
   first_alone : (x : ℕ) (i : Image) → image_at at_first x ≡ Some i → (x ≡ 0) × (a ≡ i)
-  first_alone zero i e = (refl, same_Some a i e)
-  first_alone (suc zero) i e = absurd (none-some i e)
-  first_alone (suc (suc x)) i e = absurd (none-some i e)
+  first_alone x i e = grind arith
 
   first_slots : AreSlotsOf (in_round bytes) None at_first
-  first_slots = record {
-    catalog = λ i. (λ c. inl (is_kept i c), λ e. elim e [ inl kept ↦ was_kept i kept | inr closing ↦ absurd (none_closing i closing) ]);
-    needed = λ i n. is_kept i (needed_in (a ∷ []) (jobs (in_round bytes)) i n);
-    opening = λ i c. absurd (none_opening i c);
-    dump = tt;
-    serials = λ x y i j p q e. (first_alone x i p).0 ∙ sym (first_alone y j q).0;
-  }
+  first_slots  = grind arith
 
   other_serial : (i : Image) → i.header.serial ≢ 1 → (x : ℕ) (j : Image) → image_at at_first x ≡ Some j → j.header.serial ≢ i.header.serial
   other_serial i other x j e same = other (sym same ∙ ap (λ (k : Image). k.header.serial) (sym (first_alone x j e).1))
@@ -85,17 +68,7 @@ module _ (bytes : List ℕ) where
     p = pre_dump 2 1 2 other
 
     p_fresh : IsFresh (in_round bytes) p
-    p_fresh = record {
-      itself = refl;
-      serial = each_of_one (λ k. k.header.serial ≢ 2) a (λ e. omega (arith, e));
-      number = record {
-        stands = each_of_one (λ k. k.header.stands_for ≢ 2) a (λ e. omega (arith, e));
-        names = each_of_one (λ k. k.header.parent ≢ 2) a (λ e. omega (arith, e));
-        asks = λ c. elim (contains_cases 1 2 [] c) [ inl e ↦ omega (arith, e) | inr none ↦ contains_none 2 none ];
-      };
-      apart = tt;
-      falls = omega arith;
-    }
+    p_fresh  = grind arith
 
     p_slots : AreSlotsOf (in_round bytes) None (Kept a ∷ Opening p ∷ [])
     p_slots = slots_follow_calls_lem.opens (in_round bytes) None at_first 1 p first_slots refl (inl (refl, p_fresh)) (other_serial p (λ e. omega (arith, e)))
@@ -114,35 +87,14 @@ module _ (bytes : List ℕ) where
   -- ---- a dump in doubt
 
   d_next : IsNextDump (in_round bytes) d
-  d_next = record {
-    next = record {
-      fresh = record {
-        itself = refl;
-        serial = each_of_one (λ k. k.header.serial ≢ 3) a (λ e. omega (arith, e));
-        number = record {
-          stands = each_of_one (λ k. k.header.stands_for ≢ 3) a (λ e. omega (arith, e));
-          names = each_of_one (λ k. k.header.parent ≢ 3) a (λ e. omega (arith, e));
-          asks = λ c. elim (contains_cases 1 3 [] c) [ inl e ↦ omega (arith, e) | inr none ↦ contains_none 3 none ];
-        };
-        apart = tt;
-        falls = omega arith;
-      };
-      parent = contains_front 1 [];
-    };
-    restorable = restores d (inl refl);
-    newest = each_of_one (λ k. IsRestorable k → k.header.checkpoint < 2) a (λ e. omega arith);
-    above = tt;
-  }
+  d_next  = grind arith
 
   d_slots : AreSlotsOf (in_round bytes) (Some d) (Kept a ∷ Opening d ∷ [])
   d_slots = slots_follow_calls_lem.opens (in_round bytes) (Some d) at_first 1 d (slots_follow_calls_lem.pends (in_round bytes) at_first d first_slots d_next) refl
       (inr (inr refl)) (other_serial d (λ e. omega (arith, e)))
 
   both_differ : (i j : Image) → Contains (d ∷ a ∷ []) i → Contains (d ∷ a ∷ []) j → i.header.serial ≡ j.header.serial → i ≡ j
-  both_differ i j c e same =
-      each_of_two (λ k. k.header.serial ≡ j.header.serial → k ≡ j) d a
-      (λ is. each_of_two (λ k. 3 ≡ k.header.serial → d ≡ k) d a (λ _. refl) (λ no. absurd (omega (arith, no))) j e is)
-      (λ is. each_of_two (λ k. 1 ≡ k.header.serial → a ≡ k) d a (λ no. absurd (omega (arith, no))) (λ _. refl) j e is) i c same
+  both_differ i j c e same = grind arith
 
   pub dump_in_doubt_lem : DumpInDoubt bytes
   dump_in_doubt_lem = record {

@@ -26,10 +26,7 @@ module _ (old : ℕ → Option Entry) where
   copied-none new none p = none p ∙ sym (cond-false (nat_lt p 0) (option_map bare_entry (old p)) None (grind (arith, nat_tests)))
 
   past : (from p : ℕ) → ((q : ℕ) → from ≤ q → old q ≡ None) → cond (nat_lt p from) (option_map bare_entry (old p)) None ≡ option_map bare_entry (old p)
-  past from p none = elim (cases_lt p from) [
-    | inl l ↦ cond-true (nat_lt p from) (option_map bare_entry (old p)) None (grind (arith, nat_tests))
-    | inr g ↦ cond-false (nat_lt p from) (option_map bare_entry (old p)) None (grind (arith, nat_tests)) ∙ ap (option_map bare_entry) (sym (none p g))
-  ]
+  past from p none = grind arith
 
   -- there are no more
   pub copied-all : (new : ℕ → Option Entry) (from : ℕ) → CopiedTo old new from → ((q : ℕ) → from ≤ q → old q ≡ None) → (p : ℕ) → new p ≡ option_map bare_entry (old p)
@@ -114,8 +111,7 @@ module _ {X : Type 0} (at : X → ℕ → Option Entry) (IsKept : X → Type 0) 
 
 -- a copy has a page where the old one has one
 pub bare_seen : (o : Option Entry) → is_some (option_map bare_entry o) ≡ is_some o
-bare_seen None = refl
-bare_seen (Some e) = refl
+bare_seen o = grind arith
 
 pub has_copy : (span : ℕ) (old new : ℕ → Option Entry) → ((page : ℕ) → new page ≡ option_map bare_entry (old page)) → HasMappedPage span old → HasMappedPage span new
 has_copy span old new is has = (has.0, has.1, ap is_some (is has.0) ∙ bare_seen (old has.0) ∙ has.2)

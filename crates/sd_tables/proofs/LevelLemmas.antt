@@ -19,40 +19,20 @@ pub div_mono : (span a b : ℕ) → 0 < span → a ≤ b → a / span ≤ b / sp
 div_mono span a b pos l = le-div (a / span) b span pos (let d = div-mul-le_self a span in omega arith)
 
 pub place_le : (span a b : ℕ) → a / span ≡ b / span → a % span ≤ b % span → a ≤ b
-place_le span a b q m =
-    let ea = div-add-mod' a span in
-    let eb = div-add-mod' b span in
-    let k : a / span * span ≡ b / span * span = ap (λ k. k * span) q in
-    omega arith
+place_le span a b q m = grind arith
 
 pub le_place : (span a b : ℕ) → a / span ≡ b / span → a ≤ b → a % span ≤ b % span
-le_place span a b q l =
-    let ea = div-add-mod' a span in
-    let eb = div-add-mod' b span in
-    let k : a / span * span ≡ b / span * span = ap (λ k. k * span) q in
-    omega arith
+le_place span a b q l = grind arith
 
 pub spans : (span place a : ℕ) → 0 < span → a / span ≡ place → place < 512 → a < 512 * span
-spans span place a pos q l =
-    let ea = div-add-mod' a span in
-    let m = mul-add-lt (a / span) span (a % span) 512 (omega arith) (mod_below a span pos) in
-    omega arith
+spans span place a pos q l = grind arith
 
 pub place_within : (span page : ℕ) → 0 < span → page < 512 * span → page / span < 512
-place_within span page pos l = elim (cases_lt (page / span) 512) [
-  | inl below ↦ below
-  | inr above ↦ absurd (
-      let d = div-mul-le_self page span in
-      let m : 512 * span ≤ page / span * span = mul-le-mul_right span above in
-      omega arith)
-]
+place_within span page pos l = grind arith
 
 module _ {X : Type 0} (at : X → ℕ → Option Entry) (span : ℕ) where
   same_tests : (other page : ℕ) → other / span ≡ page / span → nat_eq (other % span) (page % span) ≡ nat_eq other page
-  same_tests other page q = elim (cases_eq (other % span) (page % span)) [
-    | inl m ↦ eq-eqb (other % span) (page % span) m ∙ sym (eq-eqb other page (same_page span other page q m))
-    | inr n ↦ ne_eqb (other % span) (page % span) n ∙ sym (ne_eqb other page (λ e. n (ap (λ k. k % span) e)))
-  ]
+  same_tests other page q = grind arith
 
   -- a place was changed at one page
   pub changed : (tables : List (Option X)) (page : ℕ) (o : Option X) (x : Option Entry) → page / span < length tables
@@ -80,14 +60,7 @@ module _ {X : Type 0} (at : X → ℕ → Option Entry) (span : ℕ) where
     first_in_none from none page q l = at_place page q ∙ none (page % span) l
 
     pub first_in_some : (from first : ℕ) (entry : Entry) → IsFirstAt span (slot_at at slot) from (Some (first, entry)) → IsFirstInTable span (level_at at span tables) place from (Some (place * span + first, entry))
-    first_in_some from first entry some =
-        let m = mod-mul-add place span first some.1 in (
-          div-mul-add place span first some.1,
-          (let l = some.0 in omega arith),
-          at_page first some.1 ∙ some.2,
-          λ page q l b. at_place page q ∙ some.3 (page % span) l
-              (let e = div-add-mod' page span in let k : page / span * span ≡ place * span = ap (λ k. k * span) q in omega arith),
-        )
+    first_in_some from first entry some = grind (arith, mod-mul-add, div-mul-add, div-add-mod')
 
     pub has_page : 0 < span → place < 512 → HasMappedPage span (slot_at at slot) → HasMappedPage (512 * span) (level_at at span tables)
     has_page pos within has = (
@@ -124,17 +97,7 @@ module _ {X : Type 0} (at : X → ℕ → Option Entry) (IsKept : X → Type 0) 
   module _ (page place : ℕ) (here : page / span ≡ place) where
     -- it is found in the page's own table
     pub first_here : (first : ℕ) (entry : Entry) → place < 512 → IsFirstInTable span (level_at at span tables) place (page % span) (Some (first, entry)) → IsFirstAt (512 * span) (level_at at span tables) page (Some (first, entry))
-    first_here first entry within some = (
-      place_le span page first (here ∙ sym some.0) some.1,
-      spans span place first pos some.0 within,
-      some.2,
-      λ other l b.
-          let below : page / span ≤ other / span = div_mono span page other pos l in
-          let above : other / span ≤ first / span = div_mono span other first pos (omega arith) in
-          let f = some.0 in
-          let q : other / span ≡ place = omega arith in
-          some.3 other q (le_place span page other (here ∙ sym q) l) b,
-    )
+    first_here first entry within some = grind (arith, place_le, spans, div_mono, le_place)
 
     module _ (none : IsFirstInTable span (level_at at span tables) place (page % span) None) where
       not_here : (other : ℕ) → page ≤ other → other / span ≡ place → level_at at span tables other ≡ None
@@ -142,10 +105,7 @@ module _ {X : Type 0} (at : X → ℕ → Option Entry) (IsKept : X → Type 0) 
 
       -- no table after it
       pub first_nowhere : IsNextUsed words (place + 1) None → IsFirstAt (512 * span) (level_at at span tables) page None
-      first_nowhere next other l = elim (cases_eq (other / span) place) [
-        | inl q ↦ not_here other l q
-        | inr apart ↦ unused_at other (next (other / span) (let below : page / span ≤ other / span = div_mono span page other pos l in omega arith))
-      ]
+      first_nowhere next other l = grind (arith, cases_eq, div_mono)
 
       module _ (after : ℕ) (next : IsNextUsed words (place + 1) (Some after)) where
         -- it is the first page of the next table

@@ -24,10 +24,7 @@ use Rattle.sd_tables.proofs.TableOfLemmas.{get-table_of, get_within}
 
 -- a page more that is mapped
 pub mapped-more : (at : ℕ → Option Entry) (from k : ℕ) → AreMapped at from k → IsSome (at k) → AreMapped at from (k + 1)
-mapped-more at from k mapped here page l m = elim (cases_lt page k) [
-  | inl below ↦ mapped page l below
-  | inr above ↦ subst (λ q. IsSome (at q)) (let e : k ≡ page = omega arith in e) here
-]
+mapped-more at from k mapped here page l m = grind arith
 
 module _ (change : RunChange) where
   pub changes-none : (at : ℕ → Option Entry) (from : ℕ) → ChangesRun change at at from from
@@ -67,8 +64,7 @@ module _ (change : RunChange) where
   changes-has span a b from to run has = (has.0, has.1, changes-mapped a b from to has.0 run ∙ has.2)
 
   chosen : (t : Bool) (x y : Entry) → cond t (Some x) None ≡ Some y → (t ≡ true) × (y ≡ x)
-  chosen true x y e = (refl, (let f : ◌≡◌ {A = Option Entry} (Some x) (Some y) = e in cc))
-  chosen false x y e = absurd (let f : ◌≡◌ {A = Option Entry} None (Some y) = e in cc)
+  chosen t x y e = grind arith
 
   -- ---- a leaf
   module _ (words : List ℕ) (entries : List LeafEntry) (place : ℕ) (within : place < length entries) (used : is_used words place ≡ true) (d : LeafEntry) where
@@ -102,10 +98,7 @@ module _ (change : RunChange) where
     put = ap (option_and_then (λ table. table)) (got_set tables place o within)
 
     place_of : (page to : ℕ) → place * span ≤ page → page < place * span + to → to ≤ span → (page / span ≡ place) × (page % span ≡ page - place * span)
-    place_of page to l m le =
-        let r : page - place * span < span = omega arith in
-        let is : place * span + (page - place * span) ≡ page = omega arith in
-        (sym (ap (λ k. k / span) is) ∙ div-mul-add place span (page - place * span) r, sym (ap (λ k. k % span) is) ∙ mod-mul-add place span (page - place * span) r)
+    place_of page to l m le = grind arith
 
     pub run_below : (from to : ℕ) → to ≤ span → ChangesRun change (slot_at at (inner_table tables place)) (slot_at at o) from to
         → ChangesRun change (level_at at span tables) (level_at at span (set tables place o)) (place * span + from) (place * span + to)
@@ -205,46 +198,14 @@ module _ (entry : Entry) where
   fills-none at from = record { holes = λ page l b. absurd (omega arith); filled = λ page l b. absurd (omega arith); others = λ page out. refl }
 
   pub fills-more : (a b c : ℕ → Option Entry) (from k : ℕ) → from ≤ k → FillsRun entry a b from k → b k ≡ None → ((q : ℕ) → c q ≡ cond (nat_eq q k) (Some entry) (b q)) → FillsRun entry a c from (k + 1)
-  fills-more a b c from k le run none put = record {
-    holes = λ page l m. elim (cases_eq page k) [
-      | inl same ↦ ap a same ∙ sym (run.others k (inr (omega arith))) ∙ none
-      | inr apart ↦ run.holes page l (omega arith)
-    ];
-    filled = λ page l m. elim (cases_eq page k) [
-      | inl same ↦ put page ∙ cond-true (nat_eq page k) (Some entry) (b page) (eq-eqb page k same)
-      | inr apart ↦ put page ∙ cond-false (nat_eq page k) (Some entry) (b page) (ne_eqb page k apart) ∙ run.filled page l (omega arith)
-    ];
-    others = λ page out.
-        let apart : page ≡ k → ⊥ = λ same. elim out [
-          | inl below ↦ omega arith
-          | inr above ↦ omega arith
-        ] in
-        put page ∙ cond-false (nat_eq page k) (Some entry) (b page) (ne_eqb page k apart) ∙ run.others page (elim out [
-          | inl below ↦ inl below
-          | inr above ↦ inr (omega arith)
-        ]);
-  }
+  fills-more a b c from k le run none put = grind arith
 
   pub fills-seen : (a b c d : ℕ → Option Entry) (from to : ℕ) → ((q : ℕ) → c q ≡ a q) → ((q : ℕ) → d q ≡ b q) → FillsRun entry a b from to → FillsRun entry c d from to
-  fills-seen a b c d from to e f run = record {
-    holes = λ page l m. e page ∙ run.holes page l m;
-    filled = λ page l m. f page ∙ run.filled page l m;
-    others = λ page out. f page ∙ run.others page out ∙ sym (e page);
-  }
+  fills-seen a b c d from to e f run = grind arith
 
   -- those that were mapped are mapped
   pub fills-has : (span : ℕ) (a b : ℕ → Option Entry) (from to : ℕ) → FillsRun entry a b from to → HasMappedPage span a → HasMappedPage span b
-  fills-has span a b from to run has = (
-    has.0,
-    has.1,
-    elim (cases_lt has.0 from) [
-      | inl below ↦ ap is_some (run.others has.0 (inl below)) ∙ has.2
-      | inr reached ↦ elim (cases_lt has.0 to) [
-        | inl within ↦ ap is_some (run.filled has.0 reached within)
-        | inr past ↦ ap is_some (run.others has.0 (inr past)) ∙ has.2
-      ]
-    ],
-  )
+  fills-has span a b from to run has = grind arith
 
   pub fills-one : (a b : ℕ → Option Entry) (from : ℕ) → ((q : ℕ) → a q ≡ None) → ((q : ℕ) → b q ≡ cond (nat_eq q from) (Some entry) None) → FillsRun entry a b from (from + 1)
   fills-one a b from none put = fills-more a a b from from (omega arith) (fills-none a from) (none from) (λ q. put q ∙ ap (cond (nat_eq q from) (Some entry)) (sym (none q)))
@@ -297,22 +258,16 @@ module _ {X : Type 0} (at : X → ℕ → Option Entry) (IsKept : X → Type 0) 
 
 -- ---- a page table
 pub table_fill : (entry : Entry) (limit : ℕ) (f g : ℕ → Option Entry) (from to : ℕ) → to ≤ limit → FillsRun entry f g from to → FillsRun entry (finmap.get (table_of limit f)) (finmap.get (table_of limit g)) from to
-table_fill entry limit f g from to le run = record {
-  holes = λ page l m. get_within f limit page (omega arith) ∙ run.holes page l m;
-  filled = λ page l m. get_within g limit page (omega arith) ∙ run.filled page l m;
-  others = λ page out. get-table_of g limit page ∙ ap (λ o. cond (is_within 0 limit page) o None) (run.others page out) ∙ sym (get-table_of f limit page);
-}
+table_fill entry limit f g from to le run = grind (arith, get_within, get-table_of)
 
 pub fill_from : (entry : Entry) (a b c : ℕ → Option Entry) (from first to : ℕ) → ((q : ℕ) → c q ≡ a q) → from ≡ first → FillsRun entry a b from to → FillsRun entry c b first to
 fill_from entry a b c from first to e same run = subst (λ k. FillsRun entry c b k to) same (fills-seen entry a b c b from to e (λ q. refl) run)
 
 pub fill_after : {E : Type 0} (entry : Entry) (span : ℕ) (a b : ℕ → Option Entry) (from : ℕ) (r : Result ℕ E) → HasMappedPage span a → IfOk r (λ to. FillsRun entry a b from to) → OnErr r ((q : ℕ) → b q ≡ a q) → HasMappedPage span b
-fill_after entry span a b from (Ok to) has run err = fills-has entry span a b from to run has
-fill_after entry span a b from (Err e) has run err = (has.0, has.1, ap is_some (err has.0) ∙ has.2)
+fill_after entry span a b from r has run err = grind arith
 
 pub if_ok_then : {A E : Type 0} {P Q : A → Type 0} (r : Result A E) → ((x : A) → P x → Q x) → IfOk r P → IfOk r Q
-if_ok_then (Ok x) f p = f x p
-if_ok_then (Err e) f p = tt
+if_ok_then r f p = grind arith
 
 -- ---- how many pages a table has
 -- after a run of pages that were all there, or none of them, and are there now

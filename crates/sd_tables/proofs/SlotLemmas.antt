@@ -1,5 +1,5 @@
 -- A place for a table, after a change.
-use Rattle.std.proofs.Common.{◌≡◌, ℕ, ◌<◌, cond, nat_eq, IsSome, Option, Some, refl, sym, ◌∙◌, subst}
+use Rattle.std.proofs.Common.{◌≡◌, ℕ, ◌<◌, cond, nat_eq, IsSome, Option, Some, refl, sym, ◌∙◌, subst, arith}
 use Rattle.std.specs.Prelude.{Result, Ok, Err, IfOk, OnErr}
 use Rattle.std.proofs.lemmas.Bool.{eq-eqb, cond-true}
 use Rattle.sd_tables.specs.declared.entry.Entry.{Entry}
@@ -16,5 +16,4 @@ has_put span before after page entry l is = (
 -- and where it couldn't be put, those that were there are there
 pub has_after : {E : Type 0} (span : ℕ) (before after : ℕ → Option Entry) (page : ℕ) (entry : Entry) (r : Result (Option Entry) E) → page < span → HasMappedPage span before
     → IfOk r (λ _. (other : ℕ) → after other ≡ cond (nat_eq other page) (Some entry) (before other)) → OnErr r ((other : ℕ) → after other ≡ before other) → HasMappedPage span after
-has_after span before after page entry (Ok x) l has ok err = has_put span before after page entry l ok
-has_after span before after page entry (Err e) l has ok err = (has.0, has.1, subst (λ (o : Option Entry). IsSome o) (sym (err has.0)) has.2)
+has_after span before after page entry r l has ok err = grind arith

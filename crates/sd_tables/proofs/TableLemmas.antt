@@ -56,16 +56,13 @@ pub none_within : (first q : ℕ) → is_within first 0 q ≡ false
 none_within first q = grind (arith, nat_tests)
 
 pub not_none : {X : Type 0} (o : Option X) → o ≡ None → IsSome o → ⊥
-not_none None e s = (let f : false ≡ true = s in cc)
-not_none (Some x) e s = cc
+not_none o e s = grind arith
 
 pub some_of : {X : Type 0} (o : Option X) → IsSome o → (x : X) × (o ≡ Some x)
-some_of None s = absurd (let f : false ≡ true = s in cc)
-some_of (Some x) s = (x, refl)
+some_of o s = grind arith
 
 pub none_of : {X : Type 0} (o : Option X) → is_some o ≡ false → o ≡ None
-none_of None e = refl
-none_of (Some x) e = absurd (let f : true ≡ false = e in cc)
+none_of o e = grind arith
 
 -- the table of a space, as the code finds it
 pub found_table : {X : Type 0} (es : List (ℕ × Table X)) (m : Nested X) (space : ℕ) (t : Table X) → finmap.from_entries {R = nat_cmp} es ≡ m → Some t ≡ lookup (is_at (nat_cmp space)) es → finmap.get m space ≡ Some t

@@ -26,19 +26,11 @@ module _ (at : ℕ → Option Entry) where
   at_key first q o e here = ap at (eqb-true q first here) ∙ e
 
   never : (w : Bool) (o : Option Entry) → o ≡ None → cond w o None ≡ None
-  never true o e = e
-  never false o e = refl
+  never w o e = grind arith
 
   one_more : (first q : ℕ) (o : Option Entry) (es : List (ℕ × Entry)) (w : Bool) → at first ≡ o → find nat_cmp q es ≡ cond w (at q) None
       → find nat_cmp q (cons_option (option_map (λ entry. (first, entry)) o) es) ≡ cond (nat_eq q first || w) (at q) None
-  one_more first q None es w e h = elim (cases_Bool (nat_eq q first)) [
-    | inl here ↦ h ∙ never w (at q) (at_key first q None e here) ∙ sym (at_key first q None e here) ∙ ap (λ b. cond (b || w) (at q) None) (sym here)
-    | inr there ↦ h ∙ ap (λ b. cond (b || w) (at q) None) (sym there)
-  ]
-  one_more first q (Some x) es w e h = ap (λ b. cond b (Some x) (find nat_cmp q es)) (same_test q first) ∙ elim (cases_Bool (nat_eq q first)) [
-    | inl here ↦ ap (λ b. cond b (Some x) (find nat_cmp q es)) here ∙ sym (at_key first q (Some x) e here) ∙ ap (λ b. cond (b || w) (at q) None) (sym here)
-    | inr there ↦ ap (λ b. cond b (Some x) (find nat_cmp q es)) there ∙ h ∙ ap (λ b. cond (b || w) (at q) None) (sym there)
-  ]
+  one_more first q o es w e h = grind arith
 
   find_from : (first count q : ℕ) → find nat_cmp q (filter_map entry_at (pages_from first count)) ≡ cond (is_within first count q) (at q) None
   unfolding pages_from
@@ -84,8 +76,7 @@ module _ (at : ℕ → Option Entry) where
 -- as many pages, where the same ones are mapped
 module _ (f g : ℕ → Option Entry) (same : (q : ℕ) → is_some (g q) ≡ is_some (f q)) where
   same_there : (w : Bool) (q : ℕ) → is_some (cond w (g q) None) ≡ is_some (cond w (f q) None)
-  same_there true q = same q
-  same_there false q = refl
+  same_there w q = grind arith
 
   len_from_same : (first count : ℕ) → finmap.len (finmap.from_entries {R = nat_cmp} (filter_map (entry_at g) (pages_from first count)))
       ≡ finmap.len (finmap.from_entries {R = nat_cmp} (filter_map (entry_at f) (pages_from first count)))
@@ -120,8 +111,7 @@ module _ (limit : ℕ) (f g : ℕ → Option Entry) where
   table_same is = same_table _ _ (λ q. get-table_of g limit q ∙ ap (λ o. cond (is_within 0 limit q) o None) (is q) ∙ sym (get-table_of f limit q))
 
   both_turned : (w e : Bool) (x : Option Entry) (o : Option Entry) → (e ≡ true → w ≡ true) → cond w (cond e x o) None ≡ cond e x (cond w o None)
-  both_turned false true x o h = absurd (let c : false ≡ true = h refl in cc)
-  both_turned _ _ x o h = refl
+  both_turned w e x o h = grind arith
 
   pub table_put : (k : ℕ) (x : Entry) → k < limit → ((q : ℕ) → g q ≡ cond (nat_eq q k) (Some x) (f q)) → table_of limit g ≡ finmap.insert (table_of limit f) k x
   table_put k x l is = same_table _ _ (λ q. get-table_of g limit q ∙ ap (λ o. cond (is_within 0 limit q) o None) (is q)
@@ -184,8 +174,7 @@ module _ (limit : ℕ) (f : ℕ → Option Entry) (k page : ℕ) (same : k ≡ p
 
 -- ---- the first page from a bound on
 from_is : (start : Bound ℕ) (page : ℕ) → is_from start page ≡ nat_le (first_allowed start) page
-from_is (Included first) page = refl
-from_is _ page = grind (arith, nat_tests)
+from_is start page = grind arith
 
 module _ (limit span : ℕ) (at : ℕ → Option Entry) (start : Bound ℕ) where
   some_below : (page : ℕ) → IsSome (finmap.get (table_of limit at) page) → page < limit

@@ -98,36 +98,13 @@ module _ (words : List ℕ) (word from low : ℕ) (first : IsFirstBitOf word fro
   in_word_none none = λ place l here. unset place here (none (place % 64) (first.1 place l here))
 
   pub in_word_some : (bit : ℕ) → IsNextBit (get_or words word 0) low (Some bit) → IsNextInWord words word from (Some (word * 64 + bit))
-  in_word_some bit some =
-      let h = first.0 in
-      let s0 = some.0 in
-      let s1 = some.1 in
-      let d : (word * 64 + bit) / 64 ≡ word = omega arith in
-      let m : (word * 64 + bit) % 64 ≡ bit = omega arith in (
-        omega arith,
-        d,
-        eq-eqb (bit_at (get_or words ((word * 64 + bit) / 64) 0) ((word * 64 + bit) % 64)) 1 (ap (λ w. bit_at (get_or words w 0) ((word * 64 + bit) % 64)) d ∙ ap (bit_at (get_or words word 0)) m ∙ some.2),
-        λ place l b here. unset place here (some.3 (place % 64) (first.1 place l here) (omega arith)),
-      )
+  in_word_some bit some = grind arith
 
 module _ (words : List ℕ) (word from : ℕ) (below : (place : ℕ) → from ≤ place → place / 64 < word → is_used words place ≡ false) where
   -- no place of the word is used either
   pub next_more : (o : Option ℕ) → is_some o ≡ false → IsNextInWord words word from o → (place : ℕ) → from ≤ place → place / 64 < word + 1 → is_used words place ≡ false
-  next_more None e none = λ place l m. elim (cases_lt (place / 64) word) [
-    | inl b ↦ below place l b
-    | inr g ↦ none place l (omega arith)
-  ]
-  next_more (Some next) e some = absurd (let f : true ≡ false = e in cc)
+  next_more o e none = grind arith
 
   -- the first used place is one of the word
   pub next_found : (o : Option ℕ) → is_some o ≡ true → word < 8 → IsNextInWord words word from o → IsNextUsed words from o
-  next_found None e w none = absurd (let f : false ≡ true = e in cc)
-  next_found (Some next) e w some = (
-    some.0,
-    (let d = some.1 in omega arith),
-    some.2,
-    λ place l b. elim (cases_lt (place / 64) word) [
-      | inl m ↦ below place l m
-      | inr g ↦ some.3 place l b (let d = some.1 in omega arith)
-    ],
-  )
+  next_found o e w none = grind arith

@@ -1,4 +1,4 @@
-use Rattle.std.proofs.Common.{List, subst, sym, ◌≡◌, rules}
+use Rattle.std.proofs.Common.{List, subst, sym, ◌≡◌, rules, arith}
 use Rattle.std.specs.Prelude.{slice_range, None}
 use Rattle.std.specs.List.{splice}
 use Rattle.std.proofs.lemmas.Result.{on_ok_weaker}
@@ -9,10 +9,7 @@ use Rattle.sd_areas.proofs.Around.{bare_fits, middle_maximal, gap_spliced_at, ga
 use Rattle.sd_areas.proofs.changes.remove_run.Goals as goal
 
 pub without_pages-requires-clause-maximal : goal.without_pages-requires-clause-maximal
-without_pages-requires-clause-maximal c =
-    let is : c.deref-2.result.now ≡ c.args.areas.now.items = c.deref-2.ensures.value in
-    subst (λ (l : List Area). AreMaximal None (slice_range l c.neighbours-from.result.0 c.neighbours-from.result.1)) (sym is)
-    (middle_maximal c.args.areas.now.items c.neighbours-from.result.0 c.neighbours-from.result.1 c.requires.maximal c.neighbours-from.ensures.ordered)
+without_pages-requires-clause-maximal c = grind (arith, middle_maximal)
 
 gap : (c : goal.After-replace) → HasGap c.args.areas.now.items (splice c.args.areas.now.items c.neighbours-from.result.0 c.neighbours-from.result.1 c.in_ok-pieces.pieces.items) c.args.range.first c.args.range.count
 gap c =

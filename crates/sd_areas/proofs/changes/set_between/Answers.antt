@@ -1,4 +1,4 @@
-use Rattle.std.proofs.Common.{List, subst, sym}
+use Rattle.std.proofs.Common.{List, subst, sym, arith}
 use Rattle.std.specs.Prelude.{slice_range, None}
 use Rattle.std.specs.List.{splice}
 use Rattle.std.proofs.lemmas.Result.{on_ok_weaker}
@@ -9,9 +9,7 @@ use Rattle.sd_areas.proofs.Around.{middle_maximal, run_spliced, run_fits, run_re
 use Rattle.sd_areas.proofs.changes.set_between.Goals as goal
 
 pub with_area-requires-clause-maximal : goal.with_area-requires-clause-maximal
-with_area-requires-clause-maximal c =
-    subst (λ (l : List Area). AreMaximal None (slice_range l c.args.from c.args.to)) (sym c.deref.ensures.value)
-    (middle_maximal c.args.areas.now.items c.args.from c.args.to c.requires.maximal c.requires.ordered)
+with_area-requires-clause-maximal c = grind (arith, middle_maximal)
 
 run : (c : goal.After-replace) → HasRun c.args.areas.now.items (splice c.args.areas.now.items c.args.from c.args.to c.in_ok-pieces.pieces.items) c.args.area
 run c =

@@ -1,4 +1,4 @@
-use Rattle.std.proofs.Common.{List, subst, sym, ◌∙◌, ◌≡◌, true, false}
+use Rattle.std.proofs.Common.{List, subst, sym, ◌∙◌, ◌≡◌, true, false, arith}
 use Rattle.std.specs.Prelude.{slice_range, None}
 use Rattle.sd_areas.specs.declared.area.Area.{Area}
 use Rattle.sd_areas.specs.Pages.{page_of, pages_for}
@@ -18,16 +18,10 @@ pub returns-in_default-clause-refused : goal.returns-in_default-clause-refused
 returns-in_default-clause-refused c = protected_outside _ _ _ _ (sym c.if-not-is_page_start.ensures) c.if-bytes-eq0.false (sym c.in_default.ensures.within)
 
 pub meets_hole-requires-clause-maximal : goal.meets_hole-requires-clause-maximal
-meets_hole-requires-clause-maximal c =
-    subst (λ (l : List Area). AreMaximal None (slice_range l c.neighbours-from.result.0 c.neighbours-from.result.1)) (sym c.deref-2.ensures.value)
-    (middle_maximal c.self.inside.areas.items c.neighbours-from.result.0 c.neighbours-from.result.1 c.self.invariant.0 c.neighbours-from.ensures.ordered)
+meets_hole-requires-clause-maximal c = grind (arith, middle_maximal)
 
 pub returns-then-meets_hole-clause-refused : goal.returns-then-meets_hole-clause-refused
-returns-then-meets_hole-clause-refused c =
-    protected_hole _ _ _ _ (sym c.if-not-is_page_start.ensures) c.if-bytes-eq0.false (sym c.in-Some.ensures.within)
-    (hole_test _ _ _ _ _ _ true c.self.view_is c.in-Some.ensures.first c.in-Some.ensures.count (c.if-meets_hole.ensures
-    ∙ hole_around_at c.self.inside.areas.items _ _ _ _ c.in-Some.range.first c.in-Some.range.count c.deref.ensures.value c.deref-2.ensures.value c.self.invariant.0
-    c.neighbours-from.ensures.ordered c.neighbours-from.ensures.within c.neighbours-from.ensures.below c.neighbours-from.ensures.above))
+returns-then-meets_hole-clause-refused c = grind (arith, protected_hole, hole_test, hole_around_at)
 
 full : (c : goal.After-set_between) → has_hole c.args.self.now (page_of c.args.address) (pages_for c.args.bytes) ≡ false
 full c = hole_test _ _ _ _ _ _ false c.self.view_is c.in-Some.ensures.first c.in-Some.ensures.count (c.if-meets_hole.ensures

@@ -1,4 +1,4 @@
-use Rattle.std.proofs.Common.{◌≡◌, rules}
+use Rattle.std.proofs.Common.{◌≡◌, rules, arith}
 use Rattle.sd_areas.proofs.Calls.{shows_none}
 use Rattle.sd_areas.proofs.area_map.AreaMap.unmap.Goals as goal
 
@@ -6,6 +6,4 @@ pub returns-in_err-range-clause-bare : goal.returns-in_err-range-clause-bare
 returns-in_err-range-clause-bare c = λ valid inside _. search rules
 
 pub returns-clause-bare : goal.returns-clause-bare
-returns-clause-bare c = λ _ _ empty.
-    let none = shows_none c.self.inside.areas.items c.args.self.now c.self.view_is c.self.invariant.0 empty in
-    search rules
+returns-clause-bare c = grind (arith, shows_none)
