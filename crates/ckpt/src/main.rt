@@ -320,10 +320,16 @@ fn run_command<R: Clock + Threads + Wait + Sync>(
             tell_refusal(rt, causes, out.error());
             Ok(status)
         }
-        Err(error) => {
-            error.print(rt)?;
-            Ok(error.exit_code() as u8)
-        }
+        Err(error) => print_words_fault(rt, &error),
+    }
+}
+
+/// Prints what is wrong with the words, or the help, and returns the status. That of wrong words stays where they can't
+/// be printed.
+fn print_words_fault(rt: &(impl Print + Eprint), error: &clap::Error) -> io::Result<u8> {
+    match error.print(rt) {
+        Err(unprinted) if !error.use_stderr() => Err(unprinted),
+        _ => Ok(error.exit_code() as u8),
     }
 }
 
