@@ -429,6 +429,26 @@ try overlapping_segments_and_too_many_areas_are_told
 try other_files_are_no_core
 try many_areas_are_taken_at_once
 
+# A core file to which a slot of the store leads isn't replaced, nor is one that is still being written.
+slots_are_not_replaced_by_an_export() {
+  make_store store || return 1
+  mkdir cores
+  local name before
+  for name in space-1.core .space-1.core.part; do
+    mv store/img-000 "cores/$name"
+    ln -s "../cores/$name" store/img-000
+    before=$(sums store)
+    ends_with 1 "cannot write OUT" "ckpt: cores: $slot_error" "$ckpt" export --force store cores || return 1
+    same "the store" "$(sums store)" "$before" || return 1
+    rm store/img-000
+    mv "cores/$name" store/img-000
+  done
+  ends_with 0 "" "" "$ckpt" export --force store cores || return 1
+  ends_with 0 "" "" "$ckpt" export --force store cores
+}
+
+try slots_are_not_replaced_by_an_export
+
 # The example prints this of a real process.
 real_process_goes_in_and_out() {
   CKPT=$ckpt "$here/../examples/real-process" > out 2> err

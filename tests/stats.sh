@@ -113,6 +113,53 @@ counts_of_a_refused_run_stay() {
 "of":"checkpoint"'
 }
 
+# A slot's file of the store is no file of counts, by whatever name: it is refused, nothing is made, and the images
+# stay. An image that a run acknowledges would else be lost with it.
+slot_error="a slot's file of the store, which isn't written over: name another file"
+
+slots_are_no_files_of_counts() {
+  make_store store || return 1
+  rm store/img-005
+  ln -s store/img-000 link
+  ln -s "$PWD/store/img-005" leads-to-a-missing-one
+  mkdir deep
+  ln -s ../link deep/link
+  ln -s store folder
+  local before name
+  before=$(sums store)
+  for name in store/img-000 ./store/../store/img-003 "$PWD/store/img-063" folder/img-000 link deep/link \
+    store/img-005 folder/img-005 leads-to-a-missing-one; do
+    ends_with 1 "cannot write FILE" "ckpt: $name: $slot_error" "$ckpt" run --stats "$name" store script || return 1
+    ends_with 1 "cannot write FILE" "" "$ckpt" run --quiet --stats "$name" store script || return 1
+    same "the store behind $name" "$(sums store)" "$before" || return 1
+  done
+  same "verify" "$("$ckpt" verify store)" "ok checkpoint 1 images 1"
+}
+
+slots_by_another_name_are_no_files_of_counts() {
+  make_store store || return 1
+  ln store/img-000 hard || { echo "needs hard links"; return 77; }
+  local before
+  before=$(sums store)
+  ends_with 1 "cannot write FILE" "ckpt: hard: $slot_error" "$ckpt" run --stats hard store script || return 1
+  cd store || return 1
+  ends_with 1 "cannot write FILE" "ckpt: img-000: $slot_error" "$ckpt" run --stats img-000 . ../script || return 1
+  rm out err && cd .. || return 1
+  same "the store" "$(sums store)" "$before"
+}
+
+# Other files in the folder of a store, and images of another store's folder that isn't made, are what they were.
+files_beside_slots_may_have_counts() {
+  make_store store || return 1
+  local name
+  for name in store/counts store/img-064 store/img-5 store/img-0001 img-000; do
+    same "the status of $name" "$(ends "$ckpt" run --stats "$name" store script)" 0 || return 1
+    has "the counts in $name" "$(cat "$name")" '"of":"checkpoint"' || return 1
+  done
+  ends_with 1 "cannot write FILE" "ckpt: new/img-000: No such file or directory (os error 2)" \
+    "$ckpt" run --stats new/img-000 new script
+}
+
 counts_into_a_full_device() {
   has_full_device || return
   same "the status" "$(ends "$ckpt" run --stats /dev/full store "$here/../examples/first.ckpt")" 1 || return 1
@@ -128,4 +175,7 @@ try failed_calls_make_no_record
 try summary_is_a_table
 try counts_that_cannot_be_written
 try counts_of_a_refused_run_stay
+try slots_are_no_files_of_counts
+try slots_by_another_name_are_no_files_of_counts
+try files_beside_slots_may_have_counts
 try counts_into_a_full_device

@@ -3,6 +3,7 @@
 use crate::cause::{Causes, line_of, tell};
 use crate::command_line::{Work, asked_of};
 use crate::course::{FewAt, line_of_request};
+use crate::slots::has_slot_files;
 use clap::ArgMatches;
 use sd_image::Reason;
 use sd_readers::Reader;
@@ -10,9 +11,9 @@ use sd_restore::Fault;
 use sd_script::{Line, Script};
 use sd_show::reason_phrase;
 use std::alloc::Global;
+use std::fmt;
 use std::fs::File;
 use std::rt::Files;
-use std::{fmt, fs};
 
 /// A damaged slot, in words.
 #[derive(Clone, Copy)]
@@ -75,21 +76,13 @@ fn tell_damage(rt: &impl Eprint, causes: Causes, folder: &str, told: Option<Faul
     }
 }
 
-/// Whether a folder has a file of a slot.
-fn has_slot_file(rt: &(impl Files<File = File> + AllocGlobal), folder: &str, slot: usize) -> bool {
-    match format!(in rt.alloc(); "{folder}/img-{slot:03}") {
-        Ok(path) => fs::exists(rt, path.as_str()).unwrap_or(true),
-        Err(_) => true,
-    }
-}
-
 /// Tells that a folder has no file of a slot, if that is so: `ok empty` may be of another folder than is meant.
 fn tell_no_files(
     rt: &(impl Files<File = File> + Eprint + AllocGlobal),
     causes: Causes,
     folder: &str,
 ) {
-    if !(0..64).any(|slot| has_slot_file(rt, folder, slot)) {
+    if !has_slot_files(rt, rt.alloc(), folder) {
         tell(rt, causes, folder, &NO_FILES);
     }
 }

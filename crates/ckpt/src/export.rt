@@ -3,6 +3,7 @@
 use crate::cause::{Causes, tell, tell_device};
 use crate::folders::open_store;
 use crate::reading::tell_beside;
+use crate::slots::{is_slot_file, slot_error};
 use crate::verbose::{is_watched, logger_for, seen_by, unseen};
 use clap::ArgMatches;
 use sd_areas::SpaceId;
@@ -31,6 +32,8 @@ struct Export<'a, R> {
     rt: &'a R,
     alloc: Global,
     folder: &'a str,
+    /// The folder of the store, whose files aren't replaced.
+    store: &'a str,
     /// How long a file may be written.
     limit: FileLimit,
     /// The one space that is asked for.
@@ -71,13 +74,25 @@ impl<R: Files<File = File>> Export<'_, R> {
         }
     }
 
-    /// Refuses a file that is there, but where it may be replaced.
+    /// Refuses a file that is there, but where it may be replaced, and one of a slot of the store, to which a link in
+    /// its folder may lead.
     fn check_free(&self, space: SpaceId) -> io::Result<()> {
         let name = core_name(self.alloc, self.folder, space)?;
         if !self.replaces && fs::symlink_metadata(self.rt, &name).is_ok() {
             return Err(io::Error::new(io::ErrorKind::AlreadyExists, IS_THERE));
         }
-        Ok(())
+        self.check_no_slot(&name)?;
+        self.check_no_slot(&part_name(self.alloc, self.folder, space)?)
+    }
+
+    /// Refuses a file that is that of a slot.
+    fn check_no_slot(&self, name: &str) -> io::Result<()> {
+        match fs::symlink_metadata(self.rt, name) {
+            Ok(found) if is_slot_file(self.rt, self.alloc, self.store, &found)? => {
+                Err(slot_error())
+            }
+            _ => Ok(()),
+        }
     }
 
     /// Gives the files their names, and waits until these are on the device.
@@ -189,6 +204,7 @@ pub fn export_program<W: Write>(
         rt,
         alloc: rt.alloc(),
         folder,
+        store,
         limit: FileLimit::of_process(rt),
         wanted: words.get_one::<u64>("space"),
         lacks: false,

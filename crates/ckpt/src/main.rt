@@ -56,6 +56,7 @@ mod scripts;
 mod shell;
 mod show;
 mod shown;
+mod slots;
 mod stats;
 mod strict;
 mod verbose;

@@ -1,6 +1,7 @@
 //! `ckpt run --stats` and `--summary`: what each image, checkpoint and merge took.
 
 use crate::cause::{Causes, tell};
+use crate::slots::open_beside_slots;
 use crate::verbose::{Logger, Seen, log_end, log_job, log_record};
 use clap::ArgMatches;
 use sd_core::Core;
@@ -10,7 +11,7 @@ use sd_restore::Fault;
 use sd_run::Watch;
 use sd_stats::{Meter, Record, print_record, print_table};
 use std::cell::RefCell;
-use std::fs::{File, OpenOptions};
+use std::fs::File;
 use std::io;
 use std::io::Write;
 use std::time::Clock;
@@ -33,15 +34,12 @@ pub struct Counts {
     summary: bool,
 }
 
-/// Opens the file of counts. What stands in it stays until the run begins.
-fn open_file(rt: &HostRuntime, name: &str) -> io::Result<File> {
-    OpenOptions::new().write(true).create(true).open(rt, name)
-}
-
-/// Where the lines go. A file that can't be made is told.
+/// Where the lines go. A file that can't be made is told, and so is one of a slot of the store. What stands in it stays
+/// until the run begins.
 fn lines_to<W: Write>(
     rt: &HostRuntime,
     causes: Causes,
+    folder: &str,
     name: Option<&str>,
     out: &mut Output<W>,
 ) -> Result<Lines, Stop> {
@@ -51,7 +49,7 @@ fn lines_to<W: Write>(
     if name == STANDARD_ERROR {
         return Ok(Lines::StandardError);
     }
-    match open_file(rt, name) {
+    match open_beside_slots(rt, folder, name) {
         Ok(file) => Ok(Lines::File(file)),
         Err(error) => {
             tell(rt, causes, name, &error);
@@ -78,7 +76,8 @@ pub fn counts_asked<W: Write>(
     seen: Seen<'_>,
     out: &mut Output<W>,
 ) -> Result<Option<Counts>, Stop> {
-    let lines = lines_to(rt, causes, words.get_str("stats"), out)?;
+    let folder = words.get_str("DIR").unwrap_or("");
+    let lines = lines_to(rt, causes, folder, words.get_str("stats"), out)?;
     let summary = words.get_flag("summary");
     if matches!(lines, Lines::Nowhere) && !summary && !seen.is_asked() {
         return Ok(None);
