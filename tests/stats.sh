@@ -160,6 +160,30 @@ files_beside_slots_may_have_counts() {
     "$ckpt" run --stats new/img-000 new script
 }
 
+# Where a growth is refused, each record is there, or the standard error tells how many aren't, and the status is 1.
+records_that_find_no_room_are_told() {
+  [ -z "${CHECKED:-}" ] || { echo "a build with checks has an allocator of its own"; return 77; }
+  growths_can_be_refused || return
+  printf 'mmap 1 0x10000 4096 rw\nstore 1 0x10000 61\ncheckpoint 0\n' > script
+  local number=1 status lines told left_out=0
+  while :; do
+    rm -rf store counts
+    REFUSED=$number LD_PRELOAD=./refuse.so "$ckpt" run --stats counts store script > out 2> err
+    status=$?
+    grep -q '^growth refused$' err || break
+    if [ "$(tail -n 1 out)" = "acked 1" ] && [ "$status" -le 1 ]; then
+      lines=$(wc -l < counts)
+      told=$(sed -n 's/^ckpt: the counts: records left out for want of memory: //p' err)
+      [ -z "$told" ] || left_out=$((left_out + 1))
+      [ "$((lines + ${told:-0}))" -eq 2 ] || grep -q '^ckpt: the counts: ' err \
+        || { echo "growth $number: $lines lines"; cat err; return 1; }
+      same "the status at growth $number" "$status" "$([ "$lines" -eq 2 ] && echo 0 || echo 1)" || return 1
+    fi
+    number=$((number + 1))
+  done
+  [ "$left_out" -gt 0 ] || { echo "no record was left out in $number growths"; return 1; }
+}
+
 counts_into_a_full_device() {
   has_full_device || return
   same "the status" "$(ends "$ckpt" run --stats /dev/full store "$here/../examples/first.ckpt")" 1 || return 1
@@ -178,4 +202,5 @@ try counts_of_a_refused_run_stay
 try slots_are_no_files_of_counts
 try slots_by_another_name_are_no_files_of_counts
 try files_beside_slots_may_have_counts
+try records_that_find_no_room_are_told
 try counts_into_a_full_device

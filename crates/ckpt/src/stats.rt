@@ -2,7 +2,7 @@
 
 use crate::cause::{Causes, tell};
 use crate::slots::open_beside_slots;
-use crate::verbose::{Logger, Seen, log_end, log_job, log_record};
+use crate::verbose::{Logger, Seen, log_end, log_job, log_left_out, log_record};
 use clap::ArgMatches;
 use sd_core::Core;
 use sd_exit::{Output, Stop};
@@ -12,9 +12,9 @@ use sd_run::Watch;
 use sd_stats::{Meter, Record, print_record, print_table};
 use std::cell::RefCell;
 use std::fs::File;
-use std::io;
 use std::io::Write;
 use std::time::Clock;
+use std::{fmt, io};
 
 /// The name of the standard error, as a file of counts.
 const STANDARD_ERROR: &str = "-";
@@ -60,6 +60,11 @@ fn lines_to<W: Write>(
 }
 
 impl Counts {
+    /// Whether the words ask for the records, as lines or as a table.
+    fn are_asked(&self) -> bool {
+        self.summary || !matches!(self.lines, Lines::Nowhere)
+    }
+
     /// Empties the file of counts, once the store is open. What can't be emptied, as a pipe, is written to as it is.
     pub fn begin(&self) {
         if let Lines::File(file) = &self.lines {
@@ -191,22 +196,48 @@ impl<'a, S: Watch + Drop> Counting<'a, S> {
         }
     }
 
-    /// Prints what is left behind a run, and the table if it is asked for.
-    ///
-    /// # Errors
-    ///
-    /// The first line that wasn't written.
-    pub fn finish(mut self) -> io::Result<()> {
-        self.drain(true);
+    /// Prints the table, if it is asked for.
+    fn print_summary(&self) -> io::Result<()> {
         if self.counts.summary {
             let mut table = Vec::new(self.rt.alloc());
             print_table(&self.rows, &mut table)?;
             self.rt.stderr().write_all(&table)?;
         }
-        match self.fault {
-            Some(error) => Err(error),
-            None => Ok(()),
+        Ok(())
+    }
+
+    /// Prints what is left behind a run, and the table if it is asked for, and returns what is missing there.
+    pub fn finish(mut self) -> Untold {
+        self.drain(true);
+        if let Err(error) = self.print_summary() {
+            self.fault.get_or_insert(error);
         }
+        let left_out = self.meter.try_borrow().map_or(0, |meter| meter.left_out());
+        log_left_out(self.log, left_out);
+        Untold {
+            fault: self.fault,
+            left_out: if self.counts.are_asked() { left_out } else { 0 },
+        }
+    }
+}
+
+/// What is missing in the counts of a run.
+#[derive(Clone, Copy)]
+pub struct Untold {
+    /// Why the first line that wasn't written wasn't.
+    pub fault: Option<io::Error>,
+    /// How many records found no room.
+    pub left_out: u64,
+}
+
+/// So many records found no room.
+#[derive(Clone, Copy)]
+pub struct LeftOut(pub u64);
+
+impl fmt::Display for LeftOut {
+    fn fmt<W: fmt::Write>(&self, f: &mut fmt::Formatter<W>) -> fmt::Result {
+        let LeftOut(count) = self;
+        write!(f, "records left out for want of memory: {count}")
     }
 }
 
