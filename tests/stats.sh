@@ -86,8 +86,12 @@ checkpoint 1: 1 rounds, 17 device calls, S s; frozen 5 device calls, S s
 merge 3: 1 images read, 2 closed, S s"
 }
 
+# What is told of a file whose folder is missing.
+no_folder="the folder in which it is to stand has to be there"
+
 counts_that_cannot_be_written() {
-  local script=$here/../examples/first.ckpt cause="ckpt: missing/counts: No such file or directory (os error 2)"
+  local script=$here/../examples/first.ckpt
+  local cause="ckpt: missing/counts: No such file or directory (os error 2); $no_folder"
   ends_with 1 "cannot write FILE" "$cause" "$ckpt" run --stats missing/counts store "$script" || return 1
   ends_with 1 "cannot write FILE" "" "$ckpt" run --quiet --stats missing/counts store "$script" || return 1
   [ ! -e store ] || { echo "a store was made"; return 1; }
@@ -102,7 +106,7 @@ counts_of_a_refused_run_stay() {
   "$ckpt" shell store < pipe > told 7>&- &
   local first=$! status=0
   wait_for_answer told || status=1
-  ends_with 1 "cannot open DIR" "ckpt: store: another run has this store open" \
+  ends_with 1 "cannot open DIR" "ckpt: store: another run has this store open; try again when it has ended" \
     "$ckpt" run --stats counts store script || status=1
   cmp counts older || status=1
   echo quit >&7
@@ -115,7 +119,7 @@ counts_of_a_refused_run_stay() {
 
 # A slot's file of the store is no file of counts, by whatever name: it is refused, nothing is made, and the images
 # stay. An image that a run acknowledges would else be lost with it.
-slot_error="a slot's file of the store, which isn't written over: name another file"
+slot_error="a slot's file of the store, which isn't written over: name another"
 
 slots_are_no_files_of_counts() {
   make_store store || return 1
@@ -156,7 +160,7 @@ files_beside_slots_may_have_counts() {
     same "the status of $name" "$(ends "$ckpt" run --stats "$name" store script)" 0 || return 1
     has "the counts in $name" "$(cat "$name")" '"of":"checkpoint"' || return 1
   done
-  ends_with 1 "cannot write FILE" "ckpt: new/img-000: No such file or directory (os error 2)" \
+  ends_with 1 "cannot write FILE" "ckpt: new/img-000: No such file or directory (os error 2); $no_folder" \
     "$ckpt" run --stats new/img-000 new script
 }
 

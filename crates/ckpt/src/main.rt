@@ -12,8 +12,8 @@ use cause::{Causes, causes_asked, tell, tell_device};
 use clap::ArgMatches;
 use command_line::{Work, asked_of};
 use counted::{Job, MergeJob, RunAsked, ScriptJob, ShellJob, run_job};
-use course::{Course, FewAt, Noted};
-use ends::{FewSlots, tell_end, tell_few_slots};
+use course::{Course, Noted};
+use ends::{tell_end, tell_merge};
 use folders::make_store;
 use mutating::mutate_program;
 use progress::ProgressLine;
@@ -208,15 +208,8 @@ fn merge_program<R: Clock + Wait, W: Write>(
     out: &mut Output<W>,
 ) -> Result<u8, Stop> {
     let status = do_seen(rt, threads, words, course, MergeJob { course }, out)?;
-    if let Some(FewAt { free, .. }) = course.few() {
-        let folder = words.get_str("DIR").unwrap_or("");
-        tell_few_slots(
-            rt,
-            causes_asked(words),
-            folder,
-            FewSlots { free, wanted: 1 },
-        );
-    }
+    let folder = words.get_str("DIR").unwrap_or("");
+    tell_merge(rt, causes_asked(words), folder, course);
     Ok(status)
 }
 

@@ -1,6 +1,6 @@
 //! `ckpt run --stats` and `--summary`: what each image, checkpoint and merge took.
 
-use crate::cause::{Causes, tell};
+use crate::cause::{Advised, Causes, tell};
 use crate::slots::open_beside_slots;
 use crate::verbose::{Logger, Seen, log_end, log_job, log_left_out, log_record};
 use clap::ArgMatches;
@@ -18,6 +18,9 @@ use std::{fmt, io};
 
 /// The name of the standard error, as a file of counts.
 const STANDARD_ERROR: &str = "-";
+
+/// What is told of a file of counts that can't be made since its folder is missing.
+const IS_IN_NO_FOLDER: &str = "; the folder in which it is to stand has to be there";
 
 /// Where a line for each record goes.
 #[derive(Drop)]
@@ -52,7 +55,12 @@ fn lines_to<W: Write>(
     match open_beside_slots(rt, folder, name) {
         Ok(file) => Ok(Lines::File(file)),
         Err(error) => {
-            tell(rt, causes, name, &error);
+            let advice = match error.kind() {
+                io::ErrorKind::NotFound => IS_IN_NO_FOLDER,
+                _ => "",
+            };
+            let cause = &error;
+            tell(rt, causes, name, &Advised { cause, advice });
             out.write_all(b"cannot write FILE\n")?;
             Err(Stop::Refused)
         }

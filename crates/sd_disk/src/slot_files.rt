@@ -13,7 +13,7 @@ use std::rt::Files;
 use std::{fs, io};
 
 /// What is told of a store's folder that another run has locked.
-const STORE_IS_OPEN: &str = "another run has this store open";
+const STORE_IS_OPEN: &str = "another run has this store open; try again when it has ended";
 
 pub(crate) fn of_folder(error: io::Error) -> OpenError {
     OpenError::Folder(FileFault::of_folder(error))
