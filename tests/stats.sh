@@ -167,6 +167,7 @@ files_beside_slots_may_have_counts() {
 # Where a growth is refused, each record is there, or the standard error tells how many aren't, and the status is 1.
 records_that_find_no_room_are_told() {
   [ -z "${CHECKED:-}" ] || { echo "a build with checks has an allocator of its own"; return 77; }
+  in_memory || return 1
   growths_can_be_refused || return
   printf 'mmap 1 0x10000 4096 rw\nstore 1 0x10000 61\ncheckpoint 0\n' > script
   local number=1 status lines told left_out=0
