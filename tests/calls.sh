@@ -49,15 +49,15 @@ reader_fails_at() {  # reader_fails_at NUMBER LINE WORD..
   [ "$(tail -n 1 out)" != "$line" ] || told=$((told + 1))
 }
 
-# Every 20th or so of a reader's calls fails in turn, from FIRST on, and LINE comes of some. The last call of verify is
-# no call of the device: it looks whether the folder has a file at all.
+# Every 20th or so of a reader's calls fails in turn, from FIRST on, and LINE comes of some. The last call of list and
+# verify is no call of the device: it looks whether the folder has a file at all.
 reader_tells_of_failures() {  # reader_tells_of_failures FIRST LINE WORD..
   local first=$1 line=$2 calls number told=0
   shift 2
   COUNTED=count LD_PRELOAD=./fail.so "$ckpt" "$@" > whole || return 1
   were_counted "$first" || return 1
   calls=$(($(cat count)))
-  [ "$1" != verify ] || calls=$((calls - 1))
+  case $1 in list | verify) calls=$((calls - 1)) ;; esac
   for number in $(seq "$first" $((calls / 20 + 1)) "$calls") $((calls - 1)) "$calls"; do
     reader_fails_at "$number" "$line" "$@" || return 1
   done

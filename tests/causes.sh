@@ -95,12 +95,18 @@ acked 64" "" "$ckpt" shell --quiet store < script
 # Other refusals are told without slots.
 other_refusals_have_no_slots() {
   mkdir store
-  ends_with 1 "refused 14 idle" "" "$ckpt" merge store
+  local told="ckpt: store: it shows no checkpoint, so there is nothing to merge"
+  ends_with 1 "refused 14 idle" "$told" "$ckpt" merge store || return 1
+  ends_with 1 "refused 14 idle" "" "$ckpt" merge --quiet store || return 1
+  echo cancel > script
+  ends_with 0 "reopened none
+refused 14 idle" "" "$ckpt" run store script
 }
 
 # Folders that no program that reads opens, and why.
 unopened_folders="\
-missing|missing: No such file or directory (os error 2)
+missing|missing: No such file or directory (os error 2); is it the folder that is meant? ckpt run makes one
+file|file: not a directory; DIR is the folder of a store, with the files img-000 to img-063
 empty|empty: img-005: not a regular file
 store|store: img-005: not a regular file"
 
@@ -108,6 +114,7 @@ store|store: img-005: not a regular file"
 folders_that_are_not_opened_are_told() {
   local folder cause words
   mkdir -p empty/img-005
+  : > file
   make_store store || return 1
   rm -f store/img-005
   mkdir store/img-005
@@ -120,13 +127,47 @@ folders_that_are_not_opened_are_told() {
   done <<< "$unopened_folders"
 }
 
+# A folder that no run has made may be another one than is meant; one without a checkpoint has nothing to be read.
 folders_without_files_are_told() {
+  local told="ckpt: store: it has none of the files img-000 to img-063; is it the folder that is meant?"
   mkdir store
-  ends_with 0 "ok empty" "ckpt: store: it has none of the files img-000 to img-063; is it the folder that is meant?" \
-    "$ckpt" verify store || return 1
+  ends_with 0 "ok empty" "$told" "$ckpt" verify store || return 1
   ends_with 0 "ok empty" "" "$ckpt" verify -q store || return 1
+  ends_with 0 "tip none" "$told" "$ckpt" list store || return 1
+  ends_with 3 "empty chain" "$told" "$ckpt" restore store || return 1
+  ends_with 3 "empty chain" "$told" "$ckpt" export store cores || return 1
   : > store/img-063
-  ends_with 0 "ok empty" "" "$ckpt" verify store
+  ends_with 0 "ok empty" "" "$ckpt" verify store || return 1
+  ends_with 0 "tip none" "" "$ckpt" list store || return 1
+  told="ckpt: store: it shows no checkpoint; run, shell, mutate and import make one"
+  ends_with 3 "empty chain" "$told" "$ckpt" restore store || return 1
+  ends_with 3 "empty chain" "$told" "$ckpt" export store cores || return 1
+  ends_with 3 "empty chain" "" "$ckpt" restore -q store
+}
+
+# Words that stand where others are meant, with what is answered and what is told.
+mistakes="\
+run file script|cannot open DIR|file: not a directory; DIR is the folder of a store, with the files img-000 to img-063
+shell file/x|cannot open DIR|file/x: not a directory; DIR is the folder of a store, with the files img-000 to img-063
+import file core|cannot open DIR|file: not a directory; DIR is the folder of a store, with the files img-000 to img-063
+run script store|cannot read SCRIPT|store: Is a directory (os error 21); SCRIPT is a file, and stands behind DIR
+run store missing|cannot read SCRIPT|missing: No such file or directory (os error 2)
+export store file|cannot write OUT|file: not a directory; OUT is the folder of the core files
+export store cores|cannot write OUT|cores: space-1.core is there already; with --force it is replaced
+import store file|not a core|file: the file is shorter than an ELF header
+import store missing|cannot read CORE|missing: No such file or directory (os error 2)
+mutate store 2|store not empty|store: it has an image; name a folder that is missing, or has none"
+
+mistakes_are_told() {
+  local words output cause
+  make_store store || return 1
+  : > file
+  "$ckpt" export store cores && cp cores/space-1.core core || return 1
+  while IFS='|' read -r words output cause; do
+    ends_with 1 "$output" "ckpt: $cause" "$ckpt" $words < /dev/null || return 1
+    ends_with 1 "$output" "" "$ckpt" $words --quiet < /dev/null || return 1
+  done <<< "$mistakes"
+  ends_with 1 "cannot open DIR" "ckpt: an empty name: No such file or directory (os error 2)" "$ckpt" run "" script
 }
 
 # Lines that don't fit, and what is told of them. NUMBER and RWX stand for what has to be there.
@@ -164,4 +205,5 @@ try few_slots_are_told_at_once
 try other_refusals_have_no_slots
 try folders_that_are_not_opened_are_told
 try folders_without_files_are_told
+try mistakes_are_told
 try unfit_lines_are_explained

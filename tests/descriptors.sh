@@ -20,5 +20,27 @@ closed_output_harms_no_run() {
   same "verify" "$("$ckpt" verify store)" "ok checkpoint 2 images 2"
 }
 
+# Words that don't fit end with status 2, also where that can't be told; a help that isn't printed ends with 1.
+wrong_words_keep_their_status() {
+  has_full_device || return
+  local words
+  for words in "" bogus run "run --bogus" "run a b c" "show store 99" "mutate store 9"; do
+    "$ckpt" $words 2> /dev/full
+    same "the status of '$words' into a full device" $? 2 || return 1
+    "$ckpt" $words 2>&-
+    same "the status of '$words' with a closed standard error" $? 2 || return 1
+    "$ckpt" $words > /dev/full 2>&1
+    same "the status of '$words' with both full" $? 2 || return 1
+    "$ckpt" $words >&- 2>&- <&-
+    same "the status of '$words' with none open" $? 2 || return 1
+  done
+  for words in --help --version "run --help"; do
+    same "the status of '$words' with a full output" "$("$ckpt" $words 2>&1 > /dev/full; echo $?)" \
+      "ckpt: standard output: No space left on device (os error 28)
+1" || return 1
+  done
+}
+
 try closed_output_harms_no_store
 try closed_output_harms_no_run
+try wrong_words_keep_their_status

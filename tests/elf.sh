@@ -98,7 +98,7 @@ export_replaces_nothing_without_force() {
   make_spaces || return 1
   mkdir cores
   echo mine > cores/space-2.core
-  ends_with 1 "cannot write OUT" "ckpt: cores: the file is there already; with --force it is replaced" \
+  ends_with 1 "cannot write OUT" "ckpt: cores: space-2.core is there already; with --force it is replaced" \
     "$ckpt" export store cores || return 1
   same "the folder" "$(ls -A cores)" space-2.core || return 1
   same "the file" "$(cat cores/space-2.core)" mine || return 1
@@ -108,7 +108,8 @@ export_replaces_nothing_without_force() {
 
 export_ends_as_restore_does() {
   mkdir store
-  ends_with 3 "empty chain" "" "$ckpt" export store cores || return 1
+  same "the status of an empty folder" "$(ends "$ckpt" export store cores)" 3 || return 1
+  same "its line" "$(cat out)" "empty chain" || return 1
   make_spaces || return 1
   ends_with 1 "refused 3 no-such-space" "" "$ckpt" export store cores --space 9 || return 1
   put_byte store/img-000 100 1
@@ -191,8 +192,8 @@ exports_into_one_folder_exclude_each_other() {
   command -v flock > found || { echo "needs flock"; return 77; }
   make_store store || return 1
   mkdir cores
-  (flock 9; ends_with 1 "cannot write OUT" "ckpt: cores: another export writes into this folder" \
-    "$ckpt" export store cores) 9< cores || return 1
+  local told="ckpt: cores: another export writes into this folder; try again when it has ended"
+  (flock 9; ends_with 1 "cannot write OUT" "$told" "$ckpt" export store cores) 9< cores || return 1
   same "the files" "$(ls -A cores)" "" || return 1
   ends_with 0 "" "" "$ckpt" export store cores
 }
@@ -428,6 +429,26 @@ try segments_that_no_space_has_are_told
 try overlapping_segments_and_too_many_areas_are_told
 try other_files_are_no_core
 try many_areas_are_taken_at_once
+
+# A core file to which a slot of the store leads isn't replaced, nor is one that is still being written.
+slots_are_not_replaced_by_an_export() {
+  make_store store || return 1
+  mkdir cores
+  local name before
+  for name in space-1.core .space-1.core.part; do
+    mv store/img-000 "cores/$name"
+    ln -s "../cores/$name" store/img-000
+    before=$(sums store)
+    ends_with 1 "cannot write OUT" "ckpt: cores: $slot_error" "$ckpt" export --force store cores || return 1
+    same "the store" "$(sums store)" "$before" || return 1
+    rm store/img-000
+    mv "cores/$name" store/img-000
+  done
+  ends_with 0 "" "" "$ckpt" export --force store cores || return 1
+  ends_with 0 "" "" "$ckpt" export --force store cores
+}
+
+try slots_are_not_replaced_by_an_export
 
 # The example prints this of a real process.
 real_process_goes_in_and_out() {

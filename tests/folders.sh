@@ -108,6 +108,36 @@ a_link_that_leads_nowhere_is_told() {
   has "its cause" "$(cat err)" "store: img-001: a symbolic link to a file that is missing"
 }
 
+# A named pipe is no folder, no file of a slot and no core: nobody waits for its other end.
+pipes_are_not_waited_for() {
+  make_store store || return 1
+  mkfifo pipe 2> /dev/null || { echo "needs named pipes"; return 77; }
+  ln -s pipe link
+  cp -a store slots
+  rm slots/img-007
+  mkfifo slots/img-007
+  local program folder
+  for program in "run % script" "shell %" "merge %" "mutate % 2" "restore %" "list %" "verify %" "restore -v %" \
+    "restore --json %" "list --json %" "verify --json %" "show %" "export % cores"; do
+    for folder in pipe link slots; do
+      same "the status of ${program/\%/$folder}" "$(ends timeout 20 "$ckpt" ${program/\%/$folder} < /dev/null)" 1 \
+        || return 1
+      same "the output of ${program/\%/$folder}" "$(cat out)" "cannot open DIR" || return 1
+    done
+  done
+  ends_with 1 "cannot read CORE" "ckpt: pipe: a pipe, of which no place can be read twice: write the core into a file" \
+    timeout 20 "$ckpt" import store pipe
+}
+
+# A script may come through one.
+scripts_may_come_through_a_pipe() {
+  make_store store || return 1
+  mkfifo pipe 2> /dev/null || { echo "needs named pipes"; return 77; }
+  cat script > pipe &
+  same "the last answer" "$(timeout 20 "$ckpt" run store pipe | tail -n 1)" "acked 2" || return 1
+  same "a check" "$("$ckpt" run --check <(cat script))" "ok 3 requests"
+}
+
 try new_folder_stands_in_its_parent
 try folders_are_synced_into_their_parents
 try folders_of_an_export_are_synced_into_their_parents
@@ -115,3 +145,5 @@ try files_are_synced_before_the_store_is_opened
 try calls_on_a_slot_have_their_order
 try slots_that_share_a_file_are_not_written
 try a_link_that_leads_nowhere_is_told
+try pipes_are_not_waited_for
+try scripts_may_come_through_a_pipe

@@ -63,14 +63,14 @@ faults_are_documents() {
 }
 
 # A file call that fails is told by a document, or without --json behind the lines; or the folder isn't opened. The
-# first four calls hold descriptors, and look whether a run is writing the store.
+# first five calls hold descriptors, and look whether a run is writing the store.
 a_failing_device_is_told() {
   calls_can_fail || return
   make_store store || return 1
   local program
   for program in restore list verify; do
-    reader_tells_of_failures 5 '{"fault":"device"}' "$program" store --json || return 1
-    reader_tells_of_failures 5 device "$program" store || return 1
+    reader_tells_of_failures 6 '{"fault":"device"}' "$program" store --json || return 1
+    reader_tells_of_failures 6 device "$program" store || return 1
   done
 }
 

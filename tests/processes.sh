@@ -7,10 +7,10 @@ open_pipe() {
 
 # Each program that may write a store is refused, while a run has it open.
 writers_are_refused() {
-  local words
+  local words told="ckpt: store: another run has this store open; try again when it has ended"
   one_area_core 7 > core
   for words in "run store script" "shell store" "merge store" "mutate store 2" "import store core"; do
-    ends_with 1 "cannot open DIR" "ckpt: store: another run has this store open" "$ckpt" $words < /dev/null || return 1
+    ends_with 1 "cannot open DIR" "$told" "$ckpt" $words < /dev/null || return 1
   done
 }
 

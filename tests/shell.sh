@@ -97,6 +97,24 @@ wait_for_answer() {  # wait_for_answer FILE
   return 1
 }
 
+# What a client's shell told on the standard error, but for the slots that weren't free: the client merges then.
+faults_of_client() {  # faults_of_client FILE
+  grep -v '^ckpt: store: no-slot: free slots: ' "$1"
+}
+
+# A client goes on where no slot is free.
+client_goes_on_where_no_slot_is_free() {
+  needs_python || return
+  local client=$here/../examples/client.py
+  same "the first checkpoint" "$(python3 "$client" "$ckpt" store put colour green)" "acked 1" || return 1
+  yes 'checkpoint 0' | head -n 62 > script
+  same "the last of the others" "$("$ckpt" run store script | tail -n 1)" "acked 63" || return 1
+  same "the next checkpoint" "$(python3 "$client" "$ckpt" store put colour blue 2> err)" "acked 64" || return 1
+  same "what was told" "$(cat err)" "ckpt: store: no-slot: free slots: 2, wanted: 4; $few_slots" || return 1
+  same "the faults" "$(faults_of_client err)" "" || return 1
+  same "the value" "$(python3 "$client" "$ckpt" store get colour)" blue
+}
+
 # A client that is killed with its shell at any moment loses nothing that was acknowledged.
 client_that_is_killed_loses_nothing() {
   needs_python || return
@@ -109,7 +127,7 @@ client_that_is_killed_loses_nothing() {
     sleep "0.$((RANDOM % 20 + 10))"
     kill -9 -- -$! 2> killed
     wait $! 2> ended
-    [ -s err ] && { cat err; return 1; }
+    faults_of_client err && return 1
     acked=$(tail -n 1 told | cut -d' ' -f3)
     there=$(python3 "$here/../examples/client.py" "$ckpt" store get last) || return 1
     [ "$there" -ge "$acked" ] || { echo "$acked was acknowledged, and $there is there"; return 1; }
@@ -126,4 +144,5 @@ try shell_answers_at_once
 try shell_asks_on_a_terminal
 try shell_ends_its_last_prompt
 try shell_asks_nothing_of_a_file
+try client_goes_on_where_no_slot_is_free
 try client_that_is_killed_loses_nothing

@@ -86,8 +86,12 @@ checkpoint 1: 1 rounds, 17 device calls, S s; frozen 5 device calls, S s
 merge 3: 1 images read, 2 closed, S s"
 }
 
+# What is told of a file whose folder is missing.
+no_folder="the folder in which it is to stand has to be there"
+
 counts_that_cannot_be_written() {
-  local script=$here/../examples/first.ckpt cause="ckpt: missing/counts: No such file or directory (os error 2)"
+  local script=$here/../examples/first.ckpt
+  local cause="ckpt: missing/counts: No such file or directory (os error 2); $no_folder"
   ends_with 1 "cannot write FILE" "$cause" "$ckpt" run --stats missing/counts store "$script" || return 1
   ends_with 1 "cannot write FILE" "" "$ckpt" run --quiet --stats missing/counts store "$script" || return 1
   [ ! -e store ] || { echo "a store was made"; return 1; }
@@ -102,7 +106,7 @@ counts_of_a_refused_run_stay() {
   "$ckpt" shell store < pipe > told 7>&- &
   local first=$! status=0
   wait_for_answer told || status=1
-  ends_with 1 "cannot open DIR" "ckpt: store: another run has this store open" \
+  ends_with 1 "cannot open DIR" "ckpt: store: another run has this store open; try again when it has ended" \
     "$ckpt" run --stats counts store script || status=1
   cmp counts older || status=1
   echo quit >&7
@@ -111,6 +115,78 @@ counts_of_a_refused_run_stay() {
   "$ckpt" run --stats counts store script > out || return 1
   same "the lines of the next run" "$(grep -oE '"of":"[a-z]+"|older' counts)" '"of":"image"
 "of":"checkpoint"'
+}
+
+# A slot's file of the store is no file of counts, by whatever name: it is refused, nothing is made, and the images
+# stay. An image that a run acknowledges would else be lost with it.
+slot_error="a slot's file of the store, which isn't written over: name another"
+
+slots_are_no_files_of_counts() {
+  make_store store || return 1
+  rm store/img-005
+  ln -s store/img-000 link
+  ln -s "$PWD/store/img-005" leads-to-a-missing-one
+  mkdir deep
+  ln -s ../link deep/link
+  ln -s store folder
+  local before name
+  before=$(sums store)
+  for name in store/img-000 ./store/../store/img-003 "$PWD/store/img-063" folder/img-000 link deep/link \
+    store/img-005 folder/img-005 leads-to-a-missing-one; do
+    ends_with 1 "cannot write FILE" "ckpt: $name: $slot_error" "$ckpt" run --stats "$name" store script || return 1
+    ends_with 1 "cannot write FILE" "" "$ckpt" run --quiet --stats "$name" store script || return 1
+    same "the store behind $name" "$(sums store)" "$before" || return 1
+  done
+  same "verify" "$("$ckpt" verify store)" "ok checkpoint 1 images 1"
+}
+
+slots_by_another_name_are_no_files_of_counts() {
+  make_store store || return 1
+  ln store/img-000 hard || { echo "needs hard links"; return 77; }
+  local before
+  before=$(sums store)
+  ends_with 1 "cannot write FILE" "ckpt: hard: $slot_error" "$ckpt" run --stats hard store script || return 1
+  cd store || return 1
+  ends_with 1 "cannot write FILE" "ckpt: img-000: $slot_error" "$ckpt" run --stats img-000 . ../script || return 1
+  rm out err && cd .. || return 1
+  same "the store" "$(sums store)" "$before"
+}
+
+# Other files in the folder of a store, and images of another store's folder that isn't made, are what they were.
+files_beside_slots_may_have_counts() {
+  make_store store || return 1
+  local name
+  for name in store/counts store/img-064 store/img-5 store/img-0001 img-000; do
+    same "the status of $name" "$(ends "$ckpt" run --stats "$name" store script)" 0 || return 1
+    has "the counts in $name" "$(cat "$name")" '"of":"checkpoint"' || return 1
+  done
+  ends_with 1 "cannot write FILE" "ckpt: new/img-000: No such file or directory (os error 2); $no_folder" \
+    "$ckpt" run --stats new/img-000 new script
+}
+
+# Where a growth is refused, each record is there, or the standard error tells how many aren't, and the status is 1.
+records_that_find_no_room_are_told() {
+  [ -z "${CHECKED:-}" ] || { echo "a build with checks has an allocator of its own"; return 77; }
+  in_memory || return 1
+  growths_can_be_refused || return
+  printf 'mmap 1 0x10000 4096 rw\nstore 1 0x10000 61\ncheckpoint 0\n' > script
+  local number=1 status lines told left_out=0
+  while :; do
+    rm -rf store counts
+    REFUSED=$number LD_PRELOAD=./refuse.so "$ckpt" run --stats counts store script > out 2> err
+    status=$?
+    grep -q '^growth refused$' err || break
+    if [ "$(tail -n 1 out)" = "acked 1" ] && [ "$status" -le 1 ]; then
+      lines=$(wc -l < counts)
+      told=$(sed -n 's/^ckpt: the counts: records left out for want of memory: //p' err)
+      [ -z "$told" ] || left_out=$((left_out + 1))
+      [ "$((lines + ${told:-0}))" -eq 2 ] || grep -q '^ckpt: the counts: ' err \
+        || { echo "growth $number: $lines lines"; cat err; return 1; }
+      same "the status at growth $number" "$status" "$([ "$lines" -eq 2 ] && echo 0 || echo 1)" || return 1
+    fi
+    number=$((number + 1))
+  done
+  [ "$left_out" -gt 0 ] || { echo "no record was left out in $number growths"; return 1; }
 }
 
 counts_into_a_full_device() {
@@ -128,4 +204,8 @@ try failed_calls_make_no_record
 try summary_is_a_table
 try counts_that_cannot_be_written
 try counts_of_a_refused_run_stay
+try slots_are_no_files_of_counts
+try slots_by_another_name_are_no_files_of_counts
+try files_beside_slots_may_have_counts
+try records_that_find_no_room_are_told
 try counts_into_a_full_device

@@ -7,7 +7,7 @@ use clap::ArgMatches;
 use sd_disk::DirDisk;
 use sd_script::{blame_line, print_answer};
 use std::fmt::Display;
-use std::str;
+use std::{fmt, str};
 
 /// Whether causes are told.
 #[derive(Clone, Copy, Debug, PartialEq, Eq)]
@@ -25,12 +25,30 @@ pub fn causes_asked(words: &ArgMatches<'_>) -> Causes {
     }
 }
 
+/// A cause, and what may help.
+#[derive(Clone, Copy)]
+pub struct Advised<'a, C> {
+    pub cause: &'a C,
+    /// It begins with what divides it from the cause, or is empty.
+    pub advice: &'static str,
+}
+
+impl<C: Display> Display for Advised<'_, C> {
+    fn fmt<W: fmt::Write>(&self, f: &mut fmt::Formatter<W>) -> fmt::Result {
+        write!(f, "{}{}", self.cause, self.advice)
+    }
+}
+
 /// Tells the cause of a fault, behind what it was met at.
 pub fn tell<C: Display>(rt: &impl Eprint, causes: Causes, place: &str, cause: &C) {
     if causes == Causes::Told {
+        let place = if place.is_empty() { NO_NAME } else { place };
         let _ = eprintln!(rt; "ckpt: {place}: {cause}");
     }
 }
+
+/// What is told of an empty name.
+const NO_NAME: &str = "an empty name";
 
 /// Tells what the system answered to the last call that failed, if one did.
 pub fn tell_device(rt: &impl Eprint, causes: Causes, folder: &str, disk: &DirDisk) {

@@ -4,7 +4,7 @@ use crate::cause::{Causes, tell, tell_failure};
 use crate::course::Course;
 use crate::ends::tell_few_at;
 use crate::shell::{Asked, run_shell};
-use crate::stats::{Counting, Counts, meter_for};
+use crate::stats::{Counting, Counts, LeftOut, Untold, meter_for};
 use crate::strict::run_strictly;
 use crate::verbose::{Seen, unseen};
 use crate::{FAILED, restore_over, run_over};
@@ -14,7 +14,6 @@ use sd_run::{Watch, merge_to};
 use sd_script::Script;
 use sd_stats::{Gated, Metered, Metering};
 use std::alloc::Global;
-use std::io;
 use std::io::{Input, Write};
 
 /// What a program does over a store, with a watch over its jobs.
@@ -178,9 +177,9 @@ fn run_counted<J: Job + Drop, W: Write, S: Watch + Drop>(
     let mut counting = Counting::new(rt, seen.log, &meter, counts, watch);
     let metered = Metered::new(Metering::new(rt, &meter), seen.disk("opening", disk));
     let (metered, status) = job.run(rt, metered, out, &mut counting);
-    let counted = counting.finish();
+    let untold = counting.finish();
     let (_, disk) = metered.into_parts();
-    (unseen(disk), told_counts(rt, causes, status, counted))
+    (unseen(disk), told_counts(rt, causes, status, untold))
 }
 
 /// Does a job over a store, and returns the store with the exit status. Where counts are asked for, what its images,
@@ -202,16 +201,21 @@ pub fn run_job<J: Job + Drop, W: Write, S: Watch + Drop>(
     }
 }
 
-/// The exit status of a run whose counts were printed, or not all of them.
-fn told_counts(rt: &HostRuntime, causes: Causes, status: u8, counted: io::Result<()>) -> u8 {
-    match counted {
-        Ok(()) => status,
-        Err(error) => {
-            tell(rt, causes, COUNTS, &error);
-            status.max(FAILED)
-        }
+/// The exit status of a run whose counts were told, or not all of them, and why not.
+fn told_counts(rt: &HostRuntime, causes: Causes, status: u8, untold: Untold) -> u8 {
+    let Untold { fault, left_out } = untold;
+    if let Some(error) = &fault {
+        tell(rt, causes, COUNTS, error);
+    }
+    if left_out > 0 {
+        tell(rt, causes, COUNTS, &LeftOut(left_out));
+    }
+    if fault.is_some() || left_out > 0 {
+        status.max(FAILED)
+    } else {
+        status
     }
 }
 
-/// What a fault of the file of counts is told of.
+/// What is told of counts that are missing.
 const COUNTS: &str = "the counts";

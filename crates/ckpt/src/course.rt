@@ -14,6 +14,9 @@ const ANSWERS_A_LOOK: usize = 16;
 /// What a request is answered for which too few slots are free.
 const NO_SLOT: &[u8] = b"refused 12 no-slot\n";
 
+/// What an order is answered that has nothing to do.
+const IDLE: &[u8] = b"refused 14 idle\n";
+
 /// A line of a script, of how many.
 #[derive(Clone, Copy)]
 pub struct LineOf {
@@ -45,6 +48,8 @@ pub struct Course<'a> {
     /// How many answers were printed. The first is that of the opening.
     answers: Cell<usize>,
     few: Cell<Option<FewAt>>,
+    /// Whether an order had nothing to do.
+    idle: Cell<bool>,
     /// Whether the line of a long script is written.
     shows: Cell<bool>,
     pace: Cell<Pace>,
@@ -60,6 +65,7 @@ impl<'a> Course<'a> {
             script: OnceCell::new(),
             answers: Cell::new(0),
             few: Cell::new(None),
+            idle: Cell::new(false),
             shows: Cell::new(false),
             pace: Cell::new(Pace::IDLE),
             is_shown: Cell::new(false),
@@ -90,6 +96,11 @@ impl<'a> Course<'a> {
         self.few.get()
     }
 
+    /// Whether an order had nothing to do.
+    pub fn was_idle(&self) -> bool {
+        self.idle.get()
+    }
+
     /// The line whose request is being answered, if one is.
     pub fn line(&self) -> Option<LineOf> {
         let script = self.script();
@@ -106,6 +117,9 @@ impl<'a> Course<'a> {
         if answer == NO_SLOT && self.few.get().is_none() {
             let free = self.gates.free();
             self.few.set(Some(FewAt { request, free }));
+        }
+        if answer == IDLE {
+            self.idle.set(true);
         }
         self.answers.set(request.saturating_add(1));
         if self.shows.get() && request % ANSWERS_A_LOOK == 0 {

@@ -2,7 +2,8 @@
 
 use crate::cause::{Causes, line_of, tell};
 use crate::command_line::{Work, asked_of};
-use crate::course::{FewAt, line_of_request};
+use crate::course::{Course, FewAt, line_of_request};
+use crate::slots::has_slot_files;
 use clap::ArgMatches;
 use sd_image::Reason;
 use sd_readers::Reader;
@@ -10,9 +11,9 @@ use sd_restore::Fault;
 use sd_script::{Line, Script};
 use sd_show::reason_phrase;
 use std::alloc::Global;
+use std::fmt;
 use std::fs::File;
 use std::rt::Files;
-use std::{fmt, fs};
 
 /// A damaged slot, in words.
 #[derive(Clone, Copy)]
@@ -75,24 +76,23 @@ fn tell_damage(rt: &impl Eprint, causes: Causes, folder: &str, told: Option<Faul
     }
 }
 
-/// Whether a folder has a file of a slot.
-fn has_slot_file(rt: &(impl Files<File = File> + AllocGlobal), folder: &str, slot: usize) -> bool {
-    match format!(in rt.alloc(); "{folder}/img-{slot:03}") {
-        Ok(path) => fs::exists(rt, path.as_str()).unwrap_or(true),
-        Err(_) => true,
-    }
-}
-
-/// Tells that a folder has no file of a slot, if that is so: `ok empty` may be of another folder than is meant.
-fn tell_no_files(
+/// Tells that a folder has no file of a slot, if that is so: what was read may be another folder than is meant. Else it
+/// tells, where that is asked for, that nothing is saved there.
+fn tell_empty(
     rt: &(impl Files<File = File> + Eprint + AllocGlobal),
     causes: Causes,
     folder: &str,
+    tells_fault: bool,
 ) {
-    if !(0..64).any(|slot| has_slot_file(rt, folder, slot)) {
+    if !has_slot_files(rt, rt.alloc(), folder) {
         tell(rt, causes, folder, &NO_FILES);
+    } else if tells_fault {
+        tell(rt, causes, folder, &NOTHING_SAVED);
     }
 }
+
+/// What is told of a store without a checkpoint.
+const NOTHING_SAVED: &str = "it shows no checkpoint; run, shell, mutate and import make one";
 
 /// What is told of a folder without files of slots.
 const NO_FILES: &str =
@@ -163,7 +163,20 @@ pub fn tell_few_at(
     }
 }
 
-/// Whether a program has `--json`. Its document tells of a damage what `tell_damage` would.
+/// Tells why a merge was refused, if it was for want of a slot or of a checkpoint.
+pub fn tell_merge(rt: &impl Eprint, causes: Causes, folder: &str, course: &Course<'_>) {
+    if let Some(FewAt { free, .. }) = course.few() {
+        tell_few_slots(rt, causes, folder, FewSlots { free, wanted: 1 });
+    }
+    if course.was_idle() {
+        tell(rt, causes, folder, &NOTHING_TO_MERGE);
+    }
+}
+
+/// What is told of a merge of a store without a checkpoint.
+const NOTHING_TO_MERGE: &str = "it shows no checkpoint, so there is nothing to merge";
+
+/// Whether a program has `--json`. Its document tells of a fault what a cause would.
 fn has_document(work: Work) -> bool {
     matches!(work, Work::Read(_) | Work::Show)
 }
@@ -180,10 +193,13 @@ pub fn tell_end(
         return;
     };
     let folder = words.get_str("DIR").unwrap_or("");
-    if !(has_document(work) && words.get_flag("json")) {
+    let is_document = has_document(work) && words.get_flag("json");
+    if !is_document {
         tell_damage(rt, causes, folder, told);
     }
-    if work == Work::Read(Reader::Verify) && status == 0 {
-        tell_no_files(rt, causes, folder);
+    let is_empty = told == Some(Fault::EmptyChain) && work != Work::Run;
+    let lists = matches!(work, Work::Read(Reader::List | Reader::Verify));
+    if is_empty || lists && status == 0 {
+        tell_empty(rt, causes, folder, is_empty && !is_document);
     }
 }

@@ -1,8 +1,9 @@
 //! `ckpt export`: the memory that a store shows, as ELF core files.
 
-use crate::cause::{Causes, tell, tell_device};
+use crate::cause::{Advised, Causes, tell, tell_device};
 use crate::folders::open_store;
 use crate::reading::tell_beside;
+use crate::slots::{is_slot_file, slot_error};
 use crate::verbose::{is_watched, logger_for, seen_by, unseen};
 use clap::ArgMatches;
 use sd_areas::SpaceId;
@@ -19,11 +20,11 @@ use std::io::Write;
 use std::rt::Files;
 use std::{fs, io};
 
-/// What is told of files that stand where some are to be written.
-const IS_THERE: &str = "the file is there already; with --force it is replaced";
+/// What is told of a folder of core files that is none.
+const IS_NO_FOLDER: &str = "; OUT is the folder of the core files";
 
 /// What is told of a folder that another export has locked.
-const IS_LOCKED: &str = "another export writes into this folder";
+const IS_LOCKED: &str = "another export writes into this folder; try again when it has ended";
 
 /// The core files in a folder. Each is written under another name until all are whole.
 #[derive(Drop)]
@@ -31,6 +32,8 @@ struct Export<'a, R> {
     rt: &'a R,
     alloc: Global,
     folder: &'a str,
+    /// The folder of the store, whose files aren't replaced.
+    store: &'a str,
     /// How long a file may be written.
     limit: FileLimit,
     /// The one space that is asked for.
@@ -57,6 +60,15 @@ fn part_name(alloc: Global, folder: &str, space: SpaceId) -> Result<String, Allo
     format!(in alloc; "{folder}/.space-{number}.core.part")
 }
 
+/// The error of a core file that is there already.
+fn is_there(alloc: Global, space: SpaceId) -> Result<io::Error, AllocError> {
+    let number = space.number();
+    let words = format!(in alloc;
+        "space-{number}.core is there already; with --force it is replaced"
+    )?;
+    Ok(io::Error::new(io::ErrorKind::AlreadyExists, &words))
+}
+
 /// Makes an empty file, in place of one that an export left that was cut off.
 fn make_part(rt: &impl Files<File = File>, part: &str) -> io::Result<File> {
     let _ = fs::remove_file(rt, part);
@@ -71,13 +83,25 @@ impl<R: Files<File = File>> Export<'_, R> {
         }
     }
 
-    /// Refuses a file that is there, but where it may be replaced.
+    /// Refuses a file that is there, but where it may be replaced, and one of a slot of the store, to which a link in
+    /// its folder may lead.
     fn check_free(&self, space: SpaceId) -> io::Result<()> {
         let name = core_name(self.alloc, self.folder, space)?;
         if !self.replaces && fs::symlink_metadata(self.rt, &name).is_ok() {
-            return Err(io::Error::new(io::ErrorKind::AlreadyExists, IS_THERE));
+            return Err(is_there(self.alloc, space)?);
         }
-        Ok(())
+        self.check_no_slot(&name)?;
+        self.check_no_slot(&part_name(self.alloc, self.folder, space)?)
+    }
+
+    /// Refuses a file that is that of a slot.
+    fn check_no_slot(&self, name: &str) -> io::Result<()> {
+        match fs::symlink_metadata(self.rt, name) {
+            Ok(found) if is_slot_file(self.rt, self.alloc, self.store, &found)? => {
+                Err(slot_error())
+            }
+            _ => Ok(()),
+        }
     }
 
     /// Gives the files their names, and waits until these are on the device.
@@ -165,7 +189,12 @@ fn ended_with<R: Eprint, W: Write>(
         Err(WriteError::Fault(fault)) => Err(Stop::Fault(fault)),
         Err(WriteError::File(_)) if export.lacks => Err(Stop::Order(Refusal::NoSuchSpace)),
         Err(WriteError::File(error)) => {
-            tell(export.rt, causes, export.folder, &error);
+            let advice = match error.kind() {
+                io::ErrorKind::NotADirectory => IS_NO_FOLDER,
+                _ => "",
+            };
+            let cause = &error;
+            tell(export.rt, causes, export.folder, &Advised { cause, advice });
             out.write_all(b"cannot write OUT\n")?;
             Err(Stop::Refused)
         }
@@ -189,6 +218,7 @@ pub fn export_program<W: Write>(
         rt,
         alloc: rt.alloc(),
         folder,
+        store,
         limit: FileLimit::of_process(rt),
         wanted: words.get_one::<u64>("space"),
         lacks: false,

@@ -1,7 +1,7 @@
 //! The folder of a store, opened to be read or written.
 
-use crate::cause::{Causes, tell};
-use sd_disk::{DirDisk, Folder, OpenError};
+use crate::cause::{Advised, Causes, tell};
+use sd_disk::{DirDisk, FileFault, Folder, OpenError};
 use sd_exit::Stop;
 use sd_restore::Fault;
 use std::fs::File;
@@ -38,7 +38,7 @@ pub fn make_store<R: Clock + Wait>(
     causes: Causes,
     folder: &str,
 ) -> Result<DirDisk, Stop> {
-    disk_over(rt, causes, folder, open_folder(rt, clock, folder))
+    disk_over(rt, causes, folder, open_folder(rt, clock, folder), "")
 }
 
 /// Opens the store in a folder to read it.
@@ -47,7 +47,23 @@ pub fn open_store(
     causes: Causes,
     folder: &str,
 ) -> Result<DirDisk, Stop> {
-    disk_over(rt, causes, folder, Folder::open(rt, folder, false))
+    let opened = Folder::open(rt, folder, false);
+    disk_over(rt, causes, folder, opened, IS_MISSING)
+}
+
+/// What is told of a folder that is missing, where none is made.
+const IS_MISSING: &str = "; is it the folder that is meant? ckpt run makes one";
+
+/// What is told of a folder that is none.
+const IS_NO_FOLDER: &str = "; DIR is the folder of a store, with the files img-000 to img-063";
+
+/// What may help where a folder isn't opened. Of one that is missing it is what the caller gives.
+fn advice_for(fault: &FileFault, missing: &'static str) -> &'static str {
+    match (fault.slot, fault.error.kind()) {
+        (None, io::ErrorKind::NotFound) => missing,
+        (None, io::ErrorKind::NotADirectory) => IS_NO_FOLDER,
+        _ => "",
+    }
 }
 
 /// A disk over the files of a folder, or why they weren't opened.
@@ -56,12 +72,15 @@ fn disk_over(
     causes: Causes,
     folder: &str,
     opened: Result<Folder, OpenError>,
+    missing: &'static str,
 ) -> Result<DirDisk, Stop> {
     match opened {
         Ok(files) => Ok(DirDisk::new(files)),
         Err(OpenError::OutOfMemory) => Err(Stop::Fault(Fault::OutOfMemory)),
         Err(OpenError::Folder(fault)) => {
-            tell(rt, causes, folder, &fault);
+            let advice = advice_for(&fault, missing);
+            let cause = &fault;
+            tell(rt, causes, folder, &Advised { cause, advice });
             Err(Stop::CannotOpenFolder)
         }
     }

@@ -20,10 +20,10 @@ pub const RUN_TAIL: &str = "
 Status: 0 at the end of the script, also where requests were refused, but with --strict; 1
 where the store, its device, memory or the printing failed (damaged SSS WHY, device,
 out-of-memory, cannot open DIR, cannot read SCRIPT), or the file of --stats can't be made
-(cannot write FILE: nothing is run) or written, and with --strict at the first request that
-is refused or answered segv; 2 where a line of SCRIPT doesn't fit the language (script
-line N: nothing is run) or the command line doesn't; with --restore, 3 where the store shows
-no checkpoint afterwards.
+or is a slot's (cannot write FILE: nothing is run), or not all of it can be written, and
+with --strict at the first request that is refused or answered segv; 2 where a line of
+SCRIPT doesn't fit the language (script line N: nothing is run) or the command line doesn't;
+with --restore, 3 where the store shows no checkpoint afterwards.
 
 Only one of run, shell, merge, mutate and import can have a store open at a time.";
 

@@ -15,10 +15,11 @@ use sd_run::{FRAMES, unopened};
 use sd_script::{Answer, print_answer};
 use sd_world::{OpenError, World};
 use std::fs::File;
-use std::io;
 use std::io::Write;
+use std::os::unix::fs::FileTypeExt;
 use std::sync::Wait;
 use std::time::Clock;
+use std::{fs, io};
 
 /// What is asked of an import.
 #[derive(Drop)]
@@ -116,6 +117,9 @@ fn core_ended_with<W: Write>(
     stopped(printed)
 }
 
+/// What is told of a core that is to be read from a pipe.
+const IS_PIPE: &str = "a pipe, of which no place can be read twice: write the core into a file";
+
 /// A core file whose headers were read.
 #[derive(Drop)]
 struct Source<'a> {
@@ -124,8 +128,11 @@ struct Source<'a> {
     core: Core,
 }
 
-/// Opens a core file, and reads its headers.
+/// Opens a core file, and reads its headers. A pipe isn't opened: it would be waited for, and is read at no place.
 fn open_core<'a>(rt: &HostRuntime, name: &'a str) -> Result<Source<'a>, ReadError> {
+    if fs::metadata(rt, name)?.file_type().is_fifo() {
+        return Err(io::Error::new(io::ErrorKind::Unsupported, IS_PIPE).into());
+    }
     let file = File::open(rt, name)?;
     let core = read_core(rt.alloc(), &file)?;
     Ok(Source { name, file, core })

@@ -12,8 +12,8 @@ use cause::{Causes, causes_asked, tell, tell_device};
 use clap::ArgMatches;
 use command_line::{Work, asked_of};
 use counted::{Job, MergeJob, RunAsked, ScriptJob, ShellJob, run_job};
-use course::{Course, FewAt, Noted};
-use ends::{FewSlots, tell_end, tell_few_slots};
+use course::{Course, Noted};
+use ends::{tell_end, tell_merge};
 use folders::make_store;
 use mutating::mutate_program;
 use progress::ProgressLine;
@@ -56,6 +56,7 @@ mod scripts;
 mod shell;
 mod show;
 mod shown;
+mod slots;
 mod stats;
 mod strict;
 mod verbose;
@@ -207,15 +208,8 @@ fn merge_program<R: Clock + Wait, W: Write>(
     out: &mut Output<W>,
 ) -> Result<u8, Stop> {
     let status = do_seen(rt, threads, words, course, MergeJob { course }, out)?;
-    if let Some(FewAt { free, .. }) = course.few() {
-        let folder = words.get_str("DIR").unwrap_or("");
-        tell_few_slots(
-            rt,
-            causes_asked(words),
-            folder,
-            FewSlots { free, wanted: 1 },
-        );
-    }
+    let folder = words.get_str("DIR").unwrap_or("");
+    tell_merge(rt, causes_asked(words), folder, course);
     Ok(status)
 }
 
@@ -320,10 +314,16 @@ fn run_command<R: Clock + Threads + Wait + Sync>(
             tell_refusal(rt, causes, out.error());
             Ok(status)
         }
-        Err(error) => {
-            error.print(rt)?;
-            Ok(error.exit_code() as u8)
-        }
+        Err(error) => print_words_fault(rt, &error),
+    }
+}
+
+/// Prints what is wrong with the words, or the help, and returns the status. That of wrong words stays where they can't
+/// be printed.
+fn print_words_fault(rt: &(impl Print + Eprint), error: &clap::Error) -> io::Result<u8> {
+    match error.print(rt) {
+        Err(unprinted) if !error.use_stderr() => Err(unprinted),
+        _ => Ok(error.exit_code() as u8),
     }
 }
 

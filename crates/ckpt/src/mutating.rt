@@ -1,6 +1,6 @@
 //! `ckpt mutate`: threads that store into a memory while checkpoints are made.
 
-use crate::cause::{causes_asked, tell_device};
+use crate::cause::{causes_asked, tell, tell_device};
 use crate::folders::make_store;
 use crate::verbose::logger_for;
 use clap::ArgMatches;
@@ -12,6 +12,9 @@ use std::io::Write;
 use std::sync::Wait;
 use std::thread::Threads;
 use std::time::Clock;
+
+/// What is told of a store with an image.
+const NOT_EMPTY: &str = "it has an image; name a folder that is missing, or has none";
 
 /// Why a run of threads stops the program.
 fn stop_of(fault: MutateFault) -> Stop {
@@ -50,6 +53,9 @@ pub fn mutate_program<R: Clock + Threads + Wait + Sync, W: Write>(
     info!(log; target: "ckpt", "the threads have ended");
     if let Some(disk) = &disk {
         tell_device(rt, causes, folder, disk);
+    }
+    if matches!(ended, Err(MutateFault::NotEmpty)) {
+        tell(rt, causes, folder, &NOT_EMPTY);
     }
     let tally = ended.map_err(stop_of)?;
     Ok(exit(&print_tally(&tally, out), out))

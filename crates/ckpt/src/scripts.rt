@@ -1,6 +1,6 @@
 //! Scripts, from a file or from the standard input.
 
-use crate::cause::{Causes, tell, tell_line};
+use crate::cause::{Advised, Causes, tell, tell_line};
 use sd_exit::Stop;
 use sd_restore::Fault;
 use sd_run::unfit;
@@ -31,9 +31,17 @@ pub fn unread(rt: &impl Eprint, causes: Causes, script: &str, error: &io::Error)
     if error.kind() == io::ErrorKind::OutOfMemory {
         return Stop::Fault(Fault::OutOfMemory);
     }
-    tell(rt, causes, script, error);
+    let advice = match error.kind() {
+        io::ErrorKind::IsADirectory if script != STANDARD_INPUT => IS_FOLDER,
+        _ => "",
+    };
+    let cause = error;
+    tell(rt, causes, script, &Advised { cause, advice });
     Stop::CannotReadScript
 }
+
+/// What is told of a script that is a folder.
+const IS_FOLDER: &str = "; SCRIPT is a file, and stands behind DIR";
 
 /// Parses a script.
 pub fn parse_script(

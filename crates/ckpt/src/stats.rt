@@ -1,7 +1,8 @@
 //! `ckpt run --stats` and `--summary`: what each image, checkpoint and merge took.
 
-use crate::cause::{Causes, tell};
-use crate::verbose::{Logger, Seen, log_end, log_job, log_record};
+use crate::cause::{Advised, Causes, tell};
+use crate::slots::open_beside_slots;
+use crate::verbose::{Logger, Seen, log_end, log_job, log_left_out, log_record};
 use clap::ArgMatches;
 use sd_core::Core;
 use sd_exit::{Output, Stop};
@@ -10,13 +11,16 @@ use sd_restore::Fault;
 use sd_run::Watch;
 use sd_stats::{Meter, Record, print_record, print_table};
 use std::cell::RefCell;
-use std::fs::{File, OpenOptions};
-use std::io;
+use std::fs::File;
 use std::io::Write;
 use std::time::Clock;
+use std::{fmt, io};
 
 /// The name of the standard error, as a file of counts.
 const STANDARD_ERROR: &str = "-";
+
+/// What is told of a file of counts that can't be made since its folder is missing.
+const IS_IN_NO_FOLDER: &str = "; the folder in which it is to stand has to be there";
 
 /// Where a line for each record goes.
 #[derive(Drop)]
@@ -33,15 +37,12 @@ pub struct Counts {
     summary: bool,
 }
 
-/// Opens the file of counts. What stands in it stays until the run begins.
-fn open_file(rt: &HostRuntime, name: &str) -> io::Result<File> {
-    OpenOptions::new().write(true).create(true).open(rt, name)
-}
-
-/// Where the lines go. A file that can't be made is told.
+/// Where the lines go. A file that can't be made is told, and so is one of a slot of the store. What stands in it stays
+/// until the run begins.
 fn lines_to<W: Write>(
     rt: &HostRuntime,
     causes: Causes,
+    folder: &str,
     name: Option<&str>,
     out: &mut Output<W>,
 ) -> Result<Lines, Stop> {
@@ -51,10 +52,15 @@ fn lines_to<W: Write>(
     if name == STANDARD_ERROR {
         return Ok(Lines::StandardError);
     }
-    match open_file(rt, name) {
+    match open_beside_slots(rt, folder, name) {
         Ok(file) => Ok(Lines::File(file)),
         Err(error) => {
-            tell(rt, causes, name, &error);
+            let advice = match error.kind() {
+                io::ErrorKind::NotFound => IS_IN_NO_FOLDER,
+                _ => "",
+            };
+            let cause = &error;
+            tell(rt, causes, name, &Advised { cause, advice });
             out.write_all(b"cannot write FILE\n")?;
             Err(Stop::Refused)
         }
@@ -62,6 +68,11 @@ fn lines_to<W: Write>(
 }
 
 impl Counts {
+    /// Whether the words ask for the records, as lines or as a table.
+    fn are_asked(&self) -> bool {
+        self.summary || !matches!(self.lines, Lines::Nowhere)
+    }
+
     /// Empties the file of counts, once the store is open. What can't be emptied, as a pipe, is written to as it is.
     pub fn begin(&self) {
         if let Lines::File(file) = &self.lines {
@@ -78,7 +89,8 @@ pub fn counts_asked<W: Write>(
     seen: Seen<'_>,
     out: &mut Output<W>,
 ) -> Result<Option<Counts>, Stop> {
-    let lines = lines_to(rt, causes, words.get_str("stats"), out)?;
+    let folder = words.get_str("DIR").unwrap_or("");
+    let lines = lines_to(rt, causes, folder, words.get_str("stats"), out)?;
     let summary = words.get_flag("summary");
     if matches!(lines, Lines::Nowhere) && !summary && !seen.is_asked() {
         return Ok(None);
@@ -192,22 +204,48 @@ impl<'a, S: Watch + Drop> Counting<'a, S> {
         }
     }
 
-    /// Prints what is left behind a run, and the table if it is asked for.
-    ///
-    /// # Errors
-    ///
-    /// The first line that wasn't written.
-    pub fn finish(mut self) -> io::Result<()> {
-        self.drain(true);
+    /// Prints the table, if it is asked for.
+    fn print_summary(&self) -> io::Result<()> {
         if self.counts.summary {
             let mut table = Vec::new(self.rt.alloc());
             print_table(&self.rows, &mut table)?;
             self.rt.stderr().write_all(&table)?;
         }
-        match self.fault {
-            Some(error) => Err(error),
-            None => Ok(()),
+        Ok(())
+    }
+
+    /// Prints what is left behind a run, and the table if it is asked for, and returns what is missing there.
+    pub fn finish(mut self) -> Untold {
+        self.drain(true);
+        if let Err(error) = self.print_summary() {
+            self.fault.get_or_insert(error);
         }
+        let left_out = self.meter.try_borrow().map_or(0, |meter| meter.left_out());
+        log_left_out(self.log, left_out);
+        Untold {
+            fault: self.fault,
+            left_out: if self.counts.are_asked() { left_out } else { 0 },
+        }
+    }
+}
+
+/// What is missing in the counts of a run.
+#[derive(Clone, Copy)]
+pub struct Untold {
+    /// Why the first line that wasn't written wasn't.
+    pub fault: Option<io::Error>,
+    /// How many records found no room.
+    pub left_out: u64,
+}
+
+/// So many records found no room.
+#[derive(Clone, Copy)]
+pub struct LeftOut(pub u64);
+
+impl fmt::Display for LeftOut {
+    fn fmt<W: fmt::Write>(&self, f: &mut fmt::Formatter<W>) -> fmt::Result {
+        let LeftOut(count) = self;
+        write!(f, "records left out for want of memory: {count}")
     }
 }
 

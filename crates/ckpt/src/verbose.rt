@@ -133,6 +133,13 @@ pub fn log_record(log: &Logger<'_>, record: &Record) {
     }
 }
 
+/// Logs how many records found no room, if any did.
+pub fn log_left_out(log: &Logger<'_>, count: u64) {
+    if count > 0 {
+        info!(log; target: "ckpt", "records left out for want of memory: {count}");
+    }
+}
+
 /// Whether it is shown how far a job is.
 pub fn is_watched(rt: &HostRuntime, causes: Causes) -> bool {
     causes == Causes::Told && rt.stderr().is_terminal()

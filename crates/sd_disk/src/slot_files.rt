@@ -13,7 +13,7 @@ use std::rt::Files;
 use std::{fs, io};
 
 /// What is told of a store's folder that another run has locked.
-const STORE_IS_OPEN: &str = "another run has this store open";
+const STORE_IS_OPEN: &str = "another run has this store open; try again when it has ended";
 
 pub(crate) fn of_folder(error: io::Error) -> OpenError {
     OpenError::Folder(FileFault::of_folder(error))
@@ -46,6 +46,11 @@ fn look(rt: &impl Files, path: &str) -> io::Result<Metadata> {
     uninterrupted(|| fs::metadata(rt, path))
 }
 
+/// Whether a path is that of a folder, behind symbolic links.
+fn is_folder(rt: &impl Files, path: &str) -> bool {
+    look(rt, path).is_ok_and(|found| found.is_dir())
+}
+
 /// Makes each folder of a path that is missing, and waits until its name is on the device.
 ///
 /// # Errors
@@ -63,7 +68,10 @@ pub fn make_folders(rt: &impl Files<File = File>, path: &str) -> io::Result<()> 
 fn make_folder(rt: &impl Files<File = File>, path: &str) -> io::Result<()> {
     match uninterrupted(|| fs::create_dir(rt, path)) {
         Ok(()) => sync_folder(rt, parent_of(path)),
-        Err(_) if look(rt, path).is_ok_and(|found| found.is_dir()) => Ok(()),
+        Err(_) if is_folder(rt, path) => Ok(()),
+        Err(error) if error.kind() == io::ErrorKind::AlreadyExists => {
+            Err(io::ErrorKind::NotADirectory.into())
+        }
         Err(error) => Err(error),
     }
 }
@@ -86,8 +94,12 @@ pub fn lock_folder(
     }
 }
 
-/// Whether a run has the lock of a folder now. It asks for the lock, and gives it back at once.
+/// Whether a run has the lock of a folder now. It asks for the lock, and gives it back at once. What isn't a folder has
+/// none, and isn't opened: a named pipe would be waited for.
 pub fn is_being_written(rt: &impl Files<File = File>, folder: &str) -> bool {
+    if !is_folder(rt, folder) {
+        return false;
+    }
     match uninterrupted(|| File::open(rt, folder)) {
         Ok(lock) => matches!(lock.try_lock_shared(), Err(TryLockError::WouldBlock)),
         Err(_) => false,
@@ -201,7 +213,7 @@ fn own_id(file: &File, others: &[FileId]) -> io::Result<FileId> {
     if found.nlink() > 1 || others.contains(&id) {
         return Err(io::Error::new(
             io::ErrorKind::InvalidData,
-            "this file has another name, under which a run would change it too: give each slot a copy (cp -a)",
+            "this file has another name, which a run would change too: copy it (cp -a)",
         ));
     }
     Ok(id)

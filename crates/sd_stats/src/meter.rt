@@ -1,5 +1,5 @@
 //! What is seen of a device's calls, and the records that are made of it.
-ghost use Rattle.std.specs.Prelude.{◌≡◌, ◌+◌, ◌-◌, ◌^◌, min, true, false, [], None, Some, IfOk, IsSome};
+ghost use Rattle.std.specs.Prelude.{◌≡◌, ◌⊎◌, ◌∷◌, ◌++◌, ◌+◌, ◌-◌, ◌^◌, min, true, false, [], None, Some, IfOk, IsSome};
 
 use crate::making::{Making, SeenSlot};
 use crate::record::{CheckpointRecord, ImageRecord, MergeRecord, Record};
@@ -36,6 +36,8 @@ pub struct Meter {
     merge: Option<MergeRecord>,
     merge_begun: Duration,
     done: Vec<Record>,
+    /// How many records found no room.
+    left_out: u64,
 }
 
 /// Whether an image is a pre-dump.
@@ -52,6 +54,7 @@ impl Meter {
     pub fn new(alloc: Global, slots: usize) -> Result<Meter, AllocError>
         ensures calls { IfOk result (λ meter. meter.calls ≡ 0) }
         ensures records { IfOk result (λ meter. meter.done.items ≡ []) }
+        ensures left_out { IfOk result (λ meter. meter.left_out ≡ 0) }
     {
         let unseen = SeenSlot {
             is_open: false,
@@ -68,6 +71,7 @@ impl Meter {
             merge: None,
             merge_begun: Duration::ZERO,
             done: Vec::new(alloc),
+            left_out: 0,
         })
     }
 
@@ -75,8 +79,16 @@ impl Meter {
     pub fn take(&mut self) -> Vec<Record>
         ensures records { result.items ≡ self.old.done.items }
         ensures none { self.new.done.items ≡ [] }
+        ensures left_out { self.new.left_out ≡ self.old.left_out }
     {
         mem::replace(&mut self.done, Vec::new(self.alloc))
+    }
+
+    /// How many records were made and left out, since they found no room.
+    pub fn left_out(&self) -> u64
+        ensures { result ≡ self.now.left_out }
+    {
+        self.left_out
     }
 
     /// Takes in whether the memory is frozen.
@@ -102,12 +114,19 @@ impl Meter {
         }
     }
 
-    /// Adds a record. Where it finds no room it is left out.
-    fn add(&mut self, record: Record)
+    /// Adds a record. Where it finds no room it is left out, and counted.
+    fn add(&mut self, made: Record)
         ensures calls { self.new.calls ≡ self.old.calls }
         ensures merge { self.new.merge ≡ self.old.merge }
+        // It is the last of those that are kept, or it is counted.
+        ensures added { ((self.new.done.items ≡ self.old.done.items ++ made ∷ [])
+            × (self.new.left_out ≡ self.old.left_out))
+            ⊎ ((self.new.done.items ≡ self.old.done.items)
+            × (self.new.left_out ≡ min (self.old.left_out + 1) (2 ^ 64 - 1))) }
     {
-        let _ = self.done.push(record);
+        if self.done.push(made).is_err() {
+            self.left_out = self.left_out.saturating_add(1);
+        }
     }
 
     /// A call was made.
