@@ -20,7 +20,7 @@ use Rattle.sd_rounds.specs.Dumper.{Running, out_of_running, writes_of_running}
 use Rattle.sd_rounds.specs.Writes.{no_writes}
 use Rattle.sd_crash_safety.specs.declared.standing.Standing.{Standing}
 use Rattle.sd_crash_safety.specs.declared.standing.Standing.TheVariants.{NotOpen, Open, Down}
-use Rattle.sd_crash_safety.specs.Calls.{AddsByOutcome, AreGivenUp, HandedIn, IsApart, IsFree}
+use Rattle.sd_crash_safety.specs.Calls.{AddsByOutcome, AreGivenUp, HandedIn, IsFree}
 use Rattle.sd_crash_safety.specs.DumperOutcomes.{DumperOutcomes, IsDumpersOutcome, LeavesCatalog, closes_for_sure, is_being_closed, is_sync}
 use Rattle.sd_crash_safety.specs.MergerOutcomes.{IsMergersOutcome, MergerOutcomes, OutcomeIsBelieved}
 use Rattle.sd_crash_safety.specs.View.{CoreView, history_of}
@@ -28,7 +28,7 @@ use Rattle.sd_core.specs.Following.{FollowsOutcome}
 use Rattle.sd_core.specs.Refusals.{is_idle}
 use Rattle.sd_core.specs.Sound.{AreInPages, IsCore, Parts, out_of_opener, worker_of_lane}
 use Rattle.sd_core.proofs.ApplyLemmas.{same_phases}
-use Rattle.sd_core.proofs.FallenLemmas.{apart_after, free_after}
+use Rattle.sd_core.proofs.FallenLemmas.{free_after}
 use Rattle.sd_core.proofs.OutcomeLemmas.{handed_dumper}
 use Rattle.sd_core.proofs.OutsLemmas.{lane_at, no_write, nobody_out}
 
@@ -56,22 +56,6 @@ merger_followed core old new made closed sound same own outs n = record {
   out = ap (λ all. slice_get all 1) same ∙ own;
   outs = outs ∙ ap (λ all. slice_set all 1 None) (sym same);
   apart = subst (λ all. IsFree (slice_set all 1 None) made.request.id.slot) (sym same) (free_after _ core.outs _ _ _ _ 1 made.request.id sound.outs_are own (omega arith));
-  phase_is = n.is;
-  phases = n.phases;
-}
-
--- an outcome of the dumper's call, as it is followed
-pub dumper_followed : (core : Parts) (old new : CoreView) (lane : ℕ) (made : Made) (closed : Bool) → IsCore core → old.outs ≡ core.outs → new.base ≡ old.base → new.opener ≡ None
-    → new.memory ≡ old.memory → slice_get core.outs lane ≡ Some (Some made.request.id) → new.outs ≡ slice_set core.outs lane None → (n : FollowsOutcome old.phases made new.phases closed)
-    → IsDumpersOutcome old lane made n.phase new
-dumper_followed core old new lane made closed sound same base none memory own outs n = record {
-  base = base;
-  closed = none;
-  memory = memory;
-  out = ap (λ all. slice_get all lane) same ∙ own;
-  outs = outs ∙ ap (λ all. slice_set all lane None) (sym same);
-  apart = subst (λ all. IsApart (slice_set all lane None) made.request.id) (sym same)
-      (λ at other out on. (apart_after _ core.outs _ _ _ _ lane made.request.id sound.outs_are own at other out on).are);
   phase_is = n.is;
   phases = n.phases;
 }
