@@ -1,5 +1,5 @@
 -- The outcomes of a merger's calls, and of those that come late.
-use Rattle.std.proofs.Common.{◌≡◌, ◌≢◌, ◌⊎◌, ℕ, zero, suc, ◌&&◌, Bool, true, false, List, ◌∷◌, length, is_none, Option, Some, None, IfSome, slice_get, slice_set, refl, sym, ◌∙◌, ap, subst, inl, inr, arith}
+use Rattle.std.proofs.Common.{◌≡◌, ◌≢◌, ◌⊎◌, ℕ, zero, suc, ◌&&◌, Bool, true, false, ◌∷◌, length, is_none, Option, Some, None, IfSome, slice_get, slice_set, refl, sym, ◌∙◌, ap, subst, inl, inr, arith}
 use Rattle.std.proofs.lemmas.Option.{same_Some}
 use Rattle.sd_chain.specs.Catalog.{Places}
 use Rattle.sd_command.specs.declared.refusal.Refusal.TheVariants.{StoreDown}
@@ -20,15 +20,13 @@ use Rattle.sd_rounds.specs.Dumper.{Running, out_of_running, writes_of_running}
 use Rattle.sd_rounds.specs.Writes.{no_writes}
 use Rattle.sd_crash_safety.specs.declared.standing.Standing.{Standing}
 use Rattle.sd_crash_safety.specs.declared.standing.Standing.TheVariants.{NotOpen, Open, Down}
-use Rattle.sd_crash_safety.specs.Calls.{AddsByOutcome, AreGivenUp, HandedIn, IsFree}
-use Rattle.sd_crash_safety.specs.DumperOutcomes.{DumperOutcomes, IsDumpersOutcome, LeavesCatalog, closes_for_sure, is_being_closed, is_sync}
+use Rattle.sd_crash_safety.specs.Calls.{AddsByOutcome, AreGivenUp, HandedIn}
+use Rattle.sd_crash_safety.specs.DumperOutcomes.{DumperOutcomes, IsDumpersOutcome, closes_for_sure, is_being_closed, is_sync}
 use Rattle.sd_crash_safety.specs.MergerOutcomes.{IsMergersOutcome, MergerOutcomes, OutcomeIsBelieved}
 use Rattle.sd_crash_safety.specs.View.{CoreView, history_of}
-use Rattle.sd_core.specs.Following.{FollowsOutcome}
 use Rattle.sd_core.specs.Refusals.{is_idle}
 use Rattle.sd_core.specs.Sound.{AreInPages, IsCore, Parts, out_of_opener, worker_of_lane}
 use Rattle.sd_core.proofs.ApplyLemmas.{same_phases}
-use Rattle.sd_core.proofs.FallenLemmas.{free_after}
 use Rattle.sd_core.proofs.OutcomeLemmas.{handed_dumper}
 use Rattle.sd_core.proofs.OutsLemmas.{lane_at, no_write, nobody_out}
 
@@ -48,23 +46,6 @@ handed_merger old new made phase answer o base count goes adds = record {
   goes_on = λ asked bodies files at told b. goes asked bodies files at told b;
   adds = adds;
 }
-
--- an outcome of the merger's call, as it is followed
-pub merger_followed : (core : Parts) (old new : CoreView) (made : Made) (closed : Bool) → IsCore core → old.outs ≡ core.outs → slice_get core.outs 1 ≡ Some (Some made.request.id)
-    → new.outs ≡ slice_set core.outs 1 None → (n : FollowsOutcome old.phases made new.phases closed) → IsMergersOutcome old made n.phase new
-merger_followed core old new made closed sound same own outs n = record {
-  out = ap (λ all. slice_get all 1) same ∙ own;
-  outs = outs ∙ ap (λ all. slice_set all 1 None) (sym same);
-  apart = subst (λ all. IsFree (slice_set all 1 None) made.request.id.slot) (sym same) (free_after _ core.outs _ _ _ _ 1 made.request.id sound.outs_are own (omega arith));
-  phase_is = n.is;
-  phases = n.phases;
-}
-
--- the image of a slot that an outcome closes for sure leaves the catalog
-pub leaves_followed : (old new : List Phase) (made : Made) (id : RequestId) (closed : Bool) (before after : Places) → id ≡ made.request.id → (n : FollowsOutcome old made new closed)
-    → LeavesCatalog closed id.slot before after → LeavesCatalog (closes_for_sure n.phase made.request.id.call) made.request.id.slot before after
-leaves_followed old new made id closed before after same n leaves =
-    subst (λ b. LeavesCatalog b made.request.id.slot before after) n.closes (subst (λ (i : RequestId). LeavesCatalog closed i.slot before after) same leaves)
 
 -- a call that closes a slot for sure is a sync
 pub sync_of : (phase : Phase) (one : Call) → closes_for_sure phase one ≡ true → one ≡ call.Sync
