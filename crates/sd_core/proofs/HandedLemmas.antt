@@ -1,5 +1,5 @@
 -- The outcomes of a merger's calls, and of those that come late.
-use Rattle.std.proofs.Common.{◌≡◌, ◌≢◌, ◌⊎◌, ℕ, zero, suc, ◌&&◌, Bool, true, false, ◌∷◌, length, is_none, Option, Some, None, IfSome, slice_get, slice_set, refl, sym, ◌∙◌, ap, subst, inl, inr, arith}
+use Rattle.std.proofs.Common.{◌≡◌, ◌≢◌, ◌⊎◌, ℕ, zero, suc, ◌&&◌, Bool, true, false, List, ◌∷◌, length, is_none, Option, Some, None, IfSome, slice_get, slice_set, refl, sym, ◌∙◌, ap, subst, inl, inr, arith}
 use Rattle.std.proofs.lemmas.Option.{same_Some}
 use Rattle.sd_chain.specs.Catalog.{Places}
 use Rattle.sd_command.specs.declared.refusal.Refusal.TheVariants.{StoreDown}
@@ -16,7 +16,7 @@ use Rattle.sd_gate.specs.Phases.{phases_after}
 use Rattle.sd_gate.specs.Requests.{Made}
 use Rattle.sd_merge.specs.Merger as merger
 use Rattle.sd_opener.specs.Looking.{Looking}
-use Rattle.sd_rounds.specs.Dumper.{Running, out_of_running, writes_of_running}
+use Rattle.sd_rounds.specs.Dumper.{out_of_running, writes_of_running}
 use Rattle.sd_rounds.specs.Writes.{no_writes}
 use Rattle.sd_crash_safety.specs.declared.standing.Standing.{Standing}
 use Rattle.sd_crash_safety.specs.declared.standing.Standing.TheVariants.{NotOpen, Open, Down}
@@ -26,7 +26,10 @@ use Rattle.sd_crash_safety.specs.MergerOutcomes.{IsMergersOutcome, MergerOutcome
 use Rattle.sd_crash_safety.specs.View.{CoreView, history_of}
 use Rattle.sd_core.specs.Refusals.{is_idle}
 use Rattle.sd_core.specs.Sound.{AreInPages, IsCore, Parts, out_of_opener, worker_of_lane}
+use Rattle.sd_core.specs.Following.{FollowsOutcome}
 use Rattle.sd_core.proofs.ApplyLemmas.{same_phases}
+use Rattle.sd_core.proofs.CoreParts.{seen_of}
+use Rattle.sd_core.proofs.FallenLemmas.{apart_after}
 use Rattle.sd_core.proofs.OutcomeLemmas.{handed_dumper}
 use Rattle.sd_core.proofs.OutsLemmas.{lane_at, no_write, nobody_out}
 
@@ -72,11 +75,23 @@ pub record IsLate (core : Parts) (id : RequestId) : Type 0 where
   pub closed : core.opener ≡ None
   pub other : id.worker ≢ Opener
 
-pub is_late : (core : Parts) (running : Option Running) (merge : Option merger.Running) (opener : Option Looking) (lane : ℕ) (id : RequestId) → IsCore core
-    → slice_get core.outs lane ≡ Some (Some id) → core.dumper.running ≡ running → core.merger ≡ merge → core.opener ≡ opener
-    → ((id.worker ≡ Dumper) × (running ≡ None)) ⊎ (((id.worker ≡ Merger) × (merge ≡ None)) ⊎ ((id.worker ≡ Opener) × (opener ≡ None))) → IsLate core id
-is_late core running merge opener lane id sound out is_running is_merge is_opener idle = record { down = stands core.standing refl; closed = none; other = other }
+none_is : {X : Type 0} (one : Option X) → is_none one ≡ true → one ≡ None
+none_is None e = refl
+none_is (Some x) e = absurd (let no : false ≡ true = e in cc)
+
+-- what is so of the worker whose job has ended
+idle_one : (core : Parts) (worker : Worker) → is_idle (seen_of core) worker ≡ true
+    → ((worker ≡ Dumper) × (core.dumper.running ≡ None)) ⊎ (((worker ≡ Merger) × (core.merger ≡ None)) ⊎ ((worker ≡ Opener) × (core.opener ≡ None)))
+idle_one core Dumper is = inl (refl, none_is core.dumper.running is)
+idle_one core Merger is = inr (inl (refl, none_is core.merger is))
+idle_one core Opener is = inr (inr (refl, none_is core.opener is))
+
+pub is_late : (core : Parts) (lane : ℕ) (id : RequestId) → IsCore core → slice_get core.outs lane ≡ Some (Some id) → is_idle (seen_of core) id.worker ≡ true → IsLate core id
+is_late core lane id sound out ended = record { down = stands core.standing refl; closed = none; other = other }
   where
+    idle : ((id.worker ≡ Dumper) × (core.dumper.running ≡ None)) ⊎ (((id.worker ≡ Merger) × (core.merger ≡ None)) ⊎ ((id.worker ≡ Opener) × (core.opener ≡ None)))
+    idle = idle_one core id.worker ended
+
     whose : id.worker ≡ worker_of_lane lane
     whose = sound.outs_are.whose lane id out
 
@@ -105,7 +120,7 @@ is_late core running merge opener lane id sound out is_running is_merge is_opene
           | inl d ↦ absurd (not_opener own d.0)
           | inr rest ↦ elim rest [
             | inl m ↦ absurd (opener_merger own m.0)
-            | inr o ↦ is_opener ∙ o.1
+            | inr o ↦ o.1
           ]
         ]
 
@@ -129,17 +144,17 @@ is_late core running merge opener lane id sound out is_running is_merge is_opene
         let at = lane_at (out_of_running core.dumper.running) (merger.out_of_merge core.merger) (writes_of_running core.dumper.running) lane id (ap (λ all. slice_get all lane) (sym jobs) ∙ out) in
         elim idle [
           | inl d ↦ elim at [
-            | inl a ↦ (let no : None ≡ Some id = ap out_of_running (sym (is_running ∙ d.1)) ∙ a.1 in cc)
+            | inl a ↦ (let no : None ≡ Some id = ap out_of_running (sym d.1) ∙ a.1 in cc)
             | inr rest ↦ elim rest [
               | inl b ↦ not_dumper (whose ∙ ap worker_of_lane b.0) d.0
-              | inr page ↦ no_write page.0 id (ap (λ r. slice_get (writes_of_running r) page.0) (sym (is_running ∙ d.1)) ∙ page.2)
+              | inr page ↦ no_write page.0 id (ap (λ r. slice_get (writes_of_running r) page.0) (sym d.1) ∙ page.2)
             ]
           ]
           | inr others ↦ elim others [
             | inl m ↦ elim at [
               | inl a ↦ not_dumper m.0 (whose ∙ ap worker_of_lane a.0)
               | inr rest ↦ elim rest [
-                | inl b ↦ (let no : None ≡ Some id = ap merger.out_of_merge (sym (is_merge ∙ m.1)) ∙ b.1 in cc)
+                | inl b ↦ (let no : None ≡ Some id = ap merger.out_of_merge (sym m.1) ∙ b.1 in cc)
                 | inr page ↦ not_dumper m.0 (whose ∙ ap worker_of_lane page.1)
               ]
             ]
@@ -155,34 +170,6 @@ is_late core running merge opener lane id sound out is_running is_merge is_opene
     stands Open is = absurd (not_open is)
     stands Down is = is
 
-none_is : {X : Type 0} (one : Option X) → is_none one ≡ true → one ≡ None
-none_is None e = refl
-none_is (Some x) e = absurd (let no : false ≡ true = e in cc)
-
--- what is so of the worker whose job has ended
-pub idle_one : (core : CoreView) (worker : Worker) → is_idle core worker ≡ true
-    → ((worker ≡ Dumper) × (core.dumper.running ≡ None)) ⊎ (((worker ≡ Merger) × (core.merger ≡ None)) ⊎ ((worker ≡ Opener) × (core.opener ≡ None)))
-idle_one core Dumper is = inl (refl, none_is core.dumper.running is)
-idle_one core Merger is = inr (inl (refl, none_is core.merger is))
-idle_one core Opener is = inr (inr (refl, none_is core.opener is))
-
--- nothing but the request and its slot's phase changes
-pub record IsHandedLate (old : CoreView) (lane : ℕ) (made : Made) (phase : Phase) (new : CoreView) : Type 0 where
-  pub base : new.base ≡ old.base
-  pub history : history_of new ≡ history_of old
-  pub memory : new.memory ≡ old.memory
-  pub closed : new.opener ≡ None
-  pub down : new.standing ≡ Down
-  pub committing : new.committing ≡ old.committing
-  pub other : made.request.id.worker ≢ Opener
-  pub whose : made.request.id.worker ≡ worker_of_lane lane
-  pub out : slice_get old.outs lane ≡ Some (Some made.request.id)
-  pub outs : new.outs ≡ slice_set old.outs lane None
-  pub apart : (at : ℕ) (id : RequestId) → slice_get (slice_set old.outs lane None) at ≡ Some (Some id) → id.slot ≡ made.request.id.slot → AreInPages lane at made.request.id id
-  pub phase_is : slice_get old.phases made.request.id.slot ≡ Some phase
-  pub phases : new.phases ≡ phases_after old.phases made.request.id phase (is_done made.answer)
-  pub count : length new.phases ≡ length old.phases
-
 pub merger_lane : (lane : ℕ) → worker_of_lane lane ≡ Merger → lane ≡ 1
 merger_lane zero is = absurd (let no : Dumper ≡ Merger = is in cc)
 merger_lane (suc zero) is = refl
@@ -195,34 +182,39 @@ opener_lane (suc zero) is = absurd (let no : Merger ≡ Opener = is in cc)
 opener_lane (suc (suc zero)) is = refl
 opener_lane (suc (suc (suc k))) is = absurd (let no : Dumper ≡ Opener = is in cc)
 
-pub handed_late : DumperOutcomes → (places : Places) → MergerOutcomes places → (old new : CoreView) (lane : ℕ) (made : Made) (phase : Phase) → IsHandedLate old lane made phase new
-    → HandedIn old lane made (reply.Refused StoreDown) new
-handed_late dumper places merges old new lane made phase l = by made.request.id.worker refl
+-- nothing but the request and its slot's phase changes
+pub handed_late : DumperOutcomes → {places : Places} → MergerOutcomes places → (core : Parts) (lane : ℕ) (made : Made) (phases : List Phase) (outs : List (Option RequestId)) (closed : Bool) → IsCore core
+    → IsLate core made.request.id → slice_get core.outs lane ≡ Some (Some made.request.id) → outs ≡ slice_set core.outs lane None → FollowsOutcome core.phases made phases closed
+    → HandedIn (seen_of core) lane made (reply.Refused StoreDown) (seen_of (record core { phases = phases; outs = outs }))
+handed_late dumper merges core lane made phases outs closed sound late own are n = by made.request.id.worker refl
   where
-    by : (worker : Worker) → made.request.id.worker ≡ worker → HandedIn old lane made (reply.Refused StoreDown) new
+    apart : (at : ℕ) (id : RequestId) → slice_get (slice_set core.outs lane None) at ≡ Some (Some id) → id.slot ≡ made.request.id.slot → AreInPages lane at made.request.id id
+    apart = apart_after core.standing core.outs core.phases core.dumper.running core.merger core.opener lane made.request.id sound.outs_are own
+
+    by : (worker : Worker) → made.request.id.worker ≡ worker → HandedIn (seen_of core) lane made (reply.Refused StoreDown) (seen_of (record core { phases = phases; outs = outs }))
     by Dumper is =
-        let outcome : IsDumpersOutcome old lane made phase new = record {
-          base = l.base;
-          closed = l.closed;
-          memory = l.memory;
-          out = l.out;
-          outs = l.outs;
-          apart = λ at id out same. (l.apart at id out same).are;
-          phase_is = l.phase_is;
-          phases = l.phases;
+        let outcome : IsDumpersOutcome (seen_of core) lane made n.phase (seen_of (record core { phases = phases; outs = outs })) = record {
+          base = refl;
+          closed = late.closed;
+          memory = refl;
+          out = own;
+          outs = are;
+          apart = λ at id out same. (apart at id out same).are;
+          phase_is = n.is;
+          phases = n.phases;
         } in
-        handed_dumper old new lane made phase (reply.Refused StoreDown) outcome l.count
-        (λ asked bodies files at b. dumper.fails old new lane made phase asked bodies files (record { outcome = outcome; history = l.history; down = l.down; committing = l.committing }) at b) l.history
+        handed_dumper _ _ lane made n.phase (reply.Refused StoreDown) outcome n.count
+        (λ asked bodies files. dumper.fails _ _ lane made n.phase asked bodies files (record { outcome = outcome; history = refl; down = late.down; committing = refl })) refl
     by Merger is =
-        let one : lane ≡ 1 = merger_lane lane (sym l.whose ∙ is) in
-        let outcome : IsMergersOutcome old made phase new = record {
-          out = ap (slice_get old.outs) (sym one) ∙ l.out;
-          outs = l.outs ∙ ap (λ k. slice_set old.outs k None) one;
-          apart = λ at id out same. (let far = (l.apart at id (ap (λ k. slice_get (slice_set old.outs k None) at) one ∙ out) same).first in omega (arith, far, one));
-          phase_is = l.phase_is;
-          phases = l.phases;
+        let one : lane ≡ 1 = merger_lane lane (sym (sound.outs_are.whose lane made.request.id own) ∙ is) in
+        let outcome : IsMergersOutcome (seen_of core) made n.phase (seen_of (record core { phases = phases; outs = outs })) = record {
+          out = ap (slice_get core.outs) (sym one) ∙ own;
+          outs = are ∙ ap (λ k. slice_set core.outs k None) one;
+          apart = λ at id out same. (let far = (apart at id (ap (λ k. slice_get (slice_set core.outs k None) at) one ∙ out) same).first in omega (arith, far, one));
+          phase_is = n.is;
+          phases = n.phases;
         } in
-        subst (λ k. HandedIn old k made (reply.Refused StoreDown) new) (sym one)
-        (handed_merger old new made phase (reply.Refused StoreDown) outcome l.base l.count
-        (merges.fails old new made phase (record { outcome = outcome; base = l.base; history = l.history; closed = l.closed; down = l.down; committing = l.committing })) l.history)
-    by Opener is = absurd (l.other is)
+        subst (λ k. HandedIn (seen_of core) k made (reply.Refused StoreDown) (seen_of (record core { phases = phases; outs = outs }))) (sym one)
+        (handed_merger _ _ made n.phase (reply.Refused StoreDown) outcome refl n.count
+        (merges.fails _ _ made n.phase (record { outcome = outcome; base = refl; history = refl; closed = late.closed; down = late.down; committing = refl })) refl)
+    by Opener is = absurd (late.other is)
