@@ -191,24 +191,18 @@ module _ {core : Parts} {seen : CoreView} {lane : ℕ} {made : Made} {phases : L
 
   pub goes_on_core : LittleLaws → IsCore (handed_core core phases outs places dumper)
   goes_on_core laws = core_working (handed_core core phases outs places dumper) (record g.running { image = Some g.next }) g.is
-      (turned core (handed_core core phases outs places dumper) g.running g.image g.next g.hands.sound (record {
+      (turned g.running g.image g.next g.hands.sound (record {
         was = g.hands.was;
         making = g.hands.making;
         is = g.is;
-        merger_is = refl;
-        room = refl;
         serial = ap (λ (o : ImageOrder). o.serial) changed.order;
         places_stay = record {
           held = λ serial held. left_held g.closed made.request.id.slot core.places places serial g.leaves held;
           images = λ serial o there spared. left_image g.closed made.request.id.slot core.places places serial o g.leaves
               (λ same. spared (subst (HasSlot (Some g.running)) (sym (same ∙ on_slot g.hands)) (own_has g.running g.running.opened))) there;
         };
-        base = refl;
-        frozen = refl;
-        standing = refl;
-        opener = refl;
         count = g.hands.follows.count;
-        numbers = same_numbers core.numbers;
+        same = same_numbers core.numbers;
         entries = refl;
         held = refl;
         journal_is = g.hands.sound.journal_is;
@@ -218,7 +212,7 @@ module _ {core : Parts} {seen : CoreView} {lane : ℕ} {made : Made} {phases : L
         gated = gated_more (is_last g.running) core.swept g.image g.next made (good g.hands) g.goes
             (gated_of core.swept core.dumper.running g.running g.image g.hands.sound.gated g.hands.was g.hands.making);
         counted = left_counted g.closed made.request.id.slot core.places places core.numbers g.leaves g.hands.sound.counted;
-        outs = outs_then;
+        outs_are = outs_then;
         stay = λ place serial o below is. left_image g.closed made.request.id.slot core.places places serial o g.leaves
             (λ same. (work g.hands).apart place g.running.opened below (few g.hands) (sym is.slot ∙ same ∙ on_slot g.hands)) is.is_in;
         asked = subst (λ o. IfSome o (λ i. i.slot ≡ slot_of g.running)) (sym changed.out_is) tt;
@@ -356,11 +350,7 @@ module _ {core : Parts} {seen : CoreView} {lane : ℕ} {made : Made} {phases : L
 
   -- the merge beside it
   merging : IfSome core.merger (MergeRuns core.standing phases places core.opener core.numbers core.room dumper.running)
-  merging = merging_stays core (handed_core core phases outs places dumper) (record {
-    merger_is = refl;
-    room = refl;
-    standing = refl;
-    opener = refl;
+  merging = merging_stays core phases places core.numbers dumper.running o.hands.sound (record {
     count = o.hands.follows.count;
     given = omega arith;
     checkpoint = omega arith;
@@ -370,7 +360,7 @@ module _ {core : Parts} {seen : CoreView} {lane : ℕ} {made : Made} {phases : L
     other = λ serial given other. makes_other last o.is serial;
     held = λ serial given other held. entered_held core.places places o.image.order.serial (Some (Some (image_of opened))) serial changes (differs serial (subst (λ r. MakesOther r serial) o.hands.was other)) held;
     images = λ serial other there spared. entered_image core.places places o.image.order.serial (Some (Some (image_of opened))) serial other changes (in_making o.hands).held there;
-  }) o.hands.sound.merging
+  })
     where
       differs : (serial : ℕ) → MakesOther (Some o.running) serial → o.image.order.serial ≢ serial
       differs serial other = subst (λ i. IsOtherImage i serial) o.hands.making other
