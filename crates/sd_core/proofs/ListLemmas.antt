@@ -17,7 +17,6 @@ use Rattle.sd_merge.specs.Copying.{Copying}
 use Rattle.sd_merge.specs.Merger as merger
 use Rattle.sd_merge.specs.Merger.{HandsAt, TakesList, copying, list_in, list_of, retiring, source_of}
 use Rattle.sd_rounds.specs.declared.new_image.NewImage.{NewImage}
-use Rattle.sd_rounds.specs.Dumper.{Running}
 use Rattle.sd_crash_safety.specs.Calls.{IsFree}
 use Rattle.sd_crash_safety.specs.Copies.{IsCopyAtRest, IsCopyThere, IsOrderly}
 use Rattle.sd_crash_safety.specs.MergerOutcomes.{MergerOutcomes}
@@ -154,9 +153,11 @@ module _ {core : Parts} {seen : CoreView} {made : Made} {phases : List Phase} {o
       → (core.standing ≡ Open) × IsCopyAtRest other.source.serial serial seen.catalog (seen_of (opened_core o)) (bodies_after bodies made.request.id made.request.bytes)
   opened_rests laws other serial bodies opens b =
       let known = as_seen bodies b in
-      let rests = laws.rests _ _ o.merge (beside o).copy made o.hands.follows.phase image o.fixes.list (retires_as ended) known.asked bodies known.files (merged_opens o) (free_then o.hands) known.out known.believes in
-      ((work o.hands).stands, of_seen (λ m n. IsCopyAtRest m.source.serial n seen.catalog (seen_of (opened_core o)) (bodies_after bodies made.request.id made.request.bytes))
-      (subst (λ (v : CoreView). IsCopyAtRest o.merge.source.serial image.header.serial v.catalog (seen_of (opened_core o)) (bodies_after bodies made.request.id made.request.bytes)) o.hands.seen_is rests) other serial opens)
+      let rests = laws.rests _ _ o.merge (beside o).copy made o.hands.follows.phase image o.fixes.list (retires_as ended) known.asked bodies known.files (merged_opens o) (free_then o.hands) known.out known.believes in (
+        (work o.hands).stands,
+        of_seen (λ m n. IsCopyAtRest m.source.serial n seen.catalog (seen_of (opened_core o)) (bodies_after bodies made.request.id made.request.bytes))
+            (subst (λ (v : CoreView). IsCopyAtRest o.merge.source.serial image.header.serial v.catalog (seen_of (opened_core o)) (bodies_after bodies made.request.id made.request.bytes)) o.hands.seen_is rests) other serial opens,
+      )
 
   -- its list was empty
   pub none_cut : AreCut seen (seen_of (opened_core o))

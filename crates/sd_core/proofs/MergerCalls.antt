@@ -10,7 +10,7 @@ use Rattle.sd_merge.specs.declared.merge_step.MergeStep.{MergeStep}
 use Rattle.sd_merge.specs.declared.merge_step.MergeStep.TheVariants.{Call, ReadCall, PageCall, TableCall, Zero}
 use Rattle.sd_merge.specs.Copying.{Copying, IsSoundCopying, Steps}
 use Rattle.sd_merge.specs.Merger as merger
-use Rattle.sd_merge.specs.Merger.{AreRunning, CopiesOn, Doing, HasSoundCopy, HasSoundCopyIn, IsRetiring, IsRunningAt, Loses, LosesPage, RetiresOn, Retiring, due, copying, opened, retiring}
+use Rattle.sd_merge.specs.Merger.{AreRunning, Doing, HasSoundCopy, HasSoundCopyIn, IsRetiring, IsRunningAt, Loses, LosesPage, RetiresOn, Retiring, due, copying, opened, retiring}
 use Rattle.sd_rounds.specs.Dumper.{HasSlot}
 use Rattle.sd_crash_safety.specs.Believes.{Believes}
 use Rattle.sd_crash_safety.specs.Calls.{IsFree}

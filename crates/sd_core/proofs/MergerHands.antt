@@ -151,7 +151,7 @@ rests_after (Close p header tables) plan (call ∷ calls) rests = rests
 
 -- ---- an image that the merger closed may leave the catalog
 
--- an outcome of a call that is none on the merged image's last
+-- an outcome of a call behind which the image of its slot leaves the catalog, if it closed that for sure
 pub record LeavesMerge (core : Parts) (seen : CoreView) (made : Made) (phases : List Phase)
     (outs : List (Option RequestId)) (places : Places) (now : Option merger.Running) : Type 0 where
   pub closed : Bool
@@ -220,7 +220,7 @@ module _ {core : Parts} {seen : CoreView} {made : Made} {phases : List Phase} {o
 
 -- ---- the merge goes on
 
--- an outcome with which it does
+-- an outcome with which the merge goes on
 pub record GoesOnMerge (core : Parts) (seen : CoreView) (made : Made) (phases : List Phase)
     (outs : List (Option RequestId)) (places : Places) (done : MergeProgress) (now : Option merger.Running) : Type 0 where
   pub leaves : LeavesMerge core seen made phases outs places now
@@ -312,12 +312,12 @@ module _ {core : Parts} {seen : CoreView} {made : Made} {phases : List Phase} {o
           → OutcomeIsBelieved (seen_of core) (seen_of (merged_core core phases outs places core.room now)) made
       closes r next was hands is = by_more
           (λ one.
-              let h = subst (λ k. HandsClosing r made k next) one hands in
-              laws.retires _ _ g.leaves.merge r next made g.leaves.hands.follows.phase progress.More
-              (retiring_on g.leaves r next progress.More was (elim h [ inl goes ↦ goes.0.done.done | inr ends ↦ ends.0.done.done ]) h) is)
+          let h = subst (λ k. HandsClosing r made k next) one hands in
+          laws.retires _ _ g.leaves.merge r next made g.leaves.hands.follows.phase progress.More
+          (retiring_on g.leaves r next progress.More was (elim h [ inl goes ↦ goes.0.done.done | inr ends ↦ ends.0.done.done ]) h) is)
           (λ one same.
-              let h = subst (λ k. HandsClosing r made k next) same hands in
-              laws.retires _ _ g.leaves.merge r next made g.leaves.hands.follows.phase (progress.Closed one) (retiring_on g.leaves r next (progress.Closed one) was h.goes.done.done h) is)
+          let h = subst (λ k. HandsClosing r made k next) same hands in
+          laws.retires _ _ g.leaves.merge r next made g.leaves.hands.follows.phase (progress.Closed one) (retiring_on g.leaves r next (progress.Closed one) was h.goes.done.done h) is)
 
 -- ---- it has ended
 
@@ -337,7 +337,7 @@ ends_list merge made serial doing hands = by merge.doing refl hands
     by (opened number) was hands = absurd hands
     by (retiring r) was hands = record { r = r; was = was; next = hands.next; hands = hands.hands }
 
--- an outcome with which it has
+-- an outcome with which the merge has ended
 pub record EndsMerge (core : Parts) (seen : CoreView) (made : Made) (phases : List Phase)
     (outs : List (Option RequestId)) (places : Places) (serial : ℕ) (now : Option merger.Running) : Type 0 where
   pub leaves : LeavesMerge core seen made phases outs places now

@@ -19,8 +19,7 @@ use super::Core;
 use crate::following::follow_outcome;
 use crate::lanes::{OPENER, put_out};
 use crate::opening::{
-    let_go, read_by, release_for_opening, step_opener, swept_checkpoint, take_opener,
-    teach,
+    let_go, read_by, release_for_opening, step_opener, swept_checkpoint, take_opener, teach,
 };
 use crate::taken::Taken;
 use sd_command::{Refusal, Reply};
