@@ -11,7 +11,7 @@ use Rattle.sd_merge.specs.declared.copy_order.CopyOrder.{CopyOrder}
 use Rattle.sd_merge.specs.declared.source.Source.{Source}
 use Rattle.sd_merge.specs.Copying.{Copying, out_of}
 use Rattle.sd_merge.specs.Merger as merger
-use Rattle.sd_merge.specs.Merger.{Retiring, due, copying, opened, retiring}
+use Rattle.sd_merge.specs.Merger.{Retiring, due, copying, retiring}
 use Rattle.sd_rounds.specs.Dumper.{HasSlot, Running, out_of_running, slot_of, writes_of_running}
 use Rattle.sd_rounds.specs.Making.{Making}
 use Rattle.sd_crash_safety.specs.Calls.{IsFree}

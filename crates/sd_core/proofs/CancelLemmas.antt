@@ -152,11 +152,7 @@ rests_cancelled core running sound closed at pages gone = record {
 pub merges_on : (core : Parts) (places : Places) (dumper : Dumping) → IsCore core → dumper.running ≡ None
     → ReleasesPlace (serial_of_running core.dumper.running) core.places places
     → IfSome core.merger (MergeRuns core.standing core.phases places core.opener core.numbers core.room dumper.running)
-merges_on core places dumper sound gone released = merging_stays core (record core { places = places; dumper = dumper }) (record {
-  merger_is = refl;
-  room = refl;
-  standing = refl;
-  opener = refl;
+merges_on core places dumper sound gone released = merging_stays core core.phases places core.numbers dumper.running sound (record {
   count = refl;
   given = omega arith;
   checkpoint = omega arith;
@@ -166,7 +162,7 @@ merges_on core places dumper sound gone released = merging_stays core (record co
   other = λ serial given other. subst (λ r. MakesOther r serial) (sym gone) tt;
   held = λ serial given other held. still_held core.dumper.running serial other released held;
   images = λ serial o there spared. still_open (serial_of_running core.dumper.running) serial o released there;
-}) sound.merging
+})
   where
     not_same : (a b : ℕ) → a ≢ b → (a == b) ≡ false
     not_same a b differs = elim (eqb_tells a b) [

@@ -1,9 +1,6 @@
 -- What is so of every core, while its opener works.
-use Rattle.std.proofs.Common.{◌≡◌, ◌≢◌, ℕ, zero, suc, ◌<◌, Bool, true, false, List, [], ◌∷◌, length, Option, Some, None, IfSome, slice_get, slice_index_or, slice_set, refl, sym, ◌∙◌, ap, subst, inl, arith}
-use Rattle.std.proofs.lemmas.Option.{slice_get-get_or}
+use Rattle.std.proofs.Common.{◌≡◌, ◌≢◌, ℕ, zero, suc, ◌<◌, true, false, List, [], ◌∷◌, length, Option, Some, None, IfSome, slice_get, slice_set, refl, sym, ◌∙◌, ap, subst, inl, arith}
 use Rattle.sd_gate.specs.declared.phase.Phase.{Phase}
-use Rattle.sd_gate.specs.declared.phase.Phase.TheVariants.{Raw}
-use Rattle.sd_gate.specs.Phases.{after, phases_after}
 use Rattle.sd_gate.specs.Requests.{Made}
 use Rattle.sd_gate.specs.declared.request_id.RequestId.{RequestId}
 use Rattle.sd_gate.specs.declared.worker.Worker.TheVariants.{Opener}
@@ -108,15 +105,10 @@ set_nobody outs id alone = ap (λ all. slice_set all 2 None) alone
 
 -- ---- outcomes
 
-set_count : (phases : List Phase) (at : ℕ) (phase : Phase) → length (slice_set phases at phase) ≡ length phases
+pub set_count : (phases : List Phase) (at : ℕ) (phase : Phase) → length (slice_set phases at phase) ≡ length phases
+set_count [] at phase = refl
+set_count (p ∷ phases) zero phase = refl
 set_count (p ∷ phases) (suc at) phase = ap suc (set_count phases at phase)
-set_count _ _ phase = refl
-
-pub after_count : (phases new : List Phase) (id : RequestId) (done : Bool) → id.slot < length phases
-    → ((phase : Phase) → slice_get phases id.slot ≡ Some phase → new ≡ phases_after phases id phase done) → length new ≡ length phases
-after_count phases new id done within follows =
-    let phase = slice_index_or phases id.slot Raw in
-    ap length (follows phase (slice_get-get_or phases id.slot Raw within)) ∙ set_count phases id.slot (after phase id.call done)
 
 -- an opener that goes on was there, and is
 pub record IsTaughtOn (old : Option Looking) (made : Made) (new : Option Looking) : Type 0 where

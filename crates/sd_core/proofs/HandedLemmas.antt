@@ -16,19 +16,20 @@ use Rattle.sd_gate.specs.Phases.{phases_after}
 use Rattle.sd_gate.specs.Requests.{Made}
 use Rattle.sd_merge.specs.Merger as merger
 use Rattle.sd_opener.specs.Looking.{Looking}
-use Rattle.sd_rounds.specs.Dumper.{Running, out_of_running, writes_of_running}
+use Rattle.sd_rounds.specs.Dumper.{out_of_running, writes_of_running}
 use Rattle.sd_rounds.specs.Writes.{no_writes}
 use Rattle.sd_crash_safety.specs.declared.standing.Standing.{Standing}
 use Rattle.sd_crash_safety.specs.declared.standing.Standing.TheVariants.{NotOpen, Open, Down}
-use Rattle.sd_crash_safety.specs.Calls.{AddsByOutcome, AreGivenUp, HandedIn, IsApart, IsFree}
-use Rattle.sd_crash_safety.specs.DumperOutcomes.{DumperOutcomes, IsDumpersOutcome, LeavesCatalog, closes_for_sure, is_being_closed, is_sync}
+use Rattle.sd_crash_safety.specs.Calls.{AddsByOutcome, AreGivenUp, HandedIn}
+use Rattle.sd_crash_safety.specs.DumperOutcomes.{DumperOutcomes, IsDumpersOutcome, closes_for_sure, is_being_closed, is_sync}
 use Rattle.sd_crash_safety.specs.MergerOutcomes.{IsMergersOutcome, MergerOutcomes, OutcomeIsBelieved}
 use Rattle.sd_crash_safety.specs.View.{CoreView, history_of}
-use Rattle.sd_core.specs.Following.{FollowsOutcome}
 use Rattle.sd_core.specs.Refusals.{is_idle}
 use Rattle.sd_core.specs.Sound.{AreInPages, IsCore, Parts, out_of_opener, worker_of_lane}
+use Rattle.sd_core.specs.Following.{FollowsOutcome}
 use Rattle.sd_core.proofs.ApplyLemmas.{same_phases}
-use Rattle.sd_core.proofs.FallenLemmas.{apart_after, free_after}
+use Rattle.sd_core.proofs.CoreParts.{seen_of}
+use Rattle.sd_core.proofs.FallenLemmas.{apart_after}
 use Rattle.sd_core.proofs.OutcomeLemmas.{handed_dumper}
 use Rattle.sd_core.proofs.OutsLemmas.{lane_at, no_write, nobody_out}
 
@@ -49,39 +50,6 @@ handed_merger old new made phase answer o base count goes adds = record {
   adds = adds;
 }
 
--- an outcome of the merger's call, as it is followed
-pub merger_followed : (core : Parts) (old new : CoreView) (made : Made) (closed : Bool) → IsCore core → old.outs ≡ core.outs → slice_get core.outs 1 ≡ Some (Some made.request.id)
-    → new.outs ≡ slice_set core.outs 1 None → (n : FollowsOutcome old.phases made new.phases closed) → IsMergersOutcome old made n.phase new
-merger_followed core old new made closed sound same own outs n = record {
-  out = ap (λ all. slice_get all 1) same ∙ own;
-  outs = outs ∙ ap (λ all. slice_set all 1 None) (sym same);
-  apart = subst (λ all. IsFree (slice_set all 1 None) made.request.id.slot) (sym same) (free_after _ core.outs _ _ _ _ 1 made.request.id sound.outs_are own (omega arith));
-  phase_is = n.is;
-  phases = n.phases;
-}
-
--- an outcome of the dumper's call, as it is followed
-pub dumper_followed : (core : Parts) (old new : CoreView) (lane : ℕ) (made : Made) (closed : Bool) → IsCore core → old.outs ≡ core.outs → new.base ≡ old.base → new.opener ≡ None
-    → new.memory ≡ old.memory → slice_get core.outs lane ≡ Some (Some made.request.id) → new.outs ≡ slice_set core.outs lane None → (n : FollowsOutcome old.phases made new.phases closed)
-    → IsDumpersOutcome old lane made n.phase new
-dumper_followed core old new lane made closed sound same base none memory own outs n = record {
-  base = base;
-  closed = none;
-  memory = memory;
-  out = ap (λ all. slice_get all lane) same ∙ own;
-  outs = outs ∙ ap (λ all. slice_set all lane None) (sym same);
-  apart = subst (λ all. IsApart (slice_set all lane None) made.request.id) (sym same)
-      (λ at other out on. (apart_after _ core.outs _ _ _ _ lane made.request.id sound.outs_are own at other out on).are);
-  phase_is = n.is;
-  phases = n.phases;
-}
-
--- the image of a slot that an outcome closes for sure leaves the catalog
-pub leaves_followed : (old new : List Phase) (made : Made) (id : RequestId) (closed : Bool) (before after : Places) → id ≡ made.request.id → (n : FollowsOutcome old made new closed)
-    → LeavesCatalog closed id.slot before after → LeavesCatalog (closes_for_sure n.phase made.request.id.call) made.request.id.slot before after
-leaves_followed old new made id closed before after same n leaves =
-    subst (λ b. LeavesCatalog b made.request.id.slot before after) n.closes (subst (λ (i : RequestId). LeavesCatalog closed i.slot before after) same leaves)
-
 -- a call that closes a slot for sure is a sync
 pub sync_of : (phase : Phase) (one : Call) → closes_for_sure phase one ≡ true → one ≡ call.Sync
 sync_of phase one is = by one (second (is_being_closed phase) (is_sync one) is)
@@ -91,8 +59,14 @@ sync_of phase one is = by one (second (is_being_closed phase) (is_sync one) is)
     second false b e = absurd (let no : false ≡ true = e in cc)
 
     by : (one : Call) → is_sync one ≡ true → one ≡ call.Sync
+    by call.Len e = absurd (let no : false ≡ true = e in cc)
+    by (call.Read at) e = absurd (let no : false ≡ true = e in cc)
+    by (call.Write at) e = absurd (let no : false ≡ true = e in cc)
+    by call.WriteHeader e = absurd (let no : false ≡ true = e in cc)
+    by call.Close e = absurd (let no : false ≡ true = e in cc)
+    by call.Open e = absurd (let no : false ≡ true = e in cc)
+    by call.Cut e = absurd (let no : false ≡ true = e in cc)
     by call.Sync e = refl
-    by _ e = absurd (let no : false ≡ true = e in cc)
 
 -- ---- one whose job has ended
 
@@ -101,11 +75,23 @@ pub record IsLate (core : Parts) (id : RequestId) : Type 0 where
   pub closed : core.opener ≡ None
   pub other : id.worker ≢ Opener
 
-pub is_late : (core : Parts) (running : Option Running) (merge : Option merger.Running) (opener : Option Looking) (lane : ℕ) (id : RequestId) → IsCore core
-    → slice_get core.outs lane ≡ Some (Some id) → core.dumper.running ≡ running → core.merger ≡ merge → core.opener ≡ opener
-    → ((id.worker ≡ Dumper) × (running ≡ None)) ⊎ (((id.worker ≡ Merger) × (merge ≡ None)) ⊎ ((id.worker ≡ Opener) × (opener ≡ None))) → IsLate core id
-is_late core running merge opener lane id sound out is_running is_merge is_opener idle = record { down = stands core.standing refl; closed = none; other = other }
+none_is : {X : Type 0} (one : Option X) → is_none one ≡ true → one ≡ None
+none_is None e = refl
+none_is (Some x) e = absurd (let no : false ≡ true = e in cc)
+
+-- what is so of the worker whose job has ended
+idle_one : (core : Parts) (worker : Worker) → is_idle (seen_of core) worker ≡ true
+    → ((worker ≡ Dumper) × (core.dumper.running ≡ None)) ⊎ (((worker ≡ Merger) × (core.merger ≡ None)) ⊎ ((worker ≡ Opener) × (core.opener ≡ None)))
+idle_one core Dumper is = inl (refl, none_is core.dumper.running is)
+idle_one core Merger is = inr (inl (refl, none_is core.merger is))
+idle_one core Opener is = inr (inr (refl, none_is core.opener is))
+
+pub is_late : (core : Parts) (lane : ℕ) (id : RequestId) → IsCore core → slice_get core.outs lane ≡ Some (Some id) → is_idle (seen_of core) id.worker ≡ true → IsLate core id
+is_late core lane id sound out ended = record { down = stands core.standing refl; closed = none; other = other }
   where
+    idle : ((id.worker ≡ Dumper) × (core.dumper.running ≡ None)) ⊎ (((id.worker ≡ Merger) × (core.merger ≡ None)) ⊎ ((id.worker ≡ Opener) × (core.opener ≡ None)))
+    idle = idle_one core id.worker ended
+
     whose : id.worker ≡ worker_of_lane lane
     whose = sound.outs_are.whose lane id out
 
@@ -120,9 +106,10 @@ is_late core running merge opener lane id sound out is_running is_merge is_opene
 
     -- one that is out while an opener runs is its own
     in_opener : (o : Option RequestId) (at : ℕ) → slice_get (None ∷ None ∷ o ∷ no_writes) at ≡ Some (Some id) → worker_of_lane at ≡ Opener
+    in_opener o zero e = absurd (let no : Some None ≡ Some (Some id) = e in cc)
+    in_opener o (suc zero) e = absurd (let no : Some None ≡ Some (Some id) = e in cc)
     in_opener o (suc (suc zero)) e = refl
     in_opener o (suc (suc (suc k))) e = absurd (no_write k id e)
-    in_opener o _ e = absurd (let no : Some None ≡ Some (Some id) = e in cc)
 
     no_opener : (o : Option Looking) → core.opener ≡ o → core.opener ≡ None
     no_opener None is = is
@@ -133,7 +120,7 @@ is_late core running merge opener lane id sound out is_running is_merge is_opene
           | inl d ↦ absurd (not_opener own d.0)
           | inr rest ↦ elim rest [
             | inl m ↦ absurd (opener_merger own m.0)
-            | inr o ↦ is_opener ∙ o.1
+            | inr o ↦ o.1
           ]
         ]
 
@@ -157,17 +144,17 @@ is_late core running merge opener lane id sound out is_running is_merge is_opene
         let at = lane_at (out_of_running core.dumper.running) (merger.out_of_merge core.merger) (writes_of_running core.dumper.running) lane id (ap (λ all. slice_get all lane) (sym jobs) ∙ out) in
         elim idle [
           | inl d ↦ elim at [
-            | inl a ↦ (let no : None ≡ Some id = ap out_of_running (sym (is_running ∙ d.1)) ∙ a.1 in cc)
+            | inl a ↦ (let no : None ≡ Some id = ap out_of_running (sym d.1) ∙ a.1 in cc)
             | inr rest ↦ elim rest [
               | inl b ↦ not_dumper (whose ∙ ap worker_of_lane b.0) d.0
-              | inr page ↦ no_write page.0 id (ap (λ r. slice_get (writes_of_running r) page.0) (sym (is_running ∙ d.1)) ∙ page.2)
+              | inr page ↦ no_write page.0 id (ap (λ r. slice_get (writes_of_running r) page.0) (sym d.1) ∙ page.2)
             ]
           ]
           | inr others ↦ elim others [
             | inl m ↦ elim at [
               | inl a ↦ not_dumper m.0 (whose ∙ ap worker_of_lane a.0)
               | inr rest ↦ elim rest [
-                | inl b ↦ (let no : None ≡ Some id = ap merger.out_of_merge (sym (is_merge ∙ m.1)) ∙ b.1 in cc)
+                | inl b ↦ (let no : None ≡ Some id = ap merger.out_of_merge (sym m.1) ∙ b.1 in cc)
                 | inr page ↦ not_dumper m.0 (whose ∙ ap worker_of_lane page.1)
               ]
             ]
@@ -183,72 +170,51 @@ is_late core running merge opener lane id sound out is_running is_merge is_opene
     stands Open is = absurd (not_open is)
     stands Down is = is
 
-none_is : {X : Type 0} (one : Option X) → is_none one ≡ true → one ≡ None
-none_is None e = refl
-none_is (Some x) e = absurd (let no : false ≡ true = e in cc)
-
--- what is so of the worker whose job has ended
-pub idle_one : (core : CoreView) (worker : Worker) → is_idle core worker ≡ true
-    → ((worker ≡ Dumper) × (core.dumper.running ≡ None)) ⊎ (((worker ≡ Merger) × (core.merger ≡ None)) ⊎ ((worker ≡ Opener) × (core.opener ≡ None)))
-idle_one core Dumper is = inl (refl, none_is core.dumper.running is)
-idle_one core Merger is = inr (inl (refl, none_is core.merger is))
-idle_one core Opener is = inr (inr (refl, none_is core.opener is))
-
--- nothing but the request and its slot's phase changes
-pub record IsHandedLate (old : CoreView) (lane : ℕ) (made : Made) (phase : Phase) (new : CoreView) : Type 0 where
-  pub base : new.base ≡ old.base
-  pub history : history_of new ≡ history_of old
-  pub memory : new.memory ≡ old.memory
-  pub closed : new.opener ≡ None
-  pub down : new.standing ≡ Down
-  pub committing : new.committing ≡ old.committing
-  pub other : made.request.id.worker ≢ Opener
-  pub whose : made.request.id.worker ≡ worker_of_lane lane
-  pub out : slice_get old.outs lane ≡ Some (Some made.request.id)
-  pub outs : new.outs ≡ slice_set old.outs lane None
-  pub apart : (at : ℕ) (id : RequestId) → slice_get (slice_set old.outs lane None) at ≡ Some (Some id) → id.slot ≡ made.request.id.slot → AreInPages lane at made.request.id id
-  pub phase_is : slice_get old.phases made.request.id.slot ≡ Some phase
-  pub phases : new.phases ≡ phases_after old.phases made.request.id phase (is_done made.answer)
-  pub count : length new.phases ≡ length old.phases
-
 pub merger_lane : (lane : ℕ) → worker_of_lane lane ≡ Merger → lane ≡ 1
+merger_lane zero is = absurd (let no : Dumper ≡ Merger = is in cc)
 merger_lane (suc zero) is = refl
 merger_lane (suc (suc zero)) is = absurd (let no : Opener ≡ Merger = is in cc)
-merger_lane _ is = absurd (let no : Dumper ≡ Merger = is in cc)
+merger_lane (suc (suc (suc k))) is = absurd (let no : Dumper ≡ Merger = is in cc)
 
 pub opener_lane : (lane : ℕ) → worker_of_lane lane ≡ Opener → lane ≡ 2
+opener_lane zero is = absurd (let no : Dumper ≡ Opener = is in cc)
 opener_lane (suc zero) is = absurd (let no : Merger ≡ Opener = is in cc)
 opener_lane (suc (suc zero)) is = refl
-opener_lane _ is = absurd (let no : Dumper ≡ Opener = is in cc)
+opener_lane (suc (suc (suc k))) is = absurd (let no : Dumper ≡ Opener = is in cc)
 
-pub handed_late : DumperOutcomes → (places : Places) → MergerOutcomes places → (old new : CoreView) (lane : ℕ) (made : Made) (phase : Phase) → IsHandedLate old lane made phase new
-    → HandedIn old lane made (reply.Refused StoreDown) new
-handed_late dumper places merges old new lane made phase l = by made.request.id.worker refl
+-- nothing but the request and its slot's phase changes
+pub handed_late : DumperOutcomes → {places : Places} → MergerOutcomes places → (core : Parts) (lane : ℕ) (made : Made) (phases : List Phase) (outs : List (Option RequestId)) (closed : Bool) → IsCore core
+    → IsLate core made.request.id → slice_get core.outs lane ≡ Some (Some made.request.id) → outs ≡ slice_set core.outs lane None → FollowsOutcome core.phases made phases closed
+    → HandedIn (seen_of core) lane made (reply.Refused StoreDown) (seen_of (record core { phases = phases; outs = outs }))
+handed_late dumper merges core lane made phases outs closed sound late own are n = by made.request.id.worker refl
   where
-    by : (worker : Worker) → made.request.id.worker ≡ worker → HandedIn old lane made (reply.Refused StoreDown) new
+    apart : (at : ℕ) (id : RequestId) → slice_get (slice_set core.outs lane None) at ≡ Some (Some id) → id.slot ≡ made.request.id.slot → AreInPages lane at made.request.id id
+    apart = apart_after core.standing core.outs core.phases core.dumper.running core.merger core.opener lane made.request.id sound.outs_are own
+
+    by : (worker : Worker) → made.request.id.worker ≡ worker → HandedIn (seen_of core) lane made (reply.Refused StoreDown) (seen_of (record core { phases = phases; outs = outs }))
     by Dumper is =
-        let outcome : IsDumpersOutcome old lane made phase new = record {
-          base = l.base;
-          closed = l.closed;
-          memory = l.memory;
-          out = l.out;
-          outs = l.outs;
-          apart = λ at id out same. (l.apart at id out same).are;
-          phase_is = l.phase_is;
-          phases = l.phases;
+        let outcome : IsDumpersOutcome (seen_of core) lane made n.phase (seen_of (record core { phases = phases; outs = outs })) = record {
+          base = refl;
+          closed = late.closed;
+          memory = refl;
+          out = own;
+          outs = are;
+          apart = λ at id out same. (apart at id out same).are;
+          phase_is = n.is;
+          phases = n.phases;
         } in
-        handed_dumper old new lane made phase (reply.Refused StoreDown) outcome l.count
-        (λ asked bodies files at b. dumper.fails old new lane made phase asked bodies files (record { outcome = outcome; history = l.history; down = l.down; committing = l.committing }) at b) l.history
+        handed_dumper _ _ lane made n.phase (reply.Refused StoreDown) outcome n.count
+        (λ asked bodies files. dumper.fails _ _ lane made n.phase asked bodies files (record { outcome = outcome; history = refl; down = late.down; committing = refl })) refl
     by Merger is =
-        let one : lane ≡ 1 = merger_lane lane (sym l.whose ∙ is) in
-        let outcome : IsMergersOutcome old made phase new = record {
-          out = ap (slice_get old.outs) (sym one) ∙ l.out;
-          outs = l.outs ∙ ap (λ k. slice_set old.outs k None) one;
-          apart = λ at id out same. (let far = (l.apart at id (ap (λ k. slice_get (slice_set old.outs k None) at) one ∙ out) same).first in omega (arith, far, one));
-          phase_is = l.phase_is;
-          phases = l.phases;
+        let one : lane ≡ 1 = merger_lane lane (sym (sound.outs_are.whose lane made.request.id own) ∙ is) in
+        let outcome : IsMergersOutcome (seen_of core) made n.phase (seen_of (record core { phases = phases; outs = outs })) = record {
+          out = ap (slice_get core.outs) (sym one) ∙ own;
+          outs = are ∙ ap (λ k. slice_set core.outs k None) one;
+          apart = λ at id out same. (let far = (apart at id (ap (λ k. slice_get (slice_set core.outs k None) at) one ∙ out) same).first in omega (arith, far, one));
+          phase_is = n.is;
+          phases = n.phases;
         } in
-        subst (λ k. HandedIn old k made (reply.Refused StoreDown) new) (sym one)
-        (handed_merger old new made phase (reply.Refused StoreDown) outcome l.base l.count
-        (merges.fails old new made phase (record { outcome = outcome; base = l.base; history = l.history; closed = l.closed; down = l.down; committing = l.committing })) l.history)
-    by Opener is = absurd (l.other is)
+        subst (λ k. HandedIn (seen_of core) k made (reply.Refused StoreDown) (seen_of (record core { phases = phases; outs = outs }))) (sym one)
+        (handed_merger _ _ made n.phase (reply.Refused StoreDown) outcome refl n.count
+        (merges.fails _ _ made n.phase (record { outcome = outcome; base = refl; history = refl; closed = late.closed; down = late.down; committing = refl })) refl)
+    by Opener is = absurd (late.other is)

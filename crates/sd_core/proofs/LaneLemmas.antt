@@ -1,9 +1,7 @@
 -- In which lane a request of the dumper is, and what is out once its outcome was handed in.
-use Rattle.std.proofs.Common.{◌≡◌, ◌⊎◌, ℕ, suc, ◌<◌, ◌&&◌, Bool, true, false, List, ◌∷◌, is_none, Option, Some, None, slice_get, slice_set, refl, sym, ◌∙◌, ap, subst, inl, inr, arith}
+use Rattle.std.proofs.Common.{◌≡◌, ℕ, suc, ◌<◌, true, false, List, ◌∷◌, is_none, Option, Some, None, slice_get, slice_set, refl, sym, ◌∙◌, ap, subst, inl, inr, arith}
 use Rattle.std.proofs.lemmas.Option.{same_Some}
-use Rattle.std.proofs.Math.Bool.{and-false}
 use Rattle.sd_gate.specs.declared.call.Call.TheVariants.{Write}
-use Rattle.sd_gate.specs.declared.phase.Phase.{Phase}
 use Rattle.sd_gate.specs.declared.request_id.RequestId.{RequestId}
 use Rattle.sd_gate.specs.declared.worker.Worker.TheVariants.{Dumper, Merger}
 use Rattle.sd_gate.specs.Plans.{Planned}
@@ -11,16 +9,14 @@ use Rattle.sd_gate.specs.Requests.{Asked, Made}
 use Rattle.sd_gate.specs.Sequences.{data_place}
 use Rattle.sd_command.specs.declared.reply.Reply.{Reply}
 use Rattle.sd_merge.specs.Merger as merger
-use Rattle.sd_rounds.specs.declared.new_image.NewImage.{NewImage}
 use Rattle.sd_rounds.specs.declared.stage.Stage.{Stage}
 use Rattle.sd_rounds.specs.declared.stage.Stage.TheVariants.{Format, Freeze, Pass as PassStage, Close}
 use Rattle.sd_rounds.specs.Dumper.{IsOutOfImage, IsOutOfRunning, Running, out_of_running, slot_of, writes_of_running}
-use Rattle.sd_rounds.specs.Making.{IsWritten, Making, Opens, PlanGoesOn, WritesPage, out_of, plan_of}
+use Rattle.sd_rounds.specs.Making.{Making, WritesPage, out_of, plan_of}
 use Rattle.sd_rounds.specs.Pass.{data_pages}
 use Rattle.sd_rounds.specs.Sound.{IsSoundImage}
 use Rattle.sd_rounds.specs.Writes.{no_writes}
 use Rattle.sd_crash_safety.specs.Calls.{HandedIn, IsApart}
-use Rattle.sd_crash_safety.specs.DumperOutcomes.{IsDumpersOutcome, closes_for_sure, is_being_closed}
 use Rattle.sd_crash_safety.specs.View.{CoreView, page_lane}
 use Rattle.sd_core.specs.Sound.{HasWrites, IsCore, Parts}
 use Rattle.sd_crash_safety.proofs.Lanes.{plan_outside}
@@ -75,73 +71,17 @@ slot_at core running lane id sound is whose at =
 
 -- ---- one of the plan
 
-pub plan_lane : (core : Parts) (running : Running) (image : Making) (lane : ℕ) (id : RequestId) → IsCore core → core.dumper.running ≡ Some running → running.image ≡ Some image
-    → slice_get core.outs lane ≡ Some (Some id) → out_of image.stage ≡ Some id → lane ≡ 0
-plan_lane core running image lane id sound is making at out =
-    same_lane core lane 0 id sound at (ap (λ all. slice_get all 0) (jobs_are core running sound is) ∙ ap (λ i. Some (out_of_running (Some (record running { image = i })))) making ∙ ap Some out)
-
-out_is : (stage : Stage) (plan : Planned) → plan_of stage ≡ Some plan → out_of stage ≡ plan.out
+pub out_is : (stage : Stage) (plan : Planned) → plan_of stage ≡ Some plan → out_of stage ≡ plan.out
 out_is (Format own) plan was = ap (λ (p : Planned). p.out) (same_Some own plan was)
+out_is Freeze plan was = absurd (let no : None ≡ Some plan = was in cc)
+out_is PassStage plan was = absurd (let no : None ≡ Some plan = was in cc)
 out_is (Close own header tables) plan was = ap (λ (p : Planned). p.out) (same_Some own plan was)
-out_is _ plan was = absurd (let no : None ≡ Some plan = was in cc)
-
-pub goes_out : (image next : Making) (made : Made) → PlanGoesOn image made next → out_of image.stage ≡ Some made.request.id
-goes_out image next made goes = out_is image.stage goes.plan goes.awaited.was ∙ goes.awaited.out
-
-opens_out : (image : Making) (made : Made) (opened : NewImage) → Opens image made opened → out_of image.stage ≡ Some made.request.id
-opens_out image made opened opens = ap out_of opens.was ∙ opens.out
 
 -- ---- the write of a data page
 
-pub write_lane : (core : Parts) (running : Running) (image : Making) (lane k : ℕ) (id : RequestId) → IsCore core → core.dumper.running ≡ Some running → running.image ≡ Some image
-    → slice_get core.outs lane ≡ Some (Some id) → slice_get image.writes k ≡ Some (Some id) → lane ≡ suc (suc (suc k))
-write_lane core running image lane k id sound is making at out =
-    same_lane core lane (suc (suc (suc k))) id sound at
-    (ap (λ all. slice_get all (suc (suc (suc k)))) (jobs_are core running sound is) ∙ ap (λ i. slice_get (writes_of_running (Some (record running { image = i }))) k) making ∙ out)
-
--- it closes nothing
-pub write_closes_none : (core : Parts) (running : Running) (image : Making) (k : ℕ) (phase : Phase) (id : RequestId) → IsCore core → core.dumper.running ≡ Some running → running.image ≡ Some image
-    → slice_get image.writes k ≡ Some (Some id) → closes_for_sure phase id.call ≡ false
-write_closes_none core running image k phase id sound is making out =
-    let w = at_work core running sound is in
-    let page = (subst (λ i. HasWrites running i) making w.writes).0.each k id out in
-    ap (closes_for_sure phase) page.call ∙ and-false (is_being_closed phase)
-
 -- ---- what is out then
 
-pub more_outs : (core : Parts) (running : Running) (image next : Making) (lane : ℕ) (made : Made) → IsCore core → core.dumper.running ≡ Some running → running.image ≡ Some image
-    → slice_get core.outs lane ≡ Some (Some made.request.id) → out_of next.stage ≡ None → PlanGoesOn image made next ⊎ IsWritten image made next
-    → slice_set core.outs lane None ≡ out_of next.stage ∷ merger.out_of_merge core.merger ∷ None ∷ next.writes
-more_outs core running image next lane made sound is making at rests (inl goes) =
-    let zero_is = plan_lane core running image lane made.request.id sound is making at (goes_out image next made goes) in
-    ap (λ k. slice_set core.outs k None) zero_is ∙ ap (λ all. slice_set all 0 None) (jobs_are core running sound is)
-    ∙ ap (λ i. None ∷ merger.out_of_merge core.merger ∷ None ∷ writes_of_running (Some (record running { image = i }))) making
-    ∙ ap (λ w. None ∷ merger.out_of_merge core.merger ∷ None ∷ w) (sym (ap (λ (m : Making). m.writes) goes.is))
-    ∙ ap (λ o. o ∷ merger.out_of_merge core.merger ∷ None ∷ next.writes) (sym rests)
-more_outs core running image next lane made sound is making at rests (inr written) =
-    let page_is = write_lane core running image lane written.lane made.request.id sound is making at written.out in
-    ap (λ k. slice_set core.outs k None) page_is ∙ ap (λ all. slice_set all (suc (suc (suc written.lane))) None) (jobs_are core running sound is)
-    ∙ ap (λ i. out_of_running (Some (record running { image = i })) ∷ merger.out_of_merge core.merger ∷ None ∷ slice_set (writes_of_running (Some (record running { image = i }))) written.lane None) making
-    ∙ ap (λ w. out_of image.stage ∷ merger.out_of_merge core.merger ∷ None ∷ w) (sym (ap (λ (m : Making). m.writes) written.is))
-    ∙ ap (λ o. o ∷ merger.out_of_merge core.merger ∷ None ∷ next.writes) (ap (λ (m : Making). out_of m.stage) (sym written.is))
-
-pub opens_lane : (core : Parts) (running : Running) (image : Making) (lane : ℕ) (made : Made) (opened : NewImage) → IsCore core → core.dumper.running ≡ Some running → running.image ≡ Some image
-    → slice_get core.outs lane ≡ Some (Some made.request.id) → Opens image made opened → lane ≡ 0
-opens_lane core running image lane made opened sound is making at opens =
-    plan_lane core running image lane made.request.id sound is making at (opens_out image made opened opens)
-
-pub opens_outs : (core : Parts) (running : Running) (image : Making) (lane : ℕ) (made : Made) (opened : NewImage) → IsCore core → core.dumper.running ≡ Some running → running.image ≡ Some image
-    → slice_get core.outs lane ≡ Some (Some made.request.id) → Opens image made opened
-    → slice_set core.outs lane None ≡ None ∷ merger.out_of_merge core.merger ∷ None ∷ no_writes
-opens_outs core running image lane made opened sound is making at opens =
-    ap (λ k. slice_set core.outs k None) (opens_lane core running image lane made opened sound is making at opens) ∙ ap (λ all. slice_set all 0 None) (jobs_are core running sound is)
-    ∙ ap (λ i. None ∷ merger.out_of_merge core.merger ∷ None ∷ writes_of_running (Some (record running { image = i }))) making
-    ∙ ap (λ w. None ∷ merger.out_of_merge core.merger ∷ None ∷ w) opens.rests
-
 -- ---- as the calls of a core tell it
-
-pub outcome_at : (old new : CoreView) (lane k : ℕ) (made : Made) (phase : Phase) → lane ≡ k → IsDumpersOutcome old lane made phase new → IsDumpersOutcome old k made phase new
-outcome_at old new lane k made phase same o = subst (λ n. IsDumpersOutcome old n made phase new) same o
 
 pub handed_at : (old new : CoreView) (lane k : ℕ) (made : Made) (answer : Reply) → lane ≡ k → HandedIn old k made answer new → HandedIn old lane made answer new
 handed_at old new lane k made answer same h = subst (λ n. HandedIn old n made answer new) (sym same) h

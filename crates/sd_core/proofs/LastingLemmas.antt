@@ -1,11 +1,11 @@
 -- A merge that goes on is the one that ran, and nothing is asked for on its image's slot.
-use Rattle.std.proofs.Common.{◌≡◌, Option, Some, sym, ◌∙◌, ap, subst}
+use Rattle.std.proofs.Common.{◌≡◌, Some, sym, ◌∙◌, ap, subst}
 use Rattle.sd_gate.specs.declared.request_id.RequestId.{RequestId}
 use Rattle.sd_merge.specs.Merger as merger
 use Rattle.sd_merge.specs.Merger.{Retiring, retiring}
 use Rattle.sd_crash_safety.specs.Calls.{IsFree}
 use Rattle.sd_crash_safety.specs.View.{CoreView}
-use Rattle.sd_core.specs.Lasting.{IsLeftAlone, IsSameMerge}
+use Rattle.sd_core.specs.Lasting.{IsLeftAlone}
 use Rattle.sd_core.specs.Merging.{IsMergedImage}
 use Rattle.sd_core.specs.Sound.{IsCore, IsDoing, Parts}
 use Rattle.sd_core.proofs.BesideLemmas.{free_on, merger_works}

@@ -5,12 +5,14 @@ mod BegunLemmas
 mod BesideLemmas
 mod CancelLemmas
 mod CoreLemmas
+mod CoreParts
 mod EnteredLemmas
 pub mod FallenLemmas
 mod FlagLemmas
 mod GiveUp
 mod GoOnLemmas
 pub mod HandedLemmas
+mod HandsDump
 mod ImageLemmas
 mod JournalLemmas
 mod LaneLemmas

@@ -1,8 +1,8 @@
 -- The list of the images that a merge closes, where its image enters the catalog, and what is so at its end.
-use Rattle.std.proofs.Common.{◌≡◌, ℕ, zero, suc, true, false, is_none, List, length, Contains, Option, Some, None, slice_get, slice_set, refl, sym, ◌∙◌, ap, subst, inl, inr, arith}
+use Rattle.std.proofs.Common.{◌≡◌, ℕ, true, false, is_none, List, length, Contains, Option, Some, None, slice_get, refl, sym, ◌∙◌, ap, subst, inl, inr, arith}
 use Rattle.std.proofs.lemmas.Option.{same_Some}
 use Rattle.sd_image.proofs.Members.{place_in}
-use Rattle.sd_chain.specs.Catalog.{Changes, IsHeld, IsSoundCatalog, Places, place_of}
+use Rattle.sd_chain.specs.Catalog.{IsHeld, Places, place_of}
 use Rattle.sd_gate.specs.declared.phase.Phase.{Phase}
 use Rattle.sd_gate.specs.declared.phase.Phase.TheVariants.{Bare}
 use Rattle.sd_gate.specs.declared.request_id.RequestId.{RequestId}
@@ -10,38 +10,45 @@ use Rattle.sd_gate.specs.declared.worker.Worker.{Worker}
 use Rattle.sd_gate.specs.declared.worker.Worker.TheVariants as its
 use Rattle.sd_gate.specs.Fits.{IsClosed}
 use Rattle.sd_gate.specs.Phases.{bodies_after}
-use Rattle.sd_gate.specs.Requests.{Asked, Made}
+use Rattle.sd_gate.specs.Requests.{Made}
 use Rattle.sd_merge.specs.declared.merge_progress.MergeProgress.{MergeProgress}
 use Rattle.sd_merge.specs.declared.retired.Retired.{Retired}
 use Rattle.sd_merge.specs.Copying.{Copying}
 use Rattle.sd_merge.specs.Merger as merger
-use Rattle.sd_merge.specs.Merger.{Doing, HandsAt, Retiring, TakesList, copying, list_in, list_of, opened, retiring, source_of}
+use Rattle.sd_merge.specs.Merger.{HandsAt, TakesList, copying, list_in, list_of, retiring, source_of}
 use Rattle.sd_rounds.specs.declared.new_image.NewImage.{NewImage}
-use Rattle.sd_rounds.specs.Dumper.{Running}
 use Rattle.sd_crash_safety.specs.Calls.{IsFree}
 use Rattle.sd_crash_safety.specs.Copies.{IsCopyAtRest, IsCopyThere, IsOrderly}
 use Rattle.sd_crash_safety.specs.MergerOutcomes.{MergerOutcomes}
-use Rattle.sd_crash_safety.specs.Merges.{IsSpared}
 use Rattle.sd_crash_safety.specs.View.{CoreView}
+use Rattle.sd_crash_safety.specs.declared.standing.Standing.TheVariants.{Open}
 use Rattle.sd_free_slots.specs.Taken.{IsListOf}
-use Rattle.sd_core.specs.Merging.{AreCut, FixesList, HasItsList, IsAsBelieved, IsMergedImage, IsOneByte, OpensMerged, RetiresThese, opened_merge, retires_as}
+use Rattle.sd_core.specs.Merging.{AreCut, HasItsList, IsAsBelieved, IsMergedImage, IsOneByte, OpensMerged, RetiresThese, opened_merge, retires_as}
 use Rattle.sd_core.specs.Refusals.{is_idle}
 use Rattle.sd_core.specs.Sound.{IsCore, IsDoing, Parts}
-use Rattle.sd_core.proofs.BesideLemmas.{free_spared, merger_works}
+use Rattle.sd_core.proofs.BesideLemmas.{merger_works}
 use Rattle.sd_core.proofs.OwnLemmas.{spared_of}
-use Rattle.sd_core.proofs.MergerHands.{EndsList, HandsBeside, IsHandedOn, IsMore, ended_goes_on}
-use Rattle.sd_core.proofs.OpenedLemmas.{OpensAs, OpensBeside, image_of, merged_image, merged_opens}
+use Rattle.sd_core.proofs.CoreParts.{seen_of}
+use Rattle.sd_core.proofs.MergerHands.{EndsMerge, GoesOnMerge, IsMore, LeavesMerge, ended_goes_on, free_then, list_free, merged_core, work}
+use Rattle.sd_core.proofs.OpenedLemmas.{OpensMerge, beside, fixed, merged_image, merged_opens, opened_core}
+use Rattle.sd_core.proofs.OutcomeLemmas.{left_held}
 use Rattle.sd_core.proofs.PreDumpLemmas.{none_held}
 
 -- ---- the image doesn't enter
 
 -- its place was held, and stays so
-pub not_opened : (core : Parts) (merge : merger.Running) (serial : ℕ) (old new : CoreView) → IsCore core → old.merger ≡ core.merger → ((n : ℕ) → IsHeld core.places n → IsHeld new.catalog n)
-    → OpensMerged merge serial old new → ⊥
-not_opened core merge serial old new sound same stays o =
-    let is = sym same ∙ o.was in
+pub not_opened : (core : Parts) (seen new : CoreView) → IsCore core → seen_of core ≡ seen → ((n : ℕ) → IsHeld core.places n → IsHeld new.catalog n)
+    → (merge : merger.Running) (serial : ℕ) → OpensMerged merge serial seen new → ⊥
+not_opened core seen new sound same stays merge serial o =
+    let is = ap (λ (v : CoreView). v.merger) same ∙ o.was in
     let d = subst (IsDoing core.phases core.places core.numbers core.room core.dumper.running merge) o.doing (merger_works core merge sound is).doing in
     none_held new.catalog serial o.image (stays serial (subst (IsHeld core.places) (sym o.own) d.0.held)) o.there
+
+-- nor where one that the merger closed may leave
+pub none_enters : {core : Parts} {seen : CoreView} {made : Made} {phases : List Phase} {outs : List (Option RequestId)} {places : Places} {now : Option merger.Running}
+    (l : LeavesMerge core seen made phases outs places now) (merge : merger.Running) (serial : ℕ) → OpensMerged merge serial seen (seen_of (merged_core core phases outs places core.room now)) → ⊥
+none_enters {core} {seen} {made} {phases} {outs} {places} {now} l = not_opened core seen (seen_of (merged_core core phases outs places core.room now)) l.hands.sound l.hands.seen_is
+    (λ n held. left_held l.closed made.request.id.slot core.places places n l.leaves held)
 
 -- nor behind a call that comes late
 pub late_opens : (old new : CoreView) (worker : Worker) → is_idle old worker ≡ true → worker ≡ its.Merger → (merge : merger.Running) (serial : ℕ) → OpensMerged merge serial old new → ⊥
@@ -50,40 +57,21 @@ late_opens old new worker idle whose merge serial opens =
     let no : false ≡ true = ap is_none (sym opens.was) ∙ none in cc
 
 -- a merge that goes on with its image goes on repeating its source
-pub still_copies : (old now : Option merger.Running) (merge : merger.Running) (copy : Copying) (made : Made) (done : MergeProgress) → IsMore done → IsHandedOn old made done now
-    → old ≡ Some merge → merge.doing ≡ copying copy → source_of now ≡ None → ⊥
-still_copies old now merge copy made done more h was doing none = by more (subst (λ d. HandsAt d made done h.doing) (ap (λ (m : merger.Running). m.doing) same ∙ doing) h.hands)
+pub still_copies : {core : Parts} {seen : CoreView} {made : Made} {phases : List Phase} {outs : List (Option RequestId)} {places : Places} {done : MergeProgress} {now : Option merger.Running}
+    (g : GoesOnMerge core seen made phases outs places done now) (merge : merger.Running) (copy : Copying) → seen.merger ≡ Some merge → merge.doing ≡ copying copy → source_of now ≡ None → ⊥
+still_copies {made = made} {done = done} g merge copy was doing none = by g.more (subst (λ d. HandsAt d made done g.doing) (ap (λ (m : merger.Running). m.doing) same ∙ doing) g.goes)
   where
-    same : h.merge ≡ merge
-    same = same_Some h.merge merge (sym h.was ∙ was)
+    same : g.leaves.merge ≡ merge
+    same = same_Some g.leaves.merge merge (sym g.leaves.hands.was ∙ ap (λ (v : CoreView). v.merger) g.leaves.hands.seen_is ∙ was)
 
-    goes : (next : Copying) → h.doing ≡ copying next → ⊥
-    goes next is = let no : Some h.merge.source ≡ None = sym (ap source_of h.is ∙ ap (λ d. source_of (Some (record h.merge { doing = d }))) is) ∙ none in cc
+    goes : (next : Copying) → g.doing ≡ copying next → ⊥
+    goes next is = let no : Some g.leaves.merge.source ≡ None = sym (ap source_of g.is ∙ ap (λ d. source_of (Some (record g.leaves.merge { doing = d }))) is) ∙ none in cc
 
-    by : IsMore done → HandsAt (copying copy) made done h.doing → ⊥
-    by (inl one) hands = (let it = subst (λ k. HandsAt (copying copy) made k h.doing) one hands in goes it.copy it.is)
-    by (inr one) hands = subst (λ k. HandsAt (copying copy) made k h.doing) one.1 hands
-
--- one that closes images doesn't make its own
-pub not_copying : (old : Option merger.Running) (running merge : merger.Running) (r : Retiring) (copy : Copying) → old ≡ Some running → running.doing ≡ retiring r → old ≡ Some merge
-    → merge.doing ≡ copying copy → ⊥
-not_copying old running merge r copy is closes was copies =
-    let same : running ≡ merge = same_Some running merge (sym is ∙ was) in
-    let no : retiring r ≡ copying copy = sym closes ∙ ap (λ (m : merger.Running). m.doing) same ∙ copies in cc
+    by : IsMore done → HandsAt (copying copy) made done g.doing → ⊥
+    by (inl one) hands = (let it = subst (λ k. HandsAt (copying copy) made k g.doing) one hands in goes it.copy it.is)
+    by (inr one) hands = subst (λ k. HandsAt (copying copy) made k g.doing) one.1 hands
 
 -- ---- the list
-
-pub fixed_list : (places : Places) (running : Option Running) (outs : List (Option RequestId)) (room count : ℕ) (merge : merger.Running) (doing : Doing) (before now : Option merger.Running)
-    (ended : Option ℕ) (serial : ℕ) → before ≡ Some (record merge { doing = doing }) → doing ≡ opened serial → room ≡ count → FixesList places running outs room before ended now
-    → IsListOf places running (Some (opened_merge merge serial)) outs count (list_of now)
-fixed_list places running outs room count merge doing before now ended serial was is long fixes =
-    subst (IsListOf places running (Some (opened_merge merge serial)) outs count) (list_is ended fixes.retires)
-    (subst (λ n. IsListOf places running (Some (opened_merge merge serial)) outs n fixes.list) long
-    (subst (λ k. IsListOf places running k outs room fixes.list) (was ∙ ap (λ d. Some (record merge { doing = d })) is) fixes.is))
-  where
-    list_is : (ended : Option ℕ) → TakesList before fixes.list (retires_as ended) now → fixes.list ≡ list_of now
-    list_is None r = sym (ap list_of r.is)
-    list_is (Some number) r = r.none ∙ sym (ap list_of r.is)
 
 pub retires_these : (merge : merger.Running) (core : CoreView) → HasItsList merge core → IsOrderly core.catalog → RetiresThese merge core (list_of core.merger)
 retires_these merge core is o = record {
@@ -96,116 +84,92 @@ retires_these merge core is o = record {
 
 -- ---- the outcome with which it enters
 
-module _ (places : Places) (laws : MergerOutcomes places) (core : Parts) (old new : CoreView) (merge : merger.Running) (made : Made) (phase : Phase) (image : NewImage) (doing : Doing)
-    (before : Option merger.Running) (ended : Option ℕ) (sound : IsCore core) (runs : core.merger ≡ Some merge) (a : OpensAs core old merge made phase image places new) (o : OpensBeside core merge made image doing)
-    (before_is : before ≡ Some (record merge { doing = doing })) (in_order : IsSoundCatalog places) (changes : Changes core.places places image.header.serial (Some (Some (image_of image))))
-    (fixes : FixesList places core.dumper.running new.outs core.room before ended new.merger) (outs_are : old.outs ≡ core.outs)
-    (running_is : new.dumper.running ≡ core.dumper.running) (count : length new.phases ≡ length core.phases) where
-  abbrev serial_now : ℕ
-  serial_now = image.header.serial
+module _ {core : Parts} {seen : CoreView} {made : Made} {phases : List Phase} {outs : List (Option RequestId)}
+    {places : Places} {room : ℕ} {image : NewImage} {ended : Option ℕ} {now : Option merger.Running}
+    (o : OpensMerge core seen made phases outs places room image ended now) where
+  merge_was : seen.merger ≡ Some o.merge
+  merge_was = ap (λ (v : CoreView). v.merger) (sym o.hands.seen_is) ∙ o.hands.was
 
-  -- the merge and the serial are those
-  the_merge : (other : merger.Running) (serial : ℕ) → OpensMerged other serial old new → (other ≡ merge) × (serial ≡ serial_now)
-  the_merge other serial opens = (same, opens.own ∙ ap (λ (c : Copying). c.order.serial) copies ∙ sym o.header.serial)
-    where
-      same : other ≡ merge
-      same = same_Some other merge (sym opens.was ∙ a.was)
+  one_copy : (x y : Copying) → copying x ≡ copying y → x ≡ y
+  one_copy x y e = cc
 
-      one_copy : (x y : Copying) → copying x ≡ copying y → x ≡ y
-      one_copy x y e = cc
+  -- the copy of the merge that was seen is the one whose image is open
+  its_copy : (other : merger.Running) (copy : Copying) → seen.merger ≡ Some other → other.doing ≡ copying copy → (other ≡ o.merge) × (copy.order.serial ≡ image.header.serial)
+  its_copy other copy was copies =
+      let same : other ≡ o.merge = same_Some other o.merge (sym was ∙ merge_was) in
+      (same, ap (λ (k : Copying). k.order.serial) (one_copy copy (beside o).copy (sym copies ∙ ap (λ (m : merger.Running). m.doing) same ∙ (beside o).was)) ∙ sym (beside o).header.serial)
 
-      copies : opens.copy ≡ o.copy
-      copies = one_copy opens.copy o.copy (sym opens.doing ∙ ap (λ (m : merger.Running). m.doing) same ∙ o.was)
+  -- what is so of that merge and its serial is so of those that were seen
+  of_seen : (P : merger.Running → ℕ → Type 0) → P o.merge image.header.serial → (other : merger.Running) (serial : ℕ) → OpensMerged other serial seen (seen_of (opened_core o)) → P other serial
+  of_seen P so other serial opens =
+      let is = its_copy other opens.copy opens.was opens.doing in
+      subst (λ n. P other n) (sym (opens.own ∙ is.1)) (subst (λ m. P m image.header.serial) (sym is.0) so)
 
-  pub opened_now : (other : merger.Running) (copy : Copying) → old.merger ≡ Some other → other.doing ≡ copying copy → OpensMerged other copy.order.serial old new
+  pub opened_now : (other : merger.Running) (copy : Copying) → seen.merger ≡ Some other → other.doing ≡ copying copy → OpensMerged other copy.order.serial seen (seen_of (opened_core o))
   opened_now other copy was copies = record {
     was = was;
     copy = copy;
     doing = copies;
     own = refl;
-    image = here.image;
-    there = ap (λ all. place_of all copy.order.serial) a.its_catalog ∙ ap (place_of places) serial_is ∙ here.there;
+    image = (merged_image o).image;
+    there = ap (place_of places) (its_copy other copy was copies).1 ∙ (merged_image o).there;
   }
+
+  list_here : HasItsList (opened_merge o.merge image.header.serial) (seen_of (opened_core o))
+  list_here = subst (IsListOf places core.dumper.running (Some (opened_merge o.merge image.header.serial)) outs (length phases)) (list_is ended o.fixes.retires)
+      (subst (λ n. IsListOf places core.dumper.running (Some (opened_merge o.merge image.header.serial)) outs n o.fixes.list) ((beside o).room ∙ sym o.hands.follows.count) (fixed o))
     where
-      here : IsMergedImage merge places serial_now
-      here = merged_image core merge made image doing places o changes
+      list_is : (ended : Option ℕ) → TakesList o.before o.fixes.list (retires_as ended) now → o.fixes.list ≡ list_of now
+      list_is None r = sym (ap list_of r.is)
+      list_is (Some number) r = r.none ∙ sym (ap list_of r.is)
 
-      one_copy : (x y : Copying) → copying x ≡ copying y → x ≡ y
-      one_copy x y e = cc
+  pub opened_list : (other : merger.Running) (serial : ℕ) → OpensMerged other serial seen (seen_of (opened_core o)) → HasItsList (opened_merge other serial) (seen_of (opened_core o))
+  opened_list = of_seen (λ m n. HasItsList (opened_merge m n) (seen_of (opened_core o))) list_here
 
-      serial_is : copy.order.serial ≡ serial_now
-      serial_is = ap (λ (k : Copying). k.order.serial)
-          (one_copy copy o.copy (sym copies ∙ ap (λ (m : merger.Running). m.doing) (same_Some other merge (sym was ∙ a.was)) ∙ o.was)) ∙ sym o.header.serial
+  -- what the laws say where the store is as it is believed to be
+  as_seen : (bodies : List (List ℕ)) → IsAsBelieved seen made.request bodies → IsAsBelieved (seen_of core) made.request bodies
+  as_seen bodies b = subst (λ old. IsAsBelieved old made.request bodies) (sym o.hands.seen_is) b
 
-  list_here : HasItsList (opened_merge merge serial_now) new
-  list_here = subst (λ all. IsListOf all new.dumper.running (Some (opened_merge merge serial_now)) new.outs (length new.phases) (list_of new.merger)) (sym a.its_catalog)
-      (subst (λ r. IsListOf places r (Some (opened_merge merge serial_now)) new.outs (length new.phases) (list_of new.merger)) (sym running_is)
-      (fixed_list places core.dumper.running new.outs core.room (length new.phases) merge doing before new.merger ended serial_now before_is o.is (o.room ∙ sym count) fixes))
+  pub opened_retires : MergerOutcomes places → (other : merger.Running) (serial : ℕ) (bodies : List (List ℕ)) → OpensMerged other serial seen (seen_of (opened_core o)) → IsAsBelieved seen made.request bodies
+      → RetiresThese (opened_merge other serial) (seen_of (opened_core o)) (list_of now)
+  opened_retires laws other serial bodies opens b =
+      let known = as_seen bodies b in
+      retires_these (opened_merge other serial) (seen_of (opened_core o)) (opened_list other serial opens)
+      (laws.orderly _ _ o.merge (beside o).copy made o.hands.follows.phase image o.fixes.list (retires_as ended) known.asked bodies known.files (merged_opens o) known.out known.believes)
 
-  pub opened_list : (other : merger.Running) (serial : ℕ) → OpensMerged other serial old new → HasItsList (opened_merge other serial) new
-  opened_list other serial opens =
-      let is = the_merge other serial opens in
-      subst (λ n. HasItsList (opened_merge other n) new) (sym is.1) (subst (λ m. HasItsList (opened_merge m serial_now) new) (sym is.0) list_here)
+  pub opened_enters : MergerOutcomes places → (other : merger.Running) (serial : ℕ) (bodies : List (List ℕ)) → OpensMerged other serial seen (seen_of (opened_core o)) → IsAsBelieved seen made.request bodies
+      → IsCopyThere other.source.serial serial seen.catalog (seen_of (opened_core o)) (bodies_after bodies made.request.id made.request.bytes) × IsMergedImage other places serial × IsFree outs other.slot
+  opened_enters laws other serial bodies opens b =
+      let known = as_seen bodies b in
+      let copies = laws.copies _ _ o.merge (beside o).copy made o.hands.follows.phase image o.fixes.list (retires_as ended) known.asked bodies known.files (merged_opens o) (free_then o.hands) known.out known.believes in
+      let free = free_then o.hands o.merge.slot (spared_of core.dumper.running o.merge.slot (work o.hands).spared) in
+      of_seen (λ m n. IsCopyThere m.source.serial n seen.catalog (seen_of (opened_core o)) (bodies_after bodies made.request.id made.request.bytes) × IsMergedImage m places n × IsFree outs m.slot) (
+        subst (λ (v : CoreView). IsCopyThere o.merge.source.serial image.header.serial v.catalog (seen_of (opened_core o)) (bodies_after bodies made.request.id made.request.bytes)) o.hands.seen_is copies,
+        merged_image o,
+        subst (λ all. IsFree all o.merge.slot) (sym o.hands.outs_are) free,
+      ) other serial opens
 
-  pub opened_retires : (other : merger.Running) (serial : ℕ) (bodies : List (List ℕ)) → OpensMerged other serial old new → IsAsBelieved old made.request bodies
-      → RetiresThese (opened_merge other serial) new (list_of new.merger)
-  opened_retires other serial bodies opens b =
-      retires_these (opened_merge other serial) new (opened_list other serial opens)
-      (subst IsOrderly (sym a.its_catalog)
-      (laws.orderly old new merge o.copy made phase image fixes.list (retires_as ended) b.asked bodies b.files
-      (merged_opens places core old new merge made phase image doing before ended core.room a o before_is in_order changes fixes)
-      b.out b.believes))
+  pub opened_rests : MergerOutcomes places → (other : merger.Running) (serial : ℕ) (bodies : List (List ℕ)) → OpensMerged other serial seen (seen_of (opened_core o)) → IsAsBelieved seen made.request bodies
+      → (core.standing ≡ Open) × IsCopyAtRest other.source.serial serial seen.catalog (seen_of (opened_core o)) (bodies_after bodies made.request.id made.request.bytes)
+  opened_rests laws other serial bodies opens b =
+      let known = as_seen bodies b in
+      let rests = laws.rests _ _ o.merge (beside o).copy made o.hands.follows.phase image o.fixes.list (retires_as ended) known.asked bodies known.files (merged_opens o) (free_then o.hands) known.out known.believes in (
+        (work o.hands).stands,
+        of_seen (λ m n. IsCopyAtRest m.source.serial n seen.catalog (seen_of (opened_core o)) (bodies_after bodies made.request.id made.request.bytes))
+            (subst (λ (v : CoreView). IsCopyAtRest o.merge.source.serial image.header.serial v.catalog (seen_of (opened_core o)) (bodies_after bodies made.request.id made.request.bytes)) o.hands.seen_is rests) other serial opens,
+      )
 
-  pub opened_copies : (other : merger.Running) (serial : ℕ) (bodies : List (List ℕ)) → OpensMerged other serial old new → IsAsBelieved old made.request bodies
-      → IsCopyThere other.source.serial serial old.catalog new (bodies_after bodies made.request.id made.request.bytes)
-  opened_copies other serial bodies opens b =
-      let is = the_merge other serial opens in
-      subst (λ n. IsCopyThere other.source.serial n old.catalog new (bodies_after bodies made.request.id made.request.bytes)) (sym is.1)
-      (subst (λ (m : merger.Running). IsCopyThere m.source.serial serial_now old.catalog new (bodies_after bodies made.request.id made.request.bytes)) (sym is.0)
-      (laws.copies old new merge o.copy made phase image fixes.list (retires_as ended) b.asked bodies b.files
-      (merged_opens places core old new merge made phase image doing before ended core.room a o before_is in_order changes fixes)
-      (λ slot spared. subst (λ all. IsFree (slice_set all 1 None) slot) (sym outs_are) (free_spared core slot sound (merger_works core merge sound runs).stands (subst (λ r. IsSpared r slot) a.old_running spared)))
-      b.out b.believes))
-
-  pub opened_rests : (other : merger.Running) (serial : ℕ) (bodies : List (List ℕ)) → OpensMerged other serial old new → IsAsBelieved old made.request bodies
-      → IsCopyAtRest other.source.serial serial old.catalog new (bodies_after bodies made.request.id made.request.bytes)
-  opened_rests other serial bodies opens b =
-      let is = the_merge other serial opens in
-      subst (λ n. IsCopyAtRest other.source.serial n old.catalog new (bodies_after bodies made.request.id made.request.bytes)) (sym is.1)
-      (subst (λ (m : merger.Running). IsCopyAtRest m.source.serial serial_now old.catalog new (bodies_after bodies made.request.id made.request.bytes)) (sym is.0)
-      (laws.rests old new merge o.copy made phase image fixes.list (retires_as ended) b.asked bodies b.files
-      (merged_opens places core old new merge made phase image doing before ended core.room a o before_is in_order changes fixes)
-      (λ slot spared. subst (λ all. IsFree (slice_set all 1 None) slot) (sym outs_are) (free_spared core slot sound (merger_works core merge sound runs).stands (subst (λ r. IsSpared r slot) a.old_running spared)))
-      b.out b.believes))
-
-  pub opened_image : (other : merger.Running) (serial : ℕ) → OpensMerged other serial old new → IsMergedImage other new.catalog serial
-  opened_image other serial opens =
-      let is = the_merge other serial opens in
-      let here : IsMergedImage merge places serial_now = merged_image core merge made image doing places o changes in
-      subst (λ n. IsMergedImage other new.catalog n) (sym is.1)
-      (subst (λ m. IsMergedImage m new.catalog serial_now) (sym is.0) (subst (λ p. IsMergedImage merge p serial_now) (sym a.its_catalog) here))
-
-  pub opened_free : (other : merger.Running) (serial : ℕ) → OpensMerged other serial old new → IsFree new.outs other.slot
-  opened_free other serial opens =
-      let m = merger_works core merge sound runs in
-      subst (λ (x : merger.Running). IsFree new.outs x.slot) (sym (the_merge other serial opens).0)
-      (subst (λ all. IsFree all merge.slot) (sym (a.outcome.outs ∙ ap (λ all. slice_set all 1 None) outs_are))
-      (free_spared core merge.slot sound m.stands (spared_of core.dumper.running merge.slot m.spared)))
-
-  pub opened_enters : (other : merger.Running) (serial : ℕ) (bodies : List (List ℕ)) → OpensMerged other serial old new → IsAsBelieved old made.request bodies
-      → IsCopyThere other.source.serial serial old.catalog new (bodies_after bodies made.request.id made.request.bytes) × IsMergedImage other new.catalog serial × IsFree new.outs other.slot
-  opened_enters other serial bodies opens b = (opened_copies other serial bodies opens b, opened_image other serial opens, opened_free other serial opens)
+  -- its list was empty
+  pub none_cut : AreCut seen (seen_of (opened_core o))
+  none_cut = record { each = λ one listed. absurd (none one listed); free = λ one listed. absurd (none one listed) }
+    where
+      none : (one : Retired) → Contains (list_of seen.merger) one → ⊥
+      none one listed =
+          let within = listed.1 in
+          let empty : length (list_of seen.merger) ≡ 0 = ap (λ m. length (list_of m)) merge_was ∙ ap (λ d. length (list_in d)) (beside o).was in
+          omega (arith, within, empty)
 
 -- ---- the end
-
--- no request is out on the slots of its list
-closes_free : (core : Parts) (merge : merger.Running) (r : Retiring) → IsCore core → core.merger ≡ Some merge → merge.doing ≡ retiring r
-    → (one : Retired) → Contains r.list one → IsFree (slice_set core.outs 1 None) one.slot
-closes_free core merge r sound is doing one listed =
-    let m = merger_works core merge sound is in
-    let d = subst (IsDoing core.phases core.places core.numbers core.room core.dumper.running merge) doing m.doing in
-    let at = place_in r.list one listed in
-    free_spared core one.slot sound m.stands (spared_of core.dumper.running one.slot (d.each at.0 one at.1).spared)
 
 one_byte : (phases : List Phase) (slot : ℕ) → slice_get phases slot ≡ Some Bare → IsOneByte phases slot
 one_byte phases slot bare = record {
@@ -216,51 +180,28 @@ one_byte phases slot bare = record {
   );
 }
 
--- behind the last of its calls
-pub ended_cut : (places : Places) → MergerOutcomes places → (old new : CoreView) (merge : merger.Running) (made : Made) (phase : Phase) (serial : ℕ) (bodies : List (List ℕ))
-    → HandsBeside old merge made phase new → EndsList merge made serial → IsAsBelieved old made.request bodies
-    → (core : Parts) → IsCore core → core.merger ≡ Some merge → new.outs ≡ slice_set core.outs 1 None → AreCut old new
-ended_cut places laws old new merge made phase serial bodies h e b core sound runs outs = record {
-  free = λ one listed.
-      let is : list_of old.merger ≡ e.r.list = ap list_of h.was ∙ ap list_in e.was in
-      subst (λ all. IsFree all one.slot) (sym outs) (closes_free core merge e.r sound runs e.was one (subst (λ all. Contains all one) is listed));
-  each = λ one listed.
-      let is : list_of old.merger ≡ e.r.list = ap list_of h.was ∙ ap list_in e.was in
-      let at = place_in e.r.list one (subst (λ all. Contains all one) is listed) in
-      one_byte new.phases one.slot (laws.cuts old new merge e.r e.next made phase serial at.0 one b.asked bodies b.files (ended_goes_on old new merge made phase serial h e)
-      b.out b.believes at.1);
-}
+module _ {core : Parts} {seen : CoreView} {made : Made} {phases : List Phase} {outs : List (Option RequestId)}
+    {places : Places} {serial : ℕ} {now : Option merger.Running}
+    (m : EndsMerge core seen made phases outs places serial now) where
+  ended_was : seen.merger ≡ Some m.leaves.merge
+  ended_was = ap (λ (v : CoreView). v.merger) (sym m.leaves.hands.seen_is) ∙ m.leaves.hands.was
 
--- a merge whose image isn't open has no list
-pub none_cut : (old new : CoreView) (merge : merger.Running) (copy : Copying) → old.merger ≡ Some merge → merge.doing ≡ copying copy → AreCut old new
-none_cut old new merge copy was doing = record {
-  each = λ one listed. absurd (
-      let within = listed.1 in
-      let none : length (list_of old.merger) ≡ 0 = ap (λ m. length (list_of m)) was ∙ ap (λ d. length (list_in d)) doing in omega (arith, within, none));
-  free = λ one listed. absurd (
-      let within = listed.1 in
-      let none : length (list_of old.merger) ≡ 0 = ap (λ m. length (list_of m)) was ∙ ap (λ d. length (list_in d)) doing in omega (arith, within, none));
-}
+  -- behind the last of its calls
+  pub ended_cut : {before : Places} → MergerOutcomes before → (bodies : List (List ℕ)) → IsAsBelieved seen made.request bodies → AreCut seen (seen_of (merged_core core phases outs places core.room now))
+  ended_cut laws bodies b = record {
+    free = λ one listed. (let at = found one listed in subst (λ all. IsFree all one.slot) (sym m.leaves.hands.outs_are) (list_free m.leaves.hands m.ends.r m.ends.was at.0 one at.1));
+    each = λ one listed.
+        let at = found one listed in
+        let known = subst (λ old. IsAsBelieved old made.request bodies) (sym m.leaves.hands.seen_is) b in
+        one_byte phases one.slot (laws.cuts _ _ m.leaves.merge m.ends.r m.ends.next made m.leaves.hands.follows.phase serial at.0 one known.asked bodies known.files (ended_goes_on m)
+        known.out known.believes at.1);
+  }
+    where
+      found : (one : Retired) → Contains (list_of seen.merger) one → (place : ℕ) × (slice_get m.ends.r.list place ≡ Some one)
+      found one listed = place_in m.ends.r.list one (subst (λ all. Contains all one) (ap list_of ended_was ∙ ap list_in m.ends.was) listed)
 
--- ---- as it is seen
-
-pub opens_seen : (merge : merger.Running) (serial : ℕ) (seen now new : CoreView) → seen ≡ now → OpensMerged merge serial now new → OpensMerged merge serial seen new
-opens_seen merge serial seen now new is opens = subst (λ old. OpensMerged merge serial old new) (sym is) opens
-
-pub believed_seen : (request : Asked) (bodies : List (List ℕ)) (seen now : CoreView) → seen ≡ now → IsAsBelieved now request bodies → IsAsBelieved seen request bodies
-believed_seen request bodies seen now is b = subst (λ old. IsAsBelieved old request bodies) (sym is) b
-
-pub copies_seen : (source serial : ℕ) (bodies : List (List ℕ)) (seen now new : CoreView) → seen ≡ now → IsCopyThere source serial seen.catalog new bodies → IsCopyThere source serial now.catalog new bodies
-copies_seen source serial bodies seen now new is copies = subst (λ (old : CoreView). IsCopyThere source serial old.catalog new bodies) is copies
-
-pub enters_seen : (merge : merger.Running) (serial : ℕ) (bodies : List (List ℕ)) (seen now new : CoreView) → seen ≡ now
-    → IsCopyThere merge.source.serial serial seen.catalog new bodies × IsMergedImage merge new.catalog serial × IsFree new.outs merge.slot
-    → IsCopyThere merge.source.serial serial now.catalog new bodies × IsMergedImage merge new.catalog serial × IsFree new.outs merge.slot
-enters_seen merge serial bodies seen now new is enters = (copies_seen merge.source.serial serial bodies seen now new is enters.0, enters.1, enters.2)
-
-pub rests_seen : (merge : merger.Running) (serial : ℕ) (bodies : List (List ℕ)) (seen now new : CoreView) → seen ≡ now
-    → IsCopyAtRest merge.source.serial serial seen.catalog new bodies → IsCopyAtRest merge.source.serial serial now.catalog new bodies
-rests_seen merge serial bodies seen now new is rests = subst (λ (v : CoreView). IsCopyAtRest merge.source.serial serial v.catalog new bodies) is rests
-
-pub cut_seen : (seen now new : CoreView) → seen ≡ now → AreCut seen new → AreCut now new
-cut_seen seen now new is cut = subst (λ old. AreCut old new) is cut
+  -- a merge that closes images doesn't make its own
+  pub not_copying : (merge : merger.Running) (copy : Copying) → seen.merger ≡ Some merge → merge.doing ≡ copying copy → ⊥
+  not_copying merge copy was copies =
+      let same : m.leaves.merge ≡ merge = same_Some m.leaves.merge merge (sym ended_was ∙ was) in
+      let no : retiring m.ends.r ≡ copying copy = sym m.ends.was ∙ ap (λ (k : merger.Running). k.doing) same ∙ copies in cc

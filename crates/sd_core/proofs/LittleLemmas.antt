@@ -1,19 +1,16 @@
 -- Which pages an image has, by the marked journal.
-use Rattle.std.proofs.Common.{◌≡◌, ◌⊎◌, ◌↔◌, ℕ, ◌==◌, ◌&&◌, ◌||◌, Bool, true, false, if◌then◌else◌, [], ◌∷◌, ◌++◌, Contains, Option, Some, None, IfSome, IsSome, is_some, not, refl, sym, ◌∙◌, ap, subst, inr, inl}
+use Rattle.std.proofs.Common.{◌≡◌, ◌⊎◌, ℕ, ◌==◌, ◌&&◌, ◌||◌, Bool, true, false, if◌then◌else◌, [], ◌∷◌, ◌++◌, Option, Some, None, IfSome, IsSome, is_some, not, refl, sym, ◌∙◌, ap, subst, inr, inl}
 use Rattle.std.specs.List.{list_any}
 use Rattle.std.specs.Option.{option_map}
-use Rattle.std.proofs.lemmas.Bool.{both_ways, eq-eqb, or_parts}
+use Rattle.std.proofs.lemmas.Bool.{both_ways, eq-eqb}
 use Rattle.std.proofs.lemmas.Option.{same_Some}
 use Rattle.sd_areas.specs.PlainMemory as plain
 use Rattle.sd_gate.specs.Requests.{Asked, Made}
-use Rattle.sd_image.specs.declared.header.Header.{Header}
 use Rattle.sd_gate.specs.Plans.{Planned, plan_after}
 use Rattle.sd_gate.specs.Sequences.{Calls}
 use Rattle.sd_image.specs.declared.header.Kind.{Kind}
 use Rattle.sd_image.specs.declared.header.Kind.TheVariants.{Dump, Merged, PreDump}
-use Rattle.sd_image.specs.declared.run.RunKind.{RunKind}
 use Rattle.sd_image.specs.declared.run.RunKind.TheVariants.{Parent}
-use Rattle.sd_image.specs.Shows.{pages_of}
 use Rattle.sd_image.specs.Words.{kind_number}
 use Rattle.sd_command.specs.declared.command.Command.{Command}
 use Rattle.sd_command.specs.declared.reply.Reply.{Reply}
@@ -29,37 +26,38 @@ use Rattle.sd_pagetable.specs.Page.{PageState, plain_page}
 use Rattle.sd_rounds.specs.declared.image_order.ImageOrder.{ImageOrder}
 use Rattle.sd_rounds.specs.declared.image_step.ImageStep.{ImageStep}
 use Rattle.sd_rounds.specs.declared.image_step.ImageStep.TheVariants.{Call, PageCall, TableCall, Frozen, Visited, Copied}
-use Rattle.sd_rounds.specs.declared.new_image.NewImage.{NewImage}
 use Rattle.sd_rounds.specs.declared.stage.Stage.{Stage}
 use Rattle.sd_rounds.specs.declared.stage.Stage.TheVariants.{Format, Freeze as FreezeStage, Pass as PassStage, Close}
 use Rattle.sd_rounds.specs.declared.visit.Visit.{Visit as PageVisit}
 use Rattle.sd_rounds.specs.Dump.{kind_due, kind_of_bytes}
-use Rattle.sd_rounds.specs.Dumper.{Running, is_frozen_image, is_last, order_of}
+use Rattle.sd_rounds.specs.Dumper.{Running, is_frozen_image}
 use Rattle.sd_rounds.specs.ImageVisits.{visits_after}
-use Rattle.sd_rounds.specs.LittleWork.{IsTaking, LittleLaws, TakesDue, TakesDueIn, TakesVisited, TookVisited}
-use Rattle.sd_rounds.specs.Making.{IsWritten, Making, Opens, PlanGoesOn, Steps, Visits, begun_image, is_frozen_dump, is_past_freeze, stage_after, stage_behind, with_plan}
+use Rattle.sd_rounds.specs.LittleWork.{IsTaking, LittleLaws, TakesDue, TakesDueIn, TakesVisited}
+use Rattle.sd_rounds.specs.Making.{IsWritten, Making, PlanGoesOn, Steps, Visits, begun_image, is_frozen_dump, is_past_freeze, stage_after, stage_behind, with_plan}
 use Rattle.sd_rounds.specs.Pass.{Place}
 use Rattle.sd_rounds.specs.Rises.{IsRising}
-use Rattle.sd_rounds.specs.Sound.{IsSoundImage}
 use Rattle.sd_core.specs.LittleWork.{HasLittle, IsFrozenFor, TakesLittle, visits_of, way_due}
-use Rattle.sd_crash_safety.specs.View.{CoreView}
 use Rattle.sd_core.specs.Answering.{IsAnswered}
-use Rattle.sd_core.specs.Sound.{IsCore, IsHeaderOf, Parts}
+use Rattle.sd_core.specs.Sound.{IsCore, Parts}
 use Rattle.sd_core.specs.Visited.{IsClean, is_closing}
 use Rattle.sd_core.proofs.WorkLemmas.{at_work}
 
 -- ---- the visits of an image
 
+either : (one other : Bool) → (one || other) ≡ false → (one ≡ false) × (other ≡ false)
+either true other is = absurd (both_ways true is refl)
+either false other is = (refl, is)
+
 -- none under a serial that no mark has
 pub no_visits : (base : Base) (items : Marked) (serial : ℕ) → list_any (is_of serial) items ≡ false → visits_of base items serial ≡ []
 no_visits base [] serial none = refl
 no_visits base (Told entry ∷ items) serial none = no_visits base items serial none
-no_visits base (Noted (Start s) ∷ items) serial none = no_visits base items serial (or_parts (s == serial) (list_any (is_of serial) items) none).1
+no_visits base (Noted (Start s) ∷ items) serial none = no_visits base items serial (either (s == serial) (list_any (is_of serial) items) none).1
 no_visits base (Noted (Visit s space page) ∷ items) serial none =
-    let both = or_parts (s == serial) (list_any (is_of serial) items) none in
+    let both = either (s == serial) (list_any (is_of serial) items) none in
     ap (λ b. if b then visits_of base items serial ++ (record { place = (space, page); soft_dirty = is_due base items space page }) ∷ [] else visits_of base items serial) both.0
     ∙ no_visits base items serial both.1
-no_visits base (Noted (Table s) ∷ items) serial none = no_visits base items serial (or_parts (s == serial) (list_any (is_of serial) items) none).1
+no_visits base (Noted (Table s) ∷ items) serial none = no_visits base items serial (either (s == serial) (list_any (is_of serial) items) none).1
 
 -- a visit finds whether the page is due
 pub visit_more : DueLaws → (base : Base) (items : Marked) (before after : Contents) (image next : Making) (visit : PageVisit) (serial : ℕ) → IsTracked base items before
@@ -74,10 +72,12 @@ visit_more laws base items before after image next visit serial tracked v =
 -- ---- a step of the image in the making
 
 same_order : (ticket : ℕ) (image next : Making) (before after : Contents) (step : ImageStep) → Steps ticket image before step next after → next.order ≡ image.order
+same_order ticket image next before after (Call request) s = ap (λ (m : Making). m.order) s.0.is
 same_order ticket image next before after (PageCall lane request) s = s.0.order
+same_order ticket image next before after (TableCall request) s = ap (λ (m : Making). m.order) s.0.is
+same_order ticket image next before after Frozen s = ap (λ (m : Making). m.order) s.0.is
 same_order ticket image next before after (Visited visit) s = ap (λ (m : Making). m.order) s.passes.1
 same_order ticket image next before after (Copied copied) s = ap (λ (m : Making). m.order) s.0.passes.1
-same_order ticket image next before after _ s = ap (λ (m : Making). m.order) s.0.is
 
 and_right : (one other : Bool) → (one && other) ≡ true → other ≡ true
 and_right true other is = is
@@ -91,7 +91,9 @@ not_closing stage is closing = absurd (let no : false ≡ true = sym (ap is_clos
 
 same_closing : (stage : Stage) (plan : Planned) → is_closing (with_plan stage plan) ≡ is_closing stage
 same_closing (Format old) plan = refl
-same_closing _ plan = refl
+same_closing FreezeStage plan = refl
+same_closing PassStage plan = refl
+same_closing (Close old header tables) plan = refl
 
 -- once its table is written each page was visited, and nothing was touched since
 closed_step : (base : Base) (items : Marked) (number ticket : ℕ) (image next : Making) (before after : Contents) (step : ImageStep) → Steps ticket image before step next after
@@ -167,7 +169,8 @@ behind_closing Dump (Format plan) closing = absurd (let no : false ≡ true = cl
 behind_closing PreDump (Format plan) closing = absurd (let no : false ≡ true = closing in cc)
 behind_closing Merged (Format plan) closing = absurd (let no : false ≡ true = closing in cc)
 behind_closing kind FreezeStage closing = absurd (let no : false ≡ true = closing in cc)
-behind_closing _ _ closing = absurd (let no : false ≡ true = closing in cc)
+behind_closing kind PassStage closing = absurd (let no : false ≡ true = closing in cc)
+behind_closing kind (Close plan header tables) closing = absurd (let no : false ≡ true = closing in cc)
 
 after_closing : (kind : Kind) (stage : Stage) (plan : Planned) (calls : Calls) → is_closing (stage_after kind stage plan calls) ≡ true → is_closing stage ≡ true
 after_closing kind stage plan [] closing = behind_closing kind stage closing
@@ -236,7 +239,7 @@ still_while_frozen core new command reply sound answered running making was is f
 -- ---- the image that is open
 
 -- the way in which a page is due at the freeze, by the marked journal
-due_is_way : PlainLaw → DueLaws → (base : Base) (frozen : Marked) (cut : Contents) → IsTracked base frozen cut → (whole : Bool) (at : Place)
+pub due_is_way : PlainLaw → DueLaws → (base : Base) (frozen : Marked) (cut : Contents) → IsTracked base frozen cut → (whole : Bool) (at : Place)
     → kind_due whole (page_at cut at.0 at.1) ≡ way_due whole base frozen at
 due_is_way law dues base frozen cut tracked whole at =
     by (page_at cut at.0 at.1) refl
@@ -247,41 +250,6 @@ due_is_way law dues base frozen cut tracked whole at =
         → kind_due whole o ≡ option_map (λ (page : plain.Page). if whole || is_due base frozen at.0 at.1 then kind_of_bytes page.bytes else Parent) (option_map plain_page o)
     by None there = refl
     by (Some page) there = ap (λ b. Some (if whole || b then kind_of_bytes page.bytes else Parent)) (dues.bit base frozen cut at.0 at.1 page tracked there)
-
--- an image without a parent takes every page
-whole_is : (image : Making) (header : Header) → IsSoundImage image → IsHeaderOf image.order header → image.pass.takes_all ≡ (header.parent == 0)
-whole_is image header sound now = sound.takes ∙ ap (λ p. p == 0) (sym now.parent)
-
--- the last image of a checkpoint is a dump, and is open once the memory was frozen
-frozen_open : (running : Running) (image : Making) (made : Made) (opened : NewImage) → is_last running ≡ true
-    → image.order ≡ order_of running image.order.serial image.order.state → Opens image made opened → is_frozen_dump image ≡ true
-frozen_open running image made opened last own o =
-    ap (λ (m : ImageOrder). (kind_number m.kind == 2) && is_past_freeze image.stage) own
-    ∙ ap (λ b. (kind_number (if b then Dump else PreDump) == 2) && is_past_freeze image.stage) last
-    ∙ ap is_past_freeze o.was
-
-pub record DumpWays (base : Base) (items : Marked) (number : ℕ) (opened : NewImage) : Type 0 where
-  pub frozen : Marked
-  pub before : before_freeze items number ≡ Some frozen
-  pub ways : (kind : RunKind) (at : Place) → Contains (pages_of kind opened.table) at ↔ way_due (opened.header.parent == 0) base frozen at ≡ Some kind
-
-pub dump_ways : LittleLaws → PlainLaw → DueLaws → (base : Base) (items : Marked) (memory : Contents) (running : Running) (image : Making) (made : Made) (opened : NewImage)
-    → is_last running ≡ true → image.order ≡ order_of running image.order.serial image.order.state → Opens image made opened → IsSoundImage image
-    → IsHeaderOf image.order opened.header → TakesLittle base items memory running.number image → DumpWays base items running.number opened
-dump_ways laws law dues base items memory running image made opened last own o sound now was = record {
-  frozen = d.frozen;
-  before = d.before;
-  ways = λ kind at.
-      subst (λ way. Contains (pages_of kind opened.table) at ↔ way ≡ Some kind) (same at)
-      (laws.opens d.cut image made opened memory o sound.rising d.takes kind at);
-}
-  where
-    d : IsFrozenFor base items memory running.number image
-    d = was.dump (frozen_open running image made opened last own o)
-
-    same : (at : Place) → kind_due image.pass.takes_all (page_at d.cut at.0 at.1) ≡ way_due (opened.header.parent == 0) base d.frozen at
-    same at = due_is_way law dues base d.frozen d.cut d.tracked image.pass.takes_all at
-        ∙ ap (λ b. way_due b base d.frozen at) (whole_is image opened.header sound now)
 
 -- what stood before a freeze makes the memory at it
 pub freeze_memory : (base : Base) (items frozen : Marked) (n : ℕ) → before_freeze items n ≡ Some frozen → at_freeze base (entries_of items) n ≡ Some (memory_at base frozen)
@@ -299,30 +267,8 @@ freeze_memory base (Told (Acked m) ∷ items) frozen n is = freeze_memory base i
 freeze_memory base (Told (Cancelled m) ∷ items) frozen n is = freeze_memory base items frozen n is
 freeze_memory base (Told (Reopened m) ∷ items) frozen n is = freeze_memory base items frozen n is
 
--- the same of a view and its number
-pub seen_before : (seen old : CoreView) (own n : ℕ) (frozen : Marked) → seen ≡ old → own ≡ n → before_freeze seen.items own ≡ Some frozen → before_freeze old.items n ≡ Some frozen
-seen_before seen old own n frozen same named was = subst (λ (v : CoreView). before_freeze v.items n ≡ Some frozen) same (subst (λ m. before_freeze seen.items m ≡ Some frozen) named was)
-
-pub round_took : LittleLaws → (base : Base) (items : Marked) (memory : Contents) (running : Running) (image : Making) (made : Made) (opened : NewImage)
-    → is_last running ≡ false → image.order ≡ order_of running image.order.serial image.order.state → Opens image made opened → IsSoundImage image
-    → IsHeaderOf image.order opened.header → TakesLittle base items memory running.number image
-    → TookVisited (opened.header.parent == 0) (visits_of base items opened.header.serial) opened.table
-round_took laws base items memory running image made opened more own o sound now was =
-    subst (λ b. TookVisited b (visits_of base items opened.header.serial) opened.table) (whole_is image opened.header sound now)
-    (subst (λ s. TookVisited image.pass.takes_all (visits_of base items s) opened.table) (sym now.serial)
-    (laws.took (visits_of base items image.order.serial) image made opened o (was.round kind)))
-  where
-    kind : image.order.kind ≡ PreDump
-    kind = ap (λ (m : ImageOrder). m.kind) own ∙ ap (λ b. if b then Dump else PreDump) more
-
 -- of the image that is being made
 pub little_of : (base : Base) (items : Marked) (memory : Contents) (all : Option Running) (running : Running) (image : Making) → IfSome all (HasLittle base items memory)
     → all ≡ Some running → running.image ≡ Some image → TakesLittle base items memory running.number image
 little_of base items memory all running image was is making =
     subst (λ i. IfSome i (TakesLittle base items memory running.number)) making (subst (λ r. IfSome r (HasLittle base items memory)) is was)
-
--- once the dump is open each page was visited, and nothing was touched since
-pub dump_clean : (base : Base) (items : Marked) (memory : Contents) (running : Running) (image : Making) (made : Made) (opened : NewImage)
-    → is_last running ≡ true → image.order ≡ order_of running image.order.serial image.order.state → Opens image made opened
-    → TakesLittle base items memory running.number image → IsClean memory
-dump_clean base items memory running image made opened last own o was = was.closed (frozen_open running image made opened last own o) (ap is_closing o.was)

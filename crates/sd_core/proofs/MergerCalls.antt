@@ -10,20 +10,21 @@ use Rattle.sd_merge.specs.declared.merge_step.MergeStep.{MergeStep}
 use Rattle.sd_merge.specs.declared.merge_step.MergeStep.TheVariants.{Call, ReadCall, PageCall, TableCall, Zero}
 use Rattle.sd_merge.specs.Copying.{Copying, IsSoundCopying, Steps}
 use Rattle.sd_merge.specs.Merger as merger
-use Rattle.sd_merge.specs.Merger.{AreRunning, CopiesOn, Doing, HasSoundCopy, HasSoundCopyIn, IsRetiring, IsRunningAt, Loses, LosesPage, RetiresOn, Retiring, due, copying, opened, retiring}
-use Rattle.sd_rounds.specs.Dumper.{HasSlot}
+use Rattle.sd_merge.specs.Merger.{AreRunning, Doing, HasSoundCopy, HasSoundCopyIn, IsRetiring, IsRunningAt, Loses, LosesPage, RetiresOn, Retiring, due, copying, opened, retiring}
+use Rattle.sd_rounds.specs.Dumper.{AreRunning as MakesInOrder, HasSlot}
 use Rattle.sd_crash_safety.specs.Believes.{Believes}
-use Rattle.sd_crash_safety.specs.Calls.{IsFree}
+use Rattle.sd_crash_safety.specs.Calls.{HandsOut, IsFree}
 use Rattle.sd_crash_safety.specs.MergerSteps.{MergerSteps, MergesOn, OnlyMerges}
 use Rattle.sd_crash_safety.specs.Merges.{IsSpared}
 use Rattle.sd_crash_safety.specs.View.{CoreView}
 use Rattle.sd_core.specs.declared.numbers.Numbers.{Numbers}
-use Rattle.sd_core.specs.Merging.{MayRead, StepsAt}
+use Rattle.sd_core.specs.Merging.{IsStepOf, MayRead, StepsAt}
 use Rattle.sd_core.specs.Sound.{ClosesWithHeader, IsCore, IsDoing, MergeRuns, Parts, due_serials}
-use Rattle.sd_core.proofs.BesideLemmas.{copy_goes_on, merger_works, retiring_goes_on}
+use Rattle.sd_core.proofs.BesideLemmas.{copy_goes_on, core_asks, free_asked, leaves_same, merger_works, retiring_goes_on}
+use Rattle.sd_core.proofs.CoreParts.{seen_of}
 use Rattle.sd_core.proofs.MergerSteps.{AsksOwn, asks_header, asks_own, reads_header, reads_source, tables_header, tables_own, writes_header, writes_own}
-use Rattle.sd_core.proofs.OwnLemmas.{spared_of}
-use Rattle.sd_core.proofs.WorkLemmas.{SameNumbers}
+use Rattle.sd_core.proofs.OwnLemmas.{makes_in, spared_of}
+use Rattle.sd_core.proofs.WorkLemmas.{SameNumbers, counted_same}
 
 -- a step that asks for a call, but for a read
 abbrev pub IsCallOf : MergeStep → Asked → Type 0
@@ -89,148 +90,24 @@ asks_on_listed core numbers merge r ticket request doing sound is was same retir
     request_of : (a b : Asked) → Call b ≡ Call a → a ≡ b
     request_of a b e = cc
 
--- ---- any such call
+-- ---- the step
 
-pub asks_beside : (core : Parts) (ticket : ℕ) (numbers : Numbers) (merge : merger.Running) (made : MergeStep) (request : Asked) (doing : Doing) → IsCore core → core.merger ≡ Some merge
-    → SameNumbers core.numbers numbers → AreRunning (Some merge) → HasSoundCopy (Some merge) → IsCallOf made request → StepsAt ticket core.places merge merge.doing made doing
-    → AsksBeside core numbers merge doing request
-asks_beside core ticket numbers merge made request doing sound is same running copied call steps = by merge.doing refl running copied steps
-  where
-    by_copy : (copy next : Copying) → merge.doing ≡ copying copy → copy.order ≡ merger.order_of merge copy.order.serial copy.order.state → IsSoundCopying copy
-        → IsCallOf made request → Steps ticket core.places copy made next → AsksBeside core numbers merge (copying next) request
-    by_copy copy next was order good (inl one) steps =
-        let s = subst (λ k. Steps ticket core.places copy k next) one steps in
-        asks_on_own core numbers merge copy next request sound is was same order s.1.worker (asks_own copy next request good s.0) (asks_header copy next request s.0)
-    by_copy copy next was order good (inr (inl one)) steps =
-        let s = subst (λ k. Steps ticket core.places copy k next) one steps in
-        asks_on_own core numbers merge copy next request sound is was same order s.1.worker (writes_own copy next request s.0) (writes_header copy next request s.0)
-    by_copy copy next was order good (inr (inr one)) steps =
-        let s = subst (λ k. Steps ticket core.places copy k next) one steps in
-        asks_on_own core numbers merge copy next request sound is was same order s.1.worker (tables_own core.places copy next request s.0) (tables_header core.places copy next request s.0)
+-- What is known as a merger that has no request out makes a step: the core before it, and the step.
+pub record StepsMerge (core : Parts) (seen : CoreView) (made : MergeStep) (now : Option merger.Running) : Type 0 where
+  pub laws : MergerSteps core.places
+  pub sound : IsCore core
+  pub seen_is : seen_of core ≡ seen
+  pub rests : slice_get seen.outs 1 ≡ Some None
+  pub running : AreRunning core.merger
+  pub copied : HasSoundCopy core.merger
+  pub makes : MakesInOrder core.dumper.since_freeze core.dumper.running
+  pub on : IsStepOf core.numbers.ticket core.places core.merger made now
 
-    by_list : (r : Retiring) → merge.doing ≡ retiring r → IsRetiring r → IsCallOf made request → RetiresOn ticket r made doing → AsksBeside core numbers merge doing request
-    by_list r was good (inl one) goes = asks_on_listed core numbers merge r ticket request doing sound is was same good (subst (λ k. RetiresOn ticket r k doing) one goes)
-    by_list r was good (inr (inl one)) goes = absurd (let no : PageCall request ≡ Call goes.request = sym one ∙ goes.call in cc)
-    by_list r was good (inr (inr one)) goes = absurd (let no : TableCall request ≡ Call goes.request = sym one ∙ goes.call in cc)
+-- the core behind it
+abbrev pub stepped_core : Parts → List (Option RequestId) → Numbers → Option merger.Running → Parts
+stepped_core core outs numbers now = record core { outs = outs; numbers = numbers; merger = now }
 
-    by : (doing_was : Doing) → merge.doing ≡ doing_was → IsRunningAt merge doing_was → HasSoundCopyIn doing_was → StepsAt ticket core.places merge doing_was made doing
-        → AsksBeside core numbers merge doing request
-    by due was order good steps = absurd steps
-    by (copying copy) was order good steps = subst (λ k. AsksBeside core numbers merge k request) (sym steps.is) (by_copy copy steps.copy was order good call steps.steps)
-    by (opened serial) was order good steps = absurd steps
-    by (retiring r) was order good steps = by_list r was order call steps
-
--- ---- a read
-
-pub record ReadsBeside (core : Parts) (numbers : Numbers) (merge : merger.Running) (doing : Doing) (request : Asked) : Type 0 where
-  pub copy : Copying
-  pub was : merge.doing ≡ copying copy
-  pub next : Copying
-  pub is : doing ≡ copying next
-  pub sound : IsSoundCopying copy
-  pub steps : (ticket : ℕ) × Steps ticket core.places copy (ReadCall request) next
-  pub asks : AsksBeside core numbers merge doing request
-
-pub reads_beside : (core : Parts) (ticket : ℕ) (numbers : Numbers) (merge : merger.Running) (request : Asked) (doing : Doing) → IsCore core → core.merger ≡ Some merge
-    → SameNumbers core.numbers numbers → HasSoundCopy (Some merge) → MayRead core.dumper.running (length core.phases) request.id.slot
-    → StepsAt ticket core.places merge merge.doing (ReadCall request) doing → ReadsBeside core numbers merge doing request
-reads_beside core ticket numbers merge request doing sound is same copied may steps = by merge.doing refl copied steps
-  where
-    by : (doing_was : Doing) → merge.doing ≡ doing_was → HasSoundCopyIn doing_was → StepsAt ticket core.places merge doing_was (ReadCall request) doing → ReadsBeside core numbers merge doing request
-    by due was good steps = absurd steps
-    by (copying copy) was good steps =
-        let r = reads_source core.places copy steps.copy request steps.steps.0 in
-        record {
-          copy = copy;
-          was = was;
-          next = steps.copy;
-          is = steps.is;
-          sound = good;
-          steps = (ticket, steps.steps);
-          asks = subst (λ k. AsksBeside core numbers merge k request) (sym steps.is) (record {
-            out = r.out;
-            worker = steps.steps.1.worker;
-            within = may.within;
-            spared = may.spared;
-            fewer = omega arith;
-            merging = copy_goes_on core core.phases core.places numbers merge copy steps.copy sound is was r.order refl same (reads_header core.places copy steps.copy request steps.steps.0) (λ held. held)
-                (λ id out. subst (λ (i : RequestId). IsSpared core.dumper.running i.slot) (same_Some request.id id (sym r.out ∙ out)) may.spared)
-                (λ id out sync has. r.no_sync (ap (λ (i : RequestId). i.call) (same_Some request.id id (sym r.out ∙ out)) ∙ sync));
-          });
-        }
-    by (opened serial) was good steps = absurd steps
-    by (retiring r) was good steps = absurd (let no : ReadCall request ≡ Call steps.request = steps.call in cc)
-
--- ---- what is believed
-
--- the merger alone made a step
-pub record StepsBeside (old : CoreView) (merge : merger.Running) (doing : Doing) (new : CoreView) : Type 0 where
-  pub rest : OnlyMerges old new
-  pub phases : new.phases ≡ old.phases
-  pub serial : new.numbers.serial ≡ old.numbers.serial
-  pub catalog : new.catalog ≡ old.catalog
-  pub was : old.merger ≡ Some merge
-  pub is : new.merger ≡ Some (record merge { doing = doing })
-  pub running : AreRunning (Some merge)
-  pub copied : HasSoundCopy (Some merge)
-
--- on its image
-pub merges_on : (old new : CoreView) (merge : merger.Running) (doing : Doing) (copy next : Copying) (ticket : ℕ) (made : MergeStep) → StepsBeside old merge doing new → merge.doing ≡ copying copy
-    → doing ≡ copying next → IsSoundCopying copy → Steps ticket old.catalog copy made next → MergesOn old merge copy ticket made next new
-merges_on old new merge doing copy next ticket made s was is sound steps = record {
-  rest = s.rest;
-  phases = s.phases;
-  serial = s.serial;
-  catalog = s.catalog;
-  was = s.was;
-  doing = was;
-  sound = sound;
-  steps = steps;
-  is = s.is ∙ ap (λ k. Some (record merge { doing = k })) is;
-}
-
--- it asks for a call
-pub goes_by_call : (places : Places) → MergerSteps places → (old new : CoreView) (merge : merger.Running) (doing : Doing) (ticket : ℕ) (made : MergeStep) (request : Asked)
-    (asked : List (Option Asked)) (bodies files : List (List ℕ)) → old.catalog ≡ places → StepsBeside old merge doing new → IsCallOf made request
-    → StepsAt ticket old.catalog merge merge.doing made doing → slice_get old.outs 1 ≡ Some None → IsFree old.outs request.id.slot → new.outs ≡ slice_set old.outs 1 (Some request.id)
-    → Believes old asked bodies files → Believes new (slice_set asked 1 (Some request)) bodies files
-goes_by_call places laws old new merge doing ticket made request asked bodies files here s call steps free apart outs b = by merge.doing refl s.running s.copied steps
-  where
-    by_copy : (copy next : Copying) → merge.doing ≡ copying copy → doing ≡ copying next → IsSoundCopying copy → IsCallOf made request → Steps ticket old.catalog copy made next
-        → Believes new (slice_set asked 1 (Some request)) bodies files
-    by_copy copy next was is good (inl one) steps = laws.asks old new merge copy next ticket request asked bodies files here
-        (record { merges = merges_on old new merge doing copy next ticket (Call request) s was is good (subst (λ k. Steps ticket old.catalog copy k next) one steps); free = free; apart = apart; outs = outs }) b
-    by_copy copy next was is good (inr (inl one)) steps = laws.writes_page old new merge copy next ticket request asked bodies files here
-        (record { merges = merges_on old new merge doing copy next ticket (PageCall request) s was is good (subst (λ k. Steps ticket old.catalog copy k next) one steps); free = free; apart = apart; outs = outs }) b
-    by_copy copy next was is good (inr (inr one)) steps = laws.writes_table old new merge copy next ticket request asked bodies files here
-        (record { merges = merges_on old new merge doing copy next ticket (TableCall request) s was is good (subst (λ k. Steps ticket old.catalog copy k next) one steps); free = free; apart = apart; outs = outs }) b
-
-    by_list : (r : Retiring) → merge.doing ≡ retiring r → IsRetiring r → IsCallOf made request → RetiresOn ticket r made doing → Believes new (slice_set asked 1 (Some request)) bodies files
-    by_list r was good (inl one) goes = laws.retires old new merge r (record r { plan = goes.next }) ticket request asked bodies files (record {
-      rest = s.rest;
-      phases = s.phases;
-      serial = s.serial;
-      catalog = s.catalog;
-      was = s.was;
-      doing = was;
-      sound = good;
-      retires = subst (λ k. RetiresOn ticket r (Call request) k) goes.is (subst (λ k. RetiresOn ticket r k doing) one goes);
-      free = free;
-      apart = apart;
-      outs = outs;
-      is = s.is ∙ ap (λ k. Some (record merge { doing = k })) goes.is;
-    }) b
-    by_list r was good (inr (inl one)) goes = absurd (let no : PageCall request ≡ Call goes.request = sym one ∙ goes.call in cc)
-    by_list r was good (inr (inr one)) goes = absurd (let no : TableCall request ≡ Call goes.request = sym one ∙ goes.call in cc)
-
-    by : (doing_was : Doing) → merge.doing ≡ doing_was → IsRunningAt merge doing_was → HasSoundCopyIn doing_was → StepsAt ticket old.catalog merge doing_was made doing
-        → Believes new (slice_set asked 1 (Some request)) bodies files
-    by due was order good steps = absurd steps
-    by (copying copy) was order good steps = by_copy copy steps.copy was steps.is good call steps.steps
-    by (opened serial) was order good steps = absurd steps
-    by (retiring r) was order good steps = by_list r was order call steps
-
--- the step is one on the image
+-- a step on the merged image
 pub record OnImage (ticket : ℕ) (places : Places) (merge : merger.Running) (made : MergeStep) (doing : Doing) : Type 0 where
   pub copy : Copying
   pub was : merge.doing ≡ copying copy
@@ -239,43 +116,201 @@ pub record OnImage (ticket : ℕ) (places : Places) (merge : merger.Running) (ma
   pub sound : IsSoundCopying copy
   pub steps : Steps ticket places copy made next
 
-pub on_image : (ticket : ℕ) (places : Places) (merge : merger.Running) (made : MergeStep) (doing : Doing) → ((request : Asked) → made ≡ Call request → ⊥) → HasSoundCopy (Some merge)
-    → StepsAt ticket places merge merge.doing made doing → OnImage ticket places merge made doing
-on_image ticket places merge made doing other copied steps = by merge.doing refl copied steps
-  where
-    by : (doing_was : Doing) → merge.doing ≡ doing_was → HasSoundCopyIn doing_was → StepsAt ticket places merge doing_was made doing → OnImage ticket places merge made doing
-    by due was good steps = absurd steps
-    by (copying copy) was good steps = record { copy = copy; was = was; next = steps.copy; is = steps.is; sound = good; steps = steps.steps }
-    by (opened serial) was good steps = absurd steps
-    by (retiring r) was good steps = absurd (other steps.request steps.call)
+module _ {core : Parts} {seen : CoreView} {made : MergeStep} {now : Option merger.Running} (s : StepsMerge core seen made now) where
+  pub work : MergeRuns core.standing core.phases core.places core.opener core.numbers core.room core.dumper.running s.on.merge
+  work = merger_works core s.on.merge s.sound s.on.was
 
--- it reads a page of the source
-pub goes_by_read : (places : Places) → MergerSteps places → (old new : CoreView) (merge : merger.Running) (doing : Doing) (ticket : ℕ) (request : Asked)
-    (asked : List (Option Asked)) (bodies files : List (List ℕ)) → old.catalog ≡ places → StepsBeside old merge doing new → StepsAt ticket old.catalog merge merge.doing (ReadCall request) doing
-    → slice_get old.outs 1 ≡ Some None → IsFree old.outs request.id.slot → new.outs ≡ slice_set old.outs 1 (Some request.id)
-    → Believes old asked bodies files → Believes new (slice_set asked 1 (Some request)) bodies files
-goes_by_read places laws old new merge doing ticket request asked bodies files here s steps free apart outs b =
-    let i = on_image ticket old.catalog merge (ReadCall request) doing (λ other is. let no : ReadCall request ≡ Call other = is in cc) s.copied steps in
-    laws.reads old new merge i.copy i.next ticket request asked bodies files here
-    (record { merges = merges_on old new merge doing i.copy i.next ticket (ReadCall request) s i.was i.is i.sound i.steps; free = free; apart = apart; outs = outs }) b
+  rests : slice_get core.outs 1 ≡ Some None
+  rests = ap (λ (v : CoreView). slice_get v.outs 1) s.seen_is ∙ s.rests
 
--- such a read is in a slot of the store that the checkpoint spares
-pub may_read_by : (places : Places) → MergerSteps places → (old new : CoreView) (merge : merger.Running) (doing : Doing) (ticket : ℕ) (request : Asked)
-    (asked : List (Option Asked)) (bodies files : List (List ℕ)) → old.catalog ≡ places → StepsBeside old merge doing new → StepsAt ticket old.catalog merge merge.doing (ReadCall request) doing
-    → Believes old asked bodies files → MayRead old.dumper.running (length old.phases) request.id.slot
-may_read_by places laws old new merge doing ticket request asked bodies files here s steps b =
-    let i = on_image ticket old.catalog merge (ReadCall request) doing (λ other is. let no : ReadCall request ≡ Call other = is in cc) s.copied steps in
-    let may = laws.spares old new merge i.copy i.next ticket request asked bodies files here (merges_on old new merge doing i.copy i.next ticket (ReadCall request) s i.was i.is i.sound i.steps) b in
-    record { within = may.0; spared = may.1 }
+  running : IsRunningAt s.on.merge s.on.merge.doing
+  running = subst AreRunning s.on.was s.running
+
+  copied : HasSoundCopyIn s.on.merge.doing
+  copied = subst HasSoundCopy s.on.was s.copied
+
+  only_merges : (outs : List (Option RequestId)) (numbers : Numbers) → OnlyMerges (seen_of core) (seen_of (stepped_core core outs numbers now))
+  only_merges outs numbers = record {
+    stands = work.stands;
+    base = refl;
+    history = refl;
+    memory = refl;
+    closed = work.closed;
+    grows = refl;
+    committing = refl;
+    dumper = refl;
+    makes = makes_in core.dumper.since_freeze core.dumper.running s.makes;
+  }
+
+  on_image : ((request : Asked) → made ≡ Call request → ⊥) → OnImage core.numbers.ticket core.places s.on.merge made s.on.doing
+  on_image other = by s.on.merge.doing refl copied s.on.steps
+    where
+      by : (was : Doing) → s.on.merge.doing ≡ was → HasSoundCopyIn was → StepsAt core.numbers.ticket core.places s.on.merge was made s.on.doing
+          → OnImage core.numbers.ticket core.places s.on.merge made s.on.doing
+      by due was good steps = absurd steps
+      by (copying copy) was good steps = record { copy = copy; was = was; next = steps.copy; is = steps.is; sound = good; steps = steps.steps }
+      by (opened serial) was good steps = absurd steps
+      by (retiring r) was good steps = absurd (other steps.request steps.call)
+
+  merges_on : (outs : List (Option RequestId)) (numbers : Numbers) → numbers.serial ≡ core.numbers.serial → (i : OnImage core.numbers.ticket core.places s.on.merge made s.on.doing)
+      → MergesOn (seen_of core) s.on.merge i.copy core.numbers.ticket made i.next (seen_of (stepped_core core outs numbers now))
+  merges_on outs numbers serial i = record {
+    rest = only_merges outs numbers;
+    phases = refl;
+    serial = serial;
+    catalog = refl;
+    was = s.on.was;
+    doing = i.was;
+    sound = i.sound;
+    steps = i.steps;
+    is = s.on.is ∙ ap (λ k. Some (record s.on.merge { doing = k })) i.is;
+  }
+
+  -- ---- it asks for a call
+
+  pub asked_core : (outs : List (Option RequestId)) (numbers : Numbers) (request : Asked) → SameNumbers core.numbers numbers → outs ≡ slice_set core.outs 1 (Some request.id)
+      → AsksBeside core numbers s.on.merge s.on.doing request → IsCore (stepped_core core outs numbers now)
+  asked_core outs numbers request same are a =
+      core_asks core outs core.places numbers (record s.on.merge { doing = s.on.doing }) now request.id s.sound work.stands work.closed s.on.is rests are a.out a.within a.worker a.spared
+      (leaves_same core numbers s.on.merge (record s.on.merge { doing = s.on.doing }) s.sound s.on.was a.fewer same) (counted_same core.places core.numbers numbers same s.sound.counted) a.merging
+
+  free_to_ask : (numbers : Numbers) (request : Asked) → AsksBeside core numbers s.on.merge s.on.doing request → IsFree core.outs request.id.slot
+  free_to_ask numbers request a = free_asked core request.id.slot s.sound work.stands rests a.spared
+
+  asks_handed : (outs : List (Option RequestId)) (numbers : Numbers) (request : Asked) → outs ≡ slice_set core.outs 1 (Some request.id) → AsksBeside core numbers s.on.merge s.on.doing request
+      → ((asked : List (Option Asked)) (bodies files : List (List ℕ)) → Believes (seen_of core) asked bodies files
+      → Believes (seen_of (stepped_core core outs numbers now)) (slice_set asked 1 (Some request)) bodies files)
+      → HandsOut seen its.Merger request (seen_of (stepped_core core outs numbers now))
+  asks_handed outs numbers request are a goes = subst (λ old. HandsOut old its.Merger request (seen_of (stepped_core core outs numbers now))) s.seen_is (record {
+    lane = 1;
+    free = rests;
+    base = refl;
+    history = refl;
+    phases = refl;
+    outs = are;
+    whose = a.worker;
+    slot = a.within;
+    apart = λ lane other at same. absurd (free_to_ask numbers request a lane other at same);
+    pages = λ few. absurd (omega (arith, few));
+    beside = λ lane other at same. absurd (free_to_ask numbers request a lane other at same);
+    goes_on = goes;
+  })
+
+  pub call_asks : (numbers : Numbers) (request : Asked) → SameNumbers core.numbers numbers → IsCallOf made request → AsksBeside core numbers s.on.merge s.on.doing request
+  call_asks numbers request same call = by s.on.merge.doing refl running copied s.on.steps
+    where
+      by_copy : (copy next : Copying) → s.on.merge.doing ≡ copying copy → copy.order ≡ merger.order_of s.on.merge copy.order.serial copy.order.state → IsSoundCopying copy
+          → IsCallOf made request → Steps core.numbers.ticket core.places copy made next → AsksBeside core numbers s.on.merge (copying next) request
+      by_copy copy next was order good (inl one) steps =
+          let t = subst (λ k. Steps core.numbers.ticket core.places copy k next) one steps in
+          asks_on_own core numbers s.on.merge copy next request s.sound s.on.was was same order t.1.worker (asks_own copy next request good t.0) (asks_header copy next request t.0)
+      by_copy copy next was order good (inr (inl one)) steps =
+          let t = subst (λ k. Steps core.numbers.ticket core.places copy k next) one steps in
+          asks_on_own core numbers s.on.merge copy next request s.sound s.on.was was same order t.1.worker (writes_own copy next request t.0) (writes_header copy next request t.0)
+      by_copy copy next was order good (inr (inr one)) steps =
+          let t = subst (λ k. Steps core.numbers.ticket core.places copy k next) one steps in
+          asks_on_own core numbers s.on.merge copy next request s.sound s.on.was was same order t.1.worker (tables_own core.places copy next request t.0) (tables_header core.places copy next request t.0)
+
+      by_list : (r : Retiring) → s.on.merge.doing ≡ retiring r → IsRetiring r → IsCallOf made request → RetiresOn core.numbers.ticket r made s.on.doing
+          → AsksBeside core numbers s.on.merge s.on.doing request
+      by_list r was good (inl one) goes =
+          asks_on_listed core numbers s.on.merge r core.numbers.ticket request s.on.doing s.sound s.on.was was same good (subst (λ k. RetiresOn core.numbers.ticket r k s.on.doing) one goes)
+      by_list r was good (inr (inl one)) goes = absurd (let no : PageCall request ≡ Call goes.request = sym one ∙ goes.call in cc)
+      by_list r was good (inr (inr one)) goes = absurd (let no : TableCall request ≡ Call goes.request = sym one ∙ goes.call in cc)
+
+      by : (was : Doing) → s.on.merge.doing ≡ was → IsRunningAt s.on.merge was → HasSoundCopyIn was → StepsAt core.numbers.ticket core.places s.on.merge was made s.on.doing
+          → AsksBeside core numbers s.on.merge s.on.doing request
+      by due was order good steps = absurd steps
+      by (copying copy) was order good steps = subst (λ k. AsksBeside core numbers s.on.merge k request) (sym steps.is) (by_copy copy steps.copy was order good call steps.steps)
+      by (opened serial) was order good steps = absurd steps
+      by (retiring r) was order good steps = by_list r was order call steps
+
+  pub call_handed : (outs : List (Option RequestId)) (numbers : Numbers) (request : Asked) → SameNumbers core.numbers numbers → outs ≡ slice_set core.outs 1 (Some request.id) → IsCallOf made request
+      → HandsOut seen its.Merger request (seen_of (stepped_core core outs numbers now))
+  call_handed outs numbers request same are call = asks_handed outs numbers request are asks (λ asked bodies files b. by asked bodies files b s.on.merge.doing refl running copied s.on.steps)
+    where
+      asks : AsksBeside core numbers s.on.merge s.on.doing request
+      asks = call_asks numbers request same call
+
+      merges : (i : OnImage core.numbers.ticket core.places s.on.merge made s.on.doing) (step : MergeStep) → made ≡ step
+          → MergesOn (seen_of core) s.on.merge i.copy core.numbers.ticket step i.next (seen_of (stepped_core core outs numbers now))
+      merges i step is = subst (λ k. MergesOn (seen_of core) s.on.merge i.copy core.numbers.ticket k i.next (seen_of (stepped_core core outs numbers now))) is (merges_on outs numbers same.serial i)
+
+      by_copy : (asked : List (Option Asked)) (bodies files : List (List ℕ)) → Believes (seen_of core) asked bodies files → OnImage core.numbers.ticket core.places s.on.merge made s.on.doing
+          → IsCallOf made request → Believes (seen_of (stepped_core core outs numbers now)) (slice_set asked 1 (Some request)) bodies files
+      by_copy asked bodies files b i (inl one) = s.laws.asks _ _ s.on.merge i.copy i.next core.numbers.ticket request asked bodies files refl
+          (record { merges = merges i (Call request) one; free = rests; apart = free_to_ask numbers request asks; outs = are }) b
+      by_copy asked bodies files b i (inr (inl one)) = s.laws.writes_page _ _ s.on.merge i.copy i.next core.numbers.ticket request asked bodies files refl
+          (record { merges = merges i (PageCall request) one; free = rests; apart = free_to_ask numbers request asks; outs = are }) b
+      by_copy asked bodies files b i (inr (inr one)) = s.laws.writes_table _ _ s.on.merge i.copy i.next core.numbers.ticket request asked bodies files refl
+          (record { merges = merges i (TableCall request) one; free = rests; apart = free_to_ask numbers request asks; outs = are }) b
+
+      by_list : (asked : List (Option Asked)) (bodies files : List (List ℕ)) → Believes (seen_of core) asked bodies files → (r : Retiring) → s.on.merge.doing ≡ retiring r → IsRetiring r → IsCallOf made request
+          → RetiresOn core.numbers.ticket r made s.on.doing → Believes (seen_of (stepped_core core outs numbers now)) (slice_set asked 1 (Some request)) bodies files
+      by_list asked bodies files b r was good (inl one) goes = s.laws.retires _ _ s.on.merge r (record r { plan = goes.next }) core.numbers.ticket request asked bodies files (record {
+        rest = only_merges outs numbers;
+        phases = refl;
+        serial = same.serial;
+        catalog = refl;
+        was = s.on.was;
+        doing = was;
+        sound = good;
+        retires = subst (λ k. RetiresOn core.numbers.ticket r (Call request) k) goes.is (subst (λ k. RetiresOn core.numbers.ticket r k s.on.doing) one goes);
+        free = rests;
+        apart = free_to_ask numbers request asks;
+        outs = are;
+        is = s.on.is ∙ ap (λ k. Some (record s.on.merge { doing = k })) goes.is;
+      }) b
+      by_list asked bodies files b r was good (inr (inl one)) goes = absurd (let no : PageCall request ≡ Call goes.request = sym one ∙ goes.call in cc)
+      by_list asked bodies files b r was good (inr (inr one)) goes = absurd (let no : TableCall request ≡ Call goes.request = sym one ∙ goes.call in cc)
+
+      by : (asked : List (Option Asked)) (bodies files : List (List ℕ)) → Believes (seen_of core) asked bodies files → (was : Doing) → s.on.merge.doing ≡ was → IsRunningAt s.on.merge was → HasSoundCopyIn was
+          → StepsAt core.numbers.ticket core.places s.on.merge was made s.on.doing → Believes (seen_of (stepped_core core outs numbers now)) (slice_set asked 1 (Some request)) bodies files
+      by asked bodies files b due was order good steps = absurd steps
+      by asked bodies files b (copying copy) was order good steps =
+          by_copy asked bodies files b (record { copy = copy; was = was; next = steps.copy; is = steps.is; sound = good; steps = steps.steps }) call
+      by asked bodies files b (opened serial) was order good steps = absurd steps
+      by asked bodies files b (retiring r) was order good steps = by_list asked bodies files b r was order call steps
+
+-- ---- a read
+
+module _ {core : Parts} {seen : CoreView} {request : Asked} {now : Option merger.Running} (s : StepsMerge core seen (ReadCall request) now) where
+  read_image : OnImage core.numbers.ticket core.places s.on.merge (ReadCall request) s.on.doing
+  read_image = on_image s (λ other is. let no : ReadCall request ≡ Call other = is in cc)
+
+  pub read_asks : (numbers : Numbers) → SameNumbers core.numbers numbers → MayRead core.dumper.running (length core.phases) request.id.slot → AsksBeside core numbers s.on.merge s.on.doing request
+  read_asks numbers same may =
+      let i = read_image in
+      let r = reads_source core.places i.copy i.next request i.steps.0 in
+      subst (λ k. AsksBeside core numbers s.on.merge k request) (sym i.is) (record {
+        out = r.out;
+        worker = i.steps.1.worker;
+        within = may.within;
+        spared = may.spared;
+        fewer = omega arith;
+        merging = copy_goes_on core core.phases core.places numbers s.on.merge i.copy i.next s.sound s.on.was i.was r.order refl same (reads_header core.places i.copy i.next request i.steps.0) (λ held. held)
+            (λ id out. subst (λ (i : RequestId). IsSpared core.dumper.running i.slot) (same_Some request.id id (sym r.out ∙ out)) may.spared)
+            (λ id out sync has. r.no_sync (ap (λ (i : RequestId). i.call) (same_Some request.id id (sym r.out ∙ out)) ∙ sync));
+      })
+
+  pub read_handed : (outs : List (Option RequestId)) (numbers : Numbers) → SameNumbers core.numbers numbers → outs ≡ slice_set core.outs 1 (Some request.id)
+      → MayRead core.dumper.running (length core.phases) request.id.slot → HandsOut seen its.Merger request (seen_of (stepped_core core outs numbers now))
+  read_handed outs numbers same are may = asks_handed s outs numbers request are (read_asks numbers same may)
+      (λ asked bodies files b. s.laws.reads _ _ s.on.merge read_image.copy read_image.next core.numbers.ticket request asked bodies files refl
+      (record { merges = merges_on s outs numbers same.serial read_image; free = rests s; apart = free_to_ask s numbers request (read_asks numbers same may); outs = are }) b)
+
+  -- such a read is in a slot of the store that the checkpoint spares
+  pub may_read_by : (asked : List (Option Asked)) (bodies files : List (List ℕ)) → Believes (seen_of core) asked bodies files → MayRead core.dumper.running (length core.phases) request.id.slot
+  may_read_by asked bodies files b =
+      let may = s.laws.spares _ _ s.on.merge read_image.copy read_image.next core.numbers.ticket request asked bodies files refl (merges_on s core.outs core.numbers refl read_image) b in
+      record { within = may.0; spared = may.1 }
 
 -- it takes a page of zeros
-pub goes_by_zeros : (places : Places) → MergerSteps places → (old new : CoreView) (merge : merger.Running) (doing : Doing) (ticket : ℕ)
-    (asked : List (Option Asked)) (bodies files : List (List ℕ)) → old.catalog ≡ places → StepsBeside old merge doing new → StepsAt ticket old.catalog merge merge.doing Zero doing
-    → new.outs ≡ old.outs → Believes old asked bodies files → Believes new asked bodies files
-goes_by_zeros places laws old new merge doing ticket asked bodies files here s steps outs b =
-    let i = on_image ticket old.catalog merge Zero doing (λ other is. let no : Zero ≡ Call other = is in cc) s.copied steps in
-    laws.takes_zeros old new merge i.copy i.next ticket asked bodies files here
-    (record { merges = merges_on old new merge doing i.copy i.next ticket Zero s i.was i.is i.sound i.steps; outs = outs }) b
+pub goes_by_zeros : {core : Parts} {seen : CoreView} {now : Option merger.Running} (s : StepsMerge core seen Zero now) (asked : List (Option Asked)) (bodies files : List (List ℕ))
+    → Believes (seen_of core) asked bodies files → Believes (seen_of (stepped_core core core.outs core.numbers now)) asked bodies files
+goes_by_zeros {core = core} s asked bodies files b =
+    let i = on_image s (λ other is. let no : Zero ≡ Call other = is in cc) in
+    s.laws.takes_zeros _ _ s.on.merge i.copy i.next core.numbers.ticket asked bodies files refl (record { merges = merges_on s core.outs core.numbers refl i; outs = refl }) b
 
 -- the source is there to be read: no page of it is lost
 pub never_lost : (places : Places) → MergerSteps places → (parts : Parts) (core : CoreView) → IsCore parts → core.merger ≡ parts.merger → core.standing ≡ parts.standing → core.catalog ≡ places

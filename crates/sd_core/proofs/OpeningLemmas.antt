@@ -1,5 +1,6 @@
 -- The opener's steps, as the calls of a core tell them.
-use Rattle.std.proofs.Common.{◌≡◌, ℕ, suc, List, [], ◌∷◌, length, map, Option, Some, None, slice_get, slice_set, refl, sym, ◌∙◌, ap, subst, inl, inr, arith}
+use Rattle.std.proofs.Common.{◌≡◌, ℕ, suc, Bool, List, [], ◌∷◌, length, map, Option, Some, None, slice_get, slice_set, refl, sym, ◌∙◌, ap, subst, inl, inr, arith}
+use Rattle.std.proofs.lemmas.Option.{same_Some}
 use Rattle.sd_gate.specs.declared.phase.Phase.{Phase}
 use Rattle.sd_gate.specs.declared.request_id.RequestId.{RequestId}
 use Rattle.sd_gate.specs.declared.worker.Worker.{Worker}
@@ -23,6 +24,7 @@ use Rattle.sd_crash_safety.specs.Laws.{IsOpenAs, ReopenedIsBelieved}
 use Rattle.sd_crash_safety.specs.OpenerSteps.{Decodes, GivesUpOpening, IsHandedToOpener, IsTaught, LooksOn, OnlyOpens, OpenerSteps, Reopens, nobody, opener_alone}
 use Rattle.sd_crash_safety.specs.View.{CoreView, history_of}
 use Rattle.sd_rounds.specs.Dumper.{Running}
+use Rattle.sd_core.specs.Following.{FollowsOutcome}
 use Rattle.sd_core.specs.Opening.{with_opening}
 use Rattle.sd_core.specs.Sound.{held_for}
 use Rattle.sd_crash_safety.proofs.OpenerSteps.{given_up_at as given_at}
@@ -145,15 +147,18 @@ pub record IsAfter (old : CoreView) (made : Made) (new : CoreView) : Type 0 wher
   pub alone : old.outs ≡ opener_alone made.request.id
   pub outs : new.outs ≡ nobody
   pub whose : made.request.id.worker ≡ Opener
-  pub count : length new.phases ≡ length old.phases
-  pub phases : (phase : Phase) → slice_get old.phases made.request.id.slot ≡ Some phase
-      → new.phases ≡ phases_after old.phases made.request.id phase (is_done made.answer)
+  pub sure : Bool
+  pub follows : FollowsOutcome old.phases made new.phases sure
+
+phases_at : (old new : CoreView) (made : Made) → IsAfter old made new → (phase : Phase) → slice_get old.phases made.request.id.slot ≡ Some phase
+    → new.phases ≡ phases_after old.phases made.request.id phase (is_done made.answer)
+phases_at old new made a phase is = a.follows.phases ∙ ap (λ p. phases_after old.phases made.request.id p (is_done made.answer)) (same_Some a.follows.phase phase (sym a.follows.is ∙ is))
 
 outs_after : (id : RequestId) (outs now : List (Option RequestId)) → outs ≡ opener_alone id → now ≡ nobody → now ≡ slice_set outs 2 None
 outs_after id outs now alone none = none ∙ sym (ap (λ all. slice_set all 2 None) alone)
 
 handed_after : (old new : CoreView) (made : Made) → IsAfter old made new → (phase : Phase) → Waits old.phases made.request.id phase → IsHandedToOpener old made phase new
-handed_after old new made a phase waits = record { rest = a.rest; alone = a.alone; outs = a.outs; waits = waits; phases = a.phases phase waits.is }
+handed_after old new made a phase waits = record { rest = a.rest; alone = a.alone; outs = a.outs; waits = waits; phases = phases_at old new made a phase waits.is }
 
 -- it goes on, or ends with a failure
 pub handed_on : OpenerSteps → (old new : CoreView) (made : Made) (opener next : Looking) → IsAfter old made new
@@ -161,9 +166,9 @@ pub handed_on : OpenerSteps → (old new : CoreView) (made : Made) (opener next 
 handed_on steps old new made opener next a taught = record {
   base = a.rest.base;
   outs = outs_after made.request.id old.outs new.outs a.alone a.outs;
-  count = a.count;
+  count = a.follows.count;
   phases = λ phase waits. subst (λ p. AreGivenUp new.outs (phases_after old.phases made.request.id phase (is_done made.answer)) p)
-      (sym (a.phases phase waits.is)) (same_phases new.outs (phases_after old.phases made.request.id phase (is_done made.answer)));
+      (sym (phases_at old new made a phase waits.is)) (same_phases new.outs (phases_after old.phases made.request.id phase (is_done made.answer)));
   goes_on = λ asked bodies files at told b.
       let covered = b.has.waiting 2 made.request at in
       steps.teaches old new opener next made covered.phase asked bodies files (taught covered.phase (handed_after old new made a covered.phase covered.waits)) at told b;
@@ -174,9 +179,9 @@ pub handed_failed : OpenerSteps → (old new : CoreView) (made : Made) (why : Re
 handed_failed steps old new made why a ended = record {
   base = a.rest.base;
   outs = outs_after made.request.id old.outs new.outs a.alone a.outs;
-  count = a.count;
+  count = a.follows.count;
   phases = λ phase waits. subst (λ p. AreGivenUp new.outs (phases_after old.phases made.request.id phase (is_done made.answer)) p)
-      (sym (a.phases phase waits.is)) (same_phases new.outs (phases_after old.phases made.request.id phase (is_done made.answer)));
+      (sym (phases_at old new made a phase waits.is)) (same_phases new.outs (phases_after old.phases made.request.id phase (is_done made.answer)));
   goes_on = λ asked bodies files at told b.
       let covered = b.has.waiting 2 made.request at in
       steps.fails old new made covered.phase asked bodies files (handed_after old new made a covered.phase covered.waits) ended at b;

@@ -1,12 +1,11 @@
 -- The pre-dumps of a checkpoint that are in the catalog, as that changes.
-use Rattle.std.proofs.Common.{◌≡◌, ℕ, zero, suc, ◌+◌, ◌<◌, ◌≤◌, ◌==◌, Bool, true, false, if◌then◌else◌, not, length, Option, Some, None, refl, sym, ◌∙◌, ap, subst, inl, inr, arith}
+use Rattle.std.proofs.Common.{◌≡◌, ℕ, zero, suc, ◌+◌, ◌<◌, ◌≤◌, true, false, if◌then◌else◌, length, Option, Some, None, refl, sym, ◌∙◌, ap, subst, inl, inr, arith}
 use Rattle.std.proofs.lemmas.Bool.{leb-true}
 use Rattle.std.proofs.lemmas.Bool.Decides.{eqb_tells}
-use Rattle.sd_chain.specs.Catalog.{Changes, IsHeld, Opened, Places, place_of, without_slot}
+use Rattle.sd_chain.specs.Catalog.{Changes, IsHeld, Opened, Places, place_of}
 use Rattle.sd_image.specs.declared.header.Kind.TheVariants.{Dump, PreDump}
-use Rattle.sd_rounds.specs.Dumper.{AreRunning, Running, is_last, slot_of}
-use Rattle.sd_crash_safety.specs.DumperOutcomes.{LeavesCatalog}
-use Rattle.sd_core.specs.Images.{HasImage, HasPreDumps, IsPreDump, JobSlotsDiffer, begun_as}
+use Rattle.sd_rounds.specs.Dumper.{AreRunning, Running, is_last}
+use Rattle.sd_core.specs.Images.{HasImage, HasPreDumps, IsPreDump, begun_as}
 
 -- each of the first pre-dumps stays
 abbrev pub TheyStay : Running → Places → Places → ℕ → Type 0
@@ -41,19 +40,6 @@ change_stays job old new serial count to changes none place s o below is = chang
 -- that of a held serial
 pub none_held : (old : Places) (serial : ℕ) (o : Opened) → IsHeld old serial → place_of old serial ≡ Some (Some o) → ⊥
 none_held old serial o held is = let no : Some None ≡ Some (Some o) = sym held ∙ is in cc
-
--- the image of another slot leaves
-pub leave_stays : (running : Running) (closed : Bool) (slot : ℕ) (old new : Places) → LeavesCatalog closed slot old new → slot ≡ slot_of running
-    → running.opened ≤ length running.pre_dumps → JobSlotsDiffer running → TheyStay (begun_as running) old new running.opened
-leave_stays running true slot old new leaves own few apart place serial o below is =
-    leaves serial ∙ ap (without_slot slot) is.is_in ∙ ap (λ b. if not b then Some (Some o) else None) elsewhere
-  where
-    elsewhere : (o.slot == slot) ≡ false
-    elsewhere = elim (eqb_tells o.slot slot) [
-      | inl same ↦ absurd (apart place running.opened below few (sym is.slot ∙ same.1 ∙ own))
-      | inr other ↦ other.0
-    ]
-leave_stays running false slot old new leaves own few apart place serial o below is = ap (λ all. place_of all serial) leaves ∙ is.is_in
 
 -- one more is open
 pub pre_dump_entered : (running : Running) (old new : Places) (image : Opened) → HasImage running new image → is_last running ≡ false

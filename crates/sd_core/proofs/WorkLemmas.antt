@@ -20,7 +20,7 @@ use Rattle.sd_opener.specs.Looking.{Looking}
 use Rattle.sd_pagetable.specs.Contents.{Contents}
 use Rattle.sd_rounds.specs.declared.stage.Stage.{Stage}
 use Rattle.sd_rounds.specs.declared.stage.Stage.TheVariants.{Format, Freeze as FreezeStage, Pass as PassStage, Close}
-use Rattle.sd_rounds.specs.Dumper.{AreRunning, HasSlot, IsItsImage, Running, order_of, out_of_image, out_of_running, serial_of_running, slot_of, writes_of_image, writes_of_running}
+use Rattle.sd_rounds.specs.Dumper.{AreRunning, Dumping, HasSlot, IsItsImage, Running, order_of, out_of_image, out_of_running, serial_of_running, slot_of, writes_of_image, writes_of_running}
 use Rattle.sd_rounds.specs.Making.{Making, is_frozen_dump, out_of}
 use Rattle.sd_rounds.specs.Pass.{data_pages}
 use Rattle.sd_rounds.specs.Sound.{IsSoundImage}
@@ -187,36 +187,33 @@ pub record KeepsPlaces (running : Running) (old new : Places) : Type 0 where
 pub same_places : (running : Running) (places : Places) → KeepsPlaces running places places
 same_places running places = record { held = λ serial is. is; images = λ serial o there spared. there }
 
-pub record Turns (old new : Parts) (running : Running) (image next : Making) : Type 0 where
-  pub was : old.dumper.running ≡ Some running
+-- what a step or an outcome with which it turns leaves
+pub record Turns (core : Parts) (journal : JournalView) (memory : Contents) (phases : List Phase)
+    (outs : List (Option RequestId)) (places : Places) (dumper : Dumping) (numbers : Numbers) (committing swept : Bool)
+    (running : Running) (image next : Making) : Type 0 where
+  pub was : core.dumper.running ≡ Some running
   pub making : running.image ≡ Some image
-  pub is : new.dumper.running ≡ Some (record running { image = Some next })
-  pub merger_is : new.merger ≡ old.merger
-  pub room : new.room ≡ old.room
+  pub is : dumper.running ≡ Some (record running { image = Some next })
   pub serial : next.order.serial ≡ image.order.serial
-  pub places_stay : KeepsPlaces running old.places new.places
-  pub base : new.base ≡ old.base
-  pub frozen : new.frozen ≡ old.frozen
-  pub standing : new.standing ≡ old.standing
-  pub opener : new.opener ≡ old.opener
-  pub count : length new.phases ≡ length old.phases
-  pub numbers : SameNumbers old.numbers new.numbers
-  pub entries : entries_of new.journal.items ≡ entries_of old.journal.items
-  pub held : new.journal.held ≡ old.journal.held
-  pub journal_is : IsJournal new.base new.journal new.memory new.frozen new.newest
-  pub numbers_are : AreSoundNumbers new.base new.journal.items new.frozen new.newest new.numbers
-  pub counted : CheckpointsAreCounted new.numbers new.places
-  pub outs : new.outs ≡ out_of next.stage ∷ merger.out_of_merge old.merger ∷ None ∷ next.writes
-  pub stay : TheyStay (begun_as running) old.places new.places running.opened
+  pub places_stay : KeepsPlaces running core.places places
+  pub count : length phases ≡ length core.phases
+  pub same : SameNumbers core.numbers numbers
+  pub entries : entries_of journal.items ≡ entries_of core.journal.items
+  pub held : journal.held ≡ core.journal.held
+  pub journal_is : IsJournal core.base journal memory core.frozen core.newest
+  pub numbers_are : AreSoundNumbers core.base journal.items core.frozen core.newest numbers
+  pub counted : CheckpointsAreCounted numbers places
+  pub outs_are : outs ≡ out_of next.stage ∷ merger.out_of_merge core.merger ∷ None ∷ next.writes
+  pub stay : TheyStay (begun_as running) core.places places running.opened
   pub asked : IfSome (out_of next.stage) (λ id. id.slot ≡ slot_of running)
   pub whose : IfSome (out_of next.stage) (λ id. id.worker ≡ Dumper)
   pub writes : HasWrites running (Some next)
-  pub image_is : IsImageInMaking new.journal.items new.places new.numbers next
+  pub image_is : IsImageInMaking journal.items places numbers next
   pub still : is_frozen_dump next ≡ is_frozen_dump image
-  pub little : TakesLittle new.base new.journal.items new.memory running.number next
-  pub swept_is : HasSwept new.swept new.frozen new.memory
-  pub flags_are : AreFlags new.base new.journal.items new.swept new.grows new.committing
-  pub gated : IsGated new.swept (record running { image = Some next })
+  pub little : TakesLittle core.base journal.items memory running.number next
+  pub swept_is : HasSwept swept core.frozen memory
+  pub flags_are : AreFlags core.base journal.items swept core.grows committing
+  pub gated : IsGated swept (record running { image = Some next })
 
 -- ---- requests that are out while the store is open
 
@@ -239,73 +236,53 @@ pub pends_so : (running : Running) (image next : Making) → running.image ≡ S
 pends_so running image next making still =
     ap (λ b. if b then Some running.number else None) still ∙ ap (λ i. frozen_by (record running { image = i })) (sym making)
 
--- what a merge keeps while the image turns
-pub record KeepsMerge (old new : Parts) (running : Running) (image next : Making) : Type 0 where
-  pub was : old.dumper.running ≡ Some running
-  pub making : running.image ≡ Some image
-  pub is : new.dumper.running ≡ Some (record running { image = Some next })
-  pub merger_is : new.merger ≡ old.merger
-  pub room : new.room ≡ old.room
-  pub serial : next.order.serial ≡ image.order.serial
-  pub places_stay : KeepsPlaces running old.places new.places
-  pub standing : new.standing ≡ old.standing
-  pub opener : new.opener ≡ old.opener
-  pub count : length new.phases ≡ length old.phases
-  pub numbers : SameNumbers old.numbers new.numbers
+-- a merge goes on while the image turns
+pub merging_turned : (core : Parts) (phases : List Phase) (places : Places) (numbers : Numbers) (running : Running) (image next : Making) → IsCore core → core.dumper.running ≡ Some running
+    → running.image ≡ Some image → next.order.serial ≡ image.order.serial → KeepsPlaces running core.places places → length phases ≡ length core.phases → SameNumbers core.numbers numbers
+    → IfSome core.merger (MergeRuns core.standing phases places core.opener numbers core.room (Some (record running { image = Some next })))
+merging_turned core phases places numbers running image next sound was making serial stay count same = merging_stays core phases places numbers (Some (record running { image = Some next })) sound (record {
+  count = count;
+  given = (let given = same.given in omega (arith, given));
+  checkpoint = (let checkpoint = same.checkpoint in omega (arith, checkpoint));
+  serials = λ merge is due few. (let now = same.serial in omega (arith, now, few));
+  has = λ slot has. subst (λ r. HasSlot r slot) (sym was) has;
+  fills = λ slot spared. fills_same running (Some next) slot (subst (λ r. IsSpared r slot) was spared);
+  other = λ s given other its. subst (λ i. IsOtherImage i s) making (subst (λ r. MakesOther r s) was other) (sym serial ∙ its);
+  held = λ s given other held. stay.held s held;
+  images = λ s o there spared. stay.images s o there (λ has. spared (subst (λ r. HasSlot r o.slot) (sym was) has));
+})
 
-pub merging_turned : (old new : Parts) (running : Running) (image next : Making) → IsCore old → KeepsMerge old new running image next
-    → IfSome new.merger (MergeRuns new.standing new.phases new.places new.opener new.numbers new.room new.dumper.running)
-merging_turned old new running image next sound t = merging_stays old new (record {
-  merger_is = t.merger_is;
-  room = t.room;
-  standing = t.standing;
-  opener = t.opener;
-  count = t.count;
-  given = (let given = t.numbers.given in omega (arith, given));
-  checkpoint = (let checkpoint = t.numbers.checkpoint in omega (arith, checkpoint));
-  serials = λ merge is due few. (let serial = t.numbers.serial in omega (arith, serial, few));
-  has = λ slot has. subst (λ r. HasSlot r slot) (sym t.was) (subst (λ r. HasSlot r slot) t.is has);
-  fills = λ slot spared. subst (λ r. IsSpared r slot) (sym t.is) (fills_same running (Some next) slot (subst (λ r. IsSpared r slot) t.was spared));
-  other = λ s given other. subst (λ r. MakesOther r s) (sym t.is) (λ same. other_than s (subst (λ r. MakesOther r s) t.was other) (sym t.serial ∙ same));
-  held = λ s given other held. t.places_stay.held s held;
-  images = λ s o there spared. t.places_stay.images s o there (λ has. spared (subst (λ r. HasSlot r o.slot) (sym t.was) has));
-}) sound.merging
-  where
-    other_than : (serial : ℕ) → MakesOther (Some running) serial → image.order.serial ≢ serial
-    other_than serial other = subst (λ i. IsOtherImage i serial) t.making other
-
-pub turned : (old new : Parts) (running : Running) (image next : Making) → IsCore old → Turns old new running image next
-    → IsWorking new (record running { image = Some next })
-turned old new running image next sound t =
-    let w = at_work old running sound t.was in
-    let serial = t.numbers.serial in
-    let due_same = ap due_serials t.merger_is in
-    let serials : old.numbers.serial + due_serials old.merger ≤ 2 ^ 63 + (running.opened + 1) = subst (λ i. old.numbers.serial + due_serials old.merger ≤ 2 ^ 63 + begun_images running i) t.making w.serials in
+pub turned : {core : Parts} {journal : JournalView} {memory : Contents} {phases : List Phase} {outs : List (Option RequestId)} {places : Places} {dumper : Dumping} {numbers : Numbers}
+    {committing swept : Bool} (running : Running) (image next : Making) → IsCore core → Turns core journal memory phases outs places dumper numbers committing swept running image next
+    → IsWorking (record core { journal = journal; memory = memory; phases = phases; outs = outs; places = places; dumper = dumper; numbers = numbers; committing = committing; swept = swept })
+    (record running { image = Some next })
+turned {core} {journal} {memory} {phases} {outs} {places} {dumper} {numbers} {committing} {swept} running image next sound t =
+    let w = at_work core running sound t.was in
+    let serial = t.same.serial in
+    let serials : core.numbers.serial + due_serials core.merger ≤ 2 ^ 63 + (running.opened + 1) = subst (λ i. core.numbers.serial + due_serials core.merger ≤ 2 ^ 63 + begun_images running i) t.making w.serials in
     record {
       journal_is = t.journal_is;
-      held = t.held ∙ held_at_work old running sound t.was ∙ ap (λ f. held_for f (Some running) None) (sym t.frozen)
-          ∙ held_same new.frozen running (record running { image = Some next }) None;
-      outs_are = subst (λ st. AreOuts st new.outs new.phases (Some (record running { image = Some next })) new.merger None) (sym (t.standing ∙ w.stands))
-          (open_outs new.outs new.phases (Some (record running { image = Some next })) new.merger (t.outs ∙ ap (λ m. out_of next.stage ∷ merger.out_of_merge m ∷ None ∷ next.writes) (sym t.merger_is))
-          (dumper_outs new.phases (record running { image = Some next })
+      held = t.held ∙ held_at_work core running sound t.was ∙ held_same core.frozen running (record running { image = Some next }) None;
+      outs_are = subst (λ st. AreOuts st outs phases (Some (record running { image = Some next })) core.merger None) (sym w.stands)
+          (open_outs outs phases (Some (record running { image = Some next })) core.merger t.outs_are
+          (dumper_outs phases (record running { image = Some next })
           (subst (λ k. slot_of running < k) (sym t.count) (w.within (slot_of running) (record { place = running.opened; from = omega arith; is = refl }))) t.asked t.whose t.writes)
-          (λ id out. (let its = merger_out old id sound w.stands (ap merger.out_of_merge (sym t.merger_is) ∙ out) in (subst (λ n. id.slot < n) (sym t.count) its.0, its.1)))
-          (λ id other one two. asks_apart old running id other sound t.was (on_slot (record running { image = Some next }) id t.asked t.writes one) (ap merger.out_of_merge (sym t.merger_is) ∙ two)));
+          (λ id out. (let its = merger_out core id sound w.stands out in (subst (λ n. id.slot < n) (sym t.count) its.0, its.1)))
+          (λ id other one two. asks_apart core running id other sound t.was (on_slot (record running { image = Some next }) id t.asked t.writes one) two));
       numbers_are = t.numbers_are;
       counted = t.counted;
       work = record {
-        stands = t.standing ∙ w.stands;
-        closed = t.opener ∙ w.closed;
-        pends = t.frozen ∙ w.pends ∙ sym (pends_so running image next t.making t.still);
-        above = λ none. subst (λ b. IsAbove b (entries_of new.journal.items) running.number) (sym t.base)
-            (subst (λ all. IsAbove old.base all running.number) (sym t.entries) (w.above (sym t.frozen ∙ none)));
+        stands = w.stands;
+        closed = w.closed;
+        pends = w.pends ∙ sym (pends_so running image next t.making t.still);
+        above = λ none. subst (λ all. IsAbove core.base all running.number) (sym t.entries) (w.above none);
         some = w.some;
-        number = w.number ∙ sym t.numbers.begun;
+        number = w.number ∙ sym t.same.begun;
         few = w.few;
-        serials = omega (arith, serial, serials, due_same);
+        serials = omega (arith, serial, serials);
         within = λ slot reserved. subst (λ k. slot < k) (sym t.count) (w.within slot (record { place = reserved.place; from = reserved.from; is = reserved.is }));
         apart = w.apart;
-        pre_dumps = pre_dumps_stay (begun_as running) old.places new.places running.opened running.parent t.stay w.pre_dumps;
+        pre_dumps = pre_dumps_stay (begun_as running) core.places places running.opened running.parent t.stay w.pre_dumps;
         asked = t.asked;
         whose = t.whose;
         writes = t.writes;
@@ -315,19 +292,7 @@ turned old new running image next sound t =
       swept_is = t.swept_is;
       flags_are = t.flags_are;
       gated = t.gated;
-      merging = subst (λ r. IfSome new.merger (MergeRuns new.standing new.phases new.places new.opener new.numbers new.room r)) t.is (merging_turned old new running image next sound (record {
-        was = t.was;
-        making = t.making;
-        is = t.is;
-        merger_is = t.merger_is;
-        room = t.room;
-        serial = t.serial;
-        places_stay = t.places_stay;
-        standing = t.standing;
-        opener = t.opener;
-        count = t.count;
-        numbers = t.numbers;
-      }));
+      merging = merging_turned core phases places numbers running image next sound t.was t.making t.serial t.places_stay t.count t.same;
     }
 
 -- ---- more room in the journal
@@ -455,8 +420,10 @@ image_applied items places numbers image seat command reply is = record {
 
     by_stage : (stage : Stage) → IsVisitingIn items image.order.serial image.pass stage
         → IsVisitingIn (Told (Applied seat command reply) ∷ items) image.order.serial image.pass stage
+    by_stage (Format plan) v = same v
+    by_stage FreezeStage v = same v
+    by_stage PassStage v = same v
     by_stage (Close plan header tables) v = tt
-    by_stage _ v = same v
 
 image_applied_some : (items : Marked) (places : Places) (numbers : Numbers) (image : Option Making) (seat : ℕ) (command : Command) (reply : Reply)
     → IfSome image (IsImageInMaking items places numbers) → IfSome image (IsImageInMaking (Told (Applied seat command reply) ∷ items) places numbers)

@@ -1,5 +1,6 @@
 -- How a checkpoint begins: when it is refused, in which slots it is made, and from which image on.
-use Rattle.std.specs.Prelude.{◌≡◌, ◌⊎◌, ℕ, ◌+◌, ◌-◌, ◌<◌, ◌≤◌, ◌^◌, Bool, true, false, if◌then◌else◌, is_some, nat_le, nat_lt, ◌||◌, List, [], ◌∷◌, length, take, slice_get, Option, Some, None}
+use Rattle.std.specs.Prelude.{◌≡◌, ◌⊎◌, ℕ, ◌+◌, ◌-◌, ◌<◌, ◌≤◌, ◌^◌, Bool, true, false, if◌then◌else◌, is_some, nat_le}
+use Rattle.std.specs.Prelude.{nat_lt, ◌||◌, List, [], ◌∷◌, length, take, slice_get, Option, Some, None}
 use Rattle.sd_chain.specs.Catalog.{IsTip, Opened, Places}
 use Rattle.sd_command.specs.declared.refusal.Refusal.{Refusal}
 use Rattle.sd_command.specs.declared.refusal.Refusal.TheVariants as refusal

@@ -1,5 +1,6 @@
 -- What each call of a core does: all that it says of its call, by one name.
-use Rattle.std.specs.Prelude.{◌≡◌, ◌≢◌, ◌↔◌, ◌+◌, ℕ, true, false, length, Some, None, IsSome, is_some, Result, Err, IfOk, ◌⊎◌}
+use Rattle.std.specs.Prelude.{◌≡◌, ◌≢◌, ◌↔◌, ◌+◌, ℕ, true, false, length, Some, None, IsSome, is_some, Result, Err}
+use Rattle.std.specs.Prelude.{IfOk, ◌⊎◌}
 use Rattle.sd_command.specs.declared.command.Command.{Command}
 use Rattle.sd_command.specs.declared.refusal.Refusal.{Refusal}
 use Rattle.sd_command.specs.declared.refusal.Refusal.TheVariants.{Idle, JournalFull, StoreDown}
@@ -26,7 +27,8 @@ use Rattle.sd_core.specs.Images.{IsAcked}
 use Rattle.sd_core.specs.Kept.{KeepsImages}
 use Rattle.sd_core.specs.Lasting.{FixesNoList, MergeLasts}
 use Rattle.sd_core.specs.LittleWork.{IsLittleDump, IsLittlePreDump, OpensPreDump}
-use Rattle.sd_core.specs.Merging.{EndsCut, EntersAsCopy, EntersAtRest, FixesItsList, IsMerged, ListsTheUnneeded, MergesAs, merge_refusal}
+use Rattle.sd_core.specs.Merging.{EndsCut, EntersAsCopy, EntersAtRest, FixesItsList, IsMerged, ListsTheUnneeded}
+use Rattle.sd_core.specs.Merging.{MergesAs, merge_refusal}
 use Rattle.sd_core.specs.Noted.{KeepsMarks}
 use Rattle.sd_core.specs.Opening.{OpensBelieved, OpensOwn, RefusesAsScan, RefusesRightly}
 use Rattle.sd_core.specs.Orders.{BeginsToOpen, IsCancelled}

@@ -1,5 +1,6 @@
 -- The merger of a core: when a merge is refused, how one begins, and what its steps and outcomes are.
-use Rattle.std.specs.Prelude.{◌≡◌, ◌↔◌, ℕ, ◌+◌, ◌<◌, ◌^◌, Bool, true, false, not, nat_le, is_some, List, [], ◌∷◌, length, map, Contains, Option, Some, None, slice_get}
+use Rattle.std.specs.Prelude.{◌≡◌, ◌↔◌, ℕ, ◌+◌, ◌<◌, ◌^◌, Bool, true, false, not, nat_le, is_some, List, [], ◌∷◌}
+use Rattle.std.specs.Prelude.{length, map, Contains, Option, Some, None, slice_get}
 use Rattle.std.specs.List.{list_any}
 use Rattle.sd_chain.specs.Catalog.{IsTip, Opened, Places, images, place_of, serial_of}
 use Rattle.sd_command.specs.declared.refusal.Refusal.{Refusal}

@@ -28,7 +28,6 @@ use crate::dumping::{
 use crate::following::{Followed, follow_outcome};
 use crate::lanes::{DUMPER, page_lane, put_out};
 use crate::laws::{outcome_laws, step_laws};
-use crate::opening::follow_call;
 use crate::taken::Taken;
 use sd_command::{Refusal, Reply};
 use sd_crash_safety::{Standing, core_steps, dumper_outcomes, merger_outcomes};
@@ -200,10 +199,7 @@ impl Core {
     {
         dumper_outcomes();
         merger_outcomes(&self.catalog);
-        let id = outcome.id();
-        let done = outcome.answer().is_done();
-        follow_call(&mut self.phases, &id, done);
-        put_out(&mut self.outs, lane, None);
+        follow_outcome(&mut self.phases, &mut self.outs, lane, &outcome);
         drop(outcome);
         Reply::Refused(Refusal::StoreDown)
     }

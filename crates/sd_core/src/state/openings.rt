@@ -16,10 +16,10 @@ ghost use Rattle.sd_core.specs.Working.{LeavesByOutcome, LeavesByStep, LeavesByW
 ghost use Rattle.sd_core.specs.declared.taken.Taken.TheVariants as taken;
 
 use super::Core;
+use crate::following::follow_outcome;
 use crate::lanes::{OPENER, put_out};
 use crate::opening::{
-    follow_call, let_go, read_by, release_for_opening, step_opener, swept_checkpoint, take_opener,
-    teach,
+    let_go, read_by, release_for_opening, step_opener, swept_checkpoint, take_opener, teach,
 };
 use crate::taken::Taken;
 use sd_command::{Refusal, Reply};
@@ -124,10 +124,7 @@ impl Core {
         ensures merger { self.new.merger ≡ self.old.merger }
     {
         opener_steps();
-        let id = outcome.id();
-        let done = outcome.answer().is_done();
-        follow_call(&mut self.phases, &id, done);
-        put_out(&mut self.outs, OPENER, None);
+        follow_outcome(&mut self.phases, &mut self.outs, OPENER, &outcome);
         if teach(&mut self.opener, outcome) {
             return Reply::Worked;
         }

@@ -13,7 +13,7 @@ use Rattle.sd_journal.specs.Legal.{IsAbove}
 use Rattle.sd_journal.specs.Marked.{Noted, entries_of}
 use Rattle.sd_merge.specs.Merger as merger
 use Rattle.sd_rounds.specs.declared.image_order.ImageOrder.{ImageOrder}
-use Rattle.sd_crash_safety.specs.Merges.{IsSpared, MakesOther}
+use Rattle.sd_crash_safety.specs.Merges.{IsSpared}
 use Rattle.sd_rounds.specs.Dumper.{AreRunning, HasSlot, is_dumping, is_frozen_image, is_last, next_slot, order_of, serial_of_running, slot_of}
 use Rattle.sd_rounds.specs.Making.{Making, begun_image, out_of}
 use Rattle.sd_rounds.specs.Writes.{no_writes}
@@ -24,7 +24,7 @@ use Rattle.sd_core.specs.Grown.{IsGatedStage, has_grown, has_swept}
 use Rattle.sd_core.specs.declared.numbers.Numbers.{Numbers}
 use Rattle.sd_core.specs.Images.{begun_as}
 use Rattle.sd_core.specs.LittleWork.{TakesLittle}
-use Rattle.sd_core.specs.Sound.{AreOuts, AreSoundNumbers, IsImageInMaking, IsJournal, MergeRuns, begun_images, due_serials}
+use Rattle.sd_core.specs.Sound.{AreOuts, AreSoundNumbers, IsImageInMaking, IsJournal, begun_images, due_serials}
 use Rattle.sd_core.specs.Starts.{base_of}
 use Rattle.sd_core.specs.declared.taken.Taken.TheVariants.{Call as CallTaken}
 use Rattle.sd_core.specs.Noted.{marks_of}
@@ -159,58 +159,17 @@ invariant_of-self-2 c =
       little = subst (λ all. TakesLittle base all c.begin_next-request.new.memory w.running.number w.next) (sym c.note.ensures.items)
           (begun_little c.step_laws.ensures.little base c.reserve_mark.new.self.items c.self.inside.memory c.begin_next-request.new.memory w.running.number _ (order_of w.running serial c.state.result) w.next
           c.begin_next-request.result w.steps fresh (t.still ∙ and-false _));
-      merging = subst (λ r. IfSome c.self.inside.merger (MergeRuns c.self.inside.standing c.self.inside.phases.items c.hold.new.self c.self.inside.opener c.tick.new.self c.self.inside.room r)) w.is
-          (merging_stays (record {
-            base = base;
-            journal = c.reserve_mark.new.self;
-            memory = c.self.inside.memory;
-            frozen = c.self.inside.pending;
-            newest = c.self.inside.last;
-            standing = c.self.inside.standing;
-            phases = c.self.inside.phases.items;
-            outs = c.self.inside.outs;
-            places = c.self.inside.catalog;
-            dumper = c.self.inside.dumper;
-            merger = c.self.inside.merger;
-            room = c.self.inside.room;
-            opener = c.self.inside.opener;
-            numbers = old;
-            grows = c.self.inside.grows;
-            committing = c.self.inside.committing;
-            swept = c.self.inside.swept;
-          }) (record {
-            base = base;
-            journal = c.note.new.self;
-            memory = c.begin_next-request.new.memory;
-            frozen = c.self.inside.pending;
-            newest = c.self.inside.last;
-            standing = c.self.inside.standing;
-            phases = c.self.inside.phases.items;
-            outs = c.put_out.new.outs;
-            places = c.hold.new.self;
-            dumper = c.begin_next-request.new.dumper;
-            merger = c.self.inside.merger;
-            room = c.self.inside.room;
-            opener = c.self.inside.opener;
-            numbers = c.tick.new.self;
-            grows = c.self.inside.grows;
-            committing = c.is_committing-self-inside.result;
-            swept = c.self.inside.swept;
-          }) (record {
-            merger_is = refl;
-            room = refl;
-            standing = refl;
-            opener = refl;
-            count = refl;
-            given = omega (arith, given, above);
-            checkpoint = omega (arith, checkpoint);
-            serials = λ merge is due under. (let one = ap due_serials is ∙ due in omega (arith, now, serials, one, few, opened));
-            has = λ slot has. subst (λ r. HasSlot r slot) (sym w.was) (subst (λ r. HasSlot r slot) w.is has);
-            fills = λ slot spared. subst (λ r. IsSpared r slot) (sym w.is) (fills_same w.running (Some w.next) slot (subst (λ r. IsSpared r slot) w.was spared));
-            other = λ s given_to other. subst (λ r. MakesOther r s) (sym w.is) (λ same. (let own = ap (λ (o : ImageOrder). o.serial) t.order in omega (arith, same, own, given_to, above)));
-            held = λ s given_to other held. held_more c.self.inside.catalog c.hold.new.self serial s c.in-Ok-hold.ensures.held held;
-            images = λ s o there spared. open_more c.self.inside.catalog c.hold.new.self serial s o c.in-Ok-hold.ensures.held new_serial there;
-          }) core.merging);
+      merging = merging_stays _ c.self.inside.phases.items c.hold.new.self c.tick.new.self (Some (record w.running { image = Some w.next })) core (record {
+        count = refl;
+        given = omega (arith, given, above);
+        checkpoint = omega (arith, checkpoint);
+        serials = λ merge is due under. (let one = ap due_serials is ∙ due in omega (arith, now, serials, one, few, opened));
+        has = λ slot has. subst (λ r. HasSlot r slot) (sym w.was) has;
+        fills = λ slot spared. fills_same w.running (Some w.next) slot (subst (λ r. IsSpared r slot) w.was spared);
+        other = λ s given_to other same. (let own = ap (λ (o : ImageOrder). o.serial) t.order in omega (arith, same, own, given_to, above));
+        held = λ s given_to other held. held_more c.self.inside.catalog c.hold.new.self serial s c.in-Ok-hold.ensures.held held;
+        images = λ s o there spared. open_more c.self.inside.catalog c.hold.new.self serial s o c.in-Ok-hold.ensures.held new_serial there;
+      });
     })
 
 pub returns-clause-takes : goal.returns-clause-takes

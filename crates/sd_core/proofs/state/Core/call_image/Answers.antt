@@ -20,7 +20,7 @@ use Rattle.sd_core.specs.Grown.{IsGatedStage, has_grown, has_swept}
 use Rattle.sd_core.specs.Dumping.{StepsOn}
 use Rattle.sd_core.specs.Images.{begun_as}
 use Rattle.sd_core.specs.LittleWork.{TakesLittle}
-use Rattle.sd_core.specs.Sound.{AreSoundNumbers, IsImageInMaking, IsJournal, MergeRuns, begun_images, due_serials, held_for}
+use Rattle.sd_core.specs.Sound.{AreSoundNumbers, IsImageInMaking, IsJournal, begun_images, due_serials, held_for}
 use Rattle.sd_core.specs.Starts.{base_of}
 use Rattle.sd_core.specs.Visited.{HasSwept}
 use Rattle.sd_core.proofs.ImageLemmas.{image_asked, image_frozen, image_page, image_table}
@@ -47,23 +47,16 @@ invariant_of-self-in-Call c =
     let rests = ap (λ v. slice_get v.outs 0) c.self.view_is ∙ c.requires.rests in
     let out = out_at_work _ w.running None core w.was rests in
     let image = image_of_work _ w.running w.image core w.was w.making in
-    let within = image_within _ c.self.inside.dumper.since_freeze w.running w.image core c.sound.ensures.running w.was w.making in
     let numbers : SameNumbers c.self.inside.numbers c.tick-in-Call.new.self = record { begun = c.tick-in-Call.ensures.begun; given = c.tick-in-Call.ensures.given; checkpoint = c.tick-in-Call.ensures.checkpoint; serial = c.tick-in-Call.ensures.serial } in
     let t = image_asked _ _ _ c.tick-in-Call.new.self w.image w.next c.in-Call.request numbers image w.steps.0 in
-    core_working _ _ w.is (turned _ _ w.running w.image w.next core (record {
+    core_working _ _ w.is (turned w.running w.image w.next core (record {
       was = w.was;
       making = w.making;
       is = w.is;
-      merger_is = refl;
-      room = refl;
       serial = ap (λ (o : ImageOrder). o.serial) t.order;
       places_stay = same_places w.running c.self.inside.catalog;
-      base = refl;
-      frozen = refl;
-      standing = refl;
-      opener = refl;
       count = refl;
-      numbers = numbers;
+      same = numbers;
       entries = refl;
       held = refl;
       journal_is = subst (λ m. IsJournal base c.reserve_mark.new.self m c.self.inside.pending c.self.inside.last) (sym w.steps.2) core.journal_is;
@@ -80,7 +73,7 @@ invariant_of-self-in-Call c =
           (gated_asked (is_last w.running) c.self.inside.swept w.image.stage w.steps.0.plan w.steps.0.next c.in-Call.request (gated_of c.self.inside.swept c.self.inside.dumper.running w.running w.image core.gated w.was w.making) w.steps.0.was w.steps.0.gives);
       swept_is = swept_same c.self.inside.swept c.self.inside.swept c.self.inside.pending c.self.inside.pending c.self.inside.memory c.step_on.new.memory refl refl w.steps.2 core.swept_is;
       counted = counted_same c.self.inside.catalog c.self.inside.numbers c.tick-in-Call.new.self numbers core.counted;
-      outs = c.put_out-in-Call.ensures ∙ ap (λ id. slice_set c.self.inside.outs 0 (Some id)) c.id-in-Call.ensures
+      outs_are = c.put_out-in-Call.ensures ∙ ap (λ id. slice_set c.self.inside.outs 0 (Some id)) c.id-in-Call.ensures
           ∙ outs_asked w.running w.image w.next (merger.out_of_merge c.self.inside.merger) c.self.inside.outs out.1 w.making c.in-Call.request.id (ap (λ (m : Making). m.writes) w.steps.0.is) t.out_is;
       whose = subst (λ o. IfSome o (λ i. i.worker ≡ its.Dumper)) (sym t.out_is) w.steps.1.worker;
       writes = sound_writes w.running w.next (ap (λ (o : ImageOrder). o.slot) t.order ∙ own_slot c.self.inside.dumper.since_freeze _ w.running w.image c.sound.ensures.running w.was w.making) (sound_image _ (record w.running { image = Some w.next }) w.next c.sound-2.ensures.image w.is refl);
@@ -100,23 +93,16 @@ invariant_of-self-in-PageCall c =
     let rests = ap (λ v. slice_get v.outs 0) c.self.view_is ∙ c.requires.rests in
     let out = out_at_work _ w.running None core w.was rests in
     let image = image_of_work _ w.running w.image core w.was w.making in
-    let within = image_within _ c.self.inside.dumper.since_freeze w.running w.image core c.sound.ensures.running w.was w.making in
     let numbers : SameNumbers c.self.inside.numbers c.tick.new.self = record { begun = c.tick.ensures.begun; given = c.tick.ensures.given; checkpoint = c.tick.ensures.checkpoint; serial = c.tick.ensures.serial } in
     let t = image_page _ _ _ c.tick.new.self w.image w.next c.in-PageCall.lane c.in-PageCall.request numbers image w.steps.0 in
-    core_working _ _ w.is (turned _ _ w.running w.image w.next core (record {
+    core_working _ _ w.is (turned w.running w.image w.next core (record {
       was = w.was;
       making = w.making;
       is = w.is;
-      merger_is = refl;
-      room = refl;
       serial = ap (λ (o : ImageOrder). o.serial) t.order;
       places_stay = same_places w.running c.self.inside.catalog;
-      base = refl;
-      frozen = refl;
-      standing = refl;
-      opener = refl;
       count = refl;
-      numbers = numbers;
+      same = numbers;
       entries = refl;
       held = refl;
       journal_is = subst (λ m. IsJournal base c.reserve_mark.new.self m c.self.inside.pending c.self.inside.last) (sym w.steps.2) core.journal_is;
@@ -125,7 +111,7 @@ invariant_of-self-in-PageCall c =
       gated = subst (IsGatedStage (is_last w.running) c.self.inside.swept) (sym (w.steps.0.still)) tt;
       swept_is = swept_same c.self.inside.swept c.self.inside.swept c.self.inside.pending c.self.inside.pending c.self.inside.memory c.step_on.new.memory refl refl w.steps.2 core.swept_is;
       counted = counted_same c.self.inside.catalog c.self.inside.numbers c.tick.new.self numbers core.counted;
-      outs = c.put_out.ensures ∙ ap (λ k. slice_set c.self.inside.outs k (Some c.id.result)) c.page_lane.ensures.lane ∙ ap (λ id. slice_set c.self.inside.outs (page_lane c.in-PageCall.lane) (Some id)) c.id.ensures
+      outs_are = c.put_out.ensures ∙ ap (λ k. slice_set c.self.inside.outs k (Some c.id.result)) c.page_lane.ensures.lane ∙ ap (λ id. slice_set c.self.inside.outs (page_lane c.in-PageCall.lane) (Some id)) c.id.ensures
           ∙ outs_writing w.running w.image w.next (merger.out_of_merge c.self.inside.merger) c.self.inside.outs out.1 w.making c.in-PageCall.lane c.in-PageCall.request.id w.steps.0.writes t.out_is;
       whose = subst (λ o. IfSome o (λ i. i.worker ≡ its.Dumper)) (sym t.out_is) tt;
       writes = sound_writes w.running w.next (ap (λ (o : ImageOrder). o.slot) t.order ∙ own_slot c.self.inside.dumper.since_freeze _ w.running w.image c.sound.ensures.running w.was w.making) (sound_image _ (record w.running { image = Some w.next }) w.next c.sound-2.ensures.image w.is refl);
@@ -145,26 +131,19 @@ invariant_of-self-in-TableCall c =
     let rests = ap (λ v. slice_get v.outs 0) c.self.view_is ∙ c.requires.rests in
     let out = out_at_work _ w.running None core w.was rests in
     let image = image_of_work _ w.running w.image core w.was w.making in
-    let within = image_within _ c.self.inside.dumper.since_freeze w.running w.image core c.sound.ensures.running w.was w.making in
     let numbers : SameNumbers c.self.inside.numbers c.tick-in-TableCall.new.self = record { begun = c.tick-in-TableCall.ensures.begun; given = c.tick-in-TableCall.ensures.given; checkpoint = c.tick-in-TableCall.ensures.checkpoint; serial = c.tick-in-TableCall.ensures.serial } in
     let t = image_table _ _ _ c.tick-in-TableCall.new.self w.image w.next c.self.inside.memory c.in-TableCall.request numbers image w.steps.0 in
     let given = image.given in
     let own_serial = its_serial _ w.running w.next c.serial.result _ w.is c.serial.ensures c.in-Some.is ∙ ap (λ (o : ImageOrder). o.serial) t.order in
     let items = c.note.ensures.items ∙ ap (λ s. Noted (Table s) ∷ c.reserve_mark.new.self.items) own_serial in
-    core_working _ _ w.is (turned _ _ w.running w.image w.next core (record {
+    core_working _ _ w.is (turned w.running w.image w.next core (record {
       was = w.was;
       making = w.making;
       is = w.is;
-      merger_is = refl;
-      room = refl;
       serial = ap (λ (o : ImageOrder). o.serial) t.order;
       places_stay = same_places w.running c.self.inside.catalog;
-      base = refl;
-      frozen = refl;
-      standing = refl;
-      opener = refl;
       count = refl;
-      numbers = numbers;
+      same = numbers;
       entries = ap entries_of items;
       held = c.note.ensures.held;
       journal_is = subst (λ m. IsJournal base c.note.new.self m c.self.inside.pending c.self.inside.last) (sym w.steps.2)
@@ -190,7 +169,7 @@ invariant_of-self-in-TableCall c =
           (step_little c.step_laws.ensures.little base c.reserve_mark.new.self.items (Noted (Table w.image.order.serial) ∷ c.reserve_mark.new.self.items) c.self.inside.memory c.step_on.new.memory w.running.number c.self.inside.numbers.ticket w.image w.next (TableCall c.in-TableCall.request) w.steps
           (sound_image _ w.running w.image c.sound.ensures.image w.was w.making).rising t.still refl refl (little_of base c.reserve_mark.new.self.items c.self.inside.memory c.self.inside.dumper.running w.running w.image core.little w.was w.making)));
       counted = counted_same c.self.inside.catalog c.self.inside.numbers c.tick-in-TableCall.new.self numbers core.counted;
-      outs = c.put_out-in-TableCall.ensures ∙ ap (λ id. slice_set c.self.inside.outs 0 (Some id)) c.id-in-TableCall.ensures
+      outs_are = c.put_out-in-TableCall.ensures ∙ ap (λ id. slice_set c.self.inside.outs 0 (Some id)) c.id-in-TableCall.ensures
           ∙ outs_asked w.running w.image w.next (merger.out_of_merge c.self.inside.merger) c.self.inside.outs out.1 w.making c.in-TableCall.request.id (ap (λ (m : Making). m.writes) w.steps.0.is) t.out_is;
       whose = subst (λ o. IfSome o (λ i. i.worker ≡ its.Dumper)) (sym t.out_is) w.steps.1.worker;
       writes = sound_writes w.running w.next (ap (λ (o : ImageOrder). o.slot) t.order ∙ own_slot c.self.inside.dumper.since_freeze _ w.running w.image c.sound.ensures.running w.was w.making) (sound_image _ (record w.running { image = Some w.next }) w.next c.sound-2.ensures.image w.is refl);
@@ -260,46 +239,14 @@ invariant_of-self-in-Frozen c =
       little = subst (λ all. TakesLittle base all c.step_on.new.memory w.running.number w.next) (sym c.append_held.ensures.items)
           (subst (λ n. TakesLittle base (Told (Freeze n) ∷ c.reserve_mark.new.self.items) c.step_on.new.memory w.running.number w.next) work.number
           (freeze_little c.step_laws.ensures.little base c.reserve_mark.new.self.items c.self.inside.memory c.step_on.new.memory w.running.number c.self.inside.numbers.ticket w.image w.next w.steps b.kind core.journal_is.tracked));
-      merging = subst (λ r. IfSome c.self.inside.merger (MergeRuns c.self.inside.standing c.self.inside.phases.items c.self.inside.catalog c.self.inside.opener c.self.inside.numbers c.self.inside.room r)) w.is
-          (merging_turned _ (record {
-            base = base;
-            journal = c.append_held.new.self;
-            memory = c.step_on.new.memory;
-            frozen = Some c.self.inside.numbers.begun;
-            newest = c.self.inside.last;
-            standing = c.self.inside.standing;
-            phases = c.self.inside.phases.items;
-            outs = c.self.inside.outs;
-            places = c.self.inside.catalog;
-            dumper = c.step_on.new.dumper;
-            merger = c.self.inside.merger;
-            room = c.self.inside.room;
-            opener = c.self.inside.opener;
-            numbers = c.self.inside.numbers;
-            grows = c.self.inside.grows;
-            committing = c.self.inside.committing;
-            swept = c.self.inside.swept;
-          }) w.running w.image w.next core (record {
-            was = w.was;
-            making = w.making;
-            is = w.is;
-            merger_is = refl;
-            room = refl;
-            serial = ap (λ (o : ImageOrder). o.serial) t.order;
-            places_stay = same_places w.running c.self.inside.catalog;
-            standing = refl;
-            opener = refl;
-            count = refl;
-            numbers = same_numbers _;
-          }));
+      merging = merging_turned _ c.self.inside.phases.items c.self.inside.catalog c.self.inside.numbers w.running w.image w.next core w.was w.making (ap (λ (o : ImageOrder). o.serial) t.order)
+          (same_places w.running c.self.inside.catalog) refl (same_numbers _);
     })
 
 pub returns-in-Frozen-clause-takes : goal.returns-in-Frozen-clause-takes
 returns-in-Frozen-clause-takes c =
     let base : Base = base_of c.self.inside.base in
     let w = subst (λ step. StepsOn c.self.inside.numbers.ticket c.self.inside.dumper c.self.inside.memory step c.step_on.new.dumper c.step_on.new.memory) c.in-Frozen.is c.in-Ok-step_on.ensures.steps in
-    let rests = ap (λ v. slice_get v.outs 0) c.self.view_is ∙ c.requires.rests in
-    let out = out_at_work _ w.running None c.self.invariant w.was rests in
     let work = at_work _ w.running c.self.invariant w.was in
     let b = before_freeze _ w.running w.image w.next c.self.invariant w.was w.making c.sound.ensures.image w.steps.0 in
     let items = c.self.inside.journal.items in

@@ -1,21 +1,30 @@
-use Rattle.std.proofs.Common.{◌≡◌, Some, slice_get, sym, ◌∙◌, ap, subst, rules}
+use Rattle.std.proofs.Common.{◌≡◌, ℕ, Some, slice_get, sym, ◌∙◌, ap, subst, rules}
 use Rattle.sd_gate.specs.declared.request_id.RequestId.{RequestId}
 use Rattle.sd_crash_safety.specs.View.{CoreView}
 use Rattle.sd_core.specs.Refusals.{is_idle}
 use Rattle.sd_core.specs.Rounds.{OpensItsGate}
+use Rattle.sd_core.specs.Sound.{worker_of_lane}
 use Rattle.sd_core.proofs.HandedLemmas.{merger_lane, opener_lane}
 use Rattle.sd_core.proofs.LaneLemmas.{handed_at, same_lane}
 use Rattle.sd_core.proofs.RoundLemmas.{late_turns, none_enters}
+use Rattle.sd_core.proofs.state.Core.hand_in.Goals.{In-Some}
 use Rattle.sd_core.proofs.state.Core.hand_in.Goals as goal
+
+-- the request is out in the lane that was found, and in no other
+own : (c : In-Some) → slice_get c.self.inside.outs c.in-Some.lane ≡ Some (Some c.args.outcome.request.id)
+own c = c.in-Some.ensures.found ∙ ap (λ (i : RequestId). Some (Some i)) c.id-id.ensures
+
+same : (c : In-Some) (lane : ℕ) → slice_get c.args.self.now.outs lane ≡ Some (Some c.args.outcome.request.id) → lane ≡ c.in-Some.lane
+same c lane is = same_lane _ lane c.in-Some.lane c.args.outcome.request.id c.self.invariant (ap (λ (v : CoreView). slice_get v.outs lane) c.self.view_is ∙ is) (own c)
+
+-- its worker is the one of that lane
+whose : (c : In-Some) → worker_of_lane c.in-Some.lane ≡ c.id-id.result.worker
+whose c = sym (c.self.invariant.outs_are.whose c.in-Some.lane c.args.outcome.request.id (own c)) ∙ ap (λ (i : RequestId). i.worker) (sym c.id-id.ensures)
 
 pub returns-then-is_idle : goal.returns-then-is_idle
 returns-then-is_idle c = record {
   strange = search rules;
-  handed = λ out.
-      let id = c.args.outcome.request.id in
-      let own : slice_get c.self.inside.outs c.in-Some.lane ≡ Some (Some id) = c.in-Some.ensures.found ∙ ap (λ (i : RequestId). Some (Some i)) c.id-id.ensures in
-      let same = same_lane _ out.lane c.in-Some.lane id c.self.invariant (ap (λ (v : CoreView). slice_get v.outs out.lane) c.self.view_is ∙ out.is) own in
-      handed_at _ _ out.lane c.in-Some.lane _ _ same c.hand_in_late.ensures.handed;
+  handed = λ out. handed_at _ _ out.lane c.in-Some.lane _ _ (same (goal.at.returns-then-is_idle c).In-Some out.lane out.is) c.hand_in_late.ensures.handed;
   failed = search rules;
   down = search rules;
   late = search rules;
@@ -42,11 +51,7 @@ returns-then-is_idle c = record {
 pub returns-in-Dumper : goal.returns-in-Dumper
 returns-in-Dumper c = record {
   strange = search rules;
-  handed = λ out.
-      let id = c.args.outcome.request.id in
-      let own : slice_get c.self.inside.outs c.in-Some.lane ≡ Some (Some id) = c.in-Some.ensures.found ∙ ap (λ (i : RequestId). Some (Some i)) c.id-id.ensures in
-      let same = same_lane _ out.lane c.in-Some.lane id c.self.invariant (ap (λ (v : CoreView). slice_get v.outs out.lane) c.self.view_is ∙ out.is) own in
-      handed_at _ _ out.lane c.in-Some.lane _ _ same c.hand_in_dumper.ensures.handed;
+  handed = λ out. handed_at _ _ out.lane c.in-Some.lane _ _ (same (goal.at.returns-in-Dumper c).In-Some out.lane out.is) c.hand_in_dumper.ensures.handed;
   failed = search rules;
   down = search rules;
   late = search rules;
@@ -57,11 +62,7 @@ returns-in-Dumper c = record {
   little = search rules;
   round = search rules;
   rounds = search rules;
-  gates = λ out dumper.
-      let id = c.args.outcome.request.id in
-      let own : slice_get c.self.inside.outs c.in-Some.lane ≡ Some (Some id) = c.in-Some.ensures.found ∙ ap (λ (i : RequestId). Some (Some i)) c.id-id.ensures in
-      let same = same_lane _ out.lane c.in-Some.lane id c.self.invariant (ap (λ (v : CoreView). slice_get v.outs out.lane) c.self.view_is ∙ out.is) own in
-      subst (λ lane. OpensItsGate c.args.self.now lane c.args.outcome.request c.hand_in_dumper.result _) (sym same) c.hand_in_dumper.ensures.gates;
+  gates = λ out dumper. subst (λ lane. OpensItsGate c.args.self.now lane c.args.outcome.request c.hand_in_dumper.result _) (sym (same (goal.at.returns-in-Dumper c).In-Some out.lane out.is)) c.hand_in_dumper.ensures.gates;
   merged = search rules;
   opens = search rules;
   lists = search rules;
@@ -76,12 +77,7 @@ returns-in-Dumper c = record {
 pub returns-in-Merger : goal.returns-in-Merger
 returns-in-Merger c = record {
   strange = search rules;
-  handed = λ out.
-      let id = c.args.outcome.request.id in
-      let own : slice_get c.self.inside.outs c.in-Some.lane ≡ Some (Some id) = c.in-Some.ensures.found ∙ ap (λ (i : RequestId). Some (Some i)) c.id-id.ensures in
-      let same = same_lane _ out.lane c.in-Some.lane id c.self.invariant (ap (λ (v : CoreView). slice_get v.outs out.lane) c.self.view_is ∙ out.is) own in
-      let lane_is = merger_lane c.in-Some.lane (sym (c.self.invariant.outs_are.whose c.in-Some.lane id own) ∙ ap (λ (i : RequestId). i.worker) (sym c.id-id.ensures) ∙ c.in-Merger.is) in
-      handed_at _ _ out.lane 1 _ _ (same ∙ lane_is) c.hand_in_merger.ensures.handed;
+  handed = λ out. handed_at _ _ out.lane 1 _ _ (same (goal.at.returns-in-Merger c).In-Some out.lane out.is ∙ merger_lane c.in-Some.lane (whose (goal.at.returns-in-Merger c).In-Some ∙ c.in-Merger.is)) c.hand_in_merger.ensures.handed;
   failed = search rules;
   down = search rules;
   late = search rules;
@@ -107,12 +103,7 @@ returns-in-Merger c = record {
 pub returns-in-Opener : goal.returns-in-Opener
 returns-in-Opener c = record {
   strange = search rules;
-  handed = λ out.
-      let id = c.args.outcome.request.id in
-      let own : slice_get c.self.inside.outs c.in-Some.lane ≡ Some (Some id) = c.in-Some.ensures.found ∙ ap (λ (i : RequestId). Some (Some i)) c.id-id.ensures in
-      let same = same_lane _ out.lane c.in-Some.lane id c.self.invariant (ap (λ (v : CoreView). slice_get v.outs out.lane) c.self.view_is ∙ out.is) own in
-      let lane_is = opener_lane c.in-Some.lane (sym (c.self.invariant.outs_are.whose c.in-Some.lane id own) ∙ ap (λ (i : RequestId). i.worker) (sym c.id-id.ensures) ∙ c.in-Opener.is) in
-      handed_at _ _ out.lane 2 _ _ (same ∙ lane_is) c.hand_in_opener.ensures.handed;
+  handed = λ out. handed_at _ _ out.lane 2 _ _ (same (goal.at.returns-in-Opener c).In-Some out.lane out.is ∙ opener_lane c.in-Some.lane (whose (goal.at.returns-in-Opener c).In-Some ∙ c.in-Opener.is)) c.hand_in_opener.ensures.handed;
   failed = search rules;
   down = search rules;
   late = search rules;
@@ -137,7 +128,5 @@ returns-in-Opener c = record {
 
 pub hand_in_merger-requires-clause-out : goal.hand_in_merger-requires-clause-out
 hand_in_merger-requires-clause-out c =
-    let id = c.args.outcome.request.id in
-    let own : slice_get c.self.inside.outs c.in-Some.lane ≡ Some (Some id) = c.in-Some.ensures.found ∙ ap (λ (i : RequestId). Some (Some i)) c.id-id.ensures in
-    let lane_is = merger_lane c.in-Some.lane (sym (c.self.invariant.outs_are.whose c.in-Some.lane id own) ∙ ap (λ (i : RequestId). i.worker) (sym c.id-id.ensures) ∙ c.in-Merger.is) in
-    ap (λ (v : CoreView). slice_get v.outs 1) (sym c.self.view_is) ∙ ap (slice_get c.self.inside.outs) (sym lane_is) ∙ own
+    let k = (goal.at.hand_in_merger-requires-clause-out c).In-Some in
+    ap (λ (v : CoreView). slice_get v.outs 1) (sym c.self.view_is) ∙ ap (slice_get c.self.inside.outs) (sym (merger_lane c.in-Some.lane (whose k ∙ c.in-Merger.is))) ∙ own k

@@ -1,9 +1,5 @@
 use Rattle.std.proofs.Common.{◌≡◌, ◌≢◌, ◌<◌, is_none, Some, None, IfSome, slice_get, refl, sym, ◌∙◌, ap, subst}
 use Rattle.sd_journal.specs.History.{Base}
-use Rattle.sd_gate.specs.declared.phase.Phase.{Phase}
-use Rattle.sd_gate.specs.declared.request_id.RequestId.{RequestId}
-use Rattle.sd_gate.specs.Calls.{is_done}
-use Rattle.sd_gate.specs.Phases.{phases_after}
 use Rattle.sd_command.specs.declared.reply.Reply.TheVariants as reply
 use Rattle.sd_command.specs.declared.refusal.Refusal.TheVariants.{StoreDown}
 use Rattle.sd_crash_safety.specs.View.{CoreView}
@@ -11,47 +7,59 @@ use Rattle.sd_core.proofs.FlagLemmas.{same_flags}
 use Rattle.sd_core.specs.Sound.{AreSoundNumbers, IsOpening, held_for, out_of_opener}
 use Rattle.sd_core.specs.Working.{opener_left}
 use Rattle.sd_crash_safety.specs.declared.standing.Standing.TheVariants.{Open}
+use Rattle.sd_crash_safety.specs.OpenerSteps.{nobody, opener_alone}
 use Rattle.sd_core.specs.Starts.{base_of}
-use Rattle.sd_core.proofs.CoreLemmas.{alone_is, after_count, closed_by, held_let_go, held_opening, none_out, not_taught, set_nobody, taught_opener}
+use Rattle.sd_core.proofs.CoreParts.{parts_of}
+use Rattle.sd_core.proofs.CoreLemmas.{alone_is, closed_by, held_let_go, held_opening, none_out, not_taught, set_nobody, taught_opener}
 use Rattle.sd_core.proofs.FallenLemmas.{by_worker, fallen_same, opener_left_some, runs_by}
 use Rattle.sd_core.proofs.JournalLemmas.{same_journal}
 use Rattle.sd_core.proofs.MergeLemmas.{no_merge, none_merges}
 use Rattle.sd_core.proofs.OpeningLemmas.{handed_failed, handed_on, handed_seen}
 use Rattle.sd_core.proofs.WorkLemmas.{none_closed, none_works}
+use Rattle.sd_core.proofs.state.Core.hand_in_opener.Goals.{After-follow_outcome}
 use Rattle.sd_core.proofs.state.Core.hand_in_opener.Goals as goal
+
+-- ---- what is known at each goal
+
+alone : (c : After-follow_outcome) → (out_of_opener c.self.inside.opener ≡ Some c.args.outcome.request.id) × (c.self.inside.outs ≡ opener_alone c.args.outcome.request.id)
+alone c = alone_is (parts_of c.self.inside) c.args.outcome.request.id c.self.invariant (ap (λ (v : CoreView). slice_get v.outs 2) c.self.view_is ∙ c.requires.out)
+
+closed : (c : After-follow_outcome) → c.self.inside.standing ≢ Open
+closed c = closed_by c.self.inside.opener c.args.outcome.request.id c.self.inside.standing c.self.inside.phases.items c.self.invariant.opening (alone c).0
+
+idle : (c : After-follow_outcome) → c.self.inside.dumper.running ≡ None
+idle c = none_closed (parts_of c.self.inside) c.self.invariant (closed c)
+
+unmerged : (c : After-follow_outcome) → c.self.inside.merger ≡ None
+unmerged c = none_merges (parts_of c.self.inside) c.self.invariant (closed c)
+
+none_now : (c : After-follow_outcome) → c.follow_outcome.new.outs ≡ nobody
+none_now c = c.follow_outcome.ensures.outs ∙ set_nobody c.self.inside.outs c.args.outcome.request.id (alone c).1
+
+-- ---- the opener goes on
 
 pub invariant_of-self : goal.invariant_of-self
 invariant_of-self c =
-    let id = c.args.outcome.request.id in
-    let own : slice_get c.self.inside.outs 2 ≡ Some (Some id) = ap (λ (v : CoreView). slice_get v.outs 2) c.self.view_is ∙ c.requires.out in
-    let none = none_closed _ c.self.invariant (closed_by c.self.inside.opener id c.self.inside.standing c.self.inside.phases.items c.self.invariant.opening
-    (alone_is _ id c.self.invariant own).0) in
-    let alone = alone_is _ id c.self.invariant own in
-    let follows : (phase : Phase) → slice_get c.self.inside.phases.items id.slot ≡ Some phase → c.follow_call.new.phases.items ≡ phases_after c.self.inside.phases.items id phase (is_done c.args.outcome.answer) =
-    (λ phase is. c.follow_call.ensures phase (ap (λ (i : RequestId). slice_get c.self.inside.phases.items i.slot) c.id-id.ensures ∙ is)
-    ∙ ap (λ i. phases_after c.self.inside.phases.items i phase c.is_done-done.result) c.id-id.ensures
-    ∙ ap (phases_after c.self.inside.phases.items id phase) (c.is_done-done.ensures ∙ ap is_done c.answer.ensures)) in
-    let count = after_count c.self.inside.phases.items c.follow_call.new.phases.items id (is_done c.args.outcome.answer) (c.self.invariant.outs_are.within 2 id own) follows in
-    let closed = closed_by c.self.inside.opener id c.self.inside.standing c.self.inside.phases.items c.self.invariant.opening alone.0 in
-    let none_now = c.put_out.ensures ∙ set_nobody c.self.inside.outs id alone.1 in
+    let k = (goal.at.invariant_of-self c).After-follow_outcome in
+    let none = idle k in
     let t = taught_opener c.self.inside.opener c.args.outcome c.teach.new.opener c.if-teach.ensures in
     let before = subst (λ x. IfSome x (IsOpening c.self.inside.standing c.self.inside.phases.items)) t.was c.self.invariant.opening in
-    let rests : out_of_opener c.teach.new.opener ≡ None = ap out_of_opener t.is ∙ t.goes_on.free (ap out_of_opener (sym t.was) ∙ alone.0) in
+    let rests : out_of_opener c.teach.new.opener ≡ None = ap out_of_opener t.is ∙ t.goes_on.free (ap out_of_opener (sym t.was) ∙ (alone k).0) in
     record {
       journal_is = c.self.invariant.journal_is;
       held = c.self.invariant.held ∙ ap (held_for c.self.inside.pending c.self.inside.dumper.running) t.was
           ∙ held_opening c.self.inside.pending c.self.inside.dumper.running t.opener none ∙ sym (held_opening c.self.inside.pending c.self.inside.dumper.running t.next none)
           ∙ ap (held_for c.self.inside.pending c.self.inside.dumper.running) (sym t.is);
-      outs_are = none_out c.self.inside.standing c.put_out.new.outs c.follow_call.new.phases.items c.self.inside.dumper.running c.self.inside.merger c.teach.new.opener none
-          (none_merges _ c.self.invariant closed) rests none_now;
-      opening = subst (λ x. IfSome x (IsOpening c.self.inside.standing c.follow_call.new.phases.items)) (sym t.is)
-          (record { closed = before.closed; slots = t.goes_on.slots ∙ before.slots ∙ sym count });
+      outs_are = none_out c.self.inside.standing c.follow_outcome.new.outs c.follow_outcome.new.phases.items c.self.inside.dumper.running c.self.inside.merger c.teach.new.opener none
+          (unmerged k) rests (none_now k);
+      opening = subst (λ x. IfSome x (IsOpening c.self.inside.standing c.follow_outcome.new.phases.items)) (sym t.is)
+          (record { closed = before.closed; slots = t.goes_on.slots ∙ before.slots ∙ sym c.follow_outcome.ensures.follows.count });
       numbers_are = c.self.invariant.numbers_are;
       counted = c.self.invariant.counted;
       rests = c.self.invariant.rests;
       work = none_works _ c.self.inside.dumper.running none;
       little = none_works _ c.self.inside.dumper.running none;
-      merging = no_merge _ c.self.inside.merger (none_merges _ c.self.invariant closed);
+      merging = no_merge _ c.self.inside.merger (unmerged k);
       flags_are = c.self.invariant.flags_are;
       gated = none_works _ c.self.inside.dumper.running none;
       swept_is = c.self.invariant.swept_is;
@@ -59,109 +67,78 @@ invariant_of-self c =
 
 pub returns-then-teach-clause-handed : goal.returns-then-teach-clause-handed
 returns-then-teach-clause-handed c =
-    let id = c.args.outcome.request.id in
-    let own : slice_get c.self.inside.outs 2 ≡ Some (Some id) = ap (λ (v : CoreView). slice_get v.outs 2) c.self.view_is ∙ c.requires.out in
-    let none = none_closed _ c.self.invariant (closed_by c.self.inside.opener id c.self.inside.standing c.self.inside.phases.items c.self.invariant.opening
-    (alone_is _ id c.self.invariant own).0) in
-    let alone = alone_is _ id c.self.invariant own in
-    let follows : (phase : Phase) → slice_get c.self.inside.phases.items id.slot ≡ Some phase → c.follow_call.new.phases.items ≡ phases_after c.self.inside.phases.items id phase (is_done c.args.outcome.answer) =
-    (λ phase is. c.follow_call.ensures phase (ap (λ (i : RequestId). slice_get c.self.inside.phases.items i.slot) c.id-id.ensures ∙ is)
-    ∙ ap (λ i. phases_after c.self.inside.phases.items i phase c.is_done-done.result) c.id-id.ensures
-    ∙ ap (phases_after c.self.inside.phases.items id phase) (c.is_done-done.ensures ∙ ap is_done c.answer.ensures)) in
-    let count = after_count c.self.inside.phases.items c.follow_call.new.phases.items id (is_done c.args.outcome.answer) (c.self.invariant.outs_are.within 2 id own) follows in
-    let closed = closed_by c.self.inside.opener id c.self.inside.standing c.self.inside.phases.items c.self.invariant.opening alone.0 in
-    let none_now = c.put_out.ensures ∙ set_nobody c.self.inside.outs id alone.1 in
+    let k = (goal.at.returns-then-teach-clause-handed c).After-follow_outcome in
     let t = taught_opener c.self.inside.opener c.args.outcome c.teach.new.opener c.if-teach.ensures in
     handed_seen 2 c.args.outcome reply.Worked _ _ _ c.self.view_is
     (handed_on c.opener_steps.ensures _ _ c.args.outcome t.opener t.next (record {
-      rest = record { closed = closed; base = refl; items = refl; memory = refl; standing = refl; catalog = refl; dumper = refl; numbers = refl; grows = refl; committing = refl };
-      alone = alone.1;
-      outs = none_now;
+      rest = record { closed = closed k; base = refl; items = refl; memory = refl; standing = refl; catalog = refl; dumper = refl; numbers = refl; grows = refl; committing = refl };
+      alone = (alone k).1;
+      outs = none_now k;
       whose = c.requires.opener;
-      count = count;
-      phases = follows;
+      sure = c.follow_outcome.result.closed;
+      follows = c.follow_outcome.ensures.follows;
     }) (λ phase handed. record {
       handed = handed;
-      done = t.goes_on.done (ap out_of_opener (sym t.was) ∙ alone.0);
+      done = t.goes_on.done (ap out_of_opener (sym t.was) ∙ (alone k).0);
       was = t.was;
       is = t.is;
       moves = t.goes_on.moves;
       sees = t.goes_on.sees;
     }))
 
-pub returns-clause-handed : goal.returns-clause-handed
-returns-clause-handed c =
-    let id = c.args.outcome.request.id in
-    let own : slice_get c.self.inside.outs 2 ≡ Some (Some id) = ap (λ (v : CoreView). slice_get v.outs 2) c.self.view_is ∙ c.requires.out in
-    let none = none_closed _ c.self.invariant (closed_by c.self.inside.opener id c.self.inside.standing c.self.inside.phases.items c.self.invariant.opening
-    (alone_is _ id c.self.invariant own).0) in
-    let alone = alone_is _ id c.self.invariant own in
-    let follows : (phase : Phase) → slice_get c.self.inside.phases.items id.slot ≡ Some phase → c.follow_call.new.phases.items ≡ phases_after c.self.inside.phases.items id phase (is_done c.args.outcome.answer) =
-    (λ phase is. c.follow_call.ensures phase (ap (λ (i : RequestId). slice_get c.self.inside.phases.items i.slot) c.id-id.ensures ∙ is)
-    ∙ ap (λ i. phases_after c.self.inside.phases.items i phase c.is_done-done.result) c.id-id.ensures
-    ∙ ap (phases_after c.self.inside.phases.items id phase) (c.is_done-done.ensures ∙ ap is_done c.answer.ensures)) in
-    let count = after_count c.self.inside.phases.items c.follow_call.new.phases.items id (is_done c.args.outcome.answer) (c.self.invariant.outs_are.within 2 id own) follows in
-    let closed = closed_by c.self.inside.opener id c.self.inside.standing c.self.inside.phases.items c.self.invariant.opening alone.0 in
-    let none_now = c.put_out.ensures ∙ set_nobody c.self.inside.outs id alone.1 in
-    handed_seen 2 c.args.outcome (reply.Refused StoreDown) _ _ _ c.self.view_is
-    (handed_failed c.opener_steps.ensures _ _ c.args.outcome StoreDown (record {
-      rest = record { closed = closed; base = refl; items = c.let_go.ensures.journal.items; memory = refl; standing = refl; catalog = refl; dumper = refl; numbers = refl; grows = refl; committing = refl };
-      alone = alone.1;
-      outs = none_now;
-      whose = c.requires.opener;
-      count = count;
-      phases = follows;
-    }) c.let_go.ensures.opener)
-
-pub returns-clause-goes_on : goal.returns-clause-goes_on
-returns-clause-goes_on c as_asked =
-    let id = c.args.outcome.request.id in
-    let own : slice_get c.self.inside.outs 2 ≡ Some (Some id) = ap (λ (v : CoreView). slice_get v.outs 2) c.self.view_is ∙ c.requires.out in
-    absurd (not_taught c.self.inside.opener c.args.outcome c.teach.new.opener c.if-teach.ensures
-    (alone_is _ id c.self.invariant own).0 as_asked)
+-- ---- it has ended
 
 pub invariant_of-self-2 : goal.invariant_of-self-2
 invariant_of-self-2 c =
-    let id = c.args.outcome.request.id in
-    let own : slice_get c.self.inside.outs 2 ≡ Some (Some id) = ap (λ (v : CoreView). slice_get v.outs 2) c.self.view_is ∙ c.requires.out in
-    let alone = alone_is _ id c.self.invariant own in
-    let closed = closed_by c.self.inside.opener id c.self.inside.standing c.self.inside.phases.items c.self.invariant.opening alone.0 in
-    let none = none_closed _ c.self.invariant closed in
-    let looking = runs_by c.self.inside.opener id alone.0 in
+    let k = (goal.at.invariant_of-self-2 c).After-follow_outcome in
+    let none = idle k in
+    let looking = runs_by c.self.inside.opener c.args.outcome.request.id (alone k).0 in
     let ended = c.let_go.ensures.opener in
-    let none_now = c.put_out.ensures ∙ set_nobody c.self.inside.outs id alone.1 in
     let gone = c.let_go.ensures.journal in
     let base : Base = base_of c.self.inside.base in
     record {
       journal_is = same_journal base c.self.inside.journal c.let_go.new.journal c.self.inside.memory c.self.inside.pending c.self.inside.last gone.first gone.items gone.limit c.self.invariant.journal_is;
       held = held_let_go c.self.inside.pending c.self.inside.dumper.running looking.0 c.self.inside.journal c.let_go.new.journal none
           (c.self.invariant.held ∙ ap (held_for c.self.inside.pending c.self.inside.dumper.running) looking.1) gone ∙ ap (held_for c.self.inside.pending c.self.inside.dumper.running) (sym ended);
-      outs_are = none_out c.self.inside.standing c.put_out.new.outs c.follow_call.new.phases.items c.self.inside.dumper.running c.self.inside.merger c.let_go.new.opener none
-          (none_merges _ c.self.invariant closed) (ap out_of_opener ended) none_now;
-      opening = subst (λ x. IfSome x (IsOpening c.self.inside.standing c.follow_call.new.phases.items)) (sym ended) tt;
+      outs_are = none_out c.self.inside.standing c.follow_outcome.new.outs c.follow_outcome.new.phases.items c.self.inside.dumper.running c.self.inside.merger c.let_go.new.opener none
+          (unmerged k) (ap out_of_opener ended) (none_now k);
+      opening = subst (λ x. IfSome x (IsOpening c.self.inside.standing c.follow_outcome.new.phases.items)) (sym ended) tt;
       numbers_are = subst (λ all. AreSoundNumbers base all c.self.inside.pending c.self.inside.last c.self.inside.numbers) (sym gone.items) c.self.invariant.numbers_are;
       counted = c.self.invariant.counted;
       rests = c.self.invariant.rests;
       work = none_works _ c.self.inside.dumper.running none;
       little = none_works _ c.self.inside.dumper.running none;
-      merging = no_merge _ c.self.inside.merger (none_merges _ c.self.invariant closed);
+      merging = no_merge _ c.self.inside.merger (unmerged k);
       flags_are = same_flags base c.self.inside.journal.items c.let_go.new.journal.items c.self.inside.swept c.self.inside.grows c.self.inside.committing gone.items c.self.invariant.flags_are;
       gated = none_works _ c.self.inside.dumper.running none;
       swept_is = c.self.invariant.swept_is;
     }
 
+pub returns-clause-handed : goal.returns-clause-handed
+returns-clause-handed c =
+    let k = (goal.at.returns-clause-handed c).After-follow_outcome in
+    handed_seen 2 c.args.outcome (reply.Refused StoreDown) _ _ _ c.self.view_is
+    (handed_failed c.opener_steps.ensures _ _ c.args.outcome StoreDown (record {
+      rest = record { closed = closed k; base = refl; items = c.let_go.ensures.journal.items; memory = refl; standing = refl; catalog = refl; dumper = refl; numbers = refl; grows = refl; committing = refl };
+      alone = (alone k).1;
+      outs = none_now k;
+      whose = c.requires.opener;
+      sure = c.follow_outcome.result.closed;
+      follows = c.follow_outcome.ensures.follows;
+    }) c.let_go.ensures.opener)
+
+pub returns-clause-goes_on : goal.returns-clause-goes_on
+returns-clause-goes_on c as_asked = absurd
+    (not_taught c.self.inside.opener c.args.outcome c.teach.new.opener c.if-teach.ensures (alone (goal.at.returns-clause-goes_on c).After-follow_outcome).0 as_asked)
+
 pub returns-clause-leaves : goal.returns-clause-leaves
 returns-clause-leaves c =
-    let id = c.args.outcome.request.id in
-    let own : slice_get c.self.inside.outs 2 ≡ Some (Some id) = ap (λ (v : CoreView). slice_get v.outs 2) c.self.view_is ∙ c.requires.out in
-    let alone = alone_is _ id c.self.invariant own in
-    let closed = closed_by c.self.inside.opener id c.self.inside.standing c.self.inside.phases.items c.self.invariant.opening alone.0 in
-    let none = none_closed _ c.self.invariant closed in
-    let looking = runs_by c.self.inside.opener id alone.0 in
+    let k = (goal.at.returns-clause-leaves c).After-follow_outcome in
+    let looking = runs_by c.self.inside.opener c.args.outcome.request.id (alone k).0 in
     let ended = c.let_go.ensures.opener in
     record {
-      stands_so = ap (λ (v : CoreView). v.standing) c.self.view_is ∙ fallen_same c.args.self.now.standing (subst (λ (v : CoreView). v.standing ≢ Open) c.self.view_is closed);
-      idle = by_worker _ (ap is_none none) (ap is_none (none_merges _ c.self.invariant closed)) (ap is_none ended);
+      stands_so = ap (λ (v : CoreView). v.standing) c.self.view_is ∙ fallen_same c.args.self.now.standing (subst (λ (v : CoreView). v.standing ≢ Open) c.self.view_is (closed k));
+      idle = by_worker _ (ap is_none (idle k)) (ap is_none (unmerged k)) (ap is_none ended);
       lowers = λ busy. subst (λ o. opener_left o < opener_left c.args.self.now.opener) (sym ended)
           (subst (λ (v : CoreView). 0 < opener_left v.opener) c.self.view_is (subst (λ o. 0 < opener_left o) (sym looking.1) (opener_left_some looking.0)));
     }

@@ -24,7 +24,7 @@ use Rattle.sd_core.proofs.MarkLemmas.{sound_image, visit_journal}
 use Rattle.sd_core.proofs.OpeningLemmas.{step_seen}
 use Rattle.sd_core.proofs.PassLemmas.{step_passed}
 use Rattle.sd_core.proofs.PreDumpLemmas.{same_stay}
-use Rattle.sd_core.proofs.WorkLemmas.{asked_on, at_work, core_working, grown_core, image_of_work, image_within, its_serial, numbers_noted, out_at_work, own_slot, same_numbers, same_places, sound_writes, turned}
+use Rattle.sd_core.proofs.WorkLemmas.{asked_on, at_work, core_working, grown_core, image_of_work, its_serial, numbers_noted, out_at_work, own_slot, same_numbers, same_places, sound_writes, turned}
 use Rattle.sd_core.proofs.SettledLemmas.{clean_cleared, swept_same}
 use Rattle.sd_core.proofs.StepLemmas.{works_on}
 use Rattle.sd_core.specs.declared.taken.Taken.TheVariants.{Step as StepTaken}
@@ -40,22 +40,15 @@ invariant_of-self-in-Copied c =
     let rests = ap (λ v. slice_get v.outs 0) c.self.view_is ∙ c.requires.rests in
     let out = out_at_work _ w.running None core w.was rests in
     let image = image_of_work _ w.running w.image core w.was w.making in
-    let within = image_within _ c.self.inside.dumper.since_freeze w.running w.image core c.sound.ensures.running w.was w.making in
     let t = image_copied _ _ _ w.image w.next c.self.inside.memory _ image w.steps.0 in
-    core_working _ _ w.is (turned _ _ w.running w.image w.next core (record {
+    core_working _ _ w.is (turned w.running w.image w.next core (record {
       was = w.was;
       making = w.making;
       is = w.is;
-      merger_is = refl;
-      room = refl;
       serial = ap (λ (o : ImageOrder). o.serial) t.order;
       places_stay = same_places w.running c.self.inside.catalog;
-      base = refl;
-      frozen = refl;
-      standing = refl;
-      opener = refl;
       count = refl;
-      numbers = same_numbers _;
+      same = same_numbers _;
       entries = refl;
       held = refl;
       journal_is = subst (λ m. IsJournal base c.reserve_mark.new.self m c.self.inside.pending c.self.inside.last) (sym w.steps.1) core.journal_is;
@@ -64,7 +57,7 @@ invariant_of-self-in-Copied c =
       gated = subst (IsGatedStage (is_last w.running) c.self.inside.swept) (sym (ap (λ (m : Making). m.stage) w.steps.0.passes.1 ∙ w.steps.0.passes.0)) tt;
       swept_is = swept_same c.self.inside.swept c.self.inside.swept c.self.inside.pending c.self.inside.pending c.self.inside.memory c.pass_on.new.memory refl refl w.steps.1 core.swept_is;
       counted = core.counted;
-      outs = outs_kept w.running w.image w.next (merger.out_of_merge c.self.inside.merger) c.self.inside.outs out.1 w.making (ap (λ (m : Making). m.writes) w.steps.0.passes.1) t.out_is;
+      outs_are = outs_kept w.running w.image w.next (merger.out_of_merge c.self.inside.merger) c.self.inside.outs out.1 w.making (ap (λ (m : Making). m.writes) w.steps.0.passes.1) t.out_is;
       whose = subst (λ o. IfSome o (λ i. i.worker ≡ its.Dumper)) (sym t.out_is) tt;
       writes = sound_writes w.running w.next (ap (λ (o : ImageOrder). o.slot) t.order ∙ own_slot c.self.inside.dumper.since_freeze _ w.running w.image c.sound.ensures.running w.was w.making) (sound_image _ (record w.running { image = Some w.next }) w.next c.sound-2.ensures.image w.is refl);
       stay = same_stay (begun_as w.running) c.self.inside.catalog w.running.opened;
@@ -83,25 +76,18 @@ invariant_of-self-in-Visited c =
     let rests = ap (λ v. slice_get v.outs 0) c.self.view_is ∙ c.requires.rests in
     let out = out_at_work _ w.running None core w.was rests in
     let image = image_of_work _ w.running w.image core w.was w.making in
-    let within = image_within _ c.self.inside.dumper.since_freeze w.running w.image core c.sound.ensures.running w.was w.making in
     let t = image_visited _ _ _ w.image w.next c.self.inside.memory _ _ image w.steps in
     let given = image.given in
     let own_serial = its_serial _ w.running w.next c.serial.result _ w.is c.serial.ensures c.in-Some-serial.is ∙ ap (λ (o : ImageOrder). o.serial) t.order in
     let items = c.note.ensures.items ∙ ap (λ s. Noted (Visit s c.in-Visited.visit.space c.in-Visited.visit.page) ∷ c.reserve_mark.new.self.items) own_serial in
-    core_working _ _ w.is (turned _ _ w.running w.image w.next core (record {
+    core_working _ _ w.is (turned w.running w.image w.next core (record {
       was = w.was;
       making = w.making;
       is = w.is;
-      merger_is = refl;
-      room = refl;
       serial = ap (λ (o : ImageOrder). o.serial) t.order;
       places_stay = same_places w.running c.self.inside.catalog;
-      base = refl;
-      frozen = refl;
-      standing = refl;
-      opener = refl;
       count = refl;
-      numbers = same_numbers _;
+      same = same_numbers _;
       entries = ap entries_of items;
       held = c.note.ensures.held;
       journal_is = visit_journal c.step_laws.ensures.tracked _ w.running w.image w.next _ _ c.note.new.self core w.was w.making w.steps items c.note.ensures.numbers.first c.note.ensures.numbers.limit;
@@ -111,7 +97,7 @@ invariant_of-self-in-Visited c =
       gated = subst (IsGatedStage (is_last w.running) c.self.inside.swept) (sym (ap (λ (m : Making). m.stage) w.steps.passes.1 ∙ w.steps.passes.0)) tt;
       swept_is = λ is. ((core.swept_is is).0, clean_cleared c.clear_law.ensures c.self.inside.memory c.pass_on.new.memory c.in-Visited.visit.space c.in-Visited.visit.page w.steps.tests.cleared (core.swept_is is).1);
       counted = core.counted;
-      outs = outs_kept w.running w.image w.next (merger.out_of_merge c.self.inside.merger) c.self.inside.outs out.1 w.making (ap (λ (m : Making). m.writes) w.steps.passes.1) t.out_is;
+      outs_are = outs_kept w.running w.image w.next (merger.out_of_merge c.self.inside.merger) c.self.inside.outs out.1 w.making (ap (λ (m : Making). m.writes) w.steps.passes.1) t.out_is;
       whose = subst (λ o. IfSome o (λ i. i.worker ≡ its.Dumper)) (sym t.out_is) tt;
       writes = sound_writes w.running w.next (ap (λ (o : ImageOrder). o.slot) t.order ∙ own_slot c.self.inside.dumper.since_freeze _ w.running w.image c.sound.ensures.running w.was w.making) (sound_image _ (record w.running { image = Some w.next }) w.next c.sound-2.ensures.image w.is refl);
       stay = same_stay (begun_as w.running) c.self.inside.catalog w.running.opened;
@@ -127,8 +113,6 @@ pub returns-in-Copied-clause-takes : goal.returns-in-Copied-clause-takes
 returns-in-Copied-clause-takes c =
     let base : Base = base_of c.self.inside.base in
     let w = subst (λ step. StepsOn c.self.inside.numbers.ticket c.self.inside.dumper c.self.inside.memory (image_step step) c.pass_on.new.dumper c.pass_on.new.memory) c.in-Copied.is (step_passed c.self.inside.dumper c.self.inside.memory c.pass_on.new.dumper c.pass_on.new.memory c.in-Ok-pass_on.found c.in-Some.step c.in-Some.is c.in-Ok-pass_on.ensures.steps c.self.inside.numbers.ticket) in
-    let rests = ap (λ v. slice_get v.outs 0) c.self.view_is ∙ c.requires.rests in
-    let out = out_at_work _ w.running None c.self.invariant w.was rests in
     let work = at_work _ w.running c.self.invariant w.was in
     λ _. step_seen its.Dumper reply.Worked _ _ _ c.self.view_is (works_on c.step_laws.ensures.steps _ _ w.running w.image w.next c.self.inside.numbers.ticket (Copied c.in-Copied.field-0) tt (record {
       rest = record { stands = work.stands; base = refl; closed = work.closed; grows = refl; merger = refl };
@@ -150,8 +134,6 @@ pub returns-in-Visited-clause-takes : goal.returns-in-Visited-clause-takes
 returns-in-Visited-clause-takes c =
     let base : Base = base_of c.self.inside.base in
     let w = subst (λ step. StepsOn c.self.inside.numbers.ticket c.self.inside.dumper c.self.inside.memory (image_step step) c.pass_on.new.dumper c.pass_on.new.memory) c.in-Visited.is (step_passed c.self.inside.dumper c.self.inside.memory c.pass_on.new.dumper c.pass_on.new.memory c.in-Ok-pass_on.found c.in-Some.step c.in-Some.is c.in-Ok-pass_on.ensures.steps c.self.inside.numbers.ticket) in
-    let rests = ap (λ v. slice_get v.outs 0) c.self.view_is ∙ c.requires.rests in
-    let out = out_at_work _ w.running None c.self.invariant w.was rests in
     let work = at_work _ w.running c.self.invariant w.was in
     λ _. step_seen its.Dumper reply.Worked _ _ _ c.self.view_is (works_on c.step_laws.ensures.steps _ _ w.running w.image w.next c.self.inside.numbers.ticket (Visited c.in-Visited.visit) tt (record {
       rest = record { stands = work.stands; base = refl; closed = work.closed; grows = refl; merger = refl };
