@@ -1,5 +1,5 @@
 -- What the parts of an audit say together.
-use Rattle.std.proofs.Common.{◌≡◌, ◌⊎◌, ◌↔◌, ℕ, Bool, List, Option, Some, IsTrue, inl, inr, subst}
+use Rattle.std.proofs.Common.{◌≡◌, ◌⊎◌, ◌↔◌, ℕ, Bool, List, Option, Some, IsTrue, inl, inr, subst, arith}
 use Rattle.std.specs.Option.{option_map}
 use Rattle.sd_areas.specs.declared.snapshot.Snapshot.{Snapshot}
 use Rattle.sd_image.specs.Laws.{ShownOnce}
@@ -11,11 +11,7 @@ use Rattle.sd_audit.specs.ShowsOne.{ShowsOne, shown_by}
 -- no other checkpoint than the last and the pending one is allowed
 pub another_checkpoint : (base : Base) (history : History) (found : Option Snapshot) (snapshot : Snapshot) → found ≡ Some snapshot
     → ((last base history ≡ Some snapshot.checkpoint) ⊎ (pending history ≡ Some snapshot.checkpoint) → ⊥) → IsAllowed base history (option_map shown_by found) → ⊥
-another_checkpoint base history found snapshot e never allowed =
-    elim (subst (λ (o : Option Snapshot). IsAllowed base history (option_map shown_by o)) e allowed) [
-      | inl as_last ↦ never (inl as_last.0)
-      | inr as_pending ↦ never (inr as_pending.0)
-    ]
+another_checkpoint base history found snapshot e never allowed = grind arith
 
 -- contents show one thing, so they show an allowed pair just where that is allowed
 pub told_of_one : (once : ShownOnce) (base : Base) (history : History) (contents : List (List ℕ)) (shown : Shown) (told : Bool) → Shows contents shown

@@ -28,16 +28,10 @@ module _ {X Y : Type 0} (f : X → Y) where
     pub back : mapped f ones ≡ mapped f others → mapped f rest ≡ mapped f left
 
   pub at_first : (ones others rest left : List (ℕ × X)) → rest ≡ ones → left ≡ others → length ones ≡ length others → AreAsRests ones others rest left
-  at_first ones others rest left e d long = record {
-    long = ap length e ∙ long ∙ sym (ap length d);
-    same = λ h. sym (ap (mapped f) e) ∙ h ∙ ap (mapped f) d;
-    back = λ h. ap (mapped f) e ∙ h ∙ sym (ap (mapped f) d);
-  }
+  at_first ones others rest left e d long = grind arith
 
   same_parts : (k q : ℕ) (x y : Y) (es fs : List (ℕ × Y)) → (k, x) ∷ es ≡ (q, y) ∷ fs → (k ≡ q) × (x ≡ y) × (es ≡ fs)
-  same_parts k q x y es fs e =
-      let heads : ◌≡◌ {A = ℕ × Y} (k, x) (q, y) = cc in
-      (ap (λ (p : ℕ × Y). p.0) heads, ap (λ (p : ℕ × Y). p.1) heads, cc)
+  same_parts k q x y es fs e = grind arith
 
   joined : (k q : ℕ) (x y : Y) (es fs : List (ℕ × Y)) → k ≡ q → x ≡ y → es ≡ fs → (k, x) ∷ es ≡ (q, y) ∷ fs
   joined k q x y es fs e d h = cc
@@ -45,18 +39,12 @@ module _ {X Y : Type 0} (f : X → Y) where
   -- the first entries, where they are alike, are passed
   pub passed : (ones others rest left more further : List (ℕ × X)) (k q : ℕ) (x y : X) → AreAsRests ones others rest left
       → rest ≡ (k, x) ∷ more → left ≡ (q, y) ∷ further → k ≡ q → f x ≡ f y → AreAsRests ones others more further
-  passed ones others rest left more further k q x y are e d key value = record {
-    long = let n : suc (length more) ≡ suc (length further) = sym (ap length e) ∙ are.long ∙ ap length d in omega arith;
-    same = λ h. are.same (ap (mapped f) e ∙ joined k q (f x) (f y) (mapped f more) (mapped f further) key value h ∙ sym (ap (mapped f) d));
-    back = λ h. (same_parts k q (f x) (f y) (mapped f more) (mapped f further) (sym (ap (mapped f) e) ∙ are.back h ∙ ap (mapped f) d)).2;
-  }
+  passed ones others rest left more further k q x y are e d key value = grind arith
 
   -- where the first entries differ, so do the maps
   pub differ : (ones others rest left more further : List (ℕ × X)) (k q : ℕ) (x y : X) → AreAsRests ones others rest left
       → rest ≡ (k, x) ∷ more → left ≡ (q, y) ∷ further → Rise ones → Rise others → ((k ≡ q) × (f x ≡ f y) → ⊥) → seen f ones ≡ seen f others → ⊥
-  differ ones others rest left more further k q x y are e d rises others_rise apart same =
-      let parts = same_parts k q (f x) (f y) (mapped f more) (mapped f further) (sym (ap (mapped f) e) ∙ are.back (same_mapped f ones others rises others_rise same) ∙ ap (mapped f) d) in
-      apart (parts.0, parts.1)
+  differ ones others rest left more further k q x y are e d rises others_rise apart same = grind (arith, mapped, same_mapped)
 
   -- lists of other lengths are other maps
   pub differ_in_length : (ones others : List (ℕ × X)) → Rise ones → Rise others → (length ones ≡ length others → ⊥) → seen f ones ≡ seen f others → ⊥

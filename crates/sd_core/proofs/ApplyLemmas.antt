@@ -23,14 +23,7 @@ use Rattle.sd_core.specs.Answering.{IsAnswered}
 
 load_passes : (command : Command) (bytes : List ℕ) (old new : Contents) → Step old (event_of command (Bytes bytes)) new → new ≡ old
 load_passes (Mmap space address count prot) bytes old new step = step
-load_passes (Munmap space address count) bytes old new step = step
-load_passes (Mprotect space address count prot) bytes old new step = step
-load_passes (Fork space) bytes old new step = step
-load_passes (Exit space) bytes old new step = step
-load_passes (Load space address count) bytes old new step = step
-load_passes (TryStore space address text) bytes old new step = step
-load_passes (Fault space address) bytes old new step = step
-load_passes (StoreCommand space address text) bytes old new step = step
+load_passes _ bytes old new step = step
 
 pub bytes_pass : (frozen : Bool) (command : Command) (reply : Reply) (bytes : List ℕ) (old new : Contents) → reply ≡ Bytes bytes
     → IsAnswered frozen command reply old new → new ≡ old

@@ -1,6 +1,6 @@
 -- A checkpoint begins.
 use Rattle.std.proofs.Common.{◌≡◌, ℕ, ◌+◌, ◌<◌, ◌≤◌, ◌^◌, ◌||◌, nat_le, nat_lt, Bool, true, false, if◌then◌else◌, is_none, is_some, not, List, Option, Some, None, IfSome, refl, ◌∙◌, ap, arith}
-use Rattle.std.proofs.lemmas.Bool.{leb-false, ltb-false}
+use Rattle.std.proofs.lemmas.Bool.{leb-false, ltb-false, or_parts}
 use Rattle.sd_chain.specs.Catalog.{Places}
 use Rattle.sd_command.specs.declared.refusal.Refusal.{Refusal}
 use Rattle.sd_command.specs.declared.refusal.Refusal.TheVariants as refusal
@@ -31,10 +31,6 @@ pub none_some : {X : Type 0} (one : Option X) → is_some one ≡ false → one 
 none_some None is = refl
 none_some (Some x) is = absurd (let no : true ≡ false = is in cc)
 
-pub neither : (one other : Bool) → (one || other) ≡ false → (one ≡ false) × (other ≡ false)
-neither true other is = absurd (let no : true ≡ false = is in cc)
-neither false other is = (refl, is)
-
 pub record MayBegin (core : CoreView) (rounds : ℕ) : Type 0 where
   pub stands : core.standing ≡ standing.Open
   pub idle : core.dumper.running ≡ None
@@ -51,7 +47,7 @@ may_begin core rounds is =
     let e = first_no (nat_lt 8 rounds) refusal.Einval _ d.1 in
     let f = first_no (nat_lt (free_entries core) 2) refusal.JournalFull _ e.1 in
     let g = first_no (are_used_up core.numbers) refusal.NumbersUsed _ f.1 in
-    let used = neither (nat_le (2 ^ 63) core.numbers.checkpoint) (nat_le (2 ^ 63) core.numbers.serial) g.0 in
+    let used = or_parts (nat_le (2 ^ 63) core.numbers.checkpoint) (nat_le (2 ^ 63) core.numbers.serial) g.0 in
     record {
       stands = stands_open core.standing a.0 b.0;
       idle = none_some core.dumper.running d.0;

@@ -106,9 +106,8 @@ set_nobody outs id alone = ap (λ all. slice_set all 2 None) alone
 -- ---- outcomes
 
 pub set_count : (phases : List Phase) (at : ℕ) (phase : Phase) → length (slice_set phases at phase) ≡ length phases
-set_count [] at phase = refl
-set_count (p ∷ phases) zero phase = refl
 set_count (p ∷ phases) (suc at) phase = ap suc (set_count phases at phase)
+set_count _ _ phase = refl
 
 -- an opener that goes on was there, and is
 pub record IsTaughtOn (old : Option Looking) (made : Made) (new : Option Looking) : Type 0 where

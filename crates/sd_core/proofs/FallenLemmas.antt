@@ -27,11 +27,9 @@ use Rattle.sd_core.proofs.OutsLemmas.{lanes_count}
 -- what is out without one worker's was out
 pub less_out : (outs : List (Option RequestId)) (place worker : ℕ) (id : RequestId) → slice_get (slice_set outs place None) worker ≡ Some (Some id)
     → slice_get outs worker ≡ Some (Some id)
-less_out [] place worker id at = at
 less_out (o ∷ outs) zero zero id at = absurd (let no : Some None ≡ Some (Some id) = at in cc)
-less_out (o ∷ outs) zero (suc worker) id at = at
-less_out (o ∷ outs) (suc place) zero id at = at
 less_out (o ∷ outs) (suc place) (suc worker) id at = less_out outs place worker id at
+less_out _ _ _ id at = at
 
 two_left : (outs : List (Option RequestId)) (place : ℕ) → AreTwo outs → AreTwo (slice_set outs place None)
 two_left outs zero two = record { dumper = None; merger = two.merger; pages = two.pages; are = ap (λ all. slice_set all 0 None) two.are }
@@ -88,8 +86,7 @@ let_go_two None running now old new is held goes =
 pub let_go_all : (frozen : Option ℕ) (running : Option Running) (old new : JournalView) → old.held ≡ held_for frozen running None → EndsCheckpoint running frozen old new → new.held ≡ held_for frozen None None
 let_go_all None None old new held ends = (let less = ends.held in omega (arith, held, less))
 let_go_all (Some n) None old new held ends = (let less = ends.held in omega (arith, held, less))
-let_go_all None (Some running) old new held ends = (let less = ends.held in omega (arith, held, less))
-let_go_all (Some n) (Some running) old new held ends = (let less = ends.held in omega (arith, held, less))
+let_go_all _ _ old new held ends = (let less = ends.held in omega (arith, held, less))
 
 -- a core whose store is down
 pub fallen_core : (core : Parts) (journal : JournalView) (stands : Standing) (phases : List Phase) (outs : List (Option RequestId)) (dumper : Dumping) (merge : Option merger.Running) (room place : ℕ)
@@ -126,9 +123,8 @@ pub none_busy : {P : Type 0} (core : CoreView) (worker : Worker) → is_idle cor
 none_busy core worker idle busy = absurd (both_ways (is_idle core worker) busy idle)
 
 pub fallen_same : (stands : Standing) → stands ≢ Open → stands ≡ fallen stands
-fallen_same NotOpen closed = refl
 fallen_same Open closed = absurd (closed refl)
-fallen_same Down closed = refl
+fallen_same _ closed = refl
 
 -- an opener has something left
 pub opener_left_some : (opener : Looking) → 0 < looking_left opener

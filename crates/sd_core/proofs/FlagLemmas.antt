@@ -1,6 +1,7 @@
 -- Whether the next checkpoint goes on from the tip, and whether a gate's opening was taken up.
 use Rattle.std.proofs.Common.{◌≡◌, ◌⊎◌, ℕ, Bool, true, false, ◌||◌, ◌&&◌, if◌then◌else◌, List, [], ◌∷◌, ◌++◌, Option, Some, None, IfSome, IsSome, is_some, refl, sym, ◌∙◌, ap, subst, inl, inr}
 use Rattle.std.proofs.lemmas.Option.{same_Some}
+use Rattle.std.proofs.Math.Bool.{or-true}
 use Rattle.sd_gate.specs.declared.answer.Answer.{Answer}
 use Rattle.sd_gate.specs.declared.slot_state.SlotState.{SlotState}
 use Rattle.sd_gate.specs.declared.slot_state.SlotState.TheVariants.{Raw, Closed, Open as OpenSlot, Writing}
@@ -58,10 +59,7 @@ set_flags base items swept grows committing grown none by = record { grown = gro
 -- whether the pending checkpoint was swept stays so over a trim
 ends_unswept : (n : ℕ) (entry : Entry) (earlier : Marked) → Ends n (entries_of earlier) entry → has_swept (Told entry ∷ earlier) ≡ false
 ends_unswept n (Applied seat command reply) earlier is = absurd is
-ends_unswept n (Freeze m) earlier is = refl
-ends_unswept n (Acked m) earlier is = refl
-ends_unswept n (Cancelled m) earlier is = refl
-ends_unswept n (Reopened m) earlier is = refl
+ends_unswept n _ earlier is = refl
 
 pub swept_trims : TrimLaws → MarkedTrimLaws → (kept front : Marked) (n : ℕ) → IsFolded n front → has_swept (kept ++ front) ≡ has_swept kept
 swept_trims laws marked [] front n f =
@@ -89,10 +87,9 @@ gated_of swept all running image gated was making = subst (IsGatedImage (is_last
 
 -- the calls that make a slot ready
 pub format_has_no_open : (state : SlotState) → HasNoOpen (format_calls state)
-format_has_no_open Raw = (refl, (refl, (refl, tt)))
 format_has_no_open Closed = (refl, tt)
-format_has_no_open OpenSlot = (refl, (refl, (refl, tt)))
 format_has_no_open Writing = (refl, tt)
+format_has_no_open _ = (refl, (refl, (refl, tt)))
 
 same_plan : (plan other : Planned) → Some plan ≡ Some other → plan ≡ other
 same_plan plan other e = same_Some plan other e
@@ -101,25 +98,22 @@ same_plan plan other e = same_Some plan other e
 pub gated_asked : (last swept : Bool) (stage : Stage) (plan next : Planned) (request : Asked) → IsGatedStage last swept stage → plan_of stage ≡ Some plan → Gives plan next request
     → IsGatedStage last swept (with_plan stage next)
 gated_asked last swept (Format own) plan next request gated is gives = (subst HasNoOpen (ap (λ (p : Planned). p.calls) (same_plan own plan is) ∙ gives.next) gated).1
-gated_asked last swept FreezeStage plan next request gated is gives = tt
-gated_asked last swept PassStage plan next request gated is gives = tt
 gated_asked last swept (Close own header tables) plan next request gated is gives = gated
+gated_asked last swept _ plan next request gated is gives = tt
 
 -- where it opens the gate of the last image, that one's pass is over
 pub gate_swept : (last swept : Bool) (stage : Stage) (plan next : Planned) (request : Asked) → IsGatedStage last swept stage → plan_of stage ≡ Some plan → Gives plan next request
     → last ≡ true → opens_gate request.id.call ≡ true → swept ≡ true
 gate_swept last swept (Format own) plan next request gated is gives dump opens =
     no_true (sym (subst HasNoOpen (ap (λ (p : Planned). p.calls) (same_plan own plan is) ∙ gives.next) gated).0 ∙ opens)
-gate_swept last swept FreezeStage plan next request gated is gives dump opens = absurd (let no : None ≡ Some plan = is in cc)
-gate_swept last swept PassStage plan next request gated is gives dump opens = absurd (let no : None ≡ Some plan = is in cc)
 gate_swept last swept (Close own header tables) plan next request gated is gives dump opens = gated dump
+gate_swept last swept _ plan next request gated is gives dump opens = absurd (let no : None ≡ Some plan = is in cc)
 
 -- the opening of a gate may be taken up
 pub sure_asked : (committing last opens swept : Bool) → (committing ≡ true → swept ≡ true) → (last ≡ true → opens ≡ true → swept ≡ true) → (committing || last && opens) ≡ true → swept ≡ true
 sure_asked true last opens swept sure new is = sure refl
 sure_asked false true true swept sure new is = new refl refl
-sure_asked false true false swept sure new is = no_true is
-sure_asked false false opens swept sure new is = no_true is
+sure_asked false _ _ swept sure new is = no_true is
 
 -- an outcome comes, and the plan goes on or the next stage begins
 gated_behind : (last swept : Bool) (kind : Kind) (stage : Stage) → IsGatedStage last swept (stage_behind kind stage)
@@ -127,8 +121,7 @@ gated_behind last swept PreDump (Format plan) = tt
 gated_behind last swept Dump (Format plan) = tt
 gated_behind last swept Merged (Format plan) = tt
 gated_behind last swept kind FreezeStage = tt
-gated_behind last swept kind PassStage = tt
-gated_behind last swept kind (Close plan header tables) = tt
+gated_behind last swept _ _ = tt
 
 calls_kept : (calls : Calls) (answer : Answer) (buffer : Option (List ℕ)) → HasNoOpen calls → HasNoOpen (calls_then calls nothing answer buffer).0
 calls_kept [] answer buffer none = tt
@@ -149,9 +142,8 @@ gated_after : (last swept : Bool) (order : ImageOrder) (pass : Pass) (stage : St
 gated_after last swept order pass stage plan made [] is ready gated = gated_behind last swept order.kind stage
 gated_after last swept order pass (Format own) plan made (call ∷ calls) is ready gated =
     subst (λ p. HasNoOpen (plan_after p made).calls) (same_plan own plan is) (open_after own made ready.1.known gated)
-gated_after last swept order pass FreezeStage plan made (call ∷ calls) is ready gated = tt
-gated_after last swept order pass PassStage plan made (call ∷ calls) is ready gated = tt
 gated_after last swept order pass (Close own header tables) plan made (call ∷ calls) is ready gated = gated
+gated_after last swept order pass _ plan made (call ∷ calls) is ready gated = tt
 
 pub gated_more : (last swept : Bool) (image next : Making) (made : Made) → IsSoundImage image → PlanGoesOn image made next ⊎ IsWritten image made next
     → IsGatedStage last swept image.stage → IsGatedStage last swept next.stage
@@ -170,8 +162,4 @@ table_sure committing last opens swept now is sure commits = is ∙ by committin
     by false false false had commits_now = no_true commits_now
 
 pub table_gated : (last swept now : Bool) → now ≡ (swept || last) → last ≡ true → now ≡ true
-table_gated last swept now is dump = is ∙ ap (λ l. swept || l) dump ∙ by swept
-  where
-    by : (s : Bool) → (s || true) ≡ true
-    by true = refl
-    by false = refl
+table_gated last swept now is dump = is ∙ ap (λ l. swept || l) dump ∙ or-true swept

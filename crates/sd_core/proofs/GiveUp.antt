@@ -23,7 +23,6 @@ given_all (suc n) (phase ∷ phases) all = ap (λ rest. given_up phase ∷ rest)
 
 pub take_all : (n : ℕ) (xs ys : List Phase) → n ≡ length xs → length ys ≡ length xs → take n (xs ++ drop (length xs) ys) ≡ xs
 take_all n [] [] is same = ap (λ k. take k []) is
-take_all n [] (y ∷ ys) is same = absurd (omega (arith, same))
 take_all zero (x ∷ xs) ys is same = absurd (omega (arith, is))
-take_all (suc n) (x ∷ xs) [] is same = absurd (omega (arith, same))
 take_all (suc n) (x ∷ xs) (y ∷ ys) is same = ap (λ rest. x ∷ rest) (take_all n xs ys (omega (arith, is)) (omega (arith, same)))
+take_all _ _ _ is same = absurd (omega (arith, same))

@@ -69,21 +69,13 @@ rests_by outs lane is = ap (λ o. not (none_at o)) is
 
 -- where only the opener's lane can have a request, no write of a page is out
 no_page : (lane : ℕ) (id : RequestId) → slice_get no_writes lane ≡ Some (Some id) → ⊥
-no_page zero id at = absurd (let no : Some None ≡ Some (Some id) = at in cc)
-no_page (suc zero) id at = absurd (let no : Some None ≡ Some (Some id) = at in cc)
-no_page (suc (suc zero)) id at = absurd (let no : Some None ≡ Some (Some id) = at in cc)
-no_page (suc (suc (suc zero))) id at = absurd (let no : Some None ≡ Some (Some id) = at in cc)
-no_page (suc (suc (suc (suc zero)))) id at = absurd (let no : Some None ≡ Some (Some id) = at in cc)
-no_page (suc (suc (suc (suc (suc zero))))) id at = absurd (let no : Some None ≡ Some (Some id) = at in cc)
-no_page (suc (suc (suc (suc (suc (suc zero)))))) id at = absurd (let no : Some None ≡ Some (Some id) = at in cc)
-no_page (suc (suc (suc (suc (suc (suc (suc zero))))))) id at = absurd (let no : Some None ≡ Some (Some id) = at in cc)
 no_page (suc (suc (suc (suc (suc (suc (suc (suc lane)))))))) id at = absurd (let no : None ≡ Some (Some id) = at in cc)
+no_page _ id at = absurd (let no : Some None ≡ Some (Some id) = at in cc)
 
 its_lane : (out : Option RequestId) (lane : ℕ) (id : RequestId) → slice_get (None ∷ None ∷ out ∷ no_writes) lane ≡ Some (Some id) → worker_of_lane lane ≡ Opener
-its_lane out zero id at = absurd (let no : Some None ≡ Some (Some id) = at in cc)
-its_lane out (suc zero) id at = absurd (let no : Some None ≡ Some (Some id) = at in cc)
 its_lane out (suc (suc zero)) id at = refl
 its_lane out (suc (suc (suc lane))) id at = absurd (no_page lane id at)
+its_lane out _ id at = absurd (let no : Some None ≡ Some (Some id) = at in cc)
 
 module _ (core : Parts) (view : CoreView) (sound : IsCore core) (outs_are : view.outs ≡ core.outs) (dumper_is : view.dumper ≡ core.dumper) where
   pub own_lanes : AreOwnLanes view.outs

@@ -1,6 +1,7 @@
 -- The outcomes of a merger's calls, and of those that come late.
 use Rattle.std.proofs.Common.{◌≡◌, ◌≢◌, ◌⊎◌, ℕ, zero, suc, ◌&&◌, Bool, true, false, List, ◌∷◌, length, is_none, Option, Some, None, IfSome, slice_get, slice_set, refl, sym, ◌∙◌, ap, subst, inl, inr, arith}
 use Rattle.std.proofs.lemmas.Option.{same_Some}
+use Rattle.std.proofs.lemmas.Bool.{and_parts}
 use Rattle.sd_chain.specs.Catalog.{Places}
 use Rattle.sd_command.specs.declared.refusal.Refusal.TheVariants.{StoreDown}
 use Rattle.sd_command.specs.declared.reply.Reply.{Reply}
@@ -52,21 +53,11 @@ handed_merger old new made phase answer o base count goes adds = record {
 
 -- a call that closes a slot for sure is a sync
 pub sync_of : (phase : Phase) (one : Call) → closes_for_sure phase one ≡ true → one ≡ call.Sync
-sync_of phase one is = by one (second (is_being_closed phase) (is_sync one) is)
+sync_of phase one is = by one ((and_parts (is_being_closed phase) (is_sync one) is).1)
   where
-    second : (a b : Bool) → (a && b) ≡ true → b ≡ true
-    second true b e = e
-    second false b e = absurd (let no : false ≡ true = e in cc)
-
     by : (one : Call) → is_sync one ≡ true → one ≡ call.Sync
-    by call.Len e = absurd (let no : false ≡ true = e in cc)
-    by (call.Read at) e = absurd (let no : false ≡ true = e in cc)
-    by (call.Write at) e = absurd (let no : false ≡ true = e in cc)
-    by call.WriteHeader e = absurd (let no : false ≡ true = e in cc)
-    by call.Close e = absurd (let no : false ≡ true = e in cc)
-    by call.Open e = absurd (let no : false ≡ true = e in cc)
-    by call.Cut e = absurd (let no : false ≡ true = e in cc)
     by call.Sync e = refl
+    by _ e = absurd (let no : false ≡ true = e in cc)
 
 -- ---- one whose job has ended
 
@@ -106,10 +97,9 @@ is_late core lane id sound out ended = record { down = stands core.standing refl
 
     -- one that is out while an opener runs is its own
     in_opener : (o : Option RequestId) (at : ℕ) → slice_get (None ∷ None ∷ o ∷ no_writes) at ≡ Some (Some id) → worker_of_lane at ≡ Opener
-    in_opener o zero e = absurd (let no : Some None ≡ Some (Some id) = e in cc)
-    in_opener o (suc zero) e = absurd (let no : Some None ≡ Some (Some id) = e in cc)
     in_opener o (suc (suc zero)) e = refl
     in_opener o (suc (suc (suc k))) e = absurd (no_write k id e)
+    in_opener o _ e = absurd (let no : Some None ≡ Some (Some id) = e in cc)
 
     no_opener : (o : Option Looking) → core.opener ≡ o → core.opener ≡ None
     no_opener None is = is
@@ -171,16 +161,14 @@ is_late core lane id sound out ended = record { down = stands core.standing refl
     stands Down is = is
 
 pub merger_lane : (lane : ℕ) → worker_of_lane lane ≡ Merger → lane ≡ 1
-merger_lane zero is = absurd (let no : Dumper ≡ Merger = is in cc)
 merger_lane (suc zero) is = refl
 merger_lane (suc (suc zero)) is = absurd (let no : Opener ≡ Merger = is in cc)
-merger_lane (suc (suc (suc k))) is = absurd (let no : Dumper ≡ Merger = is in cc)
+merger_lane _ is = absurd (let no : Dumper ≡ Merger = is in cc)
 
 pub opener_lane : (lane : ℕ) → worker_of_lane lane ≡ Opener → lane ≡ 2
-opener_lane zero is = absurd (let no : Dumper ≡ Opener = is in cc)
 opener_lane (suc zero) is = absurd (let no : Merger ≡ Opener = is in cc)
 opener_lane (suc (suc zero)) is = refl
-opener_lane (suc (suc (suc k))) is = absurd (let no : Dumper ≡ Opener = is in cc)
+opener_lane _ is = absurd (let no : Dumper ≡ Opener = is in cc)
 
 -- nothing but the request and its slot's phase changes
 pub handed_late : DumperOutcomes → {places : Places} → MergerOutcomes places → (core : Parts) (lane : ℕ) (made : Made) (phases : List Phase) (outs : List (Option RequestId)) (closed : Bool) → IsCore core

@@ -2,6 +2,7 @@
 use Rattle.std.proofs.Common.{◌≡◌, ◌≢◌, ◌⊎◌, ◌↔◌, ℕ, suc, ◌+◌, ◌<◌, ◌≤◌, ◌^◌, ◌==◌, ◌&&◌, Bool, true, false, if◌then◌else◌, List, ◌∷◌, length, Contains, Option, Some, None, IfSome, slice_get, slice_set, refl, sym, ◌∙◌, ap, subst, inl, inr, arith}
 use Rattle.std.proofs.lemmas.Bool.{eq-eqb}
 use Rattle.std.proofs.lemmas.Option.{same_Some}
+use Rattle.std.proofs.Math.Bool.{and-false}
 use Rattle.sd_chain.specs.Catalog.{Changes, Places, place_of}
 use Rattle.sd_command.specs.declared.reply.Reply.{Reply}
 use Rattle.sd_command.specs.declared.reply.Reply.TheVariants as reply
@@ -236,10 +237,6 @@ module _ {core : Parts} {seen : CoreView} {lane : ℕ} {made : Made} {phases : L
       leaves : LeavesCatalog (closes_for_sure g.hands.follows.phase made.request.id.call) made.request.id.slot core.places places
       leaves = subst (λ b. LeavesCatalog b made.request.id.slot core.places places) g.hands.follows.closes g.leaves
 
-      none_closes : (b : Bool) → (b && false) ≡ false
-      none_closes true = refl
-      none_closes false = refl
-
       by : PlanGoesOn g.image made g.next ⊎ IsWritten g.image made g.next → HandedIn seen lane made reply.Worked (seen_of (handed_core core phases outs places dumper))
       by (inl goes) = handed_as g.hands (handed_core core phases outs places dumper) 0 reply.Worked (goes_lane goes) (outcome 0 (goes_lane goes))
           (λ asked bodies files. laws.goes_on _ _ g.running g.image g.next made g.hands.follows.phase asked bodies files (record {
@@ -268,7 +265,7 @@ module _ {core : Parts} {seen : CoreView} {lane : ℕ} {made : Made} {phases : L
             history = refl;
             serial = refl;
             catalog = subst (λ b. LeavesCatalog b made.request.id.slot core.places places)
-                (ap (closes_for_sure g.hands.follows.phase) write ∙ none_closes (is_being_closed g.hands.follows.phase)) leaves;
+                (ap (closes_for_sure g.hands.follows.phase) write ∙ and-false (is_being_closed g.hands.follows.phase)) leaves;
             was = g.hands.was;
             making = g.hands.making;
             own = its_order g.hands;

@@ -73,9 +73,8 @@ slot_at core running lane id sound is whose at =
 
 pub out_is : (stage : Stage) (plan : Planned) → plan_of stage ≡ Some plan → out_of stage ≡ plan.out
 out_is (Format own) plan was = ap (λ (p : Planned). p.out) (same_Some own plan was)
-out_is Freeze plan was = absurd (let no : None ≡ Some plan = was in cc)
-out_is PassStage plan was = absurd (let no : None ≡ Some plan = was in cc)
 out_is (Close own header tables) plan was = ap (λ (p : Planned). p.out) (same_Some own plan was)
+out_is _ plan was = absurd (let no : None ≡ Some plan = was in cc)
 
 -- ---- the write of a data page
 

@@ -2,7 +2,7 @@
 use Rattle.std.proofs.Common.{◌≡◌, ◌⊎◌, ℕ, ◌==◌, ◌&&◌, ◌||◌, Bool, true, false, if◌then◌else◌, [], ◌∷◌, ◌++◌, Option, Some, None, IfSome, IsSome, is_some, not, refl, sym, ◌∙◌, ap, subst, inr, inl}
 use Rattle.std.specs.List.{list_any}
 use Rattle.std.specs.Option.{option_map}
-use Rattle.std.proofs.lemmas.Bool.{both_ways, eq-eqb}
+use Rattle.std.proofs.lemmas.Bool.{both_ways, eq-eqb, or_parts, and_parts}
 use Rattle.std.proofs.lemmas.Option.{same_Some}
 use Rattle.sd_areas.specs.PlainMemory as plain
 use Rattle.sd_gate.specs.Requests.{Asked, Made}
@@ -44,20 +44,16 @@ use Rattle.sd_core.proofs.WorkLemmas.{at_work}
 
 -- ---- the visits of an image
 
-either : (one other : Bool) → (one || other) ≡ false → (one ≡ false) × (other ≡ false)
-either true other is = absurd (both_ways true is refl)
-either false other is = (refl, is)
-
 -- none under a serial that no mark has
 pub no_visits : (base : Base) (items : Marked) (serial : ℕ) → list_any (is_of serial) items ≡ false → visits_of base items serial ≡ []
 no_visits base [] serial none = refl
 no_visits base (Told entry ∷ items) serial none = no_visits base items serial none
-no_visits base (Noted (Start s) ∷ items) serial none = no_visits base items serial (either (s == serial) (list_any (is_of serial) items) none).1
+no_visits base (Noted (Start s) ∷ items) serial none = no_visits base items serial (or_parts (s == serial) (list_any (is_of serial) items) none).1
 no_visits base (Noted (Visit s space page) ∷ items) serial none =
-    let both = either (s == serial) (list_any (is_of serial) items) none in
+    let both = or_parts (s == serial) (list_any (is_of serial) items) none in
     ap (λ b. if b then visits_of base items serial ++ (record { place = (space, page); soft_dirty = is_due base items space page }) ∷ [] else visits_of base items serial) both.0
     ∙ no_visits base items serial both.1
-no_visits base (Noted (Table s) ∷ items) serial none = no_visits base items serial (either (s == serial) (list_any (is_of serial) items) none).1
+no_visits base (Noted (Table s) ∷ items) serial none = no_visits base items serial (or_parts (s == serial) (list_any (is_of serial) items) none).1
 
 -- a visit finds whether the page is due
 pub visit_more : DueLaws → (base : Base) (items : Marked) (before after : Contents) (image next : Making) (visit : PageVisit) (serial : ℕ) → IsTracked base items before
@@ -72,28 +68,20 @@ visit_more laws base items before after image next visit serial tracked v =
 -- ---- a step of the image in the making
 
 same_order : (ticket : ℕ) (image next : Making) (before after : Contents) (step : ImageStep) → Steps ticket image before step next after → next.order ≡ image.order
-same_order ticket image next before after (Call request) s = ap (λ (m : Making). m.order) s.0.is
 same_order ticket image next before after (PageCall lane request) s = s.0.order
-same_order ticket image next before after (TableCall request) s = ap (λ (m : Making). m.order) s.0.is
-same_order ticket image next before after Frozen s = ap (λ (m : Making). m.order) s.0.is
 same_order ticket image next before after (Visited visit) s = ap (λ (m : Making). m.order) s.passes.1
 same_order ticket image next before after (Copied copied) s = ap (λ (m : Making). m.order) s.0.passes.1
-
-and_right : (one other : Bool) → (one && other) ≡ true → other ≡ true
-and_right true other is = is
-and_right false other is = absurd (both_ways false refl is)
+same_order ticket image next before after _ s = ap (λ (m : Making). m.order) s.0.is
 
 past_freeze : (image : Making) → is_frozen_dump image ≡ true → is_past_freeze image.stage ≡ true
-past_freeze image is = and_right (kind_number image.order.kind == 2) (is_past_freeze image.stage) is
+past_freeze image is = (and_parts (kind_number image.order.kind == 2) (is_past_freeze image.stage) is).1
 
 not_closing : {P : Type 0} (stage : Stage) → stage ≡ PassStage → is_closing stage ≡ true → P
 not_closing stage is closing = absurd (let no : false ≡ true = sym (ap is_closing is) ∙ closing in cc)
 
 same_closing : (stage : Stage) (plan : Planned) → is_closing (with_plan stage plan) ≡ is_closing stage
 same_closing (Format old) plan = refl
-same_closing FreezeStage plan = refl
-same_closing PassStage plan = refl
-same_closing (Close old header tables) plan = refl
+same_closing _ plan = refl
 
 -- once its table is written each page was visited, and nothing was touched since
 closed_step : (base : Base) (items : Marked) (number ticket : ℕ) (image next : Making) (before after : Contents) (step : ImageStep) → Steps ticket image before step next after
@@ -169,8 +157,7 @@ behind_closing Dump (Format plan) closing = absurd (let no : false ≡ true = cl
 behind_closing PreDump (Format plan) closing = absurd (let no : false ≡ true = closing in cc)
 behind_closing Merged (Format plan) closing = absurd (let no : false ≡ true = closing in cc)
 behind_closing kind FreezeStage closing = absurd (let no : false ≡ true = closing in cc)
-behind_closing kind PassStage closing = absurd (let no : false ≡ true = closing in cc)
-behind_closing kind (Close plan header tables) closing = absurd (let no : false ≡ true = closing in cc)
+behind_closing _ _ closing = absurd (let no : false ≡ true = closing in cc)
 
 after_closing : (kind : Kind) (stage : Stage) (plan : Planned) (calls : Calls) → is_closing (stage_after kind stage plan calls) ≡ true → is_closing stage ≡ true
 after_closing kind stage plan [] closing = behind_closing kind stage closing

@@ -1,6 +1,6 @@
 -- A merge begins.
 use Rattle.std.proofs.Common.{◌≡◌, ℕ, ◌<◌, ◌^◌, Bool, true, false, not, nat_le, is_some, List, [], ◌∷◌, length, Option, Some, None, refl, sym, ◌∙◌, ap, subst, inl, inr, arith}
-use Rattle.std.proofs.lemmas.Bool.{leb-false}
+use Rattle.std.proofs.lemmas.Bool.{leb-false, not-false}
 use Rattle.sd_chain.specs.Catalog.{IsSoundCatalog, Opened, place_of}
 use Rattle.sd_chain.specs.Reaches.{ParentsFall}
 use Rattle.sd_command.specs.declared.refusal.Refusal.{Refusal}
@@ -31,10 +31,6 @@ first_five a b d e f x y z u v p q r s t one two three four five =
     ∙ ap (λ h. first_of ((x, p) ∷ (y, q) ∷ (z, r) ∷ (h, s) ∷ (f, t) ∷ [])) four
     ∙ ap (λ h. first_of ((x, p) ∷ (y, q) ∷ (z, r) ∷ (u, s) ∷ (h, t) ∷ [])) five
 
-not_true : (b : Bool) → not b ≡ false → b ≡ true
-not_true true is = refl
-not_true false is = absurd (let no : true ≡ false = is in cc)
-
 pub record MayMerge (core : CoreView) : Type 0 where
   pub stands : core.standing ≡ standing.Open
   pub idle : core.merger ≡ None
@@ -51,7 +47,7 @@ may_merge core is =
     record {
       stands = stands_open core.standing a.0 b.0;
       idle = none_some core.merger d.0;
-      tip = not_true (has_tip core.catalog) e.0;
+      tip = not-false (has_tip core.catalog) e.0;
       serial = leb-false (2 ^ 63) core.numbers.serial f.0;
     }
 

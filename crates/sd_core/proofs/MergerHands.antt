@@ -143,11 +143,8 @@ header_after order stage plan (call ∷ calls) has = asked_header order stage pl
 
 rests_after : (stage : Stage) (plan : Planned) (calls : Calls) → plan.out ≡ None → out_of (stage_after stage plan calls) ≡ None
 rests_after stage plan [] rests = refl
-rests_after (Format p) plan (call ∷ calls) rests = rests
 rests_after PassStage plan (call ∷ calls) rests = refl
-rests_after (PageRead p) plan (call ∷ calls) rests = rests
-rests_after (PageWrite p) plan (call ∷ calls) rests = rests
-rests_after (Close p header tables) plan (call ∷ calls) rests = rests
+rests_after _ plan (call ∷ calls) rests = rests
 
 -- ---- an image that the merger closed may leave the catalog
 

@@ -43,11 +43,8 @@ asks_own copy next request sound a = record {
     own_by (Close p header tables) was ready own = on_plan p was own
 
     out_by : (stage : Stage) → plan_of stage ≡ Some a.plan → out_of (with_plan stage a.next) ≡ Some request.id
-    out_by (Format p) was = a.gives.out
     out_by PassStage was = absurd (let no : None ≡ Some a.plan = was in cc)
-    out_by (PageRead p) was = a.gives.out
-    out_by (PageWrite p) was = a.gives.out
-    out_by (Close p header tables) was = a.gives.out
+    out_by _ was = a.gives.out
 
 pub writes_own : (copy next : Copying) (request : Asked) → WritesPage copy request next → AsksOwn copy next request
 writes_own copy next request w = record {
@@ -79,9 +76,7 @@ begun_sound order = record {
 
     some : (state : SlotState) → format_calls state ≢ []
     some Raw none = cc
-    some Closed none = cc
-    some OpenSlot none = cc
-    some Writing none = cc
+    some _ none = cc
 
 -- ---- a read of the source
 
@@ -107,11 +102,8 @@ reads_source places copy next request s = record {
 
 -- a plan that goes on ends with the same header
 pub asked_header : (order : CopyOrder) (stage : Stage) (next : Planned) → ClosesWithHeader order stage → ClosesWithHeader order (with_plan stage next)
-asked_header order (Format p) next has = tt
-asked_header order PassStage next has = tt
-asked_header order (PageRead p) next has = tt
-asked_header order (PageWrite p) next has = tt
 asked_header order (Close p header tables) next has = has
+asked_header order _ next has = tt
 
 -- what the steps leave of it
 pub asks_header : (copy next : Copying) (request : Asked) → Asks copy request next → ClosesWithHeader copy.order copy.stage → ClosesWithHeader copy.order next.stage

@@ -55,9 +55,8 @@ pub no_writes_of : (writes : List (Option RequestId)) → length writes ≡ 8 �
 no_writes_of writes count none = all_none writes no_writes none refl count
 
 pub lanes_count : (outs : List (Option RequestId)) (lane : ℕ) (out : Option RequestId) → length (slice_set outs lane out) ≡ length outs
-lanes_count [] lane out = refl
-lanes_count (o ∷ outs) zero out = refl
 lanes_count (o ∷ outs) (suc lane) out = ap suc (lanes_count outs lane out)
+lanes_count _ _ out = refl
 
 -- ---- the dumper's
 
@@ -72,10 +71,8 @@ pub record DumperOuts (phases : List Phase) (running : Option Running) : Type 0 
   pub count : length (writes_of_running running) ≡ 8
 
 out_outside : (stage : Stage) (id : RequestId) → out_of stage ≡ Some id → is_passing stage ≡ false
-out_outside (Format plan) id is = refl
-out_outside Freeze id is = refl
 out_outside PassStage id is = absurd (let no : None ≡ Some id = is in cc)
-out_outside (Close plan header tables) id is = refl
+out_outside _ id is = refl
 
 -- each is on the slot of its image
 pub on_slot : (running : Running) (id : RequestId) → IfSome (out_of_image running.image) (λ i. i.slot ≡ slot_of running) → HasWrites running running.image → IsOfDumper (Some running) id

@@ -1,6 +1,7 @@
 -- What is so where a call isn't refused.
 use Rattle.std.proofs.Common.{◌≡◌, ◌≢◌, ◌<◌, ◌==◌, ◌&&◌, ◌||◌, Bool, true, false, not, is_none, is_some, Option, Some, None, slice_get, refl, sym, ◌∙◌, ap, inl, inr, arith}
 use Rattle.std.proofs.lemmas.Bool.Decides.{eqb_tells}
+use Rattle.std.proofs.lemmas.Bool.{or_parts, not-true, not-false}
 use Rattle.sd_command.specs.declared.refusal.Refusal.TheVariants as refusal
 use Rattle.sd_gate.specs.declared.request_id.RequestId.{RequestId}
 use Rattle.sd_gate.specs.declared.worker.Worker.TheVariants.{Dumper}
@@ -12,14 +13,10 @@ use Rattle.sd_crash_safety.specs.View.{CoreView, history_of}
 use Rattle.sd_core.specs.Beginning.{free_entries}
 use Rattle.sd_core.specs.Refusals.{are_resting, cancel_refusal, cant_cancel, has_checkpoint, is_in_use, is_page_out, is_resting, is_store_open, none_at, reopen_refusal, wants_entry}
 use Rattle.sd_core.specs.Sound.{IsCore, Parts}
-use Rattle.sd_core.proofs.BeginLemmas.{first_no, neither, none_some}
+use Rattle.sd_core.proofs.BeginLemmas.{first_no, none_some}
 use Rattle.sd_core.proofs.OutsLemmas.{nobody_of}
 
 -- ---- Booleans
-
-not_false : (b : Bool) → not b ≡ false → b ≡ true
-not_false true is = refl
-not_false false is = absurd (let no : true ≡ false = is in cc)
 
 pub none_true : {X : Type 0} (one : Option X) → one ≡ None → is_none one ≡ true
 none_true None is = refl
@@ -32,16 +29,11 @@ some_false (Some x) is = absurd (let no : Some x ≡ None = is in cc)
 -- ---- requests that are out
 
 pub rests_where : (one : Option (Option RequestId)) → none_at one ≡ true → one ≡ Some None
-rests_where None is = absurd (let no : false ≡ true = is in cc)
 rests_where (Some None) is = refl
-rests_where (Some (Some id)) is = absurd (let no : false ≡ true = is in cc)
-
-not_true : (b : Bool) → not b ≡ true → b ≡ false
-not_true true is = absurd (let no : false ≡ true = is in cc)
-not_true false is = refl
+rests_where _ is = absurd (let no : false ≡ true = is in cc)
 
 pub nobody_rests : (core : Parts) → IsCore core → are_resting core.outs ≡ true → core.outs ≡ nobody
-nobody_rests core sound is = nobody_of core.outs sound.outs_are.count (not_true (is_any_out core.outs) is)
+nobody_rests core sound is = nobody_of core.outs sound.outs_are.count (not-true (is_any_out core.outs) is)
 
 -- ---- a checkpoint that can be cancelled
 
@@ -56,15 +48,15 @@ pub may_cancel_now : (core : CoreView) → cancel_refusal core ≡ None → MayC
 may_cancel_now core is =
     let one = first_no (not (has_checkpoint core)) refusal.Idle _ is in
     let two = first_no (cant_cancel core) refusal.Busy _ one.1 in
-    let sure = neither (is_some core.opener || not (is_resting core.outs Dumper) || is_page_out core.outs) core.committing two.0 in
-    let pages = neither (is_some core.opener || not (is_resting core.outs Dumper)) (is_page_out core.outs) sure.0 in
-    let rests = neither (is_some core.opener) (not (is_resting core.outs Dumper)) pages.0 in
-    let has = not_false (has_checkpoint core) one.0 in
+    let sure = or_parts (is_some core.opener || not (is_resting core.outs Dumper) || is_page_out core.outs) core.committing two.0 in
+    let pages = or_parts (is_some core.opener || not (is_resting core.outs Dumper)) (is_page_out core.outs) sure.0 in
+    let rests = or_parts (is_some core.opener) (not (is_resting core.outs Dumper)) pages.0 in
+    let has = not-false (has_checkpoint core) one.0 in
     record {
       some = λ idle none.
           let no : false ≡ true = sym (ap (λ r. is_some r || is_some (pending (history_of core))) idle ∙ some_false (pending (history_of core)) none) ∙ has in cc;
       closed = none_some core.opener rests.0;
-      rests = rests_where (slice_get core.outs 0) (not_false (is_resting core.outs Dumper) rests.1);
+      rests = rests_where (slice_get core.outs 0) (not-false (is_resting core.outs Dumper) rests.1);
       pages = pages.1;
       sure = sure.1;
     }
@@ -81,12 +73,12 @@ pub may_reopen : (core : CoreView) → reopen_refusal core ≡ None → MayReope
 may_reopen core is =
     let one = first_no (is_in_use core) refusal.Busy _ is in
     let two = first_no (wants_entry core) refusal.JournalFull _ one.1 in
-    let out = neither (is_store_open core.standing || is_some core.opener) (not (are_resting core.outs)) one.0 in
-    let open_is = neither (is_store_open core.standing) (is_some core.opener) out.0 in
+    let out = or_parts (is_store_open core.standing || is_some core.opener) (not (are_resting core.outs)) one.0 in
+    let open_is = or_parts (is_store_open core.standing) (is_some core.opener) out.0 in
     record {
       closed = λ stands. let no : true ≡ false = ap is_store_open (sym stands) ∙ open_is.0 in cc;
       none = none_some core.opener open_is.1;
-      rest = not_false (are_resting core.outs) out.1;
+      rest = not-false (are_resting core.outs) out.1;
       free = λ none. some_free (ap (λ b. b && (free_entries core == 0)) (sym (none_true (pending (history_of core)) none)) ∙ two.0);
     }
   where

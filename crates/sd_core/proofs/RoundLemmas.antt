@@ -108,11 +108,9 @@ ids_at (a ∷ asked) (suc lane) request is = ids_at asked lane request is
 -- a request for a merged image in the making is on the merge's slot, or only looks
 copy_looks : (stage : CopyStage) (phases : List Phase) (bodies : List (List ℕ)) (store : Store) (beliefs : List Belief) (running : Option Running) (target : ℕ) (source : Image) (page : Option Place) (request : Asked)
     → IsAskedIn stage phases bodies store beliefs running target source page (Some request) → (request.id.slot ≡ target) ⊎ IsLook request.id.call
-copy_looks (copy_stage.Format plan) phases bodies store beliefs running target source page request is = inl is
-copy_looks copy_stage.Pass phases bodies store beliefs running target source page request is = inl is
 copy_looks (copy_stage.PageRead plan) phases bodies store beliefs running target source page request is = inr (subst IsLook (sym is.call) tt)
 copy_looks (copy_stage.PageWrite plan) phases bodies store beliefs running target source page request is = inl is.on
-copy_looks (copy_stage.Close plan header tables) phases bodies store beliefs running target source page request is = inl is
+copy_looks _ phases bodies store beliefs running target source page request is = inl is
 
 module _ (core : Parts) (view : CoreView) (sound : IsCore core) (outs : view.outs ≡ core.outs) (stands : view.standing ≡ core.standing) (merges : view.merger ≡ core.merger)
     (running : Running) (place : ℕ) (asked : List (Option Asked)) (bodies files : List (List ℕ)) (was : core.dumper.running ≡ Some running) (below : place < running.opened)

@@ -33,20 +33,17 @@ asked_in order (Format p) plan next request was gives is = record { stage_is = o
   where
     own : (slot : ℕ) → slot ≡ plan.slot → slot ≡ order.slot
     own slot same = same ∙ ap (λ (q : Planned). q.slot) (sym (same_Some p plan was)) ∙ is
-asked_in order Freeze plan next request was gives is = absurd (let no : None ≡ Some plan = was in cc)
-asked_in order PassStage plan next request was gives is = absurd (let no : None ≡ Some plan = was in cc)
 asked_in order (Close p header tables) plan next request was gives is =
     record { stage_is = (own next.slot gives.same_slot, is.1); slot = own request.id.slot gives.slot; out = gives.out }
   where
     own : (slot : ℕ) → slot ≡ plan.slot → slot ≡ order.slot
     own slot same = same ∙ ap (λ (q : Planned). q.slot) (sym (same_Some p plan was)) ∙ is.0
+asked_in order _ plan next request was gives is = absurd (let no : None ≡ Some plan = was in cc)
 
 pub visiting_asked : (items : Marked) (serial : ℕ) (pass : Pass) (stage : Stage) (next : Planned) → IsVisitingIn items serial pass stage
     → IsVisitingIn items serial pass (with_plan stage next)
-visiting_asked items serial pass (Format p) next is = is
-visiting_asked items serial pass Freeze next is = is
-visiting_asked items serial pass PassStage next is = is
 visiting_asked items serial pass (Close p header tables) next is = tt
+visiting_asked items serial pass _ next is = is
 
 -- ---- an outcome with which it goes on
 
@@ -62,13 +59,7 @@ slot_on p plan next slot was same is = same ∙ ap (λ (q : Planned). q.slot) (s
 format_behind : (items : Marked) (order : ImageOrder) (pass : Pass) (plan : Planned) (kind : Kind) → order.kind ≡ kind
     → IsBehind items order pass (Format plan) (stage_behind kind (Format plan))
 format_behind items order pass plan Dump is = record { stage_is = λ at. tt; rests = refl; frozen = refl; visiting_in = λ v. v }
-format_behind items order pass plan PreDump is = record {
-  stage_is = λ at. tt;
-  rests = refl;
-  frozen = ap (λ k. (kind_number k == 2) && true) is ∙ sym (ap (λ k. (kind_number k == 2) && false) is);
-  visiting_in = λ v. v;
-}
-format_behind items order pass plan Merged is = record {
+format_behind items order pass plan _ is = record {
   stage_is = λ at. tt;
   rests = refl;
   frozen = ap (λ k. (kind_number k == 2) && true) is ∙ sym (ap (λ k. (kind_number k == 2) && false) is);
@@ -80,15 +71,13 @@ pub behind : (items : Marked) (order : ImageOrder) (pass : Pass) (stage : Stage)
 behind items order pass (Format p) plan next [] was same rests closes = format_behind items order pass p order.kind refl
 behind items order pass (Format p) plan next (call ∷ calls) was same rests closes =
     record { stage_is = slot_on p plan next order.slot was same; rests = rests; frozen = refl; visiting_in = λ v. v }
-behind items order pass Freeze plan next calls was same rests closes = absurd (let no : None ≡ Some plan = was in cc)
-behind items order pass PassStage plan next calls was same rests closes = absurd (let no : None ≡ Some plan = was in cc)
 behind items order pass (Close p header tables) plan next [] was same rests closes = absurd (closes (λ is. cc) refl)
 behind items order pass (Close p header tables) plan next (call ∷ calls) was same rests closes =
     record { stage_is = λ at. (slot_on p plan next order.slot was same at.0, at.1); rests = rests; frozen = refl; visiting_in = λ v. tt }
+behind items order pass _ plan next calls was same rests closes = absurd (let no : None ≡ Some plan = was in cc)
 
 -- ---- its cursor
 
 pub copied_after : (old new : Pass) (memory : Contents) (copied : Copied) → Copies old memory copied new → new.after ≡ old.after
 copied_after old new memory More copies = ap (λ (p : Pass). p.after) copies.is
-copied_after old new memory Zero copies = ap (λ (p : Pass). p.after) copies.is
-copied_after old new memory Gone copies = ap (λ (p : Pass). p.after) copies.is
+copied_after old new memory _ copies = ap (λ (p : Pass). p.after) copies.is

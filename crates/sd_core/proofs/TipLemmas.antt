@@ -3,6 +3,7 @@ use Rattle.std.proofs.Common.{◌≡◌, ℕ, zero, suc, ◌||◌, Bool, true, f
 use Rattle.std.specs.List.{list_any}
 use Rattle.std.proofs.lemmas.List.Folds.{list_any_none}
 use Rattle.std.proofs.lemmas.Option.{same_Some, slice_get-get_or}
+use Rattle.std.proofs.Math.Bool.{or-true}
 use Rattle.sd_chain.specs.Catalog.{IsNewestChoice, Opened, Places, images, serial_of}
 use Rattle.sd_image.specs.declared.header.Kind.{Kind}
 use Rattle.sd_image.specs.declared.header.Kind.TheVariants.{PreDump, Dump, Merged}
@@ -13,22 +14,17 @@ restored i = is_restored i.header.kind
 
 restored_kind : (kind : Kind) → (kind ≡ PreDump → ⊥) → is_restored kind ≡ true
 restored_kind PreDump other = absurd (other refl)
-restored_kind Dump other = refl
-restored_kind Merged other = refl
+restored_kind _ other = refl
 
 not_restored : (kind : Kind) → ((kind ≡ PreDump → ⊥) → ⊥) → is_restored kind ≡ false
 not_restored PreDump not_other = refl
 not_restored Dump not_other = absurd (not_other (λ is. (let no : Dump ≡ PreDump = is in cc)))
 not_restored Merged not_other = absurd (not_other (λ is. (let no : Merged ≡ PreDump = is in cc)))
 
-or_true : (one : Bool) → (one || true) ≡ true
-or_true true = refl
-or_true false = refl
-
 any_at : (all : List Opened) (place : ℕ) (i : Opened) → slice_get all place ≡ Some i → restored i ≡ true → list_any restored all ≡ true
 any_at [] place i at is = absurd (let no : None ≡ Some i = at in cc)
 any_at (x ∷ all) zero i at is = ap (λ b. b || list_any restored all) (ap restored (same_Some x i at) ∙ is)
-any_at (x ∷ all) (suc place) i at is = ap (λ b. restored x || b) (any_at all place i at is) ∙ or_true (restored x)
+any_at (x ∷ all) (suc place) i at is = ap (λ b. restored x || b) (any_at all place i at is) ∙ or-true (restored x)
 
 pub tip_is_some : (places : Places) (chosen : Option (Bor Opened)) → IsNewestChoice (images places) chosen → is_some chosen ≡ has_tip places
 tip_is_some places None none = sym (list_any_none restored (images places) (λ k d within. not_restored _ (none k d within)))

@@ -189,10 +189,8 @@ module _ (laws : TrimLaws) (marked_laws : MarkedTrimLaws) (tracked_laws : Tracke
       record { started = now; cursor = marked_laws.cursor_stays core.base kept front n serial was.marked f now ∙ v.cursor }
 
   visiting_in : (serial : ℕ) (pass : Pass) (stage : Stage) → IsVisitingIn (kept ++ front) serial pass stage → IsVisitingIn kept serial pass stage
-  visiting_in serial pass (Format plan) v = visiting_kept serial pass v
-  visiting_in serial pass FreezeStage v = visiting_kept serial pass v
-  visiting_in serial pass PassStage v = visiting_kept serial pass v
   visiting_in serial pass (Close plan header tables) v = tt
+  visiting_in serial pass _ v = visiting_kept serial pass v
 
   image : (making : Making) → IsImageInMaking core.journal.items core.places core.numbers making → IsImageInMaking kept core.places core.numbers making
   image making is = record {

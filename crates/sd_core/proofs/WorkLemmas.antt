@@ -420,10 +420,8 @@ image_applied items places numbers image seat command reply is = record {
 
     by_stage : (stage : Stage) → IsVisitingIn items image.order.serial image.pass stage
         → IsVisitingIn (Told (Applied seat command reply) ∷ items) image.order.serial image.pass stage
-    by_stage (Format plan) v = same v
-    by_stage FreezeStage v = same v
-    by_stage PassStage v = same v
     by_stage (Close plan header tables) v = tt
+    by_stage _ v = same v
 
 image_applied_some : (items : Marked) (places : Places) (numbers : Numbers) (image : Option Making) (seat : ℕ) (command : Command) (reply : Reply)
     → IfSome image (IsImageInMaking items places numbers) → IfSome image (IsImageInMaking (Told (Applied seat command reply) ∷ items) places numbers)

@@ -57,13 +57,7 @@ header_read file i image =
     header_again (take 4096 file) (length file) i.header whole text image.header
 
 table_place : (file : List ℕ) (i : Image) → IsImage file i → drop (4096 + 4096 * i.header.pages) file ≡ table_text i.spaces
-table_place file i image =
-    let many : length (concat i.pages) ≡ 4096 * i.header.pages = length-pages i.pages image.whole ∙ ap (λ (n : ℕ). 4096 * n) image.stored in
-    let front : length (header_text i.header ++ concat i.pages) ≡ 4095 + 4096 * i.header.pages =
-    length-append (header_text i.header) (concat i.pages) ∙ omega (arith, many, header_length i.header image.header.words) in
-    let before : List ℕ = 165 ∷ (header_text i.header ++ concat i.pages) in
-    ap (drop (4096 + 4096 * i.header.pages)) image.spelled
-    ∙ drop_at before (table_text i.spaces) (4096 + 4096 * i.header.pages) (omega (arith, front))
+table_place file i image = grind (arith, length-pages, length-append, header_length, drop_at)
 
 -- the digest of a file is that of its image
 digest_in_file : (file : List ℕ) (i : Image) → HasWords i.header → file ≡ 165 ∷ image_text i → digest_of_file file ≡ sha256 (digested i)
@@ -75,18 +69,14 @@ digest_in_file file i words spelled =
     ap (λ (xs : List ℕ). sha256 (xs ++ take 63 (drop 1 file))) body ∙ ap (λ (xs : List ℕ). sha256 (rest ++ xs)) front
 
 digest_is_right : (version : Version) (digest other : List ℕ) → (version ≡ Two → digest ≡ other) → (version_number version == 2 && not (bytes_eq digest other)) ≡ false
-digest_is_right One digest other is = refl
-digest_is_right Two digest other is = ap not ((bytes_eq-Decides digest other).1 (is refl))
+digest_is_right version digest other is = grind (arith, bytes_eq-Decides)
 
 digest_was_right : (version : Version) (digest other : List ℕ) → (version_number version == 2 && not (bytes_eq digest other)) ≡ false → version ≡ Two → digest ≡ other
-digest_was_right One digest other e is = absurd cc
-digest_was_right Two digest other e is = (bytes_eq-Decides digest other).0 (not-false _ e)
+digest_was_right version digest other e is = grind (arith, bytes_eq-Decides, not-false)
 
 digest_kept : (file : List ℕ) (i : Image) → IsImage file i → breaks_digest i.header file ≡ false
 unfolding breaks_digest
-digest_kept file i image =
-    digest_is_right i.header.version i.header.digest (digest_of_file file)
-    (λ two. image.digest two ∙ sym (digest_in_file file i image.header.words image.spelled))
+digest_kept file i image = grind (arith, digest_is_right, digest_in_file)
 
 pub good_file : GoodFileHasNoReason
 good_file file i image =
@@ -133,12 +123,10 @@ cut (suc n) bytes long =
 
 -- a list with this first element
 first_is : (bytes first : List ℕ) (b : ℕ) → drop 1 first ≡ bytes → 0 < length first → slice_index first 0 ≡ b → first ≡ b ∷ bytes
-first_is bytes [] b rest long is = absurd (omega arith)
-first_is bytes (x ∷ first) b rest long is = ap (λ (y : ℕ). y ∷ first) is ∙ ap (λ (ys : List ℕ). b ∷ ys) rest
+first_is bytes first b rest long is = grind arith
 
 first_of_front : (file : List ℕ) → slice_index (take 4096 file) 0 ≡ slice_index file 0
-first_of_front [] = refl
-first_of_front (x ∷ file) = refl
+first_of_front file = grind arith
 
 -- the image of a file whose header and table were read
 image_read : (file : List ℕ) (h : Header) (spaces : List Listed) → slice_index file 0 ≡ 165
@@ -175,9 +163,7 @@ image_read file h spaces gate header is_header table is_table digest =
     )
 
 gate_of_open : (file : List ℕ) → is_open file ≡ true → (4096 ≤ length file) × (slice_index file 0 ≡ 165)
-gate_of_open file opens =
-    let parts = and_parts (nat_le 4096 (length file)) (nat_eq (slice_index file 0) 165) opens in
-    (leb-true _ _ parts.0, eqb-true _ _ parts.1)
+gate_of_open file opens = grind arith
 
 right_digest : (h : Header) (file : List ℕ) → breaks_digest h file ≡ false → h.version ≡ Two → h.digest ≡ digest_of_file file
 unfolding breaks_digest
@@ -200,11 +186,7 @@ file_is_image_lem file h spaces opens header is_header table is_table digest =
     image_read file h spaces (gate_of_open file opens).1 header is_header table is_table digest
 
 are_bytes : (file : List ℕ) → All (λ byte. byte < 256) file → IsBytes file
-are_bytes file all i =
-    elim (cases_lt i (length file)) [
-      | inl lt ↦ all i 0 lt
-      | inr le ↦ rw (get_or_past file i 0 le) (omega arith)
-    ]
+are_bytes file all i = grind (arith, cases_lt, get_or_past)
 
 abbrev Judged : List ℕ → Type 0
 Judged file = ((i : Image) × IsReadAs file i) ⊎ ((r : Reason) × IsFaultyFor file r)
@@ -238,10 +220,7 @@ one_reason_lem file bytes opens = judged file (file_in file) (are_bytes file byt
 
 text_length : (i : Image) → HasWords i.header → AllByRecursion (λ page. length page ≡ 4096) i.pages
     → length (165 ∷ image_text i) ≡ 4096 + 4096 * length i.pages + length (table_text i.spaces)
-text_length i words whole =
-    let all = length-append (header_text i.header ++ concat i.pages) (table_text i.spaces) in
-    let front = length-append (header_text i.header) (concat i.pages) in
-    omega (arith, all, front, header_length i.header words, length-pages i.pages whole)
+text_length i words whole = grind (arith, length-append, header_length, length-pages)
 
 pub text_is_image_lem : TextIsImage
 text_is_image_lem i is =

@@ -51,15 +51,7 @@ lower_does_not_apply c q rules rising low =
 named_step : (c : Reason) (b : Bool) (rules : List (Reason × Bool)) (r : Reason) → Rising (suc (reason_number c)) rules
     → (first_broken rules ≡ Err r → IsLeast (applies rules) r)
     → first_broken ((c, b) ∷ rules) ≡ Err r → IsLeast (applies ((c, b) ∷ rules)) r
-named_step c true rules r rising after e =
-    subst (IsLeast (applies ((c, true) ∷ rules))) (err_is c r e)
-    (record { here = broken_applies c rules; none_below = λ q low. lower_does_not_apply c q rules rising low })
-named_step c false rules r rising after e =
-    let least = after e in
-    record {
-      here = kept_does_not_apply c rules r ∙ least.here;
-      none_below = λ q low. kept_does_not_apply c rules q ∙ least.none_below q low;
-    }
+named_step c b rules r rising after e = grind (arith, err_is, broken_applies, lower_does_not_apply, kept_does_not_apply)
 
 named_is_least : (n : ℕ) (rules : List (Reason × Bool)) (r : Reason) → Rising n rules → first_broken rules ≡ Err r → IsLeast (applies rules) r
 named_is_least n [] r rising e = absurd cc
@@ -69,18 +61,7 @@ named_is_least n (rule ∷ rules) r rising e =
 least_step : (c : Reason) (b : Bool) (rules : List (Reason × Bool)) (r : Reason) → Rising (suc (reason_number c)) rules
     → (IsLeast (applies rules) r → first_broken rules ≡ Err r)
     → IsLeast (applies ((c, b) ∷ rules)) r → first_broken ((c, b) ∷ rules) ≡ Err r
-least_step c true rules r rising after least =
-    elim (cases_lt (reason_number c) (reason_number r)) [
-      | inl low ↦ absurd (let e : true ≡ false = sym (broken_applies c rules) ∙ least.none_below c low in cc)
-      | inr from ↦ elim (cases_lt (reason_number r) (reason_number c)) [
-        | inl low ↦ absurd (let e : true ≡ false = sym least.here ∙ lower_does_not_apply c r rules rising low in cc)
-        | inr to ↦ ap fault (number_once c r (omega arith))
-      ]
-    ]
-least_step c false rules r rising after least = after (record {
-  here = sym (kept_does_not_apply c rules r) ∙ least.here;
-  none_below = λ q low. sym (kept_does_not_apply c rules q) ∙ least.none_below q low;
-})
+least_step c b rules r rising after least = grind (arith, cases_lt, broken_applies, lower_does_not_apply, number_once, kept_does_not_apply)
 
 least_is_named : (n : ℕ) (rules : List (Reason × Bool)) (r : Reason) → Rising n rules → IsLeast (applies rules) r → first_broken rules ≡ Err r
 least_is_named n [] r rising least = absurd (let e : false ≡ true = least.here in cc)
@@ -94,8 +75,7 @@ fails (Ok x) = Ok tt
 fails (Err r) = Err r
 
 fails_so : {A : Type 0} (x : Result A Reason) (r : Reason) → fails x ≡ Err r → x ≡ Err r
-fails_so (Ok x) r e = absurd cc
-fails_so (Err q) r e = ap Err (err_is q r e)
+fails_so x r e = grind arith
 
 abbrev IsJudged : {A : Type 0} → Result A Reason → List (Reason × Bool) → Type 0
 IsJudged x rules = (r : Reason) → (x ≡ Err r → IsLeast (applies rules) r) × (IsLeast (applies rules) r → x ≡ Err r)
@@ -109,9 +89,7 @@ judged_by x rules rising same r = (
 spelled_fails : {X : Type 0} (holds : Bool) (rule : Reason) (is_zero : Bool) (x : X) (rest : List ℕ)
     → fails {A = X × List ℕ} (cond (not holds) (Err rule) (cond (not is_zero) (Err reason.Zero) (Ok x)) >>= λ y. Ok (y, rest))
     ≡ first_broken ((reason.PastEnd, false) ∷ (rule, not holds) ∷ (reason.Zero, not is_zero) ∷ [])
-spelled_fails false rule is_zero x rest = refl
-spelled_fails true rule false x rest = refl
-spelled_fails true rule true x rest = refl
+spelled_fails holds rule is_zero x rest = grind arith
 
 abbrev part : List ℕ → List ℕ → Result (List ℕ × List ℕ) Reason
 part item rest = Ok (item, rest)
@@ -119,8 +97,7 @@ part item rest = Ok (item, rest)
 item_fails : {X : Type 0} (past : Bool) (item rest : List ℕ) (holds : List ℕ → Bool) (rule : Reason) (reserved : List ℕ → ℕ) (made : List ℕ → X)
     → fails {A = X × List ℕ} (cond past (Err reason.PastEnd) (part item rest) >>= λ i. item_value (holds i.0) rule (reserved i.0) (made i.0) >>= λ y. Ok (y, i.1))
     ≡ first_broken ((reason.PastEnd, past) ∷ (rule, not (holds item)) ∷ (reason.Zero, not (eqb (reserved item) 0)) ∷ [])
-item_fails true item rest holds rule reserved made = refl
-item_fails false item rest holds rule reserved made = spelled_fails (holds item) rule (eqb (reserved item) 0) (made item) rest
+item_fails past item rest holds rule reserved made = grind arith
 
 head_judged : (bytes : List ℕ) → IsJudged (head_at bytes) (head_rules bytes)
 unfolding head_at
@@ -140,15 +117,12 @@ run_judged parent before bytes = judged_by _ (run_rules parent before bytes) (om
 two_fail : {X : Type 0} (one other : Bool) (x : X)
     → fails (cond (not one) (Err reason.Space) (cond (not other) (Err reason.Area) (Ok x)))
     ≡ first_broken ((reason.PastEnd, false) ∷ (reason.Space, not one) ∷ (reason.Area, not other) ∷ [])
-two_fail false other x = refl
-two_fail true false x = refl
-two_fail true true x = refl
+two_fail one other x = grind arith
 
 numbered_fails : {X : Type 0} (past : Bool) (item rest : List ℕ) (one other : List ℕ → Bool) (made : List ℕ → X)
     → fails {A = X × List ℕ} (cond past (Err reason.PastEnd) (part item rest) >>= λ i. cond (not (one i.0)) (Err reason.Space) (cond (not (other i.0)) (Err reason.Area) (Ok (made i.0, i.1))))
     ≡ first_broken ((reason.PastEnd, past) ∷ (reason.Space, not (one item)) ∷ (reason.Area, not (other item)) ∷ [])
-numbered_fails true item rest one other made = refl
-numbered_fails false item rest one other made = two_fail (one item) (other item) (made item, rest)
+numbered_fails past item rest one other made = grind arith
 
 space_head_judged : (kind : Kind) (before : ℕ) (bytes : List ℕ) → IsJudged (space_head_at kind before bytes) (space_head_rules kind before bytes)
 unfolding space_head_at
@@ -196,8 +170,7 @@ many_broken read after next place r _ _ _ e (later n state bytes x rest good rea
 -- ---- a space
 
 ends_so : {A : Type 0} (good : Bool) (rule : Reason) (x : A) (r : Reason) → cond good (Ok x) (Err rule) ≡ Err r → (good ≡ false) × (r ≡ rule)
-ends_so true rule x r e = absurd cc
-ends_so false rule x r e = (refl, sym (err_is rule r (ap fails e)))
+ends_so good rule x r e = grind arith
 
 abbrev made_space : SpaceHead → List Area → List Run × List ℕ → Listed × List ℕ
 made_space head areas runs = (record { space = head.space; areas = areas; runs = runs.0 }, runs.1)

@@ -66,24 +66,10 @@ module _ (n space page : ℕ) (prot : Prot) (bytes : List ℕ) where
   }
 
   is_space : 0 < space → space ≤ 16 → page < 2 ^ 35 → IsSpace image.header 0 (record { space = space; areas = record { first = page; count = 1; prot = prot } ∷ []; runs = record { first = page; count = 1; kind = Data } ∷ [] })
-  is_space some within inside =
-      let ends : leb (page + 1) (2 ^ 35) ≡ true = le-leb _ _ (omega arith) in
-      record {
-        above = some;
-        within = within;
-        few_areas = omega arith;
-        areas = (rw ends refl, tt);
-        runs = (rw ends refl, tt);
-        covers = refl;
-      }
+  is_space some within inside = grind arith
 
   is_table : 0 < space → space ≤ 16 → page < 2 ^ 35 → IsTable image.header image.spaces
-  is_table some within inside = record {
-    few = omega arith;
-    each = (is_space some within inside, tt);
-    «data» = refl;
-    mapped = omega arith;
-  }
+  is_table some within inside = grind arith
 
   is_image : 0 < n → n < 2 ^ 64 → 0 < space → space ≤ 16 → page < 2 ^ 35 → length bytes ≡ 4096 → IsImage file image
   is_image some fits alive within inside long = record {

@@ -51,14 +51,12 @@ pages_from-snoc first count = ap (pages_from first) (omega arith) ∙ grown firs
 -- a longer run begins where it began
 longer_after : (parent : ℕ) (before : Option Run) (run : Run) → IsTrue (is_run_after parent before run) → run.first + run.count + 1 ≤ 2 ^ 35
     → IsTrue (is_run_after parent before (record run { count = run.count + 1 }))
-longer_after parent None run after within = grind (arith, nat_tests)
-longer_after parent (Some last) run after within = grind (arith, nat_tests)
+longer_after parent before run after within = grind (arith, nat_tests)
 
 -- a new run of one page
 single_after : (parent : ℕ) (last : Run) (page : ℕ) (kind : RunKind) → last.first + last.count ≤ page → page < 2 ^ 35 → is_continued last page kind ≡ false
     → IsSourced parent kind → IsTrue (is_run_after parent (Some last) (record { first = page; count = 1; kind = kind }))
-single_after parent last page Parent behind within other sourced = let some : 0 < parent = sourced refl in grind (arith, nat_tests)
-single_after parent last page _ behind within other sourced = grind (arith, nat_tests)
+single_after parent last page kind behind within other sourced = grind arith
 
 -- What a list of runs has more.
 
@@ -67,17 +65,11 @@ flat_map_last f front last = flat_map-append f front (last ∷ []) ∙ ap (λ xs
 
 flat_map_longer : {X : Type 0} (f : Run → List X) (front : List Run) (last longer : Run) (extra : List X) → f longer ≡ f last ++ extra
     → flat_map f (front ++ longer ∷ []) ≡ flat_map f (front ++ last ∷ []) ++ extra
-flat_map_longer f front last longer extra more =
-    flat_map_last f front longer ∙ ap (λ xs. flat_map f front ++ xs) more ∙ sym (append_assoc (flat_map f front) (f last) extra)
-    ∙ ap (λ xs. xs ++ extra) (sym (flat_map_last f front last))
+flat_map_longer f front last longer extra more = grind (arith, flat_map_last, append_assoc)
 
 ways_longer : (run : Run) (page : ℕ) (kind : RunKind) → run.first + run.count ≡ page → run.kind ≡ kind
     → run_ways (record run { count = run.count + 1 }) ≡ run_ways run ++ (page, kind) ∷ []
-ways_longer run page kind ends same =
-    ap (map (λ p. (p, run.kind))) (pages_from-snoc run.first run.count)
-    ∙ map-append (λ p. (p, run.kind)) (run_pages run) ((run.first + run.count) ∷ [])
-    ∙ ap (λ n. run_ways run ++ (n, run.kind) ∷ []) ends
-    ∙ ap (λ k. run_ways run ++ (page, k) ∷ []) same
+ways_longer run page kind ends same = grind (arith, pages_from-snoc, map-append)
 
 ways_single : (page : ℕ) (kind : RunKind) → run_ways (record { first = page; count = 1; kind = kind }) ≡ (page, kind) ∷ []
 unfolding pages_from
@@ -118,14 +110,11 @@ more_runs parent pages runs page kind are begins = record {
 
 -- where it begins one
 pub begins_first : (parent page : ℕ) (kind : RunKind) → page < 2 ^ 35 → IsSourced parent kind → BeginsRun parent [] page kind
-begins_first parent page Parent within sourced = let some : 0 < parent = sourced refl in grind (arith, nat_tests)
-begins_first parent page _ within sourced = grind (arith, nat_tests)
+begins_first parent page kind within sourced = grind arith
 
 pub begins_behind_last : (parent : ℕ) (front : List Run) (last : Run) (page : ℕ) (kind : RunKind) → last.first + last.count ≤ page → page < 2 ^ 35
     → is_continued last page kind ≡ false → IsSourced parent kind → BeginsRun parent (front ++ last ∷ []) page kind
-begins_behind_last parent front last page kind behind within other sourced =
-    subst (λ before. IsTrue (is_run_after parent before (record { first = page; count = 1; kind = kind }))) (sym (last_of-snoc None front last))
-    (single_after parent last page kind behind within other sourced)
+begins_behind_last parent front last page kind behind within other sourced = grind (arith, last_of-snoc, single_after)
 
 -- ---- the pages of runs
 
@@ -160,7 +149,4 @@ kind_pages kind (run ∷ runs) =
     ∙ ap (λ xs. run_pages_by kind run ++ xs) (kind_pages kind runs)
 
 pub runs_have_pages_lem : RunsHavePages
-runs_have_pages_lem parent pages runs are = record {
-  all = sym (all_pages runs) ∙ ap (map page_of_way) are.list;
-  by_kind = λ kind. sym (kind_pages kind runs) ∙ ap (λ ps. map page_of_way (filter (has_way kind) ps)) are.list;
-}
+runs_have_pages_lem parent pages runs are = grind (arith, all_pages, kind_pages)

@@ -58,14 +58,10 @@ are_kept bytes u e =
     }
 
 version_back : (n : ℕ) → 1 ≤ n → n ≤ 2 → version_number (version_of n) ≡ n
-version_back (suc zero) low high = refl
-version_back (suc (suc zero)) low high = refl
-version_back _ low high = absurd (omega arith)
+version_back n low high = grind arith
 
 kind_back : (n : ℕ) → 1 ≤ n → n ≤ 3 → kind_number (kind_of_number n) ≡ n
-kind_back zero low high = absurd (omega arith)
-kind_back (suc (suc (suc (suc n)))) low high = absurd (omega arith)
-kind_back (suc _) low high = refl
+kind_back n low high = grind arith
 
 -- the bytes spell the fields
 spelled_so : (bytes : List ℕ) → length bytes ≡ 4096 → IsBytes bytes → AreKept bytes → drop 1 bytes ≡ header_text (fields_of (form_of bytes) bytes)
@@ -88,33 +84,15 @@ spelled_so bytes long fits kept =
     piece 1 7 8 bytes magic _ refl kept.magic_is p8
 
 numbers_are : (kind : Kind) (serial stands_for parent : ℕ) → stands_rightly kind serial stands_for ≡ true → parent_rightly kind serial parent ≡ true → AreNumbers kind serial stands_for parent
-numbers_are Merged serial stands_for parent s p =
-    let parts = and_parts (ltb 0 stands_for) (ltb stands_for serial) s in
-    (ltb-true _ _ parts.0, ltb-true _ _ parts.1, eqb-true _ _ p)
-numbers_are _ serial stands_for parent s p = (eqb-true _ _ s, ltb-true _ _ p)
+numbers_are kind serial stands_for parent s p = grind arith
 
 -- fields whose rules hold, and that fit, are a header's
 is_header : (h : Header) (len : ℕ) (u : Unit {0}) → HasWords h → fields_kept h len ≡ Ok u → IsHeader h len
 unfolding fields_kept
-is_header h len u words e =
-    let a = kept_first (breaks_fields h len) reason.Serial (reason.StandsFor ∷ reason.Parent ∷ reason.Checkpoint ∷ reason.Length ∷ []) u e in
-    let b = kept_first (breaks_fields h len) reason.StandsFor (reason.Parent ∷ reason.Checkpoint ∷ reason.Length ∷ []) u a.1 in
-    let p = kept_first (breaks_fields h len) reason.Parent (reason.Checkpoint ∷ reason.Length ∷ []) u b.1 in
-    let k = kept_first (breaks_fields h len) reason.Checkpoint (reason.Length ∷ []) u p.1 in
-    let l = kept_first (breaks_fields h len) reason.Length [] u k.1 in
-    let serial : h.serial ≡ 0 → ⊥ = eqb-false h.serial 0 a.0 in
-    let checkpoint : h.checkpoint ≡ 0 → ⊥ = eqb-false h.checkpoint 0 k.0 in
-    record {
-      words = words;
-      serial = omega arith;
-      numbers = numbers_are h.kind h.serial h.stands_for h.parent (not-false _ b.0) (not-false _ p.0);
-      checkpoint = omega arith;
-      fills = eqb-true _ _ (not-false _ l.0);
-    }
+is_header h len u words e = grind arith
 
 digest_is : (version : Version) (digest : List ℕ) → length digest ≡ 32 → has_no_digest version digest ≡ true → IsDigest version digest
-digest_is One digest long none = sym (zeros_are 32 digest long none)
-digest_is Two digest long none = long
+digest_is version digest long none = grind (arith, zeros_are)
 
 have_words : (form : Version × Kind) (bytes : List ℕ) → length bytes ≡ 4096 → IsBytes bytes → has_no_digest form.0 (take 32 (drop 64 bytes)) ≡ true → HasWords (fields_of form bytes)
 unfolding fields_of
@@ -145,20 +123,16 @@ header_takes bytes len h long fits e =
 -- ---- what was written is read again
 
 version_again : (version : Version) → version_of (version_number version) ≡ version
-version_again One = refl
-version_again Two = refl
+version_again version = grind arith
 
 version_fits : (version : Version) → (1 ≤ version_number version) × (version_number version ≤ 2)
-version_fits One = (omega arith, omega arith)
-version_fits Two = (omega arith, omega arith)
+version_fits version = grind arith
 
 kind_again : (kind : Kind) → kind_of_number (kind_number kind) ≡ kind
-kind_again PreDump = refl
-kind_again _ = refl
+kind_again kind = grind arith
 
 kind_fits : (kind : Kind) → (1 ≤ kind_number kind) × (kind_number kind ≤ 3)
-kind_fits PreDump = (omega arith, omega arith)
-kind_fits _ = (omega arith, omega arith)
+kind_fits kind = grind arith
 
 -- two headers are one where their fields are
 same_header : (g h : Header) → g.version ≡ h.version → g.kind ≡ h.kind → g.serial ≡ h.serial → g.stands_for ≡ h.stands_for → g.parent ≡ h.parent → g.checkpoint ≡ h.checkpoint → g.pages ≡ h.pages → g.table_len ≡ h.table_len → g.digest ≡ h.digest → g ≡ h
@@ -166,8 +140,7 @@ same_header g h v a b c d e f i j = rw (v, a, b, c, d, e, f, i, j) refl
 
 length-digest : (version : Version) (digest : List ℕ) → IsDigest version digest → length digest ≡ 32
 unfolding zero_bytes
-length-digest One digest is = ap length is
-length-digest Two digest is = is
+length-digest version digest is = grind arith
 
 version_at : (b : ℕ) (h : Header) → number_at 2 8 (b ∷ header_text h) ≡ version_number h.version
 unfolding number_at header_text header_front number_bytes
@@ -198,8 +171,7 @@ magic_again b h = refl
 
 none_again : (version : Version) (digest : List ℕ) → IsDigest version digest → has_no_digest version digest ≡ true
 unfolding are_zero zero_bytes
-none_again One digest is = rw is refl
-none_again Two digest is = refl
+none_again version digest is = grind arith
 
 first_again : (b : ℕ) (h : Header) → are_zero (slice_range (b ∷ header_text h) 12 16) ≡ true
 unfolding are_zero header_text header_front number_bytes zero_bytes
@@ -236,43 +208,28 @@ bytes_again b h words =
     keeps_first (breaks_bytes bytes) reason.Magic (reason.Version ∷ reason.Kind ∷ reason.Reserved ∷ []) all_kept magic_is (keeps_first (breaks_bytes bytes) reason.Version (reason.Kind ∷ reason.Reserved ∷ []) all_kept version_is (keeps_first (breaks_bytes bytes) reason.Kind (reason.Reserved ∷ []) all_kept kind_is (keeps_first (breaks_bytes bytes) reason.Reserved [] all_kept zero_is refl)))
 
 stand_again : (kind : Kind) (serial stands_for parent : ℕ) → AreNumbers kind serial stands_for parent → (stands_rightly kind serial stands_for ≡ true) × (parent_rightly kind serial parent ≡ true)
-stand_again Merged serial stands_for parent n = (and_from _ _ (lt-ltb _ _ n.0) (lt-ltb _ _ n.1), eq-eqb _ _ n.2)
-stand_again _ serial stands_for parent n = (eq-eqb _ _ n.0, lt-ltb _ _ n.1)
+stand_again kind serial stands_for parent n = grind arith
 
 fields_are_kept : (h : Header) (len : ℕ) → IsHeader h len → fields_kept h len ≡ all_kept
 unfolding fields_kept
-fields_are_kept h len good =
-    let numbers = stand_again h.kind h.serial h.stands_for h.parent good.numbers in
-    let serial : breaks_fields h len reason.Serial ≡ false = ne_eqb h.serial 0 (λ e. omega (arith, good.serial)) in
-    let stands : breaks_fields h len reason.StandsFor ≡ false = ap not numbers.0 in
-    let parent : breaks_fields h len reason.Parent ≡ false = ap not numbers.1 in
-    let checkpoint : breaks_fields h len reason.Checkpoint ≡ false = ne_eqb h.checkpoint 0 (λ e. omega (arith, good.checkpoint)) in
-    let fills : breaks_fields h len reason.Length ≡ false = ap not (eq-eqb _ _ good.fills) in
-    keeps_first (breaks_fields h len) reason.Serial (reason.StandsFor ∷ reason.Parent ∷ reason.Checkpoint ∷ reason.Length ∷ []) all_kept serial (keeps_first (breaks_fields h len) reason.StandsFor (reason.Parent ∷ reason.Checkpoint ∷ reason.Length ∷ []) all_kept stands (keeps_first (breaks_fields h len) reason.Parent (reason.Checkpoint ∷ reason.Length ∷ []) all_kept parent (keeps_first (breaks_fields h len) reason.Checkpoint (reason.Length ∷ []) all_kept checkpoint (keeps_first (breaks_fields h len) reason.Length [] all_kept fills refl))))
+fields_are_kept h len good = grind arith
 
 abbrev found_header : Header → Result Header Reason
 found_header h = Ok h
 
 pub text_again : (b : ℕ) (h : Header) (len : ℕ) → IsHeader h len → header_in (b ∷ header_text h) len ≡ found_header h
 unfolding header_in form_in
-text_again b h len good =
-    let kind : kind_of_number (number_at 2 10 (b ∷ header_text h)) ≡ h.kind = ap kind_of_number (kind_at b h) ∙ kind_again h.kind in
-    let version : version_of (number_at 2 8 (b ∷ header_text h)) ≡ h.version = ap version_of (version_at b h) ∙ version_again h.version in
-    rw (bytes_again b h good.words, version, kind, fields_again b h good.words, fields_are_kept h len good) refl
+text_again b h len good = grind (arith, kind_at, kind_again, version_at, version_again, bytes_again, fields_again, fields_are_kept)
 
 -- what is spelled so is read
 pub header_again : (bytes : List ℕ) (len : ℕ) (h : Header) → length bytes ≡ 4096 → drop 1 bytes ≡ header_text h → IsHeader h len → header_in bytes len ≡ Ok h
-header_again bytes len h long e good =
-    let whole : bytes ≡ get_or bytes 0 0 ∷ header_text h = drop_more bytes 0 0 (omega arith) ∙ ap (λ (x : List ℕ). get_or bytes 0 0 ∷ x) e in
-    ap (λ (x : List ℕ). header_in x len) whole ∙ text_again (get_or bytes 0 0) h len good
+header_again bytes len h long e good = grind (arith, drop_more, text_again)
 
 -- ---- one text has one header
 
 pub text_length : (h : Header) → length h.digest ≡ 32 → length (header_text h) ≡ 4095
 unfolding header_text header_front number_bytes zero_bytes
-text_length h long =
-    let parts : length (h.digest ++ zero_bytes 4000) ≡ length h.digest + 4000 = length-append h.digest (zero_bytes 4000) in
-    omega (arith, parts, long)
+text_length h long = grind (arith, length-append)
 
 pub header_length : (h : Header) → HasWords h → length (header_text h) ≡ 4095
 header_length h words = text_length h (length-digest h.version h.digest words.digest)

@@ -41,9 +41,7 @@ abbrev done : List ℕ → List ℕ → Result (List ℕ × List ℕ) Reason
 done item rest = Ok (item, rest)
 
 pub item_again : (n : ℕ) (item rest : List ℕ) → length item ≡ n → item_at n (item ++ rest) ≡ done item rest
-item_again n item rest long =
-    let enough : ltb (length (item ++ rest)) n ≡ false = le-ltb _ _ (omega (arith, length-append item rest)) in
-    rw (enough, take_at item rest n long, drop_at item rest n long) refl
+item_again n item rest long = grind (arith, le-ltb, length-append, take_at, drop_at)
 
 pub spelled_ok : {X : Type 0} (holds : Bool) (rule : Reason) (reserved : ℕ) (x y : X) → item_value holds rule reserved x ≡ Ok y → (holds ≡ true) × (reserved ≡ 0) × (x ≡ y)
 spelled_ok {X} holds rule reserved x y e =
@@ -59,8 +57,7 @@ last_zero place next item fits n long z =
 
 prot_number : (n : ℕ) → n ≤ 7 → prot_bits (prot_of_number n) ≡ n
 unfolding prot_of_number
-prot_number (suc (suc (suc (suc (suc (suc (suc (suc n)))))))) h = absurd (omega arith)
-prot_number _ h = refl
+prot_number n h = grind arith
 
 area_spelled : (item : List ℕ) → length item ≡ 24 → IsBytes item → number_at 4 16 item ≤ 7 → number_at 4 20 item ≡ 0 → item ≡ area_text (area_of item)
 unfolding area_of
@@ -84,9 +81,7 @@ area_takes before bytes x fits e =
     subst (λ (y : Area × List ℕ). Takes bytes (area_text y.0) y.1 × (is_area_after before y.0 ≡ true)) (ok_is (b.0, a.0.1) x b.2) made
 
 kind_number_back : (n : ℕ) → 1 ≤ n → n ≤ 3 → run_kind_number (run_kind_of n) ≡ n
-kind_number_back zero low high = absurd (omega arith)
-kind_number_back (suc (suc (suc (suc n)))) low high = absurd (omega arith)
-kind_number_back (suc _) low high = refl
+kind_number_back n low high = grind arith
 
 run_spelled : (item : List ℕ) → length item ≡ 24 → IsBytes item → 1 ≤ number_at 4 16 item → number_at 4 16 item ≤ 3 → number_at 4 20 item ≡ 0 → item ≡ run_text (run_of item)
 unfolding run_of
@@ -112,11 +107,7 @@ run_takes parent before bytes x fits e =
 -- ---- what was written is read again
 
 prot_small : (read write execute : Bool) → prot_bits (record { read = read; write = write; execute = execute }) ≤ 7
-prot_small false false false = omega arith
-prot_small false true false = omega arith
-prot_small true false false = omega arith
-prot_small true true false = omega arith
-prot_small _ _ _ = omega arith
+prot_small read write execute = grind arith
 
 same_area : (a b : Area) → a.first ≡ b.first → a.count ≡ b.count → a.prot ≡ b.prot → a ≡ b
 same_area a b f n p = rw (f, n, p) refl
@@ -155,22 +146,14 @@ area_again before a rest good =
     rw (read, holds, fields.2, fields.0) refl
 
 kind_back : (kind : RunKind) → run_kind_of (run_kind_number kind) ≡ kind
-kind_back Data = refl
-kind_back _ = refl
+kind_back kind = grind arith
 
 kind_small : (kind : RunKind) → (1 ≤ run_kind_number kind) × (run_kind_number kind ≤ 3)
-kind_small Data = (omega arith, omega arith)
-kind_small _ = (omega arith, omega arith)
+kind_small kind = grind arith
 
 run_fields : (r : Run) → IsRange r.first r.count → (run_of (run_text r) ≡ r) × (number_at 4 16 (run_text r) ≡ run_kind_number r.kind) × (number_at 4 20 (run_text r) ≡ 0)
 unfolding run_of number_at number_bytes zero_bytes
-run_fields r range =
-    let small = kind_small r.kind in
-    let first : little_number 8 (drop 0 (run_text r)) ≡ r.first = little_number-reads_back 8 r.first (drop 8 (run_text r)) (omega (arith, range.inside)) in
-    let count : little_number 8 (drop 8 (run_text r)) ≡ r.count = little_number-reads_back 8 r.count (drop 16 (run_text r)) (omega (arith, range.inside)) in
-    let kind : little_number 4 (drop 16 (run_text r)) ≡ run_kind_number r.kind = little_number-reads_back 4 (run_kind_number r.kind) (drop 20 (run_text r)) (omega (arith, small)) in
-    let whole = same_run _ r first count (ap run_kind_of kind ∙ kind_back r.kind) in
-    (whole, kind, refl)
+run_fields r range = grind arith
 
 run_length : (r : Run) → length (run_text r) ≡ 24
 unfolding number_bytes zero_bytes

@@ -15,18 +15,13 @@ use Rattle.sd_image.specs.Reading.{number_at, item_at, prot_of_number, area_of, 
 -- permissions are those of their number
 prot_made : (read write execute : Bool) → prot_of_number (prot_bits (record { read = read; write = write; execute = execute })) ≡ record { read = read; write = write; execute = execute }
 unfolding prot_of_number
-prot_made false false false = refl
-prot_made false true false = refl
-prot_made true false false = refl
-prot_made true true false = refl
-prot_made _ _ _ = refl
+prot_made read write execute = grind arith
 
 pub prot_back : (prot : Prot) → prot_of_number (prot_bits prot) ≡ prot
 prot_back prot = prot_made prot.read prot.write prot.execute
 
 pub prot_is : (r : Option Prot) (n : ℕ) → n ≤ 7 → (n ≤ 7 → IsSome r) → IfSome r (λ prot. prot_bits prot ≡ n) → MatchOption r (7 < n) (λ prot. (n ≤ 7) × (prot ≡ prot_of_number n))
-prot_is None n le some value = let s = some le in absurd cc
-prot_is (Some prot) n le some value = (le, sym (prot_back prot) ∙ ap prot_of_number value)
+prot_is r n le some value = grind (arith, prot_back)
 
 -- ---- areas
 
@@ -45,10 +40,7 @@ pub record IsRange (first count : ℕ) : Type 0 where
   pub inside : first + count ≤ 2 ^ 35
 
 pub area_range : (before : Option Area) (area : Area) → is_area_after before area ≡ true → IsRange area.first area.count
-area_range before area e =
-    let outer = and_parts (ltb 0 area.count && leb (area.first + area.count) (2 ^ 35)) (begins_after before area) e in
-    let inner = and_parts (ltb 0 area.count) (leb (area.first + area.count) (2 ^ 35)) outer.0 in
-    record { some = ltb-true _ _ inner.0; inside = leb-true _ _ inner.1 }
+area_range before area e = grind arith
 
 pub first_past : (before : Option Area) (item : List ℕ) (first : ℕ) → first ≡ number_at 8 0 item → (first < 2 ^ 35 → ⊥) → area_holds before item ≡ false
 unfolding area_of
@@ -83,17 +75,10 @@ pub record IsRunItem (parent : ℕ) (before : Option Run) (item : List ℕ) : Ty
 
 pub run_item : (parent : ℕ) (before : Option Run) (item : List ℕ) → run_holds parent before item ≡ true → IsRunItem parent before item
 unfolding run_holds
-run_item parent before item e =
-    let outer = and_parts (leb 1 (number_at 4 16 item) && leb (number_at 4 16 item) 3) _ e in
-    let inner = and_parts (leb 1 (number_at 4 16 item)) _ outer.0 in
-    record { low = leb-true _ _ inner.0; high = leb-true _ _ inner.1; after = outer.1 }
+run_item parent before item e = grind arith
 
 pub run_range : (parent : ℕ) (before : Option Run) (run : Run) → is_run_after parent before run ≡ true → IsRange run.first run.count
-run_range parent before run e =
-    let outer = and_parts (ltb 0 run.count && leb (run.first + run.count) (2 ^ 35) && begins_behind before run) (has_source parent run) e in
-    let middle = and_parts (ltb 0 run.count && leb (run.first + run.count) (2 ^ 35)) (begins_behind before run) outer.0 in
-    let inner = and_parts (ltb 0 run.count) (leb (run.first + run.count) (2 ^ 35)) middle.0 in
-    record { some = ltb-true _ _ inner.0; inside = leb-true _ _ inner.1 }
+run_range parent before run e = grind arith
 
 pub run_first_past : (parent : ℕ) (before : Option Run) (item : List ℕ) (first : ℕ) → first ≡ number_at 8 0 item → (first < 2 ^ 35 → ⊥) → run_holds parent before item ≡ false
 unfolding run_of

@@ -18,8 +18,7 @@ reason_with n = get_or (reason.Magic ∷ reason.Magic ∷ reason.Version ∷ rea
 
 number_back : (r : Reason) → reason_with (reason_number r) ≡ r
 unfolding reason_with
-number_back reason.Magic = refl
-number_back _ = refl
+number_back r = grind arith
 
 pub number_once : (q r : Reason) → reason_number q ≡ reason_number r → q ≡ r
 number_once q r e = sym (number_back q) ∙ ap reason_with e ∙ number_back r
@@ -58,10 +57,7 @@ broken_is_least breaks n (rule ∷ rules) r counts before e = by_test (breaks ru
 
     by_test : (t : Bool) → breaks rule ≡ t → (breaks rule ≡ false → rules_kept breaks rules ≡ Err r → IsLeast breaks r)
         → cond t (Err rule) (rules_kept breaks rules) ≡ Err r → IsLeast breaks r
-    by_test true is later found =
-        let same : rule ≡ r = err_is rule r found in
-        subst (IsLeast breaks) same (record { here = is; none_below = λ q less. before q (omega (arith, counts.0)) })
-    by_test false is later found = later is found
+    by_test t is later found = grind arith
 
 least_is_broken : (breaks : Reason → Bool) (n : ℕ) (rules : List Reason) (r : Reason) → CountFrom n rules → n ≤ reason_number r
     → ((q : Reason) → n + length rules ≤ reason_number q → breaks q ≡ false) → IsLeast breaks r → rules_kept breaks rules ≡ Err r
@@ -113,8 +109,7 @@ fields_part bytes len = kept_same (breaks_header bytes len) (breaks_fields (head
 
 one_after_the_other : (kept : Result (Unit {0}) Reason) (form : Version × Kind) (fields : Version × Kind → Result (Unit {0}) Reason) (made : Version × Kind → Header)
     → ((kept >>= λ _. Ok form) >>= λ k. fields k >>= λ _. Ok (made k)) ≡ ((kept >>= λ _. fields form) >>= λ _. Ok (made form))
-one_after_the_other (Ok u) form fields made = refl
-one_after_the_other (Err r) form fields made = refl
+one_after_the_other kept form fields made = grind arith
 
 rules_of_header : (bytes : List ℕ) (len : ℕ) → header_in bytes len ≡ (rules_kept (breaks_header bytes len) (of_bytes ++ of_fields) >>= λ _. Ok (header_of bytes))
 unfolding header_in form_in
@@ -124,20 +119,10 @@ rules_of_header bytes len =
     (sym (kept_append (breaks_header bytes len) of_bytes of_fields ∙ rw (bytes_part bytes len, fields_part bytes len) refl))
 
 fails_so : (kept : Result (Unit {0}) Reason) (h : Header) (r : Reason) → (kept >>= λ _. Ok h) ≡ Err r → kept ≡ Err r
-fails_so (Ok u) h r e = absurd cc
-fails_so (Err q) h r e = cc
+fails_so kept h r e = grind arith
 
 behind_header : (bytes : List ℕ) (len : ℕ) (q : Reason) → 10 ≤ reason_number q → breaks_header bytes len q ≡ false
-behind_header bytes len reason.Magic past = absurd (omega arith)
-behind_header bytes len reason.Version past = absurd (omega arith)
-behind_header bytes len reason.Kind past = absurd (omega arith)
-behind_header bytes len reason.Reserved past = absurd (omega arith)
-behind_header bytes len reason.Serial past = absurd (omega arith)
-behind_header bytes len reason.StandsFor past = absurd (omega arith)
-behind_header bytes len reason.Parent past = absurd (omega arith)
-behind_header bytes len reason.Checkpoint past = absurd (omega arith)
-behind_header bytes len reason.Length past = absurd (omega arith)
-behind_header bytes len _ past = refl
+behind_header bytes len q past = grind arith
 
 pub least_header_reason_lem : LeastHeaderReason
 least_header_reason_lem bytes len r = (

@@ -27,10 +27,7 @@ goes_on read after front count i state bytes x rest total lt h so_far =
 pub ends : {X S : Type 0} (read : S → List ℕ → Result (X × List ℕ) Reason) (after : X → S) (front : List X) (count i : ℕ) (state : S) (bytes : List ℕ) (e : Reason) (total : Result (List X × List ℕ) Reason)
     → i < count → read state bytes ≡ Err e → with_front front (many read after (count - i) state bytes) ≡ total → total ≡ Err e
 unfolding many
-ends read after front count i state bytes e total lt h so_far =
-    let k : count - i ≡ suc (count - (i + 1)) = omega arith in
-    let one : with_front front (many read after (count - i) state bytes) ≡ Err e = rw (k, h) refl in
-    sym so_far ∙ one
+ends read after front count i state bytes e total lt h so_far = grind arith
 
 pub is_done : {X S : Type 0} (read : S → List ℕ → Result (X × List ℕ) Reason) (after : X → S) (front : List X) (count i : ℕ) (state : S) (bytes : List ℕ) (total : Result (List X × List ℕ) Reason)
     → count ≤ i → with_front front (many read after (count - i) state bytes) ≡ total → total ≡ Ok (front, bytes)

@@ -30,26 +30,15 @@ end_of None = 0
 end_of (Some run) = run.first + run.count
 
 behind_of : (parent : ℕ) (before : Option Run) (run : Run) → is_run_after parent before run ≡ true → begins_behind before run ≡ true
-behind_of parent before run e =
-    let outer = and_parts (ltb 0 run.count && leb (run.first + run.count) (2 ^ 35) && begins_behind before run) (has_source parent run) e in
-    (and_parts (ltb 0 run.count && leb (run.first + run.count) (2 ^ 35)) (begins_behind before run) outer.0).1
+behind_of parent before run e = grind arith
 
 begins_from : (parent : ℕ) (before : Option Run) (run : Run) → is_run_after parent before run ≡ true → end_of before ≤ run.first
 unfolding end_of
-begins_from parent None run e = omega arith
-begins_from parent (Some b) run e =
-    elim (or_cases _ _ (behind_of parent (Some b) run e)) [
-      | inl l ↦ (let gap : b.first + b.count < run.first = ltb-true _ _ l in omega (arith, gap))
-      | inr r ↦ (let touch : b.first + b.count ≡ run.first = eqb-true _ _ (and_parts _ _ r).0 in omega (arith, touch))
-    ]
+begins_from parent before run e = grind arith
 
 -- two runs that touch are of other kinds
 touching : (parent : ℕ) (b run : Run) → is_run_after parent (Some b) run ≡ true → b.first + b.count ≡ run.first → b.kind ≡ run.kind → ⊥
-touching parent b run e touch same =
-    elim (or_cases _ _ (behind_of parent (Some b) run e)) [
-      | inl l ↦ (let gap : b.first + b.count < run.first = ltb-true _ _ l in absurd (omega (arith, gap)))
-      | inr r ↦ both_ways _ (not-true _ (and_parts _ _ r).1) (eq-eqb _ _ (ap run_kind_number same))
-    ]
+touching parent b run e touch same = grind arith
 
 -- no run that begins later has an earlier page
 none_before : (parent : ℕ) (before : Option Run) (runs : List Run) (page : ℕ) → AreRuns parent before runs → page < end_of before → kind_in runs page ≡ None
@@ -104,10 +93,7 @@ module _ (parent : ℕ) where
   count_not_below : (before : Option Run) (x y : Run) (xs ys : List Run) → AreRuns parent before (x ∷ xs) → AreRuns parent before (y ∷ ys) → Alike (x ∷ xs) (y ∷ ys)
       → x.first ≡ y.first → x.kind ≡ y.kind → x.count < y.count → ⊥
   unfolding Alike
-  count_not_below before x y xs ys m n alike first kind low =
-      let past = cond-false _ (Some x.kind) (kind_in xs (x.first + x.count)) (above x.first x.count (x.first + x.count) (omega arith)) in
-      let there = at_head y ys (x.first + x.count) (omega arith) (omega arith) in
-      behind_differs parent x xs m.1 (sym past ∙ alike (x.first + x.count) ∙ there ∙ ap Some (sym kind))
+  count_not_below before x y xs ys m n alike first kind low = grind (arith, cond-false, above, at_head, behind_differs)
 
   equal_unless : (a b : ℕ) → (a < b → ⊥) → (b < a → ⊥) → a ≡ b
   equal_unless a b f g = elim (cases_order a b) [ inl e ↦ e | inr (inl l) ↦ absurd (f l) | inr (inr l) ↦ absurd (g l) ]

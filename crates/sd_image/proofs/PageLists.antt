@@ -53,14 +53,12 @@ pub next_area : (all run wanted : List ℕ) (page count next_page : ℕ) (area :
     → IsMet all run (pages_from page count ++ flat_map area_pages areas) wanted
     → IsMet all run (pages_from next_page area.count ++ flat_map area_pages rest) wanted
 unfolding pages_from
-next_area all run wanted page zero next_page area areas rest none parts np h = rw np (subst (λ (x : List Area). IsMet all run (flat_map area_pages x) wanted) parts h)
-next_area all run wanted page (suc count) next_page area areas rest none parts np h = absurd (omega arith)
+next_area all run wanted page count next_page area areas rest none parts np h = grind arith
 
 -- the run's pages are met, and those of the areas that are left are behind them
 pub all_met : (all run left : List ℕ) (first wanted : ℕ) → wanted ≡ 0 → IsMet all run left (pages_from first wanted) → all ≡ run ++ left
 unfolding pages_from
-all_met all run left first zero none h = h.of_areas ∙ ap (λ (x : List ℕ). x ++ left) (sym (h.of_run ∙ append-nil h.met))
-all_met all run left first (suc wanted) none h = absurd (omega arith)
+all_met all run left first wanted none h = grind (arith, append-nil)
 
 -- what is left is not the run's next pages
 not_met : (all run left wanted others : List ℕ) → IsMet all run left wanted → all ≡ run ++ others → left ≡ wanted ++ others
@@ -88,10 +86,7 @@ left_over (x ∷ xs) ys = rw (eq-eqb x x refl) (left_over xs ys)
 
 -- all runs are met but some pages are left, or none
 pub compares_rest : (all left : List ℕ) (runs : List Run) (i : ℕ) → length runs ≤ i → all ≡ flat_map run_pages (take i runs) ++ left → pages_eq left [] ≡ pages_eq all (flat_map run_pages runs)
-compares_rest all left runs i past e =
-    let whole : take i runs ≡ runs = take_all i runs past in
-    let same : all ≡ flat_map run_pages runs ++ left = e ∙ ap (λ (rs : List Run). flat_map run_pages rs ++ left) whole in
-    sym (ap (λ (x : List ℕ). pages_eq x (flat_map run_pages runs)) same ∙ left_over (flat_map run_pages runs) left)
+compares_rest all left runs i past e = grind (arith, take_all, left_over)
 
 -- the pages of the runs up to a place, those of the run there, and those behind
 runs_split : (runs : List Run) (i : ℕ) (d : Run) → i < length runs → flat_map run_pages runs ≡ flat_map run_pages (take i runs) ++ (run_pages (get_or runs i d) ++ flat_map run_pages (drop (i + 1) runs))

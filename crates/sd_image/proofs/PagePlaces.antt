@@ -89,8 +89,7 @@ from_rise space first (suc count) =
     )
 
 where_true : (b : Bool) (low high : ℕ) (xs : List (ℕ × ℕ)) → Rises low xs high → Rises low (cond b xs []) high
-where_true true low high xs h = h
-where_true false low high xs h = rises_within low high xs h
+where_true b low high xs h = grind (arith, rises_within)
 
 places_rise : (kind : RunKind) (space : ℕ) (r : Run) → Rises (key (space, r.first)) (places kind space r) (key (space, r.first + r.count))
 places_rise kind space r = where_true (eqb (run_kind_number r.kind) (run_kind_number kind)) _ _ _ (from_rise space r.first r.count)
@@ -141,14 +140,10 @@ few_of_kind kind h spaces good =
 -- ---- a page has one kind
 
 pub kind_number_once : (a b : RunKind) → run_kind_number a ≡ run_kind_number b → a ≡ b
-kind_number_once Data Data e = refl
-kind_number_once Parent Parent e = refl
-kind_number_once Zero Zero e = refl
-kind_number_once _ _ e = absurd (omega arith)
+kind_number_once a b e = grind arith
 
 test_holds : (b : Bool) (xs : List (ℕ × ℕ)) (x : ℕ × ℕ) → Contains (cond b xs []) x → b ≡ true
-test_holds true xs x c = refl
-test_holds false xs x c = absurd (omega (arith, c.1))
+test_holds b xs x c = grind arith
 
 has_kind : (kind : RunKind) (space : ℕ) (r : Run) (x : ℕ × ℕ) → Contains (places kind space r) x → run_kind_number r.kind ≡ run_kind_number kind
 has_kind kind space r x c = eqb-true (run_kind_number r.kind) (run_kind_number kind) (test_holds _ _ x c)

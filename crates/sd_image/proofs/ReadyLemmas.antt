@@ -9,15 +9,10 @@ use Rattle.sd_image.proofs.ShowsLemmas.{Adds, among_added, distinct_added, image
 
 -- an image's file is open
 pub image_opens : (file : List ℕ) (i : Image) → IsImage file i → is_open file ≡ true
-image_opens file i image =
-    let long : 4096 ≤ length file = omega (arith, image.header.fills) in
-    and_from (nat_le 4096 (length file)) (nat_eq (slice_index file 0) 165) (le-leb 4096 (length file) long)
-    (eq-eqb (slice_index file 0) 165 (ap (λ (bytes : List ℕ). slice_index bytes 0) image.spelled))
+image_opens file i image = grind arith
 
 below_above : (m n : ℕ) (images : List Image) → m ≤ n → AreBelow m images → AreBelow n images
-below_above m n images le below k d within =
-    let b = below k d within in
-    (omega (arith, b.0), omega (arith, b.1))
+below_above m n images le below k d within = grind arith
 
 below_added : (n : ℕ) (old new : List Image) (i : Image) → Adds old new i → AreBelow n old → i.header.serial ≡ n → i.header.checkpoint ≡ n
     → AreBelow (n + 1) new

@@ -91,11 +91,7 @@ same_head a b s n r = rw (s, n, r) refl
 
 head_fields : (head : SpaceHead) → head.space < 256 ^ 4 → head.areas < 256 ^ 4 → head.runs < 256 ^ 8 → space_head_of (head_text head) ≡ head
 unfolding space_head_of number_at number_bytes
-head_fields head s a r =
-    let space : little_number 4 (drop 0 (head_text head)) ≡ head.space = little_number-reads_back 4 head.space (drop 4 (head_text head)) s in
-    let areas : little_number 4 (drop 4 (head_text head)) ≡ head.areas = little_number-reads_back 4 head.areas (drop 8 (head_text head)) a in
-    let runs : little_number 8 (drop 8 (head_text head)) ≡ head.runs = little_number-reads_back 8 head.runs (drop 16 (head_text head)) r in
-    same_head _ head space areas runs
+head_fields head s a r = grind arith
 
 head_length : (head : SpaceHead) → length (head_text head) ≡ 16
 unfolding number_bytes
@@ -105,8 +101,7 @@ abbrev done : List ℕ → List ℕ → Result (List ℕ × List ℕ) Reason
 done item rest = Ok (item, rest)
 
 limit_small : (kind : Kind) → area_limit kind ≤ 1024
-limit_small PreDump = omega arith
-limit_small _ = omega arith
+limit_small kind = grind arith
 
 head_again : (kind : Kind) (before : ℕ) (head : SpaceHead) (rest : List ℕ) → before < head.space → head.space ≤ 16 → head.areas ≤ area_limit kind → head.runs < 256 ^ 8 → space_head_at kind before (head_text head ++ rest) ≡ Ok (head, rest)
 unfolding space_head_at
@@ -121,33 +116,22 @@ head_again kind before head rest above within few runs =
 
 covers_so : (kind : Kind) (areas : List Area) (runs : List Run) → length areas ≤ area_limit kind → covers kind areas runs ≡ true → Covers kind areas runs
 unfolding covers
-covers_so PreDump areas runs few e =
-    let some : length runs ≡ 0 → ⊥ = eqb-false (length runs) 0 (not-true _ e) in
-    (nil_from_length areas (omega arith), λ none. some (ap length none))
-covers_so _ areas runs few e = sym ((bytes_eq-Decides (flat_map area_pages areas) (flat_map run_pages runs)).0 e)
+covers_so kind areas runs few e = grind (arith, eqb-false, not-true, nil_from_length, bytes_eq-Decides)
 
 covers_again : (kind : Kind) (areas : List Area) (runs : List Run) → Covers kind areas runs → covers kind areas runs ≡ true
 unfolding covers
-covers_again PreDump areas runs h = not_from_false (eqb (length runs) 0) (ne_eqb (length runs) 0 (λ none. h.1 (nil_from_length runs none)))
-covers_again _ areas runs h = (bytes_eq-Decides (flat_map area_pages areas) (flat_map run_pages runs)).1 (sym h)
+covers_again kind areas runs h = grind (arith, not_from_false, ne_eqb, nil_from_length, bytes_eq-Decides)
 
 limit_kept : (kind : Kind) (areas : List Area) (runs : List Run) → length areas ≤ 1024 → Covers kind areas runs → length areas ≤ area_limit kind
-limit_kept PreDump areas runs few h = omega (arith, ap length h.0)
-limit_kept _ areas runs few h = few
+limit_kept kind areas runs few h = grind arith
 
 -- ---- a space has fewer runs than pages
 
 pub begins_end : (before run : Run) → begins_behind (Some before) run ≡ true → before.first + before.count ≤ run.first
-begins_end before run e = elim (or_cases (ltb (before.first + before.count) run.first) (eqb (before.first + before.count) run.first && not (eqb (run_kind_number before.kind) (run_kind_number run.kind))) e) [
-  | inl lt ↦ omega (arith, ltb-true _ _ lt)
-  | inr at ↦ omega (arith, eqb-true _ _ (and_parts (eqb (before.first + before.count) run.first) (not (eqb (run_kind_number before.kind) (run_kind_number run.kind))) at).0)
-]
+begins_end before run e = grind arith
 
 pub run_begins : (parent : ℕ) (before run : Run) → is_run_after parent (Some before) run ≡ true → before.first + before.count ≤ run.first
-run_begins parent before run e =
-    let outer = and_parts (ltb 0 run.count && leb (run.first + run.count) (2 ^ 35) && begins_behind (Some before) run) (has_source parent run) e in
-    let middle = and_parts (ltb 0 run.count && leb (run.first + run.count) (2 ^ 35)) (begins_behind (Some before) run) outer.0 in
-    begins_end before run middle.1
+run_begins parent before run e = grind arith
 
 runs_within : (parent : ℕ) (before : Run) (runs : List Run) → before.first + before.count ≤ 2 ^ 35 → AreRuns parent (Some before) runs → before.first + before.count + length runs ≤ 2 ^ 35
 runs_within parent before [] inside h = omega arith

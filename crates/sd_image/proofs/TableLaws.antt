@@ -64,10 +64,7 @@ head_again n rest few =
 
 ends_so : (h : Header) (spaces : List Listed) (rest : List ℕ) → ends_rightly h spaces rest ≡ true → (rest ≡ []) × (data_count spaces ≡ h.pages) × (mapped_count spaces ≤ 65536)
 unfolding ends_rightly
-ends_so h spaces rest e =
-    let outer = and_parts (eqb (length rest) 0 && eqb (data_count spaces) h.pages) (leb (mapped_count spaces) 65536) e in
-    let inner = and_parts (eqb (length rest) 0) (eqb (data_count spaces) h.pages) outer.0 in
-    (nil_from_length rest (eqb-true _ _ inner.0), eqb-true _ _ inner.1, leb-true _ _ outer.1)
+ends_so h spaces rest e = grind (arith, and_parts, nil_from_length, eqb-true, leb-true)
 
 ends_again : (h : Header) (spaces : List Listed) → data_count spaces ≡ h.pages → mapped_count spaces ≤ 65536 → ends_rightly h spaces [] ≡ true
 unfolding ends_rightly
@@ -108,8 +105,7 @@ table_again h spaces good =
     ap (table_in h) whole ∙ rw (head, rest, ends_again h spaces good.data good.mapped) refl
 
 pub is_found : (h : Header) (bytes : List ℕ) (r : Result Table TableError) → IsBytes bytes → ReadsTable (λ t. map listing_of t.spaces.items) r (table_in h bytes) → IfOk r (λ t. (bytes ≡ table_text (map listing_of t.spaces.items)) × IsTable h (map listing_of t.spaces.items))
-is_found h bytes (Ok t) fits given = table_takes h bytes (map listing_of t.spaces.items) fits given
-is_found h bytes (Err e) fits given = tt
+is_found h bytes r fits given = grind (arith, table_takes)
 
 -- one text has one table
 pub table_once : (h : Header) (a b : List Listed) → IsTable h a → IsTable h b → table_text a ≡ table_text b → a ≡ b

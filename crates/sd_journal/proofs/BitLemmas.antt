@@ -18,25 +18,18 @@ use Rattle.sd_journal.specs.Marked.{HasBits, Item, Marked, events_of, is_due, is
 
 any_by : (stop test : Bool) (rest : List MemoryEvent) (event : MemoryEvent) (tests : MemoryEvent → Bool) → tests event ≡ test
     → list_any tests (cond (not stop) (event ∷ rest) []) ≡ cond stop false (test || list_any tests rest)
-any_by true test rest event tests e = refl
-any_by false test rest event tests e = ap (λ b. b || list_any tests rest) e
+any_by stop test rest event tests e = grind arith
 
 any_since : (tests stops : MemoryEvent → Bool) (event : MemoryEvent) (history : List MemoryEvent)
     → list_any tests (since stops (event ∷ history)) ≡ cond (stops event) false (tests event || list_any tests (since stops history))
-any_since tests stops event history =
-    ap (list_any tests) (take_while-cons (λ e. not (stops e)) event history)
-    ∙ any_by (stops event) (tests event) (since stops history) event tests refl
+any_since tests stops event history = grind arith
 
 dirty_by : (clear touch before any : Bool) → (cond clear false (touch || before) || not (clear || any)) ≡ cond clear false (touch || (before || not any))
-dirty_by true touch before any = refl
-dirty_by false true before any = refl
-dirty_by false false before any = refl
+dirty_by clear touch before any = grind arith
 
 dirty_more : (event : MemoryEvent) (history : List MemoryEvent) (space page : ℕ)
     → is_dirty (event ∷ history) space page ≡ cond (clears space page event) false (touches space page event || is_dirty history space page)
-dirty_more event history space page =
-    ap (λ b. b || not (list_any (clears space page) (event ∷ history))) (any_since (touches space page) (clears space page) event history)
-    ∙ dirty_by (clears space page event) (touches space page event) (list_any (touches space page) (since (clears space page) history)) (list_any (clears space page) history)
+dirty_more event history space page = grind arith
 
 pub writable_more : (event : MemoryEvent) (history : List MemoryEvent) (space page : ℕ)
     → is_writable (event ∷ history) space page ≡ cond (write_protects space page event) false (makes_writable space page event || is_writable history space page)
@@ -60,24 +53,15 @@ pub due_passes : (base : Base) (item : Item) (items : Marked) (space page : ℕ)
 due_passes base item items space page e = due_more base item items space page ∙ ap (λ event. due_by event space page (is_due base items space page)) e
 
 pub writable_passes : (item : Item) (items : Marked) (space page : ℕ) → item_event item ≡ Passed → is_writable (events_of (item ∷ items)) space page ≡ is_writable (events_of items) space page
-writable_passes item items space page e =
-    writable_more (item_event item) (events_of items) space page
-    ∙ ap (λ event. cond (write_protects space page event) false (makes_writable space page event || is_writable (events_of items) space page)) e
+writable_passes item items space page e = grind arith
 
 -- ---- bits
 
 pub bits_begin : (base : Base) (contents : Contents) → base.origin ≡ Opened → IsBeginning contents → HasBits base [] contents
-bits_begin base contents opened begins = record {
-  soft_dirty = λ space number page there. (begins space number page there).0
-      ∙ sym (ap (λ (o : Origin). if is_opened o then is_dirty [] space number else list_any (touches space number) (since (clears space number) [])) opened);
-  writable = λ space number page there. (begins space number page there).1;
-}
+bits_begin base contents opened begins = grind arith
 
 pub bits_pass : (base : Base) (item : Item) (items : Marked) (contents : Contents) → item_event item ≡ Passed → HasBits base items contents → HasBits base (item ∷ items) contents
-bits_pass base item items contents e bits = record {
-  soft_dirty = λ space number page there. bits.soft_dirty space number page there ∙ sym (due_passes base item items space number e);
-  writable = λ space number page there. bits.writable space number page there ∙ sym (writable_passes item items space number e);
-}
+bits_pass base item items contents e bits = grind arith
 
 pub bits_step : PageLaw → (base : Base) (item : Item) (items : Marked) (old new : Contents) → IsSound old → Step old (item_event item) new
     → HasBits base items old → HasBits base (item ∷ items) new
@@ -106,10 +90,7 @@ bits_step law base item items old new sound step bits = record {
 }
 
 cleared_from : (o : Option PageState) (page : PageState) → option_map cleared_page o ≡ Some page → (page.soft_dirty ≡ false) × (page.writable ≡ false)
-cleared_from None page e = absurd (cc)
-cleared_from (Some before) page e =
-    let is : cleared_page before ≡ page = cc in
-    (ap (λ (p : PageState). p.soft_dirty) (sym is), ap (λ (p : PageState). p.writable) (sym is))
+cleared_from o page e = grind arith
 
 same_space : (s p space page : ℕ) → is_page s p space page ≡ true → s ≡ space
 same_space s p space page e = grind (arith, nat_tests)
@@ -137,9 +118,7 @@ bits_clear law base item items old new s p e step bits = record {
     due space number = due_more base item items space number ∙ ap (λ event. due_by event space number (is_due base items space number)) e
 
     may_write : (space number : ℕ) → is_writable (events_of (item ∷ items)) space number ≡ cond (is_page s p space number) false (is_writable (events_of items) space number)
-    may_write space number =
-        writable_more (item_event item) (events_of items) space number
-        ∙ ap (λ event. cond (write_protects space number event) false (makes_writable space number event || is_writable (events_of items) space number)) e
+    may_write space number = grind arith
 
     dirty : (space number : ℕ) (page : PageState) → page_at new space number ≡ Some page → (b : Bool) → is_page s p space number ≡ b
         → page.soft_dirty ≡ is_due base (item ∷ items) space number

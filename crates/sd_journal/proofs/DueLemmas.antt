@@ -1,5 +1,5 @@
 -- What is due stays due while a checkpoint is pending.
-use Rattle.std.proofs.Common.{◌≡◌, ℕ, Bool, true, false, cond, ◌||◌, [], ◌∷◌, Some, None, is_some, refl, sym, ◌∙◌, ap, inl, inr}
+use Rattle.std.proofs.Common.{◌≡◌, ℕ, Bool, true, false, cond, ◌||◌, [], ◌∷◌, Some, None, is_some, refl, sym, ◌∙◌, ap, inl, inr, arith}
 use Rattle.std.proofs.lemmas.Option.{same_Some}
 use Rattle.sd_pagetable.specs.Tracking.{is_page, touches, clears}
 use Rattle.sd_command.specs.declared.command.Command.{Command}
@@ -20,26 +20,20 @@ use Rattle.sd_journal.proofs.MarkedLemmas.{never, frozen_passes}
 -- a page that an event neither touches nor clears is as due as before
 passes : (base : Base) (item : Item) (items : Marked) (space page : ℕ) → clears space page (item_event item) ≡ false → touches space page (item_event item) ≡ false
     → is_due base (item ∷ items) space page ≡ is_due base items space page
-passes base item items space page uncleared untouched =
-    due_more base item items space page
-    ∙ ap (λ c. cond c false (touches space page (item_event item) || is_due base items space page)) uncleared
-    ∙ ap (λ t. t || is_due base items space page) untouched
+passes base item items space page uncleared untouched = grind arith
 
 -- nothing is pending once the number that was pending has ended
 ended : (n m : ℕ) {P : Type 0} → unless_it_is m (Some m) ≡ Some n → P
 ended n m e = let gone : unless_it_is m (Some m) ≡ None = rw (same m) refl in none_is_some n (sym gone ∙ e)
 
 unseen : (b rest : Bool) → cond b true rest ≡ false → (b ≡ false) × (rest ≡ false)
-unseen true rest e = never e
-unseen false rest e = (refl, e)
+unseen b rest e = grind arith
 
 -- a command while a checkpoint is pending passes by
 passed_by : (base : Base) (items : Marked) (n seat : ℕ) (command : Command) (reply : Reply) (space page : ℕ) → pending (entries_of items) ≡ Some n
     → IsLegalReply (memory_at base items) (is_some (pending (entries_of items))) command reply
     → is_due base (Told (Applied seat command reply) ∷ items) space page ≡ is_due base items space page
-passed_by base items n seat command reply space page is legal =
-    let refused : reply ≡ Refused Frozen = rw is at legal in
-    due_passes base (Told (Applied seat command reply)) items space page (ap (event_of command) refused ∙ frozen_passes command)
+passed_by base items n seat command reply space page is legal = grind arith
 
 pub still : (base : Base) (items frozen : Marked) (n space page : ℕ) → IsMarked base items
     → pending (entries_of items) ≡ Some n → before_freeze items n ≡ Some frozen → visited_since items n space page ≡ false

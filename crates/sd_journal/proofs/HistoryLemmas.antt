@@ -33,8 +33,7 @@ pub at_freeze-own : (base : Base) (history : History) (n : ℕ) → at_freeze ba
 at_freeze-own base history n = rw (same n) refl
 
 below_if : (number : Option ℕ) (n k : ℕ) → IfSome number (λ own. own < n) → number ≡ Some k → k < n
-below_if None n k above e = none_is_some k e
-below_if (Some own) n k above e = subst (λ o. o < n) (same_Some own k e) above
+below_if number n k above e = grind arith
 
 pub last_below : (base : Base) (history : History) (n k : ℕ) → IsAbove base history n → last base history ≡ Some k → k < n
 last_below base [] n k above e = below_if base.number n k above e

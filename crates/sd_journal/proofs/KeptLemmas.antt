@@ -18,9 +18,7 @@ woven_entry next entry entries (placed ∷ earlier) within =
 
 woven_mark : (mark : Mark) (next : ℕ) (entries : History) (marks : List PlacedMark)
     → woven next entries (record { before = next; mark = mark } ∷ marks) ≡ Noted mark ∷ woven next entries marks
-woven_mark mark next entries marks =
-    let none : next - next ≡ 0 = omega arith in
-    rw none refl
+woven_mark mark next entries marks = grind arith
 
 entries_told : (entries : History) (items : Marked) → entries_of (map Told entries ++ items) ≡ entries ++ entries_of items
 entries_told [] items = refl
@@ -56,10 +54,7 @@ count_in next entries marks = ap length (entries_in next entries marks) ∙ leng
 
 pub after_entry : (next more : ℕ) (entry : Entry) (old new : List Entry) (marks : List PlacedMark) → AreWithin next (reverse marks) → more ≡ next + 1
     → new ≡ old ++ entry ∷ [] → woven more (reverse new) (reverse marks) ≡ Told entry ∷ woven next (reverse old) (reverse marks)
-after_entry next more entry old new marks within one e =
-    let turned : reverse new ≡ entry ∷ reverse old = ap reverse e ∙ reverse-append old (entry ∷ []) in
-    ap (λ n. woven n (reverse new) (reverse marks)) one
-    ∙ ap (λ entries. woven (next + 1) entries (reverse marks)) turned ∙ woven_entry next entry (reverse old) (reverse marks) within
+after_entry next more entry old new marks within one e = grind (arith, reverse-append, woven_entry)
 
 turned_mark : (placed : PlacedMark) (old new : List PlacedMark) → new ≡ old ++ placed ∷ [] → reverse new ≡ placed ∷ reverse old
 turned_mark placed old new e = ap reverse e ∙ reverse-append old (placed ∷ [])
@@ -67,16 +62,8 @@ turned_mark placed old new e = ap reverse e ∙ reverse-append old (placed ∷ [
 pub after_mark : (mark : Mark) (next before : ℕ) (entries : List Entry) (old new : List PlacedMark) → before ≡ next
     → new ≡ old ++ record { before = before; mark = mark } ∷ []
     → woven next (reverse entries) (reverse new) ≡ Noted mark ∷ woven next (reverse entries) (reverse old)
-after_mark mark next before entries old new at e =
-    let placed : PlacedMark = record { before = before; mark = mark } in
-    let here : PlacedMark = record { before = next; mark = mark } in
-    let same : placed ≡ here = ap {B = PlacedMark} (λ n. record { before = n; mark = mark }) at in
-    ap (woven next (reverse entries)) (turned_mark placed old new e ∙ ap (λ p. p ∷ reverse old) same) ∙ woven_mark mark next (reverse entries) (reverse old)
+after_mark mark next before entries old new at e = grind (arith, turned_mark, woven_mark)
 
 pub within_mark : (mark : Mark) (before next : ℕ) (old new : List PlacedMark) → before ≡ next
     → new ≡ old ++ record { before = before; mark = mark } ∷ [] → AreWithin next (reverse old) → AreWithin next (reverse new)
-within_mark mark before next old new at e within =
-    let placed : PlacedMark = record { before = before; mark = mark } in
-    let first : before ≤ next = omega arith in
-    let earlier : AreWithin before (reverse old) = subst (λ n. AreWithin n (reverse old)) (sym at) within in
-    subst (AreWithin next) (sym (turned_mark placed old new e)) (first, earlier)
+within_mark mark before next old new at e within = grind (arith, turned_mark)

@@ -53,8 +53,7 @@ removed_mapped memory s space page mapped = by (nat_eq space s)
     by false at = at
 
 some_of : (o : Option Page) (change : Page → Page) → is_some (option_map change o) ≡ true → is_some o ≡ true
-some_of None change e = e
-some_of (Some page) change e = refl
+some_of o change e = grind arith
 
 here : (memory : PlainMemory) (s space page : ℕ) → space ≡ s → is_some (finmap.get (inside memory s) page) ≡ true → is_mapped memory space page ≡ true
 here memory s space page e some = subst (λ o. is_mapped memory o page ≡ true) (sym e) some
@@ -102,14 +101,11 @@ stored_mapped memory s p x space page mapped = by (value_at memory s p) refl map
         inl (here memory s space page e (sym (ap (λ b. is_some (cond b (Some (x found)) (finmap.get (inside memory s) page))) other) ∙ some))
 
     only : Was memory space page ⊥ → is_mapped memory space page ≡ true
-    only (inl was) = was
-    only (inr never) = absurd never
+    only h0 = grind arith
 
     by : (o : Option Page) → value_at memory s p ≡ o → is_mapped (option_map_or (λ (found : Page). put_at memory s p (x found)) o memory) space page ≡ true
         → is_mapped memory space page ≡ true
-    by None is at = at
-    by (Some found) is at = only (put_mapped memory s (finmap.insert (inside memory s) p (x found)) space page ⊥ at
-        (λ e some. in_page found is e (nat_eq page p) refl (sym (ap is_some (get_put (inside memory s) p (x found) page)) ∙ some)))
+    by o is at = grind (arith, put_mapped, get_put)
 
 -- the command touched the page, and it isn't writable
 pub record IsMadeBy (asked : Command) (answer : Reply) (space page : ℕ) : Type 0 where
@@ -117,8 +113,7 @@ pub record IsMadeBy (asked : Command) (answer : Reply) (space page : ℕ) : Type
   pub protected : write_protects space page (event_of asked answer) ≡ true
 
 no_more : {P : Type 0} (memory : PlainMemory) (space page : ℕ) → Was memory space page ⊥ → Was memory space page P
-no_more memory space page (inl was) = inl was
-no_more memory space page (inr never) = absurd never
+no_more memory space page h3 = grind arith
 
 pub was_mapped : (asked : Command) (answer : Reply) (memory : PlainMemory) (space page : ℕ) → is_mapped (effect asked answer memory) space page ≡ true
     → (is_mapped memory space page ≡ true) ⊎ IsMadeBy asked answer space page

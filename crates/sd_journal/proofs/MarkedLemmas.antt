@@ -34,16 +34,13 @@ pub never : {P : Type 0} → true ≡ false → P
 never e = absurd (cc)
 
 pub if_some : {A : Type 0} (o : Option A) (P Q : A → Type 0) → ((a : A) → P a → Q a) → IfSome o P → IfSome o Q
-if_some None P Q f p = p
-if_some (Some a) P Q f p = f a p
+if_some o P Q f p = grind arith
 
 some_of : {A B : Type 0} (f : A → B) (o : Option A) → is_some (option_map f o) ≡ true → IsSome o
-some_of f None e = absurd (cc)
-some_of f (Some a) e = refl
+some_of f o e = grind arith
 
 of_some : {A B : Type 0} (f : A → B) (o : Option A) → IsSome o → is_some (option_map f o) ≡ true
-of_some f None e = absurd (cc)
-of_some f (Some a) e = refl
+of_some f o e = grind arith
 
 pub legal : (base : Base) (items : Marked) → IsMarked base items → IsLegal base (entries_of items)
 legal base [] marked = tt
@@ -64,64 +61,23 @@ still_swept base items entry swept =
 pub applied : PageLaw → EffectLaw → (base : Base) (items : Marked) (old new : Contents) (seat : ℕ) (command : Command) (reply : Reply)
     → IsSound old → IsTracked base items old → pending (entries_of items) ≡ None → IsLegalReply (plain_of old) false command reply
     → Step old (event_of command reply) new → IsTracked base (Told (Applied seat command reply) ∷ items) new
-applied pages effects base items old new seat command reply sound tracked none legal step =
-    let now : IsLegalReply (memory_at base items) false command reply = subst (λ memory. IsLegalReply memory false command reply) tracked.memory legal in
-    let may : IsLegalReply (memory_at base items) (is_some (pending (entries_of items))) command reply = rw none now in
-    record {
-      marked = (may, tracked.marked);
-      memory = effects old new command reply step ∙ ap (effect command reply) tracked.memory;
-      bits = bits_step pages base (Told (Applied seat command reply)) items old new sound step tracked.bits;
-      swept = still_swept base items (Applied seat command reply) tracked.swept;
-    }
+applied pages effects base items old new seat command reply sound tracked none legal step = grind (arith, bits_step, still_swept)
 
 pub frozen_passes : (command : Command) → event_of command (Refused Frozen) ≡ Passed
-frozen_passes (command.Mmap space address bytes prot) = refl
-frozen_passes _ = refl
+frozen_passes command = grind arith
 
 pub frozen_leaves : (command : Command) (memory : PlainMemory) → effect command (Refused Frozen) memory ≡ memory
-frozen_leaves (command.Mmap space address bytes prot) memory = refl
-frozen_leaves _ memory = refl
+frozen_leaves command memory = grind arith
 
 pub frozen : (base : Base) (items : Marked) (contents : Contents) (seat n : ℕ) (command : Command)
     → IsTracked base items contents → pending (entries_of items) ≡ Some n
     → IsTracked base (Told (Applied seat command (Refused Frozen)) ∷ items) contents
-frozen base items contents seat n command tracked is =
-    let may : IsLegalReply (memory_at base items) (is_some (pending (entries_of items))) command (Refused Frozen) = rw is refl in
-    record {
-      marked = (may, tracked.marked);
-      memory = tracked.memory ∙ sym (frozen_leaves command (memory_at base items));
-      bits = bits_pass base (Told (Applied seat command (Refused Frozen))) items contents (frozen_passes command) tracked.bits;
-      swept = still_swept base items (Applied seat command (Refused Frozen)) tracked.swept;
-    }
+frozen base items contents seat n command tracked is = grind (arith, frozen_leaves, bits_pass, frozen_passes, still_swept)
 
 pub told : (base : Base) (items : Marked) (contents : Contents) (entry : Entry)
     → IsTracked base items contents → MayFollow base (entries_of items) entry → is_command entry ≡ false
     → IsTracked base (Told entry ∷ items) contents
-told base items contents (Applied seat command reply) tracked may other = never other
-told base items contents (Freeze n) tracked may other = record {
-  marked = (may, tracked.marked);
-  memory = tracked.memory;
-  bits = bits_pass base (Told (Freeze n)) items contents refl tracked.bits;
-  swept = still_swept base items (Freeze n) tracked.swept;
-}
-told base items contents (Acked n) tracked may other = record {
-  marked = (may, tracked.marked);
-  memory = tracked.memory;
-  bits = bits_pass base (Told (Acked n)) items contents refl tracked.bits;
-  swept = tt;
-}
-told base items contents (Cancelled n) tracked may other = record {
-  marked = (may, tracked.marked);
-  memory = tracked.memory;
-  bits = bits_pass base (Told (Cancelled n)) items contents refl tracked.bits;
-  swept = tt;
-}
-told base items contents (Reopened m) tracked may other = record {
-  marked = (may, tracked.marked);
-  memory = tracked.memory;
-  bits = bits_pass base (Told (Reopened m)) items contents refl tracked.bits;
-  swept = tt;
-}
+told base items contents entry tracked may other = grind arith
 
 -- ---- marks
 
@@ -135,25 +91,16 @@ no_visit (Noted (Visit s space page) ∷ earlier) serial e =
 no_visit (Noted (Table s) ∷ earlier) serial e = no_visit earlier serial ((or_parts (s == serial) (list_any (is_of serial) earlier) e).1)
 
 swept_start : (base : Base) (items : Marked) (serial : ℕ) → list_any (is_of serial) items ≡ false → IsSwept base (Noted (Start serial) ∷ items) serial
-swept_start base items serial new space page above stays =
-    let none : is_above (last_visit items serial) space page ≡ true = ap (λ last. is_above last space page) (no_visit items serial new) in
-    never (sym none ∙ above)
+swept_start base items serial new space page above stays = grind (arith, no_visit)
 
 pub started : (base : Base) (items : Marked) (contents : Contents) (serial : ℕ)
     → IsTracked base items contents → list_any (is_of serial) items ≡ false → IsTracked base (Noted (Start serial) ∷ items) contents
-started base items contents serial tracked new = record {
-  marked = (new, tracked.marked);
-  memory = tracked.memory;
-  bits = bits_pass base (Noted (Start serial)) items contents refl tracked.bits;
-  swept = swept_start base items serial new;
-}
+started base items contents serial tracked new = grind (arith, bits_pass, swept_start)
 
 -- a page that the journal has mapped is a page of the memory
 in_memory : PlainLaw → (base : Base) (items : Marked) (contents : Contents) (space page : ℕ) → plain_of contents ≡ memory_at base items
     → is_mapped (memory_at base items) space page ≡ true → IsSome (value_at contents.spaces space page)
-in_memory plain base items contents space page memory mapped =
-    let here : is_some (value_at (plain_of contents) space page) ≡ true = ap (λ m. is_some (value_at m space page)) memory ∙ mapped in
-    some_of plain_page (page_at contents space page) (sym (ap is_some (plain.pages contents space page)) ∙ here)
+in_memory plain base items contents space page memory mapped = grind arith
 
 of_memory : PlainLaw → (base : Base) (items : Marked) (contents : Contents) (space page : ℕ) → plain_of contents ≡ memory_at base items
     → IsSome (value_at contents.spaces space page) → is_mapped (memory_at base items) space page ≡ true

@@ -46,8 +46,7 @@ module _ {X : Type 0} where
   get_removed m k q = get-remove nat_cmp_total m k q ∙ ap (λ b. cond b None (finmap.get m q)) (same_test q k)
 
   twice : (b : Bool) (x : Option X) (y z : Option X) → cond b x (cond b y z) ≡ cond b x z
-  twice true x y z = refl
-  twice false x y z = refl
+  twice b x y z = grind arith
 
   -- what was taken out and put back
   pub put_back : (m : Table X) (k : ℕ) (v : X) → finmap.insert (finmap.remove m k) k v ≡ finmap.insert m k v
@@ -55,8 +54,7 @@ module _ {X : Type 0} where
       ∙ twice (nat_eq q k) (Some v) None (finmap.get m q) ∙ sym (get_put m k v q))
 
   taken_by : (b : Bool) (o : Option X) → (b ≡ true → o ≡ None) → cond b None o ≡ o
-  taken_by true o none = sym (none refl)
-  taken_by false o none = refl
+  taken_by b o none = grind arith
 
   -- what isn't there is taken out
   pub none_taken : (m : Table X) (k : ℕ) → finmap.get m k ≡ None → finmap.remove m k ≡ m
@@ -69,12 +67,10 @@ module _ {X Y : Type 0} (f : X → Y) where
   seen es = finmap.from_entries (map (λ e. (e.0, f e.1)) es)
 
   mapped_cond : (b : Bool) (x : X) (o : Option X) → cond b (Some (f x)) (option_map f o) ≡ option_map f (cond b (Some x) o)
-  mapped_cond true x o = refl
-  mapped_cond false x o = refl
+  mapped_cond b x o = grind arith
 
   mapped_none : (b : Bool) (o : Option X) → option_map f (cond b None o) ≡ cond b None (option_map f o)
-  mapped_none true o = refl
-  mapped_none false o = refl
+  mapped_none b o = grind arith
 
   find_lookup : (es : List (ℕ × X)) (q : ℕ) → find nat_cmp q (map (λ e. (e.0, f e.1)) es) ≡ option_map f (lookup (is_at (nat_cmp q)) es)
   find_lookup [] q = refl
@@ -159,8 +155,7 @@ not_behind first k = grind (arith, nat_tests)
 
 module _ {X : Type 0} where
   cond-or : (a b : Bool) (x : X) (o : Option X) → cond a (Some x) (cond b (Some x) o) ≡ cond (a || b) (Some x) o
-  cond-or true b x o = refl
-  cond-or false b x o = refl
+  cond-or a b x o = grind arith
 
   find_run : (first count : ℕ) (x : X) (es : List (ℕ × X)) (q : ℕ) → find nat_cmp q (map (λ page. (page, x)) (pages_from first count) ++ es) ≡ cond (is_within first count q) (Some x) (find nat_cmp q es)
   unfolding pages_from
@@ -175,8 +170,7 @@ module _ {X : Type 0} where
   get-set_within m first count x q = get-from_entries nat_cmp_total _ q ∙ find_run first count x (finmap.entries m) q ∙ ap (cond (is_within first count q) (Some x)) (sym (get-entries m q))
 
   not_turned : (b : Bool) (o : Option X) → cond (not b) o None ≡ cond b None o
-  not_turned true o = refl
-  not_turned false o = refl
+  not_turned b o = grind arith
 
   pub get-remove_within : (m : Table X) (first count q : ℕ) → finmap.get (remove_within m first count) q ≡ cond (is_within first count q) None (finmap.get m q)
   unfolding remove_within
@@ -213,12 +207,10 @@ module _ {X : Type 0} where
 
   change_by : (change : X → X) (o : Option X) (here before : Bool) → (here ≡ true → before ≡ false)
       → (y : X) → (here ≡ true → o ≡ Some y) → cond here (Some (change y)) (option_map (λ x. cond before (change x) x) o) ≡ option_map (λ x. cond (here || before) (change x) x) o
-  change_by change o true before apart y is = sym (ap (option_map change) (is refl))
-  change_by change o false before apart y is = refl
+  change_by change o here before apart y is = grind arith
 
   pub mapped_itself : (o : Option X) → option_map (λ x. x) o ≡ o
-  mapped_itself None = refl
-  mapped_itself (Some x) = refl
+  mapped_itself o = grind arith
 
   -- the page behind the run is as it was
   pub change_outside : (change : X → X) (t : Table X) (first k : ℕ) → finmap.get (change_within change t first (k - first)) k ≡ finmap.get t k
@@ -238,8 +230,7 @@ module _ {X : Type 0} where
       apart first k q here = grind (arith, nat_tests)
 
   stays_by : (change : X → X) (o : Option X) (here before : Bool) → (here ≡ true → o ≡ None) → option_map (λ x. cond before (change x) x) o ≡ option_map (λ x. cond (here || before) (change x) x) o
-  stays_by change (Some x) true before none = absurd (let f : Some x ≡ None = none refl in cc)
-  stays_by change _ _ before none = refl
+  stays_by change o here before none = grind arith
 
   pub change_skips : (change : X → X) (t : Table X) (first k : ℕ) → first ≤ k → finmap.get t k ≡ None → change_within change t first (k - first) ≡ change_within change t first (k + 1 - first)
   change_skips change t first k le none = same_table _ _ (λ q. get-change_within change t first (k - first) q
@@ -249,8 +240,7 @@ module _ {X : Type 0} where
   -- ---- a run that is taken out
 
   not_some : (o : Option X) → (IsSome o → ⊥) → o ≡ None
-  not_some None never = refl
-  not_some (Some x) never = absurd (never refl)
+  not_some o never = grind arith
 
   -- outside of the run nothing changed, and in it nothing is left
   pub removed_run : (old now : Table X) (first count : ℕ) → ((q : ℕ) → is_within first count q ≡ false → finmap.get now q ≡ finmap.get old q)

@@ -95,22 +95,7 @@ behind_parts : (next number : ℕ) (newer older : History) (placed : PlacedMark)
     → d ≤ length newer → filter (is_behind number) (placed ∷ earlier) ≡ placed ∷ kept
     → woven placed.before (drop d newer ++ older) earlier ≡ woven placed.before (drop d newer) kept ++ woven number older old_marks
     → woven next (newer ++ older) (placed ∷ earlier) ≡ woven next newer (filter (is_behind number) (placed ∷ earlier)) ++ woven number older old_marks
-behind_parts next number newer older placed earlier kept old_marks d is short all rest =
-    let went : List Item = map Told (take d newer) in
-    let left : List Item = woven placed.before (drop d newer) kept in
-    let gone : List Item = woven number older old_marks in
-    let first : woven next (newer ++ older) (placed ∷ earlier)
-    ≡ map Told (take d (newer ++ older)) ++ Noted placed.mark ∷ woven placed.before (drop d (newer ++ older)) earlier =
-    ap (λ k. map Told (take k (newer ++ older)) ++ Noted placed.mark ∷ woven placed.before (drop k (newer ++ older)) earlier) (sym is) in
-    let second : map Told (take d (newer ++ older)) ++ Noted placed.mark ∷ woven placed.before (drop d (newer ++ older)) earlier
-    ≡ went ++ Noted placed.mark ∷ woven placed.before (drop d newer ++ older) earlier =
-    ap (λ xs. map Told xs ++ Noted placed.mark ∷ woven placed.before (drop d (newer ++ older)) earlier) (take-append-le d newer older short)
-    ∙ ap (λ xs. went ++ Noted placed.mark ∷ woven placed.before xs earlier) (drop-append-le d newer older short) in
-    let third : went ++ Noted placed.mark ∷ woven placed.before (drop d newer ++ older) earlier ≡ (went ++ Noted placed.mark ∷ left) ++ gone =
-    ap (λ xs. went ++ Noted placed.mark ∷ xs) rest ∙ sym (append_assoc went (Noted placed.mark ∷ left) gone) in
-    let fourth : (went ++ Noted placed.mark ∷ left) ++ gone ≡ woven next newer (placed ∷ kept) ++ gone =
-    ap (λ k. (map Told (take k newer) ++ Noted placed.mark ∷ woven placed.before (drop k newer) kept) ++ gone) is in
-    first ∙ second ∙ third ∙ fourth ∙ ap (λ xs. woven next newer xs ++ gone) (sym all)
+behind_parts next number newer older placed earlier kept old_marks d is short all rest = grind (arith, take-append-le, drop-append-le, append_assoc)
 
 cut : (under next : ℕ) (newer older : History) (marks : List PlacedMark) → under + 1 + length newer ≡ next → AreWithin next marks
     → IsCut under next newer older marks
@@ -166,11 +151,7 @@ renamed_parts : (next mid number at : ℕ) (all newer older : History) (marks ke
     → woven next (newer ++ older) marks ≡ woven next newer (filter (is_behind at) marks) ++ woven at older old_marks
     → filter (is_behind number) marks ≡ kept
     → woven next all marks ≡ woven mid newer kept ++ woven at older old_marks
-renamed_parts next mid number at all newer older marks kept old_marks is same here parts left =
-    ap (λ xs. woven next xs marks) is ∙ parts
-    ∙ ap (λ n. woven n newer (filter (is_behind at) marks) ++ woven at older old_marks) (sym same)
-    ∙ ap (λ n. woven mid newer (filter (is_behind n) marks) ++ woven at older old_marks) here
-    ∙ ap (λ ms. woven mid newer ms ++ woven at older old_marks) left
+renamed_parts next mid number at all newer older marks kept old_marks is same here parts left = grind arith
 
 back_in_time : (number : ℕ) (front : List Entry) (older : History) (marks : List PlacedMark) → older ≡ reverse front → front ≡ reverse (entries_of (woven number older marks))
 back_in_time number front older marks is =
@@ -206,18 +187,9 @@ taken first count entries marks some within marked =
 pub taken_parts : (first count : ℕ) (entries kept : List Entry) (marks behind : List PlacedMark) (t : IsTaken first count entries marks)
     → kept ≡ drop count entries → behind ≡ filter (is_behind (first + count)) marks
     → woven (first + length entries) (reverse entries) (reverse marks) ≡ woven (first + count + length kept) (reverse kept) (reverse behind) ++ t.gone
-taken_parts first count entries kept marks behind t e f =
-    t.parts
-    ∙ ap (λ xs. woven (first + count + length xs) (reverse xs) (reverse (filter (is_behind (first + count)) marks)) ++ t.gone) (sym e)
-    ∙ ap (λ ms. woven (first + count + length kept) (reverse kept) (reverse ms) ++ t.gone) (sym f)
+taken_parts first count entries kept marks behind t e f = grind arith
 
 pub within_kept : (first count : ℕ) (entries kept : List Entry) (marks behind : List PlacedMark) → count ≤ length entries
     → kept ≡ drop count entries → behind ≡ filter (is_behind (first + count)) marks
     → AreWithin (first + length entries) (reverse marks) → AreWithin (first + count + length kept) (reverse behind)
-within_kept first count entries kept marks behind within e f marked =
-    let left : length kept ≡ length entries - count = ap length e ∙ length-drop count entries in
-    let next : first + length entries ≡ first + count + length kept = omega (arith, left, within) in
-    let turned : filter (is_behind (first + count)) (reverse marks) ≡ reverse behind =
-    sym (filter-reverse (is_behind (first + count)) marks) ∙ ap reverse (sym f) in
-    subst (AreWithin (first + count + length kept)) turned
-    (within_filter (first + count) (first + count + length kept) (reverse marks) (subst (λ n. AreWithin n (reverse marks)) next marked))
+within_kept first count entries kept marks behind within e f marked = grind (arith, length-drop, turned, filter-reverse, within_filter)

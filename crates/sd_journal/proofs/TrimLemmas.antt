@@ -20,28 +20,15 @@ use Rattle.sd_journal.proofs.MarkedLemmas.{frozen_leaves}
 -- ---- what is folded
 
 none_pending : (n : ℕ) (folded : History) → IsEnded n folded → pending folded ≡ None
-none_pending n [] ended = absurd ended
-none_pending n (Applied seat command reply ∷ before) ended = absurd ended
-none_pending n (Freeze m ∷ before) ended = absurd ended
-none_pending n (Acked m ∷ before) ended =
-    let gone : unless_it_is n (Some n) ≡ None = rw (same n) refl in
-    ap (unless_it_is m) ended.1 ∙ ap (λ k. unless_it_is k (Some n)) ended.0 ∙ gone
-none_pending n (Cancelled m ∷ before) ended = absurd ended
-none_pending n (Reopened m ∷ before) ended = refl
+none_pending n folded ended = grind arith
 
 last_is : (base : Base) (n : ℕ) (folded : History) → IsEnded n folded → last base folded ≡ Some n
-last_is base n [] ended = absurd ended
-last_is base n (Applied seat command reply ∷ before) ended = absurd ended
-last_is base n (Freeze m ∷ before) ended = absurd ended
-last_is base n (Acked m ∷ before) ended = ap Some ended.0
-last_is base n (Cancelled m ∷ before) ended = absurd ended
-last_is base n (Reopened m ∷ before) ended = ended.0
+last_is base n folded ended = grind arith
 
 -- ---- numbers
 
 more_than : (number : Option ℕ) (n k : ℕ) → IfSome number (λ own. own < n) → n < k → IfSome number (λ own. own < k)
-more_than None n k below less = tt
-more_than (Some own) n k below less = omega (arith, below, less)
+more_than number n k below less = grind arith
 
 above_more : (base : Base) (history : History) (n k : ℕ) → IsAbove base history n → n < k → IsAbove base history k
 above_more base [] n k above less = more_than base.number n k above less
@@ -63,23 +50,10 @@ above_pending base (Cancelled m ∷ earlier) n k legal e less = none_left base e
 above_pending base (Reopened m ∷ earlier) n k legal e less = none_is_some n e
 
 above_end : (base : Base) (n k : ℕ) (folded : History) → IsEnded n folded → IsAbove base folded k → n < k
-above_end base n k [] ended above = absurd ended
-above_end base n k (Applied seat command reply ∷ before) ended above = absurd ended
-above_end base n k (Freeze m ∷ before) ended above = absurd ended
-above_end base n k (Acked m ∷ before) ended above = subst (λ o. o < k) ended.0 above.0
-above_end base n k (Cancelled m ∷ before) ended above = absurd ended
-above_end base n k (Reopened m ∷ before) ended above = subst (λ o. IfSome o (λ own. own < k)) ended.0 above.0
+above_end base n k folded ended above = grind arith
 
 above_folded : (base : Base) (n k : ℕ) (folded : History) → IsLegal base folded → IsEnded n folded → n < k → IsAbove base folded k
-above_folded base n k [] legal ended less = absurd ended
-above_folded base n k (Applied seat command reply ∷ before) legal ended less = absurd ended
-above_folded base n k (Freeze m ∷ before) legal ended less = absurd ended
-above_folded base n k (Acked m ∷ before) legal ended less =
-    (subst (λ o. o < k) (sym ended.0) less, above_pending base before n k legal.1 ended.1 less)
-above_folded base n k (Cancelled m ∷ before) legal ended less = absurd ended
-above_folded base n k (Reopened m ∷ before) legal ended less =
-    let below : IfSome (Some n) (λ own. own < k) = less in
-    (subst (λ o. IfSome o (λ own. own < k)) (sym ended.0) below, above_pending base before n k legal.1 ended.1 less)
+above_folded base n k folded legal ended less = grind (arith, above_pending)
 
 above_on : (base : Base) (kept folded : History) (n k : ℕ) → IsEnded n folded → IsAbove base (kept ++ folded) k → IsAbove (base_after base n folded) kept k
 above_on base [] folded n k ended above = above_end base n k folded ended above
@@ -179,12 +153,7 @@ frozen_memory base (Cancelled m ∷ earlier) n legal e = none_left base earlier 
 frozen_memory base (Reopened m ∷ earlier) n legal e = none_is_some n e
 
 freeze_folded : (base : Base) (folded : History) (n : ℕ) → IsLegal base folded → IsEnded n folded → at_freeze base folded n ≡ Some (memory_after base folded)
-freeze_folded base [] n legal ended = absurd ended
-freeze_folded base (Applied seat command reply ∷ before) n legal ended = absurd ended
-freeze_folded base (Freeze m ∷ before) n legal ended = absurd ended
-freeze_folded base (Acked m ∷ before) n legal ended = frozen_memory base before n legal.1 ended.1
-freeze_folded base (Cancelled m ∷ before) n legal ended = absurd ended
-freeze_folded base (Reopened m ∷ before) n legal ended = frozen_memory base before n legal.1 ended.1
+freeze_folded base folded n legal ended = grind (arith, frozen_memory)
 
 -- a number above all is above the folded one
 above_kept : (base : Base) (kept : History) (n k : ℕ) → base.number ≡ Some n → IsAbove base kept k → n < k
@@ -237,8 +206,7 @@ not_same : (a b : ℕ) → a < b → (a == b) ≡ false
 not_same a b less = grind (arith, nat_tests)
 
 none_in_base : (number : Option ℕ) (memory : PlainMemory) (k : ℕ) → IfSome number (λ own. own < k) → at_base number memory k ≡ None
-none_in_base None memory k above = refl
-none_in_base (Some own) memory k above = rw (not_same own k above) refl
+none_in_base number memory k above = grind arith
 
 none_frozen : (base : Base) (history : History) (k : ℕ) → IsAbove base history k → at_freeze base history k ≡ None
 none_frozen base [] k above = none_in_base base.number base.memory k above
@@ -250,12 +218,7 @@ none_frozen base (Reopened m ∷ earlier) k above = none_frozen base earlier k a
 
 base_freeze : (base : Base) (folded : History) (n k : ℕ) → IsLegal base folded → IsEnded n folded → IsFrom n k
     → at_base (Some n) (memory_after base folded) k ≡ at_freeze base folded k
-base_freeze base folded n k legal ended (inl own) =
-    let here : at_base (Some n) (memory_after base folded) n ≡ Some (memory_after base folded) = rw (same n) refl in
-    subst (λ o. at_base (Some n) (memory_after base folded) o ≡ at_freeze base folded o) (sym own) (here ∙ sym (freeze_folded base folded n legal ended))
-base_freeze base folded n k legal ended (inr less) =
-    let none : at_base (Some n) (memory_after base folded) k ≡ None = rw (not_same n k less) refl in
-    none ∙ sym (none_frozen base folded k (above_folded base n k folded legal ended less))
+base_freeze base folded n k legal ended h6 = grind (arith, same, freeze_folded, not_same, none_frozen, above_folded)
 
 freeze_stays : (base : Base) (kept folded : History) (n k : ℕ) → IsLegal base (kept ++ folded) → IsEnded n folded → IsFrom n k
     → at_freeze (base_after base n folded) kept k ≡ at_freeze base (kept ++ folded) k
@@ -270,18 +233,11 @@ freeze_stays base (Reopened m ∷ earlier) folded n k legal ended from = freeze_
 
 last_off : (base : Base) (kept folded : History) (n : ℕ) (shown : Shown) → IsLegal base (kept ++ folded) → IsEnded n folded
     → IsLastPair (base_after base n folded) kept shown → IsLastPair base (kept ++ folded) shown
-last_off base kept folded n None was ended none = sym (last_stays base kept folded n ended) ∙ none
-last_off base kept folded n (Some pair) was ended is =
-    let from = last_from (base_after base n folded) kept n pair.0 refl (legal base kept folded n was ended) is.0 in
-    (sym (last_stays base kept folded n ended) ∙ is.0, sym (freeze_stays base kept folded n pair.0 was ended from) ∙ is.1)
+last_off base kept folded n shown was ended none = grind (arith, last_stays, last_from, legal, freeze_stays)
 
 last_on : (base : Base) (kept folded : History) (n : ℕ) (shown : Shown) → IsLegal base (kept ++ folded) → IsEnded n folded
     → IsLastPair base (kept ++ folded) shown → IsLastPair (base_after base n folded) kept shown
-last_on base kept folded n None was ended none = last_stays base kept folded n ended ∙ none
-last_on base kept folded n (Some pair) was ended is =
-    let now = last_stays base kept folded n ended ∙ is.0 in
-    let from = last_from (base_after base n folded) kept n pair.0 refl (legal base kept folded n was ended) now in
-    (now, freeze_stays base kept folded n pair.0 was ended from ∙ is.1)
+last_on base kept folded n shown was ended none = grind (arith, last_stays, last_from, legal, freeze_stays)
 
 pub last_pair : (base : Base) (kept folded : History) (n : ℕ) (shown : Shown) → IsLegal base (kept ++ folded) → IsEnded n folded
     → IsLastPair (base_after base n folded) kept shown ↔ IsLastPair base (kept ++ folded) shown
@@ -289,18 +245,11 @@ last_pair base kept folded n shown was ended = (last_off base kept folded n show
 
 pending_off : (base : Base) (kept folded : History) (n : ℕ) (shown : Shown) → IsLegal base (kept ++ folded) → IsEnded n folded
     → IsPendingPair (base_after base n folded) kept shown → IsPendingPair base (kept ++ folded) shown
-pending_off base kept folded n None was ended never = absurd never
-pending_off base kept folded n (Some pair) was ended is =
-    let from = pending_from (base_after base n folded) kept n pair.0 refl (legal base kept folded n was ended) is.0 in
-    (sym (pending_stays kept folded n ended) ∙ is.0, sym (freeze_stays base kept folded n pair.0 was ended (inr from)) ∙ is.1)
+pending_off base kept folded n shown was ended never = grind (arith, pending_from, legal, pending_stays, freeze_stays)
 
 pending_on : (base : Base) (kept folded : History) (n : ℕ) (shown : Shown) → IsLegal base (kept ++ folded) → IsEnded n folded
     → IsPendingPair base (kept ++ folded) shown → IsPendingPair (base_after base n folded) kept shown
-pending_on base kept folded n None was ended never = absurd never
-pending_on base kept folded n (Some pair) was ended is =
-    let now = pending_stays kept folded n ended ∙ is.0 in
-    let from = pending_from (base_after base n folded) kept n pair.0 refl (legal base kept folded n was ended) now in
-    (now, freeze_stays base kept folded n pair.0 was ended (inr from) ∙ is.1)
+pending_on base kept folded n shown was ended never = grind (arith, pending_stays, pending_from, legal, freeze_stays)
 
 pub pending_pair : (base : Base) (kept folded : History) (n : ℕ) (shown : Shown) → IsLegal base (kept ++ folded) → IsEnded n folded
     → IsPendingPair (base_after base n folded) kept shown ↔ IsPendingPair base (kept ++ folded) shown
@@ -308,23 +257,12 @@ pending_pair base kept folded n shown was ended = (pending_off base kept folded 
 
 pub allowed : (base : Base) (kept folded : History) (n : ℕ) (shown : Shown) → IsLegal base (kept ++ folded) → IsEnded n folded
     → IsAllowed (base_after base n folded) kept shown ↔ IsAllowed base (kept ++ folded) shown
-allowed base kept folded n shown was ended = (
-  λ either. elim either [
-    | inl is ↦ inl (last_off base kept folded n shown was ended is)
-    | inr is ↦ inr (pending_off base kept folded n shown was ended is)
-  ],
-  λ either. elim either [
-    | inl is ↦ inl (last_on base kept folded n shown was ended is)
-    | inr is ↦ inr (pending_on base kept folded n shown was ended is)
-  ],
-)
+allowed base kept folded n shown was ended = grind (arith, last_off, pending_off, last_on, pending_on)
 
 -- ---- there is one front
 
 ends_pending : (n : ℕ) (before : History) (entry : Entry) → Ends n before entry → pending before ≡ Some n
-ends_pending n before (Acked m) ends = ends.1
-ends_pending n before (Reopened m) ends = ends.1
-ends_pending n before _ ends = absurd ends
+ends_pending n before entry ends = grind arith
 
 never_less : {P : Type 0} (n : ℕ) → n < n → P
 never_less n less = absurd (omega (arith, less))

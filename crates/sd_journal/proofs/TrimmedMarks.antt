@@ -1,5 +1,5 @@
 -- What a trim leaves of a marked journal, and of the bits that it gives.
-use Rattle.std.proofs.Common.{◌≡◌, ◌⊎◌, ℕ, ◌==◌, ◌&&◌, ◌||◌, Bool, true, false, cond, [], ◌∷◌, ◌++◌, Option, Some, None, IfSome, is_some, if◌then◌else◌, refl, sym, ◌∙◌, ap, subst, inl, inr}
+use Rattle.std.proofs.Common.{◌≡◌, ◌⊎◌, ℕ, ◌==◌, ◌&&◌, ◌||◌, Bool, true, false, cond, [], ◌∷◌, ◌++◌, Option, Some, None, IfSome, is_some, if◌then◌else◌, refl, sym, ◌∙◌, ap, subst, inl, inr, arith}
 use Rattle.std.proofs.lemmas.Bool.{eqb-true, or_parts}
 use Rattle.std.specs.List.{list_any}
 use Rattle.std.specs.Option.{option_map}
@@ -35,14 +35,10 @@ memory_behind base kept folded n = trim.memory base (entries_of kept) (entries_o
 -- ---- marks
 
 ended_visits : (n : ℕ) (entry : Entry) (earlier : Marked) → Ends n (entries_of earlier) entry → visiting (Told entry ∷ earlier) ≡ None
-ended_visits n (Acked m) earlier ends = refl
-ended_visits n (Reopened m) earlier ends = refl
-ended_visits n _ earlier ends = absurd ends
+ended_visits n entry earlier ends = grind arith
 
 visiting_folded : (n : ℕ) (folded : Marked) → IsFolded n folded → visiting folded ≡ None
-visiting_folded n folded f =
-    let is : folded ≡ Told f.newest.0 ∷ f.newest.1 = f.newest.2 in
-    ap visiting is ∙ ended_visits n f.newest.0 f.newest.1 (subst (λ items. IsEnded n (entries_of items)) is f.ended)
+visiting_folded n folded f = grind arith
 
 pub visiting_stays : (kept folded : Marked) (n : ℕ) → IsFolded n folded → visiting kept ≡ visiting (kept ++ folded)
 visiting_stays [] folded n f = sym (visiting_folded n folded f)
@@ -179,11 +175,7 @@ marked base (Noted mark ∷ kept) folded n was f = (noted base kept folded n mar
 was_there : (base : Base) (item : Item) (items : Marked) (space page : ℕ) → is_mapped (memory_at base (item ∷ items)) space page ≡ true
     → (is_mapped (memory_at base items) space page ≡ true)
     ⊎ ((touches space page (item_event item) ≡ true) × (write_protects space page (item_event item) ≡ true))
-was_there base (Told (Applied seat command reply)) items space page mapped = elim (was_mapped command reply (memory_at base items) space page mapped) [
-  | inl was ↦ inl was
-  | inr made ↦ inr (made.touched, made.protected)
-]
-was_there base _ items space page mapped = inl mapped
+was_there base item items space page mapped = grind (arith, was_mapped)
 
 pub due_stays : (base : Base) (kept folded : Marked) (n space page : ℕ) → IsFolded n folded → HasVisited base folded
     → is_mapped (memory_at base (kept ++ folded)) space page ≡ true
@@ -226,9 +218,7 @@ writable_stays base (item ∷ kept) folded n space page visited mapped =
 
 mapped_at : PlainLaw → (base : Base) (items : Marked) (contents : Contents) (space number : ℕ) (page : PageState) → plain_of contents ≡ memory_at base items
     → page_at contents space number ≡ Some page → is_mapped (memory_at base items) space number ≡ true
-mapped_at plain base items contents space number page memory there =
-    ap (λ m. is_mapped m space number) (sym memory)
-    ∙ ap is_some (plain.pages contents space number ∙ ap (option_map plain_page) there)
+mapped_at plain base items contents space number page memory there = grind arith
 
 swept_behind : (base : Base) (kept folded : Marked) (n serial : ℕ) → list_any (is_of serial) folded ≡ false → IsSwept base (kept ++ folded) serial
     → IsSwept (base_after base n (entries_of folded)) kept serial

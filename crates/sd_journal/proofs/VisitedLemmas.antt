@@ -1,5 +1,5 @@
 -- A page that was visited since a freeze is clean as long as that is pending.
-use Rattle.std.proofs.Common.{◌≡◌, ℕ, ◌==◌, Bool, true, false, cond, if◌then◌else◌, [], ◌∷◌, Some, is_some, refl, sym, ◌∙◌, ap, subst, inl}
+use Rattle.std.proofs.Common.{◌≡◌, ℕ, ◌==◌, Bool, true, false, cond, if◌then◌else◌, [], ◌∷◌, Some, is_some, refl, sym, ◌∙◌, ap, subst, inl, arith}
 use Rattle.std.proofs.lemmas.Option.{same_Some}
 use Rattle.sd_pagetable.specs.Tracking.{Passed, clears, is_page, is_writable}
 use Rattle.sd_command.specs.declared.refusal.Refusal.TheVariants.{Frozen}
@@ -27,8 +27,7 @@ passes base item items space page e clean =
     (due_passes base item items space page e ∙ clean.0, writable_passes item items space page e ∙ clean.1)
 
 visited_rest : (event : Bool) (rest : Bool) → event ≡ false → cond event true rest ≡ true → rest ≡ true
-visited_rest true rest e v = never e
-visited_rest false rest e v = v
+visited_rest event rest e v = grind arith
 
 clean_since : (base : Base) (items : Marked) (n space page : ℕ) → IsMarked base items → pending (entries_of items) ≡ Some n → visited_since items n space page ≡ true
     → IsClean base items space page
@@ -62,13 +61,7 @@ clean_since base (Noted (Visit s at number) ∷ earlier) n space page marked is 
 
     by : (b : Bool) → is_page at number space page ≡ b → (is_page at number space page ≡ false → IsClean base earlier space page)
         → IsClean base (Noted (Visit s at number) ∷ earlier) space page
-    by true e rest =
-        (due ∙ ap (λ b. cond b false (is_due base earlier space page)) e, may_write ∙ ap (λ b. cond b false (is_writable (events_of earlier) space page)) e)
-    by false e rest =
-        let clean = rest e in (
-          due ∙ ap (λ b. cond b false (is_due base earlier space page)) e ∙ clean.0,
-          may_write ∙ ap (λ b. cond b false (is_writable (events_of earlier) space page)) e ∙ clean.1,
-        )
+    by b e rest = grind arith
 
 clean_end : (base : Base) (before : Marked) (n space page : ℕ) (entry : Entry) → IsMarked base before → Ends n (entries_of before) entry
     → visited_since (Told entry ∷ before) n space page ≡ true → IsClean base (Told entry ∷ before) space page

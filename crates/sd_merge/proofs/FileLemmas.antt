@@ -52,17 +52,7 @@ filed law order source entries pages header tables numbers words own table count
     serial = (let a : 0 < order.source.stands_for = own.stands in let b : order.source.stands_for < order.serial = own.below in omega arith)
 
     complete : IsComplete (image_of header pages tables)
-    complete = subst (λ (h : Header). IsComplete (image_of h pages tables)) (sym numbers) (record {
-      words = subst HasWords numbers words;
-      serial = serial;
-      numbers = (own.stands, own.below, refl);
-      checkpoint = own.checkpoint;
-      table = subst (λ (h : Header). IsTable h tables) numbers table.table.is;
-      stored = count;
-      whole = whole;
-      table_len = refl;
-      digest = subst (λ (h : Header). HasItsDigest (image_of h pages tables)) numbers digest;
-    })
+    complete  = grind arith
 
 files : ((l : List Listed) → Lists (entries_listed l) l) → TextIsImage → (ticket : ℕ) (places : Places) (catalog : List Image) (source : Image) (pages : Pages) (old new : Copying) (request : Asked)
     → Steps ticket places old (step.TableCall request) new → IsSourceAt places catalog old.order.source.serial source → IsRestorable source → AreItsNumbers old.order
@@ -89,13 +79,11 @@ fills law order source entries pages header tables f = law.image pages header (t
 
 pub filed_asked : (stage : Stage) (plan : Planned) (order : CopyOrder) (source : Image) (entries : List ImageEntry) (pages : Pages) → IsFiledIn stage order source entries pages
     → IsFiledIn (with_plan stage plan) order source entries pages
-filed_asked (Close old header tables) plan order source entries pages is = is
-filed_asked _ plan order source entries pages is = tt
+filed_asked stage plan order source entries pages is = grind arith
 
 filed_after : (stage : Stage) (plan : Planned) (calls : Calls) (order : CopyOrder) (source : Image) (entries : List ImageEntry) (pages : Pages) → IsFiledIn stage order source entries pages
     → IsFiledIn (stage_after stage plan calls) order source entries pages
-filed_after stage plan [] order source entries pages is = tt
-filed_after stage plan (call ∷ calls) order source entries pages is = filed_asked stage plan order source entries pages is
+filed_after stage plan calls order source entries pages is = grind arith
 
 asks : (ticket : ℕ) (places : Places) (source : Image) (pages : Pages) (old new : Copying) (request : Asked) → Steps ticket places old (step.Call request) new
     → FilesCopy source pages old → FilesCopy source pages new

@@ -51,10 +51,7 @@ abbrev IsFurther : Place → Place → Type 0
 IsFurther a b = (a.0 < b.0) ⊎ ((a.0 ≡ b.0) × (a.1 ≤ b.1))
 
 ends_further : (a b : Place) (t : Listed) → IsFurther a b → EndsBefore a t → EndsBefore b t
-ends_further a b t (inl less) (inl below) = inl (omega arith)
-ends_further a b t (inl less) (inr here) = inl (let e : t.space ≡ a.0 = here.0 in omega arith)
-ends_further a b t (inr same) (inl below) = inl (let e : a.0 ≡ b.0 = same.0 in omega arith)
-ends_further a b t (inr same) (inr here) = inr (here.0 ∙ same.0, (let e : end_of t.runs ≤ a.1 = here.1 in let f : a.1 ≤ b.1 = same.1 in omega arith))
+ends_further a b t h3 h4 = grind arith
 
 end_further : (a b : Place) (tables : List Listed) → IsFurther a b → EndBefore a tables → EndBefore b tables
 end_further a b [] further ends = tt
@@ -128,9 +125,7 @@ longer_space front last new at kind are ends here same_space runs end = record {
     was = gathered_last 0 (listed front) (listing_of last) old
 
     more : table_entries (listing_of new) ≡ table_entries (listing_of last) ++ (record { place = at; kind = kind }) ∷ []
-    more = ap (λ n. flat_map (run_entries n) new.runs.items) (same_space)
-        ∙ runs_entries last.space at.1 kind last.runs.items new.runs.items runs.list
-        ∙ ap (λ n. flat_map (run_entries last.space) last.runs.items ++ (record { place = (n, at.1); kind = kind }) ∷ []) here
+    more  = grind (arith, runs_entries)
 
 -- another space begins
 more_spaces : (old new : List SpaceTable) (at : Place) (kind : RunKind) → AreGathered 0 (listed old) → EndBefore at (listed old)
@@ -187,8 +182,4 @@ last_put before (x ∷ entries) e = last_put (Some x.place) entries e
 
 -- with one page more they are such still, and it is the last
 pub copies_put : (old new : List SpaceTable) (at : Place) (kind : RunKind) → IsPut (listed old) (listed new) at kind → AreCopies new (Some at)
-copies_put old new at kind put = record {
-  gathered = put.gathered;
-  is_last = sym (ap (last_of None) put.entries ∙ last_put None (entries_in old) (record { place = at; kind = kind }));
-  ends = put.ends;
-}
+copies_put old new at kind put = grind (arith, last_put)

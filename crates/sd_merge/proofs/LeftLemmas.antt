@@ -28,11 +28,7 @@ use Rattle.sd_rounds.proofs.LeftLemmas.{few_calls}
 
 asked_fewer : (stage : Stage) (old new : Planned) (taking pages : ℕ) → plan_of stage ≡ Some old → plan_left new + 1 ≡ plan_left old
     → stage_left (with_plan stage new) taking pages < stage_left stage taking pages
-asked_fewer (Format plan) old new taking pages is fewer = (let same : plan_left plan ≡ plan_left old = ap plan_left (one_plan plan old is) in omega arith)
-asked_fewer PassStage old new taking pages is fewer = absurd (let f : None ≡ Some old = is in cc)
-asked_fewer (PageRead plan) old new taking pages is fewer = (let same : plan_left plan ≡ plan_left old = ap plan_left (one_plan plan old is) in omega arith)
-asked_fewer (PageWrite plan) old new taking pages is fewer = (let same : plan_left plan ≡ plan_left old = ap plan_left (one_plan plan old is) in omega arith)
-asked_fewer (Close plan header tables) old new taking pages is fewer = (let same : plan_left plan ≡ plan_left old = ap plan_left (one_plan plan old is) in omega arith)
+asked_fewer stage old new taking pages is fewer = grind arith
 
 -- ---- a step of the merged image
 
@@ -41,33 +37,7 @@ passing : (old : Copying) → old.stage ≡ PassStage → copy_left old ≡ body
 passing old e = ap (λ (s : Stage). stage_left s (is_taking old.taking) old.ahead) e
 
 step_fewer : (ticket : ℕ) (places : Places) (old new : Copying) (made : MergeStep) → Steps ticket places old made new → copy_left new < copy_left old
-step_fewer ticket places old new (step.Call request) s =
-    subst (λ (m : Copying). copy_left m < copy_left old) (sym s.0.is)
-    (asked_fewer old.stage s.0.plan s.0.next (is_taking old.taking) old.ahead s.0.was (gives_fewer s.0.plan s.0.next request s.0.gives))
-step_fewer ticket places old new (step.ReadCall request) s =
-    let now : copy_left new ≡ plan_left s.0.reads.next + body_left 1 new.ahead = ap copy_left s.0.reads.is in
-    let one : plan_left s.0.reads.next + 1 ≡ 2 = gives_fewer _ s.0.reads.next request s.0.reads.gives in
-    let was : copy_left old ≡ body_left (is_taking old.taking) old.ahead = passing old s.0.reads.stage in
-    let free : is_taking old.taking ≡ 0 = ap is_taking s.0.reads.free in
-    let more : old.ahead ≡ new.ahead + 1 = s.0.reads.fewer in
-    omega arith
-step_fewer ticket places old new (step.PageCall request) s =
-    let now : copy_left new ≡ plan_left s.0.next + body_left 0 old.ahead = ap copy_left s.0.is in
-    let one : plan_left s.0.next + 1 ≡ 2 = gives_fewer _ s.0.next request s.0.gives in
-    let was : copy_left old ≡ body_left (is_taking old.taking) old.ahead = passing old s.0.stage in
-    let taking : is_taking old.taking ≡ 1 = ap is_taking s.0.taking in
-    omega arith
-step_fewer ticket places old new (step.TableCall request) s =
-    let now : copy_left new ≡ plan_left s.0.writes.next = ap copy_left s.0.writes.is in
-    let one : plan_left s.0.writes.next + 1 ≡ 10 = gives_fewer _ s.0.writes.next request s.0.writes.gives in
-    let was : copy_left old ≡ body_left (is_taking old.taking) old.ahead = passing old s.0.writes.stage in
-    omega arith
-step_fewer ticket places old new step.Zero s =
-    let now : copy_left new ≡ stage_left old.stage (is_taking old.taking) new.ahead = ap copy_left s.takes.is in
-    let pass : stage_left old.stage (is_taking old.taking) new.ahead ≡ body_left (is_taking old.taking) new.ahead = ap (λ (g : Stage). stage_left g (is_taking old.taking) new.ahead) s.takes.stage in
-    let was : copy_left old ≡ body_left (is_taking old.taking) old.ahead = passing old s.takes.stage in
-    let more : old.ahead ≡ new.ahead + 1 = s.takes.fewer in
-    omega arith
+step_fewer ticket places old new made s = grind arith
 
 -- ---- a step of a merge
 
@@ -110,11 +80,7 @@ same_doing old new e = ap running_left e
 
 works : (serial : ℕ) (state : SlotState) (ticket : ℕ) (places : Places) (old : Option Running) (made : MergeStep) (new : Option Running)
     → Works serial state ticket places old made new → left_of new < left_of old
-works serial state ticket places old made new w =
-    subst (λ (o : Option Running). left_of o < left_of old) (sym w.is)
-    (subst (λ (o : Option Running). running_left w.next < left_of o) (sym w.was)
-    (subst (λ n. n < running_left w.running) (sym (same_doing w.running w.next w.works.is))
-    (works_at serial state ticket places w.running w.running.doing made w.next.doing w.works.works)))
+works serial state ticket places old made new w = grind arith
 
 -- ---- an outcome
 
@@ -127,22 +93,14 @@ goes_on_fewer old new made g =
     fewer = settled_fewer g.plan made g.awaited.out g.one
 
     ended : (stage : Stage) → plan_of stage ≡ Some g.plan → (IsClosing stage → ⊥) → stage_left PassStage (is_taking old.taking) old.ahead < stage_left stage (is_taking old.taking) old.ahead
-    ended (Format plan) is none = (let same : plan_left plan ≡ plan_left g.plan = ap plan_left (one_plan plan g.plan is) in omega (arith, fewer))
-    ended PassStage is none = absurd (let f : None ≡ Some g.plan = is in cc)
-    ended (PageRead plan) is none = (let same : plan_left plan ≡ plan_left g.plan = ap plan_left (one_plan plan g.plan is) in omega (arith, fewer))
-    ended (PageWrite plan) is none = (let same : plan_left plan ≡ plan_left g.plan = ap plan_left (one_plan plan g.plan is) in omega (arith, fewer))
-    ended (Close plan header tables) is none = absurd (none tt)
+    ended stage is none = grind arith
 
     by : (calls : Calls) → (plan_after g.plan made).calls ≡ calls
         → stage_left (stage_after old.stage (plan_after g.plan made) calls) (is_taking old.taking) old.ahead < copy_left old
-    by [] e = ended old.stage g.awaited.was (λ closing. g.closes closing e)
-    by (call ∷ calls) e = asked_fewer old.stage g.plan (plan_after g.plan made) (is_taking old.taking) old.ahead g.awaited.was fewer
+    by calls e = grind (arith, asked_fewer)
 
 opens_some : (old : Copying) (made : Made) (one : NewImage) → Opens old made one → 0 < copy_left old
-opens_some old made one o =
-    let is : copy_left old ≡ plan_left o.plan = ap (λ (s : Stage). stage_left s (is_taking old.taking) old.ahead) o.was in
-    let out : is_one o.plan.out ≡ 1 = ap is_one o.out in
-    omega arith
+opens_some old made one o = grind arith
 
 -- an image of the list has something before it
 retiring_some : (r : Retiring) → IsUnderWay r.plan → 0 < retiring_left r
@@ -157,14 +115,10 @@ retiring_some r under = by r.plan.out refl
     by (Some id) e = (let n : is_one r.plan.out ≡ 1 = ap is_one e in omega arith)
 
 doing_some : (running : Running) (doing : Doing) → IsRunningAt running doing → 0 < doing_left running doing
-doing_some running due is = omega arith
-doing_some running (copying copy) is = omega arith
-doing_some running (opened serial) is = omega arith
-doing_some running (retiring r) is = retiring_some r is.under_way
+doing_some running doing is = grind (arith, retiring_some)
 
 hands_due : (running : Running) (old : Doing) (done : MergeProgress) (new : Doing) → StaysStrange old done new → is_strange done ≡ false → doing_left running new < doing_left running old
-hands_due running old progress.Strange new h strange = absurd (both_ways true strange refl)
-hands_due running old _ new h strange = absurd h
+hands_due running old done new h strange = grind arith
 
 hands_copying : (running : Running) (old : Copying) (made : Made) (done : MergeProgress) (new : Doing) → HandsCopying old made done new → is_strange done ≡ false → ends done ≡ false
     → doing_left running new < doing_left running (copying old)
@@ -194,29 +148,14 @@ goes_with_fewer old new made g =
     plus a b later e = omega arith
 
 ends_fewer : (old new : Retiring) (made : Made) → IsLastCall old made → EndsOne old new → retiring_left new < retiring_left old
-ends_fewer old new made last e =
-    next_fewer (plan_left old.plan) (6 * (length old.list - (old.ended + 1))) (length old.list) old.ended (retiring_left new)
-    (let o : is_one old.plan.out ≡ 1 = ap is_one last.done.out in
-    let n : length (plan_after old.plan made).calls ≡ 0 = ap (λ (c : Calls). length c) last.last in
-    let s : length (plan_after old.plan made).calls + 0 + 1 ≡ length old.plan.calls + is_one old.plan.out = last.done.one in
-    omega arith)
-    refl (within_list old.list (old.ended + 1) e.next e.there) (ap retiring_left e.is)
+ends_fewer old new made last e = grind (arith, next_fewer, within_list)
 
 hands_closing : (old new : Retiring) (made : Made) (done : MergeProgress) → HandsClosing old made done new → is_strange done ≡ false → ends done ≡ false → retiring_left new < retiring_left old
-hands_closing old new made progress.Strange h strange goes = absurd (both_ways true strange refl)
-hands_closing old new made progress.More (inl h) strange goes = goes_with_fewer old new made h.0
-hands_closing old new made progress.More (inr h) strange goes = ends_fewer old new made h.0 h.1
-hands_closing old new made (progress.Opened one) h strange goes = absurd h
-hands_closing old new made (progress.Closed one) h strange goes = goes_with_fewer old new made h.goes
-hands_closing old new made _ h strange goes = absurd (both_ways true goes refl)
+hands_closing old new made done h strange goes = grind (arith, both_ways, goes_with_fewer, ends_fewer)
 
 hands_at : (running : Running) (old : Doing) (made : Made) (done : MergeProgress) (new : Doing) → HandsAt old made done new → is_strange done ≡ false → ends done ≡ false
     → doing_left running new < doing_left running old
-hands_at running due made done new h strange goes = hands_due running due done new h strange
-hands_at running (copying copy) made done new h strange goes = hands_copying running copy made done new h strange goes
-hands_at running (opened serial) made done new h strange goes = hands_due running (opened serial) done new h strange
-hands_at running (retiring r) made done new h strange goes =
-    subst (λ (d : Doing). doing_left running d < retiring_left r) (sym h.is) (hands_closing r h.next made done h.hands strange goes)
+hands_at running old made done new h strange goes = grind (arith, hands_due, hands_copying, hands_closing)
 
 -- what goes on has less, and what ends has nothing
 hands_to : (old next : Running) (made : Made) (done : MergeProgress) → HandsTo old made done next → is_strange done ≡ false → IsRunning old
@@ -228,18 +167,10 @@ hands_to old next made done h strange is = by (ends done) refl
     by false e = subst (λ n. n < running_left old) (sym (same_doing old next h.is)) (hands_at old old.doing made done next.doing h.hands strange e)
 
 handed : (old : Option Running) (made : Made) (done : MergeProgress) (new : Option Running) → IsHanded old made done new → is_strange done ≡ false → AreRunning old → left_of new < left_of old
-handed old made done new h strange are =
-    subst (λ (o : Option Running). left_of o < left_of old) (sym h.is)
-    (subst (λ (o : Option Running). left_of (if ends done then None else Some h.next) < left_of o) (sym h.was)
-    (hands_to h.running h.next made done h.hands strange (subst AreRunning h.was are)))
+handed old made done new h strange are = grind (arith, hands_to)
 
 hands : (old : Option Running) (made : Made) (done : MergeProgress) (new : Option Running) → Hands old made done new → is_strange done ≡ false → AreRunning old → left_of new < left_of old
-hands old made progress.Strange new h strange are = absurd (both_ways true strange refl)
-hands old made progress.Failed new h strange are = handed old made progress.Failed new h strange are
-hands old made progress.More new h strange are = handed old made progress.More new h strange are
-hands old made (progress.Opened one) new h strange are = handed old made (progress.Opened one) new h strange are
-hands old made (progress.Closed one) new h strange are = handed old made (progress.Closed one) new h strange are
-hands old made (progress.Merged serial) new h strange are = handed old made (progress.Merged serial) new h strange are
+hands old made done new h strange are = grind (arith, both_ways, handed)
 
 -- ---- the list
 
@@ -265,8 +196,7 @@ retires running list (progress.Merged serial) new h strange few = by running.doi
 retires running list _ new h strange few = absurd h
 
 idle : (running : Option Running) → AreRunning running → left_of running ≡ 0 ↔ running ≡ None
-idle None are = (λ e. refl, λ e. refl)
-idle (Some running) are = (λ e. absurd (omega (arith, e, doing_some running running.doing are)), λ e. absurd (let f : Some running ≡ None = e in cc))
+idle running are = grind (arith, doing_some)
 
 pub left_laws : LeftLaws
 left_laws = record {

@@ -90,10 +90,7 @@ all_put P (y ∷ xs) x all is = (all.0, all_put P xs x all.1 is)
 
 places_put : (entries : List ImageEntry) (at : Place) (kind : RunKind) (rest later all : List Place) → map rounds.place_of_entry entries ++ rest ≡ all → rest ≡ at ∷ later
     → map rounds.place_of_entry (put entries at kind) ++ later ≡ all
-places_put entries at kind rest later all e is =
-    ap (λ (l : List Place). l ++ later) (map-append rounds.place_of_entry entries _)
-    ∙ append_assoc (map rounds.place_of_entry entries) (at ∷ []) later
-    ∙ ap (λ (l : List Place). map rounds.place_of_entry entries ++ l) (sym is) ∙ e
+places_put entries at kind rest later all e is = grind (arith, map-append, append_assoc)
 
 copy_zero : (catalog : List Image) (source : Image) (stored : Stored) (entries : List ImageEntry) (at : Place) → IsCopy catalog source stored entries
     → Holds catalog at.0 at.1 (replicate 4096 0) source → IsCopy catalog source stored (put entries at Zero)
@@ -109,19 +106,7 @@ copy_zero catalog source stored entries at is holds = record {
 
 copy_data : (catalog : List Image) (source : Image) (pages : Pages) (entries : List ImageEntry) (at : Place) (bytes : List ℕ) → length pages ≡ data_pages entries
     → IsCopy catalog source (listed_pages pages) entries → Holds catalog at.0 at.1 bytes source → IsCopy catalog source (listed_pages (pages ++ bytes ∷ [])) (put entries at Data)
-copy_data catalog source pages entries at bytes count is holds = record {
-  zero = λ p there. is.zero p (subst (λ (l : List Place). Contains l p) (pages_append Zero entries _ ∙ append-nil (pages_by Zero entries)) there);
-  pages = λ place p there.
-      elim (slice_more (pages_by Data entries) at place p (subst (λ (l : List Place). slice_get l place ≡ Some p) (pages_append Data entries _) there)) [
-        | inl f ↦ (let old = is.pages place p f in (old.0, slice_front pages (bytes ∷ []) place old.0 old.1, old.2))
-        | inr f ↦ (
-          bytes,
-          subst (λ n. slice_get (pages ++ bytes ∷ []) n ≡ Some bytes) (count ∙ sym f.0) (slice_back pages bytes),
-          subst (λ (q : Place). Holds catalog q.0 q.1 bytes source) f.1 holds,
-        )
-      ];
-  none = pages_append Parent entries _ ∙ append-nil (pages_by Parent entries) ∙ is.none;
-}
+copy_data catalog source pages entries at bytes count is holds = grind (arith, pages_append, append-nil, slice_more, slice_front, slice_back)
 
 counts_zero : (entries : List ImageEntry) (at : Place) → data_pages (put entries at Zero) ≡ data_pages entries
 counts_zero entries at = ap (λ (l : List Place). length l) (pages_append Data entries _ ∙ append-nil (pages_by Data entries))
@@ -132,17 +117,12 @@ counts_data entries at = ap (λ (l : List Place). length l) (pages_append Data e
 -- ---- what the catalog tells
 
 pub source_table : (places : Places) (catalog : List Image) (serial : ℕ) (source : Image) → IsSourceAt places catalog serial source → IsTable source.header source.spaces
-source_table places catalog serial source at =
-    subst (λ (h : Header). IsTable h source.spaces) (sym at.told.header)
-    (subst (λ (l : List Listed). IsTable at.opened.header l) (sym at.told.spaces)
-    (All-contains (λ (i : Opened). IsTable i.header i.spaces) (images places) at.opened at.are.tables at.among))
+source_table places catalog serial source at = grind arith
 
 first_of : ((l : List Listed) → Lists (entries_listed l) l) → (places : Places) (catalog : List Image) (source : Image) (old : Copying) (rest : List Place) (at : Place)
     → IsSourceAt places catalog old.order.source.serial source → map rounds.place_of_entry old.entries ++ rest ≡ listed_places source.spaces
     → IsNextPageOfImage places old.order.source.serial (cursor old) (Some at) → IsFirstOf rest at
-first_of lists places catalog source old rest at is all next =
-    next_is_first source.header source.spaces old.entries rest at (source_table places catalog old.order.source.serial source is) (lists source.spaces) all
-    (subst (λ (l : List Listed). IsNextOf l (cursor old) at) (sym is.told.spaces) (next.0 is.opened is.there))
+first_of lists places catalog source old rest at is all next = grind (arith, next_is_first, source_table)
 
 pub over_of : ((l : List Listed) → Lists (entries_listed l) l) → (places : Places) (catalog : List Image) (source : Image) (old : Copying) (rest : List Place)
     → IsSourceAt places catalog old.order.source.serial source → map rounds.place_of_entry old.entries ++ rest ≡ listed_places source.spaces
@@ -165,8 +145,7 @@ holds_zero places catalog serial source at is lies =
 -- ---- the steps
 
 pub over_asked : (stage : Stage) (plan : Planned) (rest : List Place) → IsOverIn stage rest → IsOverIn (with_plan stage plan) rest
-over_asked (Close old header tables) plan rest is = is
-over_asked _ plan rest is = tt
+over_asked stage plan rest is = grind arith
 
 abbrev first_bytes : Calls → List ℕ
 first_bytes [] = []
@@ -362,8 +341,7 @@ reads ticket places catalog source old new request s is =
 -- ---- outcomes
 
 over_after : (stage : Stage) (plan : Planned) (calls : Calls) (rest : List Place) → IsOverIn stage rest → IsOverIn (stage_after stage plan calls) rest
-over_after stage plan [] rest is = tt
-over_after stage plan (call ∷ calls) rest is = over_asked stage plan rest is
+over_after stage plan calls rest is = grind arith
 
 -- what was read is what the source holds
 read_more : (stage : Stage) (catalog : List Image) (source : Image) (entries : List ImageEntry) (taking : Option Place) (old : Option (List ℕ)) (made : Made)
@@ -378,18 +356,7 @@ read_more _ catalog source entries taking old made was tells at bytes e f = was 
 
 hands : (catalog : List Image) (source : Image) (pages : Pages) (old new : Copying) (made : Made) → HandsIn old made progress.More new → IsSoundCopy old
     → TellsIn old.stage catalog source old.taking made → KeepsCopy catalog source pages old → KeepsCopy catalog source pages new
-hands catalog source pages old new made h sound tells was =
-    subst (λ (m : Copying). KeepsCopy catalog source pages m) (sym h.is) (record {
-      count = was.count;
-      whole = was.whole;
-      digested = was.digested;
-      rest = was.rest;
-      merging = was.merging;
-      ahead = was.ahead;
-      taking = was.taking;
-      read = read_more old.stage catalog source old.entries old.taking old.read made was.read tells;
-      over = over_after old.stage (plan_after h.plan made) (plan_after h.plan made).calls was.rest was.over;
-    })
+hands catalog source pages old new made h sound tells was = grind (arith, read_more, over_after)
 
 -- ---- the beginning
 

@@ -23,21 +23,16 @@ use Rattle.sd_merge.proofs.TableLemmas.{in_space, places_cons, runs_places}
 -- ---- the order
 
 before_more : (a b c : Place) → IsBefore a b → IsBefore b c → IsBefore a c
-before_more a b c (inl x) (inl y) = inl (omega (arith, x, y))
-before_more a b c (inl x) (inr y) = inl (subst (λ n. a.0 < n) y.0 x)
-before_more a b c (inr x) (inl y) = inl (subst (λ n. n < c.0) (sym x.0) y)
-before_more a b c (inr x) (inr y) = inr (x.0 ∙ y.0, omega (arith, x.1, y.1))
+before_more a b c h3 h4 = grind arith
 
 not_before : (a : Place) → IsBefore a a → ⊥
-not_before a (inl x) = omega (arith, x)
-not_before a (inr x) = omega (arith, x.1)
+not_before a h1 = grind arith
 
 abbrev after_place : Place → Place
 after_place a = (a.0, a.1 + 1)
 
 from_before : (a p : Place) → IsFrom (after_place a) p → IsBefore a p
-from_before a p (inl x) = inl x
-from_before a p (inr x) = inr (x.0, (let l : a.1 + 1 ≤ p.1 = x.1 in omega arith))
+from_before a p h2 = grind arith
 
 -- each from a place on, and behind the one before
 abbrev Rising : Place → List Place → Type 0
@@ -73,8 +68,7 @@ end_before None = 0
 end_before (Some run) = run.first + run.count
 
 begins : (parent : ℕ) (before : Option Run) (run : Run) → IsTrue (is_run_after parent before run) → end_before before ≤ run.first
-begins parent None run after = omega arith
-begins parent (Some last) run after = grind (arith, nat_tests)
+begins parent before run after = grind arith
 
 runs_rise : (parent : ℕ) (before : Option Run) (runs : List Run) → AreRuns parent before runs → RisingPages (end_before before) (flat_map run_pages runs)
 runs_rise parent before [] are = tt

@@ -24,6 +24,4 @@ page_other bytes other = by (nat_eq (length bytes) 4096) refl
 
 -- zeros that were filled in for what is no page
 pub page_filled : (old new cleared : List ℕ) → new ≡ cleared ++ replicate 4096 0 → cleared ≡ [] → length old ≢ 4096 → page_or_zeros new ≡ page_or_zeros old
-page_filled old new cleared e none other =
-    let zeros : new ≡ replicate 4096 0 = e ∙ ap (λ c. c ++ replicate 4096 0) none in
-    page_whole new (ap (λ (l : List ℕ). length l) zeros ∙ length-replicate {A = ℕ} 4096 0) ∙ zeros ∙ sym (page_other old other)
+page_filled old new cleared e none other = grind arith

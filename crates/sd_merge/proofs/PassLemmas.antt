@@ -72,26 +72,21 @@ next_behind places serial after at next = by (place_of places serial) refl
 -- what was asked of the catalog, as it is seen
 pub next_of : (places : Places) (inside old : Copying) (after next : Option Place) → inside ≡ old → after ≡ last_of None inside.entries
     → IsNextPageOfImage places inside.order.source.serial after next → IsNextPageOfImage places old.order.source.serial (cursor old) next
-next_of places inside old after next is last page =
-    subst (λ (m : Copying). IsNextPageOfImage places m.order.source.serial (last_of None m.entries) next) is
-    (subst (λ (o : Option Place). IsNextPageOfImage places inside.order.source.serial o next) last page)
+next_of places inside old after next is last page = grind arith
 
 -- ---- the steps
 
 pub zero_step : (ticket : ℕ) (places : Places) (old new : Copying) (step : MergeStep) (at : Place) → (AreImages places → IsNextAt places old at found.Zero)
     → IsZeroStep step × TakesZero at old new → Steps ticket places old step new
-zero_step ticket places old new Zero at next is = record { at = at; takes = is.1; next = next }
-zero_step ticket places old new _ at next is = absurd is.0
+zero_step ticket places old new step at next is = grind arith
 
 pub read_step : (ticket : ℕ) (places : Places) (old new : Copying) (step : MergeStep) (at : Place) (slot place : ℕ) → (AreImages places → IsNextAt places old at (found.Data slot (data_place place)))
     → IsReadCallOf (λ request. ReadsPage at slot place old request new × IsAskedBy Merger ticket request) step → Steps ticket places old step new
-read_step ticket places old new (ReadCall request) at slot place next is = (record { at = at; slot = slot; place = place; reads = is.0; next = next }, is.1)
-read_step ticket places old new _ at slot place next is = absurd is
+read_step ticket places old new step at slot place next is = grind arith
 
 pub table_step : (ticket : ℕ) (places : Places) (old new : Copying) (step : MergeStep) → (AreImages places → IsNextPageOfImage places old.order.source.serial (cursor old) None)
     → IsTableCallOf (λ request. WritesTable places old request new × IsAskedBy Merger ticket request) step → Steps ticket places old step new
-table_step ticket places old new (TableCall request) over is = (record { writes = is.0; over = over }, is.1)
-table_step ticket places old new _ over is = absurd is
+table_step ticket places old new step over is = grind arith
 
 -- where the page lies, by the number of its data page
 pub placed : FewPages → (places : Places) → IsSoundCatalog places → (old : Copying) (at : Place) (slot offset place : ℕ) → ((number : ℕ) → offset ≡ data_place number → place ≡ number)
@@ -116,11 +111,7 @@ lost_ahead places old at stage free next none = record {
 
 pub lost_behind : (places : Places) (old : Copying) (at : Place) (tested : Bool) → old.stage ≡ PassStage → old.taking ≡ None
     → (AreImages places → IsNextPageOfImage places old.order.source.serial (cursor old) (Some at)) → (IsBehind (cursor old) at → IsTrue tested) → tested ≡ false → IsLost places old
-lost_behind places old at tested stage free next test off = record {
-  stage = stage;
-  free = free;
-  why = λ are. absurd (both_ways tested off (test (next_behind places old.order.source.serial (cursor old) at (next are))));
-}
+lost_behind places old at tested stage free next test off = grind arith
 
 pub lost_chain : (places : Places) (old : Copying) (at : Place) → old.stage ≡ PassStage → old.taking ≡ None
     → (AreImages places → IsNextPageOfImage places old.order.source.serial (cursor old) (Some at))

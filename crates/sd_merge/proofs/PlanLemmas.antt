@@ -22,17 +22,11 @@ table_is_long spaces = omega arith
 -- few data pages, and a table
 pub is_body : (order : CopyOrder) (header : Header) (text : List ℕ) (tables : List Listed) (stored taking ahead len : ℕ) (digest : List ℕ) → header ≡ header_of order stored len digest
     → stored + taking + ahead ≤ 65536 → text ≡ table_text tables → IsBody header text
-is_body order header text tables stored taking ahead len digest is few same = record {
-  few = subst (λ n. n ≤ 2 ^ 39) (sym (ap (λ (h : Header). h.pages) is)) (omega arith);
-  some = subst (λ (t : List ℕ). 0 < length t) (sym same) (table_is_long tables);
-}
+is_body order header text tables stored taking ahead len digest is few same = grind (arith, table_is_long)
 
 pub closes_under_way : (slot : ℕ) (header : Header) (text : List ℕ) (plan : Planned) → plan ≡ begun slot (body_calls header text) nothing → IsUnderWay plan
 closes_under_way slot header text plan is = subst (λ (p : Planned). IsUnderWay p) (sym is) (body_under_way slot header text)
 
 -- in the pass, where no page is being taken, none was read
 pub free_in_pass : (entries : List ImageEntry) (taking : Option Place) (read : Option (List ℕ)) (stage : Stage) → stage ≡ PassStage → taking ≡ None → IsReadyFor entries taking read stage → TakesNoPage taking read
-free_in_pass entries taking read stage pass none ready = record {
-  taking = none;
-  read = subst (λ (t : Option Place). IsFreeOrRead entries t read) none (subst (λ (s : Stage). IsReadyFor entries taking read s) pass ready);
-}
+free_in_pass entries taking read stage pass none ready = grind arith

@@ -147,20 +147,12 @@ record IsJoined (h : Header) (before : ℕ) (taken tables : List Listed) : Type 
   pub spaces : AreSpaces h before tables
 
 pub covers : (kind : Kind) (areas : List Area) (runs : List Run) → kind ≢ PreDump → Covers kind areas runs → flat_map run_pages runs ≡ flat_map area_pages areas
-covers PreDump areas runs other is = absurd (other refl)
-covers _ areas runs other is = is
+covers kind areas runs other is = grind arith
 
 -- a space with other runs that have its pages
 other_space : (old h : Header) (before : ℕ) (s : Listed) (runs : List Run) → old.kind ≢ PreDump → h.kind ≡ Merged → h.parent ≡ 0 → IsSpace old before s → AreRuns 0 None runs
     → flat_map run_pages runs ≡ flat_map run_pages s.runs → IsSpace h before (record { space = s.space; areas = s.areas; runs = runs })
-other_space old h before s runs other kind parent is are same = record {
-  above = is.above;
-  within = is.within;
-  few_areas = is.few_areas;
-  areas = is.areas;
-  runs = subst (λ n. AreRuns n None runs) (sym parent) are;
-  covers = subst (λ k. Covers k s.areas runs) (sym kind) (same ∙ covers old.kind s.areas s.runs other is.covers);
-}
+other_space old h before s runs other kind parent is are same = grind arith
 
 no_entries : (entries : List ImageEntry) → map place_of_entry entries ≡ [] → entries ≡ []
 no_entries [] e = refl

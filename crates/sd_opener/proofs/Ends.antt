@@ -29,13 +29,7 @@ found_closed : (file : List ℕ) → 4096 ≤ length file → slice_index file 0
 found_closed file long other = grind (arith, nat_tests)
 
 pub whole_is : (file : List ℕ) → found_phase file ≡ Whole → IsWhole file
-whole_is file is = elim (cases_lt (length file) 4096) [
-  | inl short ↦ absurd (let no : Raw ≡ Whole = sym (found_raw file short) ∙ is in cc)
-  | inr long ↦ elim (cases_eq (slice_index file 0) gate) [
-    | inl opens ↦ record { long = long; gate = opens }
-    | inr shut ↦ absurd (let no : Shut ≡ Whole = sym (found_closed file long shut) ∙ is in cc)
-  ]
-]
+whole_is file is = grind arith
 
 pub opens_so : (file : List ℕ) → IsWhole file → is_open file ≡ true
 opens_so file whole = and_from (nat_le 4096 (length file)) (nat_eq (slice_index file 0) gate) (le-leb 4096 (length file) whole.long) (eq-eqb (slice_index file 0) gate whole.gate)
@@ -44,8 +38,7 @@ pub whole_phase : (file : List ℕ) → is_open file ≡ true → found_phase fi
 whole_phase file opens = grind (arith, nat_tests)
 
 first_gate : (file : List ℕ) → 4096 ≤ length file → slice_index (front_of_file file) 0 ≡ slice_index file 0
-first_gate [] long = absurd (omega (arith, long))
-first_gate (x ∷ file) long = refl
+first_gate file long = grind arith
 
 first_length : (file : List ℕ) → 4096 ≤ length file → length (front_of_file file) ≡ 4096
 first_length file long = length-slice 0 4096 file long
@@ -73,19 +66,11 @@ module _ (file : List ℕ) (found : Back) (is : IsFound file found) (whole : IsW
 
   pub its_header : (first : List ℕ) (len : ℕ) (h : Header) → found.first ≡ Some first → found.len ≡ Some len
       → (drop 1 first ≡ header_text h) × IsHeader h len → HasHeader file h
-  its_header first len h told_first told_len reads = record {
-    opens = opens_so file whole;
-    spelled = ap (drop 1) (sym (its_first first told_first)) ∙ reads.0;
-    is = subst (IsHeader h) (its_length len told_len) reads.1;
-  }
+  its_header first len h told_first told_len reads = grind (arith, opens_so)
 
   pub its_reason : (first : List ℕ) (len : ℕ) (why : Reason) → found.first ≡ Some first → found.len ≡ Some len → header_in first len ≡ Err why
       → HasNoHeader file why
-  its_reason first len why told_first told_len header = record {
-    long = whole.long;
-    opens = first_gate file whole.long ∙ whole.gate;
-    header = sym (here first len told_first told_len) ∙ header;
-  }
+  its_reason first len why told_first told_len header = grind arith
 
 -- the phase that is told is the file's
 pub phase_is : (file : List ℕ) (found : Back) (phase : Phase) → IsFound file found → phase_found found.len found.first ≡ Some phase → phase ≡ found_phase file
@@ -106,7 +91,4 @@ phase_is file found phase is told = elim (cases_lt (length file) 4096) [
 
 -- a header that is none breaks the file
 pub broken_is_faulty : (file : List ℕ) (why : Reason) → HasNoHeader file why → IsFaulty file why
-broken_is_faulty file why broken = record {
-  opens = opens_so file (record { long = broken.long; gate = sym (first_gate file broken.long) ∙ broken.opens });
-  breaks = rw broken.header refl;
-}
+broken_is_faulty file why broken = grind (arith, opens_so, first_gate)

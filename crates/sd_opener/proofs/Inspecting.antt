@@ -52,30 +52,15 @@ abbrev length_read : Bool → ℕ → Following
 length_read test n = if test then ((Read 0, zero_bytes 4096) ∷ [], the_header n) else ([], nothing)
 
 length_came : (found : Back) (answer : Answer) → found.first ≡ None → Comes (after_length answer) (found_after found answer None)
-length_came found (LenIs n) first some = elim (cases_lt n 4096) [
-  | inl short ↦
-      let test : nat_le 4096 n ≡ false = grind (arith, nat_tests) in
-      absurd (some (ap (λ b. (length_read b n).0) test))
-  | inr long ↦
-      subst (λ b. HasCome (length_read b n).1 (names (length_read b n).0) (found_after found (LenIs n) None))
-      (sym (le-leb 4096 n long)) (refl, long, refl, first)
-]
-length_came found _ first some = absurd (some refl)
+length_came found answer first some = grind arith
 
 length_ends : (found : Back) (n : ℕ) → found.first ≡ None → Ends (after_length (LenIs n)) (found_after found (LenIs n) None)
-length_ends found n first none = record {
-  len = n;
-  told = refl;
-  first = λ long.
-      (let some : (Read 0, zero_bytes 4096) ∷ [] ≡ [] = sym (ap (λ b. (length_read b n).0) (le-leb 4096 n long)) ∙ none in absurd cc);
-  table = λ bytes header came opens is. (let no : None ≡ Some bytes = sym first ∙ came in absurd cc);
-}
+length_ends found n first none = grind arith
 
 -- the header was read
 
 len_some : (before : Option ℕ) (len : ℕ) (answer : Answer) → before ≡ Some len → IsSome (length_told before answer)
-len_some before len (LenIs n) is = refl
-len_some before len _ is = subst IsSome (sym is) refl
+len_some before len answer is = grind arith
 
 abbrev header_read : Bool → List ℕ → ℕ → Following
 header_read test bytes len = if test then table_read (header_in bytes len) else ([], nothing)
@@ -93,8 +78,7 @@ header_came found len bytes answer told first = by_test ((length bytes == 4096) 
     came (Err reason) whole some = absurd (some refl)
 
     by_test : (test : Bool) → ((length bytes == 4096) && (slice_index bytes 0 == gate)) ≡ test → Comes (header_read test bytes len) (found_after found answer (Some bytes))
-    by_test true is = came (header_in bytes len) (grind (arith, nat_tests, is))
-    by_test false is = λ some. absurd (some refl)
+    by_test test is = grind arith
 
 header_ends : (found : Back) (len : ℕ) (bytes : List ℕ) → found.len ≡ Some len → found.first ≡ None → length bytes ≡ 4096
     → Ends (after_first bytes len) (found_after found DoneAnswer (Some bytes))
@@ -203,24 +187,16 @@ module _ (plan new : Planned) (made : Made) (out : plan.out ≡ Some made.reques
       next_of b = if b then after else ([], nothing)
 
   was_done : (done : Bool) (calls : Calls) → settled done calls ≡ More → done ≡ true
-  was_done true calls is = refl
-  was_done false calls is = absurd (let wrong : Failed ≡ More = is in cc)
+  was_done done calls is = grind arith
 
   some_more : (calls : Calls) → settled true calls ≡ More → calls ≢ []
-  some_more [] is none = (let wrong : Finished ≡ More = is in cc)
-  some_more (call ∷ calls) is none = (let wrong : call ∷ calls ≡ [] = none in cc)
+  some_more calls is none = grind arith
 
   none_more : (calls : Calls) → settled true calls ≡ Finished → calls ≡ []
-  none_more [] is = refl
-  none_more (call ∷ calls) is = absurd (let wrong : More ≡ Finished = is in cc)
+  none_more calls is = grind arith
 
   pub goes : settled (is_done made.answer) (calls_after plan made).0 ≡ More → IsInspecting new
-  goes more =
-      let done = was_done (is_done made.answer) (calls_after plan made).0 more in
-      let still : settled true after.0 ≡ More = ap (λ (f : Following). settled true f.0) (sym (after_is done)) ∙ subst (λ b. settled b (calls_after plan made).0 ≡ More) done more in
-      subst IsInspecting (sym new_is)
-      (subst (λ (f : Following). HasCome f.1 (names f.0) (plan_after plan made).found) (sym (after_is done))
-      (came plan.awaits plan.calls plan.found made.request.id.call made.request.bytes made.answer come (some_more after.0 still)))
+  goes more = grind arith
 
   pub ends : IsDoneAsAsked made → settled (is_done made.answer) (calls_after plan made).0 ≡ Finished → InspectionHasEnded new.found
   ends as_asked finished =

@@ -8,20 +8,15 @@ use Rattle.sd_opener.specs.Looking.{IsLooking, Looking, out_of_look}
 use Rattle.sd_opener.specs.Sees.{IsOpenStage}
 
 pub some_left : (stage : Stage) → 0 < slot_left stage
-some_left (Asking plan) = omega arith
-some_left _ = omega arith
+some_left stage = grind arith
 
 pub open_left : (stage : Stage) → IsOpenStage stage → slot_left stage ≡ 1
-open_left (Asking plan) is = absurd is
-open_left _ is = refl
+open_left stage is = grind arith
 
 -- an opener with a request out has a slot to look at
 pub within_slots : (opener : Looking) (capacity : ℕ) (id : RequestId) → IsLooking opener.slots opener.told capacity opener.stage opener.scanned
     → out_of_look opener.stage ≡ Some id → length opener.told < opener.slots
-within_slots opener capacity id is out =
-    let few = is.within in
-    let other = (λ (same : length opener.told ≡ opener.slots). is.last same id out) in
-    omega (arith, few, other)
+within_slots opener capacity id is out = grind arith
 
 -- the slot that it looks at goes on
 pub stage_lowers : (slots told : ℕ) (old new : Stage) → told < slots → slot_left new < slot_left old
@@ -41,6 +36,4 @@ slot_lowers slots told now old new within next first = by_count (slots - told) (
     some = some_left old
 
     by_count : (n m : ℕ) → slots - told ≡ n → slots - now ≡ m → slots_left m new < slots_left n old
-    by_count zero m is then_is = absurd (omega (arith, within, is))
-    by_count (suc n) zero is then_is = omega (arith, some)
-    by_count (suc n) (suc m) is then_is = omega (arith, some, first, is, then_is, next)
+    by_count n m is then_is = grind arith

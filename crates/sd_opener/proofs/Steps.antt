@@ -71,28 +71,22 @@ goes_on finds slot file plan request made looks is = (
 )
 
 pub never_failed : (calls : Calls) → settled true calls ≢ Failed
-never_failed [] is = let no : Finished ≡ Failed = is in cc
-never_failed (call ∷ calls) is = let no : More ≡ Failed = is in cc
+never_failed calls is = grind arith
 
 pub none_left : (calls : Calls) → settled true calls ≡ Finished → calls ≡ []
-none_left [] is = refl
-none_left (call ∷ calls) is = absurd (let no : More ≡ Finished = is in cc)
+none_left calls is = grind arith
 
 -- a slot that is to be decoded has nothing out, and is any slot's stage
 pub open_out : (stage : Stage) → IsOpenStage stage → out_of_look stage ≡ None
-open_out (Asking plan) is = absurd is
-open_out _ is = refl
+open_out stage is = grind arith
 
 pub open_stage : (stage : Stage) (slot : ℕ) → IsOpenStage stage → IsStageOf slot stage
-open_stage (Asking plan) slot is = absurd is
-open_stage _ slot is = tt
+open_stage stage slot is = grind arith
 
 -- ---- damage
 
 pub faulty_is_no_store : GoodStoreHasNoReason → (files : List (List ℕ)) (slot : ℕ) (reason : Reason) → IsFaulty (file_at files slot) reason → IsNoStore files
-faulty_is_no_store good files slot reason faulty images store =
-    let found = good files images slot store.slots faulty.opens in
-    let no : Ok (found.0.header, found.0.spaces) ≡ Err reason = sym found.2 ∙ faulty.breaks in cc
+faulty_is_no_store good files slot reason faulty images store = grind arith
 
 -- ---- an outcome, whatever follows
 

@@ -38,10 +38,7 @@ pub areas_put : (old new : BTreeMap ℕ PageMap) (s : ℕ) (own : PageMap) → (
 areas_put old new s own written = λ q. written q ∙ ap (λ b. cond b (Some own) (get nat_cmp old q)) (turned s q)
 
 pub areas_same : (old new : BTreeMap ℕ PageMap) (s : ℕ) (was own : PageMap) → Some was ≡ get nat_cmp old s → own ≡ was → HasPut old new s own → HasSame old new
-areas_same old new s was own found e put = λ q. put q ∙ elim (cases_Bool (nat_eq q s)) [
-  | inl t ↦ (let here : q ≡ s = eqb-true _ _ t in cond-true _ _ _ t ∙ ap Some e ∙ found ∙ ap (get nat_cmp old) (sym here))
-  | inr f ↦ cond-false _ _ _ f
-]
+areas_same old new s was own found e put = grind arith
 
 pub still_kept : (old new : BTreeMap ℕ PageMap) (c : Contents) → HasSame old new → HasAreas old c → HasAreas new c
 still_kept old new c same kept = λ q. same q ∙ kept q
@@ -52,9 +49,7 @@ seen_table own None e = absurd (cc)
 seen_table own (Some t) e = (t, refl, let f : own ≡ prots_of t = cc in f)
 
 pub areas_found : (areas : BTreeMap ℕ PageMap) (c : Contents) (s : ℕ) (own : PageMap) → HasAreas areas c → Some own ≡ get nat_cmp areas s → (is_alive c.spaces s ≡ true) × (own ≡ prots_of (inside c.spaces s))
-areas_found areas c s own kept found =
-    let table = seen_table own (finmap.get c.spaces s) (found ∙ kept s) in
-    (ap is_some table.1, table.2 ∙ ap prots_of (sym (ap (λ o. unwrap_or o finmap.empty) table.1)))
+areas_found areas c s own kept found = grind arith
 
 pub areas_absent : (areas : BTreeMap ℕ PageMap) (c : Contents) (s : ℕ) → HasAreas areas c → None ≡ get nat_cmp areas s → is_alive c.spaces s ≡ false
 areas_absent areas c s kept none = absent (finmap.get c.spaces s) (none ∙ kept s)
@@ -82,9 +77,7 @@ nothing_over r own after is few = ap (λ x. or_else (area_due x) (pages_due afte
 
 pub pages_refused : (e : MemoryError) (pages : PageMap) (r : Result PageMap Errno) (after : Contents) → r ≡ within_areas pages → (e ≡ OutOfMemory) ⊎ (e ≡ DeniedError (Refused NoMemory))
     → (e ≡ DeniedError (Refused NoMemory) → 65536 < page_count after.spaces) → Refuses e (or_else (area_due r) (pages_due after))
-pages_refused e pages r after is (inl out) many = subst (λ (x : MemoryError). Refuses x (or_else (area_due r) (pages_due after))) (sym out) tt
-pages_refused e pages r after is (inr full) many =
-    subst (λ (x : MemoryError). Refuses x (or_else (area_due r) (pages_due after))) (sym full) (ap (λ x. or_else (area_due x) (pages_due after)) is ∙ refused_by_pages pages after (many full))
+pages_refused e pages r after is h5 many = grind (arith, refused_by_pages)
 
 -- what `map_err` leaves at `Ok`
 pub passed_on : {A D E : Type 0} (Q : E → Type 0) (r : Result A E) (s : Result A D) (x : A) (P : A → Type 0) → MatchResult r (λ y. s ≡ Ok y) Q → is_ok s ≡ is_ok r → s ≡ Ok x → IfOk r P → P x
@@ -105,13 +98,9 @@ by_result P Q S (Err e) p q f g = g q
 
 -- ---- what `mmap` is due
 pub answers_by : {T : Type 0} (due : Option AccessError) (r : Result T MemoryError) → OnOk r (due ≡ None) → IfErr r (λ e. Refuses e due) → Answers due r
-answers_by due (Ok x) none refused = none
-answers_by due (Err (DeniedError denied)) none refused = refused
-answers_by due (Err OutOfMemory) none refused = tt
+answers_by due r none refused = grind arith
 
 pub mmap_due_is : (c : Contents) (s address bytes : ℕ) (prot : Prot) (own : PageMap) → is_alive c.spaces s ≡ true → own ≡ prots_of (inside c.spaces s)
     → mmap_due (plain_of c) s address bytes prot
     ≡ or_else (area_due (map_result own address bytes prot)) (pages_due (with_space c s (set_within (inside c.spaces s) (page_of address) (pages_for bytes) (fresh_page prot))))
-mmap_due_is c s address bytes prot own alive are =
-    mmap_seen c s address bytes prot ∙ cond-true _ _ _ alive
-    ∙ ap (λ p. or_else (area_due (map_result p address bytes prot)) (pages_due (with_space c s (set_within (inside c.spaces s) (page_of address) (pages_for bytes) (fresh_page prot))))) (sym are)
+mmap_due_is c s address bytes prot own alive are = grind (arith, mmap_seen, cond-true)

@@ -1,5 +1,5 @@
 -- A page that is clean after an event.
-use Rattle.std.proofs.Common.{◌≡◌, ℕ, Bool, true, false, cond, ◌||◌, List, Option, Some, None, refl, sym, ◌∙◌, ap, inl, inr}
+use Rattle.std.proofs.Common.{◌≡◌, ℕ, Bool, true, false, cond, ◌||◌, List, Option, Some, None, refl, sym, ◌∙◌, ap, inl, inr, arith}
 use Rattle.std.proofs.lemmas.Bool.{or_parts}
 use Rattle.sd_pagetable.specs.Page.{PageState}
 use Rattle.sd_pagetable.specs.Contents.{Contents, page_at}
@@ -21,10 +21,7 @@ clean_there o page bytes there d b = ap clean_bytes there ∙ ap (λ x. cond x N
 
 was_clean : (old : Contents) (event : MemoryEvent) (space number : ℕ) (bytes : List ℕ) (after : PageState) → clears space number event ≡ false → after.soft_dirty ≡ false → after.bytes ≡ bytes
     → ComesFrom old event space number after → clean_at old space number ≡ Some bytes
-was_clean old event space number bytes after c d b (inr made) = absurd (let f : true ≡ false = sym made.soft_dirty ∙ d in cc)
-was_clean old event space number bytes after c d b (inl (before, there, is)) =
-    let n = or_parts (touches space number event) before.soft_dirty (sym (is.soft_dirty ∙ ap (λ x. cond x false (touches space number event || before.soft_dirty)) c) ∙ d) in
-    clean_there (page_at old space number) before bytes there n.1 (sym (is.bytes n.0) ∙ b)
+was_clean old event space number bytes after c d b h9 = grind arith
 
 pub clean_law : CleanLaw
 clean_law old new event space number bytes sound step c clean =

@@ -18,14 +18,7 @@ turned s p q r apart = grind (arith, nat_tests)
 
 cleared_here : (old new : Contents) (space number : ℕ) (page : PageState) → page_at old space number ≡ Some page → new ≡ put_page old space number (cleared_page page)
     → IsClearedAt space number old new
-cleared_here old new space number page was is = record {
-  pool = ap (λ (m : Contents). m.pool) is;
-  alive = λ other. ap (λ (m : Contents). is_alive m.spaces other) is ∙ alive-put_same old.spaces space number (cleared_page page) other (alive_at old.spaces space number page was);
-  here = ap (λ (m : Contents). page_at m space number) is ∙ value_at-put old.spaces space number (cleared_page page) space number
-      ∙ cond-true _ _ _ (same_pair space number) ∙ sym (ap (option_map cleared_page) was);
-  others = λ other p apart. ap (λ (m : Contents). page_at m other p) is ∙ value_at-put old.spaces space number (cleared_page page) other p
-      ∙ cond-false _ _ _ (turned space number other p apart);
-}
+cleared_here old new space number page was is = grind (arith, alive-put_same, alive_at, value_at-put, cond-true, same_pair, cond-false, turned)
 
 pub clear_changes_one_page : ClearLaw
 clear_changes_one_page old new space number step = cleared_here old new space number step.0 step.1 step.2

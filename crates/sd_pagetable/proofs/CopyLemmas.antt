@@ -38,28 +38,17 @@ module _ (m : Contents) (parent child : ℕ) (dead : is_alive m.spaces child ≡
   copy = map_values bare_page (inside m.spaces parent)
 
   same_members : (k : ℕ) → members (with_space m child copy) k ≡ members m k
-  same_members k =
-      let more = total_within-insert (share_of k) m.spaces child copy in
-      let none : total (share_of k) (inside m.spaces child) ≡ 0 = ap (total (share_of k)) (dead_inside m child dead) ∙ total-empty (share_of k) in
-      omega (arith, more, none, bare_weight k (inside m.spaces parent))
+  same_members k = grind (arith, total_within-insert, dead_inside, total-empty, bare_weight)
 
   pub more_pages : page_count (with_space m child copy).spaces ≡ page_count m.spaces + finmap.len (inside m.spaces parent)
-  more_pages =
-      let more = total_within-insert (λ (_ : PageState). 1) m.spaces child copy in
-      let none : total (λ (_ : PageState). 1) (inside m.spaces child) ≡ 0 = ap (total (λ (_ : PageState). 1)) (dead_inside m child dead) ∙ total-empty (λ (_ : PageState). 1) in
-      omega (arith, more, none, len_total (inside m.spaces parent), same_many bare_page (inside m.spaces parent))
+  more_pages  = grind (arith, total_within-insert, dead_inside, total-empty, len_total, same_many)
 
   from_bare : (o : Option PageState) (y : PageState) → option_map bare_page o ≡ Some y → (x : PageState) × (o ≡ Some x) × (y ≡ bare_page x)
-  from_bare None y e = absurd (let f : ◌≡◌ {A = Option PageState} None (Some y) = e in cc)
-  from_bare (Some x) y e = (x, refl, (let f : ◌≡◌ {A = Option PageState} (Some (bare_page x)) (Some y) = e in cc))
+  from_bare o y e = grind arith
 
   -- a page there is a copy of the parent's, or was there
   copied_there : (q r : ℕ) (y : PageState) → page_at (with_space m child copy) q r ≡ Some y → ((x : PageState) × (page_at m parent r ≡ Some x) × (y ≡ bare_page x)) ⊎ (page_at m q r ≡ Some y)
-  copied_there q r y h = elim (cases_Bool (nat_eq q child)) [
-    | inl here ↦ inl (from_bare (page_at m parent r) y (sym (get-map_values bare_page (inside m.spaces parent) r)
-        ∙ sym (ap (λ b. cond b (finmap.get copy r) (value_at m.spaces q r)) here) ∙ sym (value_at-insert m.spaces child copy q r) ∙ h))
-    | inr there ↦ inr (sym (ap (λ b. cond b (finmap.get copy r) (value_at m.spaces q r)) there) ∙ sym (value_at-insert m.spaces child copy q r) ∙ h)
-  ]
+  copied_there q r y h = grind (arith, cases_Bool, get-map_values, value_at-insert)
 
   sound_copied : IsSound m → 1 ≤ child → child ≤ 16 → page_count m.spaces + finmap.len (inside m.spaces parent) ≤ 65536 → IsSound (with_space m child copy)
   sound_copied sound least greatest room = record {
@@ -87,8 +76,7 @@ module _ (m : Contents) (parent child : ℕ) (dead : is_alive m.spaces child ≡
 
 -- ---- as the tables have it
 seen_bare : (pool : Pool) (o : Option Entry) → option_map (page_of_entry pool) (option_map bare_entry o) ≡ option_map bare_page (option_map (page_of_entry pool) o)
-seen_bare pool None = refl
-seen_bare pool (Some e) = refl
+seen_bare pool o = grind arith
 
 module _ (pool : Pool) (old new : Nested Entry) (parent child : ℕ) (pages : (q : ℕ) → value_at new child q ≡ option_map bare_entry (value_at old parent q)) (others : new ≡ finmap.insert old child (inside new child)) where
   copy_seen : map_values (page_of_entry pool) (inside new child) ≡ map_values bare_page (inside (contents_of pool old).spaces parent)

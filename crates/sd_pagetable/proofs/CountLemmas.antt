@@ -11,8 +11,7 @@ use Rattle.sd_pagetable.proofs.TotalLemmas.{total-remove, total-empty}
 use Rattle.sd_pagetable.proofs.ForkCalls.{len_total}
 
 len_inside : {X : Type 0} (found : Option (Table X)) → finmap.len (unwrap_or found finmap.empty) ≡ option_map_or (total (λ _. 1)) found 0
-len_inside None = len_total finmap.empty ∙ total-empty (λ _. 1)
-len_inside (Some table) = len_total table
+len_inside found = grind (arith, len_total, total-empty)
 
 kept : {X : Type 0} (nested : Nested X) (k n : ℕ) → k ≢ n → finmap.get (finmap.remove nested n) k ≡ finmap.get nested k
 kept nested k n differs = get_removed nested n k ∙ cond-false _ _ _ (let e : nat_eq k n ≡ false = grind (arith, nat_tests) in e)

@@ -1,5 +1,5 @@
 -- What an event makes of the plain memory.
-use Rattle.std.proofs.Common.{◌≡◌, ℕ, List, Option, Some, refl, sym, ◌∙◌, ap}
+use Rattle.std.proofs.Common.{◌≡◌, ℕ, List, Option, Some, refl, sym, ◌∙◌, ap, arith}
 use Rattle.std.specs.Option.{option_map, option_map_or}
 use Rattle.std.specs.FinMap as finmap
 use Rattle.sd_areas.specs.declared.prot.Prot.{Prot}
@@ -16,9 +16,7 @@ use Rattle.sd_pagetable.proofs.ForkCalls.{apart_from, plain_forked, plain_ended}
 
 plain_set : (c : Contents) (s first count : ℕ) (prot : Prot)
     → plain_of (with_space c s (set_within (inside c.spaces s) first count (fresh_page prot))) ≡ finmap.insert (plain_of c) s (set_within (inside (plain_of c) s) first count (record { prot = prot; bytes = zeros }))
-plain_set c s first count prot = plain_with c s _
-    ∙ ap (finmap.insert (plain_of c) s) (map_set plain_page (inside c.spaces s) first count (fresh_page prot)
-    ∙ ap (λ t. set_within t first count (record { prot = prot; bytes = zeros })) (sym (plain_inside c s)))
+plain_set c s first count prot = grind (arith, plain_with, map_set, plain_inside)
 
 plain_removed : (c : Contents) (s first count : ℕ)
     → plain_of (with_space c s (remove_within (inside c.spaces s) first count)) ≡ finmap.insert (plain_of c) s (remove_within (inside (plain_of c) s) first count)
@@ -28,15 +26,11 @@ plain_removed c s first count = plain_with c s _
 plain_changed : (c : Contents) (s first count : ℕ) (prot : Prot)
     → plain_of (with_space c s (change_within (protected_page prot) (inside c.spaces s) first count))
     ≡ finmap.insert (plain_of c) s (change_within (λ (page : plain.Page). record page { prot = prot }) (inside (plain_of c) s) first count)
-plain_changed c s first count prot = plain_with c s _
-    ∙ ap (finmap.insert (plain_of c) s) (map_change plain_page (protected_page prot) (λ (page : plain.Page). record page { prot = prot }) (λ _. refl) (inside c.spaces s) first count
-    ∙ ap (λ t. change_within (λ (page : plain.Page). record page { prot = prot }) t first count) (sym (plain_inside c s)))
+plain_changed c s first count prot = grind (arith, plain_with, map_change, plain_inside)
 
 plain_written : (c : Contents) (s p offset : ℕ) (bytes : List ℕ) (x y : PageState) → page_at c s p ≡ Some x → plain_page y ≡ record { prot = x.prot; bytes = stored_at x.bytes offset bytes }
     → plain_of (put_page c s p y) ≡ after_write (plain_of c) s p offset bytes
-plain_written c s p offset bytes x y h e =
-    plain_put c s p y ∙ ap (put_at (plain_of c) s p) e
-    ∙ sym (ap (λ (o : Option plain.Page). option_map_or (λ (page : plain.Page). put_at (plain_of c) s p (record page { bytes = stored_at page.bytes offset bytes })) o (plain_of c)) (plain_at c s p ∙ ap (option_map plain_page) h))
+plain_written c s p offset bytes x y h e = grind (arith, plain_put, plain_at)
 
 pub effect_law : EventEffectLaw
 effect_law old new (Mapped s first count prot) step = ap plain_of step ∙ plain_set old s first count prot

@@ -111,8 +111,7 @@ module _ (tables : Nested Entry) (s : ℕ) where
 
 -- ---- the space, once its frames were given up
 emptied_twice : {X : Type 0} (b : Bool) (o : Option X) (t : X) → cond b None (cond b (Some t) o) ≡ cond b None o
-emptied_twice true o t = refl
-emptied_twice false o t = refl
+emptied_twice b o t = grind arith
 
 pub removed_put : (tables : Nested Entry) (s : ℕ) (t : Table Entry) → finmap.remove (finmap.insert tables s t) s ≡ finmap.remove tables s
 removed_put tables s t = same_table _ _ (λ q. get_removed (finmap.insert tables s t) s q ∙ ap (cond (nat_eq q s) None) (get_put tables s t q)

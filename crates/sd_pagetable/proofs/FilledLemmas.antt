@@ -71,16 +71,14 @@ module _ {X Y : Type 0} (f : X → Y) where
       ]
 
   mapped_cond : (b : Bool) (x : X) (o : Option X) → cond b (Some (f x)) (option_map f o) ≡ option_map f (cond b (Some x) o)
-  mapped_cond true x o = refl
-  mapped_cond false x o = refl
+  mapped_cond b x o = grind arith
 
   pub find_seen : (es : List (ℕ × X)) (q : ℕ) → find nat_cmp q (map (λ (e : ℕ × X). (e.0, f e.1)) es) ≡ option_map f (find nat_cmp q es)
   find_seen [] q = refl
   find_seen (e ∷ es) q = ap (cond (eq_by_cmp nat_cmp q e.0) (Some (f e.1))) (find_seen es q) ∙ mapped_cond (eq_by_cmp nat_cmp q e.0) e.1 (find nat_cmp q es)
 
   or_none : (o : Option Y) → option_or o None ≡ o
-  or_none None = refl
-  or_none (Some y) = refl
+  or_none o = grind arith
 
   -- filled from nothing it is the table of the entries
   pub filled_all : (es : List (ℕ × X)) → Rises es → filled finmap.empty es ≡ finmap.from_entries (map (λ (e : ℕ × X). (e.0, f e.1)) es)

@@ -1,5 +1,5 @@
 -- The first page of a space, as the tables have it.
-use Rattle.std.proofs.Common.{◌≡◌, ℕ, is_some, Option, Some, None, refl, sym, ◌∙◌, ap, subst}
+use Rattle.std.proofs.Common.{◌≡◌, ℕ, is_some, Option, Some, None, refl, sym, ◌∙◌, ap, subst, arith}
 use Rattle.std.specs.Option.{option_map, IfSome}
 use Rattle.std.specs.FinMap as finmap
 use Rattle.std.specs.declared.ops.Bound.{Bound}
@@ -14,18 +14,14 @@ use Rattle.sd_pagetable.proofs.NestedLemmas.{value_at-map}
 use Rattle.sd_pagetable.proofs.ViewLemmas.{entry_there}
 
 some_seen : (f : Entry → PageState) (o : Option Entry) → is_some (option_map f o) ≡ is_some o
-some_seen f None = refl
-some_seen f (Some e) = refl
+some_seen f o = grind arith
 
 same_first : (t : Table Entry) (u : Table PageState) (start : Bound ℕ) (r : Option ℕ) → ((page : ℕ) → is_some (finmap.get u page) ≡ is_some (finmap.get t page)) → IsFirstFrom t start r → IsFirstFrom u start r
-same_first t u start None same h = λ page some. h page (sym (same page) ∙ some)
-same_first t u start (Some first) same h = (same first ∙ h.0, h.1, λ page some. h.2 page (sym (same page) ∙ some))
+same_first t u start r same h = grind arith
 
 module _ (pool : Pool) (tables : Nested Entry) (m : Contents) (s : ℕ) (v : contents_of pool tables ≡ m) where
   pub first_seen : (start : Bound ℕ) (r : Option ℕ) → IsFirstFrom (inside tables s) start r → IsFirstFrom (inside m.spaces s) start r
-  first_seen start r first = subst (λ (c : Contents). IsFirstFrom (inside c.spaces s) start r) v
-      (same_first (inside tables s) (inside (contents_of pool tables).spaces s) start r
-      (λ page. ap is_some (value_at-map (page_of_entry pool) tables s page) ∙ some_seen (page_of_entry pool) (value_at tables s page)) first)
+  first_seen start r first = grind (arith, same_first, value_at-map, some_seen)
 
   pub has_entry : (page : ℕ) (e : Entry) → value_at tables s page ≡ Some e → HasEntry m s page e
   has_entry page e h = ap (λ (c : Contents). option_map entry_of (page_at c s page)) (sym v) ∙ ap (option_map entry_of) (entry_there pool tables s page e h)

@@ -42,12 +42,10 @@ module _ {X : Type 0} where
   len_total t = len-entries t ∙ sym (ones (finmap.entries t))
 
   counted : (o : Option X) → IsSome o → ◌≡◌ {A = ℕ} (option_map_or (λ (_ : X). 1) o 0) 1
-  counted (Some x) e = refl
-  counted None e = absurd (let f : false ≡ true = e in cc)
+  counted o e = grind arith
 
   at_most_one : (o : Option X) → option_map_or (λ (_ : X). 1) o 0 ≤ 1
-  at_most_one (Some x) = omega arith
-  at_most_one None = omega arith
+  at_most_one o = grind arith
 
   pub has_all : (count : ℕ) (t : Table X) (first : ℕ) → ((q : ℕ) → is_within first count q ≡ true → IsSome (finmap.get t q)) → count ≤ total (λ (_ : X). 1) t
   has_all zero t first all = omega arith
@@ -68,8 +66,7 @@ module _ {X : Type 0} where
       longer first count q within = grind (arith, nat_tests)
 
   none_of : (o : Option X) → (IsSome o → ⊥) → o ≡ None
-  none_of None never = refl
-  none_of (Some x) never = absurd (never refl)
+  none_of o never = grind arith
 
   pub has_only : (count : ℕ) (t : Table X) (first : ℕ) → ((q : ℕ) → IsSome (finmap.get t q) → is_within first count q ≡ true) → total (λ (_ : X). 1) t ≤ count
   has_only zero t first only =
@@ -89,8 +86,7 @@ module _ {X : Type 0} where
       shorter first count q within differs = grind (arith, nat_tests)
 
       kept : (b : Bool) (o : Option X) → IsSome (cond b None o) → (b ≡ false) × IsSome o
-      kept true o e = absurd (let f : false ≡ true = e in cc)
-      kept false o e = (refl, e)
+      kept b o e = grind arith
 
       inner : (q : ℕ) → IsSome (cond (nat_eq q (first + count)) None (finmap.get t q)) → is_within first count q ≡ true
       inner q there = (let k = kept (nat_eq q (first + count)) (finmap.get t q) there in shorter first count q (only q k.1) k.0)
@@ -108,8 +104,7 @@ plain_len c = len-entries (map_values (map_values plain_page) c.spaces) ∙ ap (
 
 -- ---- `exit`
 removed_again : (b : Bool) (o : Option (Table PageState)) (t : Table PageState) → cond b None (cond b (Some t) o) ≡ cond b None o
-removed_again true o t = refl
-removed_again false o t = refl
+removed_again b o t = grind arith
 
 pub ended : (c mid new : Contents) (s : ℕ) → mid ≡ with_space c s finmap.empty → new ≡ record { pool = mid.pool; spaces = finmap.remove mid.spaces s } → new ≡ record { pool = c.pool; spaces = finmap.remove c.spaces s }
 ended c mid new s empty removed = removed ∙ ap (λ (m : Contents). record { pool = m.pool; spaces = finmap.remove m.spaces s }) empty
@@ -121,8 +116,7 @@ unfolding plain_of
 plain_ended c s = map_removed (map_values plain_page) c.spaces s
 
 gone : {Y : Type 0} (b : Bool) (f : Table PageState → Y) (o : Option (Table PageState)) → cond b None (option_map f o) ≡ option_map f (cond b None o)
-gone true f o = refl
-gone false f o = refl
+gone b f o = grind arith
 
 pub areas_ended : (areas new : BTreeMap ℕ PageMap) (c : Contents) (s : ℕ) → HasAreas areas c → ((q : ℕ) → get nat_cmp new q ≡ cond (nat_eq q s) None (get nat_cmp areas q))
     → HasAreas new (record { pool = c.pool; spaces = finmap.remove c.spaces s })
@@ -151,16 +145,10 @@ still_alive c s u t alive = alive-insert c.spaces s t u ∙ ap (λ b. nat_eq u s
 
 pub shared : (c copied new : Contents) (s child : ℕ) (t : Table PageState) → (s ≡ child → ⊥) → copied ≡ with_space c child t
     → new ≡ with_space (with_space copied s (map_values shared_page (inside copied.spaces s))) child (map_values inherited_page (inside copied.spaces s)) → new ≡ contents_after_fork c s child
-shared c copied new s child t apart is done =
-    let own = inside c.spaces s in
-    done ∙ ap (λ p. with_space (with_space copied s (map_values shared_page p)) child (map_values inherited_page p)) (copied_parent c copied s child t apart is)
-    ∙ ap (λ m. with_space (with_space m s (map_values shared_page own)) child (map_values inherited_page own)) is
-    ∙ ap (λ m. with_space m child (map_values inherited_page own)) (with_swap c child s t (map_values shared_page own) (λ e. apart (sym e)))
-    ∙ with_twice (with_space c s (map_values shared_page own)) child t (map_values inherited_page own)
+shared c copied new s child t apart is done = grind (arith, copied_parent, with_swap, with_twice)
 
 dead_none : (o : Option (Table PageState)) → is_some o ≡ false → o ≡ None
-dead_none None e = refl
-dead_none (Some t) e = absurd (let f : true ≡ false = e in cc)
+dead_none o e = grind arith
 
 plain_space : (c : Contents) (s : ℕ) → finmap.get (plain_of c) s ≡ option_map (map_values plain_page) (finmap.get c.spaces s)
 unfolding plain_of
@@ -180,8 +168,7 @@ plain_forked c s child apart alive =
     put_back false o t is = refl
 
     there : (o : Option (Table PageState)) → is_some o ≡ true → option_map (map_values plain_page) o ≡ Some (map_values plain_page (unwrap_or o finmap.empty))
-    there (Some t) e = refl
-    there None e = absurd (let f : false ≡ true = e in cc)
+    there o e = grind arith
 
     itself : finmap.insert (plain_of c) s (map_values plain_page (inside c.spaces s)) ≡ plain_of c
     itself = same_table _ _ (λ q. get_put (plain_of c) s (map_values plain_page (inside c.spaces s)) q
@@ -189,8 +176,7 @@ plain_forked c s child apart alive =
 
 -- the areas after `fork`
 own_areas : (o : Option PageMap) (t : Option (Table PageState)) (own : PageMap) → o ≡ option_map prots_of t → o ≡ Some own → own ≡ prots_of (unwrap_or t finmap.empty)
-own_areas o None own has is = absurd (let e : None ≡ Some own = sym has ∙ is in cc)
-own_areas o (Some t) own has is = (let e : Some own ≡ Some (prots_of t) = sym is ∙ has in cc)
+own_areas o t own has is = grind arith
 
 pub areas_forked : (areas new : BTreeMap ℕ PageMap) (c : Contents) (s child : ℕ) (own : PageMap) → HasAreas areas c → get nat_cmp areas s ≡ Some own
     → ((q : ℕ) → get nat_cmp new q ≡ cond (nat_eq q child) (Some own) (get nat_cmp areas q)) → HasAreas new (contents_after_fork c s child)
@@ -247,10 +233,7 @@ is_free c number child is sound from upto free before =
     within q a b = grind (arith, nat_tests)
 
     inner : (q : ℕ) → IsSome (cond (nat_eq q number) (Some finmap.empty) (finmap.get c.spaces q)) → is_within 1 16 q ≡ true
-    inner q there = elim (cases_Bool (nat_eq q number)) [
-      | inl here ↦ ap (is_within 1 16) (same_of q number here) ∙ within number from upto
-      | inr other ↦ (let alive = sound.spaces q (subst IsSome (ap (λ b. cond b (Some finmap.empty) (finmap.get c.spaces q)) other) there) in within q alive.0 alive.1)
-    ]
+    inner q there = grind arith
 
 -- ---- what is due
 pub exit_dead : (c : Contents) (s : ℕ) → is_alive c.spaces s ≡ false → exit_due (plain_of c) s ≡ Some (Refused NoSuchSpace)
@@ -274,10 +257,7 @@ inside_len c s = len_total (inside (plain_of c) s) ∙ ap (total (λ _. 1)) (pla
 
 pub fork_alive : (c : Contents) (s : ℕ) (full many : Bool) → is_alive c.spaces s ≡ true → nat_le 16 (finmap.len c.spaces) ≡ full → nat_lt 65536 (page_count c.spaces + finmap.len (inside c.spaces s)) ≡ many
     → fork_due (plain_of c) s ≡ cond full (Some (Refused TooManySpaces)) (cond many (Some (Refused Enomem)) None)
-fork_alive c s full many alive is_full is_many =
-    ap (λ b. cond b (cond (nat_le 16 (finmap.len (plain_of c))) (Some (Refused TooManySpaces)) (cond (nat_lt 65536 (page_count (plain_of c) + finmap.len (inside (plain_of c) s))) (Some (Refused Enomem)) None)) (Some (Refused NoSuchSpace))) (plain_alive c s ∙ alive)
-    ∙ ap (λ b. cond b (Some (Refused TooManySpaces)) (cond (nat_lt 65536 (page_count (plain_of c) + finmap.len (inside (plain_of c) s))) (Some (Refused Enomem)) None)) (ap (nat_le 16) (plain_len c) ∙ is_full)
-    ∙ ap (λ b. cond full (Some (Refused TooManySpaces)) (cond b (Some (Refused Enomem)) None)) (ap (λ n. nat_lt 65536 (n + finmap.len (inside (plain_of c) s))) (plain_many c) ∙ ap (λ n. nat_lt 65536 (page_count c.spaces + n)) (inside_len c s) ∙ is_many)
+fork_alive c s full many alive is_full is_many = grind (arith, plain_alive, plain_len, plain_many, inside_len)
 
 pub is_sixteen : (n : ℕ) → 16 ≤ n → nat_le 16 n ≡ true
 is_sixteen n le = grind (arith, nat_tests)

@@ -22,16 +22,13 @@ pub no_longer : (page : ℕ) → is_from (Excluded page) page ≡ false
 no_longer page = grind (arith, nat_tests)
 
 up_from : (start : Bound ℕ) (page q : ℕ) → is_from start page ≡ true → nat_lt page q ≡ true → is_from start q ≡ true
-up_from Unbounded page q from less = refl
-up_from _ page q from less = grind (arith, nat_tests)
+up_from start page q from less = grind arith
 
 less_of : (page q : ℕ) → page ≤ q → nat_eq q page ≡ false → nat_lt page q ≡ true
 less_of page q le differs = grind (arith, nat_tests)
 
 agree : (a b : Bool) → (a ≡ true → b ≡ true) → (b ≡ true → a ≡ true) → a ≡ b
-agree true b f g = sym (f refl)
-agree false true f g = g refl
-agree false false f g = refl
+agree a b f g = grind arith
 
 -- behind its first page
 pub from_next : {X : Type 0} (t : Table X) (start : Bound ℕ) (page q : ℕ) → IsFirstFrom t start (Some page) → IsSome (finmap.get t q) → nat_eq q page ≡ false → is_from start q ≡ is_from (Excluded page) q
@@ -49,30 +46,22 @@ get-parted later done start t q = get-map_entries (λ q x. cond (is_from start q
 next_at : {Y : Type 0} (later done : PageState → Y) (start : Bound ℕ) (t : Table PageState) (page : ℕ) (x : PageState) → IsFirstFrom t start (Some page) → finmap.get t page ≡ Some x
     → (q : ℕ) (here : Bool) → nat_eq q page ≡ here → (o : Option PageState) → finmap.get t q ≡ o
     → option_map (λ y. cond (is_from (Excluded page) q) (later y) (done y)) o ≡ cond here (Some (done x)) (option_map (λ y. cond (is_from start q) (later y) (done y)) o)
-next_at later done start t page x first is q true e o f =
-    ap (option_map (λ y. cond (is_from (Excluded page) q) (later y) (done y))) (sym f ∙ ap (finmap.get t) (same_of q page e) ∙ is)
-    ∙ ap (λ b. Some (cond b (later x) (done x))) (ap (is_from (Excluded page)) (same_of q page e) ∙ no_longer page)
-next_at later done start t page x first is q false e None f = refl
-next_at later done start t page x first is q false e (Some y) f = ap (λ b. Some (cond b (later y) (done y))) (sym (from_next t start page q first (subst IsSome (sym f) refl) e))
+next_at later done start t page x first is q here e o f = grind arith
 
 -- the first page is done
 pub parted_next : {Y : Type 0} (later done : PageState → Y) (start : Bound ℕ) (t : Table PageState) (page : ℕ) (x : PageState) → IsFirstFrom t start (Some page) → finmap.get t page ≡ Some x
     → finmap.insert (parted later done start t) page (done x) ≡ parted later done (Excluded page) t
-parted_next later done start t page x first is = same_table _ _ (λ q. get_put (parted later done start t) page (done x) q
-    ∙ ap (cond (nat_eq q page) (Some (done x))) (get-parted later done start t q)
-    ∙ sym (next_at later done start t page x first is q (nat_eq q page) refl (finmap.get t q) refl) ∙ sym (get-parted later done (Excluded page) t q))
+parted_next later done start t page x first is = grind (arith, same_table, get_put, get-parted, next_at)
 
 -- at first none is done, and at last all are
 none_yet : {Y : Type 0} (later done : PageState → Y) (o : Option PageState) → option_map (λ x. cond true (later x) (done x)) o ≡ option_map later o
-none_yet later done None = refl
-none_yet later done (Some x) = refl
+none_yet later done o = grind arith
 
 pub parted_none : {Y : Type 0} (later done : PageState → Y) (t : Table PageState) → parted later done Unbounded t ≡ map_values later t
 parted_none later done t = same_table _ _ (λ q. get-parted later done Unbounded t q ∙ none_yet later done (finmap.get t q) ∙ sym (get-map_values later t q))
 
 all_now : {Y : Type 0} (later done : PageState → Y) (start : Bound ℕ) (q : ℕ) (o : Option PageState) → (IsSome o → is_from start q ≡ false) → option_map (λ x. cond (is_from start q) (later x) (done x)) o ≡ option_map done o
-all_now later done start q None none = refl
-all_now later done start q (Some x) none = ap (λ b. Some (cond b (later x) (done x))) (none refl)
+all_now later done start q o none = grind arith
 
 pub parted_all : {Y : Type 0} (later done : PageState → Y) (start : Bound ℕ) (t : Table PageState) → IsFirstFrom t start None → parted later done start t ≡ map_values done t
 parted_all later done start t none = same_table _ _ (λ q. get-parted later done start t q ∙ all_now later done start q (finmap.get t q) (none q) ∙ sym (get-map_values done t q))
@@ -98,16 +87,13 @@ remaining_next start t page x first is =
     omega (arith, weight, sum, same)
 
 some_of : (o : Option PageState) → IsSome o → (x : PageState) × (o ≡ Some x)
-some_of (Some x) e = (x, refl)
-some_of None e = absurd (let f : false ≡ true = e in cc)
+some_of o e = grind arith
 
 if_there : (P : PageState → Type 0) (o : Option PageState) (x : PageState) → o ≡ Some x → IfSome o P → P x
 if_there P o x e given = (let g : IfSome (Some x) P = subst (λ o. IfSome o P) e given in g)
 
 pub less_remains : (t : Table PageState) (start : Bound ℕ) (page : ℕ) → IsFirstFrom t start (Some page) → remaining (Excluded page) t < remaining start t
-less_remains t start page first =
-    let x = some_of (finmap.get t page) first.0 in
-    omega (arith, remaining_next start t page x.0 first x.1)
+less_remains t start page first = grind (arith, some_of, remaining_next)
 
 -- ---- one page more that is shared
 pub with_swap : (c : Contents) (s u : ℕ) (t v : Table PageState) → (s ≡ u → ⊥) → with_space (with_space c s t) u v ≡ with_space (with_space c u v) s t
@@ -125,9 +111,7 @@ with_swap c s u t v apart = ap (λ spaces. record { pool = c.pool; spaces = spac
     or_swap false false c = refl
 
     cond_swap : (a b : Bool) (x y z : Option PageState) → (a ≡ true → b ≡ true → ⊥) → cond a x (cond b y z) ≡ cond b y (cond a x z)
-    cond_swap true true x y z never = absurd (never refl refl)
-    cond_swap false true x y z never = refl
-    cond_swap _ _ x y z never = refl
+    cond_swap a b x y z never = grind arith
 
 abbrev pub shared_so_far : Contents → ℕ → ℕ → Bound ℕ → Contents
 shared_so_far old parent child start = with_space (with_space old parent (parted (λ page. page) shared_page start (inside old.spaces parent))) child (parted bare_page inherited_page start (inside old.spaces parent))
@@ -141,10 +125,7 @@ plain_values t = same_table _ _ (λ q. get-map_values (λ page. page) t q ∙ it
 
 pub shares_none : (old : Contents) (parent child : ℕ) → (parent ≡ child → ⊥) → is_alive old.spaces parent ≡ true → is_alive old.spaces child ≡ true
     → inside old.spaces child ≡ map_values bare_page (inside old.spaces parent) → old ≡ shared_so_far old parent child Unbounded
-shares_none old parent child apart alive_parent alive_child copied =
-    sym (ap (λ t. with_space (with_space old parent t) child (parted bare_page inherited_page Unbounded (inside old.spaces parent))) (parted_none (λ page. page) shared_page (inside old.spaces parent) ∙ plain_values (inside old.spaces parent))
-    ∙ ap (λ c. with_space c child (parted bare_page inherited_page Unbounded (inside old.spaces parent))) (with_itself old parent alive_parent)
-    ∙ ap (with_space old child) (parted_none bare_page inherited_page (inside old.spaces parent) ∙ sym copied) ∙ with_itself old child alive_child)
+shares_none old parent child apart alive_parent alive_child copied = grind (arith, parted_none, plain_values, with_itself)
 
 -- the parent's table so far
 pub parent_so_far : (old now : Contents) (parent child : ℕ) (start : Bound ℕ) → (parent ≡ child → ⊥) → now ≡ shared_so_far old parent child start
@@ -159,8 +140,7 @@ child_so_far old now parent child start done = ap (λ (c : Contents). inside c.s
 
 -- the same pages are in a table whose pages changed
 mapped_some : (o : Option PageState) (f : PageState → PageState) → is_some (option_map f o) ≡ is_some o
-mapped_some None f = refl
-mapped_some (Some x) f = refl
+mapped_some o f = grind arith
 
 part_there : {Y : Type 0} (later done : PageState → Y) (start : Bound ℕ) (t : Table PageState) (q : ℕ) → is_some (finmap.get (parted later done start t) q) ≡ is_some (finmap.get t q)
 part_there later done start t q = ap is_some (get-parted later done start t q) ∙ still (finmap.get t q)
@@ -170,9 +150,7 @@ part_there later done start t q = ap is_some (get-parted later done start t q) �
     still (Some x) = refl
 
 pub first_of_part : (later done : PageState → PageState) (start : Bound ℕ) (t : Table PageState) (page : Option ℕ) → IsFirstFrom (parted later done start t) start page → IsFirstFrom t start page
-first_of_part later done start t None none = λ q there. none q (part_there later done start t q ∙ there)
-first_of_part later done start t (Some page) first =
-    (sym (part_there later done start t page) ∙ first.0, first.1, λ q there from. first.2 q (part_there later done start t q ∙ there) from)
+first_of_part later done start t page none = grind (arith, part_there)
 
 pub first_shared : (old now : Contents) (parent child : ℕ) (start : Bound ℕ) (page : Option ℕ) → (parent ≡ child → ⊥) → now ≡ shared_so_far old parent child start
     → IsFirstFrom (inside now.spaces parent) start page → IsFirstFrom (inside old.spaces parent) start page
@@ -210,6 +188,4 @@ shares_next old now new parent child page start apart done first put =
 
 pub shares_all : (old now : Contents) (parent child : ℕ) (start : Bound ℕ) → now ≡ shared_so_far old parent child start → IsFirstFrom (inside old.spaces parent) start None
     → now ≡ with_space (with_space old parent (map_values shared_page (inside old.spaces parent))) child (map_values inherited_page (inside old.spaces parent))
-shares_all old now parent child start done none = done
-    ∙ ap (λ t. with_space (with_space old parent t) child (parted bare_page inherited_page start (inside old.spaces parent))) (parted_all (λ page. page) shared_page start (inside old.spaces parent) none)
-    ∙ ap (with_space (with_space old parent (map_values shared_page (inside old.spaces parent))) child) (parted_all bare_page inherited_page start (inside old.spaces parent) none)
+shares_all old now parent child start done none = grind (arith, parted_all)

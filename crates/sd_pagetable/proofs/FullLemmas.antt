@@ -45,12 +45,7 @@ kept_fewer p a (suc n) k l g f = elim (cases_eq k a) [
 
 module _ (pool : Pool) (tables : Nested Entry) (n : ℕ) (kept : IsKept pool tables n) where
   pub full_exhausted : IsExhausted pool → is_full (contents_of pool tables) ≡ true
-  full_exhausted h = eq-eqb _ _ (kept_all (λ k. nat_lt 0 (members (contents_of pool tables) k)) 0 pool.size (λ k l g. lt-ltb 0 _ (
-      let c = some_of (cell_at pool k) (h k (omega (arith, g))) in
-      let a = kept.used k c.0 c.1 in
-      let b : count_at pool k ≡ c.0.count = ap (λ o. option_map_or (λ (z : Cell). z.count) o 0) c.1 in
-      let d = kept.counts k in
-      omega (arith, a, b, d))))
+  full_exhausted h = grind (arith, eq-eqb, kept_all, lt-ltb, some_of)
 
   pub room_free : HasFree pool → is_full (contents_of pool tables) ≡ false
   room_free h = ne_eqb _ _ (λ e.
@@ -60,8 +55,7 @@ module _ (pool : Pool) (tables : Nested Entry) (n : ℕ) (kept : IsKept pool tab
       omega (arith, e, l))
 
   pub own_alone : (frame : Option ℕ) → is_own pool frame ≡ option_map_or (λ k. nat_eq (members (contents_of pool tables) k) 1) frame false
-  own_alone None = refl
-  own_alone (Some k) = ap (λ c. nat_eq c 1) (kept.counts k)
+  own_alone frame = grind arith
 
   module _ (s p : ℕ) (e : Entry) (h : value_at tables s p ≡ Some e) (m : Contents) (v : contents_of pool tables ≡ m) where
     there : page_at m s p ≡ Some (page_of_entry pool e)

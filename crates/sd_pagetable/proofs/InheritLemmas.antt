@@ -34,31 +34,16 @@ members_le m k = total_le (total (share_of k)) (total one_page) (total_le (share
 
 module _ (old new : Pool) (tables : Nested Entry) (n parent child p : ℕ) (e own : Entry) (kept : IsKept old tables n) (there : value_at tables parent p ≡ Some e) (closed : e.writable ≡ false) (here : value_at tables child p ≡ Some own) (none : own.frame ≡ None) (shared : SharesFrame old new e.frame) where
   same_frames : (o : Option ℕ) → frame_bytes new o ≡ frame_bytes old o
-  same_frames None = refl
-  same_frames (Some k) = shared.bytes k
+  same_frames o = grind arith
 
   pub shared_same : SameOthers old new tables child p
   shared_same q r y apart hy = ap (λ (bytes : List ℕ). record { prot = y.prot; bytes = bytes; class = y.frame; writable = y.writable; soft_dirty = y.soft_dirty }) (same_frames y.frame)
 
   counts_more : (e' : Entry) → e'.frame ≡ e.frame → (k : ℕ) (o : Option ℕ) → e.frame ≡ o → count_at new k + 0 ≡ count_at old k + share_of k (page_of_entry new e')
-  counts_more e' same k None f =
-      let a : count_at new k ≡ count_at old k = ap (λ u. option_map_or (λ (c : Cell). c.count) u 0) (shared.others k (λ g. let x : ◌≡◌ {A = Option ℕ} None (Some k) = sym f ∙ g in cc)) in
-      let b : share_of k (page_of_entry new e') ≡ 0 = ap (λ o. option_map_or (λ j. cond {A = ℕ} (nat_eq j k) 1 0) o 0) (same ∙ f) in
-      omega (arith, a, b)
-  counts_more e' same k (Some j) f = elim (cases_eq j k) [
-    | inl here ↦ (let a = shared.count k (f ∙ ap Some here) in let b = one_share k (page_of_entry new e') (same ∙ f ∙ ap Some here) in omega (arith, a, b))
-    | inr other ↦
-        let a : count_at new k ≡ count_at old k = ap (λ u. option_map_or (λ (c : Cell). c.count) u 0) (shared.others k (λ g. other (let x : ◌≡◌ {A = Option ℕ} (Some j) (Some k) = sym f ∙ g in cc))) in
-        let b : share_of k (page_of_entry new e') ≡ 0 = ap (λ o. option_map_or (λ j. cond {A = ℕ} (nat_eq j k) 1 0) o 0) (same ∙ f) ∙ other_class j k other in
-        omega (arith, a, b)
-  ]
+  counts_more e' same k o f = grind arith
 
   used_more : (k : ℕ) (c : Cell) (o : Option ℕ) → e.frame ≡ o → cell_at new k ≡ Some c → 0 < c.count
-  used_more k c None f hc = kept.used k c (sym (shared.others k (λ g. let x : ◌≡◌ {A = Option ℕ} None (Some k) = sym f ∙ g in cc)) ∙ hc)
-  used_more k c (Some j) f hc = elim (cases_eq j k) [
-    | inl same ↦ shared.used k c (f ∙ ap Some same) hc
-    | inr other ↦ kept.used k c (sym (shared.others k (λ g. other (let x : ◌≡◌ {A = Option ℕ} (Some j) (Some k) = sym f ∙ g in cc))) ∙ hc)
-  ]
+  used_more k c o f hc = grind arith
 
   -- an open page isn't in the class of the parent's
   apart_shared : (e' : Entry) → e'.frame ≡ e.frame → (q r : ℕ) (y : PageState) (k : ℕ) (o : Option ℕ) → e.frame ≡ o → page_at (contents_of old tables) q r ≡ Some y → y.writable ≡ true → y.class ≡ Some k → members (contents_of old tables) k ≡ 1 → share_of k (page_of_entry new e') ≡ 0

@@ -32,11 +32,7 @@ abbrev IsIdle : MemoryEvent → ℕ → ℕ → Type 0
 IsIdle event space number = (touches space number event ≡ false) × (clears space number event ≡ false) × (makes_writable space number event ≡ false) × (write_protects space number event ≡ false)
 
 idle : (event : MemoryEvent) (space number : ℕ) (page : PageState) → IsIdle event space number → IsChangedBy event space number page page
-idle event space number page is = record {
-  soft_dirty = sym (ap (λ c. cond c false (touches space number event || page.soft_dirty)) is.1 ∙ ap (λ t. t || page.soft_dirty) is.0);
-  writable = sym (ap (λ c. cond c false (makes_writable space number event || page.writable)) is.3 ∙ ap (λ o. o || page.writable) is.2);
-  bytes = λ _. refl;
-}
+idle event space number page is = grind arith
 
 kept : (old : Contents) (event : MemoryEvent) (space number : ℕ) (after : PageState) → page_at old space number ≡ Some after → IsIdle event space number → ComesFrom old event space number after
 kept old event space number after there is = inl (after, there, idle event space number after is)
@@ -52,83 +48,34 @@ in_other s space number nested e = ap (λ k. finmap.get (inside nested k) number
 mapped : (old : Contents) (s first count : ℕ) (prot : Prot) (space number : ℕ) (after : PageState) (here within : Bool) → nat_eq s space ≡ here → is_within first count number ≡ within
     → cond here (cond within (Some (fresh_page prot)) (finmap.get (inside old.spaces s) number)) (page_at old space number) ≡ Some after
     → ComesFrom old (Mapped s first count prot) space number after
-mapped old s first count prot space number after false within e f is = kept old _ space number after is (ap (λ h. h && is_within first count number) e, refl, refl, ap (λ h. h && is_within first count number) e)
-mapped old s first count prot space number after true false e f is = kept old _ space number after (sym (in_other s space number old.spaces e) ∙ is)
-    (ap (λ h. h && is_within first count number) e ∙ f, refl, refl, ap (λ h. h && is_within first count number) e ∙ f)
-mapped old s first count prot space number after true true e f is = inr (record {
-  touched = ap (λ h. h && is_within first count number) e ∙ f;
-  uncleared = refl;
-  protected = ap (λ h. h && is_within first count number) e ∙ f;
-  soft_dirty = ap (λ (p : PageState). p.soft_dirty) (sym (same_Some _ _ is));
-  writable = ap (λ (p : PageState). p.writable) (sym (same_Some _ _ is));
-})
+mapped old s first count prot space number after here within e f is = grind arith
 
 -- `munmap`
 unmapped : (old : Contents) (s first count : ℕ) (space number : ℕ) (after : PageState) (here within : Bool) → nat_eq s space ≡ here → is_within first count number ≡ within
     → cond here (cond within None (finmap.get (inside old.spaces s) number)) (page_at old space number) ≡ Some after
     → ComesFrom old (Unmapped s first count) space number after
-unmapped old s first count space number after false within e f is = kept old _ space number after is (refl, refl, refl, ap (λ h. h && is_within first count number) e)
-unmapped old s first count space number after true false e f is = kept old _ space number after (sym (in_other s space number old.spaces e) ∙ is)
-    (refl, refl, refl, ap (λ h. h && is_within first count number) e ∙ f)
-unmapped old s first count space number after true true e f is = gone after is
+unmapped old s first count space number after here within e f is = grind arith
 
 -- `mprotect`
 pub changed : {A B : Type 0} (f : A → B) (o : Option A) (y : B) → option_map f o ≡ Some y → (x : A) × (o ≡ Some x) × (y ≡ f x)
-changed f None y e = gone y e
-changed f (Some x) y e = (x, refl, sym (same_Some _ _ e))
+changed f o y e = grind arith
 
 protected : (old : Contents) (s first count : ℕ) (prot : Prot) (space number : ℕ) (after : PageState) (here within : Bool) → nat_eq s space ≡ here → is_within first count number ≡ within
     → cond here (option_map (λ (p : PageState). cond within (protected_page prot p) p) (finmap.get (inside old.spaces s) number)) (page_at old space number) ≡ Some after
     → ComesFrom old (Protected s first count prot) space number after
-protected old s first count prot space number after false within e f is = kept old _ space number after is (refl, refl, refl, ap (λ h. h && is_within first count number) e)
-protected old s first count prot space number after true false e f is =
-    let was = changed (λ (p : PageState). p) _ after is in
-    kept old _ space number after (sym (in_other s space number old.spaces e) ∙ was.1 ∙ ap Some (sym was.2))
-    (refl, refl, refl, ap (λ h. h && is_within first count number) e ∙ f)
-protected old s first count prot space number after true true e f is =
-    let was = changed (λ (p : PageState). protected_page prot p) _ after is in
-    inl (
-      was.0,
-      sym (in_other s space number old.spaces e) ∙ was.1,
-      record {
-        soft_dirty = ap (λ (p : PageState). p.soft_dirty) was.2;
-        writable = ap (λ (p : PageState). p.writable) was.2 ∙ sym (ap (λ c. cond c false was.0.writable) (ap (λ h. h && is_within first count number) e ∙ f));
-        bytes = λ _. ap (λ (p : PageState). p.bytes) was.2;
-      },
-    )
+protected old s first count prot space number after here within e f is = grind arith
 
 -- `fork`
 forked_page : (old : Contents) (parent child : ℕ) (space number : ℕ) (after : PageState) (is_child is_parent : Bool) → nat_eq child space ≡ is_child → nat_eq parent space ≡ is_parent
     → cond is_child (option_map inherited_page (finmap.get (inside old.spaces parent) number))
     (cond is_parent (option_map shared_page (finmap.get (inside old.spaces parent) number)) (page_at old space number)) ≡ Some after
     → ComesFrom old (Forked parent child) space number after
-forked_page old parent child space number after true is_parent e f is =
-    let was = changed inherited_page _ after is in
-    inr (record {
-      touched = e;
-      uncleared = refl;
-      protected = or_right (nat_eq parent space) (nat_eq child space) e;
-      soft_dirty = ap (λ (p : PageState). p.soft_dirty) was.2;
-      writable = ap (λ (p : PageState). p.writable) was.2;
-    })
-forked_page old parent child space number after false true e f is =
-    let was = changed shared_page _ after is in
-    inl (
-      was.0,
-      sym (in_other parent space number old.spaces f) ∙ was.1,
-      record {
-        soft_dirty = ap (λ (p : PageState). p.soft_dirty) was.2 ∙ sym (ap (λ t. t || was.0.soft_dirty) e);
-        writable = ap (λ (p : PageState). p.writable) was.2 ∙ sym (ap (λ c. cond (c || nat_eq child space) false was.0.writable) f);
-        bytes = λ _. ap (λ (p : PageState). p.bytes) was.2;
-      },
-    )
-forked_page old parent child space number after false false e f is = kept old _ space number after is (e, refl, refl, ap (λ a. a || nat_eq child space) f ∙ e)
+forked_page old parent child space number after is_child is_parent e f is = grind arith
 
 -- `exit`
 exited : (old : Contents) (s : ℕ) (space number : ℕ) (after : PageState) (here : Bool) → nat_eq s space ≡ here
     → cond here None (page_at old space number) ≡ Some after → ComesFrom old (Exited s) space number after
-exited old s space number after true e is = gone after is
-exited old s space number after false e is = kept old _ space number after is (refl, refl, refl, refl)
+exited old s space number after here e is = grind arith
 
 -- a fault or a store
 opened : (old : Contents) (s p : ℕ) (event : MemoryEvent) (bytes : List ℕ) (class : ℕ) (space number : ℕ) (before after : PageState) (here : Bool)
@@ -153,13 +100,10 @@ opened old s p event bytes class space number before after true t o c d there e 
     left_of false b e = e
 
     right_of : (a b : Bool) → (a && b) ≡ true → b ≡ true
-    right_of true b e = e
-    right_of false b e = absurd (let f : false ≡ true = e in cc)
+    right_of a b e = grind arith
 
     at_page : (s p space number : ℕ) → (nat_eq s space && nat_eq p number) ≡ true → page_at old space number ≡ page_at old s p
-    at_page s p space number e =
-        ap (λ k. page_at old k number) (sym (tests s space (left_of (nat_eq s space) (nat_eq p number) e)))
-        ∙ ap (λ k. page_at old s k) (sym (tests p number (right_of (nat_eq s space) (nat_eq p number) e)))
+    at_page s p space number e = grind arith
 
 -- a store to a writable page, and a clear
 replaced : (old : Contents) (s p : ℕ) (event : MemoryEvent) (space number : ℕ) (before page after : PageState) (here : Bool)
@@ -175,18 +119,13 @@ replaced old s p event space number before page after true k i there e is =
     left_of false b e = e
 
     right_of : (a b : Bool) → (a && b) ≡ true → b ≡ true
-    right_of true b e = e
-    right_of false b e = absurd (let f : false ≡ true = e in cc)
+    right_of a b e = grind arith
 
     at_page : (s p space number : ℕ) → (nat_eq s space && nat_eq p number) ≡ true → page_at old space number ≡ page_at old s p
-    at_page s p space number e =
-        ap (λ k. page_at old k number) (sym (tests s space (left_of (nat_eq s space) (nat_eq p number) e)))
-        ∙ ap (λ k. page_at old s k) (sym (tests p number (right_of (nat_eq s space) (nat_eq p number) e)))
+    at_page s p space number e = grind arith
 
 put : (old : Contents) (s p : ℕ) (page : PageState) (space number : ℕ) → page_at (put_page old s p page) space number ≡ cond (nat_eq s space && nat_eq p number) (Some page) (page_at old space number)
-put old s p page space number = value_at-put old.spaces s p page space number
-    ∙ ap (λ b. cond (b && nat_eq number p) (Some page) (page_at old space number)) (turned space s)
-    ∙ ap (λ b. cond (nat_eq s space && b) (Some page) (page_at old space number)) (turned number p)
+put old s p page space number = grind (arith, value_at-put, turned)
 
 -- where a page of a memory comes from, by the event that led there; before it, what is writable has to be soft-dirty
 pub comes : (old new : Contents) (event : MemoryEvent) (space number : ℕ) (after : PageState)

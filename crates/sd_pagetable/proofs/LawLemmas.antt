@@ -1,5 +1,5 @@
 -- The tracking law over whole histories.
-use Rattle.std.proofs.Common.{◌≡◌, ℕ, Bool, true, false, cond, ◌||◌, List, [], ◌∷◌, Option, Some, None, Ok, refl, sym, ◌∙◌, ap, subst, inl, inr}
+use Rattle.std.proofs.Common.{◌≡◌, ℕ, Bool, true, false, cond, ◌||◌, List, [], ◌∷◌, Option, Some, None, Ok, refl, sym, ◌∙◌, ap, subst, inl, inr, arith}
 use Rattle.std.specs.Option.{option_map_or}
 use Rattle.sd_areas.specs.Pages.{page_of}
 use Rattle.sd_pagetable.specs.Page.{PageState, plain_page}
@@ -36,16 +36,10 @@ tracks_more history event old new tracks step = record {
         ∙ sym (dirty_more event history space number ∙ ap (λ c. cond c false (touches space number event || is_dirty history space number)) m.uncleared ∙ ap (λ t. t || is_dirty history space number) m.touched)
 
     writable_then : (space number : ℕ) (page : PageState) → ComesFrom old event space number page → page.writable ≡ is_writable (event ∷ history) space number
-    writable_then space number page (inl k) = k.2.writable
-        ∙ ap (λ b. cond (write_protects space number event) false (makes_writable space number event || b)) (tracks.writable space number k.0 k.1) ∙ sym (writable_more event history space number)
-    writable_then space number page (inr m) = m.writable
-        ∙ sym (writable_more event history space number ∙ ap (λ c. cond c false (makes_writable space number event || is_writable history space number)) m.protected)
+    writable_then space number page h3 = grind arith
 
 tracks_none : (contents : Contents) → IsBeginning contents → Tracks [] contents
-tracks_none contents beginning = record {
-  soft_dirty = λ space number page there. (beginning space number page there).0;
-  writable = λ space number page there. (beginning space number page there).1;
-}
+tracks_none contents beginning = grind arith
 
 pub tracks_law : TracksLaw
 tracks_law = record { begins = tracks_none; more = tracks_more }
@@ -56,24 +50,17 @@ bits_law start end (event ∷ history) beginning run = tracks_more history event
 
 -- a permitted page is mapped
 permitted : (alive bad : Bool) (found : Option plain.Page) → cond alive (cond bad (Some (Refused Einval)) (page_due Write found)) (Some (Refused NoSuchSpace)) ≡ None → (page : plain.Page) × (found ≡ Some page)
-permitted false bad found e = absurd (let f : Some (Refused NoSuchSpace) ≡ None = e in cc)
-permitted true true found e = absurd (let f : Some (Refused Einval) ≡ None = e in cc)
-permitted true false None e = absurd (let f : page_due Write None ≡ None = e in cc)
-permitted true false (Some page) e = (page, refl)
+permitted alive bad found e = grind arith
 
 mapped_there : (contents : Contents) (space address bytes : ℕ) → access_due (plain_of contents) space address bytes Write ≡ None → (page : PageState) × (page_at contents space (page_of address) ≡ Some page)
 unfolding plain_of
-mapped_there contents space address bytes allowed =
-    let there = permitted _ _ (value_at (plain_of contents) space (page_of address)) allowed in
-    let page = changed plain_page (page_at contents space (page_of address)) there.0 (sym (value_at-map plain_page contents.spaces space (page_of address)) ∙ there.1) in
-    (page.0, page.1)
+mapped_there contents space address bytes allowed = grind (arith, permitted, changed, value_at-map)
 
 abbrev replied : Bool → Result StoreOutcome AccessError
 replied b = Ok (try_answer b)
 
 needs_fault : (b : Bool) → replied b ≡ Ok NeedsFault → b ≡ false
-needs_fault true e = absurd (let f : Ok Done ≡ Ok NeedsFault = e in cc)
-needs_fault false e = refl
+needs_fault b e = grind arith
 
 pub try_law : TryLaw
 try_law start end history space address bytes beginning run allowed =

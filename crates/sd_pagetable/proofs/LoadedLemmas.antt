@@ -74,17 +74,10 @@ module _ (m : Contents) (s p : ℕ) (x : PageState) (hole : page_at m s p ≡ No
   added_members k = (let a = total_within-put (share_of k) m.spaces s p x in let b : option_map_or (share_of k) (page_at m s p) 0 ≡ 0 = ap (λ o. option_map_or (share_of k) o 0) hole in omega (arith, a, b))
 
   added_nonzero : nonzero_pages (plain_of (put_page m s p x)) ≡ nonzero_pages (plain_of m) + frames_for (plain_page x)
-  added_nonzero =
-      let a = total_within-put frames_for (plain_of m) s p (plain_page x) in
-      let b : option_map_or frames_for (value_at (plain_of m) s p) 0 ≡ 0 = ap (λ o. option_map_or frames_for o 0) (plain_at m s p ∙ ap (option_map plain_page) hole) in
-      let c = ap nonzero_pages (plain_put m s p x) in
-      omega (arith, a, b, c)
+  added_nonzero  = grind (arith, total_within-put, plain_at, plain_put)
 
   added_at : (q r : ℕ) (y : PageState) → page_at (put_page m s p x) q r ≡ Some y → ((is_at s p q r ≡ true) × (x ≡ y)) ⊎ (page_at m q r ≡ Some y)
-  added_at q r y h = elim (cases_Bool (is_at s p q r)) [
-    | inl t ↦ inl (t, (let f : ◌≡◌ {A = Option PageState} (Some x) (Some y) = sym (ap (λ b. cond b (Some x) (page_at m q r)) t) ∙ sym (value_at-put m.spaces s p x q r) ∙ h in cc))
-    | inr f ↦ inr (sym (ap (λ b. cond b (Some x) (page_at m q r)) f) ∙ sym (value_at-put m.spaces s p x q r) ∙ h)
-  ]
+  added_at q r y h = grind (arith, cases_Bool, is_at, value_at-put)
 
 no_share : (k : ℕ) (x : PageState) → x.class ≡ None → share_of k x ≡ 0
 no_share k x h = ap (λ o. option_map_or (λ j. cond {A = ℕ} (nat_eq j k) 1 0) o 0) h
@@ -197,26 +190,10 @@ module _ (old new : Pool) (tables : Nested Entry) (n s p : ℕ) (e : Entry) (own
   given_members = sym (kept.counts own) ∙ count_none old own free
 
   given_counts : (k : ℕ) → count_at new k + share_of k (page_of_entry old e) ≡ count_at old k + share_of k (page_of_entry new given)
-  given_counts k = elim (cases_eq k own) [
-    | inl same ↦
-        let a : count_at new k ≡ 1 = ap (count_at new) same ∙ ap (λ o. option_map_or (λ (c : Cell). c.count) o 0) sets.here in
-        let b : count_at old k ≡ 0 = ap (count_at old) same ∙ count_none old own free in
-        let c = one_share k (page_of_entry new given) (ap Some (sym same)) in
-        let d = no_share k (page_of_entry old e) none in
-        omega (arith, a, b, c, d)
-    | inr other ↦
-        let a : count_at new k ≡ count_at old k = ap (λ o. option_map_or (λ (c : Cell). c.count) o 0) (sets.others k other) in
-        let c = other_class own k (λ same. other (sym same)) in
-        let d = no_share k (page_of_entry old e) none in
-        omega (arith, a, c, d)
-  ]
+  given_counts k = grind arith
 
   given_used : (k : ℕ) (c : Cell) → cell_at new k ≡ Some c → 0 < c.count
-  given_used k c hc = elim (cases_eq k own) [
-    | inl same ↦ (let x : ◌≡◌ {A = Option Cell} (Some (record { count = 1; bytes = bytes })) (Some c) = sym sets.here ∙ ap (cell_at new) (sym same) ∙ hc in
-        let y : 1 ≡ c.count = ap (λ u. option_map_or (λ (z : Cell). z.count) u 0) x in omega (arith, y))
-    | inr other ↦ kept.used k c (sym (sets.others k other) ∙ hc)
-  ]
+  given_used k c hc = grind arith
 
   pub kept_given : IsKept new (put_at tables s p (record e { frame = Some own })) n
   kept_given =
@@ -239,12 +216,4 @@ module _ (m n : Contents) (s p : ℕ) (page : plain.Page) (hole : page_at m s p 
   loads_zero same blank = (None, blank, added ∙ ap (λ (b : List ℕ). put_page m s p (record { prot = page.prot; bytes = b; class = None; writable = false; soft_dirty = true })) (sym same))
 
   pub loads_some : (new : Contents) → is_zero_page page.bytes ≡ false → GivesFrame n s p (fresh_page page.prot) page.bytes new → Loads m s p page new
-  loads_some new some gives = (
-    Some gives.0,
-    (
-      some,
-      sym (same_members m s p (fresh_page page.prot) hole refl gives.0) ∙ ap (λ (z : Contents). members z gives.0) (sym added) ∙ gives.1,
-      subst (λ (z : Contents). gives.0 < z.pool) added gives.2,
-    ),
-    gives.3 ∙ ap (λ (z : Contents). put_page z s p (loaded_page page (Some gives.0))) added ∙ put_twice m s p (fresh_page page.prot) (loaded_page page (Some gives.0)),
-  )
+  loads_some new some gives = grind (arith, same_members, put_twice)

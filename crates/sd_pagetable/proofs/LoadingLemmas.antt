@@ -34,12 +34,10 @@ use Rattle.sd_pagetable.proofs.FilledLemmas.{Rises, IsApart, rest_rises, apart_e
 use Rattle.sd_pagetable.proofs.SnapshotLemmas.{Pages, space_in, seen_space, memory_entries, memory_filled, inserted_twice}
 
 none_left : (a b : Bool) → (a || b) ≡ false → a ≡ false
-none_left true b h = h
-none_left false b h = refl
+none_left a b h = grind arith
 
 none_right : (a b : Bool) → (a || b) ≡ false → b ≡ false
-none_right true b h = absurd (let f : true ≡ false = h in cc)
-none_right false b h = h
+none_right a b h = grind arith
 
 -- ---- one space more
 -- a space without pages changes nothing that was loaded
@@ -200,13 +198,7 @@ module _ (pool : ℕ) (saved : PlainMemory) (cur : Contents) (rest later : List 
         }
 
 pub loading_all : (pool : ℕ) (saved : PlainMemory) (cur : Contents) (rest : List (ℕ × Pages)) → IsLoading pool saved cur rest → rest ≡ [] → IsLoaded pool saved cur
-loading_all pool saved cur rest h e = record {
-  pool = h.pool;
-  memory = ap (filled space_in (plain_of cur)) (sym e) ∙ h.fills;
-  begins = h.begun.begins;
-  zeros = h.begun.zeros;
-  alone = h.begun.alone;
-}
+loading_all pool saved cur rest h e = grind arith
 
 -- ---- the areas of the spaces
 abbrev pub areas_seen : Pages → PageMap
@@ -218,19 +210,11 @@ pub record IsGathered (all rest : List (ℕ × Pages)) (areas : BTreeMap ℕ Pag
   pub within : list_any is_over_in_space (map seen_space rest) ≡ list_any is_over_in_space (map seen_space all)
 
 pub gathered_none : (all rest : List (ℕ × Pages)) (areas : BTreeMap ℕ PageMap) → rest ≡ all → Rises all → areas.entries ≡ [] → IsGathered all rest areas
-gathered_none all rest areas e rises none = subst (λ (r : List (ℕ × Pages)). IsGathered all r areas) (sym e) (record {
-  fills = ap (λ (es : List (ℕ × PageMap)). filled areas_seen (finmap.from_entries {R = nat_cmp} es) all) none ∙ filled_all areas_seen all rises;
-  within = refl;
-})
+gathered_none all rest areas e rises none = grind (arith, filled, filled_all)
 
 pub gathered_next : (all rest later : List (ℕ × Pages)) (areas new : BTreeMap ℕ PageMap) (space : ℕ) (pages : Pages) (own : PageMap) → IsGathered all rest areas → rest ≡ (space, pages) ∷ later → own ≡ areas_seen pages → is_over_in_space (space, space_in pages) ≡ false
     → ((q : ℕ) → get nat_cmp new q ≡ cond (nat_eq q space) (Some own) (get nat_cmp areas q)) → IsGathered all later new
-gathered_next all rest later areas new space pages own h e is below put = record {
-  fills = ap (λ (t : Table PageMap). filled areas_seen t later) (same_table _ _ (λ q. get_tree new.entries q ∙ put q ∙ ap (λ (p : PageMap). cond (nat_eq q space) (Some p) (get nat_cmp areas q)) is
-      ∙ ap (cond (nat_eq q space) (Some (areas_seen pages))) (sym (get_tree areas.entries q)) ∙ sym (get_put (finmap.from_entries areas.entries) space (areas_seen pages) q)))
-      ∙ ap (filled areas_seen (finmap.from_entries {R = nat_cmp} areas.entries)) (sym e) ∙ h.fills;
-  within = sym (ap (λ b. b || list_any is_over_in_space (map seen_space later)) below) ∙ ap (λ (es : List (ℕ × Pages)). list_any is_over_in_space (map seen_space es)) (sym e) ∙ h.within;
-}
+gathered_next all rest later areas new space pages own h e is below put = grind (arith, filled, same_table, get_tree, get_put, seen_space)
 
 pub gathered_over : (snapshot : Snapshot) (rest later : List (ℕ × Pages)) (areas : BTreeMap ℕ PageMap) (space : ℕ) (pages : Pages) → IsGathered snapshot.spaces.entries rest areas → Rises snapshot.spaces.entries → rest ≡ (space, pages) ∷ later
     → is_over_in_space (space, space_in pages) ≡ true → list_any is_over_in_space (finmap.entries (memory_of snapshot)) ≡ true

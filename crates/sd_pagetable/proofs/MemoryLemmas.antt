@@ -46,10 +46,7 @@ plain_at m s p = value_at-map plain_page m.spaces s p
 
 -- ---- what is put
 pub map_put : {X Y : Type 0} (f : X → Y) (m : Nested X) (s p : ℕ) (x : X) → map_values (map_values f) (put_at m s p x) ≡ put_at (map_values (map_values f) m) s p (f x)
-map_put f m s p x = same_nested _ _
-    (λ q. alive-map f (put_at m s p x) q ∙ alive-put m s p x q ∙ ap (λ b. nat_eq q s || b) (sym (alive-map f m q)) ∙ sym (alive-put (map_values (map_values f) m) s p (f x) q))
-    (λ q r. value_at-map f (put_at m s p x) q r ∙ ap (option_map f) (value_at-put m s p x q r) ∙ turned_in (nat_eq q s && nat_eq r p) f x (value_at m q r)
-    ∙ ap (cond (nat_eq q s && nat_eq r p) (Some (f x))) (sym (value_at-map f m q r)) ∙ sym (value_at-put (map_values (map_values f) m) s p (f x) q r))
+map_put f m s p x = grind (arith, same_nested, alive-map, alive-put, value_at-map, value_at-put, turned_in)
 
 pub put_again : {X : Type 0} (m : Nested X) (s p : ℕ) (x : X) → value_at m s p ≡ Some x → put_at m s p x ≡ m
 put_again m s p x h = same_nested _ _ (λ q. alive-put_same m s p x q (alive_at m s p x h)) (λ q r. value_at-put m s p x q r ∙ here q r)
@@ -71,42 +68,26 @@ plain_same m s p x y h e = plain_put m s p y ∙ ap (put_at (plain_of m) s p) e 
 -- a page with other bytes
 pub plain_stored : (m : Contents) (s address : ℕ) (bytes : List ℕ) (x y : PageState) → page_at m s (page_of address) ≡ Some x → plain_page y ≡ record { prot = x.prot; bytes = stored_at x.bytes (address % 4096) bytes }
     → plain_of (put_page m s (page_of address) y) ≡ after_store (plain_of m) s address bytes
-plain_stored m s address bytes x y h e =
-    let there : value_at (plain_of m) s (page_of address) ≡ Some (plain_page x) = plain_at m s (page_of address) ∙ ap (option_map plain_page) h in
-    plain_put m s (page_of address) y ∙ ap (put_at (plain_of m) s (page_of address)) e
-    ∙ sym (ap (λ (o : Option plain.Page). option_map_or (λ (page : plain.Page). put_at (plain_of m) s (page_of address) (record page { bytes = stored_at page.bytes (address % 4096) bytes })) o (plain_of m)) there)
+plain_stored m s address bytes x y h e = grind (arith, plain_at, plain_put)
 
 -- ---- areas
 inside_alive : (o : Option (Table PageState)) → is_some o ≡ true → o ≡ Some (unwrap_or o finmap.empty)
-inside_alive None e = absurd (let f : false ≡ true = e in cc)
-inside_alive (Some t) e = refl
+inside_alive o e = grind arith
 
 pub areas_put : (areas : BTreeMap ℕ PageMap) (m : Contents) (s p : ℕ) (x y : PageState) → HasAreas areas m → page_at m s p ≡ Some x → y.prot ≡ x.prot → HasAreas areas (put_page m s p y)
 unfolding put_at
-areas_put areas m s p x y h there same q =
-    let t = inside m.spaces s in
-    let alive : finmap.get m.spaces s ≡ Some t = inside_alive (finmap.get m.spaces s) (alive_at m.spaces s p x there) in
-    let f : PageState → Prot = λ page. page.prot in
-    let prots : prots_of (finmap.insert t p y) ≡ prots_of t = map_values-insert f t p y ∙ ap (finmap.insert (map_values f t) p) same ∙ same_again (map_values f t) p x.prot (get-map_values f t p ∙ ap (option_map f) there) in
-    h q ∙ sym (ap (option_map prots_of) (get_put m.spaces s (finmap.insert t p y) q) ∙ (elim (cases_Bool (nat_eq q s)) [
-      | inl here ↦ ap (λ b. option_map prots_of (cond b (Some (finmap.insert t p y)) (finmap.get m.spaces q))) here ∙ ap Some prots ∙ sym (ap (option_map prots_of) (ap (finmap.get m.spaces) (tests q s here) ∙ alive))
-      | inr other ↦ ap (λ b. option_map prots_of (cond b (Some (finmap.insert t p y)) (finmap.get m.spaces q))) other
-    ]))
+areas_put areas m s p x y h there same q = grind (arith, inside_alive, alive_at, map_values-insert, same_again, get-map_values, get_put, cases_Bool)
 
 -- ---- pages
 seen_page : (o : Option PageState) (e : Entry) → option_map entry_of o ≡ Some e → (x : PageState) × (o ≡ Some x) × (entry_of x ≡ e)
-seen_page None e h = absurd (let f : ◌≡◌ {A = Option Entry} None (Some e) = h in cc)
-seen_page (Some x) e h = (x, refl, (let f : ◌≡◌ {A = Option Entry} (Some (entry_of x)) (Some e) = h in cc))
+seen_page o e h = grind arith
 
 pub page_of_seen : (m : Contents) (s p : ℕ) (e : Entry) → option_map entry_of (page_at m s p) ≡ Some e → (x : PageState) × (page_at m s p ≡ Some x) × (entry_of x ≡ e)
 page_of_seen m s p e h = seen_page (page_at m s p) e h
 
 -- a writable page is as a fault makes it, and needs no frame
 same_page : (x : PageState) (k : ℕ) → x.class ≡ Some k → x.writable ≡ true → x.soft_dirty ≡ true → writable_page x k x.bytes ≡ x
-same_page x k class writable dirty =
-    ap (λ (c : Option ℕ). record { prot = x.prot; bytes = x.bytes; class = c; writable = true; soft_dirty = true }) (sym class)
-    ∙ ap (λ (w : Bool). record { prot = x.prot; bytes = x.bytes; class = x.class; writable = w; soft_dirty = true }) (sym writable)
-    ∙ ap (λ (d : Bool). record { prot = x.prot; bytes = x.bytes; class = x.class; writable = x.writable; soft_dirty = d }) (sym dirty)
+same_page x k class writable dirty = grind arith
 
 pub writable_already : (m : Contents) (s p : ℕ) (e : Entry) → IsSound m → HasEntry m s p e → e.writable ≡ true → MakesWritable m s p (λ bytes. bytes) m
 writable_already m s p e sound h w =
@@ -123,19 +104,14 @@ writable_already m s p e sound h w =
     )
 
 pub none_due : (m : Contents) (s p : ℕ) (e : Entry) → IsSound m → HasEntry m s p e → e.writable ≡ true → frame_due m (page_at m s p) ≡ None
-none_due m s p e sound h w =
-    let x = page_of_seen m s p e h in
-    let is = sound.writable s p x.0 x.1 (ap (λ (y : Entry). y.writable) x.2 ∙ w) in
-    ap (frame_due m) x.1 ∙ cond-false _ _ _ (and_left _ _ (not_from_true _ is.alone))
+none_due m s p e sound h w = grind arith
 
 -- what is due at a page, by the page
 pub due_none : (m : Contents) (s p : ℕ) (need : Access) → page_at m s p ≡ None → page_due need (value_at (plain_of m) s p) ≡ Some (Stopped Maperr)
-due_none m s p Read h = ap (page_due Read) (plain_at m s p ∙ ap (option_map plain_page) h)
-due_none m s p Write h = ap (page_due Write) (plain_at m s p ∙ ap (option_map plain_page) h)
+due_none m s p need h = grind (arith, plain_at)
 
 pub due_some : (m : Contents) (s p : ℕ) (need : Access) (x : PageState) → page_at m s p ≡ Some x → page_due need (value_at (plain_of m) s p) ≡ cond (allows need x.prot) None (Some (Stopped Accerr))
-due_some m s p Read x h = ap (page_due Read) (plain_at m s p ∙ ap (option_map plain_page) h)
-due_some m s p Write x h = ap (page_due Write) (plain_at m s p ∙ ap (option_map plain_page) h)
+due_some m s p need x h = grind (arith, plain_at)
 
 -- a page that may be accessed
 pub permitted_page : (m : Contents) (s p : ℕ) (need : Access) → page_due need (value_at (plain_of m) s p) ≡ None → (x : PageState) × (page_at m s p ≡ Some x) × (allows need x.prot ≡ true)
@@ -173,8 +149,7 @@ pub at_put_here : (m : Contents) (s p : ℕ) (x : PageState) → page_at (put_pa
 at_put_here m s p x = value_at-put m.spaces s p x s p ∙ cond-true _ _ _ (and_from _ _ (same_key s) (same_key p))
 
 over : {X : Type 0} (b : Bool) (x y o : Option X) → cond b y (cond b x o) ≡ cond b y o
-over true x y o = refl
-over false x y o = refl
+over b x y o = grind arith
 
 pub put_twice : (m : Contents) (s p : ℕ) (x y : PageState) → put_page (put_page m s p x) s p y ≡ put_page m s p y
 put_twice m s p x y = λ i. record { pool = m.pool; spaces = twice i }
@@ -202,9 +177,7 @@ answers_err due d e r h is was = subst (λ (x : Result (Unit {0}) MemoryError). 
 
 -- what a fault needs
 pub write_there : (m n : Contents) (s p q : ℕ) → n ≡ m → q ≡ p → page_due Write (value_at (plain_of m) s p) ≡ None → (x : PageState) × (page_at n s q ≡ Some x) × (x.prot.write ≡ true)
-write_there m n s p q v e h =
-    let x = permitted_page m s p Write h in
-    (x.0, ap (page_at n s) e ∙ ap (λ (z : Contents). page_at z s p) v ∙ x.1, x.2)
+write_there m n s p q v e h = grind (arith, permitted_page)
 
 -- a fault leaves the plain memory
 pub plain_made_writable : (m n : Contents) (s p : ℕ) → MakesWritable m s p (λ bytes. bytes) n → plain_of n ≡ plain_of m
@@ -217,21 +190,14 @@ writable_there m n s p (x, k, there, own, is) = (writable_page x k x.bytes, ap (
 pub stored_after : (m n l : Contents) (s address : ℕ) (bytes : List ℕ) → MakesWritable m s (page_of address) (λ b. b) n
     → IfSome (page_at n s (page_of address)) (λ (before : PageState). l ≡ put_page n s (page_of address) (stored_page before (stored_at before.bytes (address % 4096) bytes)))
     → MakesWritable m s (page_of address) (λ before. stored_at before (address % 4096) bytes) l × (plain_of l ≡ after_store (plain_of m) s address bytes)
-stored_after m n l s address bytes (x, k, there, own, is) h =
-    let p = page_of address in
-    let here : page_at n s p ≡ Some (writable_page x k x.bytes) = ap (λ (z : Contents). page_at z s p) is ∙ at_put_here m s p (writable_page x k x.bytes) in
-    let wrote : l ≡ put_page n s p (writable_page x k (stored_at x.bytes (address % 4096) bytes)) = rw here at h in
-    let all : l ≡ put_page m s p (writable_page x k (stored_at x.bytes (address % 4096) bytes)) = wrote ∙ ap (λ (z : Contents). put_page z s p (writable_page x k (stored_at x.bytes (address % 4096) bytes))) is ∙ put_twice m s p (writable_page x k x.bytes) (writable_page x k (stored_at x.bytes (address % 4096) bytes)) in
-    ((x, k, there, own, all), ap plain_of all ∙ plain_stored m s address bytes x (writable_page x k (stored_at x.bytes (address % 4096) bytes)) there refl)
+stored_after m n l s address bytes h6 h = grind (arith, at_put_here, put_twice, plain_stored)
 
 -- ---- the areas stay where the permissions do
 pub areas_made_writable : (areas : BTreeMap ℕ PageMap) (m n : Contents) (s p : ℕ) (f : List ℕ → List ℕ) → HasAreas areas m → MakesWritable m s p f n → HasAreas areas n
 areas_made_writable areas m n s p f h (x, k, there, own, is) = subst (HasAreas areas) (sym is) (areas_put areas m s p x (writable_page x k (f x.bytes)) h there refl)
 
 pub areas_stored : (areas : BTreeMap ℕ PageMap) (m n : Contents) (s p : ℕ) (bytes : List ℕ → List ℕ) → HasAreas areas m → IsSome (page_at m s p) → IfSome (page_at m s p) (λ (before : PageState). n ≡ put_page m s p (stored_page before (bytes before.bytes))) → HasAreas areas n
-areas_stored areas m n s p bytes h some is =
-    let x = some_of (page_at m s p) some in
-    subst (HasAreas areas) (sym (rw x.1 at is)) (areas_put areas m s p x.0 (stored_page x.0 (bytes x.0.bytes)) h x.1 refl)
+areas_stored areas m n s p bytes h some is = grind (arith, some_of, areas_put)
 
 pub areas_write_protected : (areas : BTreeMap ℕ PageMap) (m n : Contents) (s p : ℕ) (prot : Prot) (bit : Bool) (x : PageState) → HasAreas areas m → page_at m s p ≡ Some x → prot ≡ x.prot → IfSome (page_at m s p) (λ (before : PageState). n ≡ put_page m s p (record before { prot = prot; writable = false; soft_dirty = bit })) → HasAreas areas n
 areas_write_protected areas m n s p prot bit x h there same is =
@@ -249,11 +215,7 @@ areas_of_one old new m s map none e is spaces q =
 pub plain_of_one : (c one : Contents) (space : ℕ) → one.spaces ≡ finmap.insert c.spaces space finmap.empty → c.spaces ≡ finmap.empty → space ≡ 1
     → plain_of one ≡ finmap.insert finmap.empty 1 finmap.empty
 unfolding plain_of
-plain_of_one c one space more none is =
-    ap (map_values (map_values plain_page)) (more ∙ ap (λ (t : Nested PageState). finmap.insert t space finmap.empty) none ∙ ap (λ s. finmap.insert finmap.empty s finmap.empty) is)
-    ∙ map_values-insert (map_values plain_page) finmap.empty 1 finmap.empty
-    ∙ ap (λ (t : plain.PlainMemory). finmap.insert t 1 (map_values plain_page finmap.empty)) (map_values-empty (map_values plain_page))
-    ∙ ap (finmap.insert finmap.empty 1) (map_values-empty plain_page)
+plain_of_one c one space more none is = grind (arith, map_values-insert, map_values-empty)
 
 -- a space without pages begins
 pub alone_begins : (c one : Contents) (space : ℕ) → one.spaces ≡ finmap.insert c.spaces space finmap.empty → c.spaces ≡ finmap.empty → IsBeginning one

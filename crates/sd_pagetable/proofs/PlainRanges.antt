@@ -27,12 +27,10 @@ use Rattle.sd_pagetable.proofs.RangeCounts.{counted_more, none_counted}
 -- ---- values seen another way
 module _ {X Y : Type 0} (f : X → Y) where
   pushed : (b : Bool) (x : X) (o : Option X) → option_map f (cond b (Some x) o) ≡ cond b (Some (f x)) (option_map f o)
-  pushed true x o = refl
-  pushed false x o = refl
+  pushed b x o = grind arith
 
   dropped : (b : Bool) (o : Option X) → option_map f (cond b None o) ≡ cond b None (option_map f o)
-  dropped true o = refl
-  dropped false o = refl
+  dropped b o = grind arith
 
   pub map_insert : (m : Table X) (k : ℕ) (v : X) → map_values f (finmap.insert m k v) ≡ finmap.insert (map_values f m) k (f v)
   map_insert m k v = same_table _ _ (λ q. get-map_values f (finmap.insert m k v) q ∙ ap (option_map f) (get_put m k v q) ∙ pushed (nat_eq q k) v (finmap.get m q)
@@ -64,9 +62,7 @@ module _ {X Y : Type 0} (f : X → Y) where
 
 module _ {X Y : Type 0} (f : X → Y) (change : X → X) (seen : Y → Y) (same : (x : X) → f (change x) ≡ seen (f x)) where
   changed : (b : Bool) (o : Option X) → option_map f (option_map (λ x. cond b (change x) x) o) ≡ option_map (λ y. cond b (seen y) y) (option_map f o)
-  changed b None = refl
-  changed true (Some x) = ap Some (same x)
-  changed false (Some x) = refl
+  changed b o = grind arith
 
   pub map_change : (t : Table X) (first count : ℕ) → map_values f (change_within change t first count) ≡ change_within seen (map_values f t) first count
   map_change t first count = same_table _ _ (λ q. get-map_values f (change_within change t first count) q ∙ ap (option_map f) (get-change_within change t first count q) ∙ changed (is_within first count q) (finmap.get t q)
@@ -125,9 +121,7 @@ prots_seen c s = ap prots_in (plain_inside c s) ∙ composed plain_page (λ (pag
 -- the areas of a space whose pages changed
 pub areas_with : (areas new : BTreeMap ℕ PageMap) (c : Contents) (s : ℕ) (t : Table PageState) (own : PageMap) → HasAreas areas c → own ≡ prots_of t
     → ((q : ℕ) → get nat_cmp new q ≡ cond (nat_eq q s) (Some own) (get nat_cmp areas q)) → HasAreas new (with_space c s t)
-areas_with areas new c s t own has are put = λ q.
-    put q ∙ ap (λ o. cond (nat_eq q s) (Some o) (get nat_cmp areas q)) are ∙ ap (cond (nat_eq q s) (Some (prots_of t))) (has q)
-    ∙ sym (pushed prots_of (nat_eq q s) t (finmap.get c.spaces q)) ∙ ap (option_map prots_of) (sym (get_put c.spaces s t q))
+areas_with areas new c s t own has are put = grind (arith, get_put)
 
 -- ---- how many pages a run makes
 at_least : (count : ℕ) (t : Table PageState) (first : ℕ) → ((q : ℕ) → is_within first count q ≡ true → IsSome (finmap.get t q)) → count ≤ total (λ (_ : PageState). 1) t

@@ -50,10 +50,7 @@ left_to_count p k end less =
 
 -- ---- how many pages there are
 pub one_more : (c : Contents) (s p : ℕ) (x : PageState) → page_at c s p ≡ None → page_count (put_page c s p x).spaces ≡ page_count c.spaces + 1
-one_more c s p x none =
-    let a = total_within-put (λ (_ : PageState). 1) c.spaces s p x in
-    let b : ◌≡◌ {A = ℕ} (option_map_or (λ (_ : PageState). 1) (value_at c.spaces s p) 0) 0 = ap (λ o. option_map_or (λ (_ : PageState). 1) o 0) none in
-    omega (arith, a, b)
+one_more c s p x none = grind (arith, total_within-put)
 
 pub one_less : (c : Contents) (s p : ℕ) → IsSome (page_at c s p) → page_count (remove_page c s p).spaces < page_count c.spaces
 one_less c s p there =

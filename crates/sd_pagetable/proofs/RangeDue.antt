@@ -75,8 +75,7 @@ nothing_due c s answer own alive is = ap (λ b. cond b (area_due answer) (Some (
 
 -- a first refusal is due before a second
 pub first_due : (alive : Bool) (first second : Option AccessError) (denied : AccessError) → cond alive first (Some (Refused NoSuchSpace)) ≡ Some denied → cond alive (or_else first second) (Some (Refused NoSuchSpace)) ≡ Some denied
-first_due true None second denied e = absurd (let f : None ≡ Some denied = e in cc)
-first_due _ _ second denied e = e
+first_due alive first second denied e = grind arith
 
 pub many_pages : (n : ℕ) → 65536 < n → nat_lt 65536 n ≡ true
 many_pages n less = grind (arith, nat_tests)
@@ -86,9 +85,7 @@ few_pages n le = grind (arith, nat_tests)
 
 -- ---- where an accepted range lies
 tested : (invalid outside : Bool) (e : Errno) (rest : Result PageMap Errno) (own : PageMap) → cond invalid (Err Einval) (cond outside (Err e) rest) ≡ Ok own → (invalid ≡ false) × (outside ≡ false)
-tested true outside e rest own is = absurd (let f : Err Einval ≡ Ok own = is in cc)
-tested false true e rest own is = absurd (let f : Err e ≡ Ok own = is in cc)
-tested false false e rest own is = (refl, refl)
+tested invalid outside e rest own is = grind arith
 
 within_space : (address bytes : ℕ) → is_outside address bytes ≡ false → page_of address + pages_for bytes ≤ 2 ^ 35
 within_space address bytes outside = grind (arith, nat_tests)
@@ -101,22 +98,14 @@ has_bytes address bytes valid = some bytes (not (nat_eq (address % 4096) 0)) val
 
 pub unmapped_within : (pages : PageMap) (address bytes : ℕ) (own : PageMap) → unmap_result pages address bytes ≡ Ok own → (page_of address + pages_for bytes ≤ 2 ^ 35) × (0 < bytes)
 unfolding unmap_result
-unmapped_within pages address bytes own is =
-    let t = tested (is_invalid address bytes) (is_outside address bytes) Einval _ own is in
-    (within_space address bytes t.1, has_bytes address bytes t.0)
+unmapped_within pages address bytes own is = grind arith
 
 pub mapped_within : (pages : PageMap) (address bytes : ℕ) (prot : Prot) (own : PageMap) → map_result pages address bytes prot ≡ Ok own → (page_of address + pages_for bytes ≤ 2 ^ 35) × (0 < bytes)
 unfolding map_result
-mapped_within pages address bytes prot own is =
-    let t = tested (is_invalid address bytes) (is_outside address bytes) Enomem _ own is in
-    (within_space address bytes t.1, has_bytes address bytes t.0)
+mapped_within pages address bytes prot own is = grind arith
 
 third : (invalid none outside : Bool) (pages : PageMap) (rest : Result PageMap Errno) (own : PageMap) → none ≡ false → cond invalid (Err Einval) (cond none (Ok pages) (cond outside (Err Enomem) rest)) ≡ Ok own → outside ≡ false
-third true false outside pages rest own e is = absurd (let f : Err Einval ≡ Ok own = is in cc)
-third false false true pages rest own e is = absurd (let f : Err Enomem ≡ Ok own = is in cc)
-third false false false pages rest own e is = refl
-third true true outside pages rest own e is = absurd (let f : true ≡ false = e in cc)
-third false true outside pages rest own e is = absurd (let f : true ≡ false = e in cc)
+third invalid none outside pages rest own e is = grind arith
 
 pub protected_within : (pages : PageMap) (address bytes : ℕ) (prot : Prot) (own : PageMap) → protect_result pages address bytes prot ≡ Ok own → (bytes ≡ 0 → ⊥) → page_of address + pages_for bytes ≤ 2 ^ 35
 unfolding protect_result
@@ -128,16 +117,14 @@ protected_within pages address bytes prot own is some =
 
 -- ---- the areas afterwards
 set_prot : (b : Bool) (prot : Prot) (o : Option PageState) → cond b (Some prot) (option_map (λ (page : PageState). page.prot) o) ≡ option_map (λ (page : PageState). page.prot) (cond b (Some (fresh_page prot)) o)
-set_prot true prot o = refl
-set_prot false prot o = refl
+set_prot b prot o = grind arith
 
 pub own_mapped : (t : Table PageState) (own : PageMap) (first count : ℕ) (prot : Prot) → ((q : ℕ) → finmap.get own q ≡ cond (is_within first count q) (Some prot) (finmap.get (prots_of t) q)) → own ≡ prots_of (set_within t first count (fresh_page prot))
 own_mapped t own first count prot law = same_table _ _ (λ q. law q ∙ ap (cond (is_within first count q) (Some prot)) (get-map_values (λ (page : PageState). page.prot) t q) ∙ set_prot (is_within first count q) prot (finmap.get t q)
     ∙ ap (option_map (λ (page : PageState). page.prot)) (sym (get-set_within t first count (fresh_page prot) q)) ∙ sym (get-map_values (λ (page : PageState). page.prot) (set_within t first count (fresh_page prot)) q))
 
 remove_prot : (b : Bool) (o : Option PageState) → cond b None (option_map (λ (page : PageState). page.prot) o) ≡ option_map (λ (page : PageState). page.prot) (cond b None o)
-remove_prot true o = refl
-remove_prot false o = refl
+remove_prot b o = grind arith
 
 pub own_unmapped : (t : Table PageState) (own : PageMap) (first count : ℕ) → ((q : ℕ) → finmap.get own q ≡ cond (is_within first count q) None (finmap.get (prots_of t) q)) → own ≡ prots_of (remove_within t first count)
 own_unmapped t own first count law = same_table _ _ (λ q. law q ∙ ap (cond (is_within first count q) None) (get-map_values (λ (page : PageState). page.prot) t q) ∙ remove_prot (is_within first count q) (finmap.get t q)
@@ -145,16 +132,12 @@ own_unmapped t own first count law = same_table _ _ (λ q. law q ∙ ap (cond (i
 
 change_prot : (b : Bool) (prot : Prot) (o : Option PageState) → (b ≡ true → IsSome (option_map (λ (page : PageState). page.prot) o))
     → cond b (Some prot) (option_map (λ (page : PageState). page.prot) o) ≡ option_map (λ (page : PageState). page.prot) (option_map (λ x. cond b (protected_page prot x) x) o)
-change_prot true prot None there = absurd (let f : false ≡ true = there refl in cc)
-change_prot false prot (Some x) there = refl
-change_prot _ prot _ there = refl
+change_prot b prot o there = grind arith
 
 pub own_protected : (t : Table PageState) (own : PageMap) (first count : ℕ) (prot : Prot)
     → ((q : ℕ) → (finmap.get own q ≡ cond (is_within first count q) (Some prot) (finmap.get (prots_of t) q)) × (is_within first count q ≡ true → IsSome (finmap.get (prots_of t) q)))
     → own ≡ prots_of (change_within (protected_page prot) t first count)
-own_protected t own first count prot law = same_table _ _ (λ q. (law q).0 ∙ ap (cond (is_within first count q) (Some prot)) (get-map_values (λ (page : PageState). page.prot) t q)
-    ∙ change_prot (is_within first count q) prot (finmap.get t q) (λ within. subst IsSome (get-map_values (λ (page : PageState). page.prot) t q) ((law q).1 within))
-    ∙ ap (option_map (λ (page : PageState). page.prot)) (sym (get-change_within (protected_page prot) t first count q)) ∙ sym (get-map_values (λ (page : PageState). page.prot) (change_within (protected_page prot) t first count) q))
+own_protected t own first count prot law = grind (arith, same_table, get-map_values, change_prot, get-change_within)
 
 -- a range of no bytes has no page
 pub no_bytes : (c : Contents) (s address bytes : ℕ) (change : PageState → PageState) → is_alive c.spaces s ≡ true → bytes ≡ 0 → c ≡ with_space c s (change_within change (inside c.spaces s) (page_of address) (pages_for bytes))
@@ -164,15 +147,11 @@ no_bytes c s address bytes change alive none =
 
 -- a hole by the areas is one by the pages
 hole_by_areas : (o : Option PageState) → not (is_some (option_map (λ (page : PageState). page.prot) o)) ≡ not (is_some o)
-hole_by_areas None = refl
-hole_by_areas (Some x) = refl
+hole_by_areas o = grind arith
 
 -- ---- mapping a run
 or_filled : (within hole : Bool) (o : Option PageState) (x : PageState) → hole ≡ not (is_some o) → cond (within && hole) None (option_or o (cond within (Some x) None)) ≡ o
-or_filled true hole (Some y) x e = ap (λ b. cond b None (Some y)) e
-or_filled true hole None x e = ap (λ b. cond b None (Some x)) e
-or_filled false hole (Some y) x e = refl
-or_filled false hole None x e = refl
+or_filled within hole o x e = grind arith
 
 -- what was filled was taken out again
 pub filled_back : (old mid new : Contents) (s first reached : ℕ) (x : PageState) (own : PageMap) → is_alive old.spaces s ≡ true → own ≡ prots_of (inside old.spaces s)
@@ -189,30 +168,20 @@ filled_back old mid new s first reached x own alive are filled cleared =
     same = same_table _ _ at
 
 filled_some : (o : Option PageState) (x : PageState) → IsSome (option_or o (Some x))
-filled_some None x = refl
-filled_some (Some y) x = refl
+filled_some o x = grind arith
 
 in_the_run : (first end q : ℕ) → first ≤ q → q < end → is_within first (end - first) q ≡ true
 in_the_run first end q from below = grind (arith, nat_tests)
 
 pub filled_there : (old mid : Contents) (s first end q : ℕ) (x : PageState) → mid ≡ with_space old s (fill_within (inside old.spaces s) first (end - first) x) → first ≤ q → q < end → IsSome (page_at mid s q)
-filled_there old mid s first end q x filled from below =
-    subst IsSome (sym (ap (λ c. page_at c s q) filled ∙ at_table old s q _ ∙ get-fill_within (inside old.spaces s) first (end - first) x q
-    ∙ ap (λ b. option_or (finmap.get (inside old.spaces s) q) (cond b (Some x) None)) (in_the_run first end q from below))) (filled_some (finmap.get (inside old.spaces s) q) x)
+filled_there old mid s first end q x filled from below = grind (arith, at_table, get-fill_within, in_the_run, filled_some)
 
 set_over : (b : Bool) (o : Option PageState) (x : PageState) → cond b (Some x) (option_or o (cond b (Some x) None)) ≡ cond b (Some x) o
-set_over true o x = refl
-set_over false None x = refl
-set_over false (Some y) x = refl
+set_over b o x = grind arith
 
 pub renewed_run : (old mid new : Contents) (s first end : ℕ) (x : PageState) → mid ≡ with_space old s (fill_within (inside old.spaces s) first (end - first) x)
     → new ≡ with_space mid s (set_within (inside mid.spaces s) first (end - first) x) → new ≡ with_space old s (set_within (inside old.spaces s) first (end - first) x)
-renewed_run old mid new s first end x filled renewed = renewed
-    ∙ ap (λ t. with_space mid s (set_within t first (end - first) x)) (ap (λ (c : Contents). inside c.spaces s) filled ∙ inside_with old s _)
-    ∙ ap (with_space mid s) (same_table _ _ (λ q. get-set_within (fill_within (inside old.spaces s) first (end - first) x) first (end - first) x q
-    ∙ ap (cond (is_within first (end - first) q) (Some x)) (get-fill_within (inside old.spaces s) first (end - first) x q)
-    ∙ set_over (is_within first (end - first) q) (finmap.get (inside old.spaces s) q) x ∙ sym (get-set_within (inside old.spaces s) first (end - first) x q)))
-    ∙ ap (λ c. with_space c s (set_within (inside old.spaces s) first (end - first) x)) filled ∙ with_twice old s _ _
+renewed_run old mid new s first end x filled renewed = grind (arith, inside_with, same_table, get-set_within, get-fill_within, set_over, with_twice)
 
 pub is_at_most : (n : ℕ) → nat_le n 65536 ≡ true → n ≤ 65536
 is_at_most n e = grind (arith, nat_tests)
@@ -232,8 +201,7 @@ mapped_range pages address bytes prot own is = tested_first _ _ Enomem _ is
 
 -- `mprotect` of no bytes
 still_some : (o : Option (Table PageState)) → is_some (option_map prots_of o) ≡ is_some o
-still_some None = refl
-still_some (Some t) = refl
+still_some o = grind arith
 
 pub alive_areas : (areas : BTreeMap ℕ PageMap) (c : Contents) (s : ℕ) (found : Bool) → HasAreas areas c → is_some (get nat_cmp areas s) ≡ found → is_alive c.spaces s ≡ found
 alive_areas areas c s found kept is = sym (still_some (finmap.get c.spaces s)) ∙ ap is_some (sym (kept s)) ∙ is

@@ -33,12 +33,10 @@ pub inside_other : (c : Contents) (s u : ℕ) (t : Table PageState) → (u ≡ s
 inside_other c s u t differs = inside-insert c.spaces s t u ∙ ap (λ b. cond b t (inside c.spaces u)) (not_same u s differs)
 
 twice : (b : Bool) (x y z : Table PageState) → cond b y (cond b x z) ≡ cond b y z
-twice true x y z = refl
-twice false x y z = refl
+twice b x y z = grind arith
 
 got_twice : (b : Bool) (x y z : Option PageState) → cond b y (cond b x z) ≡ cond b y z
-got_twice true x y z = refl
-got_twice false x y z = refl
+got_twice b x y z = grind arith
 
 pub with_twice : (c : Contents) (s : ℕ) (t u : Table PageState) → with_space (with_space c s t) s u ≡ with_space c s u
 with_twice c s t u = ap (of_spaces c) (same_nested _ _
@@ -47,12 +45,10 @@ with_twice c s t u = ap (of_spaces c) (same_nested _ _
     ∙ got_twice (nat_eq q s) (finmap.get t p) (finmap.get u p) (value_at c.spaces q p) ∙ sym (value_at-insert c.spaces s u q p)))
 
 itself_alive : (m : Nested PageState) (s q : ℕ) → is_alive m s ≡ true → (b : Bool) → nat_eq q s ≡ b → (b || is_alive m q) ≡ is_alive m q
-itself_alive m s q alive true e = sym (ap (λ k. is_alive m k) (same_of q s e) ∙ alive)
-itself_alive m s q alive false e = refl
+itself_alive m s q alive b e = grind arith
 
 itself_at : (m : Nested PageState) (s q p : ℕ) (b : Bool) → nat_eq q s ≡ b → cond b (value_at m s p) (value_at m q p) ≡ value_at m q p
-itself_at m s q p true e = ap (λ k. value_at m k p) (sym (same_of q s e))
-itself_at m s q p false e = refl
+itself_at m s q p b e = grind arith
 
 pub with_itself : (c : Contents) (s : ℕ) → is_alive c.spaces s ≡ true → with_space c s (inside c.spaces s) ≡ c
 with_itself c s alive = ap (of_spaces c) (same_nested _ _
@@ -76,8 +72,7 @@ within_more : (first k q : ℕ) → first ≤ k → is_within first (k + 1 - fir
 within_more first k q le = grind (arith, nat_tests)
 
 or_put : (a b : Bool) (x : PageState) (o : Option PageState) → cond a (Some x) (cond b (Some x) o) ≡ cond (a || b) (Some x) o
-or_put true b x o = refl
-or_put false b x o = refl
+or_put a b x o = grind arith
 
 pub set_none : (t : Table PageState) (first : ℕ) (x : PageState) → set_within t first (first - first) x ≡ t
 set_none t first x = same_table _ _ (λ q. get-set_within t first (first - first) x q ∙ ap (λ b. cond b (Some x) (finmap.get t q)) (within_none first q))
@@ -115,28 +110,21 @@ filled_there b x y = refl
 
 fill_by : (t : Table PageState) (first k q : ℕ) (x : PageState) (o : Option PageState) (here before : Bool) → nat_eq q k ≡ here → is_within first (k - first) q ≡ before → finmap.get t q ≡ o
     → (here ≡ true → o ≡ None) → cond here (Some x) (option_or o (cond before (Some x) None)) ≡ option_or o (cond (here || before) (Some x) None)
-fill_by t first k q x o true before e f g none = ap (λ o. option_or o (Some x)) (sym (none refl))
-fill_by t first k q x o false before e f g none = refl
+fill_by t first k q x o here before e f g none = grind arith
 
 -- a page of the run was filled
 pub fill_more : (t : Table PageState) (first k : ℕ) (x : PageState) → first ≤ k → finmap.get t k ≡ None → finmap.insert (fill_within t first (k - first) x) k x ≡ fill_within t first (k + 1 - first) x
-fill_more t first k x le none = same_table _ _ (λ q. get_put (fill_within t first (k - first) x) k x q ∙ ap (cond (nat_eq q k) (Some x)) (get-fill_within t first (k - first) x q)
-    ∙ fill_by t first k q x (finmap.get t q) (nat_eq q k) (is_within first (k - first) q) refl refl refl (λ here. ap (finmap.get t) (same_of q k here) ∙ none)
-    ∙ ap (λ b. option_or (finmap.get t q) (cond b (Some x) None)) (sym (within_more first k q le)) ∙ sym (get-fill_within t first (k + 1 - first) x q))
+fill_more t first k x le none = grind (arith, same_table, get_put, get-fill_within, fill_by, same_of, within_more)
 
 skip_by : (o : Option PageState) (x : PageState) (here before : Bool) → (here ≡ true → IsSome o) → option_or o (cond before (Some x) None) ≡ option_or o (cond (here || before) (Some x) None)
-skip_by None x true before there = absurd (let f : false ≡ true = there refl in cc)
-skip_by _ x _ before there = refl
+skip_by o x here before there = grind arith
 
 -- a page of the run was there
 pub fill_skips : (t : Table PageState) (first k : ℕ) (x : PageState) → first ≤ k → IsSome (finmap.get t k) → fill_within t first (k - first) x ≡ fill_within t first (k + 1 - first) x
-fill_skips t first k x le there = same_table _ _ (λ q. get-fill_within t first (k - first) x q
-    ∙ skip_by (finmap.get t q) x (nat_eq q k) (is_within first (k - first) q) (λ here. subst (λ p. IsSome (finmap.get t p)) (sym (same_of q k here)) there)
-    ∙ ap (λ b. option_or (finmap.get t q) (cond b (Some x) None)) (sym (within_more first k q le)) ∙ sym (get-fill_within t first (k + 1 - first) x q))
+fill_skips t first k x le there = grind (arith, same_table, get-fill_within, skip_by, same_of, within_more)
 
 or_none : (o : Option PageState) → option_or o None ≡ o
-or_none (Some x) = refl
-or_none None = refl
+or_none o = grind arith
 
 pub fill_none : (t : Table PageState) (first : ℕ) (x : PageState) → fill_within t first (first - first) x ≡ t
 fill_none t first x = same_table _ _ (λ q. get-fill_within t first (first - first) x q ∙ ap (λ b. option_or (finmap.get t q) (cond b (Some x) None)) (within_none first q) ∙ or_none (finmap.get t q))
@@ -150,8 +138,7 @@ fill_outside t first k x = get-fill_within t first (k - first) x k ∙ ap (λ b.
 -- ---- pages that change where they are
 change_by : (change : PageState → PageState) (o : Option PageState) (here before : Bool) → (here ≡ true → before ≡ false)
     → (y : PageState) → (here ≡ true → o ≡ Some y) → cond here (Some (change y)) (option_map (λ x. cond before (change x) x) o) ≡ option_map (λ x. cond (here || before) (change x) x) o
-change_by change o true before apart y is = sym (ap (option_map change) (is refl))
-change_by change o false before apart y is = refl
+change_by change o here before apart y is = grind arith
 
 pub change_more : (change : PageState → PageState) (t : Table PageState) (first k : ℕ) (y : PageState) → first ≤ k → finmap.get t k ≡ Some y
     → finmap.insert (change_within change t first (k - first)) k (change y) ≡ change_within change t first (k + 1 - first)
@@ -164,17 +151,13 @@ change_more change t first k y le there = same_table _ _ (λ q. get_put (change_
     apart first k q here = grind (arith, nat_tests)
 
 stays_by : (change : PageState → PageState) (o : Option PageState) (here before : Bool) → (here ≡ true → o ≡ None) → option_map (λ x. cond before (change x) x) o ≡ option_map (λ x. cond (here || before) (change x) x) o
-stays_by change (Some x) true before none = absurd (let f : Some x ≡ None = none refl in cc)
-stays_by change _ _ before none = refl
+stays_by change o here before none = grind arith
 
 pub change_skips : (change : PageState → PageState) (t : Table PageState) (first k : ℕ) → first ≤ k → finmap.get t k ≡ None → change_within change t first (k - first) ≡ change_within change t first (k + 1 - first)
-change_skips change t first k le none = same_table _ _ (λ q. get-change_within change t first (k - first) q
-    ∙ stays_by change (finmap.get t q) (nat_eq q k) (is_within first (k - first) q) (λ here. ap (finmap.get t) (same_of q k here) ∙ none)
-    ∙ ap (λ b. option_map (λ x. cond b (change x) x) (finmap.get t q)) (sym (within_more first k q le)) ∙ sym (get-change_within change t first (k + 1 - first) q))
+change_skips change t first k le none = grind (arith, same_table, get-change_within, stays_by, same_of, within_more)
 
 mapped_itself : (o : Option PageState) → option_map (λ x. x) o ≡ o
-mapped_itself None = refl
-mapped_itself (Some x) = refl
+mapped_itself o = grind arith
 
 pub change_none : (change : PageState → PageState) (t : Table PageState) (first : ℕ) → change_within change t first (first - first) ≡ t
 change_none change t first = same_table _ _ (λ q. get-change_within change t first (first - first) q ∙ ap (λ b. option_map (λ x. cond b (change x) x) (finmap.get t q)) (within_none first q) ∙ mapped_itself (finmap.get t q))

@@ -36,9 +36,7 @@ is_hole c s page = not (is_some (page_at c s page))
 
 pub has_room : (old now : Contents) (s first k end : ℕ) (x : PageState) → k < end → now ≡ with_space old s (fill_within (inside old.spaces s) first (k - first) x)
     → page_count now.spaces + count_by (is_hole old s) (pages_from k (end - k)) ≤ 65536 → page_at now s k ≡ None → page_count now.spaces < 65536
-has_room old now s first k end x less done few none =
-    let hole : ◌≡◌ {A = ℕ} (cond (is_hole old s k) 1 0) 1 = ap (λ o. cond (not (is_some o)) 1 0) (sym (unfilled old now s first k x done) ∙ none) in
-    omega (arith, few, left_to_count (is_hole old s) k end less, hole)
+has_room old now s first k end x less done few none = grind (arith, unfilled, left_to_count)
 
 -- the page was there, or is there now
 pub record Fills (old now : Contents) (s first k end : ℕ) (x : PageState) : Type 0 where
@@ -47,24 +45,7 @@ pub record Fills (old now : Contents) (s first k end : ℕ) (x : PageState) : Ty
 
 pub filled_more : (old now new : Contents) (s first k end : ℕ) (x : PageState) → first ≤ k → k < end → Fills old now s first k end x
     → (page_at now s k ≡ None → new ≡ put_page now s k x) → (IsSome (page_at now s k) → new ≡ now) → Fills old new s first (k + 1) end x
-filled_more old now new s first k end x le less was added there = elim (cases_option (page_at now s k)) [
-  | inl none ↦
-      let step = added none in
-      let hole : ◌≡◌ {A = ℕ} (cond (is_hole old s k) 1 0) 1 = ap (λ o. cond (not (is_some o)) 1 0) (sym (unfilled old now s first k x was.done) ∙ none) in
-      let more : page_count new.spaces ≡ page_count now.spaces + 1 = ap (λ (c : Contents). page_count c.spaces) step ∙ one_more now s k x none in
-      record {
-        done = step ∙ ap (λ c. put_page c s k x) was.done ∙ put_in old s k _ x ∙ ap (with_space old s) (fill_more (inside old.spaces s) first k x le (sym (unfilled old now s first k x was.done) ∙ none));
-        few = omega (arith, was.few, left_to_count (is_hole old s) k end less, hole, more);
-      }
-  | inr some ↦
-      let is : IsSome (page_at now s k) = ap is_some some.1 in
-      let step = there is in
-      let same : page_count new.spaces ≡ page_count now.spaces = ap (λ (c : Contents). page_count c.spaces) step in
-      record {
-        done = step ∙ was.done ∙ ap (with_space old s) (fill_skips (inside old.spaces s) first k x le (subst IsSome (unfilled old now s first k x was.done) is));
-        few = omega (arith, was.few, left_to_count (is_hole old s) k end less, same);
-      }
-]
+filled_more old now new s first k end x le less was added there = grind (arith, cases_option, unfilled, one_more, put_in, fill_more, left_to_count, fill_skips)
 
 -- ---- protecting
 pub none_changed : (change : PageState → PageState) (c : Contents) (s first : ℕ) → is_alive c.spaces s ≡ true → c ≡ with_space c s (change_within change (inside c.spaces s) first (first - first))
@@ -79,40 +60,23 @@ if_there P o x e given = (let g : IfSome (Some x) P = subst (λ o. IfSome o P) e
 pub changed_more : (change : PageState → PageState) (old now new : Contents) (s first k : ℕ) → first ≤ k → now ≡ with_space old s (change_within change (inside old.spaces s) first (k - first))
     → IfSome (page_at now s k) (λ before. new ≡ put_page now s k (change before)) → (page_at now s k ≡ None → new ≡ now)
     → new ≡ with_space old s (change_within change (inside old.spaces s) first (k + 1 - first))
-changed_more change old now new s first k le done mapped hole = elim (cases_option (page_at now s k)) [
-  | inl none ↦ hole none ∙ done ∙ ap (with_space old s) (change_skips change (inside old.spaces s) first k le (sym (unchanged change old now s first k done) ∙ none))
-  | inr some ↦ if_there (λ before. new ≡ put_page now s k (change before)) (page_at now s k) some.0 some.1 mapped ∙ ap (λ c. put_page c s k (change some.0)) done ∙ put_in old s k _ (change some.0)
-      ∙ ap (with_space old s) (change_more change (inside old.spaces s) first k some.0 le (sym (unchanged change old now s first k done) ∙ some.1))
-]
+changed_more change old now new s first k le done mapped hole = grind (arith, cases_option, change_skips, unchanged, put_in, change_more)
 
 -- ---- taking out
 pub cleared_none : (c : Contents) (s : ℕ) (test : ℕ → Bool) → is_alive c.spaces s ≡ true → ((page : ℕ) → test page ≡ false) → IsCleared c c s test
-cleared_none c s test alive none = record {
-  pages = λ page. ap (λ b. cond b None (page_at c s page)) (sym (none page));
-  others = sym (with_itself c s alive);
-}
+cleared_none c s test alive none = grind (arith, with_itself)
 
 pub cleared_same : (old new : Contents) (s : ℕ) (test other : ℕ → Bool) → IsCleared old new s test → ((page : ℕ) → other page ≡ test page) → IsCleared old new s other
-cleared_same old new s test other cleared same = record {
-  pages = λ page. cleared.pages page ∙ ap (λ b. cond b None (page_at old s page)) (sym (same page));
-  others = cleared.others;
-}
+cleared_same old new s test other cleared same = grind arith
 
 cleared_by : (a b : Bool) (o : Option PageState) → cond b None (cond a None o) ≡ cond (a || b) None o
-cleared_by true true o = refl
-cleared_by _ _ o = refl
+cleared_by a b o = grind arith
 
 pub cleared_both : (a b c : Contents) (s : ℕ) (first then both : ℕ → Bool) → IsCleared a b s first → IsCleared b c s then → ((page : ℕ) → both page ≡ (first page || then page)) → IsCleared a c s both
-cleared_both a b c s first then both one two is = record {
-  pages = λ page. two.pages page ∙ ap (cond (then page) None) (one.pages page) ∙ cleared_by (first page) (then page) (page_at a s page) ∙ ap (λ x. cond x None (page_at a s page)) (sym (is page));
-  others = two.others ∙ ap (λ d. with_space d s (inside c.spaces s)) one.others ∙ with_twice a s (inside b.spaces s) (inside c.spaces s);
-}
+cleared_both a b c s first then both one two is = grind (arith, cleared_by, with_twice)
 
 removed_by : (q p : ℕ) (o : Option PageState) → (nat_eq q p ≡ true → o ≡ None) → cond (nat_eq q p) None o ≡ o
-removed_by q p o none = elim (cases_Bool (nat_eq q p)) [
-  | inl here ↦ ap (λ b. cond b None o) here ∙ sym (none here)
-  | inr there ↦ ap (λ b. cond b None o) there
-]
+removed_by q p o none = grind arith
 
 at_removed : (c : Contents) (s p q : ℕ) → page_at (remove_page c s p) s q ≡ cond (nat_eq q p) None (page_at c s q)
 at_removed c s p q = value_at-remove c.spaces s p s q ∙ ap (λ b. cond (b && nat_eq q p) None (page_at c s q)) (same_self s)
@@ -124,16 +88,7 @@ removed_others c s p alive =
 
 -- a page was taken out, where it was there
 pub dropped : (old new : Contents) (s p : ℕ) → is_alive old.spaces s ≡ true → (IsSome (page_at old s p) → new ≡ remove_page old s p) → (page_at old s p ≡ None → new ≡ old) → IsCleared old new s (λ q. nat_eq q p)
-dropped old new s p alive there hole = elim (cases_option (page_at old s p)) [
-  | inl none ↦ subst (λ c. IsCleared old c s (λ q. nat_eq q p)) (sym (hole none)) (record {
-    pages = λ q. sym (removed_by q p (page_at old s q) (λ here. ap (page_at old s) (same_of q p here) ∙ none));
-    others = sym (with_itself old s alive);
-  })
-  | inr some ↦ subst (λ c. IsCleared old c s (λ q. nat_eq q p)) (sym (there (ap is_some some.1))) (record {
-    pages = at_removed old s p;
-    others = removed_others old s p alive;
-  })
-]
+dropped old new s p alive there hole = grind (arith, cases_option, removed_by, same_of, with_itself, at_removed, removed_others)
 
 -- ---- unmapping a run
 pub still_outside : (old now new : Contents) (s p first count : ℕ) → new ≡ remove_page now s p → is_within first count p ≡ true
@@ -145,14 +100,10 @@ still_outside old now new s p first count step within was q outside =
     apart e = absurd (let f : true ≡ false = sym within ∙ ap (is_within first count) (sym e) ∙ outside in cc)
 
 pub still_others : (old now new : Contents) (s p : ℕ) → now ≡ with_space old s (inside now.spaces s) → new ≡ remove_page now s p → new ≡ with_space old s (inside new.spaces s)
-still_others old now new s p was step =
-    let alive : is_alive now.spaces s ≡ true = ap (λ (c : Contents). is_alive c.spaces s) was ∙ alive_with old s (inside now.spaces s) in
-    step ∙ removed_others now s p alive ∙ ap (λ c. with_space c s (inside (remove_page now s p).spaces s)) was ∙ with_twice old s (inside now.spaces s) _
-    ∙ ap (λ (c : Contents). with_space old s (inside c.spaces s)) (sym step)
+still_others old now new s p was step = grind (arith, alive_with, removed_others, with_twice)
 
 not_some : (o : Option PageState) → (IsSome o → ⊥) → o ≡ None
-not_some None never = refl
-not_some (Some x) never = absurd (never refl)
+not_some o never = grind arith
 
 pub unmapped_run : (old now : Contents) (s first count : ℕ) → now ≡ with_space old s (inside now.spaces s) → ((q : ℕ) → is_within first count q ≡ false → page_at now s q ≡ page_at old s q)
     → ((q : ℕ) → is_within first count q ≡ true → IsSome (page_at now s q) → ⊥) → now ≡ with_space old s (remove_within (inside old.spaces s) first count)
@@ -175,15 +126,10 @@ pub none_unfilled : (gone : ℕ → Bool) (c : Contents) (s first : ℕ) → is_
 none_unfilled gone c s first alive = cleared_none c s _ alive (λ q. ap (λ b. b && gone q) (within_nothing first q))
 
 then_gone : (here before it : Bool) → (here ≡ true → it ≡ true) → ((here || before) && it) ≡ ((before && it) || here)
-then_gone true true true h = refl
-then_gone true before false h = absurd (let f : false ≡ true = h refl in cc)
-then_gone false true true h = refl
-then_gone _ _ _ h = refl
+then_gone here before it h = grind arith
 
 then_kept : (here before it : Bool) → (here ≡ true → it ≡ false) → ((here || before) && it) ≡ (before && it)
-then_kept true true false h = refl
-then_kept true before true h = absurd (let f : true ≡ false = h refl in cc)
-then_kept _ _ _ h = refl
+then_kept here before it h = grind arith
 
 -- this page isn't in the areas, and was taken out
 pub unfilled_more : (gone : ℕ → Bool) (a b c : Contents) (s first k : ℕ) → first ≤ k → gone k ≡ true → IsCleared a b s (λ q. is_within first (k - first) q && gone q) → IsCleared b c s (λ q. nat_eq q k)
@@ -198,15 +144,13 @@ unfilled_same gone a b s first k le is one = cleared_same a b s _ _ one
     (λ q. ap (λ x. x && gone q) (within_run first k q le) ∙ then_kept (nat_eq q k) (is_within first (k - first) q) (gone q) (λ here. ap gone (same_of q k here) ∙ is))
 
 seen : {B : Type 0} (f : PageState → B) (o : Option PageState) → is_some (option_map f o) ≡ is_some o
-seen f None = refl
-seen f (Some x) = refl
+seen f o = grind arith
 
 pub seen_there : {B : Type 0} (f : PageState → B) (o : Option PageState) (entry : Option B) (b : Bool) → entry ≡ option_map f o → b ≡ is_some entry → is_some o ≡ b
 seen_there f o entry b e is = sym (is ∙ ap is_some e ∙ seen f o)
 
 none_of : (o : Option PageState) → is_some o ≡ false → o ≡ None
-none_of None e = refl
-none_of (Some x) e = absurd (let f : true ≡ false = e in cc)
+none_of o e = grind arith
 
 pub dropped_there : (old new : Contents) (s p : ℕ) → is_alive old.spaces s ≡ true → is_some (page_at old s p) ≡ true → new ≡ remove_page old s p → IsCleared old new s (λ q. nat_eq q p)
 dropped_there old new s p alive there step = dropped old new s p alive (λ _. step) (λ none. absurd (let f : false ≡ true = sym (ap is_some none) ∙ there in cc))

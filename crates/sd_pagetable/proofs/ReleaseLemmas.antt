@@ -34,24 +34,10 @@ module _ (old new : Pool) (tables : Nested Entry) (n s p : ℕ) (e : Entry) (kep
   rest_same q r y apart hy = ap (λ (bytes : List ℕ). record { prot = y.prot; bytes = bytes; class = y.frame; writable = y.writable; soft_dirty = y.soft_dirty }) (rest_frame q r y y.frame refl apart hy)
 
   counts_less : (k : ℕ) (o : Option ℕ) → e.frame ≡ o → count_at new k + share_of k (page_of_entry old e) ≡ count_at old k
-  counts_less k None f =
-      let a : count_at new k ≡ count_at old k = ap (λ u. option_map_or (λ (c : Cell). c.count) u 0) (released.others k (λ g. let x : ◌≡◌ {A = Option ℕ} None (Some k) = sym f ∙ g in cc)) in
-      let b : share_of k (page_of_entry old e) ≡ 0 = ap (λ o. option_map_or (λ j. cond {A = ℕ} (nat_eq j k) 1 0) o 0) f in
-      omega (arith, a, b)
-  counts_less k (Some j) f = elim (cases_eq j k) [
-    | inl same ↦ (let a = released.count k (f ∙ ap Some same) in let b = one_share k (page_of_entry old e) (f ∙ ap Some same) in omega (arith, a, b))
-    | inr other ↦
-        let a : count_at new k ≡ count_at old k = ap (λ u. option_map_or (λ (c : Cell). c.count) u 0) (released.others k (λ g. other (let x : ◌≡◌ {A = Option ℕ} (Some j) (Some k) = sym f ∙ g in cc))) in
-        let b : share_of k (page_of_entry old e) ≡ 0 = ap (λ o. option_map_or (λ j. cond {A = ℕ} (nat_eq j k) 1 0) o 0) f ∙ other_class j k other in
-        omega (arith, a, b)
-  ]
+  counts_less k o f = grind arith
 
   used_left : (k : ℕ) (c : Cell) (o : Option ℕ) → e.frame ≡ o → cell_at new k ≡ Some c → 0 < c.count
-  used_left k c None f hc = kept.used k c (sym (released.others k (λ g. let x : ◌≡◌ {A = Option ℕ} None (Some k) = sym f ∙ g in cc)) ∙ hc)
-  used_left k c (Some j) f hc = elim (cases_eq j k) [
-    | inl same ↦ released.used k c (f ∙ ap Some same) hc
-    | inr other ↦ kept.used k c (sym (released.others k (λ g. other (let x : ◌≡◌ {A = Option ℕ} (Some j) (Some k) = sym f ∙ g in cc))) ∙ hc)
-  ]
+  used_left k c o f hc = grind arith
 
   few_here : n ≤ 65536
   few_here = (let a = kept.mapped in let b = kept.sound.few in omega (arith, a, b))

@@ -26,13 +26,11 @@ same_self : (a : ℕ) → nat_eq a a ≡ true
 same_self a = eq-eqb a a refl
 
 absorbed : {Y : Type 0} (b : Bool) (x y z : Y) → cond b x (cond b y z) ≡ cond b x z
-absorbed true x y z = refl
-absorbed false x y z = refl
+absorbed b x y z = grind arith
 
 module _ {X : Type 0} where
   itself : (o : Option X) → option_map (λ x. x) o ≡ o
-  itself None = refl
-  itself (Some x) = refl
+  itself o = grind arith
 
   -- ---- a space's table is another
   pub insert_twice : (m : Nested X) (s : ℕ) (t u : Table X) → finmap.insert (finmap.insert m s t) s u ≡ finmap.insert m s u
@@ -40,9 +38,7 @@ module _ {X : Type 0} where
       ∙ absorbed (nat_eq q s) (Some u) (Some t) (finmap.get m q) ∙ sym (get_put m s u q))
 
   pub insert_itself : (m : Nested X) (s : ℕ) → is_alive m s ≡ true → finmap.insert m s (inside m s) ≡ m
-  insert_itself m s alive =
-      let found = some_of (finmap.get m s) alive in
-      ap (finmap.insert m s) (inside_is m s found.0 found.1) ∙ same_again m s found.0 found.1
+  insert_itself m s alive = grind (arith, some_of, inside_is, same_again)
 
   pub inside_put : (m : Nested X) (s : ℕ) (t : Table X) → inside (finmap.insert m s t) s ≡ t
   inside_put m s t = inside-insert m s t s ∙ ap (λ b. cond b t (inside m s)) (same_self s)
@@ -67,14 +63,10 @@ module _ {X : Type 0} where
 
     change_by : (o : Option X) (here before : Bool) (y : X) → (here ≡ true → before ≡ false) → (here ≡ true → o ≡ Some y)
         → cond here (Some (f y)) (option_map (λ x. cond before (f x) x) o) ≡ option_map (λ x. cond (here || before) (f x) x) o
-    change_by o true before y alone is = sym (ap (option_map f) (is refl))
-    change_by o false before y alone is = refl
+    change_by o here before y alone is = grind arith
 
     change_next : (count : ℕ) (y : X) → finmap.get t (first + count) ≡ Some y → finmap.insert (change_within f t first count) (first + count) (f y) ≡ change_within f t first (suc count)
-    change_next count y there = same_table _ _ (λ q. get_put (change_within f t first count) (first + count) (f y) q
-        ∙ ap (cond (nat_eq q (first + count)) (Some (f y))) (get-change_within f t first count q)
-        ∙ change_by (finmap.get t q) (nat_eq q (first + count)) (is_within first count q) y (apart count q) (λ here. ap (finmap.get t) (key_of count q here) ∙ there)
-        ∙ ap (λ b. option_map (λ x. cond b (f x) x) (finmap.get t q)) (sym (one_more count q)) ∙ sym (get-change_within f t first (suc count) q))
+    change_next count y there = grind (arith, same_table, get_put, get-change_within)
 
     past : (count : ℕ) → is_within first count (first + count) ≡ false
     past count = grind (arith, nat_tests)
@@ -84,17 +76,10 @@ module _ {X : Type 0} where
 
 -- ---- what is kept
 frameless : (o : Option ℕ) → not (is_some o) ≡ true → o ≡ None
-frameless None e = refl
-frameless (Some k) e = absurd (let f : false ≡ true = e in cc)
+frameless o e = grind arith
 
 nothing_released : (pool : Pool) (frame : Option ℕ) → frame ≡ None → ReleasesFrame pool pool frame
-nothing_released pool frame none = record {
-  size = refl;
-  count = λ k is. absurd (let f : ◌≡◌ {A = Option ℕ} None (Some k) = sym none ∙ is in cc);
-  bytes = λ k is more. refl;
-  used = λ k c is here. absurd (let f : ◌≡◌ {A = Option ℕ} None (Some k) = sym none ∙ is in cc);
-  others = λ k apart. refl;
-}
+nothing_released pool frame none = grind arith
 
 kept_step : (change : RunChange) (pool : Pool) (tables : Nested Entry) (n s p : ℕ) (e : Entry) → IsKept pool tables n → value_at tables s p ≡ Some e → takes change e ≡ true
     → IsKept pool (put_at tables s p (changed_entry change e)) n
@@ -126,17 +111,14 @@ kept_count change pool tables n s first kept alive (suc count) taken =
 -- ---- the contents
 module _ (F : Entry → PageState) (f : Entry → Entry) (g : PageState → PageState) (is : (e : Entry) → F (f e) ≡ g (F e)) (t : Table Entry) (first count : ℕ) where
   seen_by : (w : Bool) (o : Option Entry) → option_map F (option_map (λ e. cond w (f e) e) o) ≡ option_map (λ x. cond w (g x) x) (option_map F o)
-  seen_by w None = refl
-  seen_by true (Some e) = ap Some (is e)
-  seen_by false (Some e) = refl
+  seen_by w o = grind arith
 
   seen_run : map_values F (change_within f t first count) ≡ change_within g (map_values F t) first count
   seen_run = same_table _ _ (λ q. get-map_values F (change_within f t first count) q ∙ ap (option_map F) (get-change_within f t first count q) ∙ seen_by (is_within first count q) (finmap.get t q)
       ∙ ap (option_map (λ x. cond (is_within first count q) (g x) x)) (sym (get-map_values F t q)) ∙ sym (get-change_within g (map_values F t) first count q))
 
 page_seen : (change : RunChange) (pool : Pool) (e : Entry) → page_of_entry pool (changed_entry change e) ≡ changed_page change (page_of_entry pool e)
-page_seen (Renew prot) pool e = refl
-page_seen (Protect prot) pool e = refl
+page_seen change pool e = grind arith
 
 view_count : (change : RunChange) (pool : Pool) (tables : Nested Entry) (s first count : ℕ) → contents_of pool (finmap.insert tables s (run_in change tables s first count))
     ≡ with_space (contents_of pool tables) s (change_within (changed_page change) (inside (contents_of pool tables).spaces s) first count)
@@ -204,8 +186,7 @@ module _ (change : RunChange) (pool : Pool) (old new : Nested Entry) (n s first 
 -- ---- holes that are filled
 module _ {X : Type 0} (t : Table X) (first : ℕ) (x : X) where
   or_none : (o : Option X) → option_or o None ≡ o
-  or_none None = refl
-  or_none (Some y) = refl
+  or_none o = grind arith
 
   fill_first : fill_within t first 0 x ≡ t
   fill_first = same_table _ _ (λ q. get-fill_within t first 0 x q ∙ ap (λ b. option_or (finmap.get t q) (cond b (Some x) None)) (none_within first q) ∙ or_none (finmap.get t q))
@@ -217,13 +198,10 @@ module _ {X : Type 0} (t : Table X) (first : ℕ) (x : X) where
   is_key count q here = grind (arith, nat_tests)
 
   fill_by : (o : Option X) (here before : Bool) → (here ≡ true → o ≡ None) → cond here (Some x) (option_or o (cond before (Some x) None)) ≡ option_or o (cond (here || before) (Some x) None)
-  fill_by o true before none = ap (λ o. option_or o (Some x)) (sym (none refl))
-  fill_by o false before none = refl
+  fill_by o here before none = grind arith
 
   fill_next : (count : ℕ) → finmap.get t (first + count) ≡ None → finmap.insert (fill_within t first count x) (first + count) x ≡ fill_within t first (suc count) x
-  fill_next count none = same_table _ _ (λ q. get_put (fill_within t first count x) (first + count) x q ∙ ap (cond (nat_eq q (first + count)) (Some x)) (get-fill_within t first count x q)
-      ∙ fill_by (finmap.get t q) (nat_eq q (first + count)) (is_within first count q) (λ here. ap (finmap.get t) (is_key count q here) ∙ none)
-      ∙ ap (λ b. option_or (finmap.get t q) (cond b (Some x) None)) (sym (one_filled count q)) ∙ sym (get-fill_within t first (suc count) x q))
+  fill_next count none = grind (arith, same_table, get_put, get-fill_within)
 
   beyond : (count : ℕ) → is_within first count (first + count) ≡ false
   beyond count = grind (arith, nat_tests)
@@ -278,9 +256,7 @@ kept_holes pool tables n s first e kept alive none closed (suc count) number few
 
 module _ (F : Entry → PageState) (t : Table Entry) (first count : ℕ) (e : Entry) where
   seen_or : (w : Bool) (o : Option Entry) → option_map F (option_or o (cond w (Some e) None)) ≡ option_or (option_map F o) (cond w (Some (F e)) None)
-  seen_or w (Some y) = refl
-  seen_or true None = refl
-  seen_or false None = refl
+  seen_or w o = grind arith
 
   seen_fill : map_values F (fill_within t first count e) ≡ fill_within (map_values F t) first count (F e)
   seen_fill = same_table _ _ (λ q. get-map_values F (fill_within t first count e) q ∙ ap (option_map F) (get-fill_within t first count e q) ∙ seen_or (is_within first count q) (finmap.get t q)

@@ -39,8 +39,7 @@ within_one : (first k to q : ℕ) → is_within k (to - k) q ≡ true → is_wit
 within_one first k to q here = grind (arith, nat_tests)
 
 set_by : (a b : Bool) (x : PageState) (o : Option PageState) → cond a (Some x) (cond b (Some x) o) ≡ cond (a || b) (Some x) o
-set_by true b x o = refl
-set_by false b x o = refl
+set_by a b x o = grind arith
 
 set_run : (t : Table PageState) (first k to : ℕ) (x : PageState) → first ≤ k → k ≤ to → set_within (set_within t first (k - first) x) k (to - k) x ≡ set_within t first (to - first) x
 set_run t first k to x le more = same_table _ _ (λ q. get-set_within (set_within t first (k - first) x) k (to - k) x q ∙ ap (cond (is_within k (to - k) q) (Some x)) (get-set_within t first (k - first) x q)
@@ -52,15 +51,10 @@ renewed_run old now new s first k to x le more was step =
     again old now new s (λ t. set_within t k (to - k) x) (set_within (inside old.spaces s) first (k - first) x) was step ∙ ap (with_space old s) (set_run (inside old.spaces s) first k to x le more)
 
 change_by : (f : PageState → PageState) (a b : Bool) (o : Option PageState) → (a ≡ true → b ≡ false) → option_map (λ x. cond a (f x) x) (option_map (λ x. cond b (f x) x) o) ≡ option_map (λ x. cond (a || b) (f x) x) o
-change_by f a b None apart = refl
-change_by f true true (Some x) apart = absurd (let g : true ≡ false = apart refl in cc)
-change_by f _ _ _ apart = refl
+change_by f a b o apart = grind arith
 
 change_run : (f : PageState → PageState) (t : Table PageState) (first k to : ℕ) → first ≤ k → k ≤ to → change_within f (change_within f t first (k - first)) k (to - k) ≡ change_within f t first (to - first)
-change_run f t first k to le more = same_table _ _ (λ q. get-change_within f (change_within f t first (k - first)) k (to - k) q
-    ∙ ap (option_map (λ x. cond (is_within k (to - k) q) (f x) x)) (get-change_within f t first (k - first) q)
-    ∙ change_by f (is_within k (to - k) q) (is_within first (k - first) q) (finmap.get t q) (within_one first k to q)
-    ∙ ap (λ b. option_map (λ x. cond b (f x) x) (finmap.get t q)) (sym (within_both first k to q le more)) ∙ sym (get-change_within f t first (to - first) q))
+change_run f t first k to le more = grind (arith, same_table, get-change_within, change_by, within_one, within_both)
 
 pub changed_run : (f : PageState → PageState) (old now new : Contents) (s first k to : ℕ) → first ≤ k → k ≤ to → now ≡ with_space old s (change_within f (inside old.spaces s) first (k - first))
     → new ≡ with_space now s (change_within f (inside now.spaces s) k (to - k)) → new ≡ with_space old s (change_within f (inside old.spaces s) first (to - first))
@@ -72,9 +66,7 @@ from_within : (first to q : ℕ) → is_within first (to - first) q ≡ true →
 from_within first to q e = (grind (arith, nat_tests), grind (arith, nat_tests))
 
 set_there : (w : Bool) (x : PageState) (o : Option PageState) → (w ≡ true → IsSome o) → option_map (λ y. cond w x y) o ≡ cond w (Some x) o
-set_there true x None there = absurd (let f : false ≡ true = there refl in cc)
-set_there false x (Some y) there = refl
-set_there _ x _ there = refl
+set_there w x o there = grind arith
 
 pub set_mapped : (t : Table PageState) (first to : ℕ) (x : PageState) → ((page : ℕ) → first ≤ page → page < to → IsSome (finmap.get t page)) → change_within (λ _. x) t first (to - first) ≡ set_within t first (to - first) x
 set_mapped t first to x there = same_table _ _ (λ q. get-change_within (λ _. x) t first (to - first) q
@@ -88,10 +80,7 @@ is_hole c s page = not (is_some (page_at c s page))
 
 pub mapped_from : (c : Contents) (s mapped to : ℕ) → IsSome (page_at c s mapped) → ((page : ℕ) → mapped + 1 ≤ page → page < to → IsSome (page_at c s page))
     → (page : ℕ) → mapped ≤ page → page < to → IsSome (page_at c s page)
-mapped_from c s mapped to here later page l m = elim (cases_eq page mapped) [
-  | inl same ↦ subst (λ q. IsSome (page_at c s q)) (sym same) here
-  | inr apart ↦ later page (omega arith) m
-]
+mapped_from c s mapped to here later page l m = grind arith
 
 pub holes_more : (c : Contents) (s first k mapped to count : ℕ) → first ≤ k → k ≤ mapped → mapped ≤ to → count ≡ count_by (λ page. not (is_some (page_at c s page))) (pages_from first (k - first))
     → ((page : ℕ) → k ≤ page → page < mapped → page_at c s page ≡ None) → ((page : ℕ) → mapped ≤ page → page < to → IsSome (page_at c s page))
@@ -129,8 +118,7 @@ filled_past old now s first k page x le done = ap (λ c. page_at c s page) done 
     beyond first k page le = grind (arith, nat_tests)
 
     or_none : (o : Option PageState) → option_or o None ≡ o
-    or_none None = refl
-    or_none (Some y) = refl
+    or_none o = grind arith
 
 -- a run of holes has room
 pub room_for : (old now : Contents) (s first k end to : ℕ) (x : PageState) → Fills old now s first k end x → k ≤ to → to ≤ end → ((page : ℕ) → k ≤ page → page < to → page_at now s page ≡ None)

@@ -78,8 +78,7 @@ unfolding memory_of total_within
 memory_weight w snapshot h = total_seen space_in (total w) snapshot.spaces.entries h
 
 each_one : (b : Bool) → cond {A = ℕ} b 0 1 ≤ 1
-each_one true = omega arith
-each_one false = omega arith
+each_one b = grind arith
 
 pub few_frames : (es : List (ℕ × SnapshotPage)) → weigh page_of_snapshot frames_for es ≤ length es
 few_frames [] = omega arith
@@ -190,11 +189,7 @@ module _ (old cur : Contents) (space : ℕ) (all rest left : List (ℕ × Snapsh
       omega (arith, a, b)
 
   whole : (w : plain.Page → ℕ) → inside (plain_of old) space ≡ finmap.empty → total_within w (plain_of cur) ≡ total_within w (plain_of old) + total w (inside (plain_of cur) space)
-  whole w bare =
-      let a = total_within-insert w (plain_of old) space (inside (plain_of cur) space) in
-      let b : total_within w (plain_of cur) ≡ total_within w (finmap.insert (plain_of old) space (inside (plain_of cur) space)) = ap (total_within w) h.others in
-      let c : total w (inside (plain_of old) space) ≡ 0 = ap (total w) bare ∙ total-empty w in
-      omega (arith, a, b, c)
+  whole w bare = grind (arith, total_within-insert, total-empty)
 
   within : (w : plain.Page → ℕ) (n : ℕ) → inside (plain_of old) space ≡ finmap.empty → total_within w (plain_of old) + total w (space_of all) ≤ n → total_within w (plain_of cur) + w (page_of_snapshot found) ≤ n
   within w n bare l = (let a = part w in let b = whole w bare in omega (arith, a, b, l))
@@ -239,16 +234,10 @@ ones es h = sym (space_weight (λ _. 1) es h ∙ weigh_ones es)
 
 module _ (w : plain.Page → ℕ) (snapshot : Snapshot) (left limit : ℕ) (rest : List (ℕ × Pages)) (tally : left + weigh space_in (total w) snapshot.spaces.entries ≡ limit + weigh space_in (total w) rest) where
   pub tally_past : (later : List (ℕ × Pages)) (e : ℕ × Pages) (n : ℕ) → Rises snapshot.spaces.entries → rest ≡ e ∷ later → n ≡ total w (space_in e.1) → left < n → true ≡ nat_lt limit (total_within w (memory_of snapshot))
-  tally_past later e n rises is weight past =
-      let a = ap (weigh space_in (total w)) is in
-      let b = memory_weight w snapshot rises in
-      sym (lt-ltb _ _ (omega (arith, tally, a, b, weight, past)))
+  tally_past later e n rises is weight past = grind (arith, weigh, memory_weight, lt-ltb)
 
   pub tally_next : (later : List (ℕ × Pages)) (e : ℕ × Pages) (n : ℕ) → rest ≡ e ∷ later → n ≡ total w (space_in e.1) → n ≤ left → left - n + weigh space_in (total w) snapshot.spaces.entries ≡ limit + weigh space_in (total w) later
   tally_next later e n is weight fits = (let a = ap (weigh space_in (total w)) is in omega (arith, tally, a, weight, fits))
 
   pub tally_all : Rises snapshot.spaces.entries → rest ≡ [] → false ≡ nat_lt limit (total_within w (memory_of snapshot))
-  tally_all rises is =
-      let a = ap (weigh space_in (total w)) is in
-      let b = memory_weight w snapshot rises in
-      sym (le-ltb _ _ (omega (arith, tally, a, b)))
+  tally_all rises is = grind (arith, weigh, memory_weight, le-ltb)

@@ -38,10 +38,7 @@ module _ {X : Type 0} (m : Nested X) (s : ℕ) (dead : is_alive m s ≡ false) w
 
   pub added_at : (q r : ℕ) → value_at (finmap.insert m s finmap.empty) q r ≡ value_at m q r
   unfolding nothing
-  added_at q r = value_at-insert m s nothing q r ∙ elim (cases_Bool (nat_eq q s)) [
-    | inl t ↦ ap (λ b. cond b (finmap.get nothing r) (value_at m q r)) t ∙ ap (λ u. finmap.get u r) (sym dead_inside) ∙ ap (λ k. value_at m k r) (sym (tests q s t))
-    | inr f ↦ ap (λ b. cond b (finmap.get nothing r) (value_at m q r)) f
-  ]
+  added_at q r = grind (arith, value_at-insert, cases_Bool)
 
   pub added_total : (w : X → ℕ) → total_within w (finmap.insert m s finmap.empty) ≡ total_within w m
   added_total w = (let a = total_within-insert w m s finmap.empty in let b : total w (inside m s) ≡ total w finmap.empty = ap (total w) dead_inside in omega (arith, a, b))
@@ -90,16 +87,13 @@ kept_empty pool tables none e =
 -- ---- a space without pages, taken away
 module _ {X : Type 0} (m : Nested X) (s : ℕ) (bare : inside m s ≡ finmap.empty) where
   gone_at : (b : Bool) (q r : ℕ) → nat_eq q s ≡ b → value_at (finmap.remove m s) q r ≡ value_at m q r
-  gone_at true q r t = ap (λ (o : Option (Table X)). finmap.get (unwrap_or o finmap.empty) r) (get_removed m s q ∙ ap (λ b. cond b None (finmap.get m q)) t)
-      ∙ ap (λ (u : Table X). finmap.get u r) (sym bare) ∙ ap (λ k. value_at m k r) (sym (tests q s t))
-  gone_at false q r f = ap (λ (o : Option (Table X)). finmap.get (unwrap_or o finmap.empty) r) (get_removed m s q ∙ ap (λ b. cond b None (finmap.get m q)) f)
+  gone_at b q r t = grind (arith, get_removed)
 
   gone_total : (w : X → ℕ) → total_within w (finmap.remove m s) ≡ total_within w m
   gone_total w = (let a = total_within-remove_space w m s in let b : total w (inside m s) ≡ 0 = ap (total w) bare ∙ total-empty w in omega (arith, a, b))
 
   still_alive : (b : Bool) (q : ℕ) → nat_eq q s ≡ b → is_alive (finmap.remove m s) q ≡ true → is_alive m q ≡ true
-  still_alive true q t h = absurd (let f : false ≡ true = sym (ap is_some (get_removed m s q ∙ ap (λ b. cond b None (finmap.get m q)) t)) ∙ h in cc)
-  still_alive false q f h = sym (ap is_some (get_removed m s q ∙ ap (λ b. cond b None (finmap.get m q)) f)) ∙ h
+  still_alive b q t h = grind (arith, get_removed)
 
 pub view_gone : (pool : Pool) (tables : Nested Entry) (s : ℕ) → contents_of pool (finmap.remove tables s) ≡ record { pool = pool.size; spaces = finmap.remove (contents_of pool tables).spaces s }
 view_gone pool tables s = same_contents _ _ refl (map_values-remove (map_values (page_of_entry pool)) tables s)

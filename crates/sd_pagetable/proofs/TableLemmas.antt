@@ -100,8 +100,7 @@ alike first count q x e = ap (λ n. not (is_within first count n)) (sym e)
 
 module _ {X : Type 0} where
   cond-or : (a b : Bool) (x : X) (o : Option X) → cond a (Some x) (cond b (Some x) o) ≡ cond (a || b) (Some x) o
-  cond-or true b x o = refl
-  cond-or false b x o = refl
+  cond-or a b x o = grind arith
 
   find_run : (first count : ℕ) (x : X) (es : List (ℕ × X)) (q : ℕ) → find nat_cmp q (map (λ page. (page, x)) (pages_from first count) ++ es) ≡ cond (is_within first count q) (Some x) (find nat_cmp q es)
   unfolding pages_from
@@ -133,8 +132,7 @@ module _ {X : Type 0} where
       ∙ ap (λ o. option_or (find nat_cmp q (finmap.entries m)) o) (append-nil_run first count x q) ∙ ap (λ o. option_or o (cond (is_within first count q) (Some x) None)) (sym (get-entries m q))
 
   not_turned : (b : Bool) (o : Option X) → cond (not b) o None ≡ cond b None o
-  not_turned true o = refl
-  not_turned false o = refl
+  not_turned b o = grind arith
 
   pub get-remove_within : (m : Table X) (first count q : ℕ) → finmap.get (remove_within m first count) q ≡ cond (is_within first count q) None (finmap.get m q)
   unfolding remove_within
@@ -147,16 +145,13 @@ module _ {X : Type 0} where
   get-change_within change m first count q = get-map_entries (λ page x. cond (is_within first count page) (change x) x) m q
 
 pub not_none : {X : Type 0} (o : Option X) → o ≡ None → IsSome o → ⊥
-not_none None e s = (let f : false ≡ true = s in cc)
-not_none (Some x) e s = cc
+not_none o e s = grind arith
 
 pub some_of : {X : Type 0} (o : Option X) → IsSome o → (x : X) × (o ≡ Some x)
-some_of None s = absurd (let f : false ≡ true = s in cc)
-some_of (Some x) s = (x, refl)
+some_of o s = grind arith
 
 pub none_of : {X : Type 0} (o : Option X) → is_some o ≡ false → o ≡ None
-none_of None e = refl
-none_of (Some x) e = absurd (let f : true ≡ false = e in cc)
+none_of o e = grind arith
 
 -- the table of a space
 pub inside_is : {X : Type 0} (m : Nested X) (space : ℕ) (t : Table X) → finmap.get m space ≡ Some t → inside m space ≡ t
@@ -186,16 +181,14 @@ pub len-map_values : {X Y : Type 0} (f : X → Y) (m : Table X) → finmap.len (
 len-map_values f m = len-entries (map_values f m) ∙ ap length (entries-map_values f m) ∙ length-map (finmap.entries m) _ ∙ sym (len-entries m)
 
 pub turned_in : {X Y : Type 0} (b : Bool) (f : X → Y) (v : X) (o : Option X) → option_map f (cond b (Some v) o) ≡ cond b (Some (f v)) (option_map f o)
-turned_in true f v o = refl
-turned_in false f v o = refl
+turned_in b f v o = grind arith
 
 pub map_values-insert : {X Y : Type 0} (f : X → Y) (m : Table X) (k : ℕ) (v : X) → map_values f (finmap.insert m k v) ≡ finmap.insert (map_values f m) k (f v)
 map_values-insert f m k v = same_table _ _ (λ q. get-map_values f (finmap.insert m k v) q ∙ ap (option_map f) (get_put m k v q) ∙ turned_in (nat_eq q k) f v (finmap.get m q)
     ∙ ap (cond (nat_eq q k) (Some (f v))) (sym (get-map_values f m q)) ∙ sym (get_put (map_values f m) k (f v) q))
 
 pub turned_out : {X Y : Type 0} (b : Bool) (f : X → Y) (o : Option X) → option_map f (cond b None o) ≡ cond b None (option_map f o)
-turned_out true f o = refl
-turned_out false f o = refl
+turned_out b f o = grind arith
 
 pub map_values-remove : {X Y : Type 0} (f : X → Y) (m : Table X) (k : ℕ) → map_values f (finmap.remove m k) ≡ finmap.remove (map_values f m) k
 map_values-remove f m k = same_table _ _ (λ q. get-map_values f (finmap.remove m k) q ∙ ap (option_map f) (get_removed m k q) ∙ turned_out (nat_eq q k) f (finmap.get m q)

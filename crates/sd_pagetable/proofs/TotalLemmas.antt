@@ -14,8 +14,7 @@ use Rattle.sd_pagetable.specs.Nested.{Table, Nested, inside, value_at, put_at, r
 use Rattle.sd_pagetable.proofs.TableLemmas.{same_table, get_put, get_removed}
 
 of_T : (b : Bool) → T b → b ≡ true
-of_T true h = refl
-of_T false h = absurd h
+of_T b h = grind arith
 
 below_less : (a b : ℕ) → is_lt (nat_cmp a b) ≡ true → a < b
 below_less a b h = grind (arith, nat_tests)

@@ -26,8 +26,7 @@ pub none_there : (pool : Pool) (tables : Nested Entry) (m : Contents) (s p : ℕ
 none_there pool tables m s p v h = ap (λ (n : Contents). page_at n s p) (sym v) ∙ page_at-view pool tables s p ∙ ap (option_map (page_of_entry pool)) h
 
 seen_entry : (pool : Pool) (o : Option Entry) (x : PageState) → option_map (page_of_entry pool) o ≡ Some x → (e : Entry) × (o ≡ Some e) × (page_of_entry pool e ≡ x)
-seen_entry pool None x h = absurd (let f : ◌≡◌ {A = Option PageState} None (Some x) = h in cc)
-seen_entry pool (Some e) x h = (e, refl, (let f : ◌≡◌ {A = Option PageState} (Some (page_of_entry pool e)) (Some x) = h in cc))
+seen_entry pool o x h = grind arith
 
 -- a page of the contents is that of an entry
 pub page_entry : (pool : Pool) (tables : Nested Entry) (s p : ℕ) (x : PageState) → page_at (contents_of pool tables) s p ≡ Some x → (e : Entry) × (value_at tables s p ≡ Some e) × (page_of_entry pool e ≡ x)
@@ -44,9 +43,7 @@ entry_seen pool tables m s p e v h =
 
 -- a space with a page is alive in the tables
 pub alive_at_view : (pool : Pool) (tables : Nested Entry) (m : Contents) (s p : ℕ) (x : PageState) → contents_of pool tables ≡ m → page_at m s p ≡ Some x → is_alive tables s ≡ true
-alive_at_view pool tables m s p x v h =
-    let e = page_entry pool tables s p x (ap (λ (n : Contents). page_at n s p) v ∙ h) in
-    alive_at tables s p e.0 e.1
+alive_at_view pool tables m s p x v h = grind (arith, page_entry, alive_at)
 
 -- and so is one that was put
 pub put_seen : (pool : Pool) (tables : Nested Entry) (s p : ℕ) (e : Entry) → HasEntry (contents_of pool (put_at tables s p e)) s p e
@@ -65,30 +62,16 @@ module _ (old new : Pool) (tables : Nested Entry) (s p : ℕ) (size : new.size �
   f = page_of_entry old
 
   same_option : (q r : ℕ) (o : Option Entry) → is_at s p q r ≡ false → value_at tables q r ≡ o → option_map (page_of_entry new) o ≡ option_map (page_of_entry old) o
-  same_option q r None a h = refl
-  same_option q r (Some e) a h = ap Some (others q r e a h)
+  same_option q r o a h = grind arith
 
   other_side : (b : Bool) (x : Option PageState) (u v : Option PageState) → (b ≡ false → u ≡ v) → cond b x u ≡ cond b x v
-  other_side true x u v h = refl
-  other_side false x u v h = h refl
+  other_side b x u v h = grind arith
 
   pub view_put : (e : Entry) → contents_of new (put_at tables s p e) ≡ put_page (contents_of old tables) s p (page_of_entry new e)
-  view_put e = same_contents _ _ size (same_nested _ _
-      (λ q. alive-map (page_of_entry new) (put_at tables s p e) q ∙ alive-put tables s p e q ∙ ap (λ b. nat_eq q s || b) (sym (alive-map (page_of_entry old) tables q)) ∙ sym (alive-put (map_values (map_values (page_of_entry old)) tables) s p (page_of_entry new e) q))
-      (λ q r. value_at-map (page_of_entry new) (put_at tables s p e) q r ∙ ap (option_map (page_of_entry new)) (value_at-put tables s p e q r)
-      ∙ turned_in (is_at s p q r) (page_of_entry new) e (value_at tables q r)
-      ∙ other_side (is_at s p q r) (Some (page_of_entry new e)) (option_map (page_of_entry new) (value_at tables q r)) (option_map (page_of_entry old) (value_at tables q r)) (λ a. same_option q r (value_at tables q r) a refl)
-      ∙ ap (cond (is_at s p q r) (Some (page_of_entry new e))) (sym (value_at-map (page_of_entry old) tables q r))
-      ∙ sym (value_at-put (map_values (map_values (page_of_entry old)) tables) s p (page_of_entry new e) q r)))
+  view_put e = grind (arith, same_contents, same_nested, alive-map, alive-put, value_at-map, value_at-put, turned_in)
 
   pub view_remove : contents_of new (remove_at tables s p) ≡ remove_page (contents_of old tables) s p
-  view_remove = same_contents _ _ size (same_nested _ _
-      (λ q. alive-map (page_of_entry new) (remove_at tables s p) q ∙ alive-remove tables s p q ∙ ap (λ b. nat_eq q s || b) (sym (alive-map (page_of_entry old) tables q)) ∙ sym (alive-remove (map_values (map_values (page_of_entry old)) tables) s p q))
-      (λ q r. value_at-map (page_of_entry new) (remove_at tables s p) q r ∙ ap (option_map (page_of_entry new)) (value_at-remove tables s p q r)
-      ∙ turned_out (is_at s p q r) (page_of_entry new) (value_at tables q r)
-      ∙ other_side (is_at s p q r) None (option_map (page_of_entry new) (value_at tables q r)) (option_map (page_of_entry old) (value_at tables q r)) (λ a. same_option q r (value_at tables q r) a refl)
-      ∙ ap (cond (is_at s p q r) None) (sym (value_at-map (page_of_entry old) tables q r))
-      ∙ sym (value_at-remove (map_values (map_values (page_of_entry old)) tables) s p q r)))
+  view_remove  = grind (arith, same_contents, same_nested, alive-map, alive-remove, value_at-map, value_at-remove, turned_out)
 
 pub same_pool : (pool : Pool) (tables : Nested Entry) (s p : ℕ) → SameOthers pool pool tables s p
 same_pool pool tables s p q r e a h = refl
@@ -108,8 +91,7 @@ alone_apart m s p q r x y k one hx hy class apart =
     omega (arith, left, a, b, c, one)
 
 alone_class : (m : Contents) (o : Option ℕ) → option_map_or (λ k. nat_eq (members m k) 1) o false ≡ true → (k : ℕ) × (o ≡ Some k) × (members m k ≡ 1)
-alone_class m None h = absurd (let f : false ≡ true = h in cc)
-alone_class m (Some k) h = (k, refl, eqb-true _ _ h)
+alone_class m o h = grind arith
 
 pub alone_in : (m : Contents) (x : PageState) → is_alone m x ≡ true → (k : ℕ) × (x.class ≡ Some k) × (members m k ≡ 1)
 alone_in m x h = alone_class m x.class h
@@ -130,8 +112,7 @@ module _ (m : Contents) (sound : IsSound m) (s p : ℕ) (x : PageState) (alive :
 
   -- what an old page there was leaves the classes of other open pages alone
   old_share : (q r : ℕ) (y : PageState) (k : ℕ) (o : Option PageState) → page_at m s p ≡ o → is_at s p q r ≡ false → page_at m q r ≡ Some y → y.class ≡ Some k → members m k ≡ 1 → option_map_or (share_of k) o 0 ≡ 0
-  old_share q r y k None h apart hy c one = refl
-  old_share q r y k (Some old) h apart hy c one = alone_apart m s p q r old y k one h hy c apart
+  old_share q r y k o h apart hy c one = grind (arith, alone_apart)
 
   numbers_at : (q r : ℕ) → is_at s p q r ≡ true → (q ≡ s) × (r ≡ p)
   numbers_at q r h = (let e : q ≡ s = grind (arith, nat_tests) in e, let e : r ≡ p = grind (arith, nat_tests) in e)

@@ -18,21 +18,10 @@ word_class : (m : Contents) (x : PageState) (o : Option ℕ) → x.class ≡ o �
 word_class m x o e = ap (λ p. class_bit p + alone_bit m p + dirty_bit x.soft_dirty) e
 
 pub word_none : (m : Contents) (s p : ℕ) (x : PageState) (n : ℕ) → page_at m s p ≡ Some x → x.class ≡ None → n ≡ dirty_bit x.soft_dirty → n ≡ word_at m s p
-word_none m s p x n h c e =
-    let a : word_at m s p ≡ word_of_page m x = ap (λ o. option_map_or (word_of_page m) o 0) h in
-    let b = word_class m x None c in
-    omega (arith, a, b, e)
+word_none m s p x n h c e = grind arith
 
 pub word_alone : (m : Contents) (s p : ℕ) (x : PageState) (k n : ℕ) → page_at m s p ≡ Some x → x.class ≡ Some k → members m k ≡ 1 → n ≡ dirty_bit x.soft_dirty → 9295429630892703744 + n ≡ word_at m s p
-word_alone m s p x k n h c one e =
-    let a : word_at m s p ≡ word_of_page m x = ap (λ o. option_map_or (word_of_page m) o 0) h in
-    let b = word_class m x (Some k) c in
-    let d : cond {A = ℕ} (nat_eq (members m k) 1) (2 ^ 56) 0 ≡ 2 ^ 56 = ap (λ b. cond {A = ℕ} b (2 ^ 56) 0) (eq-eqb _ _ one) in
-    omega (arith, a, b, d, e)
+word_alone m s p x k n h c one e = grind arith
 
 pub word_shared : (m : Contents) (s p : ℕ) (x : PageState) (k n : ℕ) → page_at m s p ≡ Some x → x.class ≡ Some k → (members m k ≡ 1 → ⊥) → n ≡ dirty_bit x.soft_dirty → 9223372036854775808 + n ≡ word_at m s p
-word_shared m s p x k n h c more e =
-    let a : word_at m s p ≡ word_of_page m x = ap (λ o. option_map_or (word_of_page m) o 0) h in
-    let b = word_class m x (Some k) c in
-    let d : cond {A = ℕ} (nat_eq (members m k) 1) (2 ^ 56) 0 ≡ 0 = ap (λ b. cond {A = ℕ} b (2 ^ 56) 0) (ne_eqb _ _ more) in
-    omega (arith, a, b, d, e)
+word_shared m s p x k n h c more e = grind arith

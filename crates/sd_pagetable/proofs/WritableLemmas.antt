@@ -68,8 +68,7 @@ module _ (old : Pool) (tables : Nested Entry) (n s p : ℕ) (e : Entry) (own : �
         shared_not o t i = (let f : false ≡ true = sym t ∙ ap (λ u. option_map_or (λ j. nat_eq j k) u false) i ∙ eq-eqb k k refl in cc)
 
         by_test : (b : Bool) → option_map_or (λ j. nat_eq j k) e.frame false ≡ b → frame_bytes new (Some k) ≡ frame_bytes old (Some k)
-        by_test true t = takes.bytes k (shared_is e.frame t)
-        by_test false t = ap (λ o. option_map_or (λ (c : Cell). c.bytes) o zeros) (takes.others k (λ i. g (ap Some i)) (shared_not e.frame t))
+        by_test b t = grind arith
 
     others : SameOthers old new tables s p
     others q r y apart hy = ap (λ (bytes : List ℕ). record { prot = y.prot; bytes = bytes; class = y.frame; writable = y.writable; soft_dirty = y.soft_dirty }) (same_bytes y.frame (not_in q r y hy))
@@ -78,31 +77,7 @@ module _ (old : Pool) (tables : Nested Entry) (n s p : ℕ) (e : Entry) (own : �
     share_here k o = option_map_or (λ j. cond {A = ℕ} (nat_eq j k) 1 0) o 0
 
     counts_here : (k : ℕ) (b : Bool) (o : Option ℕ) → e.frame ≡ o → nat_eq own k ≡ b → count_at new k + share_of k (page_of_entry old e) ≡ count_at old k + cond {A = ℕ} (nat_eq own k) 1 0
-    counts_here k true o f t =
-        let same : own ≡ k = eqb-true own k t in
-        let a : count_at new k ≡ 1 = ap (count_at new) (sym same) ∙ ap (λ u. option_map_or (λ (c : Cell). c.count) u 0) takes.here in
-        let b : count_at old k ≡ 0 = ap (count_at old) (sym same) ∙ count_none old own takes.free in
-        let c : cond {A = ℕ} (nat_eq own k) 1 0 ≡ 1 = ap (λ b. cond {A = ℕ} b 1 0) t in
-        let g = total_within_ge (share_of k) (contents_of old tables).spaces s p (page_of_entry old e) (entry_there old tables s p e h) in
-        let z : members (contents_of old tables) k ≡ 0 = ap (members (contents_of old tables)) (sym same) ∙ no_member in
-        omega (arith, a, b, c, g, z)
-    counts_here k false None f t =
-        let a : count_at new k ≡ count_at old k = ap (λ u. option_map_or (λ (c : Cell). c.count) u 0) (takes.others k (λ i. eqb-false own k t (sym i)) (λ g. let x : ◌≡◌ {A = Option ℕ} None (Some k) = sym f ∙ g in cc)) in
-        let b : share_of k (page_of_entry old e) ≡ 0 = ap (λ o. option_map_or (λ j. cond {A = ℕ} (nat_eq j k) 1 0) o 0) f in
-        let c : cond {A = ℕ} (nat_eq own k) 1 0 ≡ 0 = ap (λ b. cond {A = ℕ} b 1 0) t in
-        omega (arith, a, b, c)
-    counts_here k false (Some j) f t = elim (cases_eq j k) [
-      | inl same ↦
-          let a = takes.count k (f ∙ ap Some same) in
-          let b = one_share k (page_of_entry old e) (f ∙ ap Some same) in
-          let c : cond {A = ℕ} (nat_eq own k) 1 0 ≡ 0 = ap (λ b. cond {A = ℕ} b 1 0) t in
-          omega (arith, a, b, c)
-      | inr other ↦
-          let a : count_at new k ≡ count_at old k = ap (λ u. option_map_or (λ (c : Cell). c.count) u 0) (takes.others k (λ i. eqb-false own k t (sym i)) (λ g. other (let x : ◌≡◌ {A = Option ℕ} (Some j) (Some k) = sym f ∙ g in cc))) in
-          let b : share_of k (page_of_entry old e) ≡ 0 = ap (λ o. option_map_or (λ j. cond {A = ℕ} (nat_eq j k) 1 0) o 0) f ∙ other_class j k other in
-          let c : cond {A = ℕ} (nat_eq own k) 1 0 ≡ 0 = ap (λ b. cond {A = ℕ} b 1 0) t in
-          omega (arith, a, b, c)
-    ]
+    counts_here k b o f t = grind arith
 
     used_here : (k : ℕ) (c : Cell) (o : Option ℕ) → e.frame ≡ o → cell_at new k ≡ Some c → 0 < c.count
     used_here k c o f hc = elim (cases_eq k own) [

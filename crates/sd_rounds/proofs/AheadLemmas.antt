@@ -130,8 +130,7 @@ none_counts after (q ∷ places) none = counts_none after q places (none q (has_
 -- ---- the mapped pages rise
 
 of_T : (b : Bool) → T b → b ≡ true
-of_T true h = refl
-of_T false h = absurd h
+of_T b h = grind arith
 
 below_less : (a b : ℕ) → is_lt (nat_cmp a b) ≡ true → a < b
 below_less a b h = grind (arith, nat_tests)
@@ -234,8 +233,7 @@ has_spaces (e ∷ es) at sorted =
     equal a b h = grind (arith, nat_tests)
 
     or_false : (b c : Bool) → c ≡ false → (b || c) ≡ b
-    or_false true c h = refl
-    or_false false c h = h
+    or_false b c h = grind arith
 
     by : (b : Bool) → eq_by_cmp nat_cmp at.0 e.0 ≡ b → below_all nat_cmp e.0 es ≡ true
         → ((b && is_some (find nat_cmp at.1 (finmap.entries e.1))) || is_some (finmap.get (unwrap_or (find nat_cmp at.0 es) finmap.empty) at.1))
@@ -254,8 +252,7 @@ has_mapped memory at =
 -- ---- over a memory
 
 some_plain : (o : Option PageState) → is_some (option_map plain_page o) ≡ is_some o
-some_plain None = refl
-some_plain (Some page) = refl
+some_plain o = grind arith
 
 has_page : PlainLaw → (contents : Contents) (at : Place) → has at (mapped_places (plain_of contents)) ≡ is_some (page_at contents at.0 at.1)
 has_page law contents at = has_mapped (plain_of contents) at ∙ ap is_some (law.pages contents at.0 at.1) ∙ some_plain (page_at contents at.0 at.1)

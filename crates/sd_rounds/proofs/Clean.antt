@@ -1,5 +1,5 @@
 -- Clean pages.
-use Rattle.std.proofs.Common.{◌≡◌, ℕ, Bool, true, false, cond, List, Option, Some, None, IsSome, refl, sym, ◌∙◌, ap}
+use Rattle.std.proofs.Common.{◌≡◌, ℕ, Bool, true, false, cond, List, Option, Some, None, IsSome, refl, sym, ◌∙◌, ap, arith}
 use Rattle.sd_pagetable.specs.Page.{PageState}
 use Rattle.sd_pagetable.specs.PageLaw.{clean_bytes}
 
@@ -10,8 +10,7 @@ pub one_some : {X : Type 0} {o : Option X} (x y : X) → o ≡ Some x → o ≡ 
 one_some x y one two = cc
 
 pub clean_mapped : (o : Option PageState) (bytes : List ℕ) → clean_bytes o ≡ Some bytes → IsSome o
-clean_mapped None bytes e = absurd (no_some bytes refl e)
-clean_mapped (Some page) bytes e = refl
+clean_mapped o bytes e = grind arith
 
 -- a page that is clean has no soft-dirty bit, and these bytes
 pub clean_is : (o : Option PageState) (page : PageState) (bytes : List ℕ) → o ≡ Some page → clean_bytes o ≡ Some bytes → (page.soft_dirty ≡ false) × (page.bytes ≡ bytes)
@@ -21,8 +20,7 @@ clean_is o page bytes there clean = by page.soft_dirty refl
     at_page = sym (ap clean_bytes there) ∙ clean
 
     by : (b : Bool) → page.soft_dirty ≡ b → (page.soft_dirty ≡ false) × (page.bytes ≡ bytes)
-    by true d = absurd (no_some bytes (ap (λ b. cond b None (Some page.bytes)) d) at_page)
-    by false d = (d, one_some page.bytes bytes (ap (λ b. cond b None (Some page.bytes)) d) at_page)
+    by b d = grind arith
 
 pub clean_there : (o : Option PageState) (page : PageState) (bytes : List ℕ) → o ≡ Some page → page.soft_dirty ≡ false → page.bytes ≡ bytes → clean_bytes o ≡ Some bytes
 clean_there o page bytes there d b = ap clean_bytes there ∙ ap (λ x. cond x None (Some page.bytes)) d ∙ ap Some b

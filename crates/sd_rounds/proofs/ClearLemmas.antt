@@ -1,5 +1,5 @@
 -- A clear of a clean page, which changes nothing, and zeros that are compared.
-use Rattle.std.proofs.Common.{◌≡◌, ℕ, ◌&&◌, Bool, true, false, nat_eq, List, [], ◌∷◌, length, replicate, Option, Some, None, refl, sym, ◌∙◌, ap}
+use Rattle.std.proofs.Common.{◌≡◌, ℕ, ◌&&◌, Bool, true, false, nat_eq, List, [], ◌∷◌, length, replicate, Option, Some, None, refl, sym, ◌∙◌, ap, arith}
 use Rattle.std.specs.Prelude.{IsSome, unwrap_or}
 use Rattle.std.specs.Ordering.{nat_cmp}
 use Rattle.std.specs.Cmp.Lexicographic.{pointwise}
@@ -21,9 +21,7 @@ inside_is (Some table) page x e = refl
 
 put_there : {X : Type 0} (nested : Nested X) (space page : ℕ) (x : X) → value_at nested space page ≡ Some x → put_at nested space page x ≡ nested
 unfolding put_at
-put_there nested space page x there =
-    ap (finmap.insert nested space) (put_again (inside nested space) page x there)
-    ∙ put_again nested space (inside nested space) (inside_is (finmap.get nested space) page x there)
+put_there nested space page x there = grind (arith, put_again, inside_is)
 
 -- a clean page that is write-protected, cleared
 cleared_again : (page : PageState) → page.soft_dirty ≡ false → page.writable ≡ false → cleared_page page ≡ page

@@ -41,34 +41,13 @@ next_is : (takes_all : Bool) (tables : List SpaceTable) (after taking : Option P
     → IsRound takes_all tables after taking buffer → taking ≡ Some at → IsCopying (pass_of takes_all tables after taking buffer)
     → (read : WasRead memory at (length buffer / 512) bytes)
     → IsNextSector (pass_of takes_all tables after taking buffer) memory (taking_of buffer at) read.page (length buffer / 512)
-next_is takes_all tables after taking buffer at memory bytes round is copying read =
-    let was = round.sectors at is in
-    let are : length buffer ≡ 512 * was.count = was.are in
-    let short : length buffer < 4096 =
-    subst (λ (t : Taking). length t.copied < 4096) (one_some copying.taking (taking_of buffer at) copying.is (taken_is takes_all tables after taking buffer at is)) copying.short in
-    record {
-      is = taken_is takes_all tables after taking buffer at is;
-      there = read.there;
-      whole = read.whole;
-      at_sector = omega arith;
-      within = omega arith;
-    }
+next_is takes_all tables after taking buffer at memory bytes round is copying read = grind arith
 
 pub copies_more : (takes_all : Bool) (tables : List SpaceTable) (after taking : Option Place) (buffer : List ℕ) (at : Place) (memory : Contents) (bytes : List ℕ) (old new : Pass)
     → pass_of takes_all tables after taking buffer ≡ old → IsRound takes_all tables after taking buffer → taking ≡ Some at → IsCopying old
     → WasRead memory at (length buffer / 512) bytes → is_page_of_zeros (buffer ++ bytes) ≡ false
     → ((t : Taking) → old.taking ≡ Some t → new ≡ copied_more old t bytes) → CopiesMore old memory new
-copies_more takes_all tables after taking buffer at memory bytes old new view round is copying read some more =
-    let next = next_is takes_all tables after taking buffer at memory bytes round is (subst (λ (p : Pass). IsCopying p) (sym view) copying) read in
-    let now = subst (λ (p : Pass). IsNextSector p memory (taking_of buffer at) read.page (length buffer / 512)) view next in
-    record {
-      taking = taking_of buffer at;
-      page = read.page;
-      sector = length buffer / 512;
-      next = now;
-      some = subst (λ (b : List ℕ). is_page_of_zeros (buffer ++ b) ≡ false) read.same some;
-      is = more (taking_of buffer at) now.is ∙ ap (λ (b : List ℕ). copied_more old (taking_of buffer at) b) read.same;
-    }
+copies_more takes_all tables after taking buffer at memory bytes old new view round is copying read some more = grind arith
 
 page_of_zeros : (xs : List ℕ) → list_all (λ byte. byte == 0) xs ≡ true → length xs ≡ 4096 → xs ≡ zeros
 unfolding zeros

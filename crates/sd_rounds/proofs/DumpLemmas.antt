@@ -1,5 +1,5 @@
 -- The dump of a frozen memory.
-use Rattle.std.proofs.Common.{◌≡◌, ◌⊎◌, ℕ, zero, suc, Bool, true, false, cond, ◌||◌, ◌==◌, List, [], ◌++◌, length, replicate, Option, Some, None, IsSome, refl, sym, ◌∙◌, ap, subst, inl, inr}
+use Rattle.std.proofs.Common.{◌≡◌, ◌⊎◌, ℕ, zero, suc, Bool, true, false, cond, ◌||◌, ◌==◌, List, [], ◌++◌, length, replicate, Option, Some, None, IsSome, refl, sym, ◌∙◌, ap, subst, inl, inr, arith}
 use Rattle.std.specs.List.{list_all}
 use Rattle.std.specs.Option.{option_map, is_some}
 use Rattle.std.proofs.lemmas.Bool.{cases_Bool, both_ways}
@@ -49,13 +49,7 @@ other_page law memory cut same at page there = by (page_at memory at.0 at.1) (pl
 -- ---- the steps
 
 freezes : (takes_all : Bool) (memory : Contents) → IsDumping memory (opened takes_all) memory
-freezes takes_all memory = record {
-  plain = refl;
-  ahead = λ _ _. refl;
-  behind = λ _ _ passed _. absurd (both_ways false refl passed);
-  kinds = λ _ passed _. absurd (both_ways false refl passed);
-  taken = λ taking is. absurd (no_some taking refl is);
-}
+freezes takes_all memory = grind arith
 
 -- ---- a visit
 
@@ -68,17 +62,7 @@ at_freeze cut pass old at page next there dumping = sym (dumping.ahead at (above
 kind_before : (cut : Contents) (pass : Pass) (old : Contents) (at q : Place) → pass.taking ≡ None → IsRising pass
     → IsNextPage old.spaces pass.after (Some at) → IsDumping cut pass old → has_passed (Some at) q ≡ true → (at ≡ q → ⊥)
     → kind_at pass.entries q ≡ kind_due pass.takes_all (page_at cut q.0 q.1)
-kind_before cut pass old at q none rising next dumping passed apart = elim (cases_Bool (has_passed pass.after q)) [
-  | inl before ↦ dumping.kinds q before (none_taken pass q none)
-  | inr ahead ↦ elim (some_or_none (page_at old q.0 q.1)) [
-    | inl gone ↦ missing pass.entries q rising.rises (rising.ahead q ahead)
-        ∙ ap (kind_due pass.takes_all) (sym gone ∙ dumping.ahead q ahead)
-    | inr found ↦ elim (passed_next old.spaces pass.after at q next (is_some_at (page_at old q.0 q.1) found.0 found.1) passed) [
-      | inl e ↦ absurd (apart e)
-      | inr before ↦ absurd (both_ways (has_passed pass.after q) ahead before)
-    ]
-  ]
-]
+kind_before cut pass old at q none rising next dumping passed apart = grind (arith, cases_Bool, none_taken, some_or_none, missing, passed_next, is_some_at, both_ways)
 
 -- what a visit does to the memory
 pub record Visits (cut old new : Contents) (pass : Pass) (at : Place) (page : PageState) : Type 0 where
@@ -92,9 +76,7 @@ pub record Visits (cut old new : Contents) (pass : Pass) (at : Place) (page : Pa
 
 ahead_visited : (cut old new : Contents) (pass : Pass) (at : Place) (page : PageState) → Visits cut old new pass at page → (q : Place) → has_passed (Some at) q ≡ false
     → page_at new q.0 q.1 ≡ page_at cut q.0 q.1
-ahead_visited cut old new pass at page v q ahead =
-    let apart : at ≡ q → ⊥ = λ e. both_ways (has_passed (Some at) q) ahead (subst (λ (p : Place). has_passed (Some at) p ≡ true) e (passed_here at)) in
-    v.cleared.others q.0 q.1 (apart_page at q apart) ∙ v.dumping.ahead q (ahead_more pass.after at q v.next.1 ahead)
+ahead_visited cut old new pass at page v q ahead = grind (arith, both_ways, passed_here, apart_page, ahead_more)
 
 behind_visited : (cut old new : Contents) (pass : Pass) (at : Place) (page : PageState) → Visits cut old new pass at page → (q : Place) (found : PageState) → has_passed (Some at) q ≡ true
     → page_at new q.0 q.1 ≡ Some found → found.soft_dirty ≡ false
@@ -233,13 +215,7 @@ enters_zero law stored chain cut pass memory taking is rising zeroed keeps dumpi
 
 pub ends_ways : (cut : Contents) (pass : Pass) (memory : Contents) → pass.taking ≡ None → IsRising pass
     → IsNextPage memory.spaces pass.after None → IsDumping cut pass memory → (at : Place) → kind_at pass.entries at ≡ kind_due pass.takes_all (page_at cut at.0 at.1)
-ends_ways cut pass memory none rising next dumping at = elim (cases_Bool (has_passed pass.after at)) [
-  | inl passed ↦ dumping.kinds at passed (none_taken pass at none)
-  | inr ahead ↦ elim (some_or_none (page_at memory at.0 at.1)) [
-    | inl gone ↦ missing pass.entries at rising.rises (rising.ahead at ahead) ∙ ap (kind_due pass.takes_all) (sym gone ∙ dumping.ahead at ahead)
-    | inr found ↦ absurd (both_ways (has_passed pass.after at) ahead (passed_all memory.spaces pass.after at next (is_some_at (page_at memory at.0 at.1) found.0 found.1)))
-  ]
-]
+ends_ways cut pass memory none rising next dumping at = grind (arith, cases_Bool, none_taken, some_or_none, missing, both_ways, passed_all, is_some_at)
 
 ends : PlainLaw → (stored : Stored) (chain : Chain) (cut : Contents) (pass : Pass) (memory : Contents) → pass.taking ≡ None → IsRising pass
     → IsNextPage memory.spaces pass.after None → Keeps stored chain pass memory → IsDumping cut pass memory → IsDumped stored chain cut pass

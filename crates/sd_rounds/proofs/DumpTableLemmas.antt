@@ -110,8 +110,7 @@ end_of_area None = 0
 end_of_area (Some area) = area.first + area.count
 
 area_begins : (before : Option Area) (area : Area) → IsTrue (is_area_after before area) → (end_of_area before ≤ area.first) × (area.first + area.count ≤ 2 ^ 35)
-area_begins None area after = (omega arith, grind (arith, nat_tests))
-area_begins (Some last) area after = (grind (arith, nat_tests), grind (arith, nat_tests))
+area_begins before area after = grind arith
 
 areas_rise : (before : Option Area) (areas : List Area) → AreMaximal before areas → end_of_area before ≤ 2 ^ 35 → Between (end_of_area before) (flat_map area_pages areas) (2 ^ 35)
 areas_rise before [] are low = low
@@ -126,8 +125,7 @@ end_of_run None = 0
 end_of_run (Some run) = run.first + run.count
 
 run_begins : (parent : ℕ) (before : Option Run) (run : Run) → IsTrue (is_run_after parent before run) → (end_of_run before ≤ run.first) × (run.first + run.count ≤ 2 ^ 35)
-run_begins parent None run after = (omega arith, grind (arith, nat_tests))
-run_begins parent (Some last) run after = (grind (arith, nat_tests), grind (arith, nat_tests))
+run_begins parent before run after = grind arith
 
 runs_rise : (parent : ℕ) (before : Option Run) (runs : List Run) → AreRuns parent before runs → end_of_run before ≤ 2 ^ 35 → Between (end_of_run before) (flat_map run_pages runs) (2 ^ 35)
 runs_rise parent before [] are low = low

@@ -44,48 +44,31 @@ from_counts since running serial state is = by running.image is.counts
 
 from_own : (running : Running) (serial : ℕ) (state : SlotState) (image : Option Making) → IsItsImage running image
     → (image_from running serial state image).order ≡ order_of running (image_from running serial state image).order.serial (image_from running serial state image).order.state
-from_own running serial state None own = refl
-from_own running serial state (Some image) own = own
+from_own running serial state image own = grind arith
 
 -- a plan that gives out a call has as many outcomes left
 gives_same : (old new : Planned) (request : Asked) → Gives old new request → outcomes_of new ≡ outcomes_of old
-gives_same old new request g =
-    let calls : length old.calls ≡ length new.calls + 1 = ap (λ (c : Calls). length c) g.next ∙ omega arith in
-    let before : is_one old.out ≡ 0 = ap is_one g.free in
-    let after : is_one new.out ≡ 1 = ap is_one g.out in
-    omega arith
+gives_same old new request g = grind arith
 
 pub past_with : (stage : Stage) (plan : Planned) → is_past_freeze (with_plan stage plan) ≡ is_past_freeze stage
-past_with (Format old) plan = refl
-past_with _ plan = refl
+past_with stage plan = grind arith
 
 closing_with : (stage : Stage) (plan : Planned) → closing_outcomes (with_plan stage plan) ≡ closing_outcomes stage
-closing_with (Format old) plan = refl
-closing_with _ plan = refl
+closing_with stage plan = grind arith
 
 left_of : (stage : Stage) (plan : Planned) → plan_of stage ≡ Some plan → outcomes_left stage ≡ outcomes_of plan
-left_of (Format old) plan e = ap outcomes_of (one_plan old plan e)
-left_of (Close old header tables) plan e = ap outcomes_of (one_plan old plan e)
-left_of _ plan e = absurd (let f : None ≡ Some plan = e in cc)
+left_of stage plan e = grind arith
 
 left_with : (stage : Stage) (old plan : Planned) → plan_of stage ≡ Some old → outcomes_left (with_plan stage plan) ≡ outcomes_of plan
-left_with Freeze old plan e = absurd (let f : None ≡ Some old = e in cc)
-left_with PassStage old plan e = absurd (let f : None ≡ Some old = e in cc)
-left_with _ old plan e = refl
+left_with stage old plan e = grind arith
 
 -- in the pass the counts are even
 pass_count : (since : ℕ) (image : Making) → image.stage ≡ PassStage → IsCounted since image → since + writes_out image.writes ≡ data_pages image.pass.entries
-pass_count since image stage is =
-    let left : outcomes_left image.stage ≡ 0 = ap outcomes_left stage in
-    let none : closing_outcomes image.stage ≡ 0 = ap closing_outcomes stage in
-    let all : since + outcomes_left image.stage + writes_out image.writes ≡ data_pages image.pass.entries + closing_outcomes image.stage = is.count in
-    omega arith
+pass_count since image stage is = grind arith
 
 frozen_pass : (image : Making) (order : ImageOrder) (stage : Stage) → image.stage ≡ PassStage → image.order ≡ order → is_past_freeze stage ≡ true
     → ((nat_eq (kind_number order.kind) 2) && is_past_freeze stage) ≡ true → is_frozen_dump image ≡ true
-frozen_pass image order stage is same past frozen =
-    ap (λ (o : ImageOrder). nat_eq (kind_number o.kind) 2 && is_past_freeze image.stage) same
-    ∙ ap (λ b. nat_eq (kind_number order.kind) 2 && b) (ap is_past_freeze is ∙ sym past) ∙ frozen
+frozen_pass image order stage is same past frozen = grind arith
 
 -- what a step leaves of the order and the counts
 pub record Leaves (since : ℕ) (old : Making) (step : ImageStep) (new : Making) : Type 0 where
@@ -196,11 +179,7 @@ hands_leaves since old new made g was frozen =
 
     counted_more : (stage : Stage) → old.stage ≡ stage → is_past_freeze stage ≡ true → nat_eq (kind_number old.order.kind) 2 ≡ true
         → (since + outcomes_left stage + writes_out old.writes ≡ data_pages old.pass.entries + closing_outcomes stage) × (◌≡◌ {A = ℕ} (if is_frozen_dump old then since + 1 else since) (since + 1))
-    counted_more stage e past kind =
-        let is : is_frozen_dump old ≡ true = ap (λ b. b && is_past_freeze old.stage) kind ∙ ap is_past_freeze e ∙ past in (
-          subst (λ (s : Stage). since + outcomes_left s + writes_out old.writes ≡ data_pages old.pass.entries + closing_outcomes s) e (was is).count,
-          ap (λ b. if b then since + 1 else since) is,
-        )
+    counted_more stage e past kind = grind arith
 
     by : (stage : Stage) → old.stage ≡ stage → (calls : Calls) → (plan_after g.plan made).calls ≡ calls
         → is_frozen_dump (record old { stage = stage_after old.order.kind old.stage (plan_after g.plan made) (plan_after g.plan made).calls }) ≡ true
@@ -235,15 +214,7 @@ hands_leaves since old new made g was frozen =
 -- the write of a data page is counted too
 written_leaves : (since : ℕ) (old new : Making) (made : Made) → IsWritten old made new → (is_frozen_dump old ≡ true → IsCounted since old)
     → is_frozen_dump new ≡ true → IsCounted (if is_frozen_dump old then since + 1 else since) new
-written_leaves since old new made w was frozen =
-    subst (λ (m : Making). IsCounted (if is_frozen_dump old then since + 1 else since) m) (sym w.is) (record {
-      count =
-          let is : is_frozen_dump old ≡ true = ap is_frozen_dump (sym w.is) ∙ frozen in
-          let all : since + outcomes_left old.stage + writes_out old.writes ≡ data_pages old.pass.entries + closing_outcomes old.stage = (was is).count in
-          let now : (if is_frozen_dump old then since + 1 else since) ≡ since + 1 = ap (λ b. if b then since + 1 else since) is in
-          let out : writes_out (slice_set old.writes w.lane None) + 1 ≡ writes_out old.writes = take_count old.writes w.lane made.request.id w.out in
-          omega arith;
-    })
+written_leaves since old new made w was frozen = grind (arith, take_count)
 
 more_leaves : (since : ℕ) (old new : Making) (made : Made) → PlanGoesOn old made new ⊎ IsWritten old made new → (is_frozen_dump old ≡ true → IsCounted since old)
     → is_frozen_dump new ≡ true → IsCounted (if is_frozen_dump old then since + 1 else since) new
@@ -251,8 +222,7 @@ more_leaves since old new made (inl g) was frozen = hands_leaves since old new m
 more_leaves since old new made (inr w) was frozen = written_leaves since old new made w was frozen
 
 more_order : (old new : Making) (made : Made) → PlanGoesOn old made new ⊎ IsWritten old made new → new.order ≡ old.order
-more_order old new made (inl g) = ap (λ (m : Making). m.order) g.is
-more_order old new made (inr w) = ap (λ (m : Making). m.order) w.is
+more_order old new made h3 = grind arith
 
 image_counts : (since : ℕ) (running : Running) (image : Making) → running.image ≡ Some image → IsRunning since running → is_frozen_dump image ≡ true → IsCounted since image
 image_counts since running image e is = subst (AreCounted since) e is.counts
@@ -288,8 +258,7 @@ hands_running since old new made _ is hands strange ended = absurd (both_ways tr
 
 -- an outcome that was awaited
 pub handed : (old new : Dumping) (made : Made) (progress : Progress) → is_strange progress ≡ false → IsHanded old made progress new → Hands old made progress new
-handed old new made Strange strange is = absurd (both_ways true strange refl)
-handed old new made _ strange is = is
+handed old new made progress strange is = grind arith
 
 -- a step freezes the memory exactly where the image is behind its format
 freezes_is : (ticket : ℕ) (old new : Making) (before after : Contents) (step : ImageStep) → Steps ticket old before step new after → freezes step ≡ is_freeze_next old.stage
@@ -305,8 +274,7 @@ freezes_is ticket old new before after (Copied c) s = sym (ap is_freeze_next s.0
 freezes_is ticket old new before after _ s = sym (ap is_freeze_next s.0.stage)
 
 from_freeze : (running : Running) (serial : ℕ) (state : SlotState) (image : Option Making) → is_freeze_next (image_from running serial state image).stage ≡ is_to_freeze image
-from_freeze running serial state None = refl
-from_freeze running serial state (Some image) = refl
+from_freeze running serial state image = grind arith
 
 -- before its freeze a memory isn't frozen, so nothing is counted
 freeze_counts : (image : Option Making) → is_to_freeze image ≡ true → AreCounted 0 image
@@ -338,8 +306,7 @@ worked since now serial state ticket old checkpoint new before after (Err e) are
     was = subst (λ (o : Option Checkpoint). AreRunning since (option_map running_of o)) is are
 
     by : (b : Bool) → is_to_freeze (running_of checkpoint).image ≡ b → IsRunning (if b then 0 else since) (running_of checkpoint)
-    by true e = record { few = was.few; own = was.own; counts = freeze_counts (running_of checkpoint).image e }
-    by false e = was
+    by b e = grind arith
 
 pub same_dumping : (a b : Option Running) (m n : ℕ) → a ≡ b → m ≡ n → ◌≡◌ {A = Dumping} (record { running = a; since_freeze = m }) (record { running = b; since_freeze = n })
 same_dumping a b m n e f = ap (λ o. record { running = o; since_freeze = m }) e ∙ ap (λ k. record { running = b; since_freeze = k }) f

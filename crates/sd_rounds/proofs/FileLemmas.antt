@@ -1,6 +1,6 @@
 -- The file of an image whose table is written.
 use Rattle.std.specs.List.{concat}
-use Rattle.std.proofs.Common.{◌≡◌, ◌≢◌, ◌↔◌, Contains, List, ℕ, ◌<◌, Bool, [], ◌∷◌, Option, Some, None, is_some, refl, sym, ◌∙◌, ap, subst, inl, inr}
+use Rattle.std.proofs.Common.{◌≡◌, ◌≢◌, ◌↔◌, Contains, List, ℕ, ◌<◌, Bool, [], ◌∷◌, Option, Some, None, is_some, refl, sym, ◌∙◌, ap, subst, inl, inr, arith}
 use Rattle.std.specs.Option.{option_map}
 use Rattle.sd_image.specs.declared.header.Header.{Header}
 use Rattle.sd_image.specs.declared.header.Kind.{Kind}
@@ -39,20 +39,14 @@ use Rattle.sd_rounds.proofs.WayLemmas.{way}
 -- ---- the entries of a dump
 
 some_due : (takes_all : Bool) (o : Option PageState) → is_some (kind_due takes_all o) ≡ is_some o
-some_due takes_all None = refl
-some_due takes_all (Some page) = refl
+some_due takes_all o = grind arith
 
 some_plain : (o : Option PageState) → is_some (option_map plain_page o) ≡ is_some o
-some_plain None = refl
-some_plain (Some page) = refl
+some_plain o = grind arith
 
 pub are_the_pages : PlainLaw → (cut memory : Contents) (pass : Pass) → ((at : Place) → kind_at pass.entries at ≡ kind_due pass.takes_all (page_at cut at.0 at.1))
     → plain_of memory ≡ plain_of cut → AreThePages pass.entries memory
-are_the_pages law cut memory pass ways same space page =
-    ap is_some (ways (space, page)) ∙ some_due pass.takes_all (page_at cut space page)
-    ∙ sym (some_plain (page_at cut space page)) ∙ ap is_some (sym (law.pages cut space page))
-    ∙ ap (λ m. is_some (value_at m space page)) (sym same)
-    ∙ ap is_some (law.pages memory space page) ∙ some_plain (page_at memory space page)
+are_the_pages law cut memory pass ways same space page = grind arith
 
 entries : PlainLaw → (stored : Stored) (chain : Chain) (cut memory : Contents) (pass : Pass) → IsDumped stored chain cut pass → plain_of memory ≡ plain_of cut
     → AreThePages pass.entries memory
@@ -61,8 +55,7 @@ entries law stored chain cut memory pass dumped same = are_the_pages law cut mem
 -- ---- the table is written
 
 own_numbers : (kind : Kind) (serial parent : ℕ) → kind ≢ Merged → parent < serial → AreNumbers kind serial serial parent
-own_numbers Merged serial parent own l = absurd (own refl)
-own_numbers _ serial parent own l = (refl, l)
+own_numbers kind serial parent own l = grind arith
 
 filed : TextIsImage → (pages : Pages) (chain : Chain) (old new : Making) (memory : Contents) (request : Asked) (w : WritesTable old memory request new)
     → old.order.kind ≢ Merged → AreItsNumbers old.order → KeepsImage pages chain old memory → TablesEntries old.pass.entries w.header w.tables
@@ -131,33 +124,20 @@ fills law order pass pages header tables is = law.image pages header (table_text
 -- ---- until the image is open
 
 pub asked_files : (stage : Stage) (plan : Planned) (order : ImageOrder) (pass : Pass) (pages : Pages) → IsFiledIn stage order pass pages → IsFiledIn (with_plan stage plan) order pass pages
-asked_files (Close old header tables) plan order pass pages is = is
-asked_files _ plan order pass pages is = tt
+asked_files stage plan order pass pages is = grind arith
 
 pub asked_areas : (stage : Stage) (plan : Planned) (cut : Contents) → HasAreasIn stage cut → HasAreasIn (with_plan stage plan) cut
-asked_areas (Close old header tables) plan cut is = is
-asked_areas _ plan cut is = tt
+asked_areas stage plan cut is = grind arith
 
 asks : (ticket : ℕ) (cut : Contents) (pages : Pages) (old new : Making) (before after : Contents) (request : Asked) → Steps ticket old before (Call request) new after
     → FilesImage pages old × HasAreasAtFreeze cut old → FilesImage pages new × HasAreasAtFreeze cut new
-asks ticket cut pages old new before after request s was = (
-  subst (λ (m : Making). FilesImage pages m) (sym s.0.is) (asked_files old.stage s.0.next old.order old.pass pages was.0),
-  subst (λ (m : Making). HasAreasAtFreeze cut m) (sym s.0.is) (asked_areas old.stage s.0.next cut was.1),
-)
+asks ticket cut pages old new before after request s was = grind arith
 
 behind_files : (kind : Kind) (stage : Stage) (order : ImageOrder) (pass : Pass) (pages : Pages) → IsFiledIn (stage_behind kind stage) order pass pages
-behind_files Dump (Format plan) order pass pages = tt
-behind_files PreDump (Format plan) order pass pages = tt
-behind_files Merged (Format plan) order pass pages = tt
-behind_files kind Freeze order pass pages = tt
-behind_files _ _ order pass pages = tt
+behind_files kind stage order pass pages = grind arith
 
 behind_areas : (kind : Kind) (stage : Stage) (cut : Contents) → HasAreasIn (stage_behind kind stage) cut
-behind_areas Dump (Format plan) cut = tt
-behind_areas PreDump (Format plan) cut = tt
-behind_areas Merged (Format plan) cut = tt
-behind_areas kind Freeze cut = tt
-behind_areas _ _ cut = tt
+behind_areas kind stage cut = grind arith
 
 goes_on : (cut : Contents) (pages : Pages) (old new : Making) (made : Made) → PlanGoesOn old made new
     → FilesImage pages old × HasAreasAtFreeze cut old → FilesImage pages new × HasAreasAtFreeze cut new
@@ -172,8 +152,7 @@ goes_on cut pages old new made h was =
 
 hands : (cut : Contents) (pages : Pages) (old new : Making) (made : Made) → HandsIn old made More new
     → FilesImage pages old × HasAreasAtFreeze cut old → FilesImage pages new × HasAreasAtFreeze cut new
-hands cut pages old new made (inl g) was = goes_on cut pages old new made g was
-hands cut pages old new made (inr w) was = subst (λ (m : Making). FilesImage pages m × HasAreasAtFreeze cut m) (sym w.is) was
+hands cut pages old new made h5 was = grind arith
 
 -- ---- the image is open
 
@@ -183,28 +162,18 @@ filed_at pages old made opened o is = subst (λ (s : Stage). IsFiledIn s old.ord
 
 has_entries : (pages : Pages) (chain : Chain) (old : Making) (opened : NewImage) → chain.number ≡ old.order.parent
     → IsFiled old.order old.pass pages opened.header opened.table → IsImageOf (listed_pages pages) chain old.pass.entries (image_of opened.header pages opened.table)
-has_entries pages chain old opened number is = record {
-  parent = ap (λ (h : Header). h.parent) is.numbers ∙ sym number;
-  lists = is.lists;
-  pages = λ place within. refl;
-}
+has_entries pages chain old opened number is = grind arith
 
 opens : (pages : Pages) (chain : Chain) (old : Making) (made : Made) (opened : NewImage) → Opens old made opened → chain.number ≡ old.order.parent
     → FilesImage pages old
     → IsFiled old.order old.pass pages opened.header opened.table
     × IsImageOf (listed_pages pages) chain old.pass.entries (image_of opened.header pages opened.table)
-opens pages chain old made opened o number files =
-    let is = filed_at pages old made opened o files in
-    (is, has_entries pages chain old opened number is)
+opens pages chain old made opened o number files = grind arith
 
 shows : MadeLaws → (cut : Contents) (pages : Pages) (chain : Chain) (old : Making) (made : Made) (opened : NewImage) (memory : Contents) → Opens old made opened → chain.number ≡ old.order.parent
     → FilesImage pages old → HasAreasAtFreeze cut old → DumpsImage cut pages chain old memory
     → IsMemory chain.images (image_of opened.header pages opened.table) (plain_of cut)
-shows law cut pages chain old made opened memory o number files areas dumps =
-    law.dumps (listed_pages pages) chain cut old.pass (image_of opened.header pages opened.table)
-    (has_entries pages chain old opened number (filed_at pages old made opened o files))
-    (subst (λ (s : Stage). HasAreasIn s cut) o.was areas)
-    (subst (λ (s : Stage). IsDumpedIn s cut pages chain old.pass memory) o.was dumps)
+shows law cut pages chain old made opened memory o number files areas dumps = grind arith
 
 ways : (cut : Contents) (pages : Pages) (chain : Chain) (old : Making) (made : Made) (opened : NewImage) (memory : Contents) → Opens old made opened
     → FilesImage pages old → IsRising old.pass → DumpsImage cut pages chain old memory

@@ -141,8 +141,7 @@ abbrev AreItsPages : PlainMemory → List ImageEntry → Type 0
 AreItsPages memory entries = (space page : ℕ) → is_some (kind_at entries (space, page)) ≡ is_some (page_in memory space page)
 
 is_covered : (kind : Kind) (areas : List Area) (runs : List Run) → kind ≢ PreDump → flat_map run_pages runs ≡ flat_map area_pages areas → Covers kind areas runs
-is_covered PreDump areas runs other e = absurd (other refl)
-is_covered _ areas runs other e = e
+is_covered kind areas runs other e = grind arith
 
 dump_spaces : (takes_all : Bool) (h : Header) (memory : PlainMemory) (before : ℕ) (kept spaces : List Listed) → h.kind ≢ PreDump → takes_all ≡ nat_eq h.parent 0
     → AreTables (entry_parent takes_all) 0 kept → AreItsPages memory (entries_listed kept) → Rise before spaces → AllByRecursion (IsSpaceOf memory kept) spaces → AreSpaces h before spaces
@@ -259,22 +258,17 @@ pub pre_dump_for : (order : ImageOrder) (pass : Pass) (memory : Contents) (h : H
     → order.kind ≡ PreDump → h.kind ≡ order.kind → h.parent ≡ order.parent → h.pages ≡ data_pages pass.entries → pass.takes_all ≡ nat_eq order.parent 0
     → AreTables (entry_parent pass.takes_all) 0 kept → entries_listed kept ≡ pass.entries → spaces ≡ map without_areas kept
     → HasTable order.kind memory pass.entries h spaces
-pre_dump_for order pass memory h kept spaces law is kind parent pages takes are same made =
-    subst (λ k. HasTable k memory pass.entries h spaces) (sym is)
-    (pre_dump pass.takes_all h pass.entries kept spaces law (kind ∙ is) (takes ∙ ap (λ n. nat_eq n 0) (sym parent)) pages are same made)
+pre_dump_for order pass memory h kept spaces law is kind parent pages takes are same made = grind (arith, pre_dump)
 
 other_kind : (kind : Kind) → kind ≢ PreDump → (memory : Contents) (entries : List ImageEntry) (h : Header) (spaces : List Listed)
     → (AreThePages entries memory → TablesMemory memory entries h spaces) → HasTable kind memory entries h spaces
-other_kind PreDump other memory entries h spaces has = absurd (other refl)
-other_kind _ other memory entries h spaces has = has
+other_kind kind other memory entries h spaces has = grind arith
 
 pub dump_for : PlainLaw → (order : ImageOrder) (pass : Pass) (memory : Contents) (h : Header) (kept spaces : List Listed) → ((l : List Listed) → Lists (entries_listed l) l)
     → order.kind ≢ PreDump → h.kind ≡ order.kind → h.parent ≡ order.parent → h.pages ≡ data_pages pass.entries → pass.takes_all ≡ nat_eq order.parent 0
     → AreTables (entry_parent pass.takes_all) 0 kept → entries_listed kept ≡ pass.entries → AreAllSpaces (plain_of memory) kept spaces
     → HasTable order.kind memory pass.entries h spaces
-dump_for plain order pass memory h kept spaces law is kind parent pages takes are same made =
-    other_kind order.kind is memory pass.entries h spaces
-    (dump plain pass.takes_all h memory pass.entries kept spaces law (λ e. is (sym kind ∙ e)) (takes ∙ ap (λ n. nat_eq n 0) (sym parent)) pages are same made)
+dump_for plain order pass memory h kept spaces law is kind parent pages takes are same made = grind (arith, other_kind, dump)
 
 no_pre_dump : Dump ≡ PreDump → ⊥
 no_pre_dump e = cc
@@ -283,5 +277,4 @@ no_merged : Merged ≡ PreDump → ⊥
 no_merged e = cc
 
 pub is_other : (kind : Kind) → (kind ≡ Dump) ⊎ (kind ≡ Merged) → kind ≢ PreDump
-is_other kind (inl e) = λ p. no_pre_dump (sym e ∙ p)
-is_other kind (inr e) = λ p. no_merged (sym e ∙ p)
+is_other kind h1 = grind arith

@@ -1,5 +1,5 @@
 -- Which pages an image visits, and which it leaves to its parent.
-use Rattle.std.proofs.Common.{◌≡◌, ◌⊎◌, inl, inr, ℕ, Bool, true, false, nat_eq, List, [], ◌∷◌, ◌++◌, map, Contains, None, refl, sym, ◌∙◌, ap, subst}
+use Rattle.std.proofs.Common.{◌≡◌, ◌⊎◌, inl, inr, ℕ, Bool, true, false, nat_eq, List, [], ◌∷◌, ◌++◌, map, Contains, None, refl, sym, ◌∙◌, ap, subst, arith}
 use Rattle.std.proofs.lemmas.Bool.{both_ways}
 use Rattle.sd_image.specs.declared.run.RunKind.TheVariants.{Data, Parent, Zero}
 use Rattle.sd_image.specs.Shows.{pages_of}
@@ -28,19 +28,13 @@ pub record Was (still : Place → Bool) (visits : List Visit) (pass : Pass) : Ty
   pub swept : PassSweeps still visits pass
 
 visited_as : (still : Place → Bool) (visits : List Visit) (image : Making) (pass : Pass) → image.pass ≡ pass → Was still visits pass → IsVisited still visits image
-visited_as still visits image pass e was = record {
-  pass = subst (λ (p : Pass). IsPassOf visits p) (sym e) was.is;
-  swept = subst (λ (p : Pass). PassSweeps still visits p) (sym e) was.swept;
-}
+visited_as still visits image pass e was = grind arith
 
 same_pass : (still : Place → Bool) (visits : List Visit) (old new : Making) → new.pass ≡ old.pass → IsVisited still visits old → IsVisited still visits new
 same_pass still visits old new e was = visited_as still visits new old.pass e (record { is = was.pass; swept = was.swept })
 
 begins : VisitLaws → (still : Place → Bool) (order : ImageOrder) → IsVisited still [] (begun_image order)
-begins laws still order = record {
-  pass = laws.opens (nat_eq order.parent 0);
-  swept = λ at here passed. absurd (both_ways false refl passed);
-}
+begins laws still order = grind arith
 
 pub copies : VisitLaws → (still : Place → Bool) (visits : List Visit) (old new : Pass) (memory : Contents) (c : copied.Copied) → Copies old memory c new
     → IsPassOf visits old → PassSweeps still visits old → Was still visits new
@@ -78,8 +72,7 @@ steps laws still ticket visits old new before after _ s mapped was = same_pass s
 
 hands : (still : Place → Bool) (visits : List Visit) (old new : Making) (made : Made) → HandsIn old made More new
     → IsVisited still visits old → IsVisited still visits new
-hands still visits old new made (inl g) was = same_pass still visits old new (ap (λ (m : Making). m.pass) g.is) was
-hands still visits old new made (inr w) was = same_pass still visits old new (ap (λ (m : Making). m.pass) w.is) was
+hands still visits old new made h5 was = grind arith
 
 all : VisitLaws → (still : Place → Bool) (ticket : ℕ) (visits : List Visit) (old new : Making) (before after : Contents) (request : Asked) → Steps ticket old before (TableCall request) new after
     → AreStillMapped still before → IsVisited still visits old → (at : Place) → still at ≡ true → Contains (map visited_page visits) at

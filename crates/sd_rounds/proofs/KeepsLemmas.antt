@@ -70,12 +70,7 @@ calls law stored chain pass old new event sound step call keeps = λ space numbe
     keeps space number bytes (law old new event space number bytes sound step (call space number) clean) due
 
 opens : (stored : Stored) (chain : Chain) (memory : Contents) → Rests chain memory → Keeps stored chain (opened false) memory
-opens stored chain memory rests = λ space number bytes clean due. record {
-  copied = λ taking taken. absurd (none_taken (opened false) (space, number) refl taking taken);
-  full = λ taking taken. absurd (none_taken (opened false) (space, number) refl taking taken);
-  behind = λ passed. absurd (both_ways false refl passed);
-  ahead = λ _. rests space number bytes clean;
-}
+opens stored chain memory rests = grind arith
 
 opens_whole : (stored : Stored) (chain : Chain) (memory : Contents) → Keeps stored chain (opened true) memory
 opens_whole stored chain memory = λ space number bytes clean due. absurd (both_ways false refl (due refl))
@@ -197,10 +192,7 @@ copies stored chain pass memory taking page sector is there whole within at_sect
 
     front : (q : Place) (bytes : List ℕ) → clean_at memory q.0 q.1 ≡ Some bytes → PageIsHeld stored chain pass q bytes → taking.place ≡ q
         → more.copied ≡ take (length more.copied) bytes
-    front q bytes clean held e =
-        let same = same_bytes q bytes clean e in
-        subst (λ (b : List ℕ). taking.copied ++ sector_of b sector ≡ take (length (taking.copied ++ sector_of b sector)) bytes) (sym same)
-        (front_more taking.copied bytes sector (ap (λ (b : List ℕ). length b) (sym same) ∙ whole) within at_sector (held.copied taking (record { is = is; here = e })))
+    front q bytes clean held e = grind (arith, front_more)
 
     still : (q : Place) (bytes : List ℕ) → clean_at memory q.0 q.1 ≡ Some bytes → PageIsHeld stored chain pass q bytes → PageIsHeld stored chain now q bytes
     still q bytes clean held = record {

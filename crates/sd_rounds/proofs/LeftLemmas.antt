@@ -37,9 +37,7 @@ use Rattle.sd_rounds.proofs.WriteLemmas.{put_count, take_count}
 -- ---- a step of an image
 
 asked_fewer : (stage : Stage) (old new : Planned) (pass : ℕ) → plan_of stage ≡ Some old → plan_left new + 1 ≡ plan_left old → stage_left (with_plan stage new) pass < stage_left stage pass
-asked_fewer (Format plan) old new pass is fewer = (let same : plan_left plan ≡ plan_left old = ap plan_left (one_plan plan old is) in omega arith)
-asked_fewer (Close plan header tables) old new pass is fewer = (let same : plan_left plan ≡ plan_left old = ap plan_left (one_plan plan old is) in omega arith)
-asked_fewer _ old new pass is fewer = absurd (let f : None ≡ Some old = is in cc)
+asked_fewer stage old new pass is fewer = grind arith
 
 -- in the pass
 in_pass : (image : Making) (memory : PlainMemory) → image.stage ≡ PassStage → image_left image memory ≡ pass_left image.pass memory + writes_out image.writes + 10
@@ -61,9 +59,7 @@ visit_fewer law old new before after visit t free =
     by false = omega arith
 
 sector_long : (bytes : List ℕ) (sector : ℕ) → length bytes ≡ 4096 → sector < 8 → length (sector_of bytes sector) ≡ 512
-sector_long bytes sector whole within =
-    let few : 512 * sector + 512 - 512 * sector ≡ 512 = omega arith in
-    length-take-le (512 * sector + 512 - 512 * sector) _ (simp length-drop (omega arith)) ∙ few
+sector_long bytes sector whole within = grind (arith, length-take-le, length-drop)
 
 sectors : (n k : ℕ) → n ≡ 512 * k → n / 512 ≡ k
 sectors n k e = omega arith
@@ -72,33 +68,11 @@ taken_fewer : (old new : Pass) (memory : Contents) → old.after ≡ new.after �
 taken_fewer old new memory e l = (let same : pages_ahead old.after (plain_of memory) ≡ pages_ahead new.after (plain_of memory) = ap (λ o. pages_ahead o (plain_of memory)) e in omega arith)
 
 copy_fewer : (old new : Pass) (memory : Contents) (c : copied.Copied) → Copies old memory c new → pass_left new (plain_of memory) < pass_left old (plain_of memory)
-copy_fewer old new memory MoreSectors m =
-    taken_fewer old new memory (sym (ap (λ (p : Pass). p.after) m.is))
-    (let was : taking_left old.taking ≡ taking_left (Some m.taking) = ap taking_left m.next.is in
-    let is : taking_left new.taking ≡ (8 - length (m.taking.copied ++ sector_of m.page.bytes m.sector) / 512) + 2 = ap (λ (p : Pass). taking_left p.taking) m.is in
-    let before : length m.taking.copied / 512 ≡ m.sector = sectors _ _ m.next.at_sector in
-    let long : length (m.taking.copied ++ sector_of m.page.bytes m.sector) ≡ 512 * (m.sector + 1) =
-    length-append m.taking.copied (sector_of m.page.bytes m.sector) ∙ omega (arith, m.next.at_sector, sector_long m.page.bytes m.sector m.next.whole m.next.within) in
-    let after : length (m.taking.copied ++ sector_of m.page.bytes m.sector) / 512 ≡ m.sector + 1 = sectors _ _ long in
-    let within : m.sector < 8 = m.next.within in
-    omega arith)
-copy_fewer old new memory ZeroPage z =
-    taken_fewer old new memory (sym (ap (λ (p : Pass). p.after) z.is))
-    (let was : taking_left old.taking ≡ taking_left (Some z.taking) = ap taking_left z.next.is in
-    let is : taking_left new.taking ≡ 0 = ap (λ (p : Pass). taking_left p.taking) z.is in
-    omega arith)
-copy_fewer old new memory Gone g =
-    taken_fewer old new memory (sym (ap (λ (p : Pass). p.after) g.is))
-    (let was : taking_left old.taking ≡ taking_left (Some g.taking) = ap taking_left g.was in
-    let is : taking_left new.taking ≡ 0 = ap (λ (p : Pass). taking_left p.taking) g.is in
-    omega arith)
+copy_fewer old new memory c m = grind (arith, taken_fewer, sectors, length-append, sector_long)
 
 -- the memory keeps its pages through a step
 step_plain : (ticket : ℕ) (old new : Making) (before after : Contents) (step : ImageStep) → Steps ticket old before step new after → plain_of after ≡ plain_of before
-step_plain ticket old new before after Frozen s = ap plain_of s.1
-step_plain ticket old new before after (Visited visit) s = s.tests.plain
-step_plain ticket old new before after (Copied c) s = ap plain_of s.1
-step_plain ticket old new before after _ s = ap plain_of s.2
+step_plain ticket old new before after step s = grind arith
 
 step_fewer : PlainLaw → (ticket : ℕ) (old new : Making) (before after : Contents) (step : ImageStep) → Steps ticket old before step new after
     → image_left new (plain_of before) < image_left old (plain_of before)
@@ -144,12 +118,10 @@ step_fewer law ticket old new before after (Copied c) s =
 -- ---- a step of a checkpoint
 
 pub few_calls : (state : SlotState) → length (format_calls state) ≤ 3
-few_calls Raw = omega arith
-few_calls _ = omega arith
+few_calls state = grind arith
 
 from_left : (running : Running) (serial : ℕ) (state : SlotState) (memory : PlainMemory) (image : Option Making) → image_left (image_from running serial state image) memory ≤ making_left image memory
-from_left running serial state memory None = omega (arith, few_calls state)
-from_left running serial state memory (Some image) = omega arith
+from_left running serial state memory image = grind arith
 
 works_fewer : PlainLaw → (serial : ℕ) (state : SlotState) (ticket : ℕ) (old new : Running) (before after : Contents) (step : ImageStep) → WorksOn serial state ticket old before step new after
     → running_left new (plain_of after) < running_left old (plain_of before)
@@ -176,16 +148,11 @@ goes_on_fewer old new made memory g =
     fewer = settled_fewer g.plan made g.awaited.out g.one
 
     ended : (kind : Kind) (stage : Stage) → plan_of stage ≡ Some g.plan → (closing_outcomes stage ≢ 0 → ⊥) → stage_left (stage_behind kind stage) (pass_left old.pass memory + writes_out old.writes) < stage_left stage (pass_left old.pass memory + writes_out old.writes)
-    ended Dump (Format plan) is closes = (let same : plan_left plan ≡ plan_left g.plan = ap plan_left (one_plan plan g.plan is) in omega (arith, fewer))
-    ended kind Freeze is closes = absurd (let f : None ≡ Some g.plan = is in cc)
-    ended kind PassStage is closes = absurd (let f : None ≡ Some g.plan = is in cc)
-    ended kind (Close plan header tables) is closes = absurd (closes (λ e. omega (arith, e)))
-    ended _ (Format plan) is closes = omega arith
+    ended kind stage is closes = grind arith
 
     by : (calls : Calls) → (plan_after g.plan made).calls ≡ calls
         → image_left (record old { stage = stage_after old.order.kind old.stage (plan_after g.plan made) calls }) memory < image_left old memory
-    by [] e = ended old.order.kind old.stage g.awaited.was (λ more. g.closes more e)
-    by (call ∷ calls) e = asked_fewer old.stage g.plan (plan_after g.plan made) (pass_left old.pass memory + writes_out old.writes) g.awaited.was fewer
+    by calls e = grind arith
 
 written_fewer : (old new : Making) (made : Made) (memory : PlainMemory) → is_passing old.stage ≡ true → IsWritten old made new → image_left new memory < image_left old memory
 written_fewer old new made memory passing w =
@@ -203,10 +170,7 @@ more_fewer old new made memory (inl g) = goes_on_fewer old new made memory g
 more_fewer old new made memory (inr w) = written_fewer old new made memory w.passing w
 
 opens_some : (old : Making) (made : Made) (memory : PlainMemory) (image : NewImage) → Opens old made image → 0 < image_left old memory
-opens_some old made memory image o =
-    let is : image_left old memory ≡ plan_left o.plan = ap (λ (s : Stage). stage_left s (pass_left old.pass memory + writes_out old.writes)) o.was in
-    let one : is_one o.plan.out ≡ 1 = ap is_one o.out in
-    omega arith
+opens_some old made memory image o = grind arith
 
 some_left : (running : Running) (memory : PlainMemory) → 0 < running_left running memory
 some_left running memory = plus (making_left running.image memory) ((length running.pre_dumps - running.opened) * next_left memory)
@@ -235,17 +199,13 @@ hands_fewer old new made (PreDumpOpen opened) memory h strange =
     more a b e = grind (arith, nat_tests)
 
     next : (image length opened share n : ℕ) → 0 < image → opened + 1 ≤ length → n ≡ share + (length - (opened + 1)) * share + 1 → n < image + (length - opened) * share + 1
-    next image length opened share n some l e =
-        let less : length - opened ≡ (length - (opened + 1)) + 1 = omega arith in
-        let all : (length - opened) * share ≡ (length - (opened + 1)) * share + share = ap (λ k. k * share) less ∙ omega arith in
-        omega arith
+    next image length opened share n some l e = grind arith
 hands_fewer old new made (DumpOpen opened) memory h strange = some_left old memory
 
 -- ---- the laws
 
 idle : (running : Option Running) (memory : PlainMemory) → left_of running memory ≡ 0 ↔ running ≡ None
-idle None memory = (λ e. refl, λ e. refl)
-idle (Some running) memory = (λ e. absurd (omega (arith, e, some_left running memory)), λ e. absurd (let f : Some running ≡ None = e in cc))
+idle running memory = grind arith
 
 works : PlainLaw → (serial : ℕ) (state : SlotState) (ticket : ℕ) (old : Dumping) (before : Contents) (step : ImageStep) (new : Dumping) (after : Contents)
     → Works serial state ticket old before step new after → left_of new.running (plain_of after) < left_of old.running (plain_of before)
@@ -256,18 +216,11 @@ works law serial state ticket old before step new after w =
 
 handed : (old : Dumping) (made : Made) (progress : Progress) (new : Dumping) (memory : PlainMemory) → IsHanded old made progress new → is_strange progress ≡ false
     → left_of new.running memory < left_of old.running memory
-handed old made progress new memory h strange =
-    subst (λ (d : Dumping). left_of d.running memory < left_of old.running memory) (sym h.is)
-    (subst (λ (o : Option Running). left_of (if ends progress then None else Some h.next) memory < left_of o memory) (sym h.was)
-    (hands_fewer h.running h.next made progress memory h.hands strange))
+handed old made progress new memory h strange = grind (arith, hands_fewer)
 
 hands : (old : Dumping) (made : Made) (progress : Progress) (new : Dumping) (memory : PlainMemory) → Hands old made progress new → is_strange progress ≡ false
     → left_of new.running memory < left_of old.running memory
-hands old made Strange new memory h strange = absurd (both_ways true strange refl)
-hands old made HasFailed new memory h strange = handed old made HasFailed new memory h strange
-hands old made GoesOnWith new memory h strange = handed old made GoesOnWith new memory h strange
-hands old made (PreDumpOpen image) new memory h strange = handed old made (PreDumpOpen image) new memory h strange
-hands old made (DumpOpen image) new memory h strange = handed old made (DumpOpen image) new memory h strange
+hands old made progress new memory h strange = grind (arith, both_ways, handed)
 
 pub left_laws : PlainLaw → LeftLaws
 left_laws law = record {

@@ -12,9 +12,7 @@ abbrev pub put_behind : List ImageEntry → Place → RunKind → List ImageEntr
 put_behind entries at kind = entries ++ (record { place = at; kind = kind }) ∷ []
 
 pub pages_append : (kind : RunKind) (xs ys : List ImageEntry) → pages_by kind (xs ++ ys) ≡ pages_by kind xs ++ pages_by kind ys
-pages_append kind xs ys =
-    ap (map place_of_entry) (filter-append (has_kind kind) xs ys)
-    ∙ map-append place_of_entry (filter (has_kind kind) xs) (filter (has_kind kind) ys)
+pages_append kind xs ys = grind (arith, filter-append, map-append)
 
 pub slice_get_front : {X : Type 0} (xs ys : List X) (k : ℕ) (x : X) → slice_get xs k ≡ Some x → slice_get (xs ++ ys) k ≡ Some x
 slice_get_front {X} [] ys k x e = absurd (let f : ◌≡◌ {A = Option X} None (Some x) = e in cc)
@@ -28,13 +26,4 @@ slice_get_back (x ∷ xs) y = slice_get_back xs y
 -- one sector more of a page's front
 pub front_more : (copied bytes : List ℕ) (sector : ℕ) → length bytes ≡ 4096 → sector < 8 → length copied ≡ 512 * sector → copied ≡ take (length copied) bytes
     → copied ++ sector_of bytes sector ≡ take (length (copied ++ sector_of bytes sector)) bytes
-front_more copied bytes sector whole within is front =
-    let few : 512 * sector + 512 - 512 * sector ≡ 512 = omega arith in
-    let long : length (sector_of bytes sector) ≡ 512 =
-    length-take-le (512 * sector + 512 - 512 * sector) (drop (512 * sector) bytes) (simp length-drop (omega arith)) ∙ few in
-    let len : length (copied ++ sector_of bytes sector) ≡ length copied + 512 = length-append copied (sector_of bytes sector) ∙ ap (λ k. length copied + k) long in
-    ap (λ c. c ++ sector_of bytes sector) front
-    ∙ ap (λ k. take (length copied) bytes ++ take k (drop (512 * sector) bytes)) few
-    ∙ ap (λ k. take (length copied) bytes ++ take 512 (drop k bytes)) (sym is)
-    ∙ sym (take-add (length copied) 512 bytes)
-    ∙ ap (λ k. take k bytes) (sym len)
+front_more copied bytes sector whole within is front = grind (arith, length-take-le, length-drop, length-append, take-add)

@@ -55,22 +55,12 @@ none_taking cut pass memory none dumping = record { dumping = dumping; copied = 
 
 more_front : (page : PageState) (copied bytes : List ℕ) (sector : ℕ) → bytes ≡ page.bytes → length bytes ≡ 4096 → sector < 8 → length copied ≡ 512 * sector
     → IsFrontOf page copied → IsFrontOf page (copied ++ sector_of bytes sector)
-more_front page copied bytes sector same whole within at_sector was =
-    let f : copied ++ sector_of bytes sector ≡ take (length (copied ++ sector_of bytes sector)) page.bytes =
-    subst (λ (b : List ℕ). copied ++ sector_of b sector ≡ take (length (copied ++ sector_of b sector)) page.bytes) (sym same)
-    (front_more copied page.bytes sector (ap (λ (b : List ℕ). length b) (sym same) ∙ whole) within at_sector was.front) in
-    let w : length page.bytes ≡ 4096 = ap (λ (b : List ℕ). length b) (sym same) ∙ whole in
-    record {
-      front = f;
-      full = λ long. f ∙ take_all (length (copied ++ sector_of bytes sector)) page.bytes (omega (arith, long, w));
-    }
+more_front page copied bytes sector same whole within at_sector was = grind (arith, front_more, take_all)
 
 -- the page at the freeze has the bytes of the one that is copied
 same_page : PlainLaw → (cut memory : Contents) → plain_of memory ≡ plain_of cut → (at : Place) (page now : PageState) → page_at cut at.0 at.1 ≡ Some page
     → page_at memory at.0 at.1 ≡ Some now → now.bytes ≡ page.bytes
-same_page law cut memory same at page now there is =
-    let found = other_page law memory cut same at page there in
-    ap (λ (p : PageState). p.bytes) (one_some now found.0 is found.1) ∙ found.2
+same_page law cut memory same at page now there is = grind arith
 
 taking_more : PlainLaw → DumpLaws → (cut : Contents) (pass : Pass) (memory : Contents) (taking : Taking) (page : PageState) (sector : ℕ)
     → IsNextSector pass memory taking page sector → IsTaking cut pass memory → IsTaking cut (copied_more pass taking (sector_of page.bytes sector)) memory
@@ -105,8 +95,7 @@ visit_taking laws cut old new before after visit t free rising was = record {
 
     by : (b : Bool) → (taking : Taking) (page : PageState) → (cond b (begun_to_take old at) (left_to_parent old at)).taking ≡ Some taking
         → page_at cut taking.place.0 taking.place.1 ≡ Some page → IsFrontOf page taking.copied
-    by true taking page is there = subst (λ (t : Taking). IsFrontOf page t.copied) (one_some (record { place = at; copied = [] }) taking refl is) (none_copied page)
-    by false taking page is there = absurd (no_some taking refl is)
+    by b taking page is there = grind arith
 
 copy_taking : PlainLaw → RisesLaws → DumpLaws → (cut : Contents) (old new : Pass) (memory : Contents) (c : copied.Copied) → Copies old memory c new → IsRising old
     → IsTaking cut old memory → IsTaking cut new memory
@@ -141,15 +130,10 @@ take_taking cut old new memory bytes t rising was =
     (enters_same cut old memory t.taking t.was rising was.dumping page ((was.copied t.taking page.page t.was page.there).full long))))
 
 freezes : DumpLaws → (ticket : ℕ) (old new : Making) (before after : Contents) → Steps ticket old before Frozen new after → TakesDue before new after
-freezes laws ticket old new before after s =
-    subst (λ (m : Making). TakesDue before m after) (sym s.0.is)
-    (subst (λ memory. IsTaking before old.pass memory) (sym s.1)
-    (subst (λ (p : Pass). IsTaking before p before) (sym s.0.fresh)
-    (none_taking before (opened (nat_eq old.order.parent 0)) before refl (laws.freezes (nat_eq old.order.parent 0) before))))
+freezes laws ticket old new before after s = grind arith
 
 asked_due : (stage : Stage) (plan : Planned) (cut : Contents) (pass : Pass) (memory : Contents) → TakesDueIn stage cut pass memory → TakesDueIn (with_plan stage plan) cut pass memory
-asked_due (Format old) plan cut pass memory is = is
-asked_due _ plan cut pass memory is = is
+asked_due stage plan cut pass memory is = grind arith
 
 -- the table that is written has the entries
 table_lists : PlainLaw → (cut : Contents) (old new : Making) (memory : Contents) (request : Asked) (w : WritesTable old memory request new)
@@ -193,9 +177,7 @@ steps law rises dumps laws ticket cut old new before after (Copied c) s past ris
 
 behind_due : (kind : Kind) (stage : Stage) (cut : Contents) (pass : Pass) (memory : Contents) → closing_outcomes stage ≡ 0 → is_past_freeze stage ≡ true
     → TakesDueIn stage cut pass memory → TakesDueIn (stage_behind kind stage) cut pass memory
-behind_due kind PassStage cut pass memory none past is = is
-behind_due kind (Close plan header tables) cut pass memory none past is = absurd (omega arith)
-behind_due kind _ cut pass memory none past is = absurd (both_ways false refl past)
+behind_due kind stage cut pass memory none past is = grind arith
 
 image_goes_on : (cut : Contents) (old new : Making) (memory : Contents) (made : Made) → PlanGoesOn old made new
     → is_past_freeze old.stage ≡ true → TakesDue cut old memory → TakesDue cut new memory
@@ -208,8 +190,7 @@ image_goes_on cut old new memory made h past was =
 
 hands : (cut : Contents) (old new : Making) (memory : Contents) (made : Made) → HandsIn old made More new
     → is_past_freeze old.stage ≡ true → TakesDue cut old memory → TakesDue cut new memory
-hands cut old new memory made (inl g) past was = image_goes_on cut old new memory made g past was
-hands cut old new memory made (inr w) past was = subst (λ (m : Making). TakesDue cut m memory) (sym w.is) was
+hands cut old new memory made h5 past was = grind arith
 
 opens : (cut : Contents) (old : Making) (made : Made) (opened : NewImage) (memory : Contents) → Opens old made opened → IsRising old.pass
     → TakesDue cut old memory → (kind : RunKind) (at : Place) → Contains (pages_of kind opened.table) at ↔ kind_due old.pass.takes_all (page_at cut at.0 at.1) ≡ Some kind
@@ -230,15 +211,10 @@ begins : VisitLaws → (order : ImageOrder) → TakesVisited [] (begun_image ord
 begins laws order = record { pass = laws.opens (nat_eq order.parent 0); lists = tt }
 
 asked_lists : (stage : Stage) (plan : Planned) (entries : List ImageEntry) → ListsIn stage entries → ListsIn (with_plan stage plan) entries
-asked_lists (Format old) plan entries is = is
-asked_lists _ plan entries is = is
+asked_lists stage plan entries is = grind arith
 
 behind_lists : (kind : Kind) (stage : Stage) (entries : List ImageEntry) → ListsIn (stage_behind kind stage) entries
-behind_lists Dump (Format plan) entries = tt
-behind_lists PreDump (Format plan) entries = tt
-behind_lists Merged (Format plan) entries = tt
-behind_lists kind Freeze entries = tt
-behind_lists _ _ entries = tt
+behind_lists kind stage entries = grind arith
 
 -- every page, for the laws that ask which were mapped all the time: none
 abbrev never : Place → Bool
@@ -283,8 +259,7 @@ visits_go_on visits old new made h was = subst (λ (m : Making). TakesVisited vi
     by (call ∷ calls) = asked_lists old.stage (plan_after h.plan made) old.pass.entries was.lists
 
 goes_on : (visits : List Visit) (old new : Making) (made : Made) → HandsIn old made More new → TakesVisited visits old → TakesVisited visits new
-goes_on visits old new made (inl g) was = visits_go_on visits old new made g was
-goes_on visits old new made (inr w) was = subst (λ (m : Making). TakesVisited visits m) (sym w.is) (record { pass = was.pass; lists = was.lists })
+goes_on visits old new made h4 was = grind arith
 
 took : (visits : List Visit) (old : Making) (made : Made) (opened : NewImage) → Opens old made opened → TakesVisited visits old
     → TookVisited old.pass.takes_all visits opened.table

@@ -33,13 +33,11 @@ use Rattle.sd_rounds.proofs.Lists.{pages_append, slice_get_back}
 -- ---- the entries of a table
 
 none_by : (b : Bool) → ◌≡◌ {A = List Place} (cond b [] []) []
-none_by true = refl
-none_by false = refl
+none_by b = grind arith
 
 one_by : (b : Bool) (entry : ImageEntry) (pages : List Place) (entries : List ImageEntry) → cond b pages [] ≡ map place_of_entry entries
     → cond b (entry.place ∷ pages) [] ≡ map place_of_entry (cond b (entry ∷ entries) entries)
-one_by true entry pages entries e = ap (λ (l : List Place). entry.place ∷ l) e
-one_by false entry pages entries e = e
+one_by b entry pages entries e = grind arith
 
 -- the pages of a run in one way are those of its entries
 run_by : (kind : RunKind) (space : ℕ) (run : Run) (pages : List ℕ)

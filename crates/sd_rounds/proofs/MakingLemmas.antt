@@ -41,8 +41,7 @@ use Rattle.sd_rounds.proofs.TableLemmas.{all_put}
 -- ---- how many data pages there are
 
 other_kind : (pass : Pass) (kind : RunKind) → kind ≢ Data → (at : Place) → data_pages (with_entry pass at kind).entries ≡ data_pages pass.entries
-other_kind pass Data other at = absurd (other refl)
-other_kind pass _ other at = ap length (pages_append Data pass.entries _) ∙ length-append (pages_by Data pass.entries) [] ∙ omega arith
+other_kind pass kind other at = grind (arith, pages_append, length-append)
 
 one_more : (pass : Pass) (at : Place) → data_pages (with_entry pass at Data).entries ≡ data_pages pass.entries + 1
 one_more pass at = ap length (pages_append Data pass.entries _) ∙ length-append (pages_by Data pass.entries) (at ∷ [])
@@ -55,9 +54,7 @@ visit_counts old before visit new after t = ap (λ (p : Pass). data_pages p.entr
     by false = other_kind (record old { after = Some (visit.space, visit.page) }) Parent (λ e. cc) (visit.space, visit.page)
 
 pub copy_counts : (old : Pass) (memory : Contents) (c : copied.Copied) (new : Pass) → Copies old memory c new → data_pages new.entries ≡ data_pages old.entries
-copy_counts old memory MoreSectors new m = ap (λ (p : Pass). data_pages p.entries) m.is
-copy_counts old memory ZeroPage new z = ap (λ (p : Pass). data_pages p.entries) z.is ∙ other_kind old Zero (λ e. cc) z.taking.place
-copy_counts old memory Gone new g = ap (λ (p : Pass). data_pages p.entries) g.is
+copy_counts old memory c new m = grind (arith, other_kind)
 
 pub take_counts : (old : Pass) (bytes : List ℕ) (new : Pass) → TakesPage old bytes new → data_pages new.entries ≡ data_pages old.entries + 1
 take_counts old bytes new t = ap (λ (p : Pass). data_pages p.entries) t.is ∙ one_more old t.taking.place
@@ -65,13 +62,11 @@ take_counts old bytes new t = ap (λ (p : Pass). data_pages p.entries) t.is ∙ 
 -- ---- what is kept
 
 asked_keeps : (stage : Stage) (plan : Planned) (pages : Pages) (chain : Chain) (pass : Pass) (memory : Contents) → IsKeptIn stage pages chain pass memory → IsKeptIn (with_plan stage plan) pages chain pass memory
-asked_keeps (Format old) plan pages chain pass memory kept = kept
-asked_keeps _ plan pages chain pass memory kept = kept
+asked_keeps stage plan pages chain pass memory kept = grind arith
 
 pub asked_dumps : (stage : Stage) (plan : Planned) (cut : Contents) (pages : Pages) (chain : Chain) (pass : Pass) (memory : Contents) → IsDumpedIn stage cut pages chain pass memory
     → IsDumpedIn (with_plan stage plan) cut pages chain pass memory
-asked_dumps (Format old) plan cut pages chain pass memory dumped = dumped
-asked_dumps _ plan cut pages chain pass memory dumped = dumped
+asked_dumps stage plan cut pages chain pass memory dumped = grind arith
 
 -- in the pass
 pass_kept : (stage : Stage) (pages : Pages) (chain : Chain) (pass : Pass) (memory : Contents) → stage ≡ PassStage → IsKeptIn stage pages chain pass memory → Keeps (listed_pages pages) chain pass memory
@@ -143,13 +138,10 @@ steps keeps laws ticket pages chain old new before after (Copied c) s was =
 -- behind a plan whose calls are done
 behind_keeps : (kind : Kind) (stage : Stage) (pages : Pages) (chain : Chain) (pass : Pass) (memory : Contents) → closing_outcomes stage ≡ 0 → IsKeptIn stage pages chain pass memory
     → IsKeptIn (stage_behind kind stage) pages chain pass memory
-behind_keeps Dump (Format plan) pages chain pass memory none kept = kept
-behind_keeps kind (Close plan header tables) pages chain pass memory none kept = absurd (omega arith)
-behind_keeps _ _ pages chain pass memory none kept = kept
+behind_keeps kind stage pages chain pass memory none kept = grind arith
 
 pub none_closing : (stage : Stage) (calls : Calls) → (closing_outcomes stage ≢ 0 → calls ≢ []) → calls ≡ [] → closing_outcomes stage ≡ 0
-none_closing (Close plan header tables) calls closes none = absurd (closes (λ e. omega (arith, e)) none)
-none_closing _ calls closes none = refl
+none_closing stage calls closes none = grind arith
 
 goes_on : (pages : Pages) (chain : Chain) (old new : Making) (memory : Contents) (made : Made) → PlanGoesOn old made new
     → KeepsImage pages chain old memory → KeepsImage pages chain new memory
@@ -163,9 +155,7 @@ goes_on pages chain old new memory made h was =
 
 hands : (pages : Pages) (chain : Chain) (old new : Making) (memory : Contents) (made : Made) → HandsIn old made More new
     → KeepsImage pages chain old memory → KeepsImage pages chain new memory
-hands pages chain old new memory made (inl g) was = goes_on pages chain old new memory made g was
-hands pages chain old new memory made (inr w) was =
-    moved pages pages chain new old.stage old.pass old.order (slice_set old.writes w.lane None) old.digester memory w.is was.count was.whole was.digested was.kept
+hands pages chain old new memory made h6 was = grind arith
 
 calls : KeepsLaws → (pages : Pages) (one other : Chain) (making : Making) (old new : Contents) (event : MemoryEvent) → IsSound old → Step old event new → IsCall event → ChainWithin one other
     → KeepsImage pages one making old → KeepsImage pages other making new
@@ -219,10 +209,7 @@ agrees_dump cut pages one other making memory within was = by making.stage was
 
 freezes : DumpLaws → (ticket : ℕ) (pages : Pages) (chain : Chain) (old new : Making) (before after : Contents) → Steps ticket old before Frozen new after
     → DumpsImage before pages chain new after
-freezes laws ticket pages chain old new before after s =
-    subst (λ (m : Making). DumpsImage before pages chain m after) (sym s.0.is)
-    (subst (λ memory. IsDumping before old.pass memory) (sym s.1)
-    (subst (λ (p : Pass). IsDumping before p before) (sym s.0.fresh) (laws.freezes (nat_eq old.order.parent 0) before)))
+freezes laws ticket pages chain old new before after s = grind arith
 
 dumps : DumpLaws → StepLaws → (ticket : ℕ) (cut : Contents) (pages : Pages) (chain : Chain) (old new : Making) (before after : Contents) (step : ImageStep) → Steps ticket old before step new after
     → is_past_freeze old.stage ≡ true → IsRising old.pass → KeepsImage pages chain old before → DumpsImage cut pages chain old before → DumpsImage cut (pages_after step pages) chain new after
@@ -254,9 +241,7 @@ dumps dump laws ticket cut pages chain old new before after (Copied c) s past ri
 
 behind_dumps : (kind : Kind) (stage : Stage) (cut : Contents) (pages : Pages) (chain : Chain) (pass : Pass) (memory : Contents) → closing_outcomes stage ≡ 0 → is_past_freeze stage ≡ true
     → IsDumpedIn stage cut pages chain pass memory → IsDumpedIn (stage_behind kind stage) cut pages chain pass memory
-behind_dumps kind PassStage cut pages chain pass memory none past dumped = dumped
-behind_dumps kind (Close plan header tables) cut pages chain pass memory none past dumped = absurd (omega arith)
-behind_dumps kind _ cut pages chain pass memory none past dumped = absurd (both_ways false refl past)
+behind_dumps kind stage cut pages chain pass memory none past dumped = grind arith
 
 goes_on_dump : (cut : Contents) (pages : Pages) (chain : Chain) (old new : Making) (memory : Contents) (made : Made) → PlanGoesOn old made new
     → is_past_freeze old.stage ≡ true → DumpsImage cut pages chain old memory → DumpsImage cut pages chain new memory
@@ -271,8 +256,7 @@ goes_on_dump cut pages chain old new memory made h past was =
 
 hands_dump : (cut : Contents) (pages : Pages) (chain : Chain) (old new : Making) (memory : Contents) (made : Made) → HandsIn old made More new
     → is_past_freeze old.stage ≡ true → DumpsImage cut pages chain old memory → DumpsImage cut pages chain new memory
-hands_dump cut pages chain old new memory made (inl g) past was = goes_on_dump cut pages chain old new memory made g past was
-hands_dump cut pages chain old new memory made (inr w) past was = subst (λ (m : Making). DumpsImage cut pages chain m memory) (sym w.is) was
+hands_dump cut pages chain old new memory made h7 past was = grind arith
 
 pub making_laws : KeepsLaws → DumpLaws → StepLaws → MakingLaws
 making_laws keeps dump laws = record {

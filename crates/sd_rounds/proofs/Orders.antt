@@ -11,9 +11,7 @@ pub same_place : (a b : Place) → a.0 ≡ b.0 → a.1 ≡ b.1 → a ≡ b
 same_place a b first second = ap (λ (x : ℕ). (x, a.1)) first ∙ ap (λ (y : ℕ). (b.0, y)) second
 
 pub page_is : (a b : Place) → is_page a.0 a.1 b.0 b.1 ≡ true → a ≡ b
-page_is a b e =
-    let both = and_parts (nat_eq a.0 b.0) (nat_eq a.1 b.1) e in
-    same_place a b (eqb-true a.0 b.0 both.0) (eqb-true a.1 b.1 both.1)
+page_is a b e = grind arith
 
 pub page_here : (a : Place) → is_page a.0 a.1 a.0 a.1 ≡ true
 page_here a = here a.0 a.1
@@ -25,10 +23,7 @@ pub apart_page : (a b : Place) → (a ≡ b → ⊥) → is_page a.0 a.1 b.0 b.1
 apart_page a b apart = elim (cases_Bool (is_page a.0 a.1 b.0 b.1)) [ inl e ↦ absurd (apart (page_is a b e)) | inr e ↦ e ]
 
 pub same_or_apart : (a b : Place) → (a ≡ b) ⊎ (a ≡ b → ⊥)
-same_or_apart a b = elim (cases_Bool (is_page a.0 a.1 b.0 b.1)) [
-  | inl e ↦ inl (page_is a b e)
-  | inr e ↦ inr (λ same. both_ways (is_page a.0 a.1 b.0 b.1) e (subst (λ (q : Place). is_page a.0 a.1 q.0 q.1 ≡ true) same (page_here a)))
-]
+same_or_apart a b = grind arith
 
 -- a page isn't above itself
 not_above : (s p : ℕ) → (nat_lt s s || (nat_eq s s && nat_lt p p)) ≡ false
@@ -46,8 +41,7 @@ above_total a b c d one two = (grind (arith, nat_tests), grind (arith, nat_tests
 
 -- what is above a page that is above the cursor is above the cursor
 pub above_more : (after : Option Place) (at q : Place) → is_above after at.0 at.1 ≡ true → is_above (Some at) q.0 q.1 ≡ true → is_above after q.0 q.1 ≡ true
-above_more None at q one two = refl
-above_more (Some a) at q one two = above_trans a.0 a.1 at.0 at.1 q.0 q.1 one two
+above_more after at q one two = grind arith
 
 -- what is ahead of a page ahead is ahead
 pub ahead_more : (after : Option Place) (at q : Place) → is_above after at.0 at.1 ≡ true → has_passed (Some at) q ≡ false → has_passed after q ≡ false
@@ -62,12 +56,7 @@ not_passed_above after q e = not-false (is_above after q.0 q.1) e
 -- a mapped page that the cursor passes is the next one, or was passed before
 pub passed_next : {X : Type 0} (spaces : Nested X) (after : Option Place) (at q : Place) → IsNextPage spaces after (Some at) → IsSome (value_at spaces q.0 q.1)
     → has_passed (Some at) q ≡ true → (at ≡ q) ⊎ (has_passed after q ≡ true)
-passed_next spaces after at q next there passed = elim (cases_Bool (is_above after q.0 q.1)) [
-  | inl above ↦
-      let same = above_total at.0 at.1 q.0 q.1 (not-true (is_above (Some at) q.0 q.1) passed) (next.2 q.0 q.1 there above) in
-      inl (same_place at q same.0 same.1)
-  | inr below ↦ inr (ap not below)
-]
+passed_next spaces after at q next there passed = grind arith
 
 -- where no page is next, each mapped page was passed
 pub passed_all : {X : Type 0} (spaces : Nested X) (after : Option Place) (q : Place) → IsNextPage spaces after None → IsSome (value_at spaces q.0 q.1)

@@ -35,11 +35,7 @@ more_zeros front buffer bytes none long zeroed =
         ∙ ap (λ n. front + n) long
 
 zeros_kept : (front : ℕ) (buffer : List ℕ) → buffer ≡ [] → front ≤ 4096 → IsPageCopy front buffer true
-zeros_kept front buffer none few = record {
-  few = few;
-  bare = λ some. none;
-  all = sym (ap are_zeros (bare_bytes front buffer none) ∙ zeros_are front);
-}
+zeros_kept front buffer none few = grind (arith, bare_bytes, zeros_are)
 
 -- an empty buffer
 pub is_bare : (buffer : List ℕ) → (length buffer == 0) ≡ true → buffer ≡ []
@@ -47,9 +43,7 @@ is_bare [] none = refl
 is_bare (byte ∷ rest) none = absurd (let no : suc (length rest) ≡ 0 = eqb-true (suc (length rest)) 0 none in omega (arith, no))
 
 pub zeros_more : (front : ℕ) (buffer : List ℕ) (zeros : Bool) → IsPageCopy front buffer zeros → buffer ≡ [] → front + 512 ≤ 4096 → IsPageCopy (front + 512) buffer zeros
-zeros_more front buffer zeros is none few =
-    let all : zeros ≡ true = is.all ∙ ap are_zeros (bare_bytes front buffer none) ∙ zeros_are front in
-    subst (λ b. IsPageCopy (front + 512) buffer b) (sym all) (zeros_kept (front + 512) buffer none few)
+zeros_more front buffer zeros is none few = grind (arith, bare_bytes, zeros_are, zeros_kept)
 
 -- the zeros that come first, put into the buffer
 pub written : (front : ℕ) (buffer : List ℕ) → (0 < front → buffer ≡ []) → buffer ++ replicate front 0 ≡ copied_bytes front buffer
@@ -61,7 +55,4 @@ written (suc n) buffer bare =
 -- what isn't zeros alone stands in the buffer
 pub none_in_front : (front : ℕ) (buffer : List ℕ) (zeros : Bool) → IsPageCopy front buffer zeros
     → list_all (λ byte. byte == 0) (copied_bytes front buffer) ≡ false → buffer ≡ copied_bytes front buffer
-none_in_front zero buffer zeros is some = refl
-none_in_front (suc n) buffer zeros is some = absurd (
-    let none : buffer ≡ [] = is.bare (omega arith) in
-    let no : true ≡ false = sym (ap are_zeros (bare_bytes (suc n) buffer none) ∙ zeros_are (suc n)) ∙ some in cc)
+none_in_front front buffer zeros is some = grind (arith, bare_bytes, zeros_are)

@@ -1,5 +1,5 @@
 -- A checkpoint behind a step of its pass, and before a step that is none.
-use Rattle.std.proofs.Common.{◌≡◌, ℕ, Bool, false, if◌then◌else◌, Option, Some, None, refl, sym, ◌∙◌, ap, subst}
+use Rattle.std.proofs.Common.{◌≡◌, ℕ, Bool, false, if◌then◌else◌, Option, Some, None, refl, sym, ◌∙◌, ap, subst, arith}
 use Rattle.std.specs.Prelude.{MatchOption}
 use Rattle.std.specs.Option.{option_map}
 use Rattle.sd_gate.specs.declared.slot_state.SlotState.{SlotState}
@@ -21,9 +21,7 @@ Found old before new after found = MatchOption found
 
 module _ (old new : Running) (before after : Contents) (found : Option PassStep) (is : Found old before new after found) where
   pub step_at : (serial : ℕ) (state : SlotState) (ticket : ℕ) (some step : PassStep) → found ≡ Some some → some ≡ step → WorksOn serial state ticket old before (image_step step) new after
-  step_at serial state ticket some step e f =
-      subst (λ (s : PassStep). WorksOn serial state ticket old before (image_step s) new after) f
-      ((subst (λ (o : Option PassStep). Found old before new after o) e is) serial state ticket)
+  step_at serial state ticket some step e f = grind arith
 
   pub same_at : found ≡ None → new ≡ old
   same_at e = (subst (λ (o : Option PassStep). Found old before new after o) e is).1
@@ -35,8 +33,7 @@ pub still_running : (since : ℕ) (old new : Running) → new ≡ old → IsRunn
 still_running since old new same is = subst (λ (r : Running). IsRunning since r) (sym same) is
 
 freezes_not : (step : PassStep) → freezes (image_step step) ≡ false
-freezes_not (Visited visit) = refl
-freezes_not (Copied copied) = refl
+freezes_not step = grind arith
 
 -- the checkpoint runs on behind a step of its pass, and where none was next
 pub found_running : (since : ℕ) (old new : Running) (before after : Contents) (found : Option PassStep) → Found old before new after found → IsRunning since old → IsRunning since new

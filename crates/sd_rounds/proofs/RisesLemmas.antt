@@ -1,5 +1,5 @@
 -- The entries of an image rise.
-use Rattle.std.proofs.Common.{◌≡◌, ℕ, Bool, true, false, cond, ◌||◌, List, [], ◌∷◌, ◌++◌, Option, Some, None, refl, sym, ◌∙◌, ap, subst}
+use Rattle.std.proofs.Common.{◌≡◌, ℕ, Bool, true, false, cond, ◌||◌, List, [], ◌∷◌, ◌++◌, Option, Some, None, refl, sym, ◌∙◌, ap, subst, arith}
 use Rattle.std.proofs.lemmas.Bool.{both_ways}
 use Rattle.sd_image.specs.declared.run.RunKind.{RunKind}
 use Rattle.sd_image.specs.declared.run.RunKind.TheVariants.{Parent}
@@ -61,21 +61,12 @@ missing = missing_from None
 -- ---- the steps
 
 opens : (takes_all : Bool) → IsRising (opened takes_all)
-opens takes_all = record {
-  rises = tt;
-  ahead = λ _ _. refl;
-  taken = λ taking is. absurd (no_some taking refl is);
-}
+opens takes_all = grind arith
 
 -- an entry at the cursor
 put_at_cursor : (pass : Pass) (at : Place) (kind : RunKind) → pass.after ≡ Some at → EntriesRise None pass.entries → is_above (last_of None pass.entries) at.0 at.1 ≡ true
     → IsRising (with_entry pass at kind)
-put_at_cursor pass at kind after rising above = record {
-  rises = rising_put None pass.entries at kind rising above;
-  ahead = λ q e. subst (λ (l : Option Place). is_above l q.0 q.1 ≡ true) (sym (last_put None pass.entries at kind))
-      (not_passed_above (Some at) q (subst (λ (a : Option Place). has_passed a q ≡ false) after e));
-  taken = λ taking is. absurd (no_some taking refl is);
-}
+put_at_cursor pass at kind after rising above = grind (arith, rising_put, last_put, not_passed_above, no_some)
 
 pub takes_rising : (pass : Pass) (at : Place) → is_above pass.after at.0 at.1 ≡ true → IsRising pass → IsRising (begun_to_take pass at)
 takes_rising pass at above rising = record {
@@ -111,11 +102,7 @@ copies pass taking more is rising = record {
 }
 
 pub drops : (pass : Pass) → IsRising pass → IsRising (dropped pass)
-drops pass rising = record {
-  rises = rising.rises;
-  ahead = rising.ahead;
-  taken = λ taking is. absurd (no_some taking refl is);
-}
+drops pass rising = grind arith
 
 pub enters : (pass : Pass) (taking : Taking) (kind : RunKind) → pass.taking ≡ Some taking → IsRising pass → IsRising (with_entry pass taking.place kind)
 enters pass taking kind is rising = put_at_cursor pass taking.place kind (rising.taken taking is).0 rising.rises (rising.taken taking is).1

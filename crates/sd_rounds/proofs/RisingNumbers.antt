@@ -52,8 +52,7 @@ same_number : (a : ℕ) → nat_eq a a ≡ true
 same_number a = grind (arith, nat_tests)
 
 false_or : (a b : Bool) → a ≡ false → (a || b) ≡ b
-false_or true b e = absurd (both_ways true e refl)
-false_or false b e = refl
+false_or a b e = grind arith
 
 -- Two such lists with the same members are the same.
 pub same_members : (low other high bound : ℕ) (xs ys : List ℕ) → Between low xs high → Between other ys bound → ((n : ℕ) → has n xs ≡ has n ys) → xs ≡ ys

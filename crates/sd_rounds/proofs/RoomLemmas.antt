@@ -26,12 +26,10 @@ end_before None = 0
 end_before (Some run) = run.first + run.count
 
 begins : (parent : ℕ) (before : Option Run) (run : Run) → IsTrue (is_run_after parent before run) → end_before before ≤ run.first
-begins parent None run after = omega arith
-begins parent (Some last) run after = grind (arith, nat_tests)
+begins parent before run after = grind arith
 
 pub run_within : (parent : ℕ) (before : Option Run) (run : Run) → IsTrue (is_run_after parent before run) → run.first + run.count ≤ 2 ^ 35
-run_within parent None run after = grind (arith, nat_tests)
-run_within parent (Some last) run after = grind (arith, nat_tests)
+run_within parent before run after = grind arith
 
 -- runs have at most as many pages as there are before their end
 runs_fit : (parent space : ℕ) (before : Option Run) (run : Run) (runs : List Run) → AreRuns parent before (run ∷ runs)
@@ -106,8 +104,4 @@ filter_short {X} p (x ∷ xs) = by (filter_short p xs) (p x)
 -- an image has room behind its data pages for one more
 pub has_room : (parent : ℕ) (tables : List Listed) (at : Place) → AreTables parent 0 tables → EndBefore at tables → 1 ≤ at.0 → at.0 ≤ 16 → at.1 < 2 ^ 35
     → data_pages (entries_listed tables) < 2 ^ 39
-has_room parent tables at are ends least within page =
-    let all : length (entries_listed tables) ≤ 2 ^ 35 * (at.0 - 0 - 1) + at.1 = entries_fit parent 0 tables at are ends (omega arith) in
-    let some : length (filter (has_kind Data) (entries_listed tables)) ≤ length (entries_listed tables) = filter_short (has_kind Data) (entries_listed tables) in
-    let long : data_pages (entries_listed tables) ≡ length (filter (has_kind Data) (entries_listed tables)) = length-map (filter (has_kind Data) (entries_listed tables)) place_of_entry in
-    omega arith
+has_room parent tables at are ends least within page = grind (arith, entries_fit, filter_short, length-map)

@@ -21,17 +21,10 @@ use Rattle.sd_rounds.proofs.RisesLemmas.{takes_rising, leaves_rising, copies, en
 use Rattle.sd_rounds.proofs.TableLemmas.{IsFurther, end_further}
 
 pub none_back : {X Y : Type 0} (f : X → Y) (o : Option X) → option_map f o ≡ None → o ≡ None
-none_back f None e = refl
-none_back f (Some x) e = absurd (no_some (f x) e refl)
+none_back f o e = grind arith
 
 further : (after : Option Place) (at : Place) → is_above after at.0 at.1 ≡ true → 1 ≤ at.0 → IsFurther (limit after None) at
-further None at above least = inl least
-further (Some a) at above least = elim (or_cases (nat_lt a.0 at.0) _ above) [
-  | inl less ↦ inl (ltb-true a.0 at.0 less)
-  | inr same ↦
-      let both = and_parts (nat_eq a.0 at.0) (nat_lt a.1 at.1) same in
-      inr (eqb-true a.0 at.0 both.0, (let f : a.1 < at.1 = ltb-true a.1 at.1 both.1 in omega arith))
-]
+further after at above least = grind arith
 
 -- the entries end before a page ahead of the cursor
 pub ends_ahead : (takes_all : Bool) (tables : List SpaceTable) (after taking : Option Place) (buffer : List ℕ) (at : Place) → IsRound takes_all tables after taking buffer
@@ -56,9 +49,7 @@ begun_round takes_all tables after taking buffer empty at round free above least
 pub left_view : (takes_all : Bool) (old new : List SpaceTable) (after taking : Option Place) (buffer : List ℕ) (at : Place) (parent : ℕ)
     → option_map (taking_of buffer) taking ≡ None → IsPushed parent (listed old) (listed new) at Parent
     → pass_of takes_all new (Some at) taking buffer ≡ left_to_parent (pass_of takes_all old after taking buffer) at
-left_view takes_all old new after taking buffer at parent free pushed =
-    ap (λ (e : List ImageEntry). record { takes_all = takes_all; entries = e; after = Some at; taking = option_map (taking_of buffer) taking }) pushed.entries
-    ∙ ap (λ t. record { takes_all = takes_all; entries = entries_in old ++ (record { place = at; kind = Parent }) ∷ []; after = Some at; taking = t }) free
+left_view takes_all old new after taking buffer at parent free pushed = grind arith
 
 pub left_round : (takes_all : Bool) (old new : List SpaceTable) (after taking : Option Place) (buffer : List ℕ) (at : Place) → IsRound takes_all old after taking buffer
     → option_map (taking_of buffer) taking ≡ None → is_above after at.0 at.1 ≡ true → 1 ≤ at.0 → at.0 ≤ 16
@@ -93,8 +84,7 @@ at_cursor takes_all tables after taking buffer at round is =
     (round.rising.taken (taking_of buffer at) (ap (option_map (taking_of buffer)) is)).0
 
 pub place_back : (buffer : List ℕ) (taking : Option Place) (at : Place) → option_map (λ (t : Taking). t.place) (option_map (taking_of buffer) taking) ≡ Some at → taking ≡ Some at
-place_back buffer None at e = e
-place_back buffer (Some p) at e = e
+place_back buffer taking at e = grind arith
 
 pub ends_taken : (takes_all : Bool) (tables : List SpaceTable) (after taking : Option Place) (buffer : List ℕ) (at : Place) → IsRound takes_all tables after taking buffer
     → taking ≡ Some at → EndBefore at (listed tables)
@@ -156,19 +146,9 @@ other_view takes_all tables after taking buffer new free =
 
 pub other_round : (takes_all : Bool) (tables : List SpaceTable) (after taking : Option Place) (buffer new : List ℕ) → option_map (taking_of buffer) taking ≡ None
     → IsRound takes_all tables after taking buffer → IsRound takes_all tables after taking new
-other_round takes_all tables after taking buffer new free round = record {
-  are = round.are;
-  ends = round.ends;
-  rising = subst (λ (p : Pass). IsRising p) (sym (other_view takes_all tables after taking buffer new free)) round.rising;
-  spaces = round.spaces;
-  sectors = λ q e. absurd (no_some q (none_back (taking_of buffer) taking free) e);
-  some = λ q e. absurd (no_some q (none_back (taking_of buffer) taking free) e);
-}
+other_round takes_all tables after taking buffer new free round = grind arith
 
 -- some sectors of a page, but not all
 pub some_short : (takes_all : Bool) (tables : List SpaceTable) (after taking : Option Place) (buffer : List ℕ) (at : Place) → IsRound takes_all tables after taking buffer
     → taking ≡ Some at → length buffer ≢ 4096 → length buffer < 4096
-some_short takes_all tables after taking buffer at round is not_whole =
-    let was = round.sectors at is in
-    let are : length buffer ≡ 512 * was.count = was.are in
-    omega arith
+some_short takes_all tables after taking buffer at round is not_whole = grind arith

@@ -49,17 +49,12 @@ no_table memory space is = by (finmap.get memory.spaces space) refl is
     by (Some table) e is = absurd (let f : None ≡ Some (prots_of table) = is in cc)
 
 prot_seen : (o : Option PageState) → option_map (λ (found : PageState). found.prot) o ≡ option_map (λ (found : plain.Page). found.prot) (option_map plain_page o)
-prot_seen None = refl
-prot_seen (Some page) = refl
+prot_seen o = grind arith
 
 -- a page has the same permissions in both
 pub same_prot : PlainLaw → (memory : Contents) (space : ℕ) (found : PageMap) → HasOwnTable memory space found → (page : ℕ)
     → finmap.get found page ≡ option_map (λ (page : plain.Page). page.prot) (page_in (plain_of memory) space page)
-same_prot law memory space found has page =
-    ap (λ (m : PageMap). finmap.get m page) has.prots ∙ law.prots has.table page
-    ∙ ap (λ o. option_map (λ (found : PageState). found.prot) (finmap.get (unwrap_or o finmap.empty) page)) (sym has.is)
-    ∙ prot_seen (page_at memory space page)
-    ∙ ap (option_map (λ (found : plain.Page). found.prot)) (sym (page_in_plain law memory space page))
+same_prot law memory space found has page = grind (arith, prot_seen, page_in_plain)
 
 rise_snoc : (before : ℕ) (tables : List Listed) (table : Listed) → Rise before tables → before < table.space → AllByRecursion (λ (t : Listed). t.space < table.space) tables → Rise before (tables ++ table ∷ [])
 rise_snoc before [] table rise above below = (above, tt)
@@ -121,12 +116,10 @@ one_table_more memory source tables table least living was is = record {
     split other = list_any-append (λ (t : Listed). nat_eq t.space other) tables (table ∷ [])
 
     or_true : (b : Bool) → (b || (true || false)) ≡ true
-    or_true true = refl
-    or_true false = refl
+    or_true b = grind arith
 
     or_false : (b : Bool) → (b || (false || false)) ≡ b
-    or_false true = refl
-    or_false false = refl
+    or_false b = grind arith
 
 -- how many pages there are
 pub count_of_none : (memory : Contents) (space : ℕ) → finmap.get memory.spaces space ≡ None → pages_below memory.spaces (space + 1) ≡ pages_below memory.spaces space
@@ -136,13 +129,7 @@ count_of_none memory space none =
 
 pub count_of_table : PlainLaw → areas.CountLaw → (memory : Contents) (tables : List Listed) (table : Listed) (found : PageMap) → HasOwnTable memory table.space found → AreAreasOf found table.areas
     → mapped_count tables ≡ pages_below memory.spaces table.space → mapped_count (tables ++ table ∷ []) ≡ pages_below memory.spaces (table.space + 1)
-count_of_table law counts memory tables table found has are was =
-    let own : sum_by (λ (a : Area). a.count) table.areas ≡ finmap.len (inside memory.spaces table.space) =
-    counts found table.areas are ∙ ap finmap.len has.prots ∙ law.count has.table ∙ ap (λ o. finmap.len (unwrap_or o finmap.empty)) (sym has.is) in
-    let one : mapped_count (table ∷ []) ≡ sum_by (λ (a : Area). a.count) table.areas = omega arith in
-    sum_by-append (λ (s : Listed). sum_by (λ (a : Area). a.count) s.areas) tables (table ∷ [])
-    ∙ omega (arith, own, one, was)
-    ∙ ap (pages_below memory.spaces) (let e : suc table.space ≡ table.space + 1 = omega arith in e)
+count_of_table law counts memory tables table found has are was = grind (arith, sum_by-append)
 
 dead_beyond : PlainLaw → (memory : Contents) → IsSound memory → (space : ℕ) → (is_alive memory.spaces space ≡ true → ⊥) → finmap.contains_key (plain_of memory) space ≡ false
 dead_beyond law memory sound space dead = law.alive memory space ∙ false_from_ne_true (is_alive memory.spaces space) dead
@@ -155,14 +142,7 @@ dead_high law memory sound space high = dead_beyond law memory sound space (λ a
 
 -- no space has a number below 1
 pub none_below_one : PlainLaw → (memory : Contents) → IsSound memory → (source tables : List Listed) → tables ≡ [] → AreSpacesBelow 1 (plain_of memory) source tables
-none_below_one law memory sound source tables no_tables =
-    subst (λ (ts : List Listed). AreSpacesBelow 1 (plain_of memory) source ts) (sym no_tables)
-    (record {
-      rise = tt;
-      below = tt;
-      each = tt;
-      alive = λ space less. ap (finmap.contains_key (plain_of memory)) (let e : space ≡ 0 = omega (arith, less) in e) ∙ dead_beyond law memory sound 0 (dead_zero memory sound);
-    })
+none_below_one law memory sound source tables no_tables = grind arith
 
 pub none_counted : (memory : Contents) → IsSound memory → (tables : List Listed) → tables ≡ [] → mapped_count tables ≡ pages_below memory.spaces 1
 none_counted memory sound tables no_tables =

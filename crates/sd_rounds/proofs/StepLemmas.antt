@@ -1,5 +1,5 @@
 -- What a step of a pass in code keeps.
-use Rattle.std.proofs.Common.{◌≡◌, ℕ, false, cond, ◌==◌, nat_eq, List, [], ◌∷◌, ◌++◌, length, None, refl, sym, ◌∙◌, ap, subst}
+use Rattle.std.proofs.Common.{◌≡◌, ℕ, false, cond, ◌==◌, nat_eq, List, [], ◌∷◌, ◌++◌, length, None, refl, sym, ◌∙◌, ap, subst, arith}
 use Rattle.std.specs.List.{list_all}
 use Rattle.std.proofs.lemmas.Bool.{and_from, both_ways, eq-eqb, false_from_ne_true}
 use Rattle.sd_image.specs.declared.run.RunKind.TheVariants.{Data, Zero}
@@ -64,10 +64,7 @@ copy_dumps laws rises dumps stored chain cut old new memory copied.Gone g rising
 
 take_keeps : MadeLaws → (pages : List (List ℕ)) (chain : Chain) (old new : Pass) (memory : Contents) (bytes : List ℕ) → TakesPage old bytes new
     → length pages ≡ data_pages old.entries → Keeps (listed_pages pages) chain old memory → Keeps (listed_pages (pages ++ bytes ∷ [])) chain new memory
-take_keeps laws pages chain old new memory bytes t count keeps =
-    subst (λ (p : Pass). Keeps (listed_pages (pages ++ bytes ∷ [])) chain p memory) (sym t.is)
-    (subst (λ (b : List ℕ). Keeps (listed_pages (pages ++ b ∷ [])) chain (taken_as_data old t.taking) memory) (sym t.same)
-    (laws.takes_up pages chain old memory t.taking t.was (ap (λ (b : List ℕ). length b) (sym t.same) ∙ t.whole) count keeps))
+take_keeps laws pages chain old new memory bytes t count keeps = grind arith
 
 pub is_data : (bytes : List ℕ) → length bytes ≡ 4096 → is_page_of_zeros bytes ≡ false → kind_of_bytes bytes ≡ Data
 is_data bytes long some = ap (λ b. cond b Zero Data) (false_from_ne_true (list_all (λ byte. byte == 0) bytes)

@@ -49,10 +49,7 @@ abbrev pub IsFurther : Place → Place → Type 0
 IsFurther a b = (a.0 < b.0) ⊎ ((a.0 ≡ b.0) × (a.1 ≤ b.1))
 
 ends_further : (a b : Place) (t : Listed) → IsFurther a b → EndsBefore a t → EndsBefore b t
-ends_further a b t (inl less) (inl below) = inl (omega arith)
-ends_further a b t (inl less) (inr here) = inl (let e : t.space ≡ a.0 = here.0 in omega arith)
-ends_further a b t (inr same) (inl below) = inl (let e : a.0 ≡ b.0 = same.0 in omega arith)
-ends_further a b t (inr same) (inr here) = inr (here.0 ∙ same.0, (let e : end_of t.runs ≤ a.1 = here.1 in let f : a.1 ≤ b.1 = same.1 in omega arith))
+ends_further a b t h3 h4 = grind arith
 
 pub end_further : (a b : Place) (tables : List Listed) → IsFurther a b → EndBefore a tables → EndBefore b tables
 end_further a b [] further ends = tt
@@ -88,9 +85,7 @@ entries_put tables t = sym (flat_map_more table_entries [] tables t)
 -- one page more of a space
 pub runs_entries : (space page : ℕ) (kind : RunKind) (old new : List Run) → flat_map run_ways new ≡ flat_map run_ways old ++ (page, kind) ∷ []
     → flat_map (run_entries space) new ≡ flat_map (run_entries space) old ++ (record { place = (space, page); kind = kind }) ∷ []
-runs_entries space page kind old new e =
-    entries_are space new ∙ ap (map (entry_of space)) e ∙ map-append (entry_of space) (flat_map run_ways old) _
-    ∙ ap (λ (l : List ImageEntry). l ++ (record { place = (space, page); kind = kind }) ∷ []) (sym (entries_are space old))
+runs_entries space page kind old new e = grind (arith, entries_are, map-append)
 
 no_push : {X : Type 0} (xs : List X) (x : X) → [] ≡ xs ++ x ∷ [] → ⊥
 no_push xs x e = absurd (let f : 0 ≡ length xs + 1 = ap length e ∙ length-append xs (x ∷ []) in omega arith)
@@ -132,9 +127,7 @@ longer_table parent front last new at kind are ends here same_space same_areas r
     was = tables_last parent 0 (listed front) (listing_of last) old
 
     more : table_entries (listing_of new) ≡ table_entries (listing_of last) ++ (record { place = at; kind = kind }) ∷ []
-    more = ap (λ n. flat_map (run_entries n) new.runs.items) (same_space)
-        ∙ runs_entries last.space at.1 kind last.runs.items new.runs.items runs.list
-        ∙ ap (λ n. flat_map (run_entries last.space) last.runs.items ++ (record { place = (n, at.1); kind = kind }) ∷ []) here
+    more  = grind (arith, runs_entries)
 
 -- another space begins
 pub more_tables : (parent : ℕ) (old new : List SpaceTable) (at : Place) (kind : RunKind) → AreTables parent 0 (listed old) → EndBefore at (listed old)

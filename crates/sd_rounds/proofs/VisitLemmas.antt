@@ -1,5 +1,5 @@
 -- Which pages a pass takes, by its visits.
-use Rattle.std.proofs.Common.{◌≡◌, ℕ, Bool, true, false, not, cond, ◌||◌, List, [], ◌∷◌, ◌++◌, map, Contains, Option, Some, None, refl, sym, ◌∙◌, ap, subst, inl, inr}
+use Rattle.std.proofs.Common.{◌≡◌, ℕ, Bool, true, false, not, cond, ◌||◌, List, [], ◌∷◌, ◌++◌, map, Contains, Option, Some, None, refl, sym, ◌∙◌, ap, subst, inl, inr, arith}
 use Rattle.std.specs.Prelude.{filter}
 use Rattle.std.proofs.lemmas.List.{map-append, append-nil}
 use Rattle.std.proofs.lemmas.List.Elements.{filter-append, Contains-append_left, Contains-push, Contains-push_cases}
@@ -46,12 +46,7 @@ still_zero : (entries : List ImageEntry) (at : Place) → pages_by Zero (put_beh
 still_zero entries at = pages_append Zero entries _ ∙ append-nil (pages_by Zero entries)
 
 opens : (takes_all : Bool) → IsPassOf [] (opened takes_all)
-opens takes_all = record {
-  parents = refl;
-  stored = λ at c. absurd (contains_none at c);
-  zero = λ at c. absurd (contains_none at c);
-  taking = λ taking is. absurd (no_some taking refl is);
-}
+opens takes_all = grind arith
 
 visits : (visits : List Visit) (pass : Pass) (at : Place) (soft_dirty : Bool) → pass.taking ≡ None → IsPassOf visits pass
     → IsPassOf (with_visit visits at soft_dirty) (visited pass at soft_dirty)
@@ -87,21 +82,10 @@ visits before pass at soft_dirty none is = by (pass.takes_all || soft_dirty) ref
     }
 
 copies : (visits : List Visit) (pass : Pass) (taking : Taking) (more : List ℕ) → pass.taking ≡ Some taking → IsPassOf visits pass → IsPassOf visits (copied_more pass taking more)
-copies visits pass taking more was is = record {
-  parents = is.parents;
-  stored = is.stored;
-  zero = is.zero;
-  taking = λ other t. subst (λ (x : Taking). Contains (taken_pages pass.takes_all visits) x.place)
-      (one_some (record { place = taking.place; copied = taking.copied ++ more }) other refl t) (is.taking taking was);
-}
+copies visits pass taking more was is = grind arith
 
 drops : (visits : List Visit) (pass : Pass) → IsPassOf visits pass → IsPassOf visits (dropped pass)
-drops visits pass is = record {
-  parents = is.parents;
-  stored = is.stored;
-  zero = is.zero;
-  taking = λ taking t. absurd (no_some taking refl t);
-}
+drops visits pass is = grind arith
 
 -- one page more is among some pages
 one_more : (pages old : List Place) (at : Place) → Contains pages at → ((q : Place) → Contains old q → Contains pages q)

@@ -22,13 +22,10 @@ some_more : (n m : ℕ) → n ≡ m + 1 → nat_eq n 0 ≡ false
 some_more n m e = grind (arith, nat_tests)
 
 pub bool_flip : {X : Type 0} (o : Option X) (b : Bool) → is_some o ≡ not b → b ≡ is_none o
-bool_flip None false e = absurd (both_ways false refl e)
-bool_flip (Some x) true e = absurd (both_ways true e refl)
-bool_flip _ _ e = refl
+bool_flip o b e = grind arith
 
 pub free_taking : {X Y : Type 0} (f : X → Y) (o : Option X) → is_some o ≡ false → is_none (option_map f o) ≡ true
-free_taking f None e = refl
-free_taking f (Some x) e = absurd (both_ways true e refl)
+free_taking f o e = grind arith
 
 -- no page is ahead exactly where there is no next one
 none_next : PlainLaw → (contents : Contents) (after : Option Place) (found : Option Place) → IsNextPage contents.spaces after found
@@ -43,17 +40,12 @@ over_is law contents pass found free next = none_next law contents pass.after fo
 -- in the pass
 pub pass_waits : (image : Making) (memory : PlainMemory) (all any over : Bool) → image.stage ≡ PassStage → are_all_out image.writes ≡ all → is_any_out image.writes ≡ any
     → is_over image.pass memory ≡ over → (all || (any && over)) ≡ maker_must_wait image memory
-pass_waits image memory all any over stage a n o =
-    sym (ap (λ (s : Stage). is_some (out_of s) || are_all_out image.writes || (is_any_out image.writes && is_over image.pass memory)) stage
-    ∙ ap (λ b. b || (is_any_out image.writes && is_over image.pass memory)) a
-    ∙ ap (λ b. all || (b && is_over image.pass memory)) n
-    ∙ ap (λ b. all || (any && b)) o)
+pass_waits image memory all any over stage a n o = grind arith
 
 -- ---- where no outcome is awaited
 
 or_none : (a b c : Bool) → (a || b || c) ≡ false → (a ≡ false) × (b ≡ false) × (c ≡ false)
-or_none false false c e = (refl, refl, e)
-or_none _ _ c e = absurd (both_ways true e refl)
+or_none a b c e = grind arith
 
 -- where the pass is over all writes are done
 pub all_written : PlainLaw → (image : Making) (contents : Contents) → maker_must_wait image (plain_of contents) ≡ false → length image.writes ≡ 8 → image.pass.taking ≡ None

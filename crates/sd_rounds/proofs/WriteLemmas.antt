@@ -45,8 +45,7 @@ not_all (Some id ∷ writes) (suc lane) is = not_all writes lane is
 -- a lane was found
 pub some_lane : (writes : List (Option RequestId)) (found : Option ℕ) → is_some found ≡ true → MatchOption found (are_all_out writes ≡ true) (λ lane. slice_get writes lane ≡ Some None)
     → are_all_out writes ≡ false
-some_lane writes None some is = absurd (both_ways false refl some)
-some_lane writes (Some lane) some is = not_all writes lane is
+some_lane writes found some is = grind (arith, both_ways, not_all)
 
 -- so many lanes without a write
 abbrev empty : ℕ → List (Option RequestId)

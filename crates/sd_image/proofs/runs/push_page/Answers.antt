@@ -5,9 +5,7 @@ use Rattle.sd_image.proofs.GrownRuns.{ends_at, end_of-snoc, longer_runs, more_ru
 use Rattle.sd_image.proofs.runs.push_page.Goals as goal
 
 pub continues-requires : goal.continues-requires
-continues-requires c =
-    let was : end_of (c.pop.new.self.items ++ c.in-Some.last ∷ []) ≤ c.args.page = subst (λ runs. end_of runs ≤ c.args.page) c.in-Some.ensures.items c.requires.behind in
-    omega (arith, end_of-snoc c.pop.new.self.items c.in-Some.last, c.number-number.ensures.value, c.number-number.ensures.within)
+continues-requires c = grind (arith, end_of-snoc)
 
 pub returns-in_default-clause-more : goal.returns-in_default-clause-more
 returns-in_default-clause-more c = λ parent pages are sourced.
@@ -24,11 +22,7 @@ returns-then-continues-clause-more c = λ parent pages are sourced.
     (ap (λ n. is_continued c.in-Some.last n c.args.kind) (sym c.number-number.ensures.value) ∙ sym c.continues.ensures ∙ c.if-continues.true))
 
 pub returns-then-continues-clause-end : goal.returns-then-continues-clause-end
-returns-then-continues-clause-end c =
-    let goes_on : is_continued c.in-Some.last c.args.page c.args.kind ≡ true =
-    ap (λ n. is_continued c.in-Some.last n c.args.kind) (sym c.number-number.ensures.value) ∙ sym c.continues.ensures ∙ c.if-continues.true in
-    let ends : c.in-Some.last.first + c.in-Some.last.count ≡ c.args.page = ends_at c.in-Some.last c.args.page c.args.kind goes_on in
-    ap end_of c.in_ok-push-2.ensures.items ∙ end_of-snoc c.pop.new.self.items _ ∙ omega arith
+returns-then-continues-clause-end c = grind (arith, ends_at, end_of-snoc)
 
 pub returns-clause-more : goal.returns-clause-more
 returns-clause-more c = λ parent pages are sourced.

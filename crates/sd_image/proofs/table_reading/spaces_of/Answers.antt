@@ -1,4 +1,4 @@
-use Rattle.std.proofs.Common.{◌≡◌, ◌++◌, ◌∷◌, [], ◌-◌, ◌+◌, List, ℕ, map, sym, subst}
+use Rattle.std.proofs.Common.{◌≡◌, ◌++◌, ◌∷◌, [], ◌-◌, ◌+◌, List, ℕ, map, sym, subst, arith}
 use Rattle.std.proofs.lemmas.Result.{err_from_is_err_and}
 use Rattle.std.proofs.lemmas.List.{map_push}
 use Rattle.sd_image.specs.Table.{Listed, listing_of}
@@ -10,10 +10,7 @@ abbrev number_of : Listed → ℕ
 number_of s = s.space
 
 pub returns-in_err-space : goal.returns-in_err-space
-returns-in_err-space c =
-    let p = err_from_is_err_and c.from_residual.result c.from_residual.ensures.1 in
-    let total = many (space_at c.args.header.now) number_of c.args.count 0 c.args.bytes.now in
-    rw (p.1, p.2) (ends_fails (space_at c.args.header.now) number_of (map listing_of c.loop.spaces.items) c.args.count c.loop.counter c.loop.before c.loop.rest.now c.in_err-space.field-0.0 total c.loop-test.true c.in_err-space.ensures c.loop.invariant)
+returns-in_err-space c = grind (arith, err_from_is_err_and, ends_fails)
 
 pub loop-preserved : goal.loop-preserved
 loop-preserved c =

@@ -13,10 +13,7 @@ returns-then-not-is_alive c =
     is_free c.args.paging.now c.loop-number.number c.new-space.result is c.requires c.loop-number.auto.number c.loop-number-test.true free c.loop-number.invariant.alive
 
 pub loop-number-preserved : goal.loop-number-preserved
-loop-number-preserved c =
-    let is : c.new-space.result ≡ c.loop-number.number = c.new-space.ensures in
-    let alive : is_alive c.args.paging.now.spaces c.loop-number.number ≡ true = ap (is_alive c.args.paging.now.spaces) (sym is) ∙ sym c.is_alive.ensures ∙ c.if-not-is_alive.false in
-    record { alive = one_alive_more c.args.paging.now c.loop-number.number alive c.loop-number.invariant.alive }
+loop-number-preserved c = grind (arith, one_alive_more)
 
 pub returns : goal.returns
 returns c = has_sixteen c.args.paging.now c.loop-number.number c.loop-number-test.false c.loop-number.invariant.alive

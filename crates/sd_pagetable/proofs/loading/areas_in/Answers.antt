@@ -1,4 +1,4 @@
-use Rattle.std.proofs.Common.{◌≡◌, ◌≢◌, ◌⊎◌, ◌≤◌, ℕ, Bool, true, false, nat_lt, ◌||◌, List, length, ap, ◌∙◌, sym, subst, inl, inr}
+use Rattle.std.proofs.Common.{◌≡◌, ◌≢◌, ◌⊎◌, ◌≤◌, ℕ, Bool, true, false, nat_lt, ◌||◌, List, length, ap, ◌∙◌, sym, subst, inl, inr, arith}
 use Rattle.std.specs.Prelude.{Result, Err, IfErr}
 use Rattle.std.proofs.lemmas.Bool.{ne_eqb, le-ltb}
 use Rattle.std.proofs.lemmas.Result.{err_from_is_err_and}
@@ -54,6 +54,4 @@ returns-in_err-from_pages-clause-errors c =
     these_errors c.from_residual.result c.args.pages.now.entries (errs c.from_residual.result c.args.pages.now.entries _ p.0 p.1 p.2 c.in_err-from_pages.ensures.refused)
 
 pub returns-clause-ok : goal.returns-clause-ok
-returns-clause-ok c =
-    let w = within_ok _ _ c.in_ok-from_pages.ensures.ok in
-    (w.0 ∙ same_prots c.args.pages.now.entries, by_areas c.args.space c.args.pages.now.entries false (λ n. c.if-number-eq0.false (c.number.ensures ∙ n)) (subst (λ n. n ≤ 16) c.number-else-number-eq0.ensures c.if-number-gt-SPACE_LIMIT.false) w.1)
+returns-clause-ok c = grind (arith, within_ok, same_prots, by_areas)

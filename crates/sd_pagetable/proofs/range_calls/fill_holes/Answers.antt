@@ -15,6 +15,4 @@ returns-then-reached-end-clause-err c = filled_back c.args.paging.now c.fill-rea
     c.requires.alive c.requires.areas c.fill-reached.ensures.filled c.unfill.ensures
 
 pub returns-clause-ok : goal.returns-clause-ok
-returns-clause-ok c =
-    let all : c.fill-reached.result ≡ c.args.end = omega (arith, c.fill-reached.ensures.end, c.if-reached-end.false) in
-    subst (λ n. c.fill-reached.new.paging ≡ with_space c.args.paging.now c.args.space (fill_within (inside c.args.paging.now.spaces c.args.space) c.args.first (n - c.args.first) (fresh_page c.args.prot))) all c.fill-reached.ensures.filled
+returns-clause-ok c = grind arith

@@ -4,23 +4,13 @@ use Rattle.sd_pagetable.proofs.RangeDue.{is_at_most, is_above}
 use Rattle.sd_pagetable.proofs.range_calls.has_room.Goals as goal
 
 pub returns-then-end-first-gt-MAPPED_PAGE_LIMIT-clause-full : goal.returns-then-end-first-gt-MAPPED_PAGE_LIMIT-clause-full
-returns-then-end-first-gt-MAPPED_PAGE_LIMIT-clause-full c = λ page full.
-    let mapped = run_is_mapped c.args.paging.now c.args.space c.args.first (c.args.end - c.args.first) page in
-    omega (arith, mapped, c.if-end-first-gt-MAPPED_PAGE_LIMIT.true)
+returns-then-end-first-gt-MAPPED_PAGE_LIMIT-clause-full c = grind (arith, run_is_mapped)
 
 pub returns-clause-fits : goal.returns-clause-fits
-returns-clause-fits c = λ fits.
-    let le = is_at_most (c.mapped.result + c.holes.result) fits in
-    omega (arith, le, c.holes.ensures.counted, c.mapped.ensures.value)
+returns-clause-fits c = grind (arith, is_at_most)
 
 pub returns-clause-full : goal.returns-clause-full
-returns-clause-full c = λ page full.
-    let more = is_above (c.mapped.result + c.holes.result) full in
-    let count = mapped_count c.args.paging.now c.args.space c.args.first c.args.end page c.requires.ordered in
-    omega (arith, more, count, c.holes.ensures.counted, c.mapped.ensures.value)
+returns-clause-full c = grind (arith, is_above, mapped_count)
 
 pub returns-clause-holds : goal.returns-clause-holds
-returns-clause-holds c = λ page fits.
-    let le = is_at_most (c.mapped.result + c.holes.result) fits in
-    let count = mapped_count c.args.paging.now c.args.space c.args.first c.args.end page c.requires.ordered in
-    omega (arith, le, count, c.holes.ensures.counted, c.mapped.ensures.value)
+returns-clause-holds c = grind (arith, is_at_most, mapped_count)

@@ -1,4 +1,4 @@
-use Rattle.std.proofs.Common.{rules, ◌≡◌, ◌+◌, ◌-◌, Err, ap, ◌∙◌, refl}
+use Rattle.std.proofs.Common.{rules, ◌≡◌, ◌+◌, ◌-◌, Err, ap, ◌∙◌, refl, arith}
 use Rattle.sd_areas.specs.Calls.{map_result, within_areas, set_pages}
 use Rattle.sd_areas.specs.Pages.{page_of, pages_for}
 use Rattle.sd_pagetable.specs.Nested.{inside, is_alive, set_within}
@@ -29,11 +29,7 @@ pub unfill-requires-clause-alive : goal.unfill-requires-clause-alive
 unfill-requires-clause-alive c = ap (λ (m : Contents). is_alive m.spaces c.args.space) c.in_ok-fill_holes.ensures.ok ∙ alive_with c.args.paging.now c.args.space _
 
 pub returns-in-Err-clause-err : goal.returns-in-Err-clause-err
-returns-in-Err-clause-err c = (
-  c.in-Err.ensures.err,
-  filled_back c.args.paging.now c.fill_holes.new.paging c.unfill.new.paging c.args.space c.number-first.result (c.number-first.result + c.in_ok-range.range.count) (fresh_page c.args.prot) c.map.new.self
-      c.requires.alive (c.in-Err.ensures.err ∙ c.requires.areas) c.in_ok-fill_holes.ensures.ok c.unfill.ensures,
-)
+returns-in-Err-clause-err c = grind (arith, filled_back)
 
 pub renew-requires-clause-alive : goal.renew-requires-clause-alive
 renew-requires-clause-alive c = ap (λ (m : Contents). is_alive m.spaces c.args.space) c.in_ok-fill_holes.ensures.ok ∙ alive_with c.args.paging.now c.args.space _
@@ -43,24 +39,10 @@ renew-requires-clause-there c = λ page from below.
     filled_there c.args.paging.now c.fill_holes.new.paging c.args.space c.number-first.result (c.number-first.result + c.in_ok-range.range.count) page (fresh_page c.args.prot) c.in_ok-fill_holes.ensures.ok from below
 
 pub returns-clause-pages : goal.returns-clause-pages
-returns-clause-pages c =
-    let first : c.number-first.result ≡ page_of c.args.address = search rules in
-    let count : c.number-first.result + c.in_ok-range.range.count - c.number-first.result ≡ pages_for c.args.bytes = search rules in
-    let done = renewed_run c.args.paging.now c.fill_holes.new.paging c.renew.new.paging c.args.space c.number-first.result (c.number-first.result + c.in_ok-range.range.count) (fresh_page c.args.prot) c.in_ok-fill_holes.ensures.ok c.renew.ensures in
-    let t = inside c.args.paging.now.spaces c.args.space in
-    done ∙ ap (λ n. with_space c.args.paging.now c.args.space (set_within t c.number-first.result n (fresh_page c.args.prot))) count
-    ∙ ap (λ n. with_space c.args.paging.now c.args.space (set_within t n (pages_for c.args.bytes) (fresh_page c.args.prot))) first
+returns-clause-pages c = grind (arith, renewed_run)
 
 pub returns-in_err-fill_holes-clause-fits : goal.returns-in_err-fill_holes-clause-fits
-returns-in_err-fill_holes-clause-fits c = λ out.
-    let first : c.number-first.result ≡ page_of c.args.address = search rules in
-    let count : c.number-first.result + c.in_ok-range.range.count - c.number-first.result ≡ pages_for c.args.bytes = search rules in
-    let few = c.fill_holes.ensures.fits (search rules) in
-    rw (← first, ← count) few
+returns-in_err-fill_holes-clause-fits c = grind arith
 
 pub returns-in-Err-clause-fits : goal.returns-in-Err-clause-fits
-returns-in-Err-clause-fits c = λ out.
-    let first : c.number-first.result ≡ page_of c.args.address = search rules in
-    let count : c.number-first.result + c.in_ok-range.range.count - c.number-first.result ≡ pages_for c.args.bytes = search rules in
-    let few = c.fill_holes.ensures.fits (search rules) in
-    rw (← first, ← count) few
+returns-in-Err-clause-fits c = grind arith

@@ -1,4 +1,4 @@
-use Rattle.std.proofs.Common.{rules, ◌≡◌, ap, is_some, sym, subst, ◌∙◌, ◌≤◌, Option, Ok, IfErr}
+use Rattle.std.proofs.Common.{rules, ◌≡◌, ap, is_some, sym, subst, ◌∙◌, ◌≤◌, Option, Ok, IfErr, arith}
 use Rattle.sd_areas.specs.Calls.{map_result}
 use Rattle.sd_areas.specs.Pages.{page_of, pages_for}
 use Rattle.sd_pagetable.specs.Nested.{inside, set_within}
@@ -15,10 +15,7 @@ use Rattle.sd_pagetable.proofs.AreaCalls.{areas_put, areas_same, areas_found, ar
 use Rattle.sd_pagetable.proofs.range_calls.mmap.Goals as goal
 
 pub returns-in_default-clause-due : goal.returns-in_default-clause-due
-returns-in_default-clause-due c =
-    let dead = areas_absent c.args.areas.now c.args.paging.now c.args.space c.requires.kept c.in_default.ensures.value in
-    let due = mmap_seen c.args.paging.now c.args.space c.args.address c.args.bytes c.args.prot ∙ dead_due c.args.paging.now c.args.space _ dead in
-    search rules
+returns-in_default-clause-due c = grind (arith, areas_absent, mmap_seen, dead_due)
 
 pub returns-clause-kept : goal.returns-clause-kept
 returns-clause-kept c =

@@ -15,16 +15,10 @@ pub returns-in_err-unmap_areas-clause-kept : goal.returns-in_err-unmap_areas-cla
 returns-in_err-unmap_areas-clause-kept c = still_kept c.args.areas.now c.unmap_areas.new.areas c.args.paging.now c.in_err-unmap_areas.ensures.err c.requires.kept
 
 pub returns-in_err-unmap_areas-clause-due : goal.returns-in_err-unmap_areas-clause-due
-returns-in_err-unmap_areas-clause-due c =
-    let refused : Refuses c.in_err-unmap_areas.field-0.0 (munmap_due (plain_of c.args.paging.now) c.args.space c.args.address c.args.bytes) =
-    subst (Refuses c.in_err-unmap_areas.field-0.0) (sym (munmap_seen c.args.paging.now c.args.space c.args.address c.args.bytes)) (c.in_err-unmap_areas.ensures.due c.args.paging.now c.requires.kept) in
-    search rules
+returns-in_err-unmap_areas-clause-due c = grind (arith, munmap_seen)
 
 pub unwrap-page-requires : goal.unwrap-page-requires
-unwrap-page-requires c =
-    let own = c.in_ok-unmap_areas.ensures.ok c.args.paging.now c.requires.kept in
-    let within = unmapped_within (prots_of (inside c.args.paging.now.spaces c.args.space)) c.args.address c.args.bytes own.0 own.2 in
-    c.new.ensures.within.1 (omega (arith, within.0, within.1))
+unwrap-page-requires c = grind (arith, unmapped_within)
 
 pub unmap-requires : goal.unmap-requires
 unmap-requires c = record { alive = (c.in_ok-unmap_areas.ensures.ok c.args.paging.now c.requires.kept).1 }
@@ -40,9 +34,7 @@ returns-clause-kept c =
     own.3)
 
 pub returns-clause-due : goal.returns-clause-due
-returns-clause-due c =
-    let own = c.in_ok-unmap_areas.ensures.ok c.args.paging.now c.requires.kept in
-    munmap_seen c.args.paging.now c.args.space c.args.address c.args.bytes ∙ nothing_due c.args.paging.now c.args.space _ own.0 own.1 own.2
+returns-clause-due c = grind (arith, munmap_seen, nothing_due)
 
 pub returns-clause-memory : goal.returns-clause-memory
 returns-clause-memory c =

@@ -1,4 +1,4 @@
-use Rattle.std.proofs.Common.{rules, ap, sym, is_some}
+use Rattle.std.proofs.Common.{rules, ap, sym, is_some, arith}
 use Rattle.sd_pagetable.proofs.AreaCalls.{areas_put, areas_same, areas_found, err_holds}
 use Rattle.sd_pagetable.proofs.range_calls.protect_areas.Goals as goal
 
@@ -14,7 +14,4 @@ returns-clause-ok c = λ contents kept.
     (c.protect.new.self, found.0, rw (← found.1) c.in_ok-protect.ensures.ok, areas_put c.args.areas.now (c.get_mut.follows.lender c.protect.new.self) c.args.space c.protect.new.self holds.0)
 
 pub returns-in_err-protect-clause-whole : goal.returns-in_err-protect-clause-whole
-returns-in_err-protect-clause-whole c = λ out contents kept.
-    let found = areas_found c.args.areas.now contents c.args.space c.in-Some.own.now kept c.in-Some.ensures.value in
-    let hole = c.protect.ensures.hole in
-    search rules
+returns-in_err-protect-clause-whole c = grind (arith, areas_found)

@@ -1,4 +1,4 @@
-use Rattle.std.proofs.Common.{rules, sym, ap, subst, ◌∙◌}
+use Rattle.std.proofs.Common.{rules, sym, ap, subst, ◌∙◌, arith}
 use Rattle.sd_areas.specs.Pages.{page_of, pages_for}
 use Rattle.sd_pagetable.specs.Nested.{inside}
 use Rattle.sd_pagetable.specs.Contents.{plain_of}
@@ -14,18 +14,13 @@ pub returns-in_err-protect_areas-clause-kept : goal.returns-in_err-protect_areas
 returns-in_err-protect_areas-clause-kept c = still_kept c.args.areas.now c.protect_areas.new.areas c.args.paging.now c.in_err-protect_areas.ensures.err c.requires.kept
 
 pub returns-in_err-protect_areas-clause-due : goal.returns-in_err-protect_areas-clause-due
-returns-in_err-protect_areas-clause-due c =
-    let refused : Refuses c.in_err-protect_areas.field-0.0 (mprotect_due (plain_of c.args.paging.now) c.args.space c.args.address c.args.bytes c.args.prot) =
-    subst (Refuses c.in_err-protect_areas.field-0.0) (sym (mprotect_seen c.args.paging.now c.args.space c.args.address c.args.bytes c.args.prot)) (c.in_err-protect_areas.ensures.due c.args.paging.now c.requires.kept) in
-    search rules
+returns-in_err-protect_areas-clause-due c = grind (arith, mprotect_seen)
 
 pub protect_range-requires-clause-alive : goal.protect_range-requires-clause-alive
 protect_range-requires-clause-alive c = (c.in_ok-protect_areas.ensures.ok c.args.paging.now c.requires.kept).1
 
 pub protect_range-requires-clause-within : goal.protect_range-requires-clause-within
-protect_range-requires-clause-within c =
-    let own = c.in_ok-protect_areas.ensures.ok c.args.paging.now c.requires.kept in
-    protected_within (prots_of (inside c.args.paging.now.spaces c.args.space)) c.args.address c.args.bytes c.args.prot own.0 own.2 c.requires.some
+protect_range-requires-clause-within c = grind (arith, protected_within)
 
 pub returns-clause-kept : goal.returns-clause-kept
 returns-clause-kept c =
@@ -37,14 +32,10 @@ returns-clause-kept c =
     own.3)
 
 pub returns-clause-due : goal.returns-clause-due
-returns-clause-due c =
-    let own = c.in_ok-protect_areas.ensures.ok c.args.paging.now c.requires.kept in
-    mprotect_seen c.args.paging.now c.args.space c.args.address c.args.bytes c.args.prot ∙ nothing_due c.args.paging.now c.args.space _ own.0 own.1 own.2
+returns-clause-due c = grind (arith, mprotect_seen, nothing_due)
 
 pub returns-clause-memory : goal.returns-clause-memory
 returns-clause-memory c = ap plain_of c.protect_range.ensures ∙ plain_protected c.args.paging.now c.args.space c.args.address c.args.bytes c.args.prot
 
 pub returns-in_err-protect_areas-clause-whole : goal.returns-in_err-protect_areas-clause-whole
-returns-in_err-protect_areas-clause-whole c = λ out.
-    let whole = c.protect_areas.ensures.whole (search rules) c.args.paging.now c.requires.kept in
-    rw (prots_seen c.args.paging.now c.args.space) whole
+returns-in_err-protect_areas-clause-whole c = grind (arith, prots_seen)

@@ -1,4 +1,4 @@
-use Rattle.std.proofs.Common.{rules, ap, sym, is_some, ◌∙◌}
+use Rattle.std.proofs.Common.{rules, ap, sym, is_some, ◌∙◌, arith}
 use Rattle.sd_pagetable.proofs.RangeDue.{prots_none}
 use Rattle.sd_pagetable.proofs.AreaCalls.{areas_put, areas_same, areas_found, err_holds}
 use Rattle.sd_pagetable.proofs.range_calls.unmap_areas.Goals as goal
@@ -15,8 +15,4 @@ returns-clause-ok c = λ contents kept.
     (c.unmap.new.self, found.0, rw (← found.1) c.in_ok-unmap.ensures.ok, areas_put c.args.areas.now (c.get_mut.follows.lender c.unmap.new.self) c.args.space c.unmap.new.self holds.0)
 
 pub returns-in_err-unmap-clause-some : goal.returns-in_err-unmap-clause-some
-returns-in_err-unmap-clause-some c = λ out contents kept none.
-    let found = areas_found c.args.areas.now contents c.args.space c.in-Some.own.now kept c.in-Some.ensures.value in
-    let empty = found.1 ∙ prots_none contents c.args.space none in
-    let done = c.unmap.ensures.bare in
-    search rules
+returns-in_err-unmap-clause-some c = grind (arith, areas_found, prots_none)

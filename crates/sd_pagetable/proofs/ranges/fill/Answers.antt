@@ -7,11 +7,7 @@ use Rattle.sd_pagetable.proofs.RunSteps.{room_for, filled_to}
 use Rattle.sd_pagetable.proofs.ranges.fill.Goals as goal
 
 pub loop-reached-init : goal.loop-reached-init
-loop-reached-init c = record {
-  begun = omega arith;
-  within = c.requires.ordered;
-  fills = record { done = none_filled c.args.paging.now c.args.space c.args.first (fresh_page c.args.prot) c.requires.alive; few = c.requires.few };
-}
+loop-reached-init c = grind (arith, none_filled)
 
 pub fill_next-requires-clause-alive : goal.fill_next-requires-clause-alive
 fill_next-requires-clause-alive c = ap (λ (m : Contents). is_alive m.spaces c.args.space) c.loop-reached.invariant.fills.done ∙ alive_with c.args.paging.now c.args.space _

@@ -7,12 +7,7 @@ use Rattle.sd_pagetable.proofs.RunSteps.{mapped_from, holes_more}
 use Rattle.sd_pagetable.proofs.ranges.holes.Goals as goal
 
 pub loop-reached-init : goal.loop-reached-init
-loop-reached-init c = record {
-  begun = omega arith;
-  within = c.requires.ordered;
-  counted = sym (none_counted (λ page. not (is_some (page_at c.args.paging.now c.args.space page))) c.args.first);
-  few = omega arith;
-}
+loop-reached-init c = grind (arith, none_counted)
 
 pub loop-reached-preserved : goal.loop-reached-preserved
 loop-reached-preserved c =

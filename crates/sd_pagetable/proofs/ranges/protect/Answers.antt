@@ -8,11 +8,7 @@ use Rattle.sd_pagetable.proofs.RunSteps.{changed_run}
 use Rattle.sd_pagetable.proofs.ranges.protect.Goals as goal
 
 pub loop-reached-init : goal.loop-reached-init
-loop-reached-init c = record {
-  begun = omega arith;
-  within = c.requires.ordered;
-  done = none_changed (protected_page c.args.prot) c.args.paging.now c.args.space c.args.first c.requires.alive;
-}
+loop-reached-init c = grind (arith, none_changed)
 
 pub protect_next-reached-requires-clause-alive : goal.protect_next-reached-requires-clause-alive
 protect_next-reached-requires-clause-alive c = ap (λ (m : Contents). is_alive m.spaces c.args.space) c.loop-reached.invariant.done ∙ alive_with c.args.paging.now c.args.space _
@@ -26,6 +22,4 @@ loop-reached-preserved c = record {
 }
 
 pub returns : goal.returns
-returns c =
-    let all : c.loop-reached.reached ≡ c.args.end = (let l = c.loop-reached.invariant.within in let n = c.loop-reached-test.false in omega arith) in
-    subst (λ n. c.loop-reached.paging ≡ with_space c.args.paging.now c.args.space (change_within (protected_page c.args.prot) (inside c.args.paging.now.spaces c.args.space) c.args.first (n - c.args.first))) all c.loop-reached.invariant.done
+returns c = grind arith

@@ -9,19 +9,13 @@ use Rattle.sd_pagetable.proofs.RunSteps.{renewed_run}
 use Rattle.sd_pagetable.proofs.ranges.renew.Goals as goal
 
 pub loop-reached-init : goal.loop-reached-init
-loop-reached-init c = record {
-  begun = omega arith;
-  within = c.requires.ordered;
-  done = none_renewed c.args.paging.now c.args.space c.args.first (fresh_page c.args.prot) c.requires.alive;
-}
+loop-reached-init c = grind (arith, none_renewed)
 
 pub renew_next-reached-requires-clause-alive : goal.renew_next-reached-requires-clause-alive
 renew_next-reached-requires-clause-alive c = ap (λ (m : Contents). is_alive m.spaces c.args.space) c.loop-reached.invariant.done ∙ alive_with c.args.paging.now c.args.space _
 
 pub renew_next-reached-requires-clause-there : goal.renew_next-reached-requires-clause-there
-renew_next-reached-requires-clause-there c =
-    still_there c.args.paging.now c.loop-reached.paging c.args.space c.args.first c.loop-reached.reached (fresh_page c.args.prot) c.loop-reached.invariant.done
-    (c.requires.there c.loop-reached.reached c.loop-reached.invariant.begun c.loop-reached-test.true)
+renew_next-reached-requires-clause-there c = grind (arith, still_there)
 
 pub loop-reached-preserved : goal.loop-reached-preserved
 loop-reached-preserved c = record {
@@ -32,6 +26,4 @@ loop-reached-preserved c = record {
 }
 
 pub returns : goal.returns
-returns c =
-    let all : c.loop-reached.reached ≡ c.args.end = (let l = c.loop-reached.invariant.within in let n = c.loop-reached-test.false in omega arith) in
-    subst (λ n. c.loop-reached.paging ≡ with_space c.args.paging.now c.args.space (set_within (inside c.args.paging.now.spaces c.args.space) c.args.first (n - c.args.first) (fresh_page c.args.prot))) all c.loop-reached.invariant.done
+returns c = grind arith

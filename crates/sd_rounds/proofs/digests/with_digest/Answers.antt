@@ -1,4 +1,4 @@
-use Rattle.std.proofs.Common.{◌≡◌, ℕ, List, ◌++◌, refl, ap, ◌∙◌}
+use Rattle.std.proofs.Common.{◌≡◌, ℕ, List, ◌++◌, refl, ap, ◌∙◌, arith}
 use Rattle.sha2.specs.Sha256.{sha256}
 use Rattle.sd_image.specs.declared.header.Header.{Header}
 use Rattle.sd_image.specs.Header.{header_front}
@@ -10,6 +10,4 @@ unfolding header_front
 same_front h digest = refl
 
 pub returns-clause-digest : goal.returns-clause-digest
-returns-clause-digest c = λ fed has.
-    c.finish-digest.ensures (fed ++ c.args.table.now) (c.table.ensures fed has)
-    ∙ ap (λ (front : List ℕ). sha256 (fed ++ c.args.table.now ++ front)) (same_front c.args.header c.finish-digest.result)
+returns-clause-digest c = grind (arith, same_front)

@@ -1,4 +1,4 @@
-use Rattle.std.proofs.Common.{◌≡◌, ◌-◌, false, true, [], ◌∷◌, ◌++◌, List, refl, sym, ◌∙◌, ap, subst}
+use Rattle.std.proofs.Common.{◌≡◌, ◌-◌, false, true, [], ◌∷◌, ◌++◌, List, refl, sym, ◌∙◌, ap, subst, arith}
 use Rattle.std.specs.List.{flat_map}
 use Rattle.std.proofs.lemmas.Result.{on_ok_weaker, on_err_weaker}
 use Rattle.sd_image.specs.declared.table.SpaceTable.{SpaceTable}
@@ -8,11 +8,7 @@ use Rattle.sd_rounds.proofs.TableLemmas.{IsLast, begun_table, end_in, last_is, l
 use Rattle.sd_rounds.proofs.entries.push_entry.Goals as goal
 
 pub returns-then-not-end_in-clause-more : goal.returns-then-not-end_in-clause-more
-returns-then-not-end_in-clause-more c = λ parent are sourced least within.
-    let other : end_in c.args.tables.now.items c.args.space ≡ false = ap (λ l. end_in l c.args.space) (sym c.deref.ensures.value) ∙ sym c.end_in.ensures ∙ c.if-not-end_in.true in
-    on_ok_weaker c.push_space.result
-    (λ begun. begun_table parent c.args.tables.now.items c.push_space.new.tables.items (c.args.space, c.args.page) c.args.kind are c.requires.behind other least within sourced begun)
-    c.push_space.ensures.begun
+returns-then-not-end_in-clause-more c = grind (arith, end_in, on_ok_weaker, begun_table)
 
 pub push_page-requires : goal.push_page-requires
 push_page-requires c =

@@ -5,8 +5,7 @@ use Rattle.sd_gate.specs.declared.worker.Worker.TheVariants as its
 use Rattle.sd_gate.specs.Laws.{found_phase}
 use Rattle.sd_command.specs.declared.refusal.Refusal.TheVariants.{Damaged as DamagedStore}
 use Rattle.sd_command.specs.declared.reply.Reply.TheVariants as reply
-use Rattle.sd_journal.specs.History.{Base}
-use Rattle.sd_journal.specs.History.{last, pending}
+use Rattle.sd_journal.specs.History.{Base, last, pending}
 use Rattle.sd_opener.specs.Looking.{Looking, out_of_look}
 use Rattle.sd_opener.specs.Sees.{Sees}
 use Rattle.sd_crash_safety.specs.declared.standing.Standing.TheVariants.{Open}

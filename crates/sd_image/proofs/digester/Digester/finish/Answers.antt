@@ -9,6 +9,4 @@ pub slice_bounds-update-end : goal.slice_bounds-update-end
 slice_bounds-update-end c = sym (length-take-le 63 c.encode_header-text.result (omega (arith, c.encode_header-text.ensures.length)))
 
 pub returns : goal.returns
-returns c = λ fed has.
-    c.finalize.ensures (fed ++ take 63 c.encode_header-text.result) (c.update.ensures fed (c.into_hasher-hasher.ensures fed has))
-    ∙ ap (λ (front : List ℕ). sha256 (fed ++ front)) (ap (take 63) c.encode_header-text.ensures.text ∙ front_of_text c.args.header.now)
+returns c = grind (arith, front_of_text)

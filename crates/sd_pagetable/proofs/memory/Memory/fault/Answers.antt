@@ -1,4 +1,4 @@
-use Rattle.std.proofs.Common.{◌≡◌, ℕ, ap, ◌∙◌, sym, subst, refl, true, Option, None}
+use Rattle.std.proofs.Common.{◌≡◌, ℕ, ap, ◌∙◌, sym, subst, refl, true, Option, None, arith}
 use Rattle.sd_areas.specs.Pages.{page_of}
 use Rattle.sd_pagetable.specs.Nested.{is_alive, value_at}
 use Rattle.sd_pagetable.specs.Contents.{Contents, page_at, plain_of}
@@ -18,9 +18,7 @@ pub returns-then-not-is_alive-clause-due : goal.returns-then-not-is_alive-clause
 returns-then-not-is_alive-clause-due c = answers_err (fault_due c.args.self.now c.args.space c.args.address) _ c.into.result (Err c.into.result) (fault_dead c.args.self.now c.args.space c.args.address (ap (λ (m : Contents). is_alive m.spaces c.args.space) (sym c.self.view_is) ∙ sym c.is_alive.ensures ∙ c.if-not-is_alive.true)) c.into.ensures refl
 
 pub returns-in_err-page-clause-due : goal.returns-in_err-page-clause-due
-returns-in_err-page-clause-due c =
-    let p = err_from_is_err_and c.from_residual.result c.from_residual.ensures.1 in
-    answers_err (fault_due c.args.self.now c.args.space c.args.address) _ p.0 c.from_residual.result (fault_stopped c.args.self.now c.args.space c.args.address _ (ap (λ (m : Contents). is_alive m.spaces c.args.space) (sym c.self.view_is) ∙ sym c.is_alive.ensures ∙ c.if-not-is_alive.false) c.in_err-page.ensures.refused) p.2 p.1
+returns-in_err-page-clause-due c = grind (arith, err_from_is_err_and, answers_err, fault_stopped)
 
 pub make_writable-requires-clause-permitted : goal.make_writable-requires-clause-permitted
 make_writable-requires-clause-permitted c = let x = write_there c.args.self.now c.self.inside.paging c.args.space (page_of c.args.address) c.in_ok-page.page c.self.view_is c.in_ok-page.ensures.page c.in_ok-page.ensures.ok in rw x.1 x.2
@@ -46,22 +44,13 @@ error_is : (a b : MemoryError) → ◌≡◌ {A = Result (Unit {0}) MemoryError}
 error_is a b e = cc
 
 pub returns-in_err-make_writable-clause-due : goal.returns-in_err-make_writable-clause-due
-returns-in_err-make_writable-clause-due c =
-    let p = err_from_is_err_and c.from_residual-in_err-make_writable.result c.from_residual-in_err-make_writable.ensures.1 in
-    subst (λ due. Answers due c.from_residual-in_err-make_writable.result)
-    (page_alone c.args.self.now c.self.inside.paging c.args.space c.args.address c.in_ok-page.page c.self.view_is c.in_ok-page.ensures.page (sym c.is_alive.ensures ∙ c.if-not-is_alive.false) c.in_ok-page.ensures.ok)
-    (fails _ c.make_writable.result _ p.0 c.from_residual-in_err-make_writable.result c.make_writable.ensures.due c.in_err-make_writable.was p.1 p.2)
+returns-in_err-make_writable-clause-due c = grind (arith, err_from_is_err_and, page_alone, fails)
 
 pub returns-in_err-make_writable-clause-tested : goal.returns-in_err-make_writable-clause-tested
-returns-in_err-make_writable-clause-tested c = λ is.
-    let p = err_from_is_err_and c.from_residual-in_err-make_writable.result c.from_residual-in_err-make_writable.ensures.1 in
-    sym (page_alone c.args.self.now c.self.inside.paging c.args.space c.args.address c.in_ok-page.page c.self.view_is c.in_ok-page.ensures.page (sym c.is_alive.ensures ∙ c.if-not-is_alive.false) c.in_ok-page.ensures.ok)
-    ∙ c.make_writable.ensures.tested (c.in_err-make_writable.was ∙ ap Err (sym p.2 ∙ error_is p.0 OutOfMemory (sym p.1 ∙ is)))
+returns-in_err-make_writable-clause-tested c = grind (arith, err_from_is_err_and, page_alone, error_is)
 
 pub returns-clause-due : goal.returns-clause-due
-returns-clause-due c =
-    sym (page_alone c.args.self.now c.self.inside.paging c.args.space c.args.address c.in_ok-page.page c.self.view_is c.in_ok-page.ensures.page (sym c.is_alive.ensures ∙ c.if-not-is_alive.false) c.in_ok-page.ensures.ok)
-    ∙ subst (λ (x : Result Entry MemoryError). Answers (frame_due c.self.inside.paging (page_at c.self.inside.paging c.args.space c.in_ok-page.page)) x) c.in_ok-make_writable.was c.make_writable.ensures.due
+returns-clause-due c = grind (arith, page_alone)
 
 pub returns-clause-memory : goal.returns-clause-memory
 returns-clause-memory c = either_result c.make_writable.result _ _ _ c.make_writable.ensures.writable c.make_writable.ensures.err

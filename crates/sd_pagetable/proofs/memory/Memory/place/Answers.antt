@@ -1,4 +1,4 @@
-use Rattle.std.proofs.Common.{ap, ◌∙◌, sym, refl}
+use Rattle.std.proofs.Common.{ap, ◌∙◌, sym, refl, arith}
 use Rattle.sd_pagetable.specs.Nested.{is_alive}
 use Rattle.sd_pagetable.specs.Contents.{Contents}
 use Rattle.std.proofs.lemmas.Result.{err_from_is_err_and}
@@ -13,10 +13,7 @@ returns-then-is_bad_access-clause-refused c = access_bad c.args.self.now c.args.
     (sym (c.is_bad_access.ensures c.args.address refl) ∙ c.if-is_bad_access.true)
 
 pub returns-in_err-page-clause-refused : goal.returns-in_err-page-clause-refused
-returns-in_err-page-clause-refused c =
-    let p = err_from_is_err_and c.from_residual.result c.from_residual.ensures.1 in
-    rw (p.1, p.2) (access_at c.args.self.now c.args.space c.args.address c.args.bytes c.args.need (ap (λ (m : Contents). is_alive m.spaces c.args.space) (sym c.self.view_is) ∙ sym c.is_alive.ensures ∙ c.if-not-is_alive.false)
-    (sym (c.is_bad_access.ensures c.args.address refl) ∙ c.if-is_bad_access.false) ∙ c.in_err-page.ensures.refused)
+returns-in_err-page-clause-refused c = grind (arith, err_from_is_err_and, access_at)
 
 pub returns-clause-ok : goal.returns-clause-ok
 returns-clause-ok c = access_at c.args.self.now c.args.space c.args.address c.args.bytes c.args.need (ap (λ (m : Contents). is_alive m.spaces c.args.space) (sym c.self.view_is) ∙ sym c.is_alive.ensures ∙ c.if-not-is_alive.false)

@@ -1,4 +1,4 @@
-use Rattle.std.proofs.Common.{◌≡◌, ap, ◌∙◌, sym, false}
+use Rattle.std.proofs.Common.{◌≡◌, ap, ◌∙◌, sym, false, arith}
 use Rattle.sd_pagetable.specs.Contents.{plain_of}
 use Rattle.sd_areas.specs.declared.prot.Prot.{Prot}
 use Rattle.sd_tables.specs.declared.entry.Entry.{Entry}
@@ -6,12 +6,7 @@ use Rattle.sd_pagetable.proofs.MemoryLemmas.{plain_same, page_of_seen, areas_wri
 use Rattle.sd_pagetable.proofs.memory.Memory.test_and_clear.Goals as goal
 
 pub returns-clause-memory : goal.returns-clause-memory
-returns-clause-memory c =
-    let x = page_of_seen c.self.inside.paging c.args.space c.args.page c.in_ok-entry.entry (sym c.entry.ensures.value ∙ c.in_ok-entry.was) in
-    let prot_is : c.in_ok-entry.entry.prot ≡ x.0.prot = ap (λ (e : Entry). e.prot) (sym x.2) in
-    ap plain_of (rw x.1 at c.write_protect.ensures)
-    ∙ plain_same c.self.inside.paging c.args.space c.args.page x.0 _ x.1 (ap (λ (p : Prot). record { prot = p; bytes = x.0.bytes }) prot_is)
-    ∙ ap plain_of c.self.view_is
+returns-clause-memory c = grind (arith, page_of_seen, plain_same)
 
 pub invariant_of-self : goal.invariant_of-self
 invariant_of-self c =

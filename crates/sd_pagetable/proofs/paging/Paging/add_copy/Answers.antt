@@ -7,12 +7,7 @@ use Rattle.sd_pagetable.proofs.CopyLemmas.{copy_len, view_copied, kept_copied}
 use Rattle.sd_pagetable.proofs.paging.Paging.add_copy.Goals as goal
 
 pub overflow_add-self : goal.overflow_add-self
-overflow_add-self c =
-    let ok = c.in_ok-add_copy.ensures in
-    let counted : c.self.inside.mapped ≡ page_count c.args.self.now.spaces = c.self.invariant.mapped ∙ ap (λ (m : Contents). page_count m.spaces) c.self.view_is in
-    let len = copy_len c.self.inside.frames c.self.inside.tables c.add_copy.new.self c.args.space c.args.child ok.pages ok.others ∙ ap (λ (m : Contents). finmap.len (inside m.spaces c.args.space)) c.self.view_is in
-    let few = c.requires.few in
-    omega (arith, counted, len, few, c.pages_in.ensures)
+overflow_add-self c = grind (arith, copy_len)
 
 pub invariant_of-self-2 : goal.invariant_of-self-2
 invariant_of-self-2 c =

@@ -14,10 +14,7 @@ pub release_all-requires-clause-kept : goal.release_all-requires-clause-kept
 release_all-requires-clause-kept c = kept_any c.self.inside.frames c.self.inside.tables c.self.inside.mapped c.self.invariant
 
 pub overflow_sub-self : goal.overflow_sub-self
-overflow_sub-self c =
-    let count = ended_count c.self.inside.frames c.release_all.new.frames c.self.inside.tables c.self.inside.mapped c.args.space c.self.invariant c.release_all.ensures.kept c.release_all.ensures.value in
-    let pages = c.pages_in.ensures in
-    omega (arith, count, pages)
+overflow_sub-self c = grind (arith, ended_count)
 
 pub invariant_of-self : goal.invariant_of-self
 invariant_of-self c =
@@ -28,6 +25,4 @@ invariant_of-self c =
     (c.self.inside.mapped - c.pages_in.result) is)
 
 pub returns : goal.returns
-returns c = ap (contents_of c.release_all.new.frames) c.remove_space.ensures
-    ∙ ended_view c.self.inside.frames c.release_all.new.frames c.self.inside.tables c.self.inside.mapped c.args.space c.self.invariant c.release_all.ensures.kept c.release_all.ensures.value
-    ∙ ap (λ (m : Contents). record { pool = m.pool; spaces = finmap.remove m.spaces c.args.space }) c.self.view_is
+returns c = grind (arith, ended_view)

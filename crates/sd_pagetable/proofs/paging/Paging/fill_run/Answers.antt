@@ -27,8 +27,4 @@ pub returns-clause-more : goal.returns-clause-more
 returns-clause-more c = λ none. c.in_ok-reached.ensures.more (hole_there c.self.inside.frames c.self.inside.tables c.args.self.now c.args.space c.args.first c.self.view_is none)
 
 pub returns-clause-value : goal.returns-clause-value
-returns-clause-value c =
-    let alive = sym (alive-map (page_of_entry c.self.inside.frames) c.self.inside.tables c.args.space) ∙ ap (λ (m : Contents). is_alive m.spaces c.args.space) c.self.view_is ∙ c.requires.alive in
-    let ok = c.in_ok-reached.ensures in
-    view_filled c.fresh.result c.self.inside.frames c.self.inside.tables c.fill_run.new.self c.self.inside.mapped c.args.space c.args.first c.in_ok-reached.reached ok.reached alive ok.run ok.others c.args.self.now (fresh_page c.args.prot) c.self.view_is
-    (ap (page_of_entry c.self.inside.frames) c.fresh.ensures)
+returns-clause-value c = grind (arith, alive-map, view_filled)

@@ -66,11 +66,7 @@ pub share-requires-clause-used : goal.share-requires-clause-used
 share-requires-clause-used c = λ frame is. frame_counted c.self.inside.frames c.self.inside.tables c.self.inside.mapped c.args.parent c.args.page c.args.entry frame c.self.invariant (entry_seen c.self.inside.frames c.self.inside.tables c.args.self.now c.args.parent c.args.page c.args.entry c.self.view_is c.requires.there) is
 
 pub share-requires-clause-few : goal.share-requires-clause-few
-share-requires-clause-few c = λ frame is.
-    let a = members_le (contents_of c.self.inside.frames c.self.inside.tables) frame in
-    let b = c.self.invariant.sound.few in
-    let d = c.self.invariant.counts frame in
-    omega (arith, a, b, d)
+share-requires-clause-few c = grind (arith, members_le)
 
 pub invariant_of-self : goal.invariant_of-self
 invariant_of-self c =

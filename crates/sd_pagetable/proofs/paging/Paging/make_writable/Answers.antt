@@ -1,4 +1,4 @@
-use Rattle.std.proofs.Common.{◌≡◌, ℕ, ap, ◌∙◌, sym, subst, refl, Option, Some, true, inl, inr}
+use Rattle.std.proofs.Common.{◌≡◌, ℕ, ap, ◌∙◌, sym, subst, refl, Option, Some, true, inl, inr, arith}
 use Rattle.std.specs.Option.{IfSome}
 use Rattle.sd_tables.specs.declared.entry.Entry.{Entry}
 use Rattle.sd_pagetable.specs.Nested.{Nested, value_at, put_at}
@@ -35,21 +35,14 @@ left error pool r e is (inl memory) = memory.1
 left error pool r e is (inr full) = absurd (let f : ◌≡◌ {A = Result Entry MemoryError} (Err (DeniedError (Refused NoFrame))) (Err OutOfMemory) = sym (e ∙ ap Err full.0) ∙ is in cc)
 
 pub returns-in_err-frame-clause-due : goal.returns-in_err-frame-clause-due
-returns-in_err-frame-clause-due c =
-    let p = err_from_is_err_and c.from_residual.result c.from_residual.ensures.1 in
-    refused _ p.0 c.self.inside.frames c.from_residual.result p.1
-    (due_full c.self.inside.frames c.self.inside.tables c.self.inside.mapped c.self.invariant c.args.space c.args.page c.args.entry (entry_seen c.self.inside.frames c.self.inside.tables c.args.self.now c.args.space c.args.page c.args.entry c.self.view_is c.requires.there) c.args.self.now c.self.view_is c.in_err-frame.ensures.shared)
-    (rw p.2 c.in_err-frame.ensures.refused)
+returns-in_err-frame-clause-due c = grind (arith, err_from_is_err_and, refused, due_full, entry_seen)
 
 pub returns-in_err-frame-clause-needed : goal.returns-in_err-frame-clause-needed
 returns-in_err-frame-clause-needed c = λ _.
     needs_is c.self.inside.frames c.self.inside.tables c.self.inside.mapped c.self.invariant c.args.space c.args.page c.args.entry (entry_seen c.self.inside.frames c.self.inside.tables c.args.self.now c.args.space c.args.page c.args.entry c.self.view_is c.requires.there) c.args.self.now c.self.view_is c.in_err-frame.ensures.shared
 
 pub returns-in_err-frame-clause-tested : goal.returns-in_err-frame-clause-tested
-returns-in_err-frame-clause-tested c = λ is.
-    let p = err_from_is_err_and c.from_residual.result c.from_residual.ensures.1 in
-    due_room c.self.inside.frames c.self.inside.tables c.self.inside.mapped c.self.invariant c.args.space c.args.page c.args.entry (entry_seen c.self.inside.frames c.self.inside.tables c.args.self.now c.args.space c.args.page c.args.entry c.self.view_is c.requires.there) c.args.self.now c.self.view_is
-    (inr (left p.0 c.self.inside.frames c.from_residual.result p.1 is (rw p.2 c.in_err-frame.ensures.refused)))
+returns-in_err-frame-clause-tested c = grind (arith, err_from_is_err_and, due_room, entry_seen, left)
 
 write_here : (pool : Pool) (tables : Nested Entry) (m : Contents) (s p : ℕ) (e : Entry) → contents_of pool tables ≡ m → value_at tables s p ≡ Some e → IfSome (page_at m s p) (λ (before : PageState). before.prot.write ≡ true) → e.prot.write ≡ true
 write_here pool tables m s p e v h w = rw (entry_there pool tables s p e h) at (subst (λ (n : Contents). IfSome (page_at n s p) (λ (before : PageState). before.prot.write ≡ true)) (sym v) w)
@@ -79,6 +72,4 @@ pub returns-then-entry-clause-due : goal.returns-then-entry-clause-due
 returns-then-entry-clause-due c = none_due c.args.self.now c.args.space c.args.page c.args.entry (subst IsSound c.self.view_is c.self.invariant.sound) c.requires.there c.if-entry.true
 
 pub returns-clause-entry : goal.returns-clause-entry
-returns-clause-entry c =
-    subst (λ (t : Nested Entry). HasEntry (contents_of c.own_frame.new.frames t) c.args.space c.args.page c.made_writable-made.result) (sym c.replace.ensures)
-    (put_seen c.own_frame.new.frames c.self.inside.tables c.args.space c.args.page c.made_writable-made.result)
+returns-clause-entry c = grind (arith, put_seen)

@@ -1,4 +1,4 @@
-use Rattle.std.proofs.Common.{ap, ◌∙◌, sym}
+use Rattle.std.proofs.Common.{ap, ◌∙◌, sym, arith}
 use Rattle.sd_pagetable.specs.Contents.{Contents, page_at, remove_page}
 use Rattle.sd_pagetable.specs.View.{contents_of}
 use Rattle.sd_pagetable.proofs.TableLemmas.{not_none, some_of}
@@ -8,9 +8,7 @@ use Rattle.sd_pagetable.proofs.ReleaseLemmas.{view_removed, kept_removed}
 use Rattle.sd_pagetable.proofs.paging.Paging.remove.Goals as goal
 
 pub take-requires : goal.take-requires
-take-requires c =
-    let x = some_of (page_at c.args.self.now c.args.space c.args.page) c.requires in
-    alive_at_view c.self.inside.frames c.self.inside.tables c.args.self.now c.args.space c.args.page x.0 c.self.view_is x.1
+take-requires c = grind (arith, some_of, alive_at_view)
 
 pub release-requires : goal.release-requires
 release-requires c = λ frame is. frame_counted c.self.inside.frames c.self.inside.tables c.self.inside.mapped c.args.space c.args.page c.in-Some.entry frame c.self.invariant (sym c.take.ensures.entry ∙ c.in-Some.is) is
