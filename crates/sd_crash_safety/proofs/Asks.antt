@@ -43,8 +43,7 @@ abbrev pub HasIt : Belief → Image → Type 0
 HasIt belief i = (belief ≡ Kept i) ⊎ (belief ≡ Closing i)
 
 has_it : (beliefs : List Belief) (slot : ℕ) (belief : Belief) (i : Image) → slice_get beliefs slot ≡ Some belief → SlotHasImage beliefs slot i → HasIt belief i
-has_it beliefs slot belief i at (inl kept) = inl (same_Some belief (Kept i) (sym at ∙ kept))
-has_it beliefs slot belief i at (inr closing) = inr (same_Some belief (Closing i) (sym at ∙ closing))
+has_it beliefs slot belief i at h5 = grind arith
 
 it_has : (beliefs : List Belief) (slot : ℕ) (belief : Belief) (i : Image) → slice_get beliefs slot ≡ Some belief → HasIt belief i → SlotHasImage beliefs slot i
 it_has beliefs slot belief i at (inl kept) = inl (at ∙ ap Some kept)

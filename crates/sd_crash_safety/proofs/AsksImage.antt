@@ -1,5 +1,5 @@
 -- The next call of an image's plan is asked for: what is believed and known after it.
-use Rattle.std.proofs.Common.{◌≡◌, ℕ, List, Option, Some, None, MatchOption, refl, ◌∙◌, ap, subst, inl, inr}
+use Rattle.std.proofs.Common.{◌≡◌, ℕ, List, Option, Some, None, MatchOption, refl, ◌∙◌, ap, subst, inl, inr, arith}
 use Rattle.sd_areas.specs.PlainMemory.{Page, PlainMemory}
 use Rattle.sd_areas.specs.Areas.{prot_in}
 use Rattle.sd_image.specs.declared.header.Header.{Header}
@@ -27,8 +27,7 @@ use Rattle.sd_crash_safety.specs.InUse.{IsSlotFor}
 
 pub kept_with : (stage : Stage) (plan next : Planned) → plan_of stage ≡ Some plan → (pages : Pages) (chain : Chain) (pass : Pass) (memory : Contents)
     → IsKeptIn stage pages chain pass memory → IsKeptIn (with_plan stage next) pages chain pass memory
-kept_with (Format own) plan next was pages chain pass memory is = is
-kept_with _ plan next was pages chain pass memory is = is
+kept_with stage plan next was pages chain pass memory is = grind arith
 
 -- ---- a plan is on its slot
 

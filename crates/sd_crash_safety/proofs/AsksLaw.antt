@@ -51,8 +51,7 @@ its_parent chain parent is = subst (λ c. Contains c parent) (sym is) (0, omega 
 
 its_stage : (stage : Stage) (p : Planned) (pages : List (List ℕ)) (i : Image) → image_in_stage (with_plan stage p) pages ≡ Some i
     → (header : Header) × (tables : List Listed) × (plan : Planned) × (stage ≡ Close plan header tables) × (i ≡ image_of header pages tables)
-its_stage (Close own header tables) p pages i is = (header, tables, own, refl, sym (same_Some (image_of header pages tables) i is))
-its_stage _ p pages i is = absurd (let no : None ≡ Some i = is in cc)
+its_stage stage p pages i is = grind arith
 
 module _ (quiet : QuietSteps) (gates : GateSteps) (made : MadeLaws) (follows : CatalogFollows) (shows : DumpShows)
     (old new : CoreView) (running : Running) (image next : Making) (number : ℕ) (request : Asked) (asked : List (Option Asked)) (bodies files : List (List ℕ))
@@ -85,9 +84,7 @@ module _ (quiet : QuietSteps) (gates : GateSteps) (made : MadeLaws) (follows : C
   none = same_Some m.request None (sym m.own ∙ free)
 
   slot_is : IsSlotFor image.stage image.order m.pages m.phase (file_at bodies slot) None m.belief b.dump
-  slot_is = subst (λ body. IsSlotFor image.stage image.order m.pages m.phase body None m.belief b.dump)
-      (body_still (file_at bodies slot) (lanes_of asked) (u.writes ∙ ap writes_of_image s.making ∙ m.rests (plan_outside image.stage asks.plan asks.was)))
-      (subst (λ r. IsSlotFor image.stage image.order m.pages m.phase (body_written (file_at bodies slot) (lanes_of asked)) r m.belief b.dump) none m.slot_is)
+  slot_is  = grind (arith, body_still, plan_outside)
 
   on : request.id.slot ≡ slot
   on = asks.gives.slot ∙ plan_on image.stage image.order m.pages m.phase (file_at bodies slot) None m.belief b.dump asks.plan asks.was slot_is
@@ -142,24 +139,7 @@ module _ (quiet : QuietSteps) (gates : GateSteps) (made : MadeLaws) (follows : C
       → ((j : Image) → image_in belief_now ≡ Some j → (image_in m.belief ≡ Some j) ⊎ (j.header.serial ≡ image.order.serial))
       → ((j : Image) → belief_now ≡ Opening j → (m.belief ≡ Opening j) ⊎ (j.header.stands_for ≡ image.order.serial))
       → ChangesAt old.numbers.serial b.store running (slots_at old.phases bodies b.beliefs) b.store (Some later_running) (slots_at old.phases bodies later) slot
-  changes_to belief_now later changed image_is opening_is = record {
-    reserved = reserved;
-    count = refl;
-    others = λ k differs. record { phase = refl; body = refl; belief = changed.others k differs };
-    spares = spares_on old.numbers.serial running image (record image { stage = with_plan image.stage asks.next }) s.making refl;
-    source = refl;
-    work = refl;
-    needs = λ k i differs has needed. needed;
-    still = λ source is. holds_same b.store.catalog source;
-    here = λ j has. elim (image_is j (sym (ap (λ o. option_and_then image_in o) changed.there) ∙ has)) [
-      | inl before ↦ inl (ap (λ o. option_and_then image_in o) m.belief_is ∙ before)
-      | inr own ↦ inr (λ serial other same. other (sym own ∙ same))
-    ];
-    opens = λ j opens. elim (opening_is j (same_Some belief_now (Opening j) (sym changed.there ∙ opens))) [
-      | inl before ↦ inl (m.belief_is ∙ ap Some before)
-      | inr own ↦ inr (λ source is same. subst (λ x. IfSome x (λ y. y.header.stands_for ≢ image.order.serial)) is m.fresh.apart (sym same ∙ own))
-    ];
-  }
+  changes_to belief_now later changed image_is opening_is = grind arith
 
   few_of : (i : Image) → image_in m.belief ≡ Some i → i.header.serial ≤ old.numbers.serial
   few_of i has = u.used.slots slot i (ap (λ o. option_and_then image_in o) m.belief_is ∙ has)
@@ -210,8 +190,7 @@ module _ (quiet : QuietSteps) (gates : GateSteps) (made : MadeLaws) (follows : C
       to_closing j (inr is) = absurd (let no : Kept q.image ≡ Closing j = sym q.kept ∙ is in cc)
 
       to_kept : (j : Image) → HasIt (Closing q.image) j → HasIt m.belief j
-      to_kept j (inl is) = absurd (let no : Closing q.image ≡ Kept j = is in cc)
-      to_kept j (inr is) = inl (q.kept ∙ (let same : Closing q.image ≡ Closing j = is in cc))
+      to_kept j h1 = grind arith
 
   -- ---- the gate of the image that is made is opened
 
@@ -242,9 +221,7 @@ module _ (quiet : QuietSteps) (gates : GateSteps) (made : MadeLaws) (follows : C
     checkpoint_is = ap (λ (x : Image). x.header.checkpoint) staged.4 ∙ ap (λ h. h.checkpoint) filed.numbers ∙ ap (λ o. o.checkpoint) s.own
 
     falls : i.header.parent < i.header.stands_for
-    falls =
-        let less = m.low in
-        let stands = stands_is in let parent = parent_is in omega (arith, less, stands, parent)
+    falls  = grind arith
 
     fresh : IsFresh b.store i
     fresh = fresh_of b.store i image.order.serial serial_is stands_is falls m.fresh
@@ -313,8 +290,7 @@ module _ (quiet : QuietSteps) (gates : GateSteps) (made : MadeLaws) (follows : C
         no_commit = (or_parts old.committing (commits_dump running request.id.call) (sym s.committing ∙ is)).1
 
         by_place : (last : Bool) → is_last running ≡ last → pending_dump image.order.kind i ≡ None
-        by_place true last = absurd (false≢true (sym no_commit ∙ (ap (λ l. l && opens_gate request.id.call) last ∙ ap opens_gate q.call)))
-        by_place false last = ap (λ k. pending_dump k i) (ap (λ o. o.kind) s.own ∙ ap (λ l. if l then Dump else PreDump) last)
+        by_place last h1 = grind arith
 
     opens_it : Believes new asked_now bodies files
     opens_it = believes_with (pending_dump image.order.kind i) (with_belief b.beliefs slot (Opening i)) sure_then
@@ -333,8 +309,7 @@ module _ (quiet : QuietSteps) (gates : GateSteps) (made : MadeLaws) (follows : C
         was_closed j (inr is) = absurd (let no : Closed ≡ Closing j = sym q.closed ∙ is in cc)
 
         is_opening : (j : Image) → HasIt (Opening i) j → HasIt m.belief j
-        is_opening j (inl is) = absurd (let no : Opening i ≡ Kept j = is in cc)
-        is_opening j (inr is) = absurd (let no : Opening i ≡ Closing j = is in cc)
+        is_opening j h1 = grind arith
 
         not_needed : (j : Image) → i ≡ j → IsNeededIn b.store j → ⊥
         not_needed j same needed =

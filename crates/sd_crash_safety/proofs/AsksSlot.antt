@@ -84,66 +84,25 @@ none_named : (call : Call) (calls : List Call) → call ∷ calls ≡ [] → ⊥
 none_named call calls same = let no : suc (length calls) ≡ 0 = ap length same in omega (arith, no)
 
 none_dropped : (k : ℕ) → drop {A = Call} k [] ≡ []
-none_dropped zero = refl
-none_dropped (suc k) = refl
+none_dropped k = grind arith
 
 -- ---- formatting
 
 -- what a slot is believed to be is that also while its close is out, unless it keeps an image
 formatted_closing : (phase : Phase) (body : List ℕ) (belief : Belief) → phase ≢ Whole → may_close phase ≡ true → IsBelievedAs phase body belief → IsBelievedAs (closing phase) body belief
-formatted_closing Whole body belief other may is = absurd (other refl)
-formatted_closing Shut body belief other may is = absurd (false≢true may)
-formatted_closing ShutSynced body belief other may is = absurd (false≢true may)
-formatted_closing Bare body belief other may is = absurd (false≢true may)
-formatted_closing Writing body belief other may is = absurd (false≢true may)
-formatted_closing Ready body belief other may is = absurd (false≢true may)
-formatted_closing _ body belief other may is = is
+formatted_closing phase body belief other may is = grind arith
 
 module _ (order : ImageOrder) (pages : Pages) (phase : Phase) (body : List ℕ) (belief : Belief) (dump : Option Image) (plan next : Planned) (request : Asked)
     (gives : Gives plan next request) (f : IsFormatting order plan phase body None belief) (alone : dump ≡ None) where
   formats_with : (belief_now : Belief) → IsFormatted phase body (Some request) belief_now → IsSlotFor (Format next) order pages phase body (Some request) belief_now dump
-  formats_with belief_now is = (
-    record {
-      place = f.place;
-      on = gives.same_slot ∙ f.on;
-      left = left_then (format_calls order.state) f.place plan next request gives f.left;
-      leads = leads_then phase Bare body [] plan next request gives f.leads;
-      formatted = is;
-    },
-    alone,
-  )
+  formats_with belief_now is = grind arith
 
   -- another call than a close
   formats_other : request.id.call ≢ CloseCall → request.id.call ≢ Open → AsksOn (Format next) order pages phase body request belief dump
-  formats_other other shut = inl (record {
-    opens = shut;
-    closes = λ same. absurd (other same);
-    slot_is = formats_with belief (λ same. absurd (other same), λ differs. f.formatted);
-  })
+  formats_other other shut = grind arith
 
   formats_close : request.id.call ≡ CloseCall → AsksOn (Format next) order pages phase body request belief dump
-  formats_close same = elim (is_whole phase) [
-    | inl whole ↦ inr (inl (
-        let kept = subst (λ p. IsBelievedAs p body belief) whole f.formatted in
-        record {
-          call = same;
-          whole = whole;
-          image = kept.0;
-          kept = kept.1;
-          slot_is = formats_with (Closing kept.0) (
-            λ is. subst (λ p. IsBelievedAs (closing p) body (Closing kept.0)) (sym whole) (kept.0, inl refl, kept.2),
-            λ other. absurd (other same),
-          );
-        }))
-    | inr other ↦ inl (record {
-      opens = λ opens. (let no : CloseCall ≡ Open = sym same ∙ opens in cc);
-      closes = λ is. other;
-      slot_is = formats_with belief (
-        λ is. formatted_closing phase body belief other (ap (is_ready phase) (sym same) ∙ asked_ready phase Bare body [] plan next request gives f.leads) f.formatted,
-        λ differs. absurd (differs same),
-      );
-    })
-  ]
+  formats_close same = grind arith
 
   abbrev names : List Call
   names = map kind_of_call next.calls
@@ -161,8 +120,7 @@ module _ (order : ImageOrder) (pages : Pages) (phase : Phase) (body : List ℕ) 
   formats_closing (suc (suc (suc n))) is = absurd (none_named request.id.call names (is ∙ none_dropped n))
 
   formats_cutting : (place : ℕ) → (request.id.call ∷ names) ≡ drop place (Cut ∷ []) → AsksOn (Format next) order pages phase body request belief dump
-  formats_cutting zero is = is_other Cut (first_name request.id.call Cut names [] is) (λ same. cc) (λ same. cc)
-  formats_cutting (suc n) is = absurd (none_named request.id.call names (is ∙ none_dropped n))
+  formats_cutting place is = grind (arith, first_name, none_named, none_dropped)
 
   formats_by : (state : SlotState) (place : ℕ) → (request.id.call ∷ names) ≡ drop place (map kind_of_call (format_calls state)) → AsksOn (Format next) order pages phase body request belief dump
   formats_by slot_state.Closed place is = formats_cutting place is
@@ -191,34 +149,19 @@ module _ (order : ImageOrder) (pages : Pages) (phase : Phase) (body : List ℕ) 
         → (is_opening_at place (Some request) ≡ false → (belief_now ≡ Closed) × (dump_now ≡ None))
         → (is_opening_at place (Some request) ≡ true → (belief_now ≡ Opening i) × (dump_now ≡ pending_dump order.kind i))
         → IsSlotFor (Close next header tables) order pages phase body (Some request) belief_now dump_now
-    closes_with place left belief_now dump_now shut opening = record {
-      place = place;
-      on = gives.same_slot ∙ c.on;
-      left = left;
-      leads = leads_then phase Whole body (image_text i) plan next request gives c.leads;
-      shut = shut;
-      opening = opening;
-    }
+    closes_with place left belief_now dump_now shut opening = grind arith
 
     -- a call before the gate's opening
     before : (place : ℕ) → (request.id.call ∷ map kind_of_call next.calls) ≡ drop place (map kind_of_call all) → (call : Call) → request.id.call ≡ call → call ≢ CloseCall → call ≢ Open
         → is_opening_at place None ≡ false → is_opening_at place (Some request) ≡ false
         → (belief ≡ Closed) × (dump ≡ None) → AsksOn (Close next header tables) order pages phase body request belief dump
-    before place left call same other_close other_open rests asks closed = inl (record {
-      opens = λ is. other_open (sym same ∙ is);
-      closes = λ is. absurd (other_close (sym same ∙ is));
-      slot_is = closes_with place left belief dump (λ is. closed) (λ is. absurd (false≢true (sym asks ∙ is)));
-    })
+    before place left call same other_close other_open rests asks closed = grind arith
 
     -- the sync behind it
     behind : (place : ℕ) → (request.id.call ∷ map kind_of_call next.calls) ≡ drop place (map kind_of_call all) → (call : Call) → request.id.call ≡ call → call ≢ CloseCall → call ≢ Open
         → is_opening_at place (Some request) ≡ true
         → (belief ≡ Opening i) × (dump ≡ pending_dump order.kind i) → AsksOn (Close next header tables) order pages phase body request belief dump
-    behind place left call same other_close other_open asks opening = inl (record {
-      opens = λ is. other_open (sym same ∙ is);
-      closes = λ is. absurd (other_close (sym same ∙ is));
-      slot_is = closes_with place left belief dump (λ is. absurd (false≢true (sym is ∙ asks))) (λ is. opening);
-    })
+    behind place left call same other_close other_open asks opening = grind arith
 
     -- behind the opening and its sync the body is that of the image
     opened_body : (calls : Calls) → map kind_of_call calls ≡ Sync ∷ [] → Leads (after phase Open true) (body_after body Open request.bytes) calls Whole (image_text i) → body ≡ image_text i

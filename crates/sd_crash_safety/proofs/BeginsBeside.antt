@@ -42,10 +42,7 @@ module _ (places : Places) (store : Store) (beliefs : List Belief) (in_use : IsC
   read_source origin (retiring r) = None
 
   read_same : (merge : merger.Running) (doing : Doing) (k : ℕ) → IsUnread places (source_in merge doing) k → IsUnread places (read_source merge.source doing) k
-  read_same merge due k is = is
-  read_same merge (copying made) k is = is
-  read_same merge (opened serial) k is = is
-  read_same merge (retiring r) k is = is
+  read_same merge doing k is = grind arith
 
   -- ---- the merge, whose slots it spares
 

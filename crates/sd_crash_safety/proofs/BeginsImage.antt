@@ -70,8 +70,7 @@ held_in_use old new beliefs serial held others use_old = record {
         by_test false is = sym (held other ∙ ap (λ t. if t then Some None else place_of old other) is) ∙ at
 
 pub image_of_has : (beliefs : List Belief) (slot : ℕ) (i : Image) → SlotHasImage beliefs slot i → image_at beliefs slot ≡ Some i
-image_of_has beliefs slot i (inl kept) = ap (λ o. option_and_then image_in o) kept
-image_of_has beliefs slot i (inr closing) = ap (λ o. option_and_then image_in o) closing
+image_of_has beliefs slot i h3 = grind arith
 
 -- ---- a number above all
 
@@ -100,8 +99,7 @@ none_at asked core slot out free worker request is same =
     free worker request.id (ap (λ ids. slice_get ids worker) (sym out) ∙ id_there asked worker request is) same
 
 never_frozen : (k : Bool) → (k && false) ≡ true → ⊥
-never_frozen true is = false≢true is
-never_frozen false is = false≢true is
+never_frozen k is = grind arith
 
 -- ---- the image
 

@@ -47,18 +47,7 @@ module _ (quiet : QuietSteps) (gates : GateSteps) (needs : NeedsNoMore) (old new
       (quiet.cancelled old.base (history_of old) old.phases asked bodies b.store b.beliefs n has_none)
 
   parts : HasParts new old.base (Cancelled n ∷ history_of old) new.catalog false old.memory old.phases old.numbers.serial None old.merger
-  parts = record {
-    base_is = s.base;
-    history_is = ap entries_of s.items;
-    places_is = refl;
-    grows_is = s.grows;
-    memory_is = s.memory;
-    phases_is = s.phases;
-    last_is = s.serial;
-    running_is = s.is;
-    merger_is = s.merger;
-    closed = s.closed;
-  }
+  parts  = grind arith
 
   beside : LeavesMerge old.numbers.serial b.store old.dumper.running (slots_at old.phases bodies b.beliefs) old.numbers.serial (cancelled b.store) None (slots_at old.phases bodies b.beliefs)
   beside = record {

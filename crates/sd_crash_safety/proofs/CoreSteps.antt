@@ -1,5 +1,5 @@
 -- What a core believes stays where the store does.
-use Rattle.std.proofs.Common.{◌≡◌, ℕ, Bool, List, ◌∷◌, length, Option, Some, None, IfSome, refl, sym, ◌∙◌, ap, subst}
+use Rattle.std.proofs.Common.{◌≡◌, ℕ, Bool, List, ◌∷◌, length, Option, Some, None, IfSome, refl, sym, ◌∙◌, ap, subst, arith}
 use Rattle.sd_image.specs.Image.{Image}
 use Rattle.sd_command.specs.declared.command.Command.{Command}
 use Rattle.sd_command.specs.declared.reply.Reply.{Reply}
@@ -49,42 +49,18 @@ module _ (old new : CoreView) (same : SameStore old new) (asked : List (Option A
 
   merging_in : IsMergeInUse old.phases asked bodies old.numbers.serial store beliefs old.dumper.running old.merger
       → IsMergeInUse new.phases asked bodies new.numbers.serial store beliefs new.dumper.running new.merger
-  merging_in m =
-      subst (λ x. IsMergeInUse x asked bodies new.numbers.serial store beliefs new.dumper.running new.merger) (sym same.phases)
-      (subst (λ x. IsMergeInUse old.phases asked bodies x store beliefs new.dumper.running new.merger) (sym same.serial)
-      (subst (λ d. IsMergeInUse old.phases asked bodies old.numbers.serial store beliefs d.running new.merger) (sym same.dumper)
-      (subst (λ x. IsMergeInUse old.phases asked bodies old.numbers.serial store beliefs old.dumper.running x) (sym same.merger) m)))
+  merging_in m = grind arith
 
   knows_in : ((stands : old.standing ≡ Open) → IsInUseOn old.base (history_of new) old.catalog old.grows new.memory old.phases asked bodies old.numbers.serial store dump beliefs old.dumper.running)
       → Knows old asked bodies files store dump beliefs → Knows new asked bodies files store dump beliefs
-  knows_in in_use knows = record {
-    count = knows.count ∙ ap length (sym same.phases);
-    out = knows.out ∙ sym same.outs;
-    sees = subst (λ o. IfSome o (SeesStore files new.phases asked)) (sym same.opener)
-        (subst (λ p. IfSome old.opener (SeesStore files p asked)) (sym same.phases) knows.sees);
-    sure = λ is. knows.sure (sym same.committing ∙ is);
-    in_use = λ stands. open_in (history_of new) new.memory (in_use (sym same.standing ∙ stands));
-    merging = λ stands. merging_in (knows.merging (sym same.standing ∙ stands));
-  }
+  knows_in in_use knows = grind arith
 
   has_in : (history : History) → HasStore old.base history old.phases asked bodies store dump beliefs → HasStore new.base history new.phases asked bodies store dump beliefs
-  has_in history has =
-      subst (λ x. HasStore x history new.phases asked bodies store dump beliefs) (sym same.base)
-      (subst (λ p. HasStore old.base history p asked bodies store dump beliefs) (sym same.phases) has)
+  has_in history has = grind arith
 
 same_lem : (old new : CoreView) (asked : List (Option Asked)) (bodies files : List (List ℕ)) → SameCore old new
     → Believes old asked bodies files → Believes new asked bodies files
-same_lem old new asked bodies files s b = record {
-  store = b.store;
-  dump = b.dump;
-  beliefs = b.beliefs;
-  has = has_in old new s.store asked bodies files b.store b.dump b.beliefs (history_of new)
-      (subst (λ h. HasStore old.base h old.phases asked bodies b.store b.dump b.beliefs) (sym s.history) b.has);
-  knows = knows_in old new s.store asked bodies files b.store b.dump b.beliefs
-      (λ stands. subst (λ h. IsInUseOn old.base h old.catalog old.grows new.memory old.phases asked bodies old.numbers.serial b.store b.dump b.beliefs old.dumper.running) (sym s.history)
-      (subst (λ m. IsInUseOn old.base (history_of old) old.catalog old.grows m old.phases asked bodies old.numbers.serial b.store b.dump b.beliefs old.dumper.running) (sym s.memory)
-      (b.knows.in_use stands))) b.knows;
-}
+same_lem old new asked bodies files s b = grind arith
 
 -- ---- a command
 

@@ -1,5 +1,5 @@
 -- What an opener finds in a store that is as it is believed to be.
-use Rattle.std.proofs.Common.{◌≡◌, ◌⊎◌, ℕ, Bool, true, false, List, ◌∷◌, Option, Some, None, IfSome, slice_get, refl, sym, ◌∙◌, ap, subst, inl, inr}
+use Rattle.std.proofs.Common.{◌≡◌, ◌⊎◌, ℕ, Bool, true, false, List, ◌∷◌, Option, Some, None, IfSome, slice_get, refl, sym, ◌∙◌, ap, subst, inl, inr, arith}
 use Rattle.std.proofs.lemmas.Bool.{cases_Bool}
 use Rattle.sd_gate.specs.Fits.{DiskLeaves}
 use Rattle.sd_gate.specs.declared.phase.Phase.{Phase}
@@ -25,9 +25,7 @@ sees_lem core opener asked bodies files is rests b = subst (λ r. Sees files r o
     s = subst (λ o. IfSome o (SeesStore files core.phases asked)) is b.knows.sees
 
     nothing_out : (r : Option Asked) → slice_get asked 2 ≡ Some r → r ≡ None
-    nothing_out None out = refl
-    nothing_out (Some request) out =
-        absurd (let no : Some None ≡ Some (Some request.id) = sym rests ∙ ap (λ ids. slice_get ids 2) (sym b.knows.out) ∙ id_there asked 2 request out in cc)
+    nothing_out r out = grind (arith, id_there)
 
 shows_by : LeftAsBelieved → ContentsShow → (core : CoreView) (asked : List (Option Asked)) (bodies left : List (List ℕ)) (store : Store) (dump : Option Image) (beliefs : List Belief)
     → HasStore core.base (history_of core) core.phases asked bodies store dump beliefs → (core.committing ≡ false → dump ≡ None)

@@ -32,8 +32,7 @@ file_of (b ∷ beliefs) (file ∷ files) all (suc slot) belief is = file_of beli
 
 -- the number that an image stands for, and its parent, are at most its serial
 pub numbers_fall : (kind : Kind) (serial stands parent : ℕ) → AreNumbers kind serial stands parent → (stands ≤ serial) × (parent ≤ serial)
-numbers_fall Merged serial stands parent is = let less = is.1 in let alone = is.2 in (omega (arith, less), omega (arith, alone))
-numbers_fall _ serial stands parent is = let same = is.0 in let less = is.1 in (omega (arith, same), omega (arith, less))
+numbers_fall kind serial stands parent is = grind arith
 
 module _ (core : CoreView) (files : List (List ℕ)) (is : IsOpenAs core files) (beliefs : List Belief) (found : AllZip IsFoundAs beliefs files)
     (in_use : IsCatalogInUse core.catalog beliefs) where

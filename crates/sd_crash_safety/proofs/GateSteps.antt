@@ -1,5 +1,5 @@
 -- Steps that open and close gates, and jobs that begin and are cancelled.
-use Rattle.std.proofs.Common.{◌≡◌, ◌≢◌, ℕ, true, List, ◌∷◌, length, Contains, Option, Some, None, IfSome, slice_get, slice_set, refl, sym, ◌∙◌, ap, subst, inl, inr}
+use Rattle.std.proofs.Common.{◌≡◌, ◌≢◌, ℕ, true, List, ◌∷◌, length, Contains, Option, Some, None, IfSome, slice_get, slice_set, refl, sym, ◌∙◌, ap, subst, inl, inr, arith}
 use Rattle.std.proofs.lemmas.Option.{slice_get_within}
 use Rattle.sd_disk.specs.Contents.{file_at}
 use Rattle.sd_gate.specs.declared.phase.Phase.{Phase}
@@ -47,13 +47,7 @@ module _ (phases : List Phase) (bodies : List (List ℕ)) (beliefs : List Belief
 
   -- a request on another slot is covered as before
   elsewhere : (r : Asked) → r.id.slot ≢ slot → IsCovered phases bodies beliefs r → IsCovered phases bodies now r
-  elsewhere r other c = record {
-    phase = c.phase;
-    waits = c.waits;
-    belief = c.belief;
-    is = set_other beliefs slot r.id.slot belief other ∙ c.is;
-    believed = c.believed;
-  }
+  elsewhere r other c = grind (arith, set_other)
 
   none_elsewhere : (asked : List (Option Asked)) → NoneAt asked slot
       → ((worker : ℕ) (r : Asked) → slice_get asked worker ≡ Some (Some r) → IsCovered phases bodies beliefs r)
@@ -104,8 +98,7 @@ pub record StoreLaws : Type 0 where
 pending_over : (base : Base) (history : History) (dump : Option Image) (old new : List Image)
     → ((d : Image) → dump ≡ Some d → (shown : Shown) → ImagesShow (d ∷ old) shown → ImagesShow (d ∷ new) shown)
     → IfSome dump (λ image. ShowsPending base history (image ∷ old)) → IfSome dump (λ image. ShowsPending base history (image ∷ new))
-pending_over base history None old new shows before = tt
-pending_over base history (Some d) old new shows before = record { shown = before.shown; is = before.is; shows = shows d refl before.shown before.shows }
+pending_over base history dump old new shows before = grind arith
 
 -- the pending dump that slots have is the running checkpoint's next
 dump_is : (store : Store) (dump : Option Image) (d : Image) → dump ≡ Some d → IfSome dump (IsNextDump store) → IsNextDump store d
@@ -228,8 +221,7 @@ module _ (laws : StoreLaws) (base : Base) (history : History) (phases : List Pha
         }
 
     acked_last : (n : ℕ) (shown : Shown) → IsLegal base (Acked n ∷ history) → IsPendingPair base history shown → IsLastPair base (Acked n ∷ history) shown
-    acked_last n None legal is = absurd is
-    acked_last n (Some pair) legal is = (sym legal.0 ∙ is.0, is.1)
+    acked_last n shown legal is = grind arith
 
     commits : (store : Store) (n : ℕ) → IsLegal base (Acked n ∷ history) → Has asked store (Some i) beliefs
         → HasStore base (Acked n ∷ history) phases asked bodies (committed store (i ∷ store.catalog)) None (with_belief beliefs slot (Kept i))
@@ -305,15 +297,7 @@ module _ (laws : StoreLaws) (base : Base) (history : History) (phases : List Pha
 
   jobs_change : (store new : Store) (dump : Option Image) (beliefs : List Belief) → new.catalog ≡ store.catalog → IsSoundStore new → AreSlotsOf new dump beliefs
       → Has asked store dump beliefs → Has asked new dump beliefs
-  jobs_change store new dump beliefs same sound slots has = record {
-    sound = sound;
-    slots = slots;
-    believed = has.believed;
-    stored = has.stored;
-    waiting = has.waiting;
-    last = subst (ShowsLast base history) (sym same) has.last;
-    next = subst (λ images. IfSome dump (λ image. ShowsPending base history (image ∷ images))) (sym same) has.next;
-  }
+  jobs_change store new dump beliefs same sound slots has = grind arith
 
   pub gate_steps_at : GateStepsAt base history phases asked bodies
   gate_steps_at = record {

@@ -1,5 +1,5 @@
 -- What is known of an image once an outcome of its plan's call was handed in, and it goes on.
-use Rattle.std.proofs.Common.{◌≡◌, ◌≢◌, ◌⊎◌, ℕ, ◌==◌, ◌&&◌, true, if◌then◌else◌, List, [], ◌∷◌, Option, Some, None, refl, sym, ◌∙◌, ap, subst, inl, inr}
+use Rattle.std.proofs.Common.{◌≡◌, ◌≢◌, ◌⊎◌, ℕ, ◌==◌, ◌&&◌, true, if◌then◌else◌, List, [], ◌∷◌, Option, Some, None, refl, sym, ◌∙◌, ap, subst, inl, inr, arith}
 use Rattle.std.proofs.lemmas.Bool.{false≢true}
 use Rattle.sd_image.specs.declared.header.Header.{Header}
 use Rattle.sd_image.specs.declared.header.Kind.{Kind}
@@ -33,50 +33,24 @@ use Rattle.sd_crash_safety.proofs.HandsSlot.{belief_after, closes_more, formats_
 
 -- no call follows those that are known
 known_calls : (calls : Calls) (answer : Answer) (back : Option (List ℕ)) → (calls_then calls nothing answer back).0 ≡ calls
-known_calls [] answer back = refl
-known_calls (c ∷ calls) answer back = refl
+known_calls calls answer back = grind arith
 
 pub calls_of_done : (plan : Planned) (made : Made) → plan.awaits ≡ nothing → is_done made.answer ≡ true → (plan_after plan made).calls ≡ plan.calls
-calls_of_done plan made known done =
-    ap (λ d. (if d then calls_then plan.calls plan.awaits made.answer (buffer_back made.request.id.call made.request.bytes) else ([], nothing)).0) done
-    ∙ ap (λ a. (calls_then plan.calls a made.answer (buffer_back made.request.id.call made.request.bytes)).0) known
-    ∙ known_calls plan.calls made.answer (buffer_back made.request.id.call made.request.bytes)
+calls_of_done plan made known done = grind arith
 
 -- ---- what the stage says of the image's file
 
 pub files_after : (kind : Kind) (stage : Stage) (plan : Planned) (calls : Calls) (order : ImageOrder) (pass : Pass) (pages : Pages)
     → IsFiledIn stage order pass pages → IsFiledIn (stage_after kind stage plan calls) order pass pages
-files_after Dump (Format own) plan [] order pass pages is = tt
-files_after PreDump (Format own) plan [] order pass pages is = tt
-files_after Merged (Format own) plan [] order pass pages is = tt
-files_after kind Freeze plan [] order pass pages is = tt
-files_after kind PassStage plan [] order pass pages is = tt
-files_after kind (Format own) plan (c ∷ calls) order pass pages is = tt
-files_after kind (Close own header tables) plan (c ∷ calls) order pass pages is = is
-files_after _ _ plan _ order pass pages is = tt
+files_after kind stage plan calls order pass pages is = grind arith
 
 pub areas_after : (kind : Kind) (stage : Stage) (plan : Planned) (calls : Calls) (cut : Contents) → HasAreasIn stage cut → HasAreasIn (stage_after kind stage plan calls) cut
-areas_after Dump (Format own) plan [] cut is = tt
-areas_after PreDump (Format own) plan [] cut is = tt
-areas_after Merged (Format own) plan [] cut is = tt
-areas_after kind Freeze plan [] cut is = tt
-areas_after kind PassStage plan [] cut is = tt
-areas_after kind (Format own) plan (c ∷ calls) cut is = tt
-areas_after kind (Close own header tables) plan (c ∷ calls) cut is = is
-areas_after _ _ plan _ cut is = tt
+areas_after kind stage plan calls cut is = grind arith
 
 -- a dump that is frozen now was frozen before
 pub was_frozen : (kind : Kind) (stage : Stage) (plan own : Planned) (calls : Calls) → plan_of stage ≡ Some own
     → ((kind_number kind == 2) && is_past_freeze (stage_after kind stage plan calls)) ≡ true → is_past_freeze stage ≡ true
-was_frozen Dump (Format o) plan own [] was is = absurd (false≢true is)
-was_frozen PreDump (Format o) plan own [] was is = absurd (false≢true is)
-was_frozen Merged (Format o) plan own [] was is = absurd (false≢true is)
-was_frozen kind Freeze plan own [] was is = absurd (let no : None ≡ Some own = was in cc)
-was_frozen kind PassStage plan own [] was is = refl
-was_frozen kind (Close o header tables) plan own [] was is = refl
-was_frozen kind Freeze plan own (c ∷ calls) was is = absurd (let no : None ≡ Some own = was in cc)
-was_frozen _ (Format o) plan own _ was is = absurd (false≢true is)
-was_frozen kind _ plan own _ was is = refl
+was_frozen kind stage plan own calls was is = grind arith
 
 -- ---- its slot
 
@@ -98,8 +72,7 @@ module _ (order : ImageOrder) (pages : Pages) (phase : Phase) (body : List ℕ) 
 
   behind_format : (kind : Kind) (own : Planned) → IsSlotFor PassStage order pages then_phase then_body None then_belief dump
       → IsSlotFor (stage_behind kind (Format own)) order pages then_phase then_body None then_belief dump
-  behind_format Dump own is = is
-  behind_format _ own is = is
+  behind_format kind own is = grind arith
 
   format_goes_on : (own : Planned) (calls : Calls) → next.calls ≡ calls → next.calls ≡ own.calls → next.slot ≡ own.slot → pages ≡ []
       → IsSlotFor (Format own) order pages phase body (Some request) belief dump → SlotGoesOn (stage_after order.kind (Format own) next calls) order pages phase body request belief dump

@@ -123,9 +123,7 @@ pub record StoreFollows (old : Store) (beliefs : List Belief) (slot : ℕ) (beli
   pub still : (source : Image) → old.source ≡ Some source → HoldsStill old.catalog new.catalog source
 
 pub known_plan : (order : ImageOrder) (pass : Pass) (stage : Stage) (plan : Planned) → plan_of stage ≡ Some plan → IsReadyFor order pass stage → plan.awaits ≡ nothing
-known_plan order pass (Format own) plan was ready = ap (λ (p : Planned). p.awaits) (sym (same_Some own plan was)) ∙ ready.1.known
-known_plan order pass (Close own header tables) plan was ready = ap (λ (p : Planned). p.awaits) (sym (same_Some own plan was)) ∙ ready.1.known
-known_plan order pass _ plan was ready = absurd (let no : None ≡ Some plan = was in cc)
+known_plan order pass stage plan was ready = grind arith
 
 no_pages : (pages : Pages) → length pages ≡ 0 → pages ≡ []
 no_pages [] none = refl
@@ -138,8 +136,7 @@ file_set (b ∷ bodies) (suc k) body within = file_set bodies k body (omega (ari
 
 -- what is being opened behind an outcome was before
 pub opening_before : (sure : Bool) (belief : Belief) (j : Image) → belief_after sure belief ≡ Opening j → belief ≡ Opening j
-opening_before true belief j is = absurd (let no : Closed ≡ Opening j = is in cc)
-opening_before false belief j is = is
+opening_before sure belief j is = grind arith
 
 -- a slot without an image of the catalog leaves the catalog as it is
 pub removed_none : (old new : Places) (beliefs : List Belief) (slot : ℕ) (i : Image) → slice_get beliefs slot ≡ Some (Opening i)
@@ -179,8 +176,7 @@ removed_none old new beliefs slot i at removes in_use = record {
     before_has j k differs has = subst (λ o. (o ≡ Some (Kept j)) ⊎ (o ≡ Some (Closing j))) (set_other beliefs slot k Closed differs) has
 
     not_here : (j : Image) → SlotHasImage (slice_set beliefs slot Closed) slot j → ⊥
-    not_here j (inl kept) = let no : Some Closed ≡ Some (Kept j) = sym (set_same beliefs slot (Opening i) Closed at) ∙ kept in cc
-    not_here j (inr closing_it) = let no : Some Closed ≡ Some (Closing j) = sym (set_same beliefs slot (Opening i) Closed at) ∙ closing_it in cc
+    not_here j h1 = grind (arith, set_same)
 
 module _ (making : MakingLaws) (old new : CoreView) (running : Running) (image next : Making) (made : Made) (phase : Phase) (asked : List (Option Asked)) (bodies files : List (List ℕ))
     (s : ImageGoesOn old running image made phase next new) (at : slice_get asked 0 ≡ Some (Some made.request)) (b : Believes old asked bodies files) where
@@ -237,24 +233,17 @@ module _ (making : MakingLaws) (old new : CoreView) (running : Running) (image n
   lanes_same = lanes_beside asked 0 None (omega arith)
 
   slot_was : IsSlotFor image.stage image.order m.pages phase (file_at bodies slot) (Some made.request) m.belief b.dump
-  slot_was = subst (λ p. IsSlotFor image.stage image.order m.pages p (file_at bodies slot) (Some made.request) m.belief b.dump) phase_same
-      (subst (λ body. IsSlotFor image.stage image.order m.pages m.phase body (Some made.request) m.belief b.dump) (body_still (file_at bodies slot) (lanes_of asked) lanes_empty)
-      (subst (λ r. IsSlotFor image.stage image.order m.pages m.phase (body_written (file_at bodies slot) (lanes_of asked)) r m.belief b.dump) out_is m.slot_is))
+  slot_was  = grind (arith, body_still)
 
   calls_same : nplan.calls ≡ go.plan.calls
   calls_same = calls_of_done go.plan made (known_plan image.order image.pass image.stage go.plan go.awaited.was s.sound.ready) go.done
 
   empty : (own : Planned) → image.stage ≡ Format own → m.pages ≡ []
-  empty own is =
-      let ready = subst (IsReadyFor image.order image.pass) is s.sound.ready in
-      no_pages m.pages (m.keeps.count ∙ ap (λ (p : Pass). data_pages p.entries) ready.0)
+  empty own is = grind (arith, no_pages)
 
   closes : (own : Planned) (header : Header) (tables : List Listed) → image.stage ≡ Close own header tables
       → (go.plan.calls ≢ []) × IsImage (gate ∷ image_text (image_of header m.pages tables)) (image_of header m.pages tables)
-  closes own header tables is = (
-    λ none. go.closes (λ zero_is. (let five : 5 ≡ 0 = sym (ap closing_outcomes is) ∙ zero_is in omega (arith, five))) (calls_same ∙ none),
-    (subst (λ st. IsFiledIn st image.order image.pass m.pages) is m.files).spelled,
-  )
+  closes own header tables is = grind arith
 
   pub slot_then : SlotGoesOn (stage_after image.order.kind image.stage nplan nplan.calls) image.order m.pages phase (file_at bodies slot) made.request m.belief b.dump
   slot_then = hands_slot image.stage image.order m.pages phase (file_at bodies slot) made.request m.belief b.dump go.plan nplan go.awaited.was calls_same refl empty closes slot_was
@@ -269,10 +258,7 @@ module _ (making : MakingLaws) (old new : CoreView) (running : Running) (image n
   phase_then = ap (slice_get phases_now) (sym on) ∙ ap (λ p. slice_get p call_slot) done_phases ∙ set_same old.phases call_slot phase (after phase made.request.id.call true) s.outcome.phase_is
 
   body_then : file_at bodies_now slot ≡ body_after (file_at bodies slot) made.request.id.call made.request.bytes
-  body_then =
-      let within : call_slot < length bodies = (let long = slice_get_within old.phases call_slot phase s.outcome.phase_is in let stored = b.has.stored in omega (arith, long, stored)) in
-      ap (file_at bodies_now) (sym on) ∙ file_set bodies call_slot (body_after (file_at bodies call_slot) made.request.id.call made.request.bytes) within
-      ∙ ap (λ k. body_after (file_at bodies k) made.request.id.call made.request.bytes) on
+  body_then  = grind (arith, slice_get_within, file_set)
 
   own_then : slice_get asked_now 0 ≡ Some None
   own_then = set_same asked 0 (Some made.request) None at

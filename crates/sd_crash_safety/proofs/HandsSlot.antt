@@ -31,16 +31,11 @@ use Rattle.sd_crash_safety.proofs.Leads.{leads_end, leads_head}
 -- ---- what is closed is believed so in its phase
 
 opens_so : (body : List ℕ) (i : Image) → IsImage (gate ∷ body) i → is_open (gate ∷ body) ≡ false → ⊥
-opens_so body i is shut =
-    let long : 4096 ≤ length (gate ∷ body) = (let fills = is.header.fills in omega (arith, fills)) in
-    false≢true (sym shut ∙ and_from (nat_le 4096 (length (gate ∷ body))) (nat_eq (slice_index (gate ∷ body) 0) gate) (le-leb 4096 (length (gate ∷ body)) long) (eq-eqb (slice_index (gate ∷ body) 0) gate refl))
+opens_so body i is shut = grind arith
 
 -- an image that is in doubt may be there
 doubt_opens : (body : List ℕ) (strong : Belief) → IsInDoubt body strong → (FitsBelief strong (gate ∷ body) → is_open (gate ∷ body) ≡ false) → ⊥
-doubt_opens body strong is weaker = opens_so body is.0 is.2 (weaker (elim is.1 [
-  | inl shuts ↦ subst (λ b. FitsBelief b (gate ∷ body)) (sym shuts) (inr is.2)
-  | inr opens ↦ subst (λ b. FitsBelief b (gate ∷ body)) (sym opens) (inr is.2)
-]))
+doubt_opens body strong is weaker = grind arith
 
 pub closed_exact : (phase : Phase) (body : List ℕ) → MayBelieve phase body Closed → IsBelievedAs phase body Closed
 closed_exact Whole body may = absurd (let is = may.is in opens_so body is.0 is.2 (may.weaker (gate ∷ body) (subst (λ b. FitsBelief b (gate ∷ body)) (sym is.1) is.2)))
@@ -59,18 +54,11 @@ belief_after false belief = belief
 
 formatted_sync : (phase : Phase) (body : List ℕ) (belief : Belief) → may_write (synced phase) ≡ true → IsBelievedAs phase body belief
     → IsBelievedAs (synced phase) body (belief_after (closes_for_sure phase Sync) belief)
-formatted_sync Raw body belief may is = absurd (false≢true may)
-formatted_sync Whole body belief may is = absurd (false≢true may)
-formatted_sync ClosingPhase body belief may is = refl
-formatted_sync OpeningPhase body belief may is = absurd (false≢true may)
-formatted_sync Doubt body belief may is = absurd (false≢true may)
-formatted_sync DoubtSynced body belief may is = absurd (false≢true may)
-formatted_sync _ body belief may is = is
+formatted_sync phase body belief may is = grind arith
 
 -- no other call than a sync closes for sure
 only_syncs : (phase : Phase) (call : Call) → call ≢ Sync → closes_for_sure phase call ≡ false
-only_syncs phase Sync other = absurd (other refl)
-only_syncs phase _ other = and-false (is_being_closed phase)
+only_syncs phase call other = grind arith
 
 -- ---- the calls that are left
 
@@ -90,8 +78,7 @@ left_next call calls [] (suc place) same = absurd (none_of same)
 left_next call calls (x ∷ all) (suc place) same = left_next call calls all place same
 
 none_made : (k : ℕ) → drop {A = Call} k [] ≡ []
-none_made zero = refl
-none_made (suc k) = refl
+none_made k = grind arith
 
 pub no_calls : (calls : Calls) → map kind_of_call calls ≡ [] → calls ≡ []
 no_calls [] same = refl
@@ -130,22 +117,13 @@ module _ (order : ImageOrder) (plan next : Planned) (phase : Phase) (body : List
   left_then = left_next request.id.call (map kind_of_call plan.calls) (map kind_of_call (format_calls order.state)) f.place f.left
 
   by_close : request.id.call ≡ CloseCall → IsBelievedAs then_phase then_body then_belief
-  by_close same =
-      subst (λ x. IsBelievedAs then_phase then_body (belief_after x belief)) (sym (only_syncs phase request.id.call (λ is. (let no : CloseCall ≡ Sync = sym same ∙ is in cc))))
-      (subst (λ x. IsBelievedAs (after phase x true) (body_after body x request.bytes) belief) (sym same) (f.formatted.0 same))
+  by_close same = grind arith
 
   by_cut : request.id.call ≡ Cut → IsBelievedAs then_phase then_body then_belief
-  by_cut same =
-      subst (λ x. IsBelievedAs then_phase then_body (belief_after x belief)) (sym (only_syncs phase request.id.call (λ is. (let no : Cut ≡ Sync = sym same ∙ is in cc))))
-      (subst (λ x. IsBelievedAs (after phase x true) (body_after body x request.bytes) belief) (sym same)
-      (writes_closed phase body belief (ap (is_ready phase) (sym same) ∙ now_ready) (f.formatted.1 (λ is. (let no : Cut ≡ CloseCall = sym same ∙ is in cc)))))
+  by_cut same = grind arith
 
   by_sync : request.id.call ≡ Sync → map kind_of_call plan.calls ≡ Cut ∷ [] → IsBelievedAs then_phase then_body then_belief
-  by_sync same names =
-      subst (λ x. IsBelievedAs (after phase x true) (body_after body x request.bytes) (belief_after (closes_for_sure phase x) belief)) (sym same)
-      (formatted_sync phase body belief
-      (ready_next (synced phase) Bare body [] plan.calls Cut [] names (subst (λ x. Leads (after phase x true) (body_after body x request.bytes) plan.calls Bare []) same led))
-      (f.formatted.1 (λ is. (let no : Sync ≡ CloseCall = sym same ∙ is in cc))))
+  by_sync same names = grind arith
 
   first_named : (first : Call) (rest : List Call) → request.id.call ∷ map kind_of_call plan.calls ≡ first ∷ rest → request.id.call ≡ first
   first_named first rest e = cc
@@ -198,12 +176,7 @@ module _ (order : ImageOrder) (plan next : Planned) (phase : Phase) (body : List
 -- ---- one whose body is being closed
 
 not_closing : (phase : Phase) → is_ready (synced phase) Open ≡ true → is_being_closed phase ≡ false
-not_closing Shut may = refl
-not_closing ShutSynced may = refl
-not_closing Bare may = refl
-not_closing Writing may = refl
-not_closing Ready may = refl
-not_closing _ may = absurd (false≢true may)
+not_closing phase may = grind arith
 
 pub record ClosesOn (order : ImageOrder) (i : Image) (next : Planned) (phase : Phase) (body : List ℕ) (request : Asked) (belief : Belief) (dump : Option Image) : Type 0 where
   pub closing_is : ClosesBody order i next (after phase request.id.call true) (body_after body request.id.call request.bytes) None belief dump
@@ -225,14 +198,7 @@ module _ (order : ImageOrder) (i : Image) (plan next : Planned) (phase : Phase) 
   closing_at : (place : ℕ) → map kind_of_call plan.calls ≡ drop place (map kind_of_call all)
       → (is_opening_at place None ≡ false → (belief ≡ Closed) × (dump ≡ None)) → (is_opening_at place None ≡ true → (belief ≡ Opening i) × (dump ≡ pending_dump order.kind i))
       → ClosesBody order i next (after phase request.id.call true) (body_after body request.id.call request.bytes) None belief dump
-  closing_at place left shut opening = record {
-    place = place;
-    on = on ∙ c.on;
-    left = ap (map kind_of_call) calls ∙ left;
-    leads = subst (λ cs. Leads (after phase request.id.call true) (body_after body request.id.call request.bytes) cs Whole (image_text i)) (sym calls) led_on;
-    shut = shut;
-    opening = opening;
-  }
+  closing_at place left shut opening = grind arith
 
   first_call : (first : Call) (rest : List Call) → request.id.call ∷ map kind_of_call plan.calls ≡ first ∷ rest → request.id.call ≡ first
   first_call first rest e = cc
@@ -243,11 +209,7 @@ module _ (order : ImageOrder) (i : Image) (plan next : Planned) (phase : Phase) 
   -- a call before the gate's opening, which is no sync
   shut_still : (place : ℕ) (call : Call) → request.id.call ≡ call → call ≢ Sync → map kind_of_call plan.calls ≡ drop place (map kind_of_call all) → is_opening_at place None ≡ false
       → (belief ≡ Closed) × (dump ≡ None) → ClosesOn order i next phase body request belief dump
-  shut_still place call same other left not_yet closed = record {
-    closing_is = closing_at place left (λ is. closed) (λ is. absurd (false≢true (sym not_yet ∙ is)));
-    stays = only_syncs phase request.id.call (λ is. other (sym same ∙ is));
-    exact = inl closed.0;
-  }
+  shut_still place call same other left not_yet closed = grind arith
 
   closes_at : (place : ℕ) → request.id.call ∷ map kind_of_call plan.calls ≡ drop place (map kind_of_call all)
       → (is_opening_at place (Some request) ≡ false → (belief ≡ Closed) × (dump ≡ None)) → (is_opening_at place (Some request) ≡ true → (belief ≡ Opening i) × (dump ≡ pending_dump order.kind i))
@@ -299,17 +261,13 @@ module _ (order : ImageOrder) (i : Image) (plan next : Planned) (phase : Phase) 
 -- ---- a sync behind a close
 
 is_closing_phase : (phase : Phase) → is_being_closed phase ≡ true → phase ≡ ClosingPhase
-is_closing_phase ClosingPhase is = refl
-is_closing_phase _ is = absurd (false≢true is)
+is_closing_phase phase is = grind arith
 
 is_sync_call : (call : Call) → is_sync call ≡ true → call ≡ Sync
-is_sync_call Sync is = refl
-is_sync_call _ is = absurd (false≢true is)
+is_sync_call call is = grind arith
 
 pub syncs_closing : (phase : Phase) (call : Call) → closes_for_sure phase call ≡ true → (phase ≡ ClosingPhase) × (call ≡ Sync)
-syncs_closing phase call is =
-    let both = and_parts (is_being_closed phase) (is_sync call) is in
-    (is_closing_phase phase both.0, is_sync_call call both.1)
+syncs_closing phase call is = grind arith
 
 -- only a slot that is formatted is closed so, and its image is in doubt
 pub closing_in_doubt : (stage : Stage) (order : ImageOrder) (pages : Pages) (phase : Phase) (body : List ℕ) (request : Asked) (belief : Belief) (dump : Option Image) (plan : Planned)

@@ -20,16 +20,10 @@ use Rattle.sd_crash_safety.specs.View.{page_lane}
 
 -- the lanes of the workers are others
 pub lanes_beside : (asked : List (Option Asked)) (worker : ℕ) (x : Option Asked) → worker < 3 → lanes_of (slice_set asked worker x) ≡ lanes_of asked
-lanes_beside (a ∷ asked) zero x few = refl
-lanes_beside (a ∷ b ∷ asked) (suc zero) x few = refl
-lanes_beside (a ∷ b ∷ c ∷ asked) (suc (suc (suc worker))) x few = absurd (omega (arith, few))
-lanes_beside _ _ x few = refl
+lanes_beside asked worker x few = grind arith
 
 set_far : (asked : List (Option Asked)) (lane : ℕ) (x : Option Asked) → lanes_of (slice_set asked (suc (suc (suc lane))) x) ≡ slice_set (lanes_of asked) lane x
-set_far [] lane x = refl
-set_far (a ∷ []) lane x = refl
-set_far (a ∷ b ∷ []) lane x = refl
-set_far (a ∷ b ∷ c ∷ asked) lane x = refl
+set_far asked lane x = grind arith
 
 far : (lane : ℕ) → page_lane lane ≡ suc (suc (suc lane))
 far lane = omega arith
@@ -43,19 +37,13 @@ pub lanes_set : (asked : List (Option Asked)) (lane : ℕ) (x : Option Asked) �
 lanes_set asked lane x = ap (λ k. lanes_of (slice_set asked k x)) (far lane) ∙ set_far asked lane x
 
 get_far : {X : Type 0} (xs : List X) (lane : ℕ) → slice_get (drop 3 xs) lane ≡ slice_get xs (suc (suc (suc lane)))
-get_far [] lane = refl
-get_far (a ∷ []) lane = refl
-get_far (a ∷ b ∷ []) lane = refl
-get_far (a ∷ b ∷ c ∷ xs) lane = refl
+get_far xs lane = grind arith
 
 pub lanes_get : {X : Type 0} (xs : List X) (lane : ℕ) → slice_get (drop 3 xs) lane ≡ slice_get xs (page_lane lane)
 lanes_get xs lane = get_far xs lane ∙ sym (ap (slice_get xs) (far lane))
 
 pub lanes_ids : (asked : List (Option Asked)) → ids_of (lanes_of asked) ≡ drop 3 (ids_of asked)
-lanes_ids [] = refl
-lanes_ids (a ∷ []) = refl
-lanes_ids (a ∷ b ∷ []) = refl
-lanes_ids (a ∷ b ∷ c ∷ asked) = refl
+lanes_ids asked = grind arith
 
 -- ---- no write is out
 
@@ -74,22 +62,13 @@ none_at (None ∷ lanes) (suc lane) request none is = none_at lanes lane request
 none_at (Some r ∷ lanes) lane request none is = both_ways true none refl
 
 pub no_pages : (slot : ℕ) (lanes : List (Option Asked)) → ids_of lanes ≡ no_writes → ArePagesOf slot lanes
-no_pages slot lanes none = record {
-  each = λ lane request is. absurd (none_at lanes lane request (ap is_any_out none) is);
-  apart = λ one other a b first second same. absurd (none_at lanes one a (ap is_any_out none) first);
-}
+no_pages slot lanes none = grind (arith, none_at)
 
 -- ---- writes of different pages may be made in either order
 
 pub commute : WritesCommute → (slot : ℕ) (body : List ℕ) (a b : Asked) → IsPageOf slot a → IsPageOf slot b → a.id.call ≢ b.id.call
     → body_after (body_after body a.id.call a.bytes) b.id.call b.bytes ≡ body_after (body_after body b.id.call b.bytes) a.id.call a.bytes
-commute law slot body a b one other apart =
-    ap (λ c. body_after (body_after body c a.bytes) b.id.call b.bytes) one.call
-    ∙ ap (λ c. body_after (body_after body (Write (data_place one.place)) a.bytes) c b.bytes) other.call
-    ∙ law.apart body (data_place one.place) (data_place other.place) a.bytes b.bytes (omega arith) (omega arith)
-    (law.pages one.place other.place a.bytes b.bytes (λ same. apart (one.call ∙ ap (λ n. Write (data_place n)) same ∙ sym other.call)) one.whole other.whole)
-    ∙ sym (ap (λ c. body_after (body_after body c b.bytes) a.id.call a.bytes) other.call
-    ∙ ap (λ c. body_after (body_after body (Write (data_place other.place)) b.bytes) c a.bytes) one.call)
+commute law slot body a b one other apart = grind arith
 
 -- a write of another page than those
 abbrev pub IsOther : Asked → List (Option Asked) → Type 0
@@ -184,5 +163,4 @@ pages_less slot lanes lane are = record {
 -- ---- a plan is made outside the pass
 
 pub plan_outside : (stage : Stage) (plan : Planned) → plan_of stage ≡ Some plan → is_passing stage ≡ false
-plan_outside PassStage plan is = absurd (let no : None ≡ Some plan = is in cc)
-plan_outside _ plan is = refl
+plan_outside stage plan is = grind arith

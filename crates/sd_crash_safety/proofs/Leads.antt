@@ -1,5 +1,5 @@
 -- The calls of a plan, as they lead a slot from phase to phase.
-use Rattle.std.proofs.Common.{◌≡◌, ◌≢◌, ◌⊎◌, ℕ, true, List, [], ◌∷◌, refl, inl, inr}
+use Rattle.std.proofs.Common.{◌≡◌, ◌≢◌, ◌⊎◌, ℕ, true, List, [], ◌∷◌, refl, inl, inr, arith}
 use Rattle.sd_gate.specs.declared.call.Call.{Call}
 use Rattle.sd_gate.specs.declared.phase.Phase.{Phase}
 use Rattle.sd_gate.specs.declared.phase.Phase.TheVariants.{Raw, RawClosing, Whole, Closing, Shut, ShutSynced, Bare, Writing, Ready, Opening, Doubt, DoubtSynced}
@@ -20,5 +20,4 @@ pub leads_end : (phase last : Phase) (body final : List ℕ) → Leads phase bod
 leads_end _ _ _ _ (no_call phase body) = (refl, refl)
 
 pub is_whole : (phase : Phase) → (phase ≡ Whole) ⊎ (phase ≢ Whole)
-is_whole Whole = inl refl
-is_whole _ = inr (λ same. cc)
+is_whole phase = grind arith

@@ -86,9 +86,7 @@ module _ (last : ℕ) (store : Store) (running : Option Running) (old : Slots) (
 
   unneeded_then : (slot : ℕ) → IsSpared running slot → ((i : Image) → image_at old.beliefs slot ≡ Some i → IsNeededIn store i → ⊥)
       → (i : Image) → image_at new.beliefs slot ≡ Some i → IsNeededIn store_now i → ⊥
-  unneeded_then slot spared unneeded i has needed =
-      let had = sym (image_same slot spared) ∙ has in
-      unneeded i had (leaves.needs slot i spared had needed)
+  unneeded_then slot spared unneeded i has needed = grind arith
 
   unmerged_then : IsUnmerged store → IsUnmerged store_now
   unmerged_then u = record { source = leaves.source ∙ u.source; work = leaves.work ∙ u.work }
@@ -128,29 +126,7 @@ module _ (last : ℕ) (store : Store) (running : Option Running) (old : Slots) (
   asked_in_then : (target : ℕ) (source : Image) → HoldsStill store.catalog store_now.catalog source → (stage : CopyStage) (page : Option Place) (request : Option Asked)
       → IsAskedIn stage old.phases old.bodies store old.beliefs running target source page request
       → IsAskedIn stage new.phases new.bodies store_now new.beliefs running_now target source page request
-  asked_in_then target source still (copy.PageRead plan) page None a = absurd a
-  asked_in_then target source still (copy.PageRead plan) page (Some request) a =
-      let same = leaves.same request.id.slot a.spared in
-      record {
-        at = a.at;
-        taking = a.taking;
-        image = a.image;
-        kept = same.belief ∙ a.kept;
-        phase_is = same.phase ∙ a.phase_is;
-        spelled = subst (λ body. IsImage (gate ∷ body) a.image) (sym same.body) a.spelled;
-        spared = leaves.spares request.id.slot a.spared;
-        apart = a.apart;
-        reached = still.reaches a.image a.reached;
-        place = a.place;
-        call = a.call;
-        whole = a.whole;
-        bytes = a.bytes;
-        stored = a.stored;
-        holds = still.holds a.at.0 a.at.1 a.bytes a.holds;
-      }
-  asked_in_then target source still (copy.PageWrite plan) page None a = absurd a
-  asked_in_then target source still _ page None a = tt
-  asked_in_then target source still _ page (Some request) a = a
+  asked_in_then target source still stage page request a = grind arith
 
   copy_then : (target : ℕ) (source : Image) (made : Copying) → store.source ≡ Some source → IsSpared running target
       → IsCopyOn old.phases asked old.bodies last store old.beliefs running target source made
@@ -247,29 +223,13 @@ pub record SparesAsMuch (last last_now : ℕ) (running running_now : Option Runn
 
 pub leaves_same : (last last_now : ℕ) (store : Store) (running running_now : Option Running) (slots : Slots) → SparesAsMuch last last_now running running_now
     → LeavesMerge last store running slots last_now store running_now slots
-leaves_same last last_now store running running_now slots s = record {
-  count = refl;
-  same = λ slot spared. record { phase = refl; body = refl; belief = refl };
-  spares = s.spares;
-  last_is = s.last_is;
-  source = refl;
-  work = refl;
-  needs = λ slot i spared has needed. needed;
-  still = λ source is. holds_same store.catalog source;
-  makes = s.makes;
-  images = λ slot j has. inl has;
-  opening = λ slot j opens. inl opens;
-}
+leaves_same last last_now store running running_now slots s = grind arith
 
 -- the image that the checkpoint makes is another one, in the same slots
 pub spares_with : (last last_now : ℕ) (running : Running) (image : Making) → last ≤ last_now
     → ((serial : ℕ) → serial ≤ last → MakesOther (Some running) serial → image.order.serial ≢ serial)
     → SparesAsMuch last last_now (Some running) (Some (record running { image = Some image }))
-spares_with last last_now running image less makes = record {
-  spares = λ slot spared r. spared (record { place = r.place; from = r.from; is = r.is });
-  last_is = less;
-  makes = makes;
-}
+spares_with last last_now running image less makes = grind arith
 
 -- it has the order of the one that it was
 pub spares_on : (last : ℕ) (running : Running) (image later : Making) → running.image ≡ Some image → later.order ≡ image.order
@@ -381,8 +341,7 @@ source_there phases asked bodies last store dump beliefs running merge slots m s
 
 -- what is needed stands in the catalog
 pub needed_there : (catalog : List Image) (asked : List ℕ) (i : Image) → IsNeeded catalog asked i → Contains catalog i
-needed_there catalog asked i (inl tip) = tip.member
-needed_there catalog asked i (inr called) = called.2.member
+needed_there catalog asked i h3 = grind arith
 
 -- what a list of called numbers names, and so what is reached through them, stays
 module _ (old new : List Image) (jobs : List ℕ) (named : (number : ℕ) (i : Image) → IsCalled old jobs number → IsNamed old number i → IsNamed new number i) where
@@ -459,5 +418,4 @@ fresh_of s i number serial stands falls new = record {
 
 -- of a source that there may be
 pub below_checkpoint : (source : Option Image) (number : ℕ) → ((i : Image) → source ≡ Some i → i.header.checkpoint < number) → IfSome source (λ i. i.header.checkpoint < number)
-below_checkpoint None number below = tt
-below_checkpoint (Some i) number below = below i refl
+below_checkpoint source number below = grind arith

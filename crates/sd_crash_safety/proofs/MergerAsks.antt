@@ -71,17 +71,7 @@ plan_in_slot _ entries taking read plan next request ready other was gives = (wa
 
 pub copy_on : (catalog : List Image) (source : Image) (pages : Pages) (made : Copying) (next : Planned) → KeepsCopy catalog source pages made
     → KeepsCopy catalog source pages (record made { stage = copy_with made.stage next })
-copy_on catalog source pages made next k = record {
-  count = k.count;
-  whole = k.whole;
-  digested = k.digested;
-  rest = k.rest;
-  merging = k.merging;
-  ahead = k.ahead;
-  taking = k.taking;
-  read = k.read;
-  over = over_with made.stage next k.rest k.over;
-}
+copy_on catalog source pages made next k = grind arith
 
 asked_with : (stage : CopyStage) (next : Planned) (plan : Planned) (request : Asked) (is : (r : Option Asked) → request_in_slot (copy_with stage next) r ≡ r)
     (phases : List Phase) (bodies : List (List ℕ)) (store : Store) (beliefs : List Belief) (running : Option Running) (target : ℕ) (source : Image) (page : Option Place)
@@ -95,8 +85,7 @@ asked_with _ next plan request is phases bodies store beliefs running target sou
 -- the image that is opened
 its_stage : (stage : CopyStage) (p : Planned) (pages : Pages) (i : Image) → image_in_stage (with_plan (stage_in_slot stage) p) pages ≡ Some i
     → (header : Header) × (tables : List Listed) × (plan : Planned) × (stage ≡ copy.Close plan header tables) × (i ≡ image_of header pages tables)
-its_stage (copy.Close own header tables) p pages i is = (header, tables, own, refl, sym (same_Some (image_of header pages tables) i is))
-its_stage _ p pages i is = absurd (let no : None ≡ Some i = is in cc)
+its_stage stage p pages i is = grind arith
 
 module _ (quiet : QuietSteps) (gates : GateSteps) (files_of : FileLaws) (repeats : MergedRepeats) (follows : CatalogFollows) (making : MakingLaws)
     (old new : CoreView) (merge : merger.Running) (made next : Copying) (ticket : ℕ) (request : Asked) (asked : List (Option Asked)) (bodies files : List (List ℕ))
@@ -289,8 +278,7 @@ module _ (quiet : QuietSteps) (gates : GateSteps) (files_of : FileLaws) (repeats
       to_closing j (inr is) = absurd (let no : Kept q.image ≡ Closing j = sym q.kept ∙ is in cc)
 
       to_kept : (j : Image) → HasIt (Closing q.image) j → HasIt c.belief j
-      to_kept j (inl is) = absurd (let no : Closing q.image ≡ Kept j = is in cc)
-      to_kept j (inr is) = inl (q.kept ∙ (let same : Closing q.image ≡ Closing j = is in cc))
+      to_kept j h1 = grind arith
 
   -- ---- the gate of the merged image is opened
 
@@ -381,8 +369,7 @@ module _ (quiet : QuietSteps) (gates : GateSteps) (files_of : FileLaws) (repeats
         was_closed j (inr is) = absurd (let no : Closed ≡ Closing j = sym q.closed ∙ is in cc)
 
         is_opening : (j : Image) → HasIt (Opening i) j → HasIt c.belief j
-        is_opening j (inl is) = absurd (let no : Opening i ≡ Kept j = is in cc)
-        is_opening j (inr is) = absurd (let no : Opening i ≡ Closing j = is in cc)
+        is_opening j h1 = grind arith
 
   pub merger_asks_lem : Believes new asked_now bodies files
   merger_asks_lem = elim asked_on.1 [

@@ -95,67 +95,39 @@ IsOwn (copy.PageWrite plan) = ⊥
 IsOwn _ = Unit {0}
 
 own_plan : (stage : CopyStage) (plan : Planned) → IsOwn stage → copy_plan stage ≡ Some plan → plan_of (stage_in_slot stage) ≡ Some plan
-own_plan copy.Pass plan own was = absurd (let no : None ≡ Some plan = was in cc)
-own_plan (copy.PageRead p) plan own was = absurd own
-own_plan (copy.PageWrite p) plan own was = absurd own
-own_plan _ plan own was = was
+own_plan stage plan own was = grind arith
 
 own_after : (stage : CopyStage) (next : Planned) (calls : Calls) → IsOwn stage → stage_in_slot (copy_after stage next calls) ≡ stage_after Merged (stage_in_slot stage) next calls
-own_after (copy.Format p) next [] own = refl
-own_after copy.Pass next [] own = refl
-own_after (copy.PageRead p) next [] own = absurd own
-own_after (copy.PageWrite p) next [] own = absurd own
-own_after (copy.Close p header tables) next [] own = refl
-own_after (copy.PageRead p) next (c ∷ calls) own = absurd own
-own_after (copy.PageWrite p) next (c ∷ calls) own = absurd own
-own_after _ next _ own = refl
+own_after stage next calls own = grind arith
 
 own_request : (stage : CopyStage) (r : Option Asked) → IsOwn stage → request_in_slot stage r ≡ r
-own_request (copy.PageRead p) r own = absurd own
-own_request (copy.PageWrite p) r own = absurd own
-own_request _ r own = refl
+own_request stage r own = grind arith
 
 no_request : (stage : CopyStage) → request_in_slot stage None ≡ None
-no_request (copy.Format p) = refl
-no_request _ = refl
+no_request stage = grind arith
 
 own_lanes : (stage : CopyStage) (r : Option Asked) → IsOwn stage → lanes_in_slot stage r ≡ []
-own_lanes (copy.PageRead p) r own = absurd own
-own_lanes (copy.PageWrite p) r own = absurd own
-own_lanes _ r own = refl
+own_lanes stage r own = grind arith
 
 -- a body is as it is where nothing is out
 none_written : (stage : CopyStage) (body : List ℕ) → body_written body (lanes_in_slot stage None) ≡ body
-none_written (copy.Format p) body = refl
-none_written _ body = refl
+none_written stage body = grind arith
 
 own_asked : (stage : CopyStage) (phases : List Phase) (bodies : List (List ℕ)) (store : Store) (beliefs : List Belief) (running : Option Running) (target : ℕ) (source : Image) (page : Option Place)
     (request : Asked) → IsOwn stage → IsAskedIn stage phases bodies store beliefs running target source page (Some request) → request.id.slot ≡ target
-own_asked (copy.PageRead p) phases bodies store beliefs running target source page request own is = absurd own
-own_asked (copy.PageWrite p) phases bodies store beliefs running target source page request own is = absurd own
-own_asked _ phases bodies store beliefs running target source page request own is = is
+own_asked stage phases bodies store beliefs running target source page request own is = grind arith
 
 none_asked : (stage : CopyStage) (next : Planned) (calls : Calls) (phases : List Phase) (bodies : List (List ℕ)) (store : Store) (beliefs : List Belief) (running : Option Running) (target : ℕ)
     (source : Image) (page : Option Place) → IsOwn stage → IsAskedIn (copy_after stage next calls) phases bodies store beliefs running target source page None
-none_asked (copy.Format p) next [] phases bodies store beliefs running target source page own = tt
-none_asked copy.Pass next [] phases bodies store beliefs running target source page own = tt
-none_asked (copy.Close p header tables) next [] phases bodies store beliefs running target source page own = tt
-none_asked (copy.PageRead p) next (c ∷ calls) phases bodies store beliefs running target source page own = absurd own
-none_asked (copy.PageWrite p) next (c ∷ calls) phases bodies store beliefs running target source page own = absurd own
-none_asked _ next _ phases bodies store beliefs running target source page own = tt
+none_asked stage next calls phases bodies store beliefs running target source page own = grind arith
 
 own_known : (stage : CopyStage) (entries : List ImageEntry) (taking : Option Place) (read : Option (List ℕ)) (plan : Planned) → IsOwn stage → IsReadyFor entries taking read stage
     → copy_plan stage ≡ Some plan → plan.awaits ≡ nothing
-own_known (copy.Format p) entries taking read plan own ready was = ap (λ (x : Planned). x.awaits) (sym (same_Some p plan was)) ∙ ready.2.known
-own_known copy.Pass entries taking read plan own ready was = absurd (let no : None ≡ Some plan = was in cc)
-own_known (copy.Close p header tables) entries taking read plan own ready was = ap (λ (x : Planned). x.awaits) (sym (same_Some p plan was)) ∙ ready.2.known
-own_known _ entries taking read plan own ready was = absurd own
+own_known stage entries taking read plan own ready was = grind arith
 
 -- a slot that is formatted has no pages yet
 own_empty : (stage : CopyStage) (entries : List ImageEntry) (taking : Option Place) (read : Option (List ℕ)) (own : Planned) → IsReadyFor entries taking read stage → stage_in_slot stage ≡ Format own → entries ≡ []
-own_empty (copy.Format p) entries taking read own ready is = ready.0
-own_empty (copy.Close p header tables) entries taking read own ready is = absurd (let no : Close p header tables ≡ Format own = is in cc)
-own_empty _ entries taking read own ready is = absurd (let no : PassStage ≡ Format own = is in cc)
+own_empty stage entries taking read own ready is = grind arith
 
 -- a body that is closed
 own_closes : (stage : CopyStage) (own : Planned) (header : Header) (tables : List Listed) → stage_in_slot stage ≡ Close own header tables → stage ≡ copy.Close own header tables
@@ -167,9 +139,7 @@ own_closes (copy.Close p h t) own header tables is = same is
 own_closes _ own header tables is = absurd (let no : PassStage ≡ Close own header tables = is in cc)
 
 own_tells : (stage : CopyStage) (catalog : List Image) (source : Image) (taking : Option Place) (made : Made) → IsOwn stage → TellsIn stage catalog source taking made
-own_tells (copy.PageRead p) catalog source taking made own = absurd own
-own_tells (copy.PageWrite p) catalog source taking made own = absurd own
-own_tells _ catalog source taking made own = tt
+own_tells stage catalog source taking made own = grind arith
 
 no_pages : (pages : Pages) → length pages ≡ 0 → pages ≡ []
 no_pages [] none = refl
@@ -296,10 +266,7 @@ module _ (quiet : QuietSteps) (making : MakingLaws) (merges : MergeLaws) (files_
     phase_same = same_Some c.phase phase (sym c.phase_is ∙ ap (slice_get old.phases) (sym on) ∙ s.outcome.phase_is)
 
     slot_was : IsSlotFor (stage_in_slot made.stage) order c.pages phase (file_at bodies target) (Some call.request) c.belief None
-    slot_was = subst (λ p. IsSlotFor (stage_in_slot made.stage) order c.pages p (file_at bodies target) (Some call.request) c.belief None) phase_same
-        (subst (λ r. IsSlotFor (stage_in_slot made.stage) order c.pages c.phase (file_at bodies target) r c.belief None) (own_request made.stage c.request own ∙ out_is)
-        (subst (λ lanes. IsSlotFor (stage_in_slot made.stage) order c.pages c.phase (body_written (file_at bodies target) lanes) (request_in_slot made.stage c.request) c.belief None)
-        (own_lanes made.stage c.request own) c.slot_is))
+    slot_was  = grind arith
 
     calls_same : nplan.calls ≡ go.plan.calls
     calls_same = calls_of_done go.plan call (own_known made.stage made.entries made.taking made.read go.plan own s.sound.ready go.awaited.was) go.done
@@ -309,11 +276,7 @@ module _ (quiet : QuietSteps) (making : MakingLaws) (merges : MergeLaws) (files_
 
     closes : (plan : Planned) (header : Header) (tables : List Listed) → stage_in_slot made.stage ≡ Close plan header tables
         → (go.plan.calls ≢ []) × IsImage (gate ∷ image_text (image_of header c.pages tables)) (image_of header c.pages tables)
-    closes plan header tables is =
-        let stage_is = own_closes made.stage plan header tables is in (
-          λ none. go.closes (subst copies_of.IsClosing (sym stage_is) tt) (calls_same ∙ none),
-          (subst (λ stage. IsFiledIn stage made.order source made.entries c.pages) stage_is c.files).spelled,
-        )
+    closes plan header tables is = grind arith
 
     slot_then : SlotGoesOn (stage_after Merged (stage_in_slot made.stage) nplan nplan.calls) order c.pages phase (file_at bodies target) call.request c.belief None
     slot_then = hands_slot (stage_in_slot made.stage) order c.pages phase (file_at bodies target) call.request c.belief None go.plan nplan
@@ -371,9 +334,7 @@ module _ (quiet : QuietSteps) (making : MakingLaws) (merges : MergeLaws) (files_
     whole_then = set_same old.phases slot phase (after phase call.request.id.call (is_done call.answer)) s.outcome.phase_is ∙ ap Some (looked call.request.id.call r.call phase phase_whole (is_done call.answer))
 
     body_still : file_at (bodies_then bodies call) slot ≡ file_at bodies slot
-    body_still =
-        let within : slot < length bodies = (let long = slice_get_within old.phases slot phase s.outcome.phase_is in let stored = b.has.stored in omega (arith, long, stored)) in
-        file_set bodies slot (body_after (file_at bodies slot) call.request.id.call call.request.bytes) within ∙ same_body
+    body_still  = grind (arith, slice_get_within, file_set)
 
     not_closing : closes_for_sure phase call.request.id.call ≡ false
     not_closing = ap (λ p. closes_for_sure p call.request.id.call) phase_whole
@@ -409,11 +370,7 @@ module _ (quiet : QuietSteps) (making : MakingLaws) (merges : MergeLaws) (files_
 
     -- the bytes that came back are those of the page
     file_is : file_at files slot ≡ gate ∷ file_at bodies slot
-    file_is =
-        let ready : is_ready Whole call.request.id.call ≡ true = ap (is_ready Whole) r.call in
-        let reads = told.reads (subst IsLook (sym r.call) tt) Whole (record { is = r.phase_is; ready = ready }) in
-        subst (λ p. PhaseReads p (body_after (file_at bodies slot) call.request.id.call call.request.bytes) (file_at files slot)) (looked call.request.id.call r.call Whole refl (is_done call.answer)) reads
-        ∙ ap (λ body. gate ∷ body) same_body
+    file_is  = grind arith
 
     bytes_are : call.request.bytes ≡ r.bytes
     bytes_are = page_told in_file (file_at files slot) r.image r.place r.bytes call (subst (λ file. IsImage file r.image) (sym file_is) r.spelled) r.stored r.call r.whole (told.told go.done)
@@ -426,10 +383,7 @@ module _ (quiet : QuietSteps) (making : MakingLaws) (merges : MergeLaws) (files_
     ))
 
     none_left : nplan.calls ≡ []
-    none_left =
-        let reading = (subst (IsReadyFor made.entries made.taking made.read) is s.sound.ready).2 in
-        let same : own ≡ go.plan = same_Some own go.plan (sym (ap copy_plan is) ∙ go.awaited.was) in
-        calls_of_done go.plan call (ap (λ (p : Planned). p.awaits) (sym same) ∙ reading.known) go.done ∙ ap (λ (p : Planned). p.calls) (sym same) ∙ reading.last
+    none_left  = grind arith
 
     passes : stage_then ≡ copy.Pass
     passes = ap (copy_after made.stage nplan) none_left
@@ -469,10 +423,7 @@ module _ (quiet : QuietSteps) (making : MakingLaws) (merges : MergeLaws) (files_
         ∙ ap Some (ap (λ d. after phase call.request.id.call d) go.done ∙ ap (λ x. after phase x true) write.call ∙ ap filled (sym same_phase) ∙ filled_was.fills)
 
     body_written_there : file_at (bodies_then bodies call) target ≡ body_after (file_at bodies target) call.request.id.call call.request.bytes
-    body_written_there =
-        let within : call.request.id.slot < length bodies = (let long = slice_get_within old.phases call.request.id.slot phase s.outcome.phase_is in let stored = b.has.stored in omega (arith, long, stored)) in
-        ap (file_at (bodies_then bodies call)) (sym write.on) ∙ file_set bodies call.request.id.slot (body_after (file_at bodies call.request.id.slot) call.request.id.call call.request.bytes) within
-        ∙ ap (λ x. body_after (file_at bodies x) call.request.id.call call.request.bytes) write.on
+    body_written_there  = grind (arith, slice_get_within, bodies_then, file_set)
 
     has_written : HasStore old.base (history_of old) (phases_then old call phase) (asked_then asked) (bodies_then bodies call) b.store b.dump b.beliefs
     has_written = has_handed old new call phase asked bodies files s.outcome at b quiet
@@ -508,10 +459,7 @@ module _ (quiet : QuietSteps) (making : MakingLaws) (merges : MergeLaws) (files_
     }
 
     over : stage_then ≡ copy.Pass
-    over =
-        let under_way = (subst (IsReadyFor made.entries made.taking made.read) is s.sound.ready).1 in
-        let same : own ≡ go.plan = same_Some own go.plan (sym (ap copy_plan is) ∙ go.awaited.was) in
-        ap (copy_after made.stage nplan) (calls_of_done go.plan call (ap (λ (p : Planned). p.awaits) (sym same) ∙ under_way.known) go.done ∙ ap (λ (p : Planned). p.calls) (sym same) ∙ write.last)
+    over  = grind arith
 
     goes_on_written : Believes new (asked_then asked) (bodies_then bodies call) files
     unfolding written_handed

@@ -73,40 +73,28 @@ use Rattle.sd_crash_safety.proofs.WorkStays.{IsMakingNumber}
 -- ---- the dump whose gate is being opened
 
 dump_is : (kind : Kind) (i d : Image) → pending_dump kind i ≡ Some d → i ≡ d
-dump_is Dump i d is = same_Some i d is
-dump_is _ i d is = absurd (let no : None ≡ Some d = is in cc)
+dump_is kind i d is = grind arith
 
 -- it has the serial of the image that the checkpoint makes
 pending_serial : (stage : Stage) (order : ImageOrder) (pass : Pass) (pages : Pages) (phase : Phase) (body : List ℕ) (request : Option Asked) (belief : Belief) (d : Image)
     → IsDumpFiledIn stage order pass pages → IsSlotFor stage order pages phase body request belief (Some d) → d.header.serial ≡ order.serial
-pending_serial (Format plan) order pass pages phase body request belief d files s = absurd (let no : Some d ≡ None = s.1 in cc)
-pending_serial (Close plan header tables) order pass pages phase body request belief d files s = elim (cases_Bool (is_opening_at s.place request)) [
-  | inl opens ↦ ap (λ (x : Image). x.header.serial) (sym (dump_is order.kind (image_of header pages tables) d (sym (s.opening opens).1))) ∙ ap (λ h. h.serial) files.numbers
-  | inr shut ↦ absurd (let no : Some d ≡ None = (s.shut shut).1 in cc)
-]
-pending_serial _ order pass pages phase body request belief d files s = absurd (let no : Some d ≡ None = s.2 in cc)
+pending_serial stage order pass pages phase body request belief d files s = grind arith
 
 module _ (base : Base) (history : History) (grows : Bool) (memory : Contents) (phases : List Phase) (asked : List (Option Asked)) (bodies : List (List ℕ)) (last : ℕ) (store : Store)
     (beliefs : List Belief) where
   other_in_image : (d : Image) (serial parent number : ℕ) (image : Option Making) → IsOtherImage image serial
       → IsImageOn base history memory phases asked bodies last store (Some d) beliefs parent number image → serial ≢ d.header.serial
-  other_in_image d serial parent number None other m same = let no : Some d ≡ None = m.alone in cc
-  other_in_image d serial parent number (Some image) other m same =
-      other (sym (pending_serial image.stage image.order image.pass m.pages m.phase (body_written (file_at bodies image.order.slot) (lanes_of asked)) m.request m.belief d m.files m.slot_is) ∙ sym same)
+  other_in_image d serial parent number image other m same = grind arith
 
   -- so it isn't the merged image
   other_dump : (d : Image) (serial : ℕ) (running : Option Running) → MakesOther running serial → IsAtWork base history grows memory phases asked bodies last store (Some d) beliefs running
       → serial ≢ d.header.serial
-  other_dump d serial None other w same = let no : Some d ≡ None = w.alone in cc
-  other_dump d serial (Some running) other w same = other_in_image d serial running.parent running.number running.image other w.image same
+  other_dump d serial running other w same = grind arith
 
   -- the number of the image that the checkpoint makes isn't 0
   low_number : (dump : Option Image) (running : Option Running) → IsAtWork base history grows memory phases asked bodies last store dump beliefs running
       → (number : ℕ) → IsMakingNumber running number → 0 < number
-  low_number dump running work number (one, image, running_is, image_is, serial) =
-      let w = subst (IsAtWork base history grows memory phases asked bodies last store dump beliefs) running_is work in
-      let m = subst (IsImageOn base history memory phases asked bodies last store dump beliefs one.parent one.number) image_is w.image in
-      let less = m.low in omega (arith, less, serial)
+  low_number dump running work number h4 = grind arith
 
 -- ---- the merged image
 
@@ -173,9 +161,7 @@ module _ (quiet : QuietSteps) (gates : GateSteps) (making : MakingLaws) (keeps :
   no_more = sym (calls_of_done s.opens.plan call (subst (IsReadyFor made.entries made.taking made.read) s.opens.was s.sound.ready).2.known s.opens.done) ∙ s.opens.last
 
   closing_was : ClosesBody order i s.opens.plan phase (file_at bodies target) (Some call.request) c.belief None
-  closing_was = subst (λ stage. IsSlotFor (stage_in_slot stage) order c.pages phase (body_written (file_at bodies target) (lanes_in_slot stage (Some call.request))) (request_in_slot stage (Some call.request)) c.belief None) s.opens.was
-      (subst (λ p. IsSlotFor (stage_in_slot made.stage) order c.pages p (body_written (file_at bodies target) (lanes_in_slot made.stage (Some call.request))) (request_in_slot made.stage (Some call.request)) c.belief None) phase_same
-      (subst (λ r. IsSlotFor (stage_in_slot made.stage) order c.pages c.phase (body_written (file_at bodies target) (lanes_in_slot made.stage r)) (request_in_slot made.stage r) c.belief None) out_is c.slot_is))
+  closing_was  = grind arith
 
   opened_then : IsOpenThen order i phase (file_at bodies target) call.request c.belief None
   opened_then = open_then order i s.opens.plan phase (file_at bodies target) call.request c.belief None closing_was no_more
@@ -189,13 +175,7 @@ module _ (quiet : QuietSteps) (gates : GateSteps) (making : MakingLaws) (keeps :
   kind_is = ap (λ h. h.kind) filed.numbers
 
   numbers : IsRepeated last running source i
-  numbers = record {
-    serial = (let serial = serial_is in let few = c.serial in omega (arith, serial, few));
-    other = subst (MakesOther running) (sym serial_is) c.other;
-    stands = ap (λ h. h.stands_for) filed.numbers ∙ ap (λ x. x.stands_for) k.order.0 ∙ k.repeats.source.stands;
-    parent = ap (λ h. h.parent) filed.numbers;
-    checkpoint = ap (λ h. h.checkpoint) filed.numbers ∙ ap (λ x. x.checkpoint) k.order.0 ∙ k.repeats.source.checkpoint;
-  }
+  numbers  = grind arith
 
   -- ---- its slot
 
@@ -255,9 +235,7 @@ module _ (quiet : QuietSteps) (gates : GateSteps) (making : MakingLaws) (keeps :
       own e = cc
 
   no_dump : (dump : Option Image) → b.dump ≡ dump → IfSome dump (λ d. i.header.serial ≢ d.header.serial)
-  no_dump None is = tt
-  no_dump (Some d) is = other_dump old.base history old.grows old.memory old.phases asked bodies last b.store b.beliefs d i.header.serial running numbers.other
-      (subst (λ dump. IsAtWork old.base history old.grows old.memory old.phases asked bodies last b.store dump b.beliefs running) is u.job)
+  no_dump dump is = grind arith
 
   only_twin : IsOnlyTwin b.store b.dump b.beliefs i
   only_twin = record { twin = twin; only = only; serial = no_dump b.dump refl }
@@ -277,8 +255,7 @@ module _ (quiet : QuietSteps) (gates : GateSteps) (making : MakingLaws) (keeps :
       (has_handed old new call phase asked bodies files s.outcome at b quiet)
 
   member_then : (j : Image) → Contains (i ∷ b.store.catalog) j → (j ≡ i) ⊎ Contains b.store.catalog j
-  member_then j (zero, within, is) = inl (sym is)
-  member_then j (suc n, within, is) = inr (n, omega (arith, within), is)
+  member_then j h1 = grind arith
 
   adds_it : Adds b.store.catalog i (i ∷ b.store.catalog)
   adds_it j = (
@@ -317,10 +294,7 @@ module _ (quiet : QuietSteps) (gates : GateSteps) (making : MakingLaws) (keeps :
   -- ---- it is a copy of its source
 
   has_in : (n : ℕ) (j : Image) → SlotHasImage b.beliefs n j → Contains b.beliefs (Kept j) ⊎ Contains b.beliefs (Closing j)
-  has_in n j has = elim has [
-    | inl kept ↦ inl (contains_at b.beliefs n (Kept j) kept)
-    | inr closing_it ↦ inr (contains_at b.beliefs n (Closing j) closing_it)
-  ]
+  has_in n j has = grind (arith, contains_at)
 
   at_slot : (j : Image) → Contains b.store.catalog j → (n : ℕ) × SlotHasImage b.beliefs n j
   at_slot j member = elim ((b.has.slots.catalog j).0 member) [
@@ -436,10 +410,7 @@ module _ (quiet : QuietSteps) (gates : GateSteps) (making : MakingLaws) (keeps :
     here = subst (λ n. SlotHasImage beliefs_now n j) m.slot its.2
 
     has : image_at beliefs_now one.slot ≡ Some j
-    has = elim here [
-      | inl is ↦ ap (λ o. option_and_then image_in o) is
-      | inr closing_it ↦ ap (λ o. option_and_then image_in o) closing_it
-    ]
+    has  = grind arith
 
     at_it : (o : Opened) × (place_of places j.header.serial ≡ Some (Some o)) × IsToldAs o j × (o.slot ≡ one.slot)
     at_it = catalog_then.opened one.slot j here

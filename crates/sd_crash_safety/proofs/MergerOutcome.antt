@@ -77,11 +77,7 @@ module _ (old new : CoreView) (made : Made) (phase : Phase) (asked : List (Optio
       free worker request.id (ap (λ ids. slice_get ids worker) (sym (ids_set asked 1 None ∙ ap (λ ids. slice_set ids 1 None) b.knows.out)) ∙ id_there (asked_then asked) worker request out) same
 
   none_other : (other : ℕ) (request : Asked) → slice_get asked other ≡ Some (Some request) → request.id.slot ≡ made.request.id.slot → other ≡ 1
-  none_other other request is same = elim (cases_eq other 1) [
-    | inl its ↦ its
-    | inr differs ↦ absurd (o.apart other request.id
-        (set_other old.outs 1 other None differs ∙ ap (λ ids. slice_get ids other) (sym b.knows.out) ∙ id_there asked other request is) same)
-  ]
+  none_other other request is same = grind (arith, cases_eq, set_other, id_there)
 
   pub has_handed : QuietSteps → HasStore old.base (history_of old) (phases_then old made phase) (asked_then asked) (bodies_then bodies made) b.store b.dump b.beliefs
   has_handed quiet =
@@ -100,11 +96,7 @@ module _ (old new : CoreView) (made : Made) (phase : Phase) (asked : List (Optio
   -- the slots of no request are as they were
   pub others_handed : (beliefs : List Belief) (k : ℕ) → k ≢ made.request.id.slot → slice_get beliefs k ≡ slice_get b.beliefs k
       → IsSameSlot (slots_at old.phases bodies b.beliefs) (slots_at (phases_then old made phase) (bodies_then bodies made) beliefs) k
-  others_handed beliefs k other same = record {
-    phase = set_other old.phases made.request.id.slot k (after phase made.request.id.call (is_done made.answer)) other;
-    body = body_other bodies made.request.id.slot k (body_after (file_at bodies made.request.id.slot) made.request.id.call made.request.bytes) other;
-    belief = same;
-  }
+  others_handed beliefs k other same = grind (arith, set_other, body_other)
 
 -- ---- an open store, behind an outcome
 
@@ -366,10 +358,7 @@ module _ (quiet : QuietSteps) (gates : GateSteps) (making : MakingLaws) (closing
       ∙ set_same old.phases made.request.id.slot phase (after phase made.request.id.call true) o.phase_is
 
   pub handed_body : file_at bodies_now slot ≡ body_after (file_at bodies slot) made.request.id.call made.request.bytes
-  handed_body =
-      let within : made.request.id.slot < length bodies = (let long = slice_get_within old.phases made.request.id.slot phase o.phase_is in let stored = b.has.stored in omega (arith, long, stored)) in
-      ap (file_at bodies_now) (sym on) ∙ file_set bodies made.request.id.slot (body_after (file_at bodies made.request.id.slot) made.request.id.call made.request.bytes) within
-      ∙ ap (λ k. body_after (file_at bodies k) made.request.id.call made.request.bytes) on
+  handed_body  = grind (arith, slice_get_within, file_set)
 
   -- with the store and the beliefs as they are then
   module _ (store : Store) (later : List Belief) (there : slice_get later slot ≡ Some belief_now) (others : (k : ℕ) → k ≢ slot → slice_get later k ≡ slice_get b.beliefs k)

@@ -85,8 +85,7 @@ no_dump = None
 -- a needed image stands in no slot of the checkpoint
 pub needed_spared : (core : CoreView) (asked : List (Option Asked)) (bodies files : List (List ℕ)) (b : Believes core asked bodies files) (slot : ℕ) (i : Image) → image_at b.beliefs slot ≡ Some i → IsNeededIn b.store i
     → (running : Option Running) → IsAtWork core.base (history_of core) core.grows core.memory core.phases asked bodies core.numbers.serial b.store b.dump b.beliefs running → IsSpared running slot
-needed_spared core asked bodies files b slot i at needed None w = tt
-needed_spared core asked bodies files b slot i at needed (Some running) w = λ reserved. w.unneeded slot i reserved at needed
+needed_spared core asked bodies files b slot i at needed running w = grind arith
 
 module _ (quiet : QuietSteps) (merge_laws : MergeLaws) (files_of : FileLaws) (needed_of : SourceReachesNeeded) (follows : CatalogFollows) (making : MakingLaws) (plans : PlansLead) (bodies_fill : BodiesFill)
     (places : Places) (knows : KnowsCatalog places)
@@ -164,22 +163,7 @@ module _ (quiet : QuietSteps) (merge_laws : MergeLaws) (files_of : FileLaws) (ne
   believes_next : (asked_now : List (Option Asked)) → ids_of asked_now ≡ new.outs → HasStore old.base history old.phases asked_now bodies b.store b.dump b.beliefs
       → IsInUseOn old.base history old.catalog old.grows old.memory old.phases asked_now bodies last b.store b.dump b.beliefs running
       → IsCopyOfSource old.phases asked_now bodies last b.store b.beliefs running merge.slot merge.source next → Believes new asked_now bodies files
-  believes_next asked_now out has in_use copying_it =
-      believes_parts new old.base history old.catalog old.grows old.memory old.phases last running (Some (record merge { doing = copying next }))
-      (record {
-        base_is = s.rest.base;
-        history_is = s.rest.history;
-        places_is = s.catalog;
-        grows_is = s.rest.grows;
-        memory_is = s.rest.memory;
-        phases_is = s.phases;
-        last_is = s.serial;
-        running_is = s.rest.dumper;
-        merger_is = s.is;
-        closed = s.rest.closed;
-      })
-      asked_now bodies files b.store b.dump b.beliefs (λ is. b.knows.sure (sym s.rest.committing ∙ is)) b.knows.count out has in_use
-      (record { spelled = (b.knows.merging s.rest.stands).spelled; is = copying_it })
+  believes_next asked_now out has in_use copying_it = grind arith
 
   -- ---- in the pass
 

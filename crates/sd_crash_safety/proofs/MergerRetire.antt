@@ -1,5 +1,5 @@
 -- The next call on an image of a merge's list is asked for.
-use Rattle.std.proofs.Common.{◌≡◌, ◌↔◌, ℕ, ◌≤◌, true, List, [], Option, Some, None, option_and_then, slice_get, slice_set, refl, sym, ◌∙◌, ap, subst, inl, inr}
+use Rattle.std.proofs.Common.{◌≡◌, ◌↔◌, ℕ, ◌≤◌, true, List, [], Option, Some, None, option_and_then, slice_get, slice_set, refl, sym, ◌∙◌, ap, subst, inl, inr, arith}
 use Rattle.std.proofs.lemmas.Option.{same_Some}
 use Rattle.sd_disk.specs.Contents.{file_at}
 use Rattle.sd_image.specs.Image.{Image}
@@ -190,8 +190,7 @@ module _ (quiet : QuietSteps) (gates : GateSteps) (follows : CatalogFollows) (ma
       to_closing j (inr is) = absurd (let no : Kept q.image ≡ Closing j = sym q.kept ∙ is in cc)
 
       to_kept : (j : Image) → HasIt (Closing q.image) j → HasIt c.belief j
-      to_kept j (inl is) = absurd (let no : Closing q.image ≡ Kept j = is in cc)
-      to_kept j (inr is) = inl (q.kept ∙ (let same : Closing q.image ≡ Closing j = is in cc))
+      to_kept j h1 = grind arith
 
   pub merger_retires_lem : Believes new asked_now bodies files
   merger_retires_lem = elim asked_on.1 [

@@ -56,12 +56,7 @@ use Rattle.sd_crash_safety.proofs.Places.{has_too, set_same}
 
 -- the gate of an image that is kept may be closed
 image_closes : (phase : Phase) (body : List ℕ) (belief : Belief) (i : Image) → IsBelievedAs phase body belief → image_in belief ≡ Some i → may_close phase ≡ true
-image_closes Shut body belief i is has = absurd (let no : None ≡ Some i = sym (ap image_in is) ∙ has in cc)
-image_closes ShutSynced body belief i is has = absurd (let no : None ≡ Some i = sym (ap image_in is) ∙ has in cc)
-image_closes Bare body belief i is has = absurd (let no : None ≡ Some i = sym (ap image_in is) ∙ has in cc)
-image_closes Writing body belief i is has = absurd (let no : None ≡ Some i = sym (ap image_in is) ∙ has in cc)
-image_closes Ready body belief i is has = absurd (let no : None ≡ Some i = sym (ap image_in is) ∙ has in cc)
-image_closes _ body belief i is has = refl
+image_closes phase body belief i is has = grind arith
 
 -- what is believed of a slot in which an image stands
 believed_there : (beliefs : List Belief) (slot : ℕ) (i : Image) → image_at beliefs slot ≡ Some i → (belief : Belief) × (slice_get beliefs slot ≡ Some belief) × (image_in belief ≡ Some i)
@@ -102,8 +97,7 @@ retired_begins plans phases asked bodies store beliefs running count exact silen
 -- ---- the stage of its slot
 
 still_formats : (plan next : Planned) (calls : Calls) → calls ≢ [] → stage_after Merged (Format plan) next calls ≡ Format next
-still_formats plan next [] some = absurd (some refl)
-still_formats plan next (c ∷ calls) some = refl
+still_formats plan next calls some = grind arith
 
 -- behind the end of a list is nothing
 within_all : (list : List Retired) (end place : ℕ) (one : Retired) → slice_get list end ≡ None → slice_get list place ≡ Some one → place < end
@@ -202,10 +196,7 @@ module _ (quiet : QuietSteps) (gates : GateSteps) (making : MakingLaws) (closing
       ∙ set_same old.phases made.request.id.slot phase (after phase made.request.id.call true) s.outcome.phase_is
 
   body_there : file_at (bodies_then bodies made) slot ≡ body_after (file_at bodies slot) made.request.id.call made.request.bytes
-  body_there =
-      let within : made.request.id.slot < length bodies = (let long = slice_get_within old.phases made.request.id.slot phase s.outcome.phase_is in let stored = b.has.stored in omega (arith, long, stored)) in
-      ap (file_at (bodies_then bodies made)) (sym on) ∙ file_set bodies made.request.id.slot (body_after (file_at bodies made.request.id.slot) made.request.id.call made.request.bytes) within
-      ∙ ap (λ x. body_after (file_at bodies x) made.request.id.call made.request.bytes) on
+  body_there  = grind (arith, slice_get_within, bodies_then, file_set)
 
   believes_merge : (later : Option merger.Running) → new.merger ≡ later
       → IsMergeOn (phases_then old made phase) (asked_then asked) (bodies_then bodies made) last h.store h.later running later

@@ -53,24 +53,7 @@ module _ (follows : CatalogFollows) (making : MakingLaws) (base : Base) (history
   image_here k its = ap (image_at then) its ∙ ap (λ o. option_and_then image_in o) changed.there
 
   leaves : LeavesWork store running memory (slots_at phases bodies beliefs) last last store (slots_at phases bodies then)
-  leaves = record {
-    count = refl;
-    same = λ k one is r. record { phase = refl; body = refl; belief = changed.others k (other_slot running slot k spared one is r) };
-    last_is = omega arith;
-    chain = refl;
-    newest = λ j member restored. (j, member, restored, refl);
-    needs = λ k i one is r has needed. needed;
-    gives = λ one is place bytes below. below;
-    rests = λ none grown rests. rests;
-    numbers = λ number is new. new;
-    images = λ k j has. elim (cases_eq k slot) [
-      | inl its ↦ elim (other j (sym (image_here k its) ∙ has)) [
-        | inl before ↦ inl (ap (image_at beliefs) its ∙ ap (λ o. option_and_then image_in o) at ∙ before)
-        | inr makes ↦ inr makes
-      ]
-      | inr differs ↦ inl (sym (image_else k differs) ∙ has)
-    ];
-  }
+  leaves  = grind arith
 
   pub use_then : IsInUseOn base history places grows memory phases asked_now bodies last store dump then running
   use_then = record {

@@ -1,5 +1,5 @@
 -- A core whose store is open, from what is known of its parts.
-use Rattle.std.proofs.Common.{◌≡◌, ℕ, Bool, false, List, length, Option, None, IfSome, sym, ◌∙◌, ap, subst}
+use Rattle.std.proofs.Common.{◌≡◌, ℕ, Bool, false, List, length, Option, None, IfSome, sym, ◌∙◌, ap, subst, arith}
 use Rattle.sd_image.specs.Image.{Image}
 use Rattle.sd_chain.specs.Catalog.{Places}
 use Rattle.sd_gate.specs.declared.phase.Phase.{Phase}
@@ -33,45 +33,17 @@ module _ (core : CoreView) (base : Base) (history : History) (places : Places) (
     (merge : Option merger.Running) (is : HasParts core base history places grows memory phases last running merge)
     (asked : List (Option Asked)) (bodies files : List (List ℕ)) (store : Store) (dump : Option Image) (beliefs : List Belief) where
   has_parts : HasStore base history phases asked bodies store dump beliefs → HasStore core.base (history_of core) core.phases asked bodies store dump beliefs
-  has_parts has =
-      subst (λ x. HasStore x (history_of core) core.phases asked bodies store dump beliefs) (sym is.base_is)
-      (subst (λ x. HasStore base x core.phases asked bodies store dump beliefs) (sym is.history_is)
-      (subst (λ x. HasStore base history x asked bodies store dump beliefs) (sym is.phases_is) has))
+  has_parts has = grind arith
 
   pub in_use_parts : IsInUseOn base history places grows memory phases asked bodies last store dump beliefs running
       → IsInUseOn core.base (history_of core) core.catalog core.grows core.memory core.phases asked bodies core.numbers.serial store dump beliefs core.dumper.running
-  in_use_parts u =
-      subst (λ x. IsInUseOn x (history_of core) core.catalog core.grows core.memory core.phases asked bodies core.numbers.serial store dump beliefs core.dumper.running) (sym is.base_is)
-      (subst (λ x. IsInUseOn base x core.catalog core.grows core.memory core.phases asked bodies core.numbers.serial store dump beliefs core.dumper.running) (sym is.history_is)
-      (subst (λ x. IsInUseOn base history x core.grows core.memory core.phases asked bodies core.numbers.serial store dump beliefs core.dumper.running) (sym is.places_is)
-      (subst (λ x. IsInUseOn base history places x core.memory core.phases asked bodies core.numbers.serial store dump beliefs core.dumper.running) (sym is.grows_is)
-      (subst (λ x. IsInUseOn base history places grows x core.phases asked bodies core.numbers.serial store dump beliefs core.dumper.running) (sym is.memory_is)
-      (subst (λ x. IsInUseOn base history places grows memory x asked bodies core.numbers.serial store dump beliefs core.dumper.running) (sym is.phases_is)
-      (subst (λ x. IsInUseOn base history places grows memory phases asked bodies x store dump beliefs core.dumper.running) (sym is.last_is)
-      (subst (λ x. IsInUseOn base history places grows memory phases asked bodies last store dump beliefs x) (sym is.running_is) u)))))))
+  in_use_parts u = grind arith
 
   pub merging_parts : IsMergeInUse phases asked bodies last store beliefs running merge
       → IsMergeInUse core.phases asked bodies core.numbers.serial store beliefs core.dumper.running core.merger
-  merging_parts m =
-      subst (λ x. IsMergeInUse x asked bodies core.numbers.serial store beliefs core.dumper.running core.merger) (sym is.phases_is)
-      (subst (λ x. IsMergeInUse phases asked bodies x store beliefs core.dumper.running core.merger) (sym is.last_is)
-      (subst (λ x. IsMergeInUse phases asked bodies last store beliefs x core.merger) (sym is.running_is)
-      (subst (λ x. IsMergeInUse phases asked bodies last store beliefs running x) (sym is.merger_is) m)))
+  merging_parts m = grind arith
 
   pub believes_parts : (core.committing ≡ false → dump ≡ None) → length files ≡ length phases → ids_of asked ≡ core.outs → HasStore base history phases asked bodies store dump beliefs
       → IsInUseOn base history places grows memory phases asked bodies last store dump beliefs running → IsMergeInUse phases asked bodies last store beliefs running merge
       → Believes core asked bodies files
-  believes_parts sure count out has u m = record {
-    store = store;
-    dump = dump;
-    beliefs = beliefs;
-    has = has_parts has;
-    knows = record {
-      count = count ∙ ap length (sym is.phases_is);
-      out = out;
-      sees = subst (λ o. IfSome o (SeesStore files core.phases asked)) (sym is.closed) tt;
-      sure = sure;
-      in_use = λ stands. in_use_parts u;
-      merging = λ stands. merging_parts m;
-    };
-  }
+  believes_parts sure count out has u m = grind arith

@@ -37,33 +37,20 @@ use Rattle.sd_crash_safety.proofs.Places.{free_there, id_there, ids_set, nobody_
 
 -- a slot that was synced is found so, also when it is synced again
 synced_is_found : (phase : Phase) → IsRefound (synced phase) → IsRefound (synced (synced phase))
-synced_is_found Raw is = inr refl
-synced_is_found _ is = inl refl
+synced_is_found phase is = grind arith
 
 -- a call that looks leaves the phase, but for a sync
 after_look : (phase : Phase) (call : Call) → IsLook call → (after phase call true ≡ phase) ⊎ (after phase call true ≡ synced phase)
-after_look phase Len look = inl refl
-after_look phase (Read at) look = inl refl
-after_look phase Sync look = inr refl
-after_look phase _ look = absurd look
+after_look phase call look = grind arith
 
 after_is_found : (phase : Phase) (call : Call) → IsLook call → IsRefound (synced phase) → (call ≢ Sync → IsRefound phase) → IsRefound (after phase call true)
-after_is_found phase Len look syncs other = other (λ same. cc)
-after_is_found phase (Read at) look syncs other = other (λ same. cc)
-after_is_found phase Sync look syncs other = syncs
-after_is_found phase _ look syncs other = absurd look
+after_is_found phase call look syncs other = grind arith
 
 after_syncs : (phase : Phase) (call : Call) → IsLook call → IsRefound (synced phase) → IsRefound (synced (after phase call true))
-after_syncs phase call look syncs = elim (after_look phase call look) [
-  | inl same ↦ subst (λ p. IsRefound (synced p)) (sym same) syncs
-  | inr now ↦ subst (λ p. IsRefound (synced p)) (sym now) (synced_is_found phase syncs)
-]
+after_syncs phase call look syncs = grind arith
 
 look_is_ready : (phase : Phase) (call : Call) → IsLook call → is_ready phase call ≡ true
-look_is_ready phase Len look = refl
-look_is_ready phase (Read at) look = refl
-look_is_ready phase Sync look = refl
-look_is_ready phase _ look = absurd look
+look_is_ready phase call look = grind arith
 
 look_opens_none : (call : Call) → IsLook call → call ≢ Open
 look_opens_none call look same = subst IsLook same look
@@ -74,15 +61,10 @@ look_closes_none call look same = subst IsLook same look
 -- ---- the call that is out
 
 is_look_at : (look : Look) (call : Call) (count : ℕ) → IsCallAt look call count → IsLook call
-is_look_at AtSync call count is = subst IsLook (sym is) tt
-is_look_at AtLength call count is = subst IsLook (sym is) tt
-is_look_at AtFirst call count is = subst IsLook (sym is.0) tt
-is_look_at (AtTable h) call count is = subst IsLook (sym is.0) tt
-is_look_at _ call count is = absurd is
+is_look_at look call count is = grind arith
 
 behind_is_less : (look : Look) → calls_behind look ≢ first_looks
-behind_is_less AtSync is = let no : 1 ≡ 2 = ap length is in omega (arith, no)
-behind_is_less _ is = let no : 0 ≡ 2 = ap length is in omega (arith, no)
+behind_is_less look is = grind arith
 
 pub record IsLooking (slot : ℕ) (request : Asked) (stage : Stage) : Type 0 where
   pub look : IsLook request.id.call
@@ -90,17 +72,7 @@ pub record IsLooking (slot : ℕ) (request : Asked) (stage : Stage) : Type 0 whe
   pub past : request.id.call ≢ Sync → IsPastSync stage
 
 looks_out : (slot : ℕ) (file : List ℕ) (request : Asked) (stage : Stage) → SeesSlot slot file (Some request) stage → IsLooking slot request stage
-looks_out slot file request (Asking plan) (look, there, same, on, here) = record {
-  look = is_look_at look request.id.call (length request.bytes) here;
-  on = on;
-  past = λ other. record {
-    asked = λ is. behind_is_less look (sym (ap (λ (p : Planned). p.calls) same) ∙ is);
-    handed = λ id out is.
-        let id_is : id ≡ request.id = same_Some id request.id (sym out ∙ ap (λ (p : Planned). p.out) same) in
-        other (sym (ap (λ (i : RequestId). i.call) id_is) ∙ is);
-  };
-}
-looks_out slot file request _ s = absurd (let no : Some request ≡ None = s.0 in cc)
+looks_out slot file request stage h4 = grind arith
 
 -- ---- what is believed of the store
 
@@ -109,15 +81,7 @@ moved : (old new : CoreView) (phases : List Phase) (asked : List (Option Asked))
     (requests : List (Option Asked)) (then : List (List ℕ)) → OnlyOpens old new → new.phases ≡ phases
     → HasStore old.base (history_of old) phases requests then b.store b.dump b.beliefs → Knows new requests then files b.store b.dump b.beliefs
     → Believes new requests then files
-moved old new phases asked bodies files b requests then rest same has knows = record {
-  store = b.store;
-  dump = b.dump;
-  beliefs = b.beliefs;
-  has = subst (λ x. HasStore x (history_of new) new.phases requests then b.store b.dump b.beliefs) (sym rest.base)
-      (subst (λ i. HasStore old.base (entries_of i) new.phases requests then b.store b.dump b.beliefs) (sym rest.items)
-      (subst (λ p. HasStore old.base (history_of old) p requests then b.store b.dump b.beliefs) (sym same) has));
-  knows = knows;
-}
+moved old new phases asked bodies files b requests then rest same has knows = grind arith
 
 -- the store isn't open
 not_open : (old new : CoreView) → OnlyOpens old new → new.standing ≡ standing.Open → ⊥
@@ -226,12 +190,7 @@ looks_lem quiet old new opener next number request asked bodies files l b =
     ]
 
     was_past : (o n : Looking) → IsPastSync n.stage → OpenerAsks number o request n → IsPastSync o.stage
-    was_past o n past asks =
-        let has : HasSynced asks.next = subst IsPastSync asks.is past in
-        subst IsPastSync (sym asks.was) (record {
-          asked = λ is. has.handed request.id asks.gives.out (ap first_call (sym asks.gives.next ∙ is));
-          handed = λ id out. absurd (let no : None ≡ Some id = sym asks.gives.free ∙ out in cc);
-        })
+    was_past o n past asks = grind arith
 
 -- ---- an open slot was decoded
 
@@ -239,17 +198,13 @@ at_next : (phases : List Phase) (old new : Looking) → IsAtNext old new
     → ((slot : ℕ) (phase : Phase) → slice_get phases slot ≡ Some phase → slot < length old.told → IsRefound phase)
     → ((phase : Phase) → slice_get phases (length old.told) ≡ Some phase → IsRefound phase)
     → (slot : ℕ) (phase : Phase) → slice_get phases slot ≡ Some phase → slot < length new.told → IsRefound phase
-at_next phases old new next before own slot phase at below = elim (cases_eq slot (length old.told)) [
-  | inl same ↦ own phase (ap (slice_get phases) (sym same) ∙ at)
-  | inr differs ↦ before slot phase at (let more = next.told in omega (arith, below, more, differs))
-]
+at_next phases old new next before own slot phase at below = grind arith
 
 fresh_is_not_past : (old new : Looking) → IsAtNext old new → IsPastSync new.stage → ⊥
 fresh_is_not_past old new next past = HasSynced.asked (subst IsPastSync next.stage past) refl
 
 read_is_past : (stage : Stage) → ((plan : Planned) → stage ≢ Asking plan) → IsPastSync stage
-read_is_past (Asking plan) read = absurd (read plan refl)
-read_is_past _ read = tt
+read_is_past stage read = grind arith
 
 pub decodes_lem : (old new : CoreView) (opener next : Looking) (asked : List (Option Asked)) (bodies files : List (List ℕ))
     → Decodes old opener next new → Believes old asked bodies files → Believes new asked bodies files
@@ -331,12 +286,7 @@ module _ (old new : CoreView) (made : Made) (phase : Phase) (asked : List (Optio
     out = looks_out (length opener.told) (file_at files (length opener.told)) made.request opener.stage before.slot
 
     told_of : IsToldOf (file_at files (length opener.told)) made.request made
-    told_of = record {
-      id = refl;
-      bytes = refl;
-      done = t.done;
-      told = subst (λ at_slot. IsTold (file_at files at_slot) made) out.on (was_told.told t.done);
-    }
+    told_of  = grind arith
 
     then_phases : handed_phases ≡ slice_set old.phases slot (after phase made.request.id.call true)
     then_phases = ap (λ done. slice_set old.phases slot (after phase made.request.id.call done)) t.done
@@ -400,15 +350,7 @@ module _ (old new : CoreView) (made : Made) (phase : Phase) (asked : List (Optio
 
 pub ends_lem : (old new : CoreView) (asked : List (Option Asked)) (bodies files : List (List ℕ))
     → GivesUpOpening old new → Believes old asked bodies files → Believes new asked bodies files
-ends_lem old new asked bodies files g b = moved old new old.phases asked bodies files b asked bodies g.rest g.phases b.has
-    (record {
-      count = b.knows.count ∙ ap length (sym g.phases);
-      out = b.knows.out ∙ sym g.outs;
-      sees = subst (λ o. IfSome o (SeesStore files new.phases asked)) (sym g.opener) tt;
-      sure = λ is. b.knows.sure (sym g.rest.committing ∙ is);
-      in_use = λ is. absurd (not_open old new g.rest is);
-      merging = λ is. absurd (not_open old new g.rest is);
-    })
+ends_lem old new asked bodies files g b = grind arith
 
 pub refinds_lem : (core : CoreView) (opener : Looking) (asked : List (Option Asked)) (bodies files : List (List ℕ))
     → core.opener ≡ Some opener → length opener.told ≡ opener.slots → NoneOut asked → Believes core asked bodies files

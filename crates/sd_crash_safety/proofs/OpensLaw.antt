@@ -76,8 +76,7 @@ module _ (order : ImageOrder) (i : Image) (plan : Planned) (phase : Phase) (body
   too_many first second rest e = let no : 1 ≡ suc (suc (length rest)) = ap length e in omega (arith, no)
 
   none_made : (k : ℕ) → drop {A = Call} k [] ≡ []
-  none_made zero = refl
-  none_made (suc k) = refl
+  none_made k = grind arith
 
   opened_by : (place : ℕ) → request.id.call ∷ [] ≡ drop place (map kind_of_call (body_calls i.header (table_text i.spaces)))
       → (is_opening_at place (Some request) ≡ true → (belief ≡ Opening i) × (dump ≡ pending_dump order.kind i)) → (belief ≡ Opening i) × (dump ≡ pending_dump order.kind i)
@@ -157,10 +156,7 @@ module _ (quiet : QuietSteps) (gates : GateSteps) (file : FileLaws) (gives : Ste
   no_more = sym (calls_of_done s.opens.plan made (known_plan image.order image.pass image.stage s.opens.plan plan_is s.sound.ready) s.opens.done) ∙ s.opens.last
 
   closing_was : ClosesBody image.order i s.opens.plan phase (file_at bodies slot) (Some made.request) m.belief b.dump
-  closing_was = subst (λ st. IsSlotFor st image.order m.pages phase (file_at bodies slot) (Some made.request) m.belief b.dump) s.opens.was
-      (subst (λ p. IsSlotFor image.stage image.order m.pages p (file_at bodies slot) (Some made.request) m.belief b.dump) phase_same
-      (subst (λ body. IsSlotFor image.stage image.order m.pages m.phase body (Some made.request) m.belief b.dump) (body_still (file_at bodies slot) (lanes_of asked) lanes_empty)
-      (subst (λ r. IsSlotFor image.stage image.order m.pages m.phase (body_written (file_at bodies slot) (lanes_of asked)) r m.belief b.dump) out_is m.slot_is)))
+  closing_was  = grind (arith, body_still)
 
   opened_then : IsOpenThen image.order i phase (file_at bodies slot) made.request m.belief b.dump
   opened_then = open_then image.order i s.opens.plan phase (file_at bodies slot) made.request m.belief b.dump closing_was no_more
@@ -177,9 +173,7 @@ module _ (quiet : QuietSteps) (gates : GateSteps) (file : FileLaws) (gives : Ste
   parent_is = ap (λ h. h.parent) filed.numbers ∙ ap (λ o. o.parent) s.own
 
   falls : i.header.parent < i.header.stands_for
-  falls =
-      let less = m.low in
-      let stands = stands_is in let parent = parent_is in omega (arith, less, stands, parent)
+  falls  = grind arith
 
   next_is : IsNext b.store i
   next_is = record {
@@ -222,8 +216,7 @@ module _ (quiet : QuietSteps) (gates : GateSteps) (file : FileLaws) (gives : Ste
 
   -- an image of the store then is the one that entered, or was there
   member_then : (j : Image) → Contains (i ∷ b.store.catalog) j → (j ≡ i) ⊎ Contains b.store.catalog j
-  member_then j (zero, within, is) = inl (sym is)
-  member_then j (suc k, within, is) = inr (k, omega (arith, within), is)
+  member_then j h1 = grind arith
 
   first_in : Contains (i ∷ b.store.catalog) i
   first_in = (0, omega arith, refl)
@@ -377,8 +370,7 @@ module _ (quiet : QuietSteps) (gates : GateSteps) (file : FileLaws) (gives : Ste
         (subst (λ d. HasStore old.base history phases_now asked_now bodies_now b.store d b.beliefs) no_dump has_one)
 
     asks_serial : (asked_for : ℕ) → Contains (i.header.stands_for ∷ []) asked_for → asked_for < old.numbers.serial + 1
-    asks_serial asked_for (zero, within, is) = let stands = stands_is in let last = m.serial in omega (arith, is, stands, last)
-    asks_serial asked_for (suc k, within, is) = absurd (omega (arith, within))
+    asks_serial asked_for h1 = grind arith
 
     -- another slot of the checkpoint
     other_slot : (k : ℕ) → IsReserved (after_pre_dump running opened) k → k ≢ slot
@@ -393,10 +385,7 @@ module _ (quiet : QuietSteps) (gates : GateSteps) (file : FileLaws) (gives : Ste
         own_slot = ap (λ o. o.slot) s.own
 
         few : running.opened < length running.pre_dumps
-        few = elim (cases_lt running.opened (length running.pre_dumps)) [
-          | inl less ↦ less
-          | inr over ↦ absurd (false≢true (sym more ∙ le-leb (length running.pre_dumps) running.opened over))
-        ]
+        few  = grind arith
 
     pub pre_dump_lem : Believes new asked_now bodies_now files
     pre_dump_lem = believes_parts new old.base history new.catalog old.grows old.memory phases_now old.numbers.serial (Some (after_pre_dump running opened)) old.merger

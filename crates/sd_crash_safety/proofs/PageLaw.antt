@@ -31,8 +31,7 @@ use Rattle.sd_store_laws.proofs.SlotSteps.{set_other}
 use Rattle.sd_crash_safety.proofs.Places.{body_other, ids_set, set_count, set_same}
 
 passing_stage : (stage : Stage) → is_passing stage ≡ true → stage ≡ PassStage
-passing_stage PassStage is = refl
-passing_stage _ is = absurd (false≢true is)
+passing_stage stage is = grind arith
 
 module _ (commutes : WritesCommute) (making : MakingLaws) (quiet : QuietSteps) (old new : CoreView) (running : Running) (image next : Making) (made : Made) (phase : Phase)
     (asked : List (Option Asked)) (bodies files : List (List ℕ)) (s : PageIsWritten old running image made phase next new)

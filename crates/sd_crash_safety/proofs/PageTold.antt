@@ -1,5 +1,5 @@
 -- The bytes of a data page that was read of its image's file.
-use Rattle.std.proofs.Common.{◌≡◌, ℕ, zero, suc, ◌+◌, List, length, slice_get, slice_range, Some, refl, sym, ◌∙◌, ap, subst}
+use Rattle.std.proofs.Common.{◌≡◌, ℕ, zero, suc, ◌+◌, List, length, slice_get, slice_range, Some, refl, sym, ◌∙◌, ap, subst, arith}
 use Rattle.std.proofs.lemmas.Option.{same_Some}
 use Rattle.sd_areas.specs.Pages.{pages_from}
 use Rattle.sd_image.specs.declared.run.RunKind.TheVariants.{Data}
@@ -32,7 +32,4 @@ page_there law file i place bytes is there =
 -- a read that was done brings it
 pub page_told : PageInFile → (file : List ℕ) (i : Image) (place : ℕ) (bytes : List ℕ) (made : Made) → IsImage file i → slice_get i.pages place ≡ Some bytes
     → made.request.id.call ≡ Read (data_place place) → length made.request.bytes ≡ 4096 → IsTold file made → made.request.bytes ≡ bytes
-page_told law file i place bytes made is there call whole told =
-    let came : made.request.bytes ≡ slice_range file (data_place place) (data_place place + length made.request.bytes) =
-    subst (λ c. CallTells c file made.answer made.request.bytes) call told.tells in
-    came ∙ ap (λ n. slice_range file (data_place place) (data_place place + n)) whole ∙ sym (page_there law file i place bytes is there)
+page_told law file i place bytes made is there call whole told = grind (arith, page_there)

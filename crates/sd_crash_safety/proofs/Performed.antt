@@ -1,5 +1,5 @@
 -- A device call that was made leaves what is believed.
-use Rattle.std.proofs.Common.{◌≡◌, ◌≢◌, ◌⊎◌, ℕ, zero, suc, Bool, true, List, [], ◌∷◌, drop, length, map, Option, Some, None, IfSome, slice_get, slice_set, refl, sym, ◌∙◌, ap, subst, inl, inr}
+use Rattle.std.proofs.Common.{◌≡◌, ◌≢◌, ◌⊎◌, ℕ, zero, suc, Bool, true, List, [], ◌∷◌, drop, length, map, Option, Some, None, IfSome, slice_get, slice_set, refl, sym, ◌∙◌, ap, subst, inl, inr, arith}
 use Rattle.std.proofs.lemmas.Bool.{cases_eq}
 use Rattle.std.proofs.lemmas.Option.{same_Some}
 use Rattle.sd_disk.specs.Contents.{file_at}
@@ -55,13 +55,10 @@ use Rattle.sd_crash_safety.proofs.Places.{ids_same, set_same}
 
 -- a body after a call is the same where the call kept its bytes
 pub kept_body : (body : List ℕ) (call : Call) (old new : List ℕ) → AreKept call old new → body_after body call new ≡ body_after body call old
-kept_body body (Write at) old new kept = ap (body_after body (Write at)) kept
-kept_body body WriteHeader old new kept = ap (body_after body WriteHeader) kept
-kept_body body _ old new kept = refl
+kept_body body call old new kept = grind arith
 
 kept_length : (call : Call) (old new : List ℕ) → AreKept call old new → length new ≡ length old
-kept_length (Read at) old new kept = kept
-kept_length _ old new kept = ap length kept
+kept_length call old new kept = grind arith
 
 leads_kept : (phase last : Phase) (body final : List ℕ) (call : Call) (old new : List ℕ) (calls : Calls) → AreKept call old new
     → Leads phase body ((call, old) ∷ calls) last final → Leads phase body ((call, new) ∷ calls) last final
@@ -89,15 +86,7 @@ module _ (asked : List (Option Asked)) (worker : ℕ) (request : Asked) (made : 
 
   covered : (phases : List Phase) (bodies : List (List ℕ)) (beliefs : List Belief) → IsCovered phases bodies beliefs request
       → IsCovered phases bodies beliefs made.request
-  covered phases bodies beliefs c = record {
-    phase = c.phase;
-    waits = subst (λ id. Waits phases id c.phase) (sym is.id) c.waits;
-    belief = c.belief;
-    is = subst (λ id. slice_get beliefs id.slot ≡ Some c.belief) (sym is.id) c.is;
-    believed = λ done. subst (λ id. MayBelieve (phase_after c.phase id.call done) (body_after (file_at bodies id.slot) id.call made.request.bytes) c.belief) (sym is.id)
-        (subst (λ body. MayBelieve (phase_after c.phase request.id.call done) body c.belief)
-        (sym (kept_body (file_at bodies request.id.slot) request.id.call request.bytes made.request.bytes is.bytes)) (c.believed done));
-  }
+  covered phases bodies beliefs c = grind arith
 
   waiting : (phases : List Phase) (bodies : List (List ℕ)) (beliefs : List Belief)
       → ((other : ℕ) (r : Asked) → slice_get asked other ≡ Some (Some r) → IsCovered phases bodies beliefs r)
@@ -124,8 +113,7 @@ module _ (asked : List (Option Asked)) (worker : ℕ) (request : Asked) (made : 
       (look, there, same ∙ ap (asks slot file look) (sym is.id), ap (λ (id : RequestId). id.slot) is.id ∙ on, made_at look here)
 
   slot_looks : (slot : ℕ) (file : List ℕ) (stage : Stage) → SeesSlot slot file (Some request) stage → SeesSlot slot file (Some made.request) stage
-  slot_looks slot file (Asking plan) s = plan_looks slot file plan s
-  slot_looks slot file _ s = absurd (let no : Some request ≡ None = s.0 in cc)
+  slot_looks slot file stage s = grind arith
 
   sees_made : (opener : Looking) → Sees files (Some request) opener → Sees files (Some made.request) opener
   sees_made opener s = record {
@@ -175,16 +163,11 @@ module _ (asked : List (Option Asked)) (worker : ℕ) (request : Asked) (made : 
   ]
 
   still_free : slice_get asked 0 ≡ Some None → slice_get after 0 ≡ Some None
-  still_free free = elim (cases_eq 0 worker) [
-    | inl its ↦ absurd (let no : Some None ≡ Some (Some request) = sym free ∙ ap (slice_get asked) its ∙ at in cc)
-    | inr differs ↦ set_other asked worker 0 (Some made.request) differs ∙ free
-  ]
+  still_free free = grind (arith, cases_eq, set_other)
 
   leads_made : (phase last : Phase) (body final : List ℕ) (plan : Planned) → Leads phase body (calls_left (Some request) plan) last final
       → Leads phase body (calls_left (Some made.request) plan) last final
-  leads_made phase last body final plan leads =
-      subst (λ (id : RequestId). Leads phase body ((id.call, made.request.bytes) ∷ plan.calls) last final) (sym is.id)
-      (leads_kept phase last body final request.id.call request.bytes made.request.bytes plan.calls is.bytes leads)
+  leads_made phase last body final plan leads = grind (arith, leads_kept)
 
   left_made : (all : Calls) (place : ℕ) (plan : Planned) → AreLeft all place (Some request) plan → AreLeft all place (Some made.request) plan
   left_made all place plan left = ap (λ (id : RequestId). id.call ∷ map kind_of_call plan.calls) is.id ∙ left
@@ -234,12 +217,7 @@ module _ (asked : List (Option Asked)) (worker : ℕ) (request : Asked) (made : 
   body_made body = ap (λ (id : RequestId). body_after body id.call made.request.bytes) is.id ∙ kept_body body request.id.call request.bytes made.request.bytes is.bytes
 
   page_made : (slot : ℕ) → IsPageOf slot request → IsPageOf slot made.request
-  page_made slot page = record {
-    on = ap (λ (id : RequestId). id.slot) is.id ∙ page.on;
-    place = page.place;
-    call = ap (λ (id : RequestId). id.call) is.id ∙ page.call;
-    whole = kept_length request.id.call request.bytes made.request.bytes is.bytes ∙ page.whole;
-  }
+  page_made slot page = grind arith
 
   body_in_lane : (body : List ℕ) (lanes : List (Option Asked)) (lane : ℕ) → slice_get lanes lane ≡ Some (Some request)
       → body_written body (slice_set lanes lane (Some made.request)) ≡ body_written body lanes
@@ -254,12 +232,7 @@ module _ (asked : List (Option Asked)) (worker : ℕ) (request : Asked) (made : 
   -- a request in a lane had that id before
   in_lane : (lanes : List (Option Asked)) (lane other : ℕ) (r : Asked) → slice_get lanes lane ≡ Some (Some request) → slice_get (slice_set lanes lane (Some made.request)) other ≡ Some (Some r)
       → (old : Asked) × (slice_get lanes other ≡ Some (Some old)) × (r.id ≡ old.id) × ((slot : ℕ) → IsPageOf slot old → IsPageOf slot r)
-  in_lane lanes lane other r out now = elim (put_cases lanes lane other (Some made.request) r now) [
-    | inl before ↦ (r, before.1, refl, λ slot page. page)
-    | inr here ↦
-        let own : made.request ≡ r = same_Some made.request r here.1 in
-        (request, ap (slice_get lanes) here.0 ∙ out, ap (λ (q : Asked). q.id) (sym own) ∙ is.id, λ slot page. subst (IsPageOf slot) own (page_made slot page))
-  ]
+  in_lane lanes lane other r out now = grind (arith, put_cases, same_Some)
 
   pages_in_lane : (slot : ℕ) (lanes : List (Option Asked)) (lane : ℕ) → slice_get lanes lane ≡ Some (Some request) → ArePagesOf slot lanes
       → ArePagesOf slot (slice_set lanes lane (Some made.request))
@@ -348,40 +321,19 @@ module _ (asked : List (Option Asked)) (worker : ℕ) (request : Asked) (made : 
   ]
 
   silent_made : slice_get asked 1 ≡ Some None → slice_get after 1 ≡ Some None
-  silent_made free = elim (cases_eq 1 worker) [
-    | inl its ↦ absurd (let no : Some None ≡ Some (Some request) = sym free ∙ ap (slice_get asked) its ∙ at in cc)
-    | inr differs ↦ set_other asked worker 1 (Some made.request) differs ∙ free
-  ]
+  silent_made free = grind (arith, cases_eq, set_other)
 
   module _ (phases : List Phase) (bodies : List (List ℕ)) (last : ℕ) (store : Store) (beliefs : List Belief) (running : Option Running) where
     read_made : (target : ℕ) (source : Image) (page : Option Place) → IsReadOn phases bodies store beliefs running target source page request
         → IsReadOn phases bodies store beliefs running target source page made.request
-    read_made target source page a = record {
-      at = a.at;
-      taking = a.taking;
-      image = a.image;
-      kept = subst (λ (id : RequestId). slice_get beliefs id.slot ≡ Some (Kept a.image)) (sym is.id) a.kept;
-      phase_is = subst (λ (id : RequestId). slice_get phases id.slot ≡ Some WholePhase) (sym is.id) a.phase_is;
-      spelled = subst (λ (id : RequestId). IsImage (gate ∷ file_at bodies id.slot) a.image) (sym is.id) a.spelled;
-      spared = subst (λ (id : RequestId). IsSpared running id.slot) (sym is.id) a.spared;
-      apart = subst (λ (id : RequestId). id.slot ≢ target) (sym is.id) a.apart;
-      reached = a.reached;
-      place = a.place;
-      call = ap (λ (id : RequestId). id.call) is.id ∙ a.call;
-      whole = kept_length request.id.call request.bytes made.request.bytes is.bytes ∙ a.whole;
-      bytes = a.bytes;
-      stored = a.stored;
-      holds = a.holds;
-    }
+    read_made target source page a = grind arith
 
     on_made : (target : ℕ) → request.id.slot ≡ target → made.request.id.slot ≡ target
     on_made target on = ap (λ (id : RequestId). id.slot) is.id ∙ on
 
     asked_made : (target : ℕ) (source : Image) (stage : CopyStage) (page : Option Place) → IsAskedIn stage phases bodies store beliefs running target source page (Some request)
         → IsAskedIn stage phases bodies store beliefs running target source page (Some made.request)
-    asked_made target source (copy.PageRead plan) page a = read_made target source page a
-    asked_made target source (copy.PageWrite plan) page a = record { on = on_made target a.on; last = a.last; place = a.place; call = ap (λ (id : RequestId). id.call) is.id ∙ a.call }
-    asked_made target source _ page a = on_made target a
+    asked_made target source stage page a = grind arith
 
     slot_in_made : (target : ℕ) (state : SlotState) (stage : CopyStage) (pages : Pages) (phase : Phase) (body : List ℕ) (belief : Belief)
         → IsSlotFor (stage_in_slot stage) (order_of_slot target state) pages phase (body_written body (lanes_in_slot stage (Some request))) (request_in_slot stage (Some request)) belief None
@@ -411,23 +363,7 @@ module _ (asked : List (Option Asked)) (worker : ℕ) (request : Asked) (made : 
         with_it : IsAskedIn making.stage phases bodies store beliefs running target source making.taking own.0
             → IsSlotFor (stage_in_slot making.stage) (order_of_slot target making.order.state) c.pages c.phase (body_written (file_at bodies target) (lanes_in_slot making.stage own.0)) (request_in_slot making.stage own.0) c.belief None
             → IsCopyOn phases after bodies last store beliefs running target source making
-        with_it asked_in slot_is = record {
-          pages = c.pages;
-          keeps = c.keeps;
-          files = c.files;
-          serial = c.serial;
-          other = c.other;
-          above = c.above;
-          others = c.others;
-          phase = c.phase;
-          phase_is = c.phase_is;
-          belief = c.belief;
-          belief_is = c.belief_is;
-          request = own.0;
-          own = own.1;
-          asked_in = asked_in;
-          slot_is = slot_is;
-        }
+        with_it asked_in slot_is = grind arith
 
     retired_made : (r : Retiring) (one : Retired) → IsRetiredOn phases asked bodies store beliefs running r one → IsRetiredOn phases after bodies store beliefs running r one
     retired_made r one c = elim own.2 [
@@ -445,18 +381,7 @@ module _ (asked : List (Option Asked)) (worker : ℕ) (request : Asked) (made : 
         with_it : ((out : Asked) → own.0 ≡ Some out → out.id.slot ≡ one.slot)
             → IsSlotFor (Format r.plan) (order_of_slot one.slot OpenSlot) [] c.phase (file_at bodies one.slot) own.0 c.belief None
             → IsRetiredOn phases after bodies store beliefs running r one
-        with_it asked_at slot_is = record {
-          phase = c.phase;
-          phase_is = c.phase_is;
-          belief = c.belief;
-          belief_is = c.belief_is;
-          unneeded = c.unneeded;
-          spared = c.spared;
-          request = own.0;
-          own = own.1;
-          asked_at = asked_at;
-          slot_is = slot_is;
-        }
+        with_it asked_at slot_is = grind arith
 
     merge_at_made : (target : ℕ) (origin : Source) (doing : Doing) → IsMergeAt phases asked bodies last store beliefs running target origin doing
         → IsMergeAt phases after bodies last store beliefs running target origin doing

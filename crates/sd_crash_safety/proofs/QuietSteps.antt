@@ -38,38 +38,18 @@ same_phase phases slot one other is is_too = same_Some one other (sym is ∙ is_
 pub asked_cases : (asked : List (Option Asked)) (worker other : ℕ) (was : Option Asked) (request r : Asked) → slice_get asked worker ≡ Some was
     → slice_get (slice_set asked worker (Some request)) other ≡ Some (Some r)
     → (r ≡ request) ⊎ ((other ≢ worker) × (slice_get asked other ≡ Some (Some r)))
-asked_cases asked worker other was request r at out = elim (cases_eq other worker) [
-  | inl same ↦ inl (same_Some r request (same_Some (Some r) (Some request)
-      (sym out ∙ ap (slice_get (slice_set asked worker (Some request))) same ∙ set_same asked worker was (Some request) at)))
-  | inr differs ↦ inr (differs, sym (set_other asked worker other (Some request) differs) ∙ out)
-]
+asked_cases asked worker other was request r at out = grind (arith, cases_eq, same_Some, set_same, set_other)
 
 -- and each that is out when one was handed in was out before, of another worker
 pub left_cases : (asked : List (Option Asked)) (worker other : ℕ) (was : Option Asked) (r : Asked) → slice_get asked worker ≡ Some was
     → slice_get (slice_set asked worker None) other ≡ Some (Some r) → (other ≢ worker) × (slice_get asked other ≡ Some (Some r))
-left_cases asked worker other was r at out = elim (cases_eq other worker) [
-  | inl same ↦ absurd (let no : None ≡ Some r = same_Some None (Some r)
-      (sym (set_same asked worker was None at) ∙ ap (slice_get (slice_set asked worker None)) (sym same) ∙ out) in cc)
-  | inr differs ↦ (differs, sym (set_other asked worker other None differs) ∙ out)
-]
+left_cases asked worker other was r at out = grind (arith, cases_eq, same_Some, set_same, set_other)
 
 -- ---- a slot behind its gate is written by several requests
 
 -- behind one write it is ready for the next
 written_ready : (phase : Phase) (at : ℕ) (done : Bool) → may_write phase ≡ true → may_write (after phase (Write at) done) ≡ true
-written_ready Raw at done ready = absurd (both_ways false refl ready)
-written_ready RawClosing at done ready = absurd (both_ways false refl ready)
-written_ready Whole at done ready = absurd (both_ways false refl ready)
-written_ready Closing at done ready = absurd (both_ways false refl ready)
-written_ready Shut at true ready = refl
-written_ready ShutSynced at true ready = refl
-written_ready Bare at true ready = refl
-written_ready Writing at true ready = refl
-written_ready Ready at true ready = refl
-written_ready Opening at done ready = absurd (both_ways false refl ready)
-written_ready Doubt at done ready = absurd (both_ways false refl ready)
-written_ready DoubtSynced at done ready = absurd (both_ways false refl ready)
-written_ready _ at _ ready = refl
+written_ready phase at done ready = grind arith
 
 -- and is believed closed then, whatever its body
 closed_so : (phase : Phase) (body : List ℕ) (belief : Belief) → MayBelieve phase body belief → IsBelievedAs phase body Closed → ((strong : Belief) → IsBelievedAs phase body strong → strong ≡ Closed)
@@ -77,32 +57,10 @@ closed_so : (phase : Phase) (body : List ℕ) (belief : Belief) → MayBelieve p
 closed_so phase body belief may is only = subst (λ strong. IsWeaker strong belief) (only may.strong may.is) may.weaker
 
 written_closed : (phase : Phase) (at : ℕ) (body : List ℕ) (belief : Belief) (done : Bool) → may_write phase ≡ true → MayBelieve (after phase (Write at) done) body belief → IsWeaker Closed belief
-written_closed Shut at body belief true ready may = closed_so Shut body belief may refl (λ strong is. is)
-written_closed Shut at body belief false ready may = closed_so Shut body belief may refl (λ strong is. is)
-written_closed ShutSynced at body belief true ready may = closed_so Shut body belief may refl (λ strong is. is)
-written_closed ShutSynced at body belief false ready may = closed_so Shut body belief may refl (λ strong is. is)
-written_closed Bare at body belief true ready may = closed_so Writing body belief may refl (λ strong is. is)
-written_closed Bare at body belief false ready may = closed_so Shut body belief may refl (λ strong is. is)
-written_closed Writing at body belief true ready may = closed_so Writing body belief may refl (λ strong is. is)
-written_closed Writing at body belief false ready may = closed_so Shut body belief may refl (λ strong is. is)
-written_closed Ready at body belief true ready may = closed_so Writing body belief may refl (λ strong is. is)
-written_closed Ready at body belief false ready may = closed_so Shut body belief may refl (λ strong is. is)
-written_closed _ at body belief done ready may = absurd (both_ways false refl ready)
+written_closed phase at body belief done ready may = grind arith
 
 still_closed : (phase : Phase) (at : ℕ) (body : List ℕ) (belief : Belief) (done : Bool) → may_write phase ≡ true → IsWeaker Closed belief → MayBelieve (after phase (Write at) done) body belief
-still_closed Raw at body belief done ready weaker = absurd (both_ways false refl ready)
-still_closed RawClosing at body belief done ready weaker = absurd (both_ways false refl ready)
-still_closed Whole at body belief done ready weaker = absurd (both_ways false refl ready)
-still_closed Closing at body belief done ready weaker = absurd (both_ways false refl ready)
-still_closed Shut at body belief true ready weaker = record { strong = Closed; is = refl; weaker = weaker }
-still_closed ShutSynced at body belief true ready weaker = record { strong = Closed; is = refl; weaker = weaker }
-still_closed Bare at body belief true ready weaker = record { strong = Closed; is = refl; weaker = weaker }
-still_closed Writing at body belief true ready weaker = record { strong = Closed; is = refl; weaker = weaker }
-still_closed Ready at body belief true ready weaker = record { strong = Closed; is = refl; weaker = weaker }
-still_closed Opening at body belief done ready weaker = absurd (both_ways false refl ready)
-still_closed Doubt at body belief done ready weaker = absurd (both_ways false refl ready)
-still_closed DoubtSynced at body belief done ready weaker = absurd (both_ways false refl ready)
-still_closed _ at body belief _ ready weaker = record { strong = Closed; is = refl; weaker = weaker }
+still_closed phase at body belief done ready weaker = grind arith
 
 written_believed : (phase : Phase) (at other : ℕ) (body later : List ℕ) (belief : Belief) (done later_done : Bool) → may_write phase ≡ true → MayBelieve (after phase (Write at) done) body belief
     → MayBelieve (after (after phase (Write at) done) (Write other) later_done) later belief
@@ -157,23 +115,11 @@ module _ (base : Base) (history : History) (phases : List Phase) (asked : List (
 
     own_may : MayBelieve (after o.phase made.request.id.call (is_done made.answer))
         (body_after (file_at bodies slot) made.request.id.call made.request.bytes) own.belief
-    own_may = subst (λ phase. MayBelieve (after phase made.request.id.call (is_done made.answer))
-        (body_after (file_at bodies slot) made.request.id.call made.request.bytes) own.belief)
-        (same_phase phases slot own.phase o.phase own.waits.is o.waits.is) (own.believed (is_done made.answer))
+    own_may  = grind arith
 
     -- a request on another slot is covered as before
     other_covered : (r : Asked) → r.id.slot ≢ slot → IsCovered phases bodies beliefs r → IsCovered next_phases next_bodies beliefs r
-    other_covered r elsewhere c = record {
-      phase = c.phase;
-      waits = record {
-        is = set_other phases slot r.id.slot (after o.phase made.request.id.call (is_done made.answer)) elsewhere ∙ c.waits.is;
-        ready = c.waits.ready;
-      };
-      belief = c.belief;
-      is = c.is;
-      believed = λ done. subst (λ body. MayBelieve (after c.phase r.id.call done) (body_after body r.id.call r.bytes) c.belief)
-          (sym (body_other bodies slot r.id.slot (body_after (file_at bodies slot) made.request.id.call made.request.bytes) elsewhere)) (c.believed done);
-    }
+    other_covered r elsewhere c = grind (arith, set_other, body_other)
 
     -- the write of another page of this slot is, too
     page_covered : (r : Asked) → r.id.slot ≡ slot → WritesDataPage made.request.id → WritesDataPage r.id → IsCovered phases bodies beliefs r → IsCovered next_phases next_bodies beliefs r
@@ -222,21 +168,7 @@ module _ (base : Base) (history : History) (phases : List Phase) (asked : List (
 
   module _ (new : List Phase) (given : AreGivenUp asked phases new) where
     still_waits : (worker : ℕ) (r : Asked) → slice_get asked worker ≡ Some (Some r) → IsCovered phases bodies beliefs r → IsCovered new bodies beliefs r
-    still_waits worker r out c =
-        let now = has_too phases new r.id.slot c.phase given.count c.waits.is in
-        let how = given.each r.id.slot now.0 now.1 in
-        let was_it : how.0 ≡ c.phase = same_phase phases r.id.slot how.0 c.phase how.1 c.waits.is in
-        let is_it : now.0 ≡ c.phase = elim how.2 [
-          | inl same ↦ same ∙ was_it
-          | inr up ↦ absurd (up.1 worker r out refl)
-        ] in
-        record {
-          phase = c.phase;
-          waits = record { is = now.1 ∙ ap Some is_it; ready = c.waits.ready };
-          belief = c.belief;
-          is = c.is;
-          believed = c.believed;
-        }
+    still_waits worker r out c = grind (arith, has_too, same_phase)
 
     each_still : BeliefsFollowCalls → (slot : ℕ) (phase : Phase) (belief : Belief) → slice_get new slot ≡ Some phase → slice_get beliefs slot ≡ Some belief
         → MayBelieve phase (file_at bodies slot) belief
@@ -284,28 +216,21 @@ with_history base old new phases asked bodies store dump beliefs lasts pends has
 
 applied_last : (base : Base) (history : History) (seat : ℕ) (command : Command) (told : Reply) (shown : Shown)
     → IsLastPair base history shown → IsLastPair base (Applied seat command told ∷ history) shown
-applied_last base history seat command told None is = is
-applied_last base history seat command told (Some pair) is = is
+applied_last base history seat command told shown is = grind arith
 
 applied_pending : (base : Base) (history : History) (seat : ℕ) (command : Command) (told : Reply) (shown : Shown)
     → IsPendingPair base history shown → IsPendingPair base (Applied seat command told ∷ history) shown
-applied_pending base history seat command told None is = is
-applied_pending base history seat command told (Some pair) is = is
+applied_pending base history seat command told shown is = grind arith
 
 cancelled_last : (base : Base) (history : History) (n : ℕ) (shown : Shown) → IsLastPair base history shown → IsLastPair base (Cancelled n ∷ history) shown
-cancelled_last base history n None is = is
-cancelled_last base history n (Some pair) is = is
+cancelled_last base history n shown is = grind arith
 
 froze_last : JournalLaws → (base : Base) (history : History) (n : ℕ) → IsLegal base (Freeze n ∷ history) → (shown : Shown)
     → IsLastPair base history shown → IsLastPair base (Freeze n ∷ history) shown
-froze_last laws base history n legal None is = is
-froze_last laws base history n legal (Some pair) is =
-    let below : pair.0 < n = laws.last_below base history n pair.0 legal.1 legal.0.1 is.0 in
-    (is.0, ap (λ b. if b then Some (memory_after base history) else at_freeze base history pair.0) (ne_eqb n pair.0 (λ same. omega (arith, below, same))) ∙ is.1)
+froze_last laws base history n legal shown is = grind arith
 
 none_pending : (base : Base) (history : History) (shown : Shown) → pending history ≡ None → IsPendingPair base history shown → ⊥
-none_pending base history None none is = is
-none_pending base history (Some pair) none is = let no : None ≡ Some pair.0 = sym none ∙ is.0 in cc
+none_pending base history shown none is = grind arith
 
 pub quiet_steps_lem : BeliefsFollowCalls → OneBeliefChanges → JournalLaws → QuietSteps
 quiet_steps_lem follow changes laws = record {

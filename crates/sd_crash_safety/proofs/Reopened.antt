@@ -1,5 +1,5 @@
 -- What a crash leaves of a store, and a store that is opened again.
-use Rattle.std.proofs.Common.{◌≡◌, ℕ, List, ◌∷◌, Option, Some, None, sym, ◌∙◌, subst, inl, inr}
+use Rattle.std.proofs.Common.{◌≡◌, ℕ, List, ◌∷◌, Option, Some, None, sym, ◌∙◌, subst, inl, inr, arith}
 use Rattle.sd_gate.specs.Fits.{DiskLeaves}
 use Rattle.sd_gate.specs.Requests.{Asked}
 use Rattle.sd_image.specs.Image.{Image}
@@ -38,15 +38,11 @@ left_shows_lem leaves show core asked bodies files left b is =
 
 -- a reopening leaves nothing pending
 none_pends : (base : Base) (history : History) (found : Option ℕ) (shown : Shown) → IsPendingPair base (Reopened found ∷ history) shown → ⊥
-none_pends base history found None is = is
-none_pends base history found (Some pair) is = let no : None ≡ Some pair.0 = is.0 in cc
+none_pends base history found shown is = grind arith
 
 last_then : JournalLaws → (base : Base) (history : History) (found : Option ℕ) (shown : Shown) → IsLegal base (Reopened found ∷ history)
     → IsAllowed base history shown → shown_number shown ≡ found → IsLastPair base (Reopened found ∷ history) shown
-last_then laws base history found shown legal allowed number = elim ((laws.reopened base history found shown legal).1 (allowed, number)) [
-  | inl last ↦ last
-  | inr pends ↦ absurd (none_pends base history found shown pends)
-]
+last_then laws base history found shown legal allowed number = grind arith
 
 pub reopened_lem : LeftShowsAllowed → FoundIsBelieved → JournalLaws → ReopenedIsBelieved
 reopened_lem shows found_is laws old new asked bodies files found none b left is =

@@ -53,8 +53,7 @@ areas_have (area ∷ areas) page c none = by (is_within area.first area.count pa
 
 -- the pages of the runs of a dump or a merged image are those of its areas
 covered : (kind : Kind) (areas : List Area) (runs : List Run) → kind ≢ PreDump → Covers kind areas runs → (page : ℕ) → Contains (flat_map run_pages runs) page → prot_in areas page ≡ None → ⊥
-covered PreDump areas runs other is page c = absurd (other refl)
-covered _ areas runs other is page c = areas_have areas page (subst (λ pages. Contains pages page) is c)
+covered kind areas runs other is page c = grind (arith, areas_have)
 
 -- ---- the pages that a table lists
 

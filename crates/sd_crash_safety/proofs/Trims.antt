@@ -1,5 +1,5 @@
 -- What is believed goes by the pairs of a journal, and these are the same once its front is folded.
-use Rattle.std.proofs.Common.{◌≡◌, ℕ, Bool, List, ◌++◌, Option, Some, None, IfSome, refl, sym, ◌∙◌, ap, subst}
+use Rattle.std.proofs.Common.{◌≡◌, ℕ, Bool, List, ◌++◌, Option, Some, None, IfSome, refl, sym, ◌∙◌, ap, subst, arith}
 use Rattle.sd_gate.specs.declared.phase.Phase.{Phase}
 use Rattle.sd_gate.specs.Requests.{Asked}
 use Rattle.sd_image.specs.Image.{Image}
@@ -31,8 +31,7 @@ module _ (laws : TrimLaws) (base : Base) (kept folded : History) (n : ℕ) (lega
 
   next_shown : (images : Image → List Image) (dump : Option Image) → IfSome dump (λ image. ShowsPending base (kept ++ folded) (images image))
       → IfSome dump (λ image. ShowsPending (base_after base n folded) kept (images image))
-  next_shown images None s = tt
-  next_shown images (Some image) s = shows_pending (images image) s
+  next_shown images dump s = grind arith
 
   frozen_as : (number : ℕ) (memory : Contents) (pages : Pages) (chain : Chain) (image : Making) → IsFrozenAs base (kept ++ folded) number memory pages chain image
       → IsFrozenAs (base_after base n folded) kept number memory pages chain image
@@ -43,15 +42,7 @@ module _ (laws : TrimLaws) (base : Base) (kept folded : History) (n : ℕ) (lega
   module _ (memory : Contents) (phases : List Phase) (asked : List (Option Asked)) (bodies : List (List ℕ)) (last : ℕ) (store : Store) (dump : Option Image)
       (beliefs : List Belief) where
     pub has_store : HasStore base (kept ++ folded) phases asked bodies store dump beliefs → HasStore (base_after base n folded) kept phases asked bodies store dump beliefs
-    has_store h = record {
-      sound = h.sound;
-      slots = h.slots;
-      believed = h.believed;
-      stored = h.stored;
-      waiting = h.waiting;
-      last = shows_last _ h.last;
-      next = next_shown _ dump h.next;
-    }
+    has_store h = grind arith
 
     making_on : (parent number : ℕ) (image : Making) → IsMakingOn base (kept ++ folded) memory phases asked bodies last store dump beliefs parent number image
         → IsMakingOn (base_after base n folded) kept memory phases asked bodies last store dump beliefs parent number image

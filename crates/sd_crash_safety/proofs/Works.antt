@@ -1,5 +1,5 @@
 -- The steps of an image in its pass, and the freeze.
-use Rattle.std.proofs.Common.{◌≡◌, ℕ, ◌==◌, ◌&&◌, Bool, true, false, if◌then◌else◌, List, ◌∷◌, Option, Some, refl, sym, ◌∙◌, ap, subst}
+use Rattle.std.proofs.Common.{◌≡◌, ℕ, ◌==◌, ◌&&◌, Bool, true, false, if◌then◌else◌, List, ◌∷◌, Option, Some, refl, sym, ◌∙◌, ap, subst, arith}
 use Rattle.std.proofs.lemmas.Bool.{eq-eqb, false≢true}
 use Rattle.sd_disk.specs.Contents.{file_at}
 use Rattle.sd_image.specs.Image.{Image}
@@ -47,14 +47,10 @@ running_with base history later memory after phases asked now bodies last store 
 -- such a step is one of the pass
 in_pass : (number : ℕ) (old : Making) (before : Contents) (step : ImageStep) (new : Making) (after : Contents) → IsOnPages step → Steps number old before step new after
     → (old.stage ≡ PassStage) × (new ≡ record old { pass = new.pass })
-in_pass number old before (Visited visit) new after on steps = steps.passes
-in_pass number old before (Copied copied) new after on steps = steps.0.passes
-in_pass number old before _ new after on steps = absurd on
+in_pass number old before step new after on steps = grind arith
 
 no_pages : (step : ImageStep) (pages : Pages) → IsOnPages step → pages_after step pages ≡ pages
-no_pages (Visited visit) pages on = refl
-no_pages (Copied copied) pages on = refl
-no_pages _ pages on = absurd on
+no_pages step pages on = grind arith
 
 pub works_lem : MakingLaws → (old new : CoreView) (running : Running) (image next : Making) (number : ℕ) (step : ImageStep) (asked : List (Option Asked)) (bodies files : List (List ℕ))
     → IsOnPages step → WorksOnMemory old running image number step next new → Believes old asked bodies files → Believes new asked bodies files

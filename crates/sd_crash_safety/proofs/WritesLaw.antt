@@ -47,9 +47,7 @@ heads : (call first : GateCall) (bytes own : List ℕ) (calls rest : Calls) → 
 heads call first bytes own calls rest same = cc
 
 pub first_is : (call first : GateCall) (bytes own : List ℕ) (calls rest : Calls) → (call, bytes) ∷ calls ≡ (first, own) ∷ rest → (call ≡ first) × (bytes ≡ own) × (calls ≡ rest)
-first_is call first bytes own calls rest same =
-    let pair = heads call first bytes own calls rest same in
-    (ap (λ (c : GateCall × List ℕ). c.0) pair, ap (λ (c : GateCall × List ℕ). c.1) pair, cc)
+first_is call first bytes own calls rest same = grind arith
 
 -- what a write leaves that is asked for in a lane
 record AsksIn (old : CoreView) (running : Running) (image : Making) (lane : ℕ) (request : Asked) (next : Making) (new : CoreView) : Type 0 where
@@ -237,11 +235,7 @@ writes_page_lem quiet commutes bodies_fill follows making old new running image 
 -- numbers that an image may have
 its_numbers : (old : CoreView) (running : Running) (image : Making) → image.order ≡ order_of running image.order.serial image.order.state → 0 < running.number → running.parent < image.order.serial
     → AreItsNumbers image.order
-its_numbers old running image own some less = record {
-  serial = omega (arith, less);
-  parent = (let parent = ap (λ o. o.parent) own in omega (arith, less, parent));
-  checkpoint = (let checkpoint = ap (λ o. o.checkpoint) own in omega (arith, some, checkpoint));
-}
+its_numbers old running image own some less = grind arith
 
 pub writes_table_lem : QuietSteps → PlansLead → CatalogFollows → MakingLaws → FileLaws → (old new : CoreView) (running : Running) (image next : Making) (number : ℕ) (request : Asked)
     (asked : List (Option Asked)) (bodies files : List (List ℕ)) → AsksFor old running image number (TableCall request) request next new → Believes old asked bodies files
@@ -327,8 +321,7 @@ writes_table_lem quiet plans follows making file old new running image next numb
     is_frozen_so stage kind = ap (λ k. (kind_number k == 2) && is_past_freeze image.stage) kind ∙ ap is_past_freeze stage
 
     never_merged : (last : Bool) → (if last then Dump else PreDump) ≡ Merged → ⊥
-    never_merged true same = cc
-    never_merged false same = cc
+    never_merged last same = grind arith
 
     filed_by : (kind : Kind) → image.order.kind ≡ kind → (pages : Pages) (chain : Chain) → KeepsImage pages chain image old.memory → AreItsNumbers image.order
         → (image.order.kind ≡ Dump → IsFrozenAs old.base (history_of old) running.number old.memory pages chain image) → FilesImage pages next

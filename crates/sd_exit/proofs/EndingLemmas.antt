@@ -28,9 +28,7 @@ cause_is_seen _ e = absurd (let f : 1 ≡ 0 = e in omega (arith, f))
 
 -- status 3 is that of an empty chain
 pub only_empty : (why : Stop) → status_of why ≡ 3 → why ≡ stop.Fault EmptyChain
-only_empty (stop.Fault EmptyChain) e = refl
-only_empty (stop.ScriptLine number) e = absurd (let f : 2 ≡ 3 = e in omega (arith, f))
-only_empty _ e = absurd (let f : 1 ≡ 3 = e in omega (arith, f))
+only_empty why e = grind arith
 
 module _ (before after : Option (List ℕ)) (refused : Bool) (status : ℕ) where
   -- how a program exits, by how it ended
@@ -45,9 +43,7 @@ module _ (before after : Option (List ℕ)) (refused : Bool) (status : ℕ) wher
 
   -- a program that comes to its end or is stopped with status 1 exits with one of the two
   pub at_most_one : (ended : Result Unit Stop) → ExitsSo ended → IfErr ended (λ why. status_of why ≡ 1) → status ≤ 1
-  at_most_one (Ok value) (inl e) one = let is : status ≡ 0 = e.2 in omega (arith, is)
-  at_most_one (Err why) (inl e) one = let is : status ≡ 1 = e.2 ∙ one in omega (arith, is)
-  at_most_one ended (inr e) one = let is : status ≡ 1 = e.1 in omega (arith, is)
+  at_most_one ended h1 one = grind arith
 
   -- what was printed before the end stands, where the program exits with status 0
   pub printed_at_its_end : (P : Option (List ℕ) → Type 0) → ((a b : Option (List ℕ)) → Appends a b [] → P a → P b) → (ended : Result Unit Stop)
@@ -58,8 +54,7 @@ module _ (before after : Option (List ℕ)) (refused : Bool) (status : ℕ) wher
 
   -- where nothing was refused the status is another than 1, or the end's
   pub whole_but_for_one : (text : List ℕ) (wanted : ℕ) → Exits before after refused text wanted status → status ≢ 1 → refused ≡ false
-  whole_but_for_one text wanted (inl e) other = e.0
-  whole_but_for_one text wanted (inr e) other = absurd (other e.1)
+  whole_but_for_one text wanted h2 other = grind arith
 
 -- ---- what holds of a stop
 

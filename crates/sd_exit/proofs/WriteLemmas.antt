@@ -1,5 +1,5 @@
 -- Bytes that are written in several calls.
-use Rattle.std.proofs.Common.{◌≡◌, ℕ, ◌-◌, List, [], ◌++◌, Option, length, take, drop, sym, ap, ◌∙◌, append_assoc, append-nil, take-append-drop}
+use Rattle.std.proofs.Common.{◌≡◌, ℕ, ◌-◌, List, [], ◌++◌, Option, length, take, drop, sym, ap, ◌∙◌, append_assoc, append-nil, take-append-drop, arith}
 use Rattle.std.proofs.lemmas.List.{take_rest}
 use Rattle.std.specs.Io.KnownBytes.{Appends, Keeps}
 use Rattle.std.proofs.KnownBytes.{Appends-kept, Appends-nil, Appends-trans}
@@ -11,15 +11,8 @@ nothing_more a b kept = Appends-kept a a b [] (Appends-nil a) kept
 
 -- some more of the rest is written
 pub some_more : (all done rest : List ℕ) (n : ℕ) → all ≡ done ++ rest → all ≡ (done ++ take n rest) ++ take (length rest - n) (drop n rest)
-some_more all done rest n e =
-    e ∙ ap (λ l. done ++ l) (sym (take-append-drop n rest)) ∙ sym (append_assoc done (take n rest) (drop n rest))
-    ∙ ap (λ l. (done ++ take n rest) ++ l) (sym (take_rest rest n))
+some_more all done rest n e = grind (arith, take-append-drop, append_assoc, take_rest)
 
 -- what is written is a beginning, also where nothing more is
 pub begun : (a b c : Option (List ℕ)) (all done rest : List ℕ) → all ≡ done ++ rest → Appends a b done → Appends b c [] → PrintsBeginning a c all
-begun a b c all done rest split written none = record {
-  front = done ++ [];
-  rest = rest;
-  whole = ap (λ l. l ++ rest) (append-nil done) ∙ sym split;
-  printed = Appends-trans a b c done [] written none;
-}
+begun a b c all done rest split written none = grind (arith, append-nil)

@@ -3,6 +3,7 @@ use Rattle.std.proofs.Common.{◌≡◌, ◌⊎◌, ℕ, zero, suc, ◌+◌, ◌
 use Rattle.std.proofs.lemmas.List.{length-replicate}
 use Rattle.std.proofs.lemmas.Option.{same_Some, slice_get-get_or, slice_get_within}
 use Rattle.std.proofs.Math.Nat.{eq-or-lt_of_le}
+use Rattle.sd_rounds.proofs.WriteLemmas.{set_count}
 use Rattle.sd_image.proofs.Members.{at_contains, contains_at}
 use Rattle.sd_chain.specs.Catalog.{Opened, Places, place_of}
 use Rattle.sd_chain.specs.Reaches.{ParentsFall}
@@ -13,7 +14,7 @@ use Rattle.sd_rounds.specs.Dumper.{Running}
 use Rattle.sd_free_slots.specs.Lists.{HasNoted, Notes, StandsInSlot, listed_at, listed_from, noted}
 use Rattle.sd_free_slots.specs.Marks.{IsMarkedSlot}
 use Rattle.sd_free_slots.specs.Taken.{AreTaken, IsLeftOver, IsListOf, IsNeededAt}
-use Rattle.sd_free_slots.proofs.MarkLemmas.{set_cases, set_here, set_keeps, set_length}
+use Rattle.sd_free_slots.proofs.MarkLemmas.{set_cases, set_here, set_keeps}
 
 -- ---- serials by slot
 
@@ -28,13 +29,13 @@ noted_none : (count : ℕ) → noted (replicate count None) ≡ 0
 noted_none zero = refl
 noted_none (suc count) = noted_none count
 
-some_of : {X : Type 0} (a b : X) → Some (Some a) ≡ Some (Some b) → a ≡ b
+pub some_of : {X : Type 0} (a b : X) → Some (Some a) ≡ Some (Some b) → a ≡ b
 some_of a b e = cc
 
 pub notes_one : (places : Places) (serial : ℕ) (image : Opened) (old new : List (Option ℕ)) → place_of places serial ≡ Some (Some image)
     → new ≡ slice_set old image.slot (Some serial) → Notes places (λ own. own ≡ serial) 1 old new
 notes_one places serial image old new there is = subst (Notes places (λ own. own ≡ serial) 1 old) (sym is) (record {
-  count = set_length old image.slot (Some serial);
+  count = set_count old image.slot (Some serial);
   each = λ slot own at. elim (set_cases old image.slot slot (Some serial) (Some own) at) [
     | inl was ↦ inl was
     | inr here ↦ inr (record { is_among = same_Some own serial here.1; image = image; there = ap (place_of places) (same_Some own serial here.1) ∙ there; at = here.0 })

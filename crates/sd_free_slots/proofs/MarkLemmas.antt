@@ -2,14 +2,11 @@
 use Rattle.std.proofs.Common.{◌≡◌, ◌⊎◌, ℕ, zero, suc, ◌<◌, ◌≤◌, Bool, true, List, [], ◌∷◌, length, slice_get, slice_set, Option, Some, refl, sym, ◌∙◌, ap, subst, inl, inr, arith}
 use Rattle.std.proofs.lemmas.Option.{same_Some, slice_get_within}
 use Rattle.std.proofs.Math.Nat.{eq-or-lt_of_le}
+use Rattle.sd_rounds.proofs.WriteLemmas.{set_count}
 use Rattle.sd_chain.specs.Catalog.{Places}
 use Rattle.sd_free_slots.specs.Marks.{IsMarkedSlot, TakesNeeded, TakesSlots}
 
 -- ---- one slot
-
-pub set_length : {X : Type 0} (marks : List X) (at : ℕ) (mark : X) → length (slice_set marks at mark) ≡ length marks
-set_length (m ∷ marks) (suc at) mark = ap suc (set_length marks at mark)
-set_length _ _ mark = refl
 
 pub set_here : {X : Type 0} (marks : List X) (at : ℕ) (mark : X) → at < length marks → slice_get (slice_set marks at mark) at ≡ Some mark
 set_here [] at mark within = absurd (omega (arith, within))
@@ -42,7 +39,7 @@ set_keeps (m ∷ marks) (suc at) (suc slot) mark one is = elim (set_keeps marks 
 set_keeps _ _ _ mark one is = inl is
 
 pub takes_one : (marks new : List Bool) (at : ℕ) → new ≡ slice_set marks at true → TakesSlots (λ slot. at ≡ slot) marks new
-takes_one marks new at is = grind (arith, set_length, set_cases, set_stays, set_here)
+takes_one marks new at is = grind (arith, set_count, set_cases, set_stays, set_here)
 
 -- ---- one after the other
 

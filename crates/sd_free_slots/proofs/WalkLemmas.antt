@@ -3,6 +3,7 @@ use Rattle.std.proofs.Common.{◌≡◌, ◌⊎◌, ℕ, ◌<◌, Bool, true, Li
 use Rattle.std.specs.Prelude.{IfSome, IsNone}
 use Rattle.std.proofs.lemmas.List.Elements.{All-contains}
 use Rattle.std.proofs.lemmas.Option.{same_Some, slice_get_within}
+use Rattle.sd_free_slots.proofs.ListLemmas.{some_of}
 use Rattle.sd_chain.specs.Catalog.{IsSoundCatalog, Names, Opened, Places, images, place_of}
 use Rattle.sd_chain.specs.Reaches.{ParentsFall, ReachesInCatalog}
 use Rattle.sd_free_slots.specs.Marks.{IsMarkedSlot, IsReachedAt, TakesNeeded, TakesSlots}
@@ -30,9 +31,6 @@ abbrev pub IsFound : Places → ℕ → Option (Bor Opened) → Type 0
 IsFound places serial found = MatchOption found
     ((i : Opened) → place_of places serial ≡ Some (Some i) → ⊥)
     (λ i. (place_of places serial ≡ Some (Some i.now)) × (i.now.header.serial ≡ serial))
-
-some_of : {X : Type 0} (a b : X) → Some (Some a) ≡ Some (Some b) → a ≡ b
-some_of a b e = cc
 
 pub walk_begins : (places : Places) (serial : ℕ) (marks : List Bool) (next : Option (Bor Opened)) → IsSoundCatalog places → IsFound places serial next
     → IsWalked places serial marks next marks

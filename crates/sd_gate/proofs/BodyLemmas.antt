@@ -4,6 +4,7 @@ use Rattle.std.specs.List.{concat}
 use Rattle.std.proofs.lemmas.List.{drop_all, length-replicate}
 use Rattle.std.proofs.lemmas.List.Folds.{concat-append}
 use Rattle.std.proofs.Math.Seq.{take-length, drop-append_seam}
+use Rattle.sd_image.proofs.HeaderRules.{header_length}
 use Rattle.sd_disk.specs.Contents.{file_after_write}
 use Rattle.sd_image.specs.declared.header.Header.{Header}
 use Rattle.sd_image.specs.declared.header.Version.{Version}
@@ -29,7 +30,7 @@ length_concat : (pages : List (List ℕ)) → AreWholePages pages → length (co
 length_concat [] whole = refl
 length_concat (page ∷ pages) whole = omega (arith, length-append page (concat pages), length_concat pages whole.1, whole.0)
 
-length-zeros : (n : ℕ) → length (zero_bytes n) ≡ n
+pub length-zeros : (n : ℕ) → length (zero_bytes n) ≡ n
 unfolding zero_bytes
 length-zeros n = length-replicate {A = ℕ} n 0
 
@@ -72,10 +73,6 @@ length-digest : (version : Version) (digest : List ℕ) → IsDigest version dig
 unfolding zero_bytes
 length-digest version digest is = grind arith
 
-length_header : (header : Header) → HasWords header → length (header_text header) ≡ 4095
-unfolding header_text header_front number_bytes zero_bytes
-length_header header words = grind (arith, length-append, length-digest)
-
 pub image_filled : (pages : List (List ℕ)) (header : Header) (table : List ℕ) → AreWholePages pages → header.pages ≡ length pages → HasWords header
     → file_after_write (file_after_write (pages_body pages) (table_place header - 1) table) 0 (header_text header) ≡ header_text header ++ concat pages ++ table
-image_filled pages header table whole count words = grind (arith, behind_pages, append_assoc, header_written, length_header)
+image_filled pages header table whole count words = grind (arith, behind_pages, append_assoc, header_written, header_length)

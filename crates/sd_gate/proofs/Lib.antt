@@ -1,4 +1,4 @@
-mod BodyLemmas
+pub mod BodyLemmas
 pub mod CallLemmas
 mod FitLemmas
 mod LawLemmas

@@ -3,6 +3,7 @@ use Rattle.std.proofs.Common.{◌≡◌, ◌≢◌, inl, inr, ℕ, ◌+◌, ◌�
 use Rattle.std.proofs.lemmas.Bool.{cases_eq, cases_lt}
 use Rattle.std.proofs.lemmas.List.{length-replicate}
 use Rattle.std.proofs.lemmas.Bool.Decides.{nat_tests}
+use Rattle.sd_gate.proofs.BodyLemmas.{length-zeros}
 use Rattle.sd_image.specs.declared.header.Header.{Header}
 use Rattle.sd_image.specs.declared.reason.Reason.{Reason}
 use Rattle.sd_image.specs.Image.{gate}
@@ -132,10 +133,6 @@ others_are is = cc
 no_calls : {A : Type 0} {others : Calls} {next : Call} {buffer : List ℕ} → [] ≡ ((next, buffer) ∷ others) → A
 no_calls is = absurd (cc)
 
-length_zeros : (n : ℕ) → length (zero_bytes n) ≡ n
-unfolding zero_bytes
-length_zeros n = length-replicate {A = ℕ} n 0
-
 module _ (slot : ℕ) (file : List ℕ) (old new : Planned) (request : Asked) (gives : Gives old new request) where
   asked_at : (look : Look) → old ≡ rests slot file look → new.calls ≡ calls_behind look → new ≡ asks slot file look request.id
   asked_at look is calls = grind arith
@@ -147,7 +144,7 @@ module _ (slot : ℕ) (file : List ℕ) (old new : Planned) (request : Asked) (g
   slot_is look is = gives.slot ∙ ap (λ (p : Planned). p.slot) is
 
   taken_at : (look : Look) → IsLookAt file look → old ≡ rests slot file look → LooksAt slot file (Some request) new
-  taken_at look at is = grind (arith, others_are, next_call, next_bytes, length_zeros)
+  taken_at look at is = grind (arith, others_are, next_call, next_bytes, length-zeros)
 
 ok_same : (h other : Header) (r : Result Header Reason) → r ≡ Ok h → r ≡ Ok other → h ≡ other
 ok_same h other r is also_is = cc

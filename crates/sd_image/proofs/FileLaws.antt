@@ -32,7 +32,7 @@ good_header bytes len h long e good = header_again bytes len h long e good
 pub good_table : GoodTableHasNoReason
 good_table h spaces good = table_again h spaces good
 
-times_suc : (n : ℕ) → 4096 * suc n ≡ 4096 + 4096 * n
+pub times_suc : (n : ℕ) → 4096 * suc n ≡ 4096 + 4096 * n
 times_suc n = omega arith
 
 length-pages : (pages : List (List ℕ)) → AllByRecursion (λ page. length page ≡ 4096) pages → length (concat pages) ≡ 4096 * length pages

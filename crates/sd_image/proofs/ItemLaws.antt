@@ -112,7 +112,7 @@ prot_small read write execute = grind arith
 same_area : (a b : Area) → a.first ≡ b.first → a.count ≡ b.count → a.prot ≡ b.prot → a ≡ b
 same_area a b f n p = rw (f, n, p) refl
 
-same_run : (a b : Run) → a.first ≡ b.first → a.count ≡ b.count → a.kind ≡ b.kind → a ≡ b
+pub same_run : (a b : Run) → a.first ≡ b.first → a.count ≡ b.count → a.kind ≡ b.kind → a ≡ b
 same_run a b f n k = rw (f, n, k) refl
 
 area_fields : (a : Area) → IsRange a.first a.count → (area_of (area_text a) ≡ a) × (number_at 4 16 (area_text a) ≡ prot_bits a.prot) × (number_at 4 20 (area_text a) ≡ 0)

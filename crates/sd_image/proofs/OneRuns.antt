@@ -1,6 +1,7 @@
 -- Maximal runs are one list: where two have each page in the same way, they are the same.
 use Rattle.std.proofs.Common.{◌≡◌, ℕ, ◌+◌, ◌<◌, ◌≤◌, ◌^◌, ◌&&◌, true, false, ltb, leb, List, [], ◌∷◌, Option, Some, None, refl, sym, ap, subst, ◌∙◌, arith, inl, inr}
 use Rattle.std.proofs.lemmas.Bool.{and_parts, and_from, or_cases, lt-ltb, le-leb, ltb-true, eqb-true, eq-eqb, not-true, lt-leb, le-ltb, both_ways, cases_Bool, cond-true, cond-false, and_left, and_right, cases_lt, cases_order}
+use Rattle.sd_image.proofs.ItemLaws.{same_run}
 use Rattle.sd_areas.specs.Pages.{is_within}
 use Rattle.sd_image.specs.declared.run.Run.{Run}
 use Rattle.sd_image.specs.declared.run.RunKind.{RunKind}
@@ -97,9 +98,6 @@ module _ (parent : ℕ) where
 
   equal_unless : (a b : ℕ) → (a < b → ⊥) → (b < a → ⊥) → a ≡ b
   equal_unless a b f g = elim (cases_order a b) [ inl e ↦ e | inr (inl l) ↦ absurd (f l) | inr (inr l) ↦ absurd (g l) ]
-
-  same_run : (x y : Run) → x.first ≡ y.first → x.count ≡ y.count → x.kind ≡ y.kind → x ≡ y
-  same_run x y f n k = rw (f, n, k) refl
 
   same_heads : (before : Option Run) (x y : Run) (xs ys : List Run) → AreRuns parent before (x ∷ xs) → AreRuns parent before (y ∷ ys) → Alike (x ∷ xs) (y ∷ ys) → x ≡ y
   unfolding Alike

@@ -5,6 +5,7 @@ use Rattle.std.specs.List.{AllByRecursion, concat, flat_map, slice_get, sum_by}
 use Rattle.std.proofs.lemmas.List.{drop_at, drop-drop, length-append, length-map, take_at}
 use Rattle.std.proofs.lemmas.List.Sums.{sum_by-cons}
 use Rattle.std.proofs.lemmas.Option.{none-some, same_Some, slice_get-get_or, slice_get_within}
+use Rattle.sd_image.proofs.FileLaws.{times_suc}
 use Rattle.sd_areas.specs.Pages.{pages_from}
 use Rattle.sd_image.specs.declared.run.Run.{Run}
 use Rattle.sd_image.specs.declared.run.RunKind.TheVariants.{Data}
@@ -47,16 +48,13 @@ counted_spaces (s ∷ spaces) =
 
 -- ---- the bytes of one
 
-page_after : (place : ℕ) → 4096 * suc place ≡ 4096 + 4096 * place
-page_after place = omega arith
-
 page_cut : (pages : List (List ℕ)) (rest : List ℕ) (place : ℕ) (page : List ℕ) → AllByRecursion (λ page. length page ≡ 4096) pages → slice_get pages place ≡ Some page
     → take 4096 (drop (4096 * place) (concat pages ++ rest)) ≡ page
 page_cut [] rest place page whole there = absurd (none-some page there)
 page_cut (first ∷ pages) rest zero page whole there =
     ap (take 4096) (append_assoc first (concat pages) rest) ∙ take_at first (concat pages ++ rest) 4096 whole.0 ∙ same_Some first page there
 page_cut (first ∷ pages) rest (suc place) page whole there =
-    ap (λ n. take 4096 (drop n ((first ++ concat pages) ++ rest))) (page_after place)
+    ap (λ n. take 4096 (drop n ((first ++ concat pages) ++ rest))) (times_suc place)
     ∙ ap (take 4096) (sym (drop-drop (4096 * place) 4096 ((first ++ concat pages) ++ rest)))
     ∙ ap (λ xs. take 4096 (drop (4096 * place) xs)) (ap (drop 4096) (append_assoc first (concat pages) rest) ∙ drop_at first (concat pages ++ rest) 4096 whole.0)
     ∙ page_cut pages rest place page whole.1 there

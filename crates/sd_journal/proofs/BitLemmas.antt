@@ -4,6 +4,7 @@ use Rattle.std.proofs.lemmas.Bool.Decides.{nat_tests}
 use Rattle.std.proofs.lemmas.List.Sums.{take_while-cons}
 use Rattle.std.specs.List.{list_any}
 use Rattle.std.specs.Option.{option_map}
+use Rattle.sd_pagetable.proofs.LawTests.{writable_more, dirty_more}
 use Rattle.sd_pagetable.specs.Contents.{Contents, IsSound, page_at}
 use Rattle.sd_pagetable.specs.Law.{ClearLaw, IsClearedAt}
 use Rattle.sd_pagetable.specs.Page.{PageState, cleared_page}
@@ -26,14 +27,6 @@ any_since tests stops event history = grind arith
 
 dirty_by : (clear touch before any : Bool) → (cond clear false (touch || before) || not (clear || any)) ≡ cond clear false (touch || (before || not any))
 dirty_by clear touch before any = grind arith
-
-dirty_more : (event : MemoryEvent) (history : List MemoryEvent) (space page : ℕ)
-    → is_dirty (event ∷ history) space page ≡ cond (clears space page event) false (touches space page event || is_dirty history space page)
-dirty_more event history space page = grind arith
-
-pub writable_more : (event : MemoryEvent) (history : List MemoryEvent) (space page : ℕ)
-    → is_writable (event ∷ history) space page ≡ cond (write_protects space page event) false (makes_writable space page event || is_writable history space page)
-writable_more event history space page = any_since (makes_writable space page) (write_protects space page) event history
 
 -- ---- what is due
 

@@ -1,6 +1,7 @@
 -- A page that was visited since a freeze is clean as long as that is pending.
 use Rattle.std.proofs.Common.{◌≡◌, ℕ, ◌==◌, Bool, true, false, cond, if◌then◌else◌, [], ◌∷◌, Some, is_some, refl, sym, ◌∙◌, ap, subst, inl, arith}
 use Rattle.std.proofs.lemmas.Option.{same_Some}
+use Rattle.sd_pagetable.proofs.LawTests.{writable_more}
 use Rattle.sd_pagetable.specs.Tracking.{Passed, clears, is_page, is_writable}
 use Rattle.sd_command.specs.declared.refusal.Refusal.TheVariants.{Frozen}
 use Rattle.sd_command.specs.declared.reply.Reply.TheVariants.{Refused}
@@ -14,7 +15,7 @@ use Rattle.sd_journal.specs.Marked.{Item, Told, Noted, Marked, entries_of, event
 use Rattle.sd_journal.specs.TrackedLaws.{visited_since}
 use Rattle.sd_journal.specs.Trimming.{Ends, HasVisited, IsEnded, IsFolded}
 use Rattle.sd_journal.proofs.AllowedLemmas.{none_left}
-use Rattle.sd_journal.proofs.BitLemmas.{due_more, due_passes, writable_more, writable_passes}
+use Rattle.sd_journal.proofs.BitLemmas.{due_more, due_passes, writable_passes}
 use Rattle.sd_journal.proofs.HistoryLemmas.{none_is_some, same}
 use Rattle.sd_journal.proofs.MarkedLemmas.{frozen_passes, never}
 

@@ -13,7 +13,7 @@ use Rattle.sd_rounds.specs.Made.{entries_listed, run_entries}
 use Rattle.sd_rounds.specs.Rises.{last_of}
 use Rattle.sd_rounds.specs.Tables.{EndsBefore, EndBefore, entries_in, listed}
 use Rattle.sd_merge.specs.Gathered.{AreCopies, AreGathered, IsGathered, IsPut, SpaceIsBegun}
-use Rattle.sd_rounds.proofs.TableLemmas.{runs_entries}
+use Rattle.sd_rounds.proofs.TableLemmas.{runs_entries, on_ok_both, one_further, end_further, all_put, all_last}
 
 -- ---- a space more
 
@@ -37,14 +37,6 @@ all_front : {X : Type 0} (P : X → Type 0) (xs : List X) (x : X) → AllByRecur
 all_front P [] x all = tt
 all_front P (y ∷ xs) x all = (all.0, all_front P xs x all.1)
 
-all_last : {X : Type 0} (P : X → Type 0) (xs : List X) (x : X) → AllByRecursion P (xs ++ x ∷ []) → P x
-all_last P [] x all = all.0
-all_last P (y ∷ xs) x all = all_last P xs x all.1
-
-all_put : {X : Type 0} (P : X → Type 0) (xs : List X) (x : X) → AllByRecursion P xs → P x → AllByRecursion P (xs ++ x ∷ [])
-all_put P [] x all is = (is, tt)
-all_put P (y ∷ xs) x all is = (all.0, all_put P xs x all.1 is)
-
 -- ---- where they end
 
 abbrev IsFurther : Place → Place → Type 0
@@ -52,13 +44,6 @@ IsFurther a b = (a.0 < b.0) ⊎ ((a.0 ≡ b.0) × (a.1 ≤ b.1))
 
 ends_further : (a b : Place) (t : Listed) → IsFurther a b → EndsBefore a t → EndsBefore b t
 ends_further a b t h3 h4 = grind arith
-
-end_further : (a b : Place) (tables : List Listed) → IsFurther a b → EndBefore a tables → EndBefore b tables
-end_further a b [] further ends = tt
-end_further a b (t ∷ tables) further ends = (ends_further a b t further ends.0, end_further a b tables further ends.1)
-
-one_further : (at : Place) → IsFurther at (at.0, at.1 + 1)
-one_further at = inr (refl, omega arith)
 
 -- ---- entries
 
@@ -165,10 +150,6 @@ next_space front last new at kind are ends apart begun =
     below : EndsBefore at (listing_of last) → last.space + 1 ≤ at.0
     below (inl less) = (let l : last.space < at.0 = less in omega arith)
     below (inr here) = absurd (apart here.0)
-
-pub on_ok_both : {T E : Type 0} (P Q : Type 0) (r : Result T E) → OnOk r P → OnOk r Q → OnOk r (P × Q)
-on_ok_both P Q (Ok x) p q = (p, q)
-on_ok_both P Q (Err e) p q = tt
 
 -- the runs of the last space
 pub last_runs : (front : List SpaceTable) (last : SpaceTable) → AreGathered 0 (listed (front ++ last ∷ [])) → AreRuns 0 None last.runs.items

@@ -130,7 +130,7 @@ hands_copying running old made (progress.Opened one) new h strange goes =
     more_list (copy_left old) (6 * length running.before + 1) (doing_left running new) (opens_some old made one h.hands) (ap (doing_left running) h.is)
 hands_copying running old made _ new h strange goes = absurd h
 
-within_list : {X : Type 0} (xs : List X) (k : ℕ) (x : X) → slice_get xs k ≡ Some x → k < length xs
+pub within_list : {X : Type 0} (xs : List X) (k : ℕ) (x : X) → slice_get xs k ≡ Some x → k < length xs
 within_list {X} [] k x e = absurd (let f : ◌≡◌ {A = Option X} None (Some x) = e in cc)
 within_list (y ∷ xs) zero x e = omega arith
 within_list (y ∷ xs) (suc k) x e = (let l : k < length xs = within_list xs k x e in omega arith)

@@ -6,6 +6,10 @@ use Rattle.std.proofs.lemmas.List.Folds.{concat-append}
 use Rattle.std.proofs.lemmas.List.{map-append, append_assoc, append-nil, length-append, length-map}
 use Rattle.std.proofs.lemmas.List.Elements.{All-contains, filter-append}
 use Rattle.std.proofs.lemmas.List.Sums.{sum_by-cons}
+use Rattle.sd_rounds.proofs.RoomLemmas.{length-pages_from}
+use Rattle.sd_chain.proofs.TablePages.{get_left}
+use Rattle.sd_rounds.proofs.Lists.{slice_get_back}
+use Rattle.sd_rounds.proofs.TableLemmas.{all_put}
 use Rattle.sd_areas.specs.declared.area.Area.{Area}
 use Rattle.sd_areas.specs.Areas.{area_pages}
 use Rattle.sd_image.specs.declared.header.Header.{Header}
@@ -50,7 +54,7 @@ use Rattle.sd_merge.specs.Merging.{IsCopy, IsFirstOf, IsOverIn, IsReadOf, IsSoun
 use Rattle.sd_merge.proofs.OrderLemmas.{In, contains_in, next_is_first, none_is_over}
 use Rattle.sd_merge.proofs.PageLemmas.{page_whole}
 use Rattle.sd_merge.proofs.PlanLemmas.{free_in_pass}
-use Rattle.sd_merge.proofs.TableLemmas.{covers, length-pages_from, places_cons, runs_places}
+use Rattle.sd_merge.proofs.TableLemmas.{covers, places_cons, runs_places}
 
 -- ---- lists
 
@@ -66,25 +70,12 @@ put entries at kind = entries ++ (record { place = at; kind = kind }) ∷ []
 pages_append : (kind : RunKind) (xs ys : List ImageEntry) → pages_by kind (xs ++ ys) ≡ pages_by kind xs ++ pages_by kind ys
 pages_append kind xs ys = ap (map rounds.place_of_entry) (filter-append (has_kind kind) xs ys) ∙ map-append rounds.place_of_entry (filter (has_kind kind) xs) (filter (has_kind kind) ys)
 
-slice_front : {X : Type 0} (xs ys : List X) (k : ℕ) (x : X) → slice_get xs k ≡ Some x → slice_get (xs ++ ys) k ≡ Some x
-slice_front [] ys k x e = absurd (no_some x e)
-slice_front (y ∷ xs) ys zero x e = e
-slice_front (y ∷ xs) ys (suc k) x e = slice_front xs ys k x e
-
-slice_back : {X : Type 0} (xs : List X) (y : X) → slice_get (xs ++ y ∷ []) (length xs) ≡ Some y
-slice_back [] y = refl
-slice_back (x ∷ xs) y = slice_back xs y
-
 -- a place in a list with one more at its end
 slice_more : {X : Type 0} (xs : List X) (y : X) (k : ℕ) (x : X) → slice_get (xs ++ y ∷ []) k ≡ Some x → (slice_get xs k ≡ Some x) ⊎ ((k ≡ length xs) × (y ≡ x))
 slice_more [] y zero x e = inr (refl, one_some y x e)
 slice_more [] y (suc k) x e = absurd (no_some x e)
 slice_more (z ∷ xs) y zero x e = inl e
 slice_more (z ∷ xs) y (suc k) x e = elim (slice_more xs y k x e) [ inl f ↦ inl f | inr f ↦ inr (ap (λ n. suc n) f.0, f.1) ]
-
-all_put : {X : Type 0} (P : X → Type 0) (xs : List X) (x : X) → AllByRecursion P xs → P x → AllByRecursion P (xs ++ x ∷ [])
-all_put P [] x all is = (is, tt)
-all_put P (y ∷ xs) x all is = (all.0, all_put P xs x all.1 is)
 
 -- ---- one page more
 
@@ -106,7 +97,7 @@ copy_zero catalog source stored entries at is holds = record {
 
 copy_data : (catalog : List Image) (source : Image) (pages : Pages) (entries : List ImageEntry) (at : Place) (bytes : List ℕ) → length pages ≡ data_pages entries
     → IsCopy catalog source (listed_pages pages) entries → Holds catalog at.0 at.1 bytes source → IsCopy catalog source (listed_pages (pages ++ bytes ∷ [])) (put entries at Data)
-copy_data catalog source pages entries at bytes count is holds = grind (arith, pages_append, append-nil, slice_more, slice_front, slice_back)
+copy_data catalog source pages entries at bytes count is holds = grind (arith, pages_append, append-nil, slice_more, get_left, slice_get_back)
 
 counts_zero : (entries : List ImageEntry) (at : Place) → data_pages (put entries at Zero) ≡ data_pages entries
 counts_zero entries at = ap (λ (l : List Place). length l) (pages_append Data entries _ ∙ append-nil (pages_by Data entries))
@@ -265,10 +256,10 @@ record IsPageOf (places : Places) (catalog : List Image) (page : Place) (slot of
 slots : (slot offset other number : ℕ) → found.Data slot offset ≡ found.Data other number → other ≡ slot
 slots slot offset other number e = cc
 
-offsets : (slot offset other number : ℕ) → found.Data slot offset ≡ found.Data other number → offset ≡ number
+pub offsets : (slot offset other number : ℕ) → found.Data slot offset ≡ found.Data other number → offset ≡ number
 offsets slot offset other number e = cc
 
-no_zero : (slot offset : ℕ) → found.Data slot offset ≡ found.Zero → ⊥
+pub no_zero : (slot offset : ℕ) → found.Data slot offset ≡ found.Zero → ⊥
 no_zero slot offset e = cc
 
 page_of_chain : (places : Places) (catalog : List Image) (page : Place) (slot offset : ℕ) (there : Found) → IsSoundCatalog places → Agrees places catalog → HaveDataPages catalog → there ≡ found.Data slot offset

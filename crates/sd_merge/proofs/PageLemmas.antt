@@ -5,7 +5,7 @@ use Rattle.std.proofs.lemmas.List.{length-replicate}
 use Rattle.std.proofs.lemmas.Bool.Decides.{nat_tests}
 use Rattle.sd_merge.specs.Copying.{page_or_zeros}
 
-equal : (a b : ℕ) → nat_eq a b ≡ true → a ≡ b
+pub equal : (a b : ℕ) → nat_eq a b ≡ true → a ≡ b
 equal a b e = grind (arith, nat_tests)
 
 is_equal : (a b : ℕ) → a ≡ b → nat_eq a b ≡ true

@@ -12,6 +12,8 @@ use Rattle.sd_chain.specs.Catalog.{IsSoundCatalog, Opened, Places, images, place
 use Rattle.sd_chain.specs.Passes.{IsBehind, IsNextPageOfImage}
 use Rattle.sd_chain.specs.Ways.{AreImages, LiesAt, LiesBySerial}
 use Rattle.std.proofs.lemmas.Bool.{both_ways}
+use Rattle.sd_merge.proofs.LeftLemmas.{within_list}
+use Rattle.sd_merge.proofs.MergingLemmas.{no_zero, offsets}
 use Rattle.sd_gate.specs.Sequences.{data_place}
 use Rattle.sd_rounds.specs.Pass.{Place}
 use Rattle.sd_rounds.specs.Rises.{last_of}
@@ -29,22 +31,11 @@ use Rattle.sd_merge.specs.PlanSteps.{IsReadCallOf, IsTableCallOf, IsZeroStep}
 abbrev HasNumber : ℕ → Type 0
 HasNumber offset = (place : ℕ) × (offset ≡ data_place place) × (place < 2 ^ 39)
 
-slice_within : {X : Type 0} (xs : List X) (k : ℕ) (x : X) → slice_get xs k ≡ Some x → k < length xs
-slice_within {X} [] k x e = absurd (let f : ◌≡◌ {A = Option X} None (Some x) = e in cc)
-slice_within (y ∷ xs) zero x e = omega arith
-slice_within (y ∷ xs) (suc k) x e = (let l : k < length xs = slice_within xs k x e in omega arith)
-
-offsets : (slot offset other number : ℕ) → found.Data slot offset ≡ found.Data other number → offset ≡ number
-offsets slot offset other number e = cc
-
-no_zero : (slot offset : ℕ) → found.Data slot offset ≡ found.Zero → ⊥
-no_zero slot offset e = cc
-
 numbered_at : FewPages → (places : Places) → AreImages places → (page : ℕ × ℕ) (slot offset : ℕ) (there : Found) (i : Opened) → there ≡ found.Data slot offset
     → Contains (images places) i → LiesAt places page there i → HasNumber offset
 numbered_at few places are page slot offset there _ is member (LiesAt.by_data i place has e) =
     let table : IsTable i.header i.spaces = All-contains (λ (i : Opened). IsTable i.header i.spaces) (images places) i are.tables member in
-    let within = slice_within (pages_of Data i.spaces) place page has in
+    let within = within_list (pages_of Data i.spaces) place page has in
     let most = few i.header i.spaces Data table in
     (place, offsets slot offset i.slot (4096 + 4096 * place) (sym is ∙ e), omega (arith, within, most))
 numbered_at few places are page slot offset there _ is member (LiesAt.by_zero i has e) = absurd (no_zero slot offset (sym is ∙ e))

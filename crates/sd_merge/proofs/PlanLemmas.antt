@@ -1,5 +1,6 @@
 -- A plan that a merged image begins, and what holds of the image then.
 use Rattle.std.proofs.Common.{◌≡◌, ℕ, ◌+◌, ◌<◌, ◌≤◌, ◌^◌, List, length, Option, None, sym, ap, subst, arith}
+use Rattle.sd_rounds.proofs.ImageTableLemmas.{table_is_long}
 use Rattle.sd_gate.specs.Inspections.{nothing}
 use Rattle.sd_gate.specs.Plans.{Planned, begun}
 use Rattle.sd_gate.specs.Sequences.{IsBody, body_calls}
@@ -13,11 +14,6 @@ use Rattle.sd_merge.specs.declared.copy_order.CopyOrder.{CopyOrder}
 use Rattle.sd_merge.specs.declared.stage.Stage.{Stage}
 use Rattle.sd_merge.specs.declared.stage.Stage.TheVariants.{Pass as PassStage}
 use Rattle.sd_merge.specs.Copying.{IsFreeOrRead, IsReadyFor, TakesNoPage, header_of}
-
--- a table's text has bytes
-table_is_long : (spaces : List Listed) → 0 < length (table_text spaces)
-unfolding table_text number_bytes
-table_is_long spaces = omega arith
 
 -- few data pages, and a table
 pub is_body : (order : CopyOrder) (header : Header) (text : List ℕ) (tables : List Listed) (stored taking ahead len : ℕ) (digest : List ℕ) → header ≡ header_of order stored len digest

@@ -4,6 +4,8 @@ use Rattle.std.specs.List.{AllByRecursion, flat_map}
 use Rattle.std.proofs.lemmas.Bool.Decides.{nat_tests}
 use Rattle.std.proofs.lemmas.List.{map-append}
 use Rattle.std.proofs.lemmas.List.Sums.{sum_by-cons}
+use Rattle.sd_rounds.proofs.RoomLemmas.{length-pages_from}
+use Rattle.sd_merge.proofs.PageLemmas.{equal}
 use Rattle.sd_areas.specs.declared.area.Area.{Area}
 use Rattle.sd_areas.specs.Areas.{area_pages}
 use Rattle.sd_areas.specs.Pages.{pages_from}
@@ -20,11 +22,6 @@ use Rattle.sd_image.proofs.PageBytes.{counted_spaces as pages_counted}
 use Rattle.sd_merge.proofs.GatheredLemmas.{table_entries}
 
 -- ---- counts
-
-pub length-pages_from : (first count : ℕ) → length (pages_from first count) ≡ count
-unfolding pages_from
-length-pages_from first zero = refl
-length-pages_from first (suc count) = ap (λ n. suc n) (length-pages_from (suc first) count)
 
 abbrev pub in_space : ℕ → ℕ → Place
 in_space space page = (space, page)
@@ -206,9 +203,6 @@ joined old h before least (s ∷ source) (t ∷ taken) other kind parent are gat
   where
     all : table_places t ++ places taken ≡ table_places s ++ places source
     all = sym (places_cons t taken) ∙ same ∙ places_cons s source
-
-    equal : (a b : ℕ) → nat_eq a b ≡ true → a ≡ b
-    equal a b e = grind (arith, nat_tests)
 
     apart : (a b : ℕ) → nat_eq a b ≡ false → a ≡ b → ⊥
     apart a b e is = grind (arith, nat_tests)

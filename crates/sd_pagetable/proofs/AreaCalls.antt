@@ -6,6 +6,7 @@ use Rattle.std.specs.Ordering.{nat_cmp}
 use Rattle.std.specs.BTreeMap.{BTreeMap, get, is_at}
 use Rattle.std.specs.Option.{option_map}
 use Rattle.std.specs.FinMap as finmap
+use Rattle.sd_areas.proofs.Memory.{on_err}
 use Rattle.sd_areas.specs.declared.errno.Errno.{Errno}
 use Rattle.sd_areas.specs.declared.errno.Errno.TheVariants.{Enomem}
 use Rattle.sd_areas.specs.declared.errno.AreaError.{AreaError}
@@ -83,10 +84,6 @@ pages_refused e pages r after is h5 many = grind (arith, refused_by_pages)
 pub passed_on : {A D E : Type 0} (Q : E → Type 0) (r : Result A E) (s : Result A D) (x : A) (P : A → Type 0) → MatchResult r (λ y. s ≡ Ok y) Q → is_ok s ≡ is_ok r → s ≡ Ok x → IfOk r P → P x
 passed_on Q (Ok y) s x P cases variant was holds = subst P (let e : Ok y ≡ Ok x = sym cases ∙ was in let f : y ≡ x = cc in f) holds
 passed_on Q (Err e) s x P cases variant was holds = absurd (let f : true ≡ false = sym (ap is_ok was) ∙ variant in cc)
-
-pub err_holds : {A E : Type 0} (r : Result A E) (P : Type 0) → P → OnErr r P
-err_holds (Ok x) P p = tt
-err_holds (Err e) P p = p
 
 pub on_both : {A E : Type 0} (P Q : Type 0) (r : Result A E) → OnOk r P → OnOk r Q → OnOk r (P × Q)
 on_both P Q (Ok x) p q = (p, q)

@@ -15,9 +15,9 @@ use Rattle.sd_pagetable.specs.Owning.{ReleasesFrame}
 use Rattle.sd_pagetable.specs.Tracking.{with_space}
 use Rattle.sd_pagetable.specs.View.{page_of_entry, contents_of, IsKept}
 use Rattle.sd_pagetable.proofs.TableLemmas.{same_table, get_put, get_removed, len-map_values}
-use Rattle.sd_pagetable.proofs.NestedLemmas.{inside-map}
+use Rattle.sd_pagetable.proofs.NestedLemmas.{inside-map, tests}
 use Rattle.sd_pagetable.proofs.TotalLemmas.{total-empty, total_within-insert}
-use Rattle.sd_pagetable.proofs.RangeLemmas.{same_of, inside_with, remove_in}
+use Rattle.sd_pagetable.proofs.RangeLemmas.{inside_with, remove_in}
 use Rattle.sd_pagetable.proofs.RunKept.{inside_put, insert_itself, insert_twice}
 use Rattle.sd_pagetable.proofs.ReleaseLemmas.{view_removed, kept_removed}
 use Rattle.sd_pagetable.proofs.SpaceLemmas.{kept_gone, view_gone}
@@ -47,7 +47,7 @@ module _ {X : Type 0} (start : Bound ℕ) (t : Table X) where
 
   module _ (page : ℕ) (first : IsFirstFrom t start (Some page)) where
     next_left : (q : ℕ) (here : Bool) → nat_eq q page ≡ here → (o : Option X) → finmap.get t q ≡ o → cond here None (cond (is_from start q) o None) ≡ cond (is_from (Excluded page) q) o None
-    next_left q true e o f = sym (ap (λ b. cond b o None) (ap (is_from (Excluded page)) (same_of q page e) ∙ no_longer page))
+    next_left q true e o f = sym (ap (λ b. cond b o None) (ap (is_from (Excluded page)) (tests q page e) ∙ no_longer page))
     next_left q false e None f = nothing (is_from start q) (is_from (Excluded page) q)
       where
         nothing : (a b : Bool) → cond {A = Option X} a None None ≡ cond b None None

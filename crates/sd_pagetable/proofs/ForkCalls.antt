@@ -25,9 +25,9 @@ use Rattle.sd_pagetable.proofs.MemoryLemmas.{plain_alive}
 use Rattle.sd_pagetable.specs.Ranges.{bare_page}
 use Rattle.sd_pagetable.specs.Tracking.{with_space, contents_after_fork}
 use Rattle.sd_pagetable.proofs.TableLemmas.{same_table, get_put, get_removed, get-map_values, entries-map_values}
-use Rattle.sd_pagetable.proofs.NestedLemmas.{alive-insert}
+use Rattle.sd_pagetable.proofs.NestedLemmas.{alive-insert, tests}
 use Rattle.sd_pagetable.proofs.TotalLemmas.{total-empty, total-insert, total-remove, total_within-remove_space}
-use Rattle.sd_pagetable.proofs.RangeLemmas.{same_of, inside_with, inside_other, with_twice}
+use Rattle.sd_pagetable.proofs.RangeLemmas.{inside_with, inside_other, with_twice}
 use Rattle.sd_pagetable.proofs.PlainRanges.{composed, map_removed, same_many, plain_many, plain_inside, plain_with, areas_with}
 use Rattle.sd_pagetable.proofs.ForkLemmas.{with_swap}
 
@@ -172,7 +172,7 @@ plain_forked c s child apart alive =
 
     itself : finmap.insert (plain_of c) s (map_values plain_page (inside c.spaces s)) ≡ plain_of c
     itself = same_table _ _ (λ q. get_put (plain_of c) s (map_values plain_page (inside c.spaces s)) q
-        ∙ put_back (nat_eq q s) (finmap.get (plain_of c) q) (map_values plain_page (inside c.spaces s)) (λ here. ap (finmap.get (plain_of c)) (same_of q s here) ∙ plain_space c s ∙ there (finmap.get c.spaces s) alive))
+        ∙ put_back (nat_eq q s) (finmap.get (plain_of c) q) (map_values plain_page (inside c.spaces s)) (λ here. ap (finmap.get (plain_of c)) (tests q s here) ∙ plain_space c s ∙ there (finmap.get c.spaces s) alive))
 
 -- the areas after `fork`
 own_areas : (o : Option PageMap) (t : Option (Table PageState)) (own : PageMap) → o ≡ option_map prots_of t → o ≡ Some own → own ≡ prots_of (unwrap_or t finmap.empty)
@@ -184,7 +184,7 @@ areas_forked areas new c s child own has is put =
     let are = own_areas (get nat_cmp areas s) (finmap.get c.spaces s) own (has s) is in
     areas_with areas new (with_space c s (map_values shared_page (inside c.spaces s))) child (map_values inherited_page (inside c.spaces s)) own
     (areas_with areas areas c s (map_values shared_page (inside c.spaces s)) own has (are ∙ sym (composed shared_page (λ (page : PageState). page.prot) (λ (page : PageState). page.prot) (λ _. refl) (inside c.spaces s)))
-    (λ q. sym (put_back (nat_eq q s) (get nat_cmp areas q) own (λ here. ap (get nat_cmp areas) (same_of q s here) ∙ is))))
+    (λ q. sym (put_back (nat_eq q s) (get nat_cmp areas q) own (λ here. ap (get nat_cmp areas) (tests q s here) ∙ is))))
     (are ∙ sym (composed inherited_page (λ (page : PageState). page.prot) (λ (page : PageState). page.prot) (λ _. refl) (inside c.spaces s))) put
   where
     put_back : (b : Bool) (o : Option PageMap) (t : PageMap) → (b ≡ true → o ≡ Some t) → cond b (Some t) o ≡ o
@@ -206,7 +206,7 @@ has_sixteen c number past alive =
 
 pub one_alive_more : (c : Contents) (number : ℕ) → is_alive c.spaces number ≡ true → ((q : ℕ) → 1 ≤ q → q < number → is_alive c.spaces q ≡ true) → (q : ℕ) → 1 ≤ q → q < number + 1 → is_alive c.spaces q ≡ true
 one_alive_more c number alive before q from below = elim (cases_Bool (nat_eq q number)) [
-  | inl here ↦ ap (is_alive c.spaces) (same_of q number here) ∙ alive
+  | inl here ↦ ap (is_alive c.spaces) (tests q number here) ∙ alive
   | inr there ↦ before q from (differs q number there below)
 ]
   where
@@ -274,7 +274,7 @@ space_pages c s =
 -- the areas of a child that was given up
 pub areas_back : (areas added new : BTreeMap ℕ PageMap) (c : Contents) (child : ℕ) (own : PageMap) → HasAreas areas c → is_alive c.spaces child ≡ false
     → ((q : ℕ) → get nat_cmp added q ≡ cond (nat_eq q child) (Some own) (get nat_cmp areas q)) → ((q : ℕ) → get nat_cmp new q ≡ cond (nat_eq q child) None (get nat_cmp added q)) → HasAreas new c
-areas_back areas added new c child own has dead add drop = λ q. drop q ∙ ap (cond (nat_eq q child) None) (add q) ∙ back (nat_eq q child) (get nat_cmp areas q) own (λ here. has q ∙ ap (λ k. option_map prots_of (finmap.get c.spaces k)) (same_of q child here) ∙ ap (option_map prots_of) (dead_none (finmap.get c.spaces child) dead)) ∙ has q
+areas_back areas added new c child own has dead add drop = λ q. drop q ∙ ap (cond (nat_eq q child) None) (add q) ∙ back (nat_eq q child) (get nat_cmp areas q) own (λ here. has q ∙ ap (λ k. option_map prots_of (finmap.get c.spaces k)) (tests q child here) ∙ ap (option_map prots_of) (dead_none (finmap.get c.spaces child) dead)) ∙ has q
   where
     back : (b : Bool) (o : Option PageMap) (t : PageMap) → (b ≡ true → o ≡ None) → cond b None (cond b (Some t) o) ≡ o
     back true o t none = sym (none refl)

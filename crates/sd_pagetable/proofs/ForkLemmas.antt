@@ -13,9 +13,9 @@ use Rattle.sd_tables.specs.Firsts.{is_from, IsFirstFrom}
 use Rattle.sd_pagetable.specs.Ranges.{bare_page}
 use Rattle.sd_pagetable.specs.Tracking.{with_space}
 use Rattle.sd_pagetable.proofs.TableLemmas.{same_table, get_put, get-map_entries, get-map_values}
-use Rattle.sd_pagetable.proofs.NestedLemmas.{same_nested, alive-insert, value_at-insert}
+use Rattle.sd_pagetable.proofs.NestedLemmas.{same_nested, alive-insert, value_at-insert, tests}
 use Rattle.sd_pagetable.proofs.TotalLemmas.{total-insert}
-use Rattle.sd_pagetable.proofs.RangeLemmas.{same_of, inside_with, inside_other, with_itself, put_in}
+use Rattle.sd_pagetable.proofs.RangeLemmas.{inside_with, inside_other, with_itself, put_in}
 
 -- ---- the pages from a bound on
 pub no_longer : (page : ℕ) → is_from (Excluded page) page ≡ false
@@ -89,7 +89,7 @@ remaining_next start t page x first is =
 some_of : (o : Option PageState) → IsSome o → (x : PageState) × (o ≡ Some x)
 some_of o e = grind arith
 
-if_there : (P : PageState → Type 0) (o : Option PageState) (x : PageState) → o ≡ Some x → IfSome o P → P x
+pub if_there : (P : PageState → Type 0) (o : Option PageState) (x : PageState) → o ≡ Some x → IfSome o P → P x
 if_there P o x e given = (let g : IfSome (Some x) P = subst (λ o. IfSome o P) e given in g)
 
 pub less_remains : (t : Table PageState) (start : Bound ℕ) (page : ℕ) → IsFirstFrom t start (Some page) → remaining (Excluded page) t < remaining start t
@@ -101,7 +101,7 @@ with_swap c s u t v apart = ap (λ spaces. record { pool = c.pool; spaces = spac
     (λ q. alive-insert (finmap.insert c.spaces s t) u v q ∙ ap (λ b. nat_eq q u || b) (alive-insert c.spaces s t q) ∙ or_swap (nat_eq q u) (nat_eq q s) (is_alive c.spaces q)
     ∙ sym (alive-insert (finmap.insert c.spaces u v) s t q ∙ ap (λ b. nat_eq q s || b) (alive-insert c.spaces u v q)))
     (λ q p. value_at-insert (finmap.insert c.spaces s t) u v q p ∙ ap (cond (nat_eq q u) (finmap.get v p)) (value_at-insert c.spaces s t q p)
-    ∙ cond_swap (nat_eq q u) (nat_eq q s) (finmap.get v p) (finmap.get t p) (value_at c.spaces q p) (λ a b. apart (sym (same_of q s b) ∙ same_of q u a))
+    ∙ cond_swap (nat_eq q u) (nat_eq q s) (finmap.get v p) (finmap.get t p) (value_at c.spaces q p) (λ a b. apart (sym (tests q s b) ∙ tests q u a))
     ∙ sym (value_at-insert (finmap.insert c.spaces u v) s t q p ∙ ap (cond (nat_eq q s) (finmap.get t p)) (value_at-insert c.spaces u v q p))))
   where
     or_swap : (a b c : Bool) → (a || (b || c)) ≡ (b || (a || c))

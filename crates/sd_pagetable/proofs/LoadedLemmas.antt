@@ -161,7 +161,7 @@ module _ (m : Contents) (s p : ℕ) (page : plain.Page) (begun : IsBegunMemory m
   begun_next new loads = subst IsBegunMemory (sym loads.2) (begun_by loads.0 loads.1)
 
 -- ---- a frame for a page that has none
-count_none : (pool : Pool) (k : ℕ) → cell_at pool k ≡ None → count_at pool k ≡ 0
+pub count_none : (pool : Pool) (k : ℕ) → cell_at pool k ≡ None → count_at pool k ≡ 0
 count_none pool k h = ap (λ o. option_map_or (λ (c : Cell). c.count) o 0) h
 
 pub free_room : (pool : Pool) (tables : Nested Entry) (n : ℕ) → IsKept pool tables n → is_full (contents_of pool tables) ≡ false → HasFree pool

@@ -29,10 +29,11 @@ use Rattle.sd_pagetable.specs.Due.{page_due, access_due, fault_due, frame_due, o
 use Rattle.sd_pagetable.specs.Tracking.{MakesWritable, IsBeginning}
 use Rattle.std.specs.Prelude.{Result, Ok, Err, OnOk, OnErr, IfSome}
 use Rattle.std.proofs.Math.Bool.{or_self_left}
+use Rattle.sd_tables.proofs.TableLemmas.{same_again}
 use Rattle.sd_pagetable.specs.declared.memory_error.MemoryError.{MemoryError}
 use Rattle.sd_pagetable.specs.declared.memory_error.MemoryError.TheVariants.{Denied as DeniedError}
 use Rattle.sd_pagetable.specs.Kept.{prots_of, HasAreas}
-use Rattle.sd_pagetable.proofs.TableLemmas.{turned_test, map_values-empty, get_put, map_values-insert, same_again, turned_in, some_of, get-map_values}
+use Rattle.sd_pagetable.proofs.TableLemmas.{turned_test, map_values-empty, get_put, map_values-insert, turned_in, some_of, get-map_values}
 use Rattle.sd_pagetable.proofs.ViewLemmas.{alone_in}
 use Rattle.sd_pagetable.proofs.NestedLemmas.{same_nested, value_at-insert, value_at-put, alive-put, alive-put_same, value_at-map, alive-map, alive_at, tests}
 
@@ -142,7 +143,7 @@ pub access_within : (address bytes : ℕ) → is_bad_access address bytes ≡ fa
 access_within address bytes h = let p = or_parts _ _ h in ltb-false 4096 (address % 4096 + bytes) p.1
 
 -- ---- faults
-same_key : (k : ℕ) → nat_eq k k ≡ true
+pub same_key : (k : ℕ) → nat_eq k k ≡ true
 same_key k = grind (arith, nat_tests)
 
 pub at_put_here : (m : Contents) (s p : ℕ) (x : PageState) → page_at (put_page m s p x) s p ≡ Some x

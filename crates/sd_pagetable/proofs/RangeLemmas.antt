@@ -5,29 +5,24 @@ use Rattle.std.specs.Option.{option_map, option_or}
 use Rattle.std.specs.FinMap as finmap
 use Rattle.std.proofs.Math.Bool.{or_self_left}
 use Rattle.std.proofs.lemmas.Bool.{cases_Bool}
+use Rattle.sd_pagetable.proofs.MemoryLemmas.{same_key}
 use Rattle.sd_areas.specs.Pages.{is_within}
 use Rattle.sd_pagetable.specs.Nested.{Table, Nested, inside, value_at, is_alive, put_at, remove_at, set_within, change_within, fill_within}
 use Rattle.sd_pagetable.specs.Page.{PageState}
 use Rattle.sd_pagetable.specs.Contents.{Contents, page_at, put_page, remove_page}
 use Rattle.sd_pagetable.specs.Tracking.{with_space}
 use Rattle.sd_pagetable.proofs.TableLemmas.{same_table, get_put, get-set_within, get-change_within, get-fill_within}
-use Rattle.sd_pagetable.proofs.NestedLemmas.{same_nested, inside-insert, alive-insert, value_at-insert}
-
-pub same_self : (a : ℕ) → nat_eq a a ≡ true
-same_self a = grind (arith, nat_tests)
+use Rattle.sd_pagetable.proofs.NestedLemmas.{same_nested, inside-insert, alive-insert, value_at-insert, tests}
 
 pub not_same : (a b : ℕ) → (a ≡ b → ⊥) → nat_eq a b ≡ false
 not_same a b differs = grind (arith, nat_tests)
-
-pub same_of : (a b : ℕ) → nat_eq a b ≡ true → a ≡ b
-same_of a b e = grind (arith, nat_tests)
 
 abbrev of_spaces : Contents → Nested PageState → Contents
 of_spaces c spaces = record { pool = c.pool; spaces = spaces }
 
 -- ---- a space with other pages
 pub inside_with : (c : Contents) (s : ℕ) (t : Table PageState) → inside (with_space c s t).spaces s ≡ t
-inside_with c s t = inside-insert c.spaces s t s ∙ ap (λ b. cond b t (inside c.spaces s)) (same_self s)
+inside_with c s t = inside-insert c.spaces s t s ∙ ap (λ b. cond b t (inside c.spaces s)) (same_key s)
 
 pub inside_other : (c : Contents) (s u : ℕ) (t : Table PageState) → (u ≡ s → ⊥) → inside (with_space c s t).spaces u ≡ inside c.spaces u
 inside_other c s u t differs = inside-insert c.spaces s t u ∙ ap (λ b. cond b t (inside c.spaces u)) (not_same u s differs)
@@ -65,13 +60,13 @@ unfolding remove_at
 remove_in c s p t = ap (λ u. with_space (with_space c s t) s (finmap.remove u p)) (inside_with c s t) ∙ with_twice c s t (finmap.remove t p)
 
 -- ---- a run that grows by a page
-within_none : (first q : ℕ) → is_within first (first - first) q ≡ false
+pub within_none : (first q : ℕ) → is_within first (first - first) q ≡ false
 within_none first q = grind (arith, nat_tests)
 
-within_more : (first k q : ℕ) → first ≤ k → is_within first (k + 1 - first) q ≡ (nat_eq q k || is_within first (k - first) q)
+pub within_more : (first k q : ℕ) → first ≤ k → is_within first (k + 1 - first) q ≡ (nat_eq q k || is_within first (k - first) q)
 within_more first k q le = grind (arith, nat_tests)
 
-or_put : (a b : Bool) (x : PageState) (o : Option PageState) → cond a (Some x) (cond b (Some x) o) ≡ cond (a || b) (Some x) o
+pub or_put : (a b : Bool) (x : PageState) (o : Option PageState) → cond a (Some x) (cond b (Some x) o) ≡ cond (a || b) (Some x) o
 or_put a b x o = grind arith
 
 pub set_none : (t : Table PageState) (first : ℕ) (x : PageState) → set_within t first (first - first) x ≡ t
@@ -114,16 +109,16 @@ fill_by t first k q x o here before e f g none = grind arith
 
 -- a page of the run was filled
 pub fill_more : (t : Table PageState) (first k : ℕ) (x : PageState) → first ≤ k → finmap.get t k ≡ None → finmap.insert (fill_within t first (k - first) x) k x ≡ fill_within t first (k + 1 - first) x
-fill_more t first k x le none = grind (arith, same_table, get_put, get-fill_within, fill_by, same_of, within_more)
+fill_more t first k x le none = grind (arith, same_table, get_put, get-fill_within, fill_by, tests, within_more)
 
 skip_by : (o : Option PageState) (x : PageState) (here before : Bool) → (here ≡ true → IsSome o) → option_or o (cond before (Some x) None) ≡ option_or o (cond (here || before) (Some x) None)
 skip_by o x here before there = grind arith
 
 -- a page of the run was there
 pub fill_skips : (t : Table PageState) (first k : ℕ) (x : PageState) → first ≤ k → IsSome (finmap.get t k) → fill_within t first (k - first) x ≡ fill_within t first (k + 1 - first) x
-fill_skips t first k x le there = grind (arith, same_table, get-fill_within, skip_by, same_of, within_more)
+fill_skips t first k x le there = grind (arith, same_table, get-fill_within, skip_by, tests, within_more)
 
-or_none : (o : Option PageState) → option_or o None ≡ o
+pub or_none : (o : Option PageState) → option_or o None ≡ o
 or_none o = grind arith
 
 pub fill_none : (t : Table PageState) (first : ℕ) (x : PageState) → fill_within t first (first - first) x ≡ t
@@ -144,7 +139,7 @@ pub change_more : (change : PageState → PageState) (t : Table PageState) (firs
     → finmap.insert (change_within change t first (k - first)) k (change y) ≡ change_within change t first (k + 1 - first)
 change_more change t first k y le there = same_table _ _ (λ q. get_put (change_within change t first (k - first)) k (change y) q
     ∙ ap (cond (nat_eq q k) (Some (change y))) (get-change_within change t first (k - first) q)
-    ∙ change_by change (finmap.get t q) (nat_eq q k) (is_within first (k - first) q) (λ here. apart first k q here) y (λ here. ap (finmap.get t) (same_of q k here) ∙ there)
+    ∙ change_by change (finmap.get t q) (nat_eq q k) (is_within first (k - first) q) (λ here. apart first k q here) y (λ here. ap (finmap.get t) (tests q k here) ∙ there)
     ∙ ap (λ b. option_map (λ x. cond b (change x) x) (finmap.get t q)) (sym (within_more first k q le)) ∙ sym (get-change_within change t first (k + 1 - first) q))
   where
     apart : (first k q : ℕ) → nat_eq q k ≡ true → is_within first (k - first) q ≡ false
@@ -154,7 +149,7 @@ stays_by : (change : PageState → PageState) (o : Option PageState) (here befor
 stays_by change o here before none = grind arith
 
 pub change_skips : (change : PageState → PageState) (t : Table PageState) (first k : ℕ) → first ≤ k → finmap.get t k ≡ None → change_within change t first (k - first) ≡ change_within change t first (k + 1 - first)
-change_skips change t first k le none = grind (arith, same_table, get-change_within, stays_by, same_of, within_more)
+change_skips change t first k le none = grind (arith, same_table, get-change_within, stays_by, tests, within_more)
 
 mapped_itself : (o : Option PageState) → option_map (λ x. x) o ≡ o
 mapped_itself o = grind arith

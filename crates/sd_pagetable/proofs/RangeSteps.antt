@@ -5,6 +5,8 @@ use Rattle.std.proofs.lemmas.Bool.Decides.{nat_tests}
 use Rattle.std.specs.Option.{option_map}
 use Rattle.std.specs.FinMap as finmap
 use Rattle.std.proofs.lemmas.Bool.{both_ways, cases_Bool}
+use Rattle.sd_pagetable.proofs.ForkLemmas.{if_there}
+use Rattle.sd_pagetable.proofs.MemoryLemmas.{same_key}
 use Rattle.sd_areas.specs.Pages.{pages_from, is_within}
 use Rattle.sd_pagetable.specs.Nested.{Table, inside, is_alive, fill_within, change_within, remove_within}
 use Rattle.sd_pagetable.specs.Page.{PageState}
@@ -12,8 +14,8 @@ use Rattle.sd_pagetable.specs.Contents.{Contents, page_at, put_page, remove_page
 use Rattle.sd_pagetable.specs.Ranges.{IsCleared}
 use Rattle.sd_pagetable.specs.Tracking.{with_space}
 use Rattle.sd_pagetable.proofs.TableLemmas.{same_table, get-remove_within}
-use Rattle.sd_pagetable.proofs.NestedLemmas.{alive-insert, value_at-remove}
-use Rattle.sd_pagetable.proofs.RangeLemmas.{same_self, not_same, same_of, inside_with, with_twice, with_itself, put_in, remove_in, at_table, fill_none, fill_more, fill_skips, fill_outside, change_none, change_more, change_skips, change_outside}
+use Rattle.sd_pagetable.proofs.NestedLemmas.{alive-insert, value_at-remove, tests}
+use Rattle.sd_pagetable.proofs.RangeLemmas.{not_same, inside_with, with_twice, with_itself, put_in, remove_in, at_table, fill_none, fill_more, fill_skips, fill_outside, change_none, change_more, change_skips, change_outside, within_none, within_more}
 use Rattle.sd_pagetable.proofs.RangeCounts.{left_to_count, one_more}
 
 cases_option : (o : Option PageState) → (o ≡ None) ⊎ ((x : PageState) × (o ≡ Some x))
@@ -21,7 +23,7 @@ cases_option None = inl refl
 cases_option (Some x) = inr (x, refl)
 
 pub alive_with : (c : Contents) (s : ℕ) (t : Table PageState) → is_alive (with_space c s t).spaces s ≡ true
-alive_with c s t = alive-insert c.spaces s t s ∙ ap (λ b. b || is_alive c.spaces s) (same_self s)
+alive_with c s t = alive-insert c.spaces s t s ∙ ap (λ b. b || is_alive c.spaces s) (same_key s)
 
 -- ---- filling
 pub none_filled : (c : Contents) (s first : ℕ) (x : PageState) → is_alive c.spaces s ≡ true → c ≡ with_space c s (fill_within (inside c.spaces s) first (first - first) x)
@@ -54,9 +56,6 @@ none_changed change c s first alive = sym (ap (with_space c s) (change_none chan
 unchanged : (change : PageState → PageState) (old now : Contents) (s first k : ℕ) → now ≡ with_space old s (change_within change (inside old.spaces s) first (k - first)) → page_at now s k ≡ page_at old s k
 unchanged change old now s first k done = ap (λ c. page_at c s k) done ∙ at_table old s k _ ∙ change_outside change (inside old.spaces s) first k
 
-if_there : (P : PageState → Type 0) (o : Option PageState) (x : PageState) → o ≡ Some x → IfSome o P → P x
-if_there P o x e given = (let g : IfSome (Some x) P = subst (λ o. IfSome o P) e given in g)
-
 pub changed_more : (change : PageState → PageState) (old now new : Contents) (s first k : ℕ) → first ≤ k → now ≡ with_space old s (change_within change (inside old.spaces s) first (k - first))
     → IfSome (page_at now s k) (λ before. new ≡ put_page now s k (change before)) → (page_at now s k ≡ None → new ≡ now)
     → new ≡ with_space old s (change_within change (inside old.spaces s) first (k + 1 - first))
@@ -79,7 +78,7 @@ removed_by : (q p : ℕ) (o : Option PageState) → (nat_eq q p ≡ true → o �
 removed_by q p o none = grind arith
 
 at_removed : (c : Contents) (s p q : ℕ) → page_at (remove_page c s p) s q ≡ cond (nat_eq q p) None (page_at c s q)
-at_removed c s p q = value_at-remove c.spaces s p s q ∙ ap (λ b. cond (b && nat_eq q p) None (page_at c s q)) (same_self s)
+at_removed c s p q = value_at-remove c.spaces s p s q ∙ ap (λ b. cond (b && nat_eq q p) None (page_at c s q)) (same_key s)
 
 pub removed_others : (c : Contents) (s p : ℕ) → is_alive c.spaces s ≡ true → remove_page c s p ≡ with_space c s (inside (remove_page c s p).spaces s)
 removed_others c s p alive =
@@ -88,7 +87,7 @@ removed_others c s p alive =
 
 -- a page was taken out, where it was there
 pub dropped : (old new : Contents) (s p : ℕ) → is_alive old.spaces s ≡ true → (IsSome (page_at old s p) → new ≡ remove_page old s p) → (page_at old s p ≡ None → new ≡ old) → IsCleared old new s (λ q. nat_eq q p)
-dropped old new s p alive there hole = grind (arith, cases_option, removed_by, same_of, with_itself, at_removed, removed_others)
+dropped old new s p alive there hole = grind (arith, cases_option, removed_by, tests, with_itself, at_removed, removed_others)
 
 -- ---- unmapping a run
 pub still_outside : (old now new : Contents) (s p first count : ℕ) → new ≡ remove_page now s p → is_within first count p ≡ true
@@ -116,14 +115,9 @@ unmapped_run old now s first count others outside none = others ∙ ap (with_spa
     ]
 
 -- ---- unmapping what areas don't have
-within_run : (first k q : ℕ) → first ≤ k → is_within first (k + 1 - first) q ≡ (nat_eq q k || is_within first (k - first) q)
-within_run first k q le = grind (arith, nat_tests)
-
-within_nothing : (first q : ℕ) → is_within first (first - first) q ≡ false
-within_nothing first q = grind (arith, nat_tests)
 
 pub none_unfilled : (gone : ℕ → Bool) (c : Contents) (s first : ℕ) → is_alive c.spaces s ≡ true → IsCleared c c s (λ q. is_within first (first - first) q && gone q)
-none_unfilled gone c s first alive = cleared_none c s _ alive (λ q. ap (λ b. b && gone q) (within_nothing first q))
+none_unfilled gone c s first alive = cleared_none c s _ alive (λ q. ap (λ b. b && gone q) (within_none first q))
 
 then_gone : (here before it : Bool) → (here ≡ true → it ≡ true) → ((here || before) && it) ≡ ((before && it) || here)
 then_gone here before it h = grind arith
@@ -135,13 +129,13 @@ then_kept here before it h = grind arith
 pub unfilled_more : (gone : ℕ → Bool) (a b c : Contents) (s first k : ℕ) → first ≤ k → gone k ≡ true → IsCleared a b s (λ q. is_within first (k - first) q && gone q) → IsCleared b c s (λ q. nat_eq q k)
     → IsCleared a c s (λ q. is_within first (k + 1 - first) q && gone q)
 unfilled_more gone a b c s first k le is one two = cleared_both a b c s _ _ _ one two
-    (λ q. ap (λ x. x && gone q) (within_run first k q le) ∙ then_gone (nat_eq q k) (is_within first (k - first) q) (gone q) (λ here. ap gone (same_of q k here) ∙ is))
+    (λ q. ap (λ x. x && gone q) (within_more first k q le) ∙ then_gone (nat_eq q k) (is_within first (k - first) q) (gone q) (λ here. ap gone (tests q k here) ∙ is))
 
 -- this page is in the areas, and stays
 pub unfilled_same : (gone : ℕ → Bool) (a b : Contents) (s first k : ℕ) → first ≤ k → gone k ≡ false → IsCleared a b s (λ q. is_within first (k - first) q && gone q)
     → IsCleared a b s (λ q. is_within first (k + 1 - first) q && gone q)
 unfilled_same gone a b s first k le is one = cleared_same a b s _ _ one
-    (λ q. ap (λ x. x && gone q) (within_run first k q le) ∙ then_kept (nat_eq q k) (is_within first (k - first) q) (gone q) (λ here. ap gone (same_of q k here) ∙ is))
+    (λ q. ap (λ x. x && gone q) (within_more first k q le) ∙ then_kept (nat_eq q k) (is_within first (k - first) q) (gone q) (λ here. ap gone (tests q k here) ∙ is))
 
 seen : {B : Type 0} (f : PageState → B) (o : Option PageState) → is_some (option_map f o) ≡ is_some o
 seen f o = grind arith

@@ -4,6 +4,8 @@ use Rattle.std.proofs.lemmas.Bool.{cases_lt, eq-eqb}
 use Rattle.std.proofs.lemmas.Bool.Decides.{nat_tests}
 use Rattle.std.specs.Option.{option_map, option_or}
 use Rattle.std.specs.FinMap as finmap
+use Rattle.sd_tables.proofs.TableLemmas.{same_again}
+use Rattle.sd_pagetable.proofs.MemoryLemmas.{same_key}
 use Rattle.sd_areas.specs.Pages.{is_within}
 use Rattle.sd_tables.specs.declared.entry.Entry.{Entry}
 use Rattle.sd_tables.specs.declared.run_change.RunChange.{RunChange}
@@ -19,13 +21,10 @@ use Rattle.sd_pagetable.specs.View.{page_of_entry, contents_of, IsKept}
 use Rattle.sd_pagetable.proofs.KeptLemmas.{kept_write_protected, kept_added}
 use Rattle.sd_pagetable.proofs.NestedLemmas.{inside-insert, inside-map, alive-insert}
 use Rattle.sd_pagetable.proofs.ReleaseLemmas.{kept_renewed}
-use Rattle.sd_pagetable.proofs.TableLemmas.{same_table, same_again, get_put, get-map_values, get-change_within, map_values-insert, none_within, inside_is, some_of, get-fill_within}
+use Rattle.sd_pagetable.proofs.TableLemmas.{same_table, get_put, get-map_values, get-change_within, map_values-insert, none_within, inside_is, some_of, get-fill_within}
 use Rattle.sd_pagetable.proofs.ViewLemmas.{same_contents, page_at-view}
 
-same_self : (a : ℕ) → nat_eq a a ≡ true
-same_self a = eq-eqb a a refl
-
-absorbed : {Y : Type 0} (b : Bool) (x y z : Y) → cond b x (cond b y z) ≡ cond b x z
+pub absorbed : {Y : Type 0} (b : Bool) (x y z : Y) → cond b x (cond b y z) ≡ cond b x z
 absorbed b x y z = grind arith
 
 module _ {X : Type 0} where
@@ -41,7 +40,7 @@ module _ {X : Type 0} where
   insert_itself m s alive = grind (arith, some_of, inside_is, same_again)
 
   pub inside_put : (m : Nested X) (s : ℕ) (t : Table X) → inside (finmap.insert m s t) s ≡ t
-  inside_put m s t = inside-insert m s t s ∙ ap (λ b. cond b t (inside m s)) (same_self s)
+  inside_put m s t = inside-insert m s t s ∙ ap (λ b. cond b t (inside m s)) (same_key s)
 
   put_in_run : (m : Nested X) (s p : ℕ) (t : Table X) (x : X) → put_at (finmap.insert m s t) s p x ≡ finmap.insert m s (finmap.insert t p x)
   unfolding put_at
@@ -248,7 +247,7 @@ kept_holes pool tables n s first e kept alive none closed (suc count) number few
     let before = finmap.insert tables s (fill_within (inside tables s) first count e) in
     let was = kept_holes pool tables n s first e kept alive none closed count (omega arith) (omega arith) (λ page l m. holes page l (omega arith)) in
     let still : value_at before s (first + count) ≡ None = ap (λ u. finmap.get u (first + count)) (inside_put tables s (fill_within (inside tables s) first count e)) ∙ fill_past (inside tables s) first e count ∙ hole in
-    let living : is_alive before s ≡ true = alive-insert tables s (fill_within (inside tables s) first count e) s ∙ ap (λ b. b || is_alive tables s) (same_self s) in
+    let living : is_alive before s ≡ true = alive-insert tables s (fill_within (inside tables s) first count e) s ∙ ap (λ b. b || is_alive tables s) (same_key s) in
     let next = kept_added pool before (n + count) s (first + count) e was living (page_at-view pool before s (first + count) ∙ ap (option_map (page_of_entry pool)) still) (omega arith) (omega arith) none closed in
     let sum : n + count + 1 ≡ n + suc count = omega arith in
     subst (λ k. IsKept pool (finmap.insert tables s (fill_within (inside tables s) first (suc count) e)) k) sum

@@ -12,7 +12,7 @@ use Rattle.sd_pagetable.specs.Contents.{Contents, page_at, page_count}
 use Rattle.sd_pagetable.specs.Tracking.{with_space}
 use Rattle.sd_pagetable.proofs.TableLemmas.{same_table, get-set_within, get-change_within, get-fill_within}
 use Rattle.sd_pagetable.proofs.RangeCounts.{one_if, counted_more, none_counted}
-use Rattle.sd_pagetable.proofs.RangeLemmas.{inside_with, with_twice, at_table, with_itself, put_in, fill_more, fill_skips, fill_outside}
+use Rattle.sd_pagetable.proofs.RangeLemmas.{inside_with, with_twice, at_table, with_itself, put_in, fill_more, fill_skips, fill_outside, or_none, or_put}
 use Rattle.sd_pagetable.proofs.RangeSteps.{Fills, filled_more, none_changed, none_filled}
 
 -- ---- pages that are counted
@@ -38,12 +38,9 @@ within_both first k to q le more = grind (arith, nat_tests)
 within_one : (first k to q : ℕ) → is_within k (to - k) q ≡ true → is_within first (k - first) q ≡ false
 within_one first k to q here = grind (arith, nat_tests)
 
-set_by : (a b : Bool) (x : PageState) (o : Option PageState) → cond a (Some x) (cond b (Some x) o) ≡ cond (a || b) (Some x) o
-set_by a b x o = grind arith
-
 set_run : (t : Table PageState) (first k to : ℕ) (x : PageState) → first ≤ k → k ≤ to → set_within (set_within t first (k - first) x) k (to - k) x ≡ set_within t first (to - first) x
 set_run t first k to x le more = same_table _ _ (λ q. get-set_within (set_within t first (k - first) x) k (to - k) x q ∙ ap (cond (is_within k (to - k) q) (Some x)) (get-set_within t first (k - first) x q)
-    ∙ set_by (is_within k (to - k) q) (is_within first (k - first) q) x (finmap.get t q) ∙ ap (λ b. cond b (Some x) (finmap.get t q)) (sym (within_both first k to q le more)) ∙ sym (get-set_within t first (to - first) x q))
+    ∙ or_put (is_within k (to - k) q) (is_within first (k - first) q) x (finmap.get t q) ∙ ap (λ b. cond b (Some x) (finmap.get t q)) (sym (within_both first k to q le more)) ∙ sym (get-set_within t first (to - first) x q))
 
 pub renewed_run : (old now new : Contents) (s first k to : ℕ) (x : PageState) → first ≤ k → k ≤ to → now ≡ with_space old s (set_within (inside old.spaces s) first (k - first) x)
     → new ≡ with_space now s (set_within (inside now.spaces s) k (to - k) x) → new ≡ with_space old s (set_within (inside old.spaces s) first (to - first) x)
@@ -116,9 +113,6 @@ filled_past old now s first k page x le done = ap (λ c. page_at c s page) done 
   where
     beyond : (first k page : ℕ) → k ≤ page → is_within first (k - first) page ≡ false
     beyond first k page le = grind (arith, nat_tests)
-
-    or_none : (o : Option PageState) → option_or o None ≡ o
-    or_none o = grind arith
 
 -- a run of holes has room
 pub room_for : (old now : Contents) (s first k end to : ℕ) (x : PageState) → Fills old now s first k end x → k ≤ to → to ≤ end → ((page : ℕ) → k ≤ page → page < to → page_at now s page ≡ None)

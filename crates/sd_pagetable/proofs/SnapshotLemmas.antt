@@ -8,6 +8,8 @@ use Rattle.std.specs.Cmp.{nat_cmp_total}
 use Rattle.std.specs.BTreeMap.{BTreeMap}
 use Rattle.std.specs.FinMap as finmap
 use Rattle.std.specs.FinMap.{find, is_sorted, get-from_entries, get-from_sorted, entries-from_sorted}
+use Rattle.sd_tables.proofs.TableLemmas.{same_again}
+use Rattle.sd_pagetable.proofs.RunKept.{absorbed}
 use Rattle.sd_areas.specs.declared.errno.AreaError.{AreaError}
 use Rattle.sd_areas.specs.declared.errno.AreaError.TheVariants.{Refused as AreaRefused, OutOfMemory as AreaOutOfMemory}
 use Rattle.sd_areas.specs.declared.errno.Errno.TheVariants.{Einval as AreaEinval, Enomem as AreaEnomem}
@@ -30,7 +32,7 @@ use Rattle.sd_pagetable.specs.AreaErrors.{error_of}
 use Rattle.sd_pagetable.specs.Due.{prots_in}
 use Rattle.sd_pagetable.specs.Loaded.{is_zero_page, frames_for, nonzero_pages, loaded_page, Loads, IsBegunMemory}
 use Rattle.sd_pagetable.proofs.NestedLemmas.{inside-insert, alive-put_same}
-use Rattle.sd_pagetable.proofs.TableLemmas.{same_table, same_again, get_put, get-map_values, map_values-empty, keys_sorted, sorted_changed}
+use Rattle.sd_pagetable.proofs.TableLemmas.{same_table, get_put, get-map_values, map_values-empty, keys_sorted, sorted_changed}
 use Rattle.sd_pagetable.proofs.TotalLemmas.{total-empty, total_within-insert}
 use Rattle.sd_pagetable.proofs.MemoryLemmas.{plain_put, plain_at, plain_alive}
 use Rattle.sd_pagetable.proofs.PlainRanges.{plain_many, plain_inside}
@@ -127,11 +129,7 @@ unfolding put_at
 put_in m s p x = inside-insert m s (finmap.insert (inside m s) p x) s ∙ cond-true _ _ _ (eq-eqb s s refl)
 
 pub inserted_twice : {X : Type 0} (m : Table X) (s : ℕ) (t u : X) → finmap.insert (finmap.insert m s t) s u ≡ finmap.insert m s u
-inserted_twice m s t u = same_table _ _ (λ q. get_put (finmap.insert m s t) s u q ∙ ap (cond (nat_eq q s) (Some u)) (get_put m s t q) ∙ by_test (nat_eq q s) (Some u) (Some t) (finmap.get m q) ∙ sym (get_put m s u q))
-  where
-    by_test : {Y : Type 0} (b : Bool) (x y z : Y) → cond b x (cond b y z) ≡ cond b x z
-    by_test true x y z = refl
-    by_test false x y z = refl
+inserted_twice m s t u = same_table _ _ (λ q. get_put (finmap.insert m s t) s u q ∙ ap (cond (nat_eq q s) (Some u)) (get_put m s t q) ∙ absorbed (nat_eq q s) (Some u) (Some t) (finmap.get m q) ∙ sym (get_put m s u q))
 
 put_inside : {X : Type 0} (m n : Nested X) (s p : ℕ) (x : X) → m ≡ finmap.insert n s (inside m s) → put_at m s p x ≡ finmap.insert n s (finmap.insert (inside m s) p x)
 unfolding put_at

@@ -14,6 +14,7 @@ use Rattle.std.specs.List.Sorted.{IsStrictlySortedBy}
 use Rattle.std.specs.declared.cmp.Ordering.TheVariants.{Less}
 use Rattle.std.specs.Map.{lookup}
 use Rattle.std.specs.BTreeMap.{is_at}
+use Rattle.sd_tables.proofs.TableLemmas.{same_again}
 use Rattle.sd_areas.specs.Pages.{pages_from, is_within}
 use Rattle.sd_pagetable.specs.Nested.{Table, Nested, inside, map_entries, map_values, set_within, remove_within, change_within, fill_within}
 
@@ -156,15 +157,6 @@ none_of o e = grind arith
 -- the table of a space
 pub inside_is : {X : Type 0} (m : Nested X) (space : ℕ) (t : Table X) → finmap.get m space ≡ Some t → inside m space ≡ t
 inside_is m space t e = ap (λ o. unwrap_or o finmap.empty) e
-
-pub same_again : {X : Type 0} (m : Table X) (k : ℕ) (v : X) → finmap.get m k ≡ Some v → finmap.insert m k v ≡ m
-same_again m k v e = same_table _ _ (λ q. get_put m k v q ∙ at_key q)
-  where
-    at_key : (q : ℕ) → cond (nat_eq q k) (Some v) (finmap.get m q) ≡ finmap.get m q
-    at_key q = elim (cases_Bool (nat_eq q k)) [
-      | inl t ↦ ap (λ b. cond b (Some v) (finmap.get m q)) t ∙ sym (ap (finmap.get m) (let e : q ≡ k = grind (arith, nat_tests) in e) ∙ e)
-      | inr f ↦ ap (λ b. cond b (Some v) (finmap.get m q)) f
-    ]
 
 -- ---- how many entries
 module _ {X : Type 0} where

@@ -2,6 +2,7 @@
 use Rattle.std.proofs.Common.{◌≡◌, ℕ, ◌+◌, ◌<◌, ◌≤◌, Bool, true, false, cond, nat_eq, List, Option, Some, None, refl, sym, ◌∙◌, ap, subst, inl, inr, arith}
 use Rattle.std.proofs.lemmas.Bool.{cases_eq, eqb-true, eqb-false, eq-eqb}
 use Rattle.std.specs.Option.{option_map_or}
+use Rattle.sd_pagetable.proofs.LoadedLemmas.{count_none}
 use Rattle.sd_tables.specs.declared.entry.Entry.{Entry}
 use Rattle.sd_pagetable.specs.Nested.{Nested, value_at, put_at}
 use Rattle.sd_pagetable.specs.Page.{zeros, writable_page}
@@ -13,9 +14,6 @@ use Rattle.sd_pagetable.proofs.NestedLemmas.{alive_at}
 use Rattle.sd_pagetable.proofs.TotalLemmas.{total_within-put, total_within_ge}
 use Rattle.sd_pagetable.proofs.ViewLemmas.{view_put, same_pool, SameOthers, entry_there, is_alone_in, one_share}
 use Rattle.sd_pagetable.proofs.KeptLemmas.{kept_put, apart_same, apart_new, frame_counted, share_class, other_class}
-
-count_none : (pool : Pool) (k : ℕ) → cell_at pool k ≡ None → count_at pool k ≡ 0
-count_none pool k h = ap (λ o. option_map_or (λ (c : Cell). c.count) o 0) h
 
 pub own_at : (pool : Pool) (frame : Option ℕ) (own : ℕ) → is_own pool frame ≡ true → frame ≡ Some own → count_at pool own ≡ 1
 own_at pool frame own h e = eqb-true _ _ (sym (ap (is_own pool) e) ∙ h)

@@ -30,13 +30,7 @@ begun a b bs rest ds e p = record { front = bs; rest = rest; whole = e; printed 
 
 -- behind some of it a beginning of what comes next is one of the whole
 pub begins_behind : (a b c : Option (List ℕ)) (bs cs rest ds : List ℕ) → bs ++ cs ++ rest ≡ ds → Appends a b bs → PrintsBeginning b c cs → PrintsBeginning a c ds
-begins_behind a b c bs cs rest ds e p q = record {
-  front = bs ++ q.front;
-  rest = q.rest ++ rest;
-  whole = append_assoc bs q.front (q.rest ++ rest) ∙ ap (λ xs. bs ++ xs) (sym (append_assoc q.front q.rest rest) ∙ ap (λ xs. xs ++ rest) q.whole)
-      ∙ sym (append_assoc bs cs rest) ∙ e;
-  printed = Appends-trans a b c bs q.front p q.printed;
-}
+begins_behind a b c bs cs rest ds e p q = grind (arith, append_assoc)
 
 -- where a fault stops what comes next
 pub broken_off : (result : Result Unit Stop) (a b c : Option (List ℕ)) (bs cs rest ds : List ℕ) → bs ++ cs ++ rest ≡ ds → Appends a b bs
@@ -49,9 +43,7 @@ module _ (contents : List (List ℕ)) (r : PlacedRun) (d n : ℕ) where
   -- so many pages, so many more, and the others
   run_parts : (m : ℕ) → d + n + m ≡ r.count → flat_map (placed_text contents) (first_pages r d) ++ part_of_run contents r d n ++ part_of_run contents r (d + n) m
       ≡ flat_map (placed_text contents) (pages_in r)
-  run_parts m is =
-      ap (λ xs. xs ++ part_of_run contents r (d + n) m) (sym (first_more contents r d n)) ∙ sym (first_more contents r (d + n) m)
-      ∙ ap (λ k. flat_map (placed_text contents) (first_pages r k)) is
+  run_parts m is = grind (arith, first_more, first_pages)
 
   pub run_broken : (result : Result Unit Stop) (a b c : Option (List ℕ)) → d + n ≤ r.count → Appends a b (flat_map (placed_text contents) (first_pages r d))
       → OnFault result (PrintsBeginning b c (part_of_run contents r d n)) → OnFault result (PrintsBeginning a c (flat_map (placed_text contents) (pages_in r)))
@@ -63,9 +55,7 @@ module _ (contents : List (List ℕ)) (r : PlacedRun) (d n : ℕ) where
 -- ---- pages of a space
 
 lines_joined : (contents : List (List ℕ)) (space : ℕ) (xs ys : List PlacedPage) → placed_lines contents space (xs ++ ys) ≡ placed_lines contents space xs ++ placed_lines contents space ys
-lines_joined contents space xs ys =
-    ap (flat_map (placed_text contents)) (filter-append (λ (p : PlacedPage). nat_eq p.space space) xs ys)
-    ∙ flat_map-append (placed_text contents) (filter (λ (p : PlacedPage). nat_eq p.space space) xs) (filter (λ (p : PlacedPage). nat_eq p.space space) ys)
+lines_joined contents space xs ys = grind (arith, filter-append, flat_map-append)
 
 module _ (contents : List (List ℕ)) (space : ℕ) (runs : List PlacedRun) (i : ℕ) (r : PlacedRun) (less : i < length runs) (is : r ≡ slice_index_or runs i r) where
   space_parts : placed_lines contents space (placed_pages (take i runs)) ++ placed_lines contents space (pages_in r) ++ placed_lines contents space (placed_pages (drop (i + 1) runs))

@@ -25,20 +25,13 @@ on_ok (Err error) p = record {}
 
 -- bytes that stayed, and then grew
 kept_then : (a b c : Option (List ℕ)) (bs : List ℕ) → Keeps a b → Appends b c bs → Appends a c bs
-kept_then None b c bs p q = tt
-kept_then (Some x) None c bs p q = absurd p
-kept_then (Some x) (Some y) None bs p q = absurd q
-kept_then (Some x) (Some y) (Some z) bs p q = q ∙ ap (λ l. l ++ bs) p
+kept_then a b c bs p q = grind arith
 
 module _ (before printed after : Option (List ℕ)) (refused : Bool) (status : ℕ) where
   -- status 3 comes with the line of an empty chain, and nothing before it
   pub told_empty : (ended : Result Unit Stop) → Exits printed after refused (end_text ended) (end_status ended) status
       → IfErr ended (StandsAlone before printed) → status ≡ 3 → Appends before after (fault_line EmptyChain)
-  told_empty (Ok value) (inl e) alone is = let zero_is : status ≡ 0 = e.2 in absurd (omega (arith, zero_is, is))
-  told_empty (Err why) (inl e) alone is =
-      let empty : why ≡ stop.Fault EmptyChain = only_empty why (sym e.2 ∙ is) in
-      kept_then before printed after (fault_line EmptyChain) (alone (ap is_of_store empty)) (subst (λ w. Appends printed after (stop_text w)) empty e.1)
-  told_empty ended (inr e) alone is = let one : status ≡ 1 = e.1 in absurd (omega (arith, one, is))
+  told_empty ended h1 alone is = grind arith
 
   -- and only where the contents show nothing
   pub empty_told : {P : Type 0} (ended : Result Unit Stop) → Exits printed after refused (end_text ended) (end_status ended) status
@@ -74,17 +67,14 @@ prints_then_nothing reader.Verify contents before a b none is = record {
 
 -- a fault of the device or of the memory says nothing against the store
 pub outside : (fault : Fault) → FaultNames (λ _ _. ⊥) fault → fault ≢ EmptyChain → IsOutsideStore (stop.Fault fault)
-outside EmptyChain named some = absurd (some refl)
-outside (Damaged slot reason) named some = absurd named
-outside _ named some = refl
+outside fault named some = grind arith
 
 -- a stop that says nothing against the store may come behind lines
 pub not_alone : (before after : Option (List ℕ)) (why : Stop) → IsOutsideStore why → StandsAlone before after why
 not_alone before after why is = λ yes. absurd (let f : true ≡ false = sym yes ∙ is in cc)
 
 pub none_alone : (before after : Option (List ℕ)) (result : Result Unit Stop) → IfErr result IsOutsideStore → IfErr result (StandsAlone before after)
-none_alone before after (Ok value) is = record {}
-none_alone before after (Err why) is = not_alone before after why is
+none_alone before after result is = grind arith
 
 -- where nothing was printed, any stop stands alone
 pub stands_alone : (same : Option (List ℕ)) (why : Stop) → StandsAlone same same why

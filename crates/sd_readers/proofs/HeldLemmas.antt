@@ -1,5 +1,5 @@
 -- What was kept in a vector, and then printed, up to the exit.
-use Rattle.std.proofs.Common.{◌≡◌, ℕ, Bool, true, false, List, [], ◌++◌, Option, Some, None, Result, Ok, Err, OnOk, OnErr, IfErr, refl, sym, ◌∙◌, ap, subst, inl, inr, append_assoc}
+use Rattle.std.proofs.Common.{◌≡◌, ℕ, Bool, true, false, List, [], ◌++◌, Option, Some, None, Result, Ok, Err, OnOk, OnErr, IfErr, refl, sym, ◌∙◌, ap, subst, inl, inr, append_assoc, arith}
 use Rattle.std.specs.Prelude.{◌⊎◌, if◌then◌else◌}
 use Rattle.std.specs.Io.KnownBytes.{Appends, Keeps, append_known}
 use Rattle.std.proofs.KnownBytes.{Appends-kept}
@@ -13,14 +13,11 @@ use Rattle.sd_readers.proofs.SteadyLemmas.{moved_out, never_held}
 
 -- bytes behind the known ones
 appended : (before : Option (List ℕ)) (front : List ℕ) → Appends before (append_known before front) front
-appended None front = tt
-appended (Some xs) front = refl
+appended before front = grind arith
 
 -- a text in two parts
 second_part : (before after : Option (List ℕ)) (front last text : List ℕ) → text ≡ front ++ last → Appends before after text → Appends (append_known before front) after last
-second_part None after front last text parts printed = tt
-second_part (Some xs) None front last text parts printed = absurd printed
-second_part (Some xs) (Some ys) front last text parts printed = printed ∙ ap (λ t. xs ++ t) parts ∙ sym (append_assoc xs front last)
+second_part before after front last text parts printed = grind (arith, append_assoc)
 
 module _ (by : Reader) (honest : Type 0) (contents : List (List ℕ)) (before mid after : Option (List ℕ)) (text : List ℕ) (status answered : ℕ) (was refused : Bool) where
   -- what was printed into the vector before the last line, as it stands behind what was printed before
@@ -45,8 +42,7 @@ module _ (by : Reader) (honest : Type 0) (contents : List (List ℕ)) (before mi
       writer = on_writer answers.ended no_two answers.writer
 
       written : (w : Result Unit E) → OnOk w (Appends before mid text) → OnErr w (was ≡ true) → refused ≡ false → Appends before after text
-      written (Ok value) taken failed none = Appends-kept before mid after text taken kept
-      written (Err error) taken failed none = no_two (sym none ∙ since failed)
+      written w taken failed none = grind arith
 
       by_refused : (b : Bool) → refused ≡ b → Appends answers.printed (Some text) (end_text answers.ended) → status ≡ end_status answers.ended
           → ReaderEnds by honest contents before after refused answered

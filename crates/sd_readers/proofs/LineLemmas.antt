@@ -6,12 +6,7 @@ use Rattle.std.proofs.lemmas.List.{drop-append-le, length-append, length-take-le
 -- a part is put in place of as many bytes
 replaced : (old front mid back part : List ℕ) (place : ℕ) → old ≡ front ++ (mid ++ back) → length front ≡ place → length mid ≡ length part
     → take place old ++ part ++ drop (place + length part) old ≡ front ++ (part ++ back)
-replaced old front mid back part place is at same =
-    let before : take place old ≡ front = ap (take place) is ∙ ap (λ n. take n (front ++ (mid ++ back))) (sym at) ∙ take-append_seam front (mid ++ back) in
-    let after : drop (place + length part) old ≡ back =
-    ap (drop (place + length part)) is ∙ ap (λ n. drop (n + length part) (front ++ (mid ++ back))) (sym at)
-    ∙ drop-append-add front (mid ++ back) (length part) ∙ ap (λ n. drop n (mid ++ back)) (sym same) ∙ drop-append_seam mid back in
-    ap (λ xs. xs ++ part ++ drop (place + length part) old) before ∙ ap (λ xs. front ++ part ++ xs) after ∙ append_assoc front part back
+replaced old front mid back part place is at same = grind (arith, take-append_seam, drop-append-add, drop-append_seam, append_assoc)
 
 abbrev pub blanks : ℕ → List ℕ
 blanks n = replicate n 32

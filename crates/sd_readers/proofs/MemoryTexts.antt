@@ -1,5 +1,5 @@
 -- The text of a memory is that of the pages that lie in slots.
-use Rattle.std.proofs.Common.{◌≡◌, ◌*◌, ℕ, List, [], ◌∷◌, ◌++◌, map, codes, Option, Some, refl, sym, ◌∙◌, ap, subst}
+use Rattle.std.proofs.Common.{◌≡◌, ◌*◌, ℕ, List, [], ◌∷◌, ◌++◌, map, codes, Option, Some, refl, sym, ◌∙◌, ap, subst, arith}
 use Rattle.std.specs.Prelude.{filter, nat_eq}
 use Rattle.std.specs.List.{flat_map}
 use Rattle.std.specs.Fmt.{decimal}
@@ -38,9 +38,7 @@ module _ (contents : List (List ℕ)) (checkpoint : ℕ) (spaces : List Listed) 
   said s = (s.space, (s.areas, placed_entries contents s.space pages))
 
   of_space : (s : Listed) → entry_text (said s) ≡ placed_space_text contents pages s
-  of_space s =
-      ap (λ xs. codes "space " ++ decimal s.space ++ 10 ∷ [] ++ flat_map area_line s.areas ++ xs)
-      (of_map page_lines (λ (p : PlacedPage). (p.page, placed_page contents p)) (filter (λ (p : PlacedPage). nat_eq p.space s.space) pages))
+  of_space s = grind (arith, of_map)
 
   pub laid_text : placed_memory_text contents checkpoint spaces pages ≡ memory_text (checkpoint, memory)
   laid_text = ap (λ xs. codes "checkpoint " ++ decimal checkpoint ++ 10 ∷ [] ++ xs)

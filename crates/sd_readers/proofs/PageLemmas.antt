@@ -48,17 +48,13 @@ no_parts (suc n) = parts_last (λ k. []) n ∙ append-nil _ ∙ no_parts n
 -- ---- pages of a run
 
 found_behind : (there : Found) (b k : ℕ) → found_on (found_on there b) k ≡ found_on there (b + k)
-found_behind found.Zero b k = refl
-found_behind (found.Data slot offset) b k = ap (found.Data slot) (let e : offset + 4096 * b + 4096 * k ≡ offset + 4096 * (b + k) = omega arith in e)
+found_behind there b k = grind arith
 
 -- pages that were read are those of the run
 pub read_pages_text : (contents : List (List ℕ)) (r : PlacedRun) (behind count first : ℕ) (bytes : List ℕ) → first ≡ r.first + behind
     → ((k : ℕ) → k < count → slice_range bytes (4096 * k) (4096 * k + 4096) ≡ bytes_at contents (found_on (found_on r.there behind) k))
     → pages_text first bytes count ≡ part_of_run contents r behind count
-read_pages_text contents r behind count first bytes at read =
-    same_parts (λ k. page_text (4096 * (first + k)) (slice_range bytes (4096 * k) (4096 * k + 4096))) (λ k. placed_text contents (page_behind r (behind + k))) count (λ k less.
-    ap (λ a. page_text a (slice_range bytes (4096 * k) (4096 * k + 4096))) (let e : 4096 * (first + k) ≡ 4096 * (r.first + (behind + k)) = omega (arith, at) in e)
-    ∙ ap (page_text (4096 * (r.first + (behind + k)))) (read k less ∙ ap (bytes_at contents) (found_behind r.there behind k)))
+read_pages_text contents r behind count first bytes at read = grind (arith, same_parts, found_behind)
 
 pub first_more : (contents : List (List ℕ)) (r : PlacedRun) (d n : ℕ)
     → flat_map (placed_text contents) (first_pages r (d + n)) ≡ flat_map (placed_text contents) (first_pages r d) ++ part_of_run contents r d n

@@ -1,5 +1,5 @@
 -- What came of a program that reads a store, by its parts.
-use Rattle.std.proofs.Common.{◌≡◌, ◌≢◌, ℕ, true, false, List, [], Option, Some, None, Result, Ok, Err, OnOk, IfErr, ◌++◌, append-nil, refl, ◌∙◌, ap, subst, inl, inr, length}
+use Rattle.std.proofs.Common.{◌≡◌, ◌≢◌, ℕ, true, false, List, [], Option, Some, None, Result, Ok, Err, OnOk, IfErr, ◌++◌, append-nil, refl, ◌∙◌, ap, subst, inl, inr, length, arith}
 use Rattle.std.specs.Prelude.{filter}
 use Rattle.std.specs.Io.KnownBytes.{Appends, Keeps}
 use Rattle.sd_image.specs.Image.{is_open}
@@ -45,19 +45,12 @@ module _ (by : Reader) (contents : List (List ℕ)) where
   -- what is true of an honest device is so of one that was honest for longer
   pub longer_honest : (before_honest honest : Type 0) (ended : Result Unit Stop) (before after : Option (List ℕ)) → (honest → before_honest)
       → Reads before_honest ended before after → Reads honest ended before after
-  longer_honest before_honest honest ended before after since is = record {
-    text = λ h. is.text (since h);
-    begins = λ h. is.begins (since h);
-    alone = is.alone;
-    empty = λ h. is.empty (since h);
-  }
+  longer_honest before_honest honest ended before after since is = grind arith
 
   -- what a program printed whose writer didn't fail is the text or a beginning of it
   any_part : (ended : Result Unit Stop) (before after : Option (List ℕ)) → writer_failed ended ≡ false → OnOk ended (Prints by contents before after)
       → OnFault ended (BeginsToPrint by contents before after) → BeginsToPrint by contents before after
-  any_part (Ok value) before after fine whole begun = whole_begins by contents before after whole
-  any_part (Err (stop.Writer error)) before after fine whole begun = no_two fine
-  any_part (Err _) before after fine whole begun = begun
+  any_part ended before after fine whole begun = grind (arith, whole_begins)
 
   -- a fault of the device or of the memory behind it
   pub faulty_behind : (honest : Type 0) (ended : Result Unit Stop) (fault : Fault) (before after : Option (List ℕ)) → writer_failed ended ≡ false → IsOutsideStore (stop.Fault fault)
@@ -72,9 +65,7 @@ module _ (by : Reader) (contents : List (List ℕ)) where
   -- ---- what was kept in a vector, and then printed
 
   no_bytes : (before after : Option (List ℕ)) (text : List ℕ) → text ≡ [] → Appends before after text → Keeps before after
-  no_bytes None after text none printed = tt
-  no_bytes (Some xs) None text none printed = absurd printed
-  no_bytes (Some xs) (Some ys) text none printed = printed ∙ ap (λ zs. xs ++ zs) none ∙ append-nil xs
+  no_bytes before after text none printed = grind (arith, append-nil)
 
   begun_moved : (before after : Option (List ℕ)) (text : List ℕ) → Appends before after text → BeginsToPrint by contents (Some []) (Some text) → BeginsToPrint by contents before after
   begun_moved before after text taken (inl none) = inl (no_bytes before after text none taken)
@@ -103,12 +94,10 @@ module _ (by : Reader) (contents : List (List ℕ)) where
   unknown_text (Err why) before is = record {}
 
   unknown_beginning : (before : Option (List ℕ)) → BeginsToPrint by contents (Some []) None → BeginsToPrint by contents before None
-  unknown_beginning before (inl none) = absurd none
-  unknown_beginning before (inr begun) = absurd begun.2.printed
+  unknown_beginning before h1 = grind arith
 
   unknown_alone : (ended : Result Unit Stop) (before : Option (List ℕ)) → IfErr ended (StandsAlone (Some []) None) → IfErr ended (StandsAlone before None)
-  unknown_alone (Ok value) before is = record {}
-  unknown_alone (Err why) before is = λ yes. absurd (is yes)
+  unknown_alone ended before is = grind arith
 
   pub moved_out : (honest : Type 0) (ended : Result Unit Stop) (before after : Option (List ℕ)) (text : List ℕ) → Appends before after text
       → Reads honest ended (Some []) (Some text) → Reads honest ended before after

@@ -11,9 +11,7 @@ use Rattle.sd_journal.specs.Receipts.{HasCommand, IsEntryAt, acked_number, acked
 
 -- a number has one entry
 pub one_entry : (first : ℕ) (journal : List Entry) (number : ℕ) (a b : Entry) → IsEntryAt first journal number a → IsEntryAt first journal number b → a ≡ b
-one_entry first journal number a b is_a is_b =
-    let place : is_a.0 ≡ is_b.0 = omega (arith, is_a.1, is_b.1) in
-    same_Some a b (sym is_a.2 ∙ ap (slice_get journal) place ∙ is_b.2)
+one_entry first journal number a b is_a is_b = grind arith
 
 -- a command at a number
 pub has_command : (first : ℕ) (journal : List Entry) (number : ℕ) (entry : Entry) → IsEntryAt first journal number entry → is_command entry ≡ true
@@ -69,5 +67,4 @@ never e = let f : false ≡ true = e in cc
 
 -- an entry that is no acknowledgement
 pub acked_none : (entry : Entry) → ((n : ℕ) → entry ≡ Acked n → ⊥) → acked_number entry ≡ None
-acked_none (Acked n) not = absurd (not n refl)
-acked_none _ not = refl
+acked_none entry not = grind arith

@@ -27,24 +27,10 @@ none_checked first journal last noted = record {
 module _ (first : ℕ) (journal : List Entry) (receipts : List Receipt) (last new : List (Option ℕ)) (r : Receipt)
     (checked : Checked first journal receipts last) (stands : Stands first journal r) (rises : Rises receipts r) where
   all_stand : AllStand first journal (receipts ++ r ∷ [])
-  all_stand k receipt got = elim (got_push receipts r receipt k got) [
-    | inl was ↦ checked.stand k receipt was
-    | inr is ↦ subst (Stands first journal) (sym is.1) stands
-  ]
+  all_stand k receipt got = grind (arith, got_push)
 
   are_rising : AreRising (receipts ++ r ∷ [])
-  are_rising j k earlier later less got_earlier got_later same =
-      elim (got_push receipts r later k got_later) [
-        | inl later_was ↦ elim (got_push receipts r earlier j got_earlier) [
-          | inl earlier_was ↦ checked.rising j k earlier later less earlier_was later_was same
-          | inr is ↦ let bound = slice_get_within receipts k later later_was in absurd (omega (arith, is.0, bound, less))
-        ]
-        | inr is ↦ elim (got_push receipts r earlier j got_earlier) [
-          | inl earlier_was ↦ let own = rises j earlier earlier_was (same ∙ ap (λ (x : Receipt). x.seat) is.1) in
-              subst (λ (x : Receipt). earlier.number < x.number) (sym is.1) own
-          | inr end ↦ absurd (omega (arith, is.0, end.0, less))
-        ]
-      ]
+  are_rising j k earlier later less got_earlier got_later same = grind (arith, got_push, slice_get_within)
 
   one_more : AreNoted (receipts ++ r ∷ []) new → Checked first journal (receipts ++ r ∷ []) new
   one_more noted = record { stand = all_stand; rising = are_rising; noted = noted }
@@ -60,9 +46,7 @@ checked_more first journal receipts last new i r within is checked stands rises 
 -- all receipts were checked
 pub all_checked : (first : ℕ) (journal : List Entry) (receipts : List Receipt) (last : List (Option ℕ)) (i : ℕ) → length receipts ≤ i
     → Checked first journal (take i receipts) last → AllStand first journal receipts × AreRising receipts
-all_checked first journal receipts last i end checked =
-    let all : take i receipts ≡ receipts = take_all i receipts end in
-    (subst (AllStand first journal) all checked.stand, subst AreRising all checked.rising)
+all_checked first journal receipts last i end checked = grind (arith, take_all)
 
 -- the fault of a receipt after those before it is the first of a receipt
 pub fault_at : (first : ℕ) (journal : List Entry) (receipts : List Receipt) (i : ℕ) (r : Receipt) (last : List (Option ℕ)) (fault : CloseFault)
@@ -74,9 +58,7 @@ fault_at first journal receipts i r last fault within is checked after =
 -- the first of a receipt is the first of all
 pub fault_is : (first : ℕ) (journal : List Entry) (receipts : List Receipt) (acks : List ℕ) (fault : CloseFault)
     → IsFaultAt first journal receipts fault → IsFault first journal receipts acks fault
-fault_is first journal receipts acks Count at = absurd (at.5)
-fault_is first journal receipts acks Acks at = absurd (at.5)
-fault_is first journal receipts acks _ at = at
+fault_is first journal receipts acks fault at = grind arith
 
 -- receipts that stand and rise have none at fault
 pub none_after : (first : ℕ) (journal : List Entry) (receipts : List Receipt) (k : ℕ) (r : Receipt) (fault : CloseFault)

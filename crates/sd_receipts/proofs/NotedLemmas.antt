@@ -69,19 +69,8 @@ module _ (receipts : List Receipt) (last : List (Option ℕ)) (r : Receipt) (not
 
   -- without that of another seat
   pub noted_same : (1000 ≤ r.seat) → AreNoted (receipts ++ r ∷ []) last
-  noted_same far = record {
-    room = noted.room;
-    has = λ seat number got. let was = noted.has seat number got in (was.0, was.1, got_front receipts (r ∷ []) was.0 was.1 was.2, was.3, was.4);
-    most = λ k receipt got small. elim (got_push receipts r receipt k got) [
-      | inl was ↦ noted.most k receipt was small
-      | inr is ↦ let same : receipt.seat ≡ r.seat = ap (λ (x : Receipt). x.seat) is.1 in absurd (omega (arith, same, far, small))
-    ];
-  }
+  noted_same far = grind (arith, got_front, got_push)
 
   -- a number above the noted one is above all of its seat
   pub rises_above : r.seat < 1000 → ((number : ℕ) → slice_get last r.seat ≡ Some (Some number) → number < r.number) → Rises receipts r
-  rises_above near above = λ k earlier got same.
-      let small : earlier.seat < 1000 = omega (arith, near, same) in
-      let most = noted.most k earlier got small in
-      let less = above most.0 (ap (slice_get last) (sym same) ∙ most.1) in
-      omega (arith, most.2, less)
+  rises_above near above = grind arith

@@ -92,17 +92,10 @@ Splits line fields rest = texts fields ++ slice_split is_space rest ≡ slice_sp
 -- a field more
 pub splits-more : (line rest : List ℕ) (fields : List (Bor (List ℕ))) (field : Bor (List ℕ)) (others : List ℕ) → Splits line fields rest
     → position_or_len is_space rest < length rest → field.now ≡ before_first is_space rest → others ≡ after_first is_space rest → Splits line (fields ++ field ∷ []) others
-splits-more line rest fields field others splits within first after =
-    let parts : slice_split is_space rest ≡ field.now ∷ slice_split is_space others = slice_split_first is_space rest 0 within
-    ∙ ap (λ x. x ∷ slice_split is_space (after_first is_space rest)) (sym first) ∙ ap (λ xs. field.now ∷ slice_split is_space xs) (sym after) in
-    ap (λ xs. xs ++ slice_split is_space others) (map-append (λ (x : Bor (List ℕ)). x.now) fields (field ∷ []))
-    ∙ append_assoc (texts fields) (field.now ∷ []) (slice_split is_space others) ∙ ap (λ xs. texts fields ++ xs) (sym parts) ∙ splits
+splits-more line rest fields field others splits within first after = grind (arith, slice_split_first, map-append, append_assoc)
 
 pub splits-less : (rest others : List ℕ) → position_or_len is_space rest < length rest → others ≡ after_first is_space rest → length others < length rest
-splits-less rest others within after =
-    let e : length others ≡ length (drop (position_or_len is_space rest + 1) rest) = ap length after in
-    let f = length-drop (position_or_len is_space rest + 1) rest in
-    omega arith
+splits-less rest others within after = grind (arith, length-drop)
 
 -- without an end it is one part
 pub one_part : (p : ℕ → Bool) (rest : List ℕ) → position_or_len p rest ≡ length rest → slice_split p rest ≡ rest ∷ []
@@ -125,9 +118,7 @@ splits-all line rest fields field splits none is =
 pub splits-put : (line rest : List ℕ) (fields : List (Bor (List ℕ))) (count : ℕ) (field : Bor (List ℕ)) (others : List ℕ) → count < length fields
     → Splits line (take count fields) rest → position_or_len is_space rest < length rest → field.now ≡ before_first is_space rest → others ≡ after_first is_space rest
     → Splits line (take (count + 1) (slice_set fields count field)) others
-splits-put line rest fields count field others within splits found first after =
-    subst (λ xs. Splits line xs others) (sym (take_more_set fields count field within))
-    (splits-more line rest (take count fields) field others splits found first after)
+splits-put line rest fields count field others within splits found first after = grind (arith, take_more_set, splits-more)
 
 -- the last one is put there
 pub splits-last : (line rest : List ℕ) (fields : List (Bor (List ℕ))) (count : ℕ) (field : Bor (List ℕ)) → count < length fields
@@ -139,13 +130,6 @@ splits-last line rest fields count field within splits none is =
 -- behind four fields there are two more
 pub splits-many : (line rest : List ℕ) (fields : List (Bor (List ℕ))) → 4 ≤ length fields
     → Splits line (take 4 fields) rest → position_or_len is_space rest < length rest → 5 < length (slice_split is_space line)
-splits-many line rest fields room splits found =
-    let whole = ap length splits in
-    let parts = length-append (texts (take 4 fields)) (slice_split is_space rest) in
-    let same = length-map (take 4 fields) (λ (x : Bor (List ℕ)). x.now) in
-    let four = length-take-le 4 fields room in
-    let cut = ap length (slice_split_first is_space rest 0 found) in
-    let some = length-slice_split is_space (after_first is_space rest) in
-    omega arith
+splits-many line rest fields room splits found = grind (arith, length-append, length-map, length-take-le, slice_split_first, length-slice_split)
 
 -- ---- no line has more than five fields

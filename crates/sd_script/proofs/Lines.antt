@@ -21,8 +21,7 @@ meaning_of-kept line text kept = rw (is_utf8-from_IsUtf8 line text, kept) refl
 
 -- a line is skipped where it is empty or its first byte is `#`
 pub is_skipped-tests : (line : List ℕ) → is_skipped line ≡ ((length line == 0) || (slice_index line 0 == 35))
-is_skipped-tests [] = refl
-is_skipped-tests (b ∷ bs) = grind (arith, nat_tests)
+is_skipped-tests line = grind arith
 
 -- the same of a text with the line's bytes, whose tests gave `empty` and `first`
 pub is_skipped-by : (line text : List ℕ) (empty first : Bool) → text ≡ line → empty ≡ (length text == 0) → first ≡ (slice_index text 0 == 35)
@@ -31,6 +30,4 @@ is_skipped-by line text empty first same e f = rw (e, f, same) (is_skipped-tests
 
 -- an empty one is skipped, whatever the other test would give
 pub is_skipped-empty : (line text : List ℕ) (empty : Bool) → text ≡ line → empty ≡ (length text == 0) → empty ≡ true → is_skipped line ≡ true
-is_skipped-empty line text empty same e is_true =
-    let test : (length line == 0) ≡ true = rw (← same) (sym e ∙ is_true) in
-    is_skipped-tests line ∙ rw test refl
+is_skipped-empty line text empty same e is_true = grind arith

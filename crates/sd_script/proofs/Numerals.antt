@@ -22,12 +22,10 @@ Decides-numeral : (radix : ℕ) (ds : List ℕ) → Decides (nat_lt 0 (length ds
 Decides-numeral radix ds = Decides-and _ _ (Decides-and _ _ (Decides-ltb 0 (length ds)) (Decides-digits radix ds)) (Decides-ltb (digits_value radix ds) (2 ^ 64))
 
 chosen : (b : Bool) (P : Type 0) (n : ℕ) → Decides b P → P → (if b then Some n else None) ≡ Some n
-chosen true P n d p = refl
-chosen false P n d p = cc (d.1 p)
+chosen b P n d p = grind arith
 
 not_chosen : (b : Bool) (P : Type 0) (n : ℕ) → Decides b P → (P → ⊥) → (if b then Some n else None) ≡ None
-not_chosen true P n d not_so = absurd (not_so (d.0 refl))
-not_chosen false P n d not_so = refl
+not_chosen b P n d not_so = grind arith
 
 -- the value of one of the digits
 digit_below : (radix : ℕ) (ds : List ℕ) (i : ℕ) → AllDigits radix ds → i < length ds → digit_value (get_or ds i 0) < radix
@@ -36,10 +34,7 @@ digit_below radix (c ∷ cs) zero all within = all.0
 digit_below radix (c ∷ cs) (suc i) all within = digit_below radix cs i all.1 (omega arith)
 
 pub large-more : (radix number : ℕ) → 1 ≤ radix → (2 ^ 64 - 1) / radix < number → 2 ^ 64 ≤ number * radix
-large-more radix number some less = elim (cases_lt (number * radix) (2 ^ 64)) [
-  | inl below ↦ (let most = le-div number (2 ^ 64 - 1) radix some (omega arith) in absurd (omega arith))
-  | inr above ↦ above
-]
+large-more radix number some less = grind arith
 
 -- a byte that is no digit
 pub numeral-unfit : (radix : ℕ) (ds : List ℕ) (i : ℕ) → i < length ds → radix ≤ digit_value (get_or ds i 0) → numeral_of radix ds ≡ None
@@ -57,11 +52,7 @@ reads-none radix ds = record { digits = tt; value = refl; small = omega arith }
 
 pub reads-more : (radix : ℕ) (ds : List ℕ) (i number : ℕ) → Reads radix ds i number → i < length ds → digit_value (get_or ds i 0) < radix
     → number * radix + digit_value (get_or ds i 0) < 2 ^ 64 → Reads radix ds (i + 1) (number * radix + digit_value (get_or ds i 0))
-reads-more radix ds i number reads within below small = record {
-  digits = digits_more radix ds i within reads.digits below;
-  value = ap (λ n. n * radix + digit_value (get_or ds i 0)) reads.value ∙ sym (digits_value_more radix ds i within);
-  small = small;
-}
+reads-more radix ds i number reads within below small = grind (arith, digits_more, digits_value_more)
 
 pub numeral-read : (radix : ℕ) (ds : List ℕ) (i number : ℕ) → Reads radix ds i number → 0 < length ds → i ≡ length ds → numeral_of radix ds ≡ Some number
 numeral-read radix ds i number reads some at_end =

@@ -40,8 +40,7 @@ digit_read value table h byte lt =
 
 -- a result with a value
 pub ok_from : (r : Result ℕ FromHexError) (value : ℕ) → Some value ≡ result_ok r → r ≡ Ok value
-ok_from (Ok x) value e = ap (λ (o : Option ℕ). Ok (unwrap_or o 0)) (sym e)
-ok_from (Err _) value e = cc e
+ok_from r value e = grind arith
 
 -- a pair that isn't of digits
 pub unfit_from : (s bytes : List ℕ) (i : ℕ) → 2 * i + 1 < length s

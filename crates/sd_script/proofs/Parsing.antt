@@ -31,10 +31,7 @@ pub record Parsed (script rest : List ℕ) (number : ℕ) (requests : List Line)
 -- ---- where a text's first line ends
 
 pub line_at : (text : List ℕ) (end : ℕ) → IsFirstByte (is_byte 10) text (Some end) → lines_of text ≡ take end text ∷ lines_of (drop (end + 1) text)
-line_at text end first =
-    let within = first.0.high in
-    let place = position_or_len_is is_newline text end 0 (omega arith) (λ k l. false_from_ne_true (is_newline (get_or text k 0)) (first.0.before k (omega arith) l)) (λ _. first.1) in
-    slice_split_first is_newline text 0 (omega arith) ∙ ap (λ k. take k text ∷ lines_of (drop (k + 1) text)) place
+line_at text end first = grind (arith, position_or_len_is, false_from_ne_true, slice_split_first)
 
 pub line_alone : (text : List ℕ) → IsFirstByte (is_byte 10) text None → lines_of text ≡ text ∷ []
 line_alone text none = one_part is_newline text
@@ -43,10 +40,7 @@ line_alone text none = one_part is_newline text
 -- ---- lists of which none passes a test
 module _ {X : Type 0} (p : X → Bool) where
   passes_not : (x : X) (xs : List X) → position_or_len p (x ∷ xs) ≡ length (x ∷ xs) → (p x ≡ false) × (position_or_len p xs ≡ length xs)
-  passes_not x xs none = elim (cases_Bool (p x)) [
-    | inl here ↦ absurd (let f : position_or_len p (x ∷ xs) ≡ 0 = rw here refl in omega arith)
-    | inr there ↦ (there, (let f : position_or_len p (x ∷ xs) ≡ 1 + position_or_len p xs = rw there refl in omega arith))
-  ]
+  passes_not x xs none = grind arith
 
   none_more : (xs : List X) (y : X) → position_or_len p xs ≡ length xs → p y ≡ false → position_or_len p (xs ++ y ∷ []) ≡ length (xs ++ y ∷ [])
   none_more [] y none fails = rw fails refl

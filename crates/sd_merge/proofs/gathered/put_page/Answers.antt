@@ -6,8 +6,8 @@ use Rattle.sd_image.specs.declared.table.SpaceTable.{SpaceTable}
 use Rattle.sd_image.specs.Runs.{run_ways}
 use Rattle.sd_rounds.specs.Tables.{EndBefore, listed}
 use Rattle.sd_merge.specs.Gathered.{AreGathered, IsPut, SpaceIsBegun}
-use Rattle.sd_rounds.proofs.TableLemmas.{last_ends, same_listed}
-use Rattle.sd_merge.proofs.GatheredLemmas.{first_space, next_space, longer_space, last_runs, on_ok_both, sourced}
+use Rattle.sd_rounds.proofs.TableLemmas.{last_ends, same_listed, on_ok_both}
+use Rattle.sd_merge.proofs.GatheredLemmas.{first_space, next_space, longer_space, last_runs, sourced}
 use Rattle.sd_merge.proofs.gathered.put_page.Goals as goal
 
 pub returns-in_default-clause-put : goal.returns-in_default-clause-put
