@@ -1,5 +1,5 @@
 -- The areas that meet or touch a run of pages, by their places in the list.
-use Rattle.std.proofs.Common.{◌≡◌, ◌⊎◌, ℕ, zero, suc, ◌+◌, ◌-◌, ◌<◌, ◌≤◌, Bool, true, false, cond, List, [], ◌∷◌, ◌++◌, length, take, drop, get_or, Option, Some, None, Result, Ok, Err, OnOk, IfErr, refl, sym, ap, subst, ◌∙◌, arith, inl, inr}
+use Rattle.std.proofs.Common.{◌≡◌, ◌⊎◌, ℕ, zero, suc, ◌+◌, ◌-◌, ◌<◌, ◌≤◌, Bool, true, false, cond, List, [], ◌∷◌, ◌++◌, length, take, drop, get_or, Option, Some, None, Result, Ok, Err, OnOk, IfErr, refl, sym, ap, subst, ◌∙◌, arith}
 use Rattle.std.specs.Prelude.{nat_lt, slice_range}
 use Rattle.std.specs.List.{splice, AllWithin, position}
 use Rattle.std.specs.List.Sorted.{IsPartitionedBy, IsPartitionPoint}
@@ -157,7 +157,7 @@ bare_fits [] first count e = gap_fits [] [] [] first count (record { maximal = t
 bare_fits (area ∷ areas) first count e = absurd (omega (arith, e))
 
 refused_by : (r : Result PageMap Errno) (e : AreaError) (long : Type 0) → (long → r ≡ Err Enomem) → (e ≡ OutOfMemory) ⊎ ((e ≡ Refused Enomem) × long) → RefusesAsDue r e
-refused_by r e long full h4 = grind arith
+refused_by r e long full given = grind arith
 
 pub run_refused : (old placed : List Area) (area : Area) (e : AreaError) → HasRun old placed area → (e ≡ OutOfMemory) ⊎ ((e ≡ Refused Enomem) × (1024 < length placed))
     → RefusesAsDue (within_areas (set_pages (page_map_of old) area.first area.count area.prot)) e

@@ -1,5 +1,5 @@
 -- What a call gives, from the areas that it made.
-use Rattle.std.proofs.Common.{◌≡◌, ℕ, ◌<◌, ◌≤◌, ◌^◌, Bool, true, false, not, cond, ◌==◌, List, [], length, Option, Some, None, refl, sym, ap, subst, ◌∙◌, inl, inr, ◌%◌, arith}
+use Rattle.std.proofs.Common.{◌≡◌, ℕ, ◌<◌, ◌≤◌, Bool, true, false, not, cond, ◌==◌, List, [], length, Option, Some, None, refl, sym, ap, subst, ◌∙◌, ◌%◌, arith}
 use Rattle.std.specs.Prelude.{nat_lt, IsSome, Ok, Err, Result, IfSome, IfOk, IfErr, is_some}
 use Rattle.std.specs.Cmp.{nat_cmp_total}
 use Rattle.std.specs.Ordering.{nat_cmp}

@@ -1,18 +1,18 @@
 -- The areas that `areas_of` makes of a space's entries are the areas of that space.
-use Rattle.std.proofs.Common.{◌≡◌, ℕ, ◌+◌, ◌<◌, ◌^◌, Bool, true, false, cond, ◌&&◌, ◌==◌, T, List, [], ◌∷◌, Option, Some, None, refl, sym, ap, subst, ◌∙◌, arith, inl, inr}
+use Rattle.std.proofs.Common.{◌≡◌, ℕ, ◌+◌, ◌<◌, ◌^◌, Bool, true, false, cond, ◌&&◌, ◌==◌, T, List, [], ◌∷◌, Option, Some, None, refl, sym, ap, ◌∙◌, arith, inl, inr}
 use Rattle.std.specs.Prelude.{nat_lt, IsSome, is_some}
 use Rattle.std.specs.declared.cmp.Ordering.TheVariants.{Less, Equal, Greater}
 use Rattle.std.specs.Ordering.{nat_cmp, eq_by_cmp, is_lt}
 use Rattle.std.specs.FinMap as finmap
 use Rattle.std.specs.FinMap.{find, is_sorted, get-entries, entries_sorted}
-use Rattle.std.proofs.lemmas.Bool.{and_parts, eqb-true, cases_Bool, cond-true, cond-false, cases_lt, cases_order, ltb-true}
+use Rattle.std.proofs.lemmas.Bool.{and_parts, eqb-true, cases_Bool, cond-true}
 use Rattle.sd_areas.specs.declared.area.Area.{Area}
 use Rattle.sd_areas.specs.declared.prot.Prot.{Prot}
 use Rattle.sd_areas.specs.Pages.{is_within}
 use Rattle.sd_areas.specs.Areas.{PageMap, prot_in, AreMaximal, AreAreasOf, AreInSpace, put_page_before, areas_of_entries, areas_of}
 use Rattle.sd_areas.specs.Runs.{is_area_continued}
-use Rattle.sd_areas.proofs.Maximal.{same_prot, follows_on, follows_apart, first_area, inside, below, above}
-use Rattle.sd_areas.proofs.PagesOf.{tied, untied}
+use Rattle.sd_areas.proofs.Maximal.{same_prot, follows_on, follows_apart, first_area}
+use Rattle.sd_areas.proofs.PagesOf.{tied}
 pub use Rattle.sd_areas.proofs.Unique.{one_list}
 
 FirstAbove : ℕ → List Area → Type 0

@@ -1,14 +1,14 @@
 -- One more area behind the others.
-use Rattle.std.proofs.Common.{◌≡◌, ℕ, ◌+◌, ◌<◌, ◌≤◌, ◌^◌, true, false, cond, List, [], ◌∷◌, ◌++◌, length, Option, Some, None, refl, sym, ap, subst, ◌∙◌, arith, inl, inr}
+use Rattle.std.proofs.Common.{◌≡◌, ℕ, ◌+◌, ◌<◌, ◌≤◌, ◌^◌, true, false, cond, List, [], ◌∷◌, ◌++◌, length, Option, Some, None, refl, sym, ap, subst, ◌∙◌, arith}
 use Rattle.std.specs.Prelude.{IsTrue}
-use Rattle.std.proofs.lemmas.Bool.{and_parts, eqb-true, cases_lt}
+use Rattle.std.proofs.lemmas.Bool.{and_parts, eqb-true}
 use Rattle.sd_areas.specs.declared.area.Area.{Area}
 use Rattle.sd_areas.specs.declared.prot.Prot.{Prot}
 use Rattle.sd_areas.specs.Pages.{is_within}
 use Rattle.sd_areas.specs.Prot.{prot_bits}
 use Rattle.sd_areas.specs.Areas.{prot_in, is_area_after, AreMaximal}
 use Rattle.sd_areas.specs.Runs.{last_after, area_end, end_of_all, is_area_continued, IsExtended}
-use Rattle.sd_areas.proofs.Maximal.{first_area, same_prot, follows_on, follows_apart, touching, comes_after, touches_after, inside, below, above, last_after-append, AreMaximal-append, AreMaximal-front, prot_in-append}
+use Rattle.sd_areas.proofs.Maximal.{first_area, same_prot, follows_on, follows_apart, last_after-append, AreMaximal-append, AreMaximal-front, prot_in-append}
 
 pub extended : (old : List Area) (area : Area) → AreMaximal None old → end_of_all old ≤ area.first → IsTrue (is_area_after (last_after None old) area) → IsExtended old (old ++ area ∷ []) area
 extended old area m l h = record {

@@ -1,15 +1,15 @@
 -- The area that has a page, found by its place.
-use Rattle.std.proofs.Common.{◌≡◌, ℕ, zero, suc, ◌+◌, ◌-◌, ◌<◌, ◌≤◌, Bool, true, false, cond, List, [], ◌∷◌, length, get_or, Option, Some, None, refl, sym, ap, subst, ◌∙◌, arith, inl, inr, leb, ltb}
+use Rattle.std.proofs.Common.{◌≡◌, ℕ, zero, suc, ◌-◌, ◌<◌, ◌≤◌, Bool, true, false, cond, List, [], ◌∷◌, length, get_or, Option, Some, None, refl, sym, ap, ◌∙◌, arith, leb, ltb}
 use Rattle.std.specs.Prelude.{nat_lt}
 use Rattle.std.specs.Bool.{then_some}
 use Rattle.std.specs.List.Sorted.{IsPartitionedBy, IsPartitionPoint}
-use Rattle.std.proofs.lemmas.Bool.{cond-false, cases_lt, leb-true, leb-false, le-leb, lt-ltb, le-ltb}
+use Rattle.std.proofs.lemmas.Bool.{cond-false, leb-true, leb-false, le-leb}
 use Rattle.sd_areas.specs.declared.area.Area.{Area}
 use Rattle.sd_areas.specs.declared.prot.Prot.{Prot}
 use Rattle.sd_areas.specs.Pages.{is_within}
 use Rattle.sd_areas.specs.Areas.{prot_in, AreMaximal}
 use Rattle.sd_areas.specs.Runs.{area_end}
-use Rattle.sd_areas.proofs.Maximal.{follows_on, inside, below, above, none_before}
+use Rattle.sd_areas.proofs.Maximal.{follows_on, below, above, none_before}
 
 -- whether an area begins at a page or before it
 abbrev pub begins_by : ℕ → Area → Bool

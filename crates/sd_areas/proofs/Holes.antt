@@ -5,7 +5,7 @@ use Rattle.std.proofs.lemmas.Bool.{cases_Bool, cases_lt, lt-ltb, le-ltb, or_from
 use Rattle.sd_areas.specs.declared.area.Area.{Area}
 use Rattle.sd_areas.specs.declared.prot.Prot.{Prot}
 use Rattle.sd_areas.specs.Pages.{is_within, pages_from}
-use Rattle.sd_areas.specs.Areas.{prot_in, AreMaximal, PageMap, page_map_of}
+use Rattle.sd_areas.specs.Areas.{AreMaximal, PageMap, page_map_of}
 use Rattle.sd_areas.specs.Runs.{last_after, IsMappedUpTo}
 use Rattle.sd_areas.proofs.Maximal.{FollowsOn, last_after-append, prot_in-append, none_behind, inside, inside_parts}
 use Rattle.std.proofs.Math.Seq.{take-length}

@@ -1,7 +1,7 @@
 -- What is known of areas that rise and are maximal.
 use Rattle.std.proofs.Common.{◌≡◌, ◌≢◌, ℕ, ◌+◌, ◌<◌, ◌≤◌, ◌^◌, ◌%◌, ◌/◌, Bool, true, false, cond, ◌==◌, List, [], ◌∷◌, ◌++◌, Option, Some, None, refl, sym, ap, ◌∙◌, arith, inl, inr}
 use Rattle.std.specs.Prelude.{IsTrue, if◌then◌else◌}
-use Rattle.std.proofs.lemmas.Bool.{and_parts, and_from, or_cases, or_left, or_right, lt-ltb, le-leb, ltb-true, leb-true, eqb-true, eq-eqb, ne_eqb, not-true, not_from_false, eqb-false, lt-leb, le-ltb, cases_Bool, cond-true, cond-false, and_left, and_right, both_ways, cases_lt, and_cases}
+use Rattle.std.proofs.lemmas.Bool.{and_parts, and_from, or_right, lt-ltb, le-leb, ltb-true, leb-true, eq-eqb, ne_eqb, not_from_false, lt-leb, le-ltb, cases_Bool, cond-true, cond-false, and_left, and_right}
 use Rattle.sd_areas.specs.declared.area.Area.{Area}
 use Rattle.sd_areas.specs.declared.prot.Prot.{Prot}
 use Rattle.sd_areas.specs.Pages.{is_within}

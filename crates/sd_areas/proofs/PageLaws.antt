@@ -1,8 +1,8 @@
 -- The laws of address spaces.
-use Rattle.std.proofs.Common.{◌≡◌, ℕ, ◌<◌, Bool, true, false, not, cond, ◌==◌, List, length, Option, Some, None, refl, sym, ap, subst, ◌∙◌, arith, inl, inr, ◌%◌}
+use Rattle.std.proofs.Common.{◌≡◌, ℕ, ◌<◌, Bool, false, not, cond, ◌==◌, List, length, Option, Some, None, refl, sym, ap, subst, ◌∙◌, arith, inl, inr, ◌%◌}
 use Rattle.std.specs.Prelude.{nat_lt, IsTrue, if◌then◌else◌, IsSome, Result, Ok, Err, ◌↔◌}
 use Rattle.std.specs.FinMap as finmap
-use Rattle.std.proofs.lemmas.Bool.{eqb-true, cases_Bool, cond-true, cond-false, cases_lt, lt-ltb, ltb-true, both_ways}
+use Rattle.std.proofs.lemmas.Bool.{eqb-true, cases_Bool, cond-true, cond-false, cases_lt, lt-ltb, both_ways}
 use Rattle.sd_areas.specs.declared.area.Area.{Area}
 use Rattle.sd_areas.specs.declared.prot.Prot.{Prot}
 use Rattle.sd_areas.specs.Pages.{is_within, page_of, pages_for, is_invalid, is_outside}

@@ -1,12 +1,10 @@
 -- The parts of a list of areas behind others, one area at a time.
-use Rattle.std.proofs.Common.{◌≡◌, ℕ, ◌+◌, ◌<◌, ◌≤◌, max, Bool, true, false, cond, ◌&&◌, List, [], ◌∷◌, ◌++◌, length, take, drop, get_or, Option, Some, None, refl, sym, ap, subst, ◌∙◌, arith, inl, inr}
-use Rattle.std.specs.Prelude.{nat_lt, nat_le}
+use Rattle.std.proofs.Common.{◌≡◌, ℕ, ◌+◌, ◌<◌, ◌≤◌, max, Bool, cond, ◌&&◌, List, [], ◌∷◌, ◌++◌, length, take, drop, get_or, Option, Some, None, sym, ap, subst, ◌∙◌, arith}
 use Rattle.std.proofs.lemmas.Bool.{and_parts, cases_Bool, cond-true, cond-false, leb-true}
 use Rattle.std.proofs.lemmas.List.{take_more, take-append-drop}
 use Rattle.sd_areas.specs.declared.area.Area.{Area}
 use Rattle.sd_areas.specs.declared.prot.Prot.{Prot}
-use Rattle.sd_areas.specs.Pages.{is_within}
-use Rattle.sd_areas.specs.Areas.{prot_in, AreMaximal}
+use Rattle.sd_areas.specs.Areas.{AreMaximal}
 use Rattle.sd_areas.specs.Runs.{last_after, end_of_all, HasPart, HasParts}
 use Rattle.sd_areas.proofs.Maximal.{FollowsOn, follows_on, last_after-append, AreMaximal-front, prot_in-append, none_behind}
 

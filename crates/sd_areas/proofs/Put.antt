@@ -1,12 +1,12 @@
 -- A run of pages put over the areas, or taken from them.
-use Rattle.std.proofs.Common.{◌≡◌, ℕ, ◌+◌, ◌<◌, ◌≤◌, ◌^◌, Bool, true, false, cond, ◌&&◌, List, [], ◌∷◌, Option, Some, None, refl, sym, subst, ◌∙◌, arith, inl, inr}
+use Rattle.std.proofs.Common.{◌≡◌, ℕ, ◌+◌, ◌<◌, ◌≤◌, ◌^◌, Bool, true, false, cond, ◌&&◌, List, [], ◌∷◌, Option, Some, None, refl, ◌∙◌, arith}
 use Rattle.std.specs.Prelude.{nat_lt, nat_le}
 use Rattle.std.proofs.lemmas.Bool.{cond-false, cases_lt, le-leb, lt-leb, lt-ltb, le-ltb, and_from, and_left, and_right}
 use Rattle.sd_areas.specs.declared.area.Area.{Area}
 use Rattle.sd_areas.specs.declared.prot.Prot.{Prot}
 use Rattle.sd_areas.specs.Pages.{is_within}
 use Rattle.sd_areas.specs.Areas.{prot_in, AreMaximal}
-use Rattle.sd_areas.specs.Runs.{end_of_all, IsExtended, HasParts, HasRun, HasGap}
+use Rattle.sd_areas.specs.Runs.{IsExtended, HasParts, HasRun, HasGap}
 use Rattle.sd_areas.proofs.Maximal.{follows_on, inside, below, above}
 
 -- no area has a page past the last

@@ -1,5 +1,5 @@
 -- What the parts of an audit say together.
-use Rattle.std.proofs.Common.{◌≡◌, ◌⊎◌, ◌↔◌, ℕ, Bool, List, Option, Some, IsTrue, inl, inr, subst, arith}
+use Rattle.std.proofs.Common.{◌≡◌, ◌⊎◌, ◌↔◌, ℕ, Bool, List, Option, Some, IsTrue, subst, arith}
 use Rattle.std.specs.Option.{option_map}
 use Rattle.sd_areas.specs.declared.snapshot.Snapshot.{Snapshot}
 use Rattle.sd_image.specs.Laws.{ShownOnce}

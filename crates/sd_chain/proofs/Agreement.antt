@@ -60,10 +60,10 @@ module _ (places : Places) (all : List Image) (order : AreInOrder places) (tells
   }
 
   after_there : (i j : Opened) (a b : Image) → IsToldAs i a → IsToldAs j b → catalog.IsNotNewer i j → IsNotAfter a b
-  after_there i j a b ta tb h6 = grind arith
+  after_there i j a b ta tb given = grind arith
 
   after_back : (i j : Opened) (a b : Image) → IsToldAs i a → IsToldAs j b → IsNotAfter a b → catalog.IsNotNewer i j
-  after_back i j a b ta tb h6 = grind arith
+  after_back i j a b ta tb given = grind arith
 
   tip_there : (i : Opened) (image : Image) → Contains all image → IsToldAs i image → catalog.IsTip places i → IsTip all image
   tip_there i image c told tip = record {

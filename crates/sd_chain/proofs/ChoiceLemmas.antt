@@ -6,7 +6,7 @@ use Rattle.std.proofs.lemmas.List.Elements.{Contains-push, Contains-push_cases, 
 use Rattle.sd_chain.specs.Catalog.{Opened, Places, images, IsDumpOrMerged, IsNotNewer, IsNewestAmong, IsNamedAmong, IsNewestChoice, IsNamedChoice, IsGreatest, number_at_place}
 
 not_after_step : (a b c : Opened) → IsNotNewer a b → IsNotNewer b c → IsNotNewer a c
-not_after_step a b c h3 h4 = grind arith
+not_after_step a b c given also = grind arith
 
 order_cases : (a b : Opened) → IsNotNewer a b ⊎ IsNotNewer b a
 order_cases a b = grind arith

@@ -2,7 +2,7 @@
 use Rattle.std.proofs.Common.{◌≡◌, ◌⊎◌, ◌<◌, ◌≤◌, ◌+◌, ◌-◌, ◌^◌, ℕ, zero, suc, Bool, true, false, ◌&&◌, leb, ltb, min, max, List, [], ◌∷◌, map, take, length, get_or, slice_get, Contains, Option, Some, None, IfSome, IsSome, refl, sym, ◌∙◌, ap, subst, inl, inr, arith}
 use Rattle.std.specs.Prelude.{◌↔◌, IsTrue}
 use Rattle.std.specs.List.Sorted.{IsPartitionedBy, IsPartitionPoint}
-use Rattle.std.proofs.lemmas.Bool.{and_parts, cases_lt, cases_eq, false≢true, leb-false, leb-true, le-leb, ltb-true}
+use Rattle.std.proofs.lemmas.Bool.{and_parts, cases_lt, cases_eq, false≢true, leb-true, le-leb, ltb-true}
 use Rattle.std.proofs.lemmas.Bool.Decides.{nat_tests}
 use Rattle.std.proofs.lemmas.List.{get_or_default}
 use Rattle.std.proofs.lemmas.Option.{slice_get-get_or}
@@ -119,7 +119,7 @@ least_there parent from runs at run n answer good point within got is some value
 
 -- the pages of a space are those from this number on
 from_low : (number page : ℕ) (place : ℕ × ℕ) → page < 2 ^ 35 → IsFrom place (number, page) → from_within number place ≤ page
-from_low number page place small h4 = grind arith
+from_low number page place small given = grind arith
 
 from_high : (number page : ℕ) (place : ℕ × ℕ) → page < 2 ^ 35 → from_within number place ≤ page → IsFrom place (number, page)
 from_high number page place small low = elim (cases_lt number place.0) [
@@ -242,10 +242,10 @@ first_there h items place at s found table before within got least = (
     in_take k t less under is = contains_take items at k t less under is
 
     not_less : (page : ℕ × ℕ) → IsBefore page (s.space, found) → s.space < page.0 → ⊥
-    not_less page h1 above = grind arith
+    not_less page given above = grind arith
 
     not_low : (page : ℕ × ℕ) → IsBefore page (s.space, found) → page.0 ≡ s.space → found ≤ page.1 → ⊥
-    not_low page h1 number low = grind arith
+    not_low page given number low = grind arith
 
 pub none_there : (items : List SpaceTable) (place : ℕ × ℕ) → ((t : SpaceTable) → Contains items t → IsPassed place t) → IsFirstPageFrom items place None
 none_there items place all page from has = all has.0 has.1 page.1 (subst (λ n. IsFrom place (n, page.1)) has.2 from) has.3

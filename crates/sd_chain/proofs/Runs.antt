@@ -1,5 +1,5 @@
 -- The run of a space that has a page, found by its place.
-use Rattle.std.proofs.Common.{◌≡◌, ℕ, zero, suc, ◌+◌, ◌-◌, ◌<◌, ◌≤◌, ◌^◌, true, false, ◌&&◌, ltb, leb, List, [], ◌∷◌, length, get_or, Option, Some, None, refl, sym, ◌∙◌, ap, subst, inl, inr, arith, Bool}
+use Rattle.std.proofs.Common.{◌≡◌, ℕ, zero, suc, ◌+◌, ◌-◌, ◌<◌, ◌≤◌, true, false, ltb, leb, List, [], ◌∷◌, length, get_or, Option, Some, None, sym, ◌∙◌, subst, arith, Bool}
 use Rattle.std.specs.List.{slice_get}
 use Rattle.std.specs.Prelude.{All, IfSome, IsNone, IsTrue}
 use Rattle.std.specs.Bool.{then_some}
@@ -8,8 +8,7 @@ use Rattle.std.proofs.lemmas.Bool.{and_from, and_parts, cases_lt, false≢true, 
 use Rattle.std.proofs.lemmas.Option.{get_or_from_slice_get}
 use Rattle.sd_areas.specs.Pages.{is_within}
 use Rattle.sd_image.specs.declared.run.Run.{Run}
-use Rattle.sd_image.specs.Table.{begins_behind, has_source, is_run_after, AreRuns}
-use Rattle.sd_image.proofs.SpaceLaws.{begins_end}
+use Rattle.sd_image.specs.Table.{is_run_after, AreRuns}
 
 -- whether a run begins at a page or before it
 abbrev pub begins_by : ℕ → Run → Bool

@@ -1,8 +1,8 @@
 -- The catalog of a store, and the store's images.
-use Rattle.std.proofs.Common.{◌≡◌, ◌≢◌, ◌⊎◌, ◌<◌, ◌≤◌, ◌+◌, ◌*◌, ℕ, zero, suc, Bool, true, false, nat_eq, List, [], ◌∷◌, map, length, get_or, Contains, Option, Some, None, Bor, refl, sym, ◌∙◌, ap, subst, inl, inr, arith}
-use Rattle.std.specs.Prelude.{IfSome, MatchOption, slice_index, slice_range}
+use Rattle.std.proofs.Common.{◌≡◌, ◌≢◌, ◌<◌, ◌+◌, ◌*◌, ℕ, zero, suc, Bool, true, false, nat_eq, List, [], ◌∷◌, map, get_or, Contains, Option, Some, None, Bor, refl, sym, ◌∙◌, ap, subst, inl, inr, arith}
+use Rattle.std.specs.Prelude.{IfSome, MatchOption}
 use Rattle.std.specs.List.{AllByRecursion, IsDistinct, slice_get}
-use Rattle.std.proofs.lemmas.Bool.{and_from, eq-eqb, false≢true, le-leb, ne_eqb}
+use Rattle.std.proofs.lemmas.Bool.{false≢true, ne_eqb}
 use Rattle.std.proofs.lemmas.List.Elements.{All-contains, Contains-get_or}
 use Rattle.std.proofs.lemmas.Option.{get_or_from_slice_get, none-some, same_Some, slice_get_within}
 use Rattle.sd_image.specs.declared.header.Header.{Header}
@@ -22,7 +22,7 @@ use Rattle.sd_chain.specs.Catalog.{Opened, Places, AreInOrder, place_of, images,
 use Rattle.sd_chain.specs.Catalog as catalog
 use Rattle.sd_chain.specs.Ways.{AreImages, HasPage, LiesAt}
 use Rattle.sd_chain.specs.Ways as ways
-use Rattle.sd_chain.specs.Store.{IsOpenedAs, IsCatalogOf, HasTheImages, FindsNamed, FindsTip, FindsHeld, IsInFile, bytes_at, file_at}
+use Rattle.sd_chain.specs.Store.{IsOpenedAs, IsCatalogOf, HasTheImages, FindsNamed, FindsTip, FindsHeld, IsInFile, bytes_at}
 use Rattle.sd_chain.proofs.Members.{open_place, same_serial}
 use Rattle.sd_chain.proofs.Lies.{IsResolved}
 use Rattle.sd_chain.proofs.Walks.{member_of}

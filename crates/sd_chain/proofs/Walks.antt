@@ -164,4 +164,4 @@ path_once places i last (serial ∷ rest) order fall c path =
 
 pub chain_once : (places : Places) (serial : ℕ) (list : List ℕ) → AreInOrder places → ParentsFall places → IsChain places serial list → IsDistinct nat_eq list
 unfolding IsDistinct
-chain_once places serial list order fall h5 = grind (arith, path_once, member_of)
+chain_once places serial list order fall given = grind (arith, path_once, member_of)

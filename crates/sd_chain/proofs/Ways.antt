@@ -16,7 +16,7 @@ use Rattle.sd_image.specs.declared.run.RunKind.TheVariants.{Data, Parent, Zero}
 use Rattle.sd_image.specs.declared.table.SpaceTable.{SpaceTable}
 use Rattle.sd_image.specs.Laws.{FewPages, OneKind, OnePlace}
 use Rattle.sd_image.specs.Table.{Listed, listing_of, AreRuns, AreSpaces, IsTable}
-use Rattle.sd_chain.proofs.Runs.{within_from, within_high, within_low}
+use Rattle.sd_chain.proofs.Runs.{within_high, within_low}
 use Rattle.sd_image.specs.Shows.{pages_of}
 use Rattle.sd_image.proofs.Members.{contains_at, contains_cases, contains_front, contains_later}
 use Rattle.sd_chain.specs.declared.way.Way.{Way}

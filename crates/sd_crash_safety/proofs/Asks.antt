@@ -1,7 +1,6 @@
 -- What is known of an open store once the next call of an image's plan was asked for.
 use Rattle.std.proofs.Common.{◌≡◌, ◌≢◌, ◌⊎◌, ◌↔◌, ℕ, ◌≤◌, ◌==◌, ◌&&◌, Bool, true, List, Option, Some, None, option_and_then, slice_get, slice_set, refl, sym, ◌∙◌, ap, subst, inl, inr, arith}
 use Rattle.std.proofs.lemmas.Bool.{cases_eq}
-use Rattle.std.proofs.lemmas.Option.{same_Some}
 use Rattle.sd_disk.specs.Contents.{file_at}
 use Rattle.sd_image.specs.Image.{Image}
 use Rattle.sd_image.specs.Words.{kind_number}
@@ -43,7 +42,7 @@ abbrev pub HasIt : Belief → Image → Type 0
 HasIt belief i = (belief ≡ Kept i) ⊎ (belief ≡ Closing i)
 
 has_it : (beliefs : List Belief) (slot : ℕ) (belief : Belief) (i : Image) → slice_get beliefs slot ≡ Some belief → SlotHasImage beliefs slot i → HasIt belief i
-has_it beliefs slot belief i at h5 = grind arith
+has_it beliefs slot belief i at given = grind arith
 
 it_has : (beliefs : List Belief) (slot : ℕ) (belief : Belief) (i : Image) → slice_get beliefs slot ≡ Some belief → HasIt belief i → SlotHasImage beliefs slot i
 it_has beliefs slot belief i at (inl kept) = inl (at ∙ ap Some kept)

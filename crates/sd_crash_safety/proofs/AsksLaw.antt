@@ -1,6 +1,6 @@
 -- The next call of an image's plan is asked for.
-use Rattle.std.proofs.Common.{◌≡◌, ◌≢◌, ◌⊎◌, ℕ, ◌<◌, ◌≤◌, ◌==◌, ◌&&◌, ◌||◌, Bool, true, false, if◌then◌else◌, List, [], ◌∷◌, Option, Some, None, IfSome, Contains, option_and_then, slice_get, slice_set, refl, sym, ◌∙◌, ap, subst, inl, inr, arith}
-use Rattle.std.proofs.lemmas.Bool.{cases_eq, false≢true, or_parts}
+use Rattle.std.proofs.Common.{◌≡◌, ◌⊎◌, ℕ, ◌<◌, ◌≤◌, ◌==◌, ◌&&◌, Bool, true, false, if◌then◌else◌, List, [], ◌∷◌, Option, Some, None, Contains, option_and_then, slice_get, slice_set, refl, sym, ◌∙◌, ap, subst, inl, inr, arith}
+use Rattle.std.proofs.lemmas.Bool.{cases_eq, or_parts}
 use Rattle.std.proofs.lemmas.Option.{same_Some}
 use Rattle.sd_disk.specs.Contents.{file_at}
 use Rattle.sd_image.specs.declared.header.Header.{Header}
@@ -17,8 +17,8 @@ use Rattle.sd_journal.specs.History.{History}
 use Rattle.sd_pagetable.specs.Contents.{plain_of}
 use Rattle.sd_rounds.specs.declared.image_step.ImageStep.TheVariants.{Call}
 use Rattle.sd_rounds.specs.declared.stage.Stage.{Stage}
-use Rattle.sd_rounds.specs.declared.stage.Stage.TheVariants.{Format, Freeze, Pass as PassStage, Close}
-use Rattle.sd_rounds.specs.Dumper.{IsReserved, Running, is_last, slot_of, writes_of_image}
+use Rattle.sd_rounds.specs.declared.stage.Stage.TheVariants.{Close}
+use Rattle.sd_rounds.specs.Dumper.{IsReserved, Running, is_last, slot_of}
 use Rattle.sd_rounds.specs.Files.{IsFiled, IsFiledIn}
 use Rattle.sd_rounds.specs.Made.{MadeLaws}
 use Rattle.sd_rounds.specs.Making.{Asks, Making, is_frozen_dump, is_past_freeze, with_plan}
@@ -30,9 +30,9 @@ use Rattle.sd_store_laws.specs.Needs.{IsNeededIn}
 use Rattle.sd_store_laws.specs.SlotSteps.{with_belief}
 use Rattle.sd_store_laws.specs.Store.{IsFresh, IsNext, IsNextDump, jobs}
 use Rattle.sd_crash_safety.specs.Believes.{Believes, HasStore}
-use Rattle.sd_crash_safety.specs.DumperSteps.{AsksFor, commits_dump, opens_gate}
+use Rattle.sd_crash_safety.specs.DumperSteps.{AsksFor, commits_dump}
 use Rattle.sd_crash_safety.specs.GateSteps.{GateSteps}
-use Rattle.sd_crash_safety.specs.InUse.{IsFrozenAs, IsImageOn, IsInUseOn, IsMakingOn, IsRunningOn, IsSlotFor, body_written, chain_of, lanes_of, pending_dump}
+use Rattle.sd_crash_safety.specs.InUse.{IsFrozenAs, IsImageOn, IsInUseOn, IsMakingOn, IsRunningOn, IsSlotFor, chain_of, pending_dump}
 use Rattle.sd_crash_safety.specs.StoreSteps.{MayAsk, MayOpen, QuietSteps}
 use Rattle.sd_crash_safety.specs.View.{CoreView, history_of}
 use Rattle.sd_crash_safety.proofs.Asks.{HasIt, IsChangedAt, changed_by, in_use_then, unchanged_at}
@@ -40,7 +40,7 @@ use Rattle.sd_crash_safety.proofs.AsksImage.{dump_has, plan_on}
 use Rattle.sd_crash_safety.proofs.AsksSlot.{AsksOn, AsksQuietly, AsksToClose, AsksToOpen, asks_on, image_in_stage}
 use Rattle.sd_crash_safety.proofs.BeginsImage.{none_at}
 use Rattle.sd_crash_safety.proofs.Lanes.{body_still, plan_outside}
-use Rattle.sd_crash_safety.proofs.MergeStays.{ChangesAt, below_checkpoint, fresh_of, holds_same, leaves_at, merge_then, merging_of, needed_there, own_beside, slots_at, source_there, spares_on}
+use Rattle.sd_crash_safety.proofs.MergeStays.{ChangesAt, below_checkpoint, fresh_of, leaves_at, merge_then, merging_of, needed_there, own_beside, slots_at, source_there}
 use Rattle.sd_crash_safety.proofs.OpenCore.{believes_parts}
 use Rattle.sd_crash_safety.proofs.Places.{free_there, ids_set}
 
@@ -190,7 +190,7 @@ module _ (quiet : QuietSteps) (gates : GateSteps) (made : MadeLaws) (follows : C
       to_closing j (inr is) = absurd (let no : Kept q.image ≡ Closing j = sym q.kept ∙ is in cc)
 
       to_kept : (j : Image) → HasIt (Closing q.image) j → HasIt m.belief j
-      to_kept j h1 = grind arith
+      to_kept j given = grind arith
 
   -- ---- the gate of the image that is made is opened
 
@@ -290,7 +290,7 @@ module _ (quiet : QuietSteps) (gates : GateSteps) (made : MadeLaws) (follows : C
         no_commit = (or_parts old.committing (commits_dump running request.id.call) (sym s.committing ∙ is)).1
 
         by_place : (last : Bool) → is_last running ≡ last → pending_dump image.order.kind i ≡ None
-        by_place last h1 = grind arith
+        by_place last given = grind arith
 
     opens_it : Believes new asked_now bodies files
     opens_it = believes_with (pending_dump image.order.kind i) (with_belief b.beliefs slot (Opening i)) sure_then
@@ -309,7 +309,7 @@ module _ (quiet : QuietSteps) (gates : GateSteps) (made : MadeLaws) (follows : C
         was_closed j (inr is) = absurd (let no : Closed ≡ Closing j = sym q.closed ∙ is in cc)
 
         is_opening : (j : Image) → HasIt (Opening i) j → HasIt m.belief j
-        is_opening j h1 = grind arith
+        is_opening j given = grind arith
 
         not_needed : (j : Image) → i ≡ j → IsNeededIn b.store j → ⊥
         not_needed j same needed =

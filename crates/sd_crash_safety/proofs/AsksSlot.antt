@@ -1,5 +1,5 @@
 -- What a slot is once the next call of its plan was asked for.
-use Rattle.std.proofs.Common.{◌≡◌, ◌≢◌, ◌⊎◌, ℕ, zero, suc, true, false, List, [], ◌∷◌, drop, length, map, Option, Some, None, refl, sym, ◌∙◌, ap, subst, inl, inr, arith}
+use Rattle.std.proofs.Common.{◌≡◌, ◌≢◌, ◌⊎◌, ℕ, zero, suc, true, false, List, [], ◌∷◌, drop, length, map, Option, Some, None, refl, sym, ◌∙◌, ap, subst, inr, arith}
 use Rattle.std.proofs.lemmas.Bool.{false≢true}
 use Rattle.sd_image.specs.Image.{Image, image_text}
 use Rattle.sd_image.specs.declared.header.Header.{Header}
@@ -7,7 +7,7 @@ use Rattle.sd_image.specs.Table.{Listed, table_text}
 use Rattle.sd_gate.specs.declared.call.Call.{Call}
 use Rattle.sd_gate.specs.declared.call.Call.TheVariants.{Write, WriteHeader, Close as CloseCall, Open, Cut, Sync}
 use Rattle.sd_gate.specs.declared.phase.Phase.{Phase}
-use Rattle.sd_gate.specs.declared.phase.Phase.TheVariants.{Raw, RawClosing, Whole, Closing as ClosingPhase, Shut, ShutSynced, Bare, Writing, Ready, Opening as OpeningPhase, Doubt, DoubtSynced}
+use Rattle.sd_gate.specs.declared.phase.Phase.TheVariants.{Whole, Bare, Writing}
 use Rattle.sd_gate.specs.declared.slot_state.SlotState.{SlotState}
 use Rattle.sd_gate.specs.declared.slot_state.SlotState.TheVariants as slot_state
 use Rattle.sd_gate.specs.Laws.{Leads}
@@ -17,13 +17,13 @@ use Rattle.sd_gate.specs.Requests.{Asked}
 use Rattle.sd_gate.specs.Sequences.{Calls, body_calls, format_calls, table_place}
 use Rattle.sd_rounds.specs.declared.image_order.ImageOrder.{ImageOrder}
 use Rattle.sd_rounds.specs.declared.stage.Stage.{Stage}
-use Rattle.sd_rounds.specs.declared.stage.Stage.TheVariants.{Format, Freeze, Pass as PassStage, Close}
+use Rattle.sd_rounds.specs.declared.stage.Stage.TheVariants.{Format, Close}
 use Rattle.sd_rounds.specs.Making.{plan_of, with_plan}
 use Rattle.sd_rounds.specs.MakingLaws.{Pages, image_of}
 use Rattle.sd_store_laws.specs.Beliefs.{Belief, Closed, Kept, Closing, Opening}
 use Rattle.sd_store_laws.specs.Gates.{IsBelievedAs}
 use Rattle.sd_crash_safety.specs.InUse.{AreLeft, ClosesBody, IsFormatted, IsFormatting, IsSlotFor, calls_left, is_opening_at, kind_of_call, pending_dump}
-use Rattle.sd_crash_safety.proofs.Leads.{is_whole, leads_end, leads_head}
+use Rattle.sd_crash_safety.proofs.Leads.{leads_end, leads_head}
 
 -- the image that a stage writes into its slot
 abbrev pub image_in_stage : Stage → Pages → Option Image

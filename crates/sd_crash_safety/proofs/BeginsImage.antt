@@ -1,6 +1,6 @@
 -- The next image of a checkpoint begins.
-use Rattle.std.proofs.Common.{◌≡◌, ◌≢◌, ℕ, ◌+◌, ◌<◌, ◌==◌, ◌&&◌, Bool, true, false, if◌then◌else◌, List, [], ◌∷◌, ◌++◌, length, Option, Some, None, IfSome, Contains, option_and_then, slice_get, refl, sym, ◌∙◌, ap, subst, inl, inr, arith}
-use Rattle.std.proofs.lemmas.Bool.{false≢true, ne_eqb}
+use Rattle.std.proofs.Common.{◌≡◌, ◌≢◌, ℕ, ◌+◌, ◌<◌, ◌==◌, ◌&&◌, Bool, true, false, if◌then◌else◌, List, [], ◌∷◌, ◌++◌, length, Option, Some, None, IfSome, Contains, slice_get, refl, sym, ◌∙◌, ap, subst, arith}
+use Rattle.std.proofs.lemmas.Bool.{ne_eqb}
 use Rattle.sd_disk.specs.Contents.{file_at}
 use Rattle.sd_image.specs.Image.{Image}
 use Rattle.sd_image.specs.Words.{kind_number}
@@ -12,7 +12,7 @@ use Rattle.sd_gate.specs.Requests.{Asked}
 use Rattle.sd_rounds.specs.Dumper.{Running, order_of, slot_of, writes_of_image}
 use Rattle.sd_rounds.specs.Making.{Making, begun_image}
 use Rattle.sd_rounds.specs.MakingLaws.{MakingLaws}
-use Rattle.sd_store_laws.specs.Beliefs.{Belief, image_at, image_in}
+use Rattle.sd_store_laws.specs.Beliefs.{Belief, image_at}
 use Rattle.sd_store_laws.specs.InUse.{IsCatalogInUse, SlotHasImage}
 use Rattle.sd_store_laws.specs.Makers.{IsAboveStore}
 use Rattle.sd_store_laws.specs.Store.{Store, jobs}
@@ -70,7 +70,7 @@ held_in_use old new beliefs serial held others use_old = record {
         by_test false is = sym (held other ∙ ap (λ t. if t then Some None else place_of old other) is) ∙ at
 
 pub image_of_has : (beliefs : List Belief) (slot : ℕ) (i : Image) → SlotHasImage beliefs slot i → image_at beliefs slot ≡ Some i
-image_of_has beliefs slot i h3 = grind arith
+image_of_has beliefs slot i given = grind arith
 
 -- ---- a number above all
 

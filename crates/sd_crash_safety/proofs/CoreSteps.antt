@@ -1,5 +1,5 @@
 -- What a core believes stays where the store does.
-use Rattle.std.proofs.Common.{◌≡◌, ℕ, Bool, List, ◌∷◌, length, Option, Some, None, IfSome, refl, sym, ◌∙◌, ap, subst, arith}
+use Rattle.std.proofs.Common.{◌≡◌, ℕ, Bool, List, ◌∷◌, Option, Some, None, refl, sym, ◌∙◌, ap, subst, arith}
 use Rattle.sd_image.specs.Image.{Image}
 use Rattle.sd_command.specs.declared.command.Command.{Command}
 use Rattle.sd_command.specs.declared.reply.Reply.{Reply}
@@ -21,7 +21,7 @@ use Rattle.sd_crash_safety.specs.declared.standing.Standing.TheVariants.{Open}
 use Rattle.sd_crash_safety.specs.Believes.{Believes, HasStore}
 use Rattle.sd_crash_safety.specs.CoreSteps.{CoreSteps, IsCommanded, JournalsCommand, SameCore, SameStore}
 use Rattle.sd_crash_safety.specs.InUse.{IsAtWork, IsImageOn, IsInUseOn, chain_of}
-use Rattle.sd_crash_safety.specs.Knows.{Knows, SeesStore}
+use Rattle.sd_crash_safety.specs.Knows.{Knows}
 use Rattle.sd_crash_safety.specs.Merges.{IsMergeInUse}
 use Rattle.sd_crash_safety.specs.StoreSteps.{QuietSteps}
 use Rattle.sd_crash_safety.specs.View.{CoreView, history_of}

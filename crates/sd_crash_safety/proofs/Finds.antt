@@ -1,8 +1,7 @@
 -- What an opener finds in a store that is as it is believed to be.
-use Rattle.std.proofs.Common.{◌≡◌, ◌⊎◌, ℕ, Bool, true, false, List, ◌∷◌, Option, Some, None, IfSome, slice_get, refl, sym, ◌∙◌, ap, subst, inl, inr, arith}
+use Rattle.std.proofs.Common.{◌≡◌, ◌⊎◌, ℕ, true, false, List, Option, Some, None, IfSome, slice_get, subst, inl, inr, arith}
 use Rattle.std.proofs.lemmas.Bool.{cases_Bool}
 use Rattle.sd_gate.specs.Fits.{DiskLeaves}
-use Rattle.sd_gate.specs.declared.phase.Phase.{Phase}
 use Rattle.sd_gate.specs.Requests.{Asked}
 use Rattle.sd_image.specs.Image.{Image}
 use Rattle.sd_opener.specs.Looking.{Looking}
@@ -11,7 +10,6 @@ use Rattle.sd_store_laws.specs.Beliefs.{Belief, ContentsShow}
 use Rattle.sd_store_laws.specs.Gates.{LeftAsBelieved}
 use Rattle.sd_store_laws.specs.Store.{Store}
 use Rattle.sd_crash_safety.specs.Believes.{Believes, HasStore}
-use Rattle.sd_crash_safety.specs.InUse.{ids_of}
 use Rattle.sd_crash_safety.specs.Knows.{SeesStore}
 use Rattle.sd_crash_safety.specs.Laws.{OpenerFinds, ShowsAwaited}
 use Rattle.sd_crash_safety.specs.View.{CoreView, history_of}

@@ -3,13 +3,12 @@ use Rattle.std.proofs.Common.{◌≡◌, ℕ, zero, suc, ◌≤◌, true, false,
 use Rattle.std.specs.List.{AllZip}
 use Rattle.std.proofs.lemmas.Option.{same_Some}
 use Rattle.sd_image.specs.declared.header.Kind.{Kind}
-use Rattle.sd_image.specs.declared.header.Kind.TheVariants.{PreDump, Dump, Merged}
 use Rattle.sd_image.specs.Header.{AreNumbers}
 use Rattle.sd_image.specs.Image.{Image}
 use Rattle.sd_image.proofs.Members.{place_in}
 use Rattle.sd_gate.specs.Laws.{found_phase}
 use Rattle.sd_gate.specs.Requests.{Asked}
-use Rattle.sd_store_laws.specs.Beliefs.{AreSlotsOf, Belief, Closed, Kept, Closing, Opening, image_in}
+use Rattle.sd_store_laws.specs.Beliefs.{AreSlotsOf, Belief, Kept, Closing, Opening, image_in}
 use Rattle.sd_store_laws.specs.GateSteps.{FoundIsExact}
 use Rattle.sd_store_laws.specs.InUse.{CatalogIsFound, IsCatalogInUse}
 use Rattle.sd_store_laws.specs.SlotSteps.{IsFoundAs}

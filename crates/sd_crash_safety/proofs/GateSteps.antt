@@ -21,7 +21,7 @@ use Rattle.sd_store_laws.specs.Pending.{PendingShows}
 use Rattle.sd_store_laws.specs.SlotSteps.{ClosingRetires, Lacks, SlotsDrop, SlotsFollowCalls, SlotsFollowImages, SlotsFollowJobs, with_belief}
 use Rattle.sd_store_laws.specs.Steps.{StepsKeep, added, cancelled, checkpoint_begun, committed, merging, replaced, retired}
 use Rattle.sd_store_laws.specs.Store.{IsNextDump, IsNextPreDump, IsSoundStore, Store}
-use Rattle.sd_crash_safety.specs.Believes.{HasStore, IsCovered, ShowsLast, ShowsPending}
+use Rattle.sd_crash_safety.specs.Believes.{HasStore, IsCovered, ShowsPending}
 use Rattle.sd_crash_safety.specs.GateSteps.{GateSteps, GateStepsAt, IsOnlyTwin, MayClose}
 use Rattle.sd_crash_safety.specs.InUse.{NoneAt}
 use Rattle.sd_crash_safety.specs.StoreSteps.{IsShut, MayOpen, SlotIsOpened}

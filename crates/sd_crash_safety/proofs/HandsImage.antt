@@ -1,15 +1,13 @@
 -- What is known of an image once an outcome of its plan's call was handed in, and it goes on.
-use Rattle.std.proofs.Common.{◌≡◌, ◌≢◌, ◌⊎◌, ℕ, ◌==◌, ◌&&◌, true, if◌then◌else◌, List, [], ◌∷◌, Option, Some, None, refl, sym, ◌∙◌, ap, subst, inl, inr, arith}
-use Rattle.std.proofs.lemmas.Bool.{false≢true}
+use Rattle.std.proofs.Common.{◌≡◌, ◌≢◌, ◌⊎◌, ℕ, ◌==◌, ◌&&◌, true, List, [], ◌∷◌, Option, Some, None, refl, sym, ◌∙◌, ap, subst, inl, inr, arith}
 use Rattle.sd_image.specs.declared.header.Header.{Header}
 use Rattle.sd_image.specs.declared.header.Kind.{Kind}
-use Rattle.sd_image.specs.declared.header.Kind.TheVariants.{PreDump, Dump, Merged}
 use Rattle.sd_image.specs.Image.{Image, IsImage, gate, image_text}
 use Rattle.sd_image.specs.Table.{Listed}
 use Rattle.sd_image.specs.Words.{kind_number}
 use Rattle.sd_gate.specs.declared.answer.Answer.{Answer}
 use Rattle.sd_gate.specs.declared.phase.Phase.{Phase}
-use Rattle.sd_gate.specs.Calls.{buffer_back, is_done}
+use Rattle.sd_gate.specs.Calls.{is_done}
 use Rattle.sd_gate.specs.Inspections.{nothing, calls_then}
 use Rattle.sd_gate.specs.Phases.{after, body_after}
 use Rattle.sd_gate.specs.Plans.{Planned, plan_after}
@@ -18,7 +16,7 @@ use Rattle.sd_gate.specs.Sequences.{Calls}
 use Rattle.sd_pagetable.specs.Contents.{Contents}
 use Rattle.sd_rounds.specs.declared.image_order.ImageOrder.{ImageOrder}
 use Rattle.sd_rounds.specs.declared.stage.Stage.{Stage}
-use Rattle.sd_rounds.specs.declared.stage.Stage.TheVariants.{Format, Freeze, Pass as PassStage, Close}
+use Rattle.sd_rounds.specs.declared.stage.Stage.TheVariants.{Format, Pass as PassStage, Close}
 use Rattle.sd_rounds.specs.Files.{HasAreasIn, IsFiledIn}
 use Rattle.sd_rounds.specs.Making.{is_past_freeze, plan_of, stage_after, stage_behind}
 use Rattle.sd_rounds.specs.MakingLaws.{Pages, image_of}

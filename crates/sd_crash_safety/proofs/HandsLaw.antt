@@ -20,13 +20,12 @@ use Rattle.sd_gate.specs.Requests.{Asked, Made}
 use Rattle.sd_journal.specs.History.{History}
 use Rattle.sd_rounds.specs.declared.image_order.ImageOrder.{ImageOrder}
 use Rattle.sd_rounds.specs.declared.stage.Stage.{Stage}
-use Rattle.sd_rounds.specs.declared.stage.Stage.TheVariants.{Format, Freeze, Pass as PassStage, Close}
+use Rattle.sd_rounds.specs.declared.stage.Stage.TheVariants.{Format, Close}
 use Rattle.sd_rounds.specs.Dumper.{Running, writes_of_image}
-use Rattle.sd_rounds.specs.Files.{IsFiledIn}
 use Rattle.sd_rounds.specs.Keeps.{ChainWithin}
-use Rattle.sd_rounds.specs.Making.{IsReadyFor, Making, PlanGoesOn, closing_outcomes, is_frozen_dump, is_past_freeze, plan_of, stage_after}
+use Rattle.sd_rounds.specs.Making.{IsReadyFor, Making, PlanGoesOn, is_frozen_dump, is_past_freeze, plan_of, stage_after}
 use Rattle.sd_rounds.specs.MakingLaws.{DumpsImage, KeepsImage, MakingLaws, Pages, image_of}
-use Rattle.sd_rounds.specs.Pass.{Pass, data_pages}
+use Rattle.sd_rounds.specs.Pass.{Pass}
 use Rattle.sd_rounds.specs.Writes.{no_writes}
 use Rattle.sd_store_laws.specs.Beliefs.{Belief, Closed, Kept, Closing, Opening, image_at, image_in}
 use Rattle.sd_store_laws.specs.Below.{StepsGive}
@@ -176,7 +175,7 @@ removed_none old new beliefs slot i at removes in_use = record {
     before_has j k differs has = subst (λ o. (o ≡ Some (Kept j)) ⊎ (o ≡ Some (Closing j))) (set_other beliefs slot k Closed differs) has
 
     not_here : (j : Image) → SlotHasImage (slice_set beliefs slot Closed) slot j → ⊥
-    not_here j h1 = grind (arith, set_same)
+    not_here j given = grind (arith, set_same)
 
 module _ (making : MakingLaws) (old new : CoreView) (running : Running) (image next : Making) (made : Made) (phase : Phase) (asked : List (Option Asked)) (bodies files : List (List ℕ))
     (s : ImageGoesOn old running image made phase next new) (at : slice_get asked 0 ≡ Some (Some made.request)) (b : Believes old asked bodies files) where

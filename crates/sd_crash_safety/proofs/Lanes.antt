@@ -2,14 +2,11 @@
 use Rattle.std.proofs.Common.{◌≡◌, ◌≢◌, ◌⊎◌, ℕ, zero, suc, ◌<◌, true, false, List, [], ◌∷◌, drop, Option, Some, None, slice_get, slice_set, refl, sym, ◌∙◌, ap, subst, inl, inr, arith}
 use Rattle.std.proofs.lemmas.Bool.{both_ways}
 use Rattle.std.proofs.lemmas.Option.{same_Some}
-use Rattle.sd_gate.specs.declared.call.Call.TheVariants.{Write}
 use Rattle.sd_gate.specs.Laws.{WritesCommute}
 use Rattle.sd_gate.specs.Phases.{body_after}
 use Rattle.sd_gate.specs.Requests.{Asked}
-use Rattle.sd_gate.specs.Sequences.{data_place}
 use Rattle.sd_gate.specs.Plans.{Planned}
 use Rattle.sd_rounds.specs.declared.stage.Stage.{Stage}
-use Rattle.sd_rounds.specs.declared.stage.Stage.TheVariants.{Format, Freeze, Pass as PassStage, Close}
 use Rattle.sd_rounds.specs.Making.{is_passing, plan_of}
 use Rattle.sd_gate.specs.Lanes.{is_any_out}
 use Rattle.sd_rounds.specs.Writes.{no_writes}

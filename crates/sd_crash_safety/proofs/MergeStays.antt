@@ -4,7 +4,7 @@ use Rattle.std.proofs.lemmas.Bool.{cases_eq}
 use Rattle.std.proofs.lemmas.List.Elements.{Contains-append_right}
 use Rattle.std.proofs.lemmas.Option.{same_Some}
 use Rattle.sd_disk.specs.Contents.{file_at}
-use Rattle.sd_image.specs.Image.{Image, IsImage, gate}
+use Rattle.sd_image.specs.Image.{Image}
 use Rattle.sd_image.specs.Shows.{Holds, IsNamed, IsRestorable}
 use Rattle.sd_image.proofs.Members.{contains_at}
 use Rattle.sd_gate.specs.declared.phase.Phase.{Phase}
@@ -341,7 +341,7 @@ source_there phases asked bodies last store dump beliefs running merge slots m s
 
 -- what is needed stands in the catalog
 pub needed_there : (catalog : List Image) (asked : List ℕ) (i : Image) → IsNeeded catalog asked i → Contains catalog i
-needed_there catalog asked i h3 = grind arith
+needed_there catalog asked i given = grind arith
 
 -- what a list of called numbers names, and so what is reached through them, stays
 module _ (old new : List Image) (jobs : List ℕ) (named : (number : ℕ) (i : Image) → IsCalled old jobs number → IsNamed old number i → IsNamed new number i) where

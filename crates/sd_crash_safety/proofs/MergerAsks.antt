@@ -41,7 +41,6 @@ use Rattle.sd_crash_safety.specs.MergerSteps.{AsksForMerged}
 use Rattle.sd_crash_safety.specs.Merges.{IsAskedIn, IsCopyOfSource, IsCopyOn, IsMergeAt, IsMergeOn, MakesOther, lanes_in_slot, order_of_slot, request_in_slot, stage_in_slot}
 use Rattle.sd_crash_safety.specs.StoreSteps.{MayAsk, QuietSteps}
 use Rattle.sd_crash_safety.specs.View.{CoreView, history_of}
-use Rattle.sd_merge.proofs.MergingLemmas.{over_asked as over_with}
 use Rattle.sd_merge.proofs.FileLemmas.{filed_asked as filed_with}
 use Rattle.sd_crash_safety.proofs.Asks.{HasIt, IsChangedAt, changed_by, unchanged_at}
 use Rattle.sd_crash_safety.proofs.AsksImage.{plan_on}
@@ -278,7 +277,7 @@ module _ (quiet : QuietSteps) (gates : GateSteps) (files_of : FileLaws) (repeats
       to_closing j (inr is) = absurd (let no : Kept q.image ≡ Closing j = sym q.kept ∙ is in cc)
 
       to_kept : (j : Image) → HasIt (Closing q.image) j → HasIt c.belief j
-      to_kept j h1 = grind arith
+      to_kept j given = grind arith
 
   -- ---- the gate of the merged image is opened
 
@@ -369,7 +368,7 @@ module _ (quiet : QuietSteps) (gates : GateSteps) (files_of : FileLaws) (repeats
         was_closed j (inr is) = absurd (let no : Closed ≡ Closing j = sym q.closed ∙ is in cc)
 
         is_opening : (j : Image) → HasIt (Opening i) j → HasIt c.belief j
-        is_opening j h1 = grind arith
+        is_opening j given = grind arith
 
   pub merger_asks_lem : Believes new asked_now bodies files
   merger_asks_lem = elim asked_on.1 [

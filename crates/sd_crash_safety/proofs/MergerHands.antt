@@ -13,10 +13,9 @@ use Rattle.sd_gate.specs.declared.call.Call.{Call as GateCall}
 use Rattle.sd_gate.specs.declared.call.Call.TheVariants.{Read}
 use Rattle.sd_gate.specs.declared.phase.Phase.{Phase}
 use Rattle.sd_gate.specs.declared.phase.Phase.TheVariants.{Whole, Writing}
-use Rattle.sd_gate.specs.Calls.{IsLook, is_done}
+use Rattle.sd_gate.specs.Calls.{is_done}
 use Rattle.sd_gate.specs.Inspections.{nothing}
-use Rattle.sd_gate.specs.Fits.{PhaseReads}
-use Rattle.sd_gate.specs.Phases.{after, body_after, filled, is_ready}
+use Rattle.sd_gate.specs.Phases.{after, body_after, filled}
 use Rattle.sd_gate.specs.Plans.{Planned, plan_after}
 use Rattle.sd_gate.specs.Requests.{Asked, Made}
 use Rattle.sd_gate.specs.Sequences.{Calls, data_place}

@@ -1,10 +1,10 @@
 -- The merged image is open: it enters the catalog, and the images of the list begin to be closed.
 use Rattle.std.proofs.Common.{◌≡◌, ◌≢◌, ◌⊎◌, ℕ, zero, suc, ◌<◌, Bool, true, List, [], ◌∷◌, length, Option, Some, None, IfSome, Contains, option_and_then, slice_get, slice_set, refl, sym, ◌∙◌, ap, subst, inl, inr, arith}
-use Rattle.std.proofs.lemmas.Bool.{cases_Bool, cases_eq}
+use Rattle.std.proofs.lemmas.Bool.{cases_eq}
 use Rattle.std.proofs.lemmas.Option.{same_Some, slice_get_within}
 use Rattle.sd_disk.specs.Contents.{file_at}
 use Rattle.sd_image.specs.declared.header.Kind.{Kind}
-use Rattle.sd_image.specs.declared.header.Kind.TheVariants.{PreDump, Dump, Merged}
+use Rattle.sd_image.specs.declared.header.Kind.TheVariants.{PreDump, Merged}
 use Rattle.sd_image.specs.Image.{Image, IsImage, gate, image_text}
 use Rattle.sd_image.specs.Shows.{IsNamed, IsTip}
 use Rattle.sd_chain.specs.Catalog.{Changes, Names, Opened, Places, place_of}
@@ -29,7 +29,6 @@ use Rattle.sd_image.proofs.Members.{contains_at, place_in}
 use Rattle.sd_rounds.specs.declared.image_order.ImageOrder.{ImageOrder}
 use Rattle.sd_rounds.specs.declared.new_image.NewImage.{NewImage}
 use Rattle.sd_rounds.specs.declared.stage.Stage.{Stage}
-use Rattle.sd_rounds.specs.declared.stage.Stage.TheVariants.{Format, Freeze, Pass as PassStage, Close}
 use Rattle.sd_rounds.specs.Dumper.{Running}
 use Rattle.sd_rounds.specs.Files.{IsFiledIn as IsDumpFiledIn}
 use Rattle.sd_rounds.specs.Making.{Making}
@@ -50,10 +49,10 @@ use Rattle.sd_crash_safety.specs.Believes.{Believes, HasStore}
 use Rattle.sd_crash_safety.specs.Calls.{IsFree}
 use Rattle.sd_crash_safety.specs.Copies.{AreImagesOf, IsCopyAtRest, IsCopyThere, IsOrderly, StandsIn}
 use Rattle.sd_crash_safety.specs.GateSteps.{GateSteps, IsOnlyTwin}
-use Rattle.sd_crash_safety.specs.InUse.{ClosesBody, IsAtWork, IsImageOn, IsInUseOn, IsSlotFor, body_written, is_opening_at, lanes_of, pending_dump}
+use Rattle.sd_crash_safety.specs.InUse.{ClosesBody, IsAtWork, IsImageOn, IsInUseOn, IsSlotFor, pending_dump}
 use Rattle.sd_crash_safety.specs.MergerOutcomes.{MayRetire, MergedOpens, OutcomeIsBelieved}
 use Rattle.sd_crash_safety.specs.MergerSteps.{IsUncalled}
-use Rattle.sd_crash_safety.specs.Merges.{IsAskedIn, IsCopyOfSource, IsCopyOn, IsListedOn, IsMergeAt, IsMergeOn, IsOtherImage, IsSpared, IsUnmerged, MakesOther, lanes_in_slot, order_of_slot, request_in_slot, stage_in_slot}
+use Rattle.sd_crash_safety.specs.Merges.{IsAskedIn, IsCopyOfSource, IsCopyOn, IsListedOn, IsMergeAt, IsMergeOn, IsOtherImage, IsSpared, IsUnmerged, MakesOther, order_of_slot}
 use Rattle.sd_crash_safety.specs.StoreSteps.{QuietSteps, SlotIsOpened}
 use Rattle.sd_crash_safety.specs.View.{CoreView, history_of}
 use Rattle.sd_crash_safety.proofs.BeginsImage.{image_of_has}
@@ -94,7 +93,7 @@ module _ (base : Base) (history : History) (grows : Bool) (memory : Contents) (p
   -- the number of the image that the checkpoint makes isn't 0
   low_number : (dump : Option Image) (running : Option Running) → IsAtWork base history grows memory phases asked bodies last store dump beliefs running
       → (number : ℕ) → IsMakingNumber running number → 0 < number
-  low_number dump running work number h4 = grind arith
+  low_number dump running work number given = grind arith
 
 -- ---- the merged image
 
@@ -255,7 +254,7 @@ module _ (quiet : QuietSteps) (gates : GateSteps) (making : MakingLaws) (keeps :
       (has_handed old new call phase asked bodies files s.outcome at b quiet)
 
   member_then : (j : Image) → Contains (i ∷ b.store.catalog) j → (j ≡ i) ⊎ Contains b.store.catalog j
-  member_then j h1 = grind arith
+  member_then j given = grind arith
 
   adds_it : Adds b.store.catalog i (i ∷ b.store.catalog)
   adds_it j = (

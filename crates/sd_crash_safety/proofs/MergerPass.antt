@@ -11,7 +11,7 @@ use Rattle.sd_chain.specs.Catalog.{Opened, Places, place_of}
 use Rattle.sd_chain.specs.Tells.{CatalogLists}
 use Rattle.sd_gate.specs.declared.call.Call.TheVariants.{Read, Write, Close as CloseCall, Open}
 use Rattle.sd_gate.specs.declared.phase.Phase.{Phase}
-use Rattle.sd_gate.specs.declared.phase.Phase.TheVariants.{Raw, RawClosing, Whole, Closing as ClosingPhase, Shut, ShutSynced, Bare, Writing, Ready, Opening as OpeningPhase, Doubt, DoubtSynced}
+use Rattle.sd_gate.specs.declared.phase.Phase.TheVariants.{Whole, Closing as ClosingPhase, Opening as OpeningPhase, Doubt, DoubtSynced}
 use Rattle.sd_gate.specs.Laws.{BodiesFill, Leads, PlansLead, pages_body}
 use Rattle.sd_gate.specs.PlanRuns.{body_closed}
 use Rattle.sd_gate.specs.Phases.{body_after, is_ready}
@@ -23,7 +23,6 @@ use Rattle.sd_merge.specs.declared.merge_step.MergeStep.TheVariants.{ReadCall, P
 use Rattle.sd_merge.specs.declared.stage.Stage.TheVariants as copy
 use Rattle.sd_merge.specs.Copying.{Copying, Steps, StepsRead, StepsTable, StepsZero, WritesPage}
 use Rattle.sd_merge.specs.Files.{AreItsNumbers, FileLaws, FilesCopy, IsFiled, IsFiledIn}
-use Rattle.sd_merge.specs.Merger.{copying}
 use Rattle.sd_merge.specs.Merger as merger
 use Rattle.sd_merge.specs.Merging.{IsReadOf, IsSourceAt, KeepsCopy, MergeLaws, pages_after}
 use Rattle.sd_rounds.specs.Dumper.{Running}
@@ -46,7 +45,6 @@ use Rattle.sd_crash_safety.proofs.BeginsImage.{none_at}
 use Rattle.sd_crash_safety.proofs.FoundInUse.{numbers_fall}
 use Rattle.sd_crash_safety.proofs.MergerSource.{KnowsCatalog, source_in}
 use Rattle.sd_crash_safety.proofs.MergerUse.{use_then}
-use Rattle.sd_crash_safety.proofs.OpenCore.{believes_parts}
 use Rattle.sd_crash_safety.proofs.Places.{has_too, ids_set, set_same}
 use Rattle.sd_crash_safety.proofs.WritesLaw.{first_is}
 

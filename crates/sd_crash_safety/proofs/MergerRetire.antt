@@ -190,7 +190,7 @@ module _ (quiet : QuietSteps) (gates : GateSteps) (follows : CatalogFollows) (ma
       to_closing j (inr is) = absurd (let no : Kept q.image ≡ Closing j = sym q.kept ∙ is in cc)
 
       to_kept : (j : Image) → HasIt (Closing q.image) j → HasIt c.belief j
-      to_kept j h1 = grind arith
+      to_kept j given = grind arith
 
   pub merger_retires_lem : Believes new asked_now bodies files
   merger_retires_lem = elim asked_on.1 [

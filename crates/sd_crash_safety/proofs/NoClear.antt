@@ -1,9 +1,7 @@
 -- No command clears a page.
-use Rattle.std.proofs.Common.{refl, arith}
+use Rattle.std.proofs.Common.{arith}
 use Rattle.sd_command.specs.declared.command.Command.{Command}
-use Rattle.sd_command.specs.declared.command.Command.TheVariants as command
 use Rattle.sd_command.specs.declared.reply.Reply.{Reply}
-use Rattle.sd_command.specs.declared.reply.Reply.TheVariants as reply
 use Rattle.sd_command.specs.Events.{event_of}
 use Rattle.sd_rounds.specs.Keeps.{IsCall}
 

@@ -1,5 +1,5 @@
 -- A core whose store is open, from what is known of its parts.
-use Rattle.std.proofs.Common.{◌≡◌, ℕ, Bool, false, List, length, Option, None, IfSome, sym, ◌∙◌, ap, subst, arith}
+use Rattle.std.proofs.Common.{◌≡◌, ℕ, Bool, false, List, length, Option, None, arith}
 use Rattle.sd_image.specs.Image.{Image}
 use Rattle.sd_chain.specs.Catalog.{Places}
 use Rattle.sd_gate.specs.declared.phase.Phase.{Phase}
@@ -12,7 +12,6 @@ use Rattle.sd_store_laws.specs.Beliefs.{Belief}
 use Rattle.sd_store_laws.specs.Store.{Store}
 use Rattle.sd_crash_safety.specs.Believes.{Believes, HasStore}
 use Rattle.sd_crash_safety.specs.InUse.{IsInUseOn, ids_of}
-use Rattle.sd_crash_safety.specs.Knows.{SeesStore}
 use Rattle.sd_crash_safety.specs.Merges.{IsMergeInUse}
 use Rattle.sd_crash_safety.specs.View.{CoreView, history_of}
 

@@ -4,20 +4,18 @@ use Rattle.std.proofs.lemmas.Bool.{cases_eq}
 use Rattle.std.proofs.lemmas.Option.{same_Some, slice_get-get_or, slice_get_within}
 use Rattle.sd_disk.specs.Contents.{file_at}
 use Rattle.sd_gate.specs.declared.call.Call.{Call}
-use Rattle.sd_gate.specs.declared.call.Call.TheVariants.{Len, Read, Write, WriteHeader, Close, Open, Cut, Sync}
+use Rattle.sd_gate.specs.declared.call.Call.TheVariants.{Len, Close, Open, Sync}
 use Rattle.sd_gate.specs.declared.phase.Phase.{Phase}
-use Rattle.sd_gate.specs.declared.phase.Phase.TheVariants.{Raw, RawClosing, Whole, Closing, Shut, ShutSynced, Bare, Writing, Ready, Opening, Doubt, DoubtSynced}
-use Rattle.sd_gate.specs.declared.request_id.RequestId.{RequestId}
+use Rattle.sd_gate.specs.declared.phase.Phase.TheVariants.{Raw}
 use Rattle.sd_gate.specs.Calls.{IsLook, is_done}
-use Rattle.sd_gate.specs.Looks.{IsCallAt, Look, AtSync, AtLength, AtFirst, AtTable, Short, Shut as ShutLook, Broken as BrokenLook, Whole as WholeLook, IsTold, calls_behind}
+use Rattle.sd_gate.specs.Looks.{IsCallAt, Look, calls_behind}
 use Rattle.sd_gate.specs.Phases.{after, bodies_after, given_up, is_ready, phases_after, synced}
 use Rattle.sd_gate.specs.Plans.{Planned}
 use Rattle.sd_gate.specs.Requests.{Asked, Made}
 use Rattle.sd_gate.specs.Sequences.{Calls, first_looks}
-use Rattle.sd_journal.specs.Marked.{entries_of}
 use Rattle.sd_store_laws.specs.GateSteps.{GivenUpSyncs}
 use Rattle.sd_opener.specs.declared.stage.Stage.{Stage}
-use Rattle.sd_opener.specs.declared.stage.Stage.TheVariants.{Asking, Read as ReadStage, Broken}
+use Rattle.sd_opener.specs.declared.stage.Stage.TheVariants.{Asking}
 use Rattle.sd_opener.specs.Looking.{IsAtNext, Looking, OpenerAsks}
 use Rattle.sd_opener.specs.Sees.{IsToldOf, Sees, SeesSlot}
 use Rattle.sd_crash_safety.specs.declared.standing.Standing.TheVariants as standing
@@ -72,7 +70,7 @@ pub record IsLooking (slot : ℕ) (request : Asked) (stage : Stage) : Type 0 whe
   pub past : request.id.call ≢ Sync → IsPastSync stage
 
 looks_out : (slot : ℕ) (file : List ℕ) (request : Asked) (stage : Stage) → SeesSlot slot file (Some request) stage → IsLooking slot request stage
-looks_out slot file request stage h4 = grind arith
+looks_out slot file request stage given = grind arith
 
 -- ---- what is believed of the store
 

@@ -1,6 +1,6 @@
 -- The image of a pre-dump is open, and enters the catalog.
 use Rattle.std.proofs.Common.{◌≡◌, ◌≢◌, ◌⊎◌, ℕ, zero, suc, ◌+◌, ◌<◌, ◌≤◌, ◌==◌, ◌&&◌, Bool, true, false, if◌then◌else◌, List, [], ◌∷◌, drop, get_or, length, map, Option, Some, None, IfSome, Contains, option_and_then, slice_get, slice_set, refl, sym, ◌∙◌, ap, subst, inl, inr, arith}
-use Rattle.std.proofs.lemmas.Bool.{cases_eq, cases_lt, false≢true, le-leb}
+use Rattle.std.proofs.lemmas.Bool.{cases_eq, cases_lt}
 use Rattle.std.proofs.lemmas.List.Elements.{Contains-append_cases, Contains-append_right}
 use Rattle.std.proofs.lemmas.Option.{same_Some, slice_get_within}
 use Rattle.sd_disk.specs.Contents.{file_at}
@@ -18,7 +18,7 @@ use Rattle.sd_gate.specs.Requests.{Asked, Made}
 use Rattle.sd_gate.specs.Sequences.{body_calls}
 use Rattle.sd_rounds.specs.declared.image_order.ImageOrder.{ImageOrder}
 use Rattle.sd_store_laws.specs.Beliefs.{Belief, Kept, Opening, image_at, image_in}
-use Rattle.sd_crash_safety.specs.InUse.{AreExact, ClosesBody, IsImageOn, IsInUseOn, IsMakingOn, IsRunningOn, IsSlotFor, NoneAt, kind_of_call, chain_of, is_opening_at, pending_dump, body_written, ids_of, lanes_of}
+use Rattle.sd_crash_safety.specs.InUse.{AreExact, ClosesBody, IsImageOn, IsInUseOn, IsMakingOn, IsRunningOn, NoneAt, kind_of_call, chain_of, is_opening_at, pending_dump, ids_of, lanes_of}
 use Rattle.sd_chain.specs.Catalog.{Changes, place_of}
 use Rattle.sd_gate.specs.Calls.{is_done}
 use Rattle.sd_journal.specs.declared.entry.Entry.TheVariants.{Acked}
@@ -216,7 +216,7 @@ module _ (quiet : QuietSteps) (gates : GateSteps) (file : FileLaws) (gives : Ste
 
   -- an image of the store then is the one that entered, or was there
   member_then : (j : Image) → Contains (i ∷ b.store.catalog) j → (j ≡ i) ⊎ Contains b.store.catalog j
-  member_then j h1 = grind arith
+  member_then j given = grind arith
 
   first_in : Contains (i ∷ b.store.catalog) i
   first_in = (0, omega arith, refl)
@@ -370,7 +370,7 @@ module _ (quiet : QuietSteps) (gates : GateSteps) (file : FileLaws) (gives : Ste
         (subst (λ d. HasStore old.base history phases_now asked_now bodies_now b.store d b.beliefs) no_dump has_one)
 
     asks_serial : (asked_for : ℕ) → Contains (i.header.stands_for ∷ []) asked_for → asked_for < old.numbers.serial + 1
-    asks_serial asked_for h1 = grind arith
+    asks_serial asked_for given = grind arith
 
     -- another slot of the checkpoint
     other_slot : (k : ℕ) → IsReserved (after_pre_dump running opened) k → k ≢ slot

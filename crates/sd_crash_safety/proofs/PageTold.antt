@@ -1,5 +1,5 @@
 -- The bytes of a data page that was read of its image's file.
-use Rattle.std.proofs.Common.{◌≡◌, ℕ, zero, suc, ◌+◌, List, length, slice_get, slice_range, Some, refl, sym, ◌∙◌, ap, subst, arith}
+use Rattle.std.proofs.Common.{◌≡◌, ℕ, zero, suc, ◌+◌, List, length, slice_get, slice_range, Some, refl, sym, ◌∙◌, ap, arith}
 use Rattle.std.proofs.lemmas.Option.{same_Some}
 use Rattle.sd_areas.specs.Pages.{pages_from}
 use Rattle.sd_image.specs.declared.run.RunKind.TheVariants.{Data}
@@ -7,7 +7,6 @@ use Rattle.sd_image.specs.Image.{Image, IsImage}
 use Rattle.sd_image.specs.Laws.{PageInFile}
 use Rattle.sd_image.specs.Shows.{pages_of}
 use Rattle.sd_gate.specs.declared.call.Call.TheVariants.{Read}
-use Rattle.sd_gate.specs.Calls.{CallTells}
 use Rattle.sd_gate.specs.Looks.{IsTold}
 use Rattle.sd_gate.specs.Requests.{Made}
 use Rattle.sd_gate.specs.Sequences.{data_place}

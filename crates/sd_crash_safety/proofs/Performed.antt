@@ -1,24 +1,23 @@
 -- A device call that was made leaves what is believed.
-use Rattle.std.proofs.Common.{◌≡◌, ◌≢◌, ◌⊎◌, ℕ, zero, suc, Bool, true, List, [], ◌∷◌, drop, length, map, Option, Some, None, IfSome, slice_get, slice_set, refl, sym, ◌∙◌, ap, subst, inl, inr, arith}
+use Rattle.std.proofs.Common.{◌≡◌, ◌⊎◌, ℕ, zero, suc, Bool, true, List, [], ◌∷◌, drop, length, map, Option, Some, None, IfSome, slice_get, slice_set, refl, sym, ◌∙◌, ap, subst, inl, inr, arith}
 use Rattle.std.proofs.lemmas.Bool.{cases_eq}
 use Rattle.std.proofs.lemmas.Option.{same_Some}
 use Rattle.sd_disk.specs.Contents.{file_at}
 use Rattle.sd_gate.specs.declared.call.Call.{Call}
-use Rattle.sd_gate.specs.declared.call.Call.TheVariants.{Len, Read, Write, WriteHeader, Close, Open, Cut, Sync}
+use Rattle.sd_gate.specs.declared.call.Call.TheVariants.{Close}
 use Rattle.sd_gate.specs.declared.phase.Phase.{Phase}
 use Rattle.sd_gate.specs.Calls.{AreKept, IsLook}
 use Rattle.sd_gate.specs.declared.request_id.RequestId.{RequestId}
 use Rattle.sd_gate.specs.Looks.{LooksAt, IsCallAt, Look, asks}
 use Rattle.sd_gate.specs.Plans.{Planned}
-use Rattle.sd_gate.specs.Phases.{Waits, body_after, after as phase_after}
+use Rattle.sd_gate.specs.Phases.{body_after, after as phase_after}
 use Rattle.sd_gate.specs.Requests.{Asked, Made}
-use Rattle.sd_store_laws.specs.Beliefs.{Belief, Kept}
-use Rattle.sd_store_laws.specs.Gates.{MayBelieve}
+use Rattle.sd_store_laws.specs.Beliefs.{Belief}
 use Rattle.sd_crash_safety.specs.Believes.{Believes, IsCovered}
 use Rattle.sd_crash_safety.specs.Knows.{AreLooks, SeesStore}
 use Rattle.sd_crash_safety.specs.Laws.{IsMadeOf, PerformedIsBelieved}
 use Rattle.sd_image.specs.Table.{table_text}
-use Rattle.sd_image.specs.Image.{Image, IsImage, gate, image_text}
+use Rattle.sd_image.specs.Image.{Image, image_text}
 use Rattle.sd_chain.specs.Catalog.{Places}
 use Rattle.sd_gate.specs.declared.phase.Phase.TheVariants.{Bare, Whole as WholePhase}
 use Rattle.sd_gate.specs.Laws.{Leads, one_call}
@@ -27,7 +26,7 @@ use Rattle.sd_journal.specs.History.{Base, History}
 use Rattle.sd_pagetable.specs.Contents.{Contents}
 use Rattle.sd_rounds.specs.declared.image_order.ImageOrder.{ImageOrder}
 use Rattle.sd_rounds.specs.declared.stage.Stage.{Stage as RoundStage}
-use Rattle.sd_rounds.specs.declared.stage.Stage.TheVariants.{Format, Freeze, Pass as PassStage, Close as CloseStage}
+use Rattle.sd_rounds.specs.declared.stage.Stage.TheVariants.{Format, Pass as PassStage, Close as CloseStage}
 use Rattle.sd_rounds.specs.Dumper.{Running}
 use Rattle.sd_rounds.specs.Making.{Making}
 use Rattle.sd_rounds.specs.MakingLaws.{Pages, image_of}
@@ -41,12 +40,11 @@ use Rattle.sd_merge.specs.declared.stage.Stage.TheVariants as copy
 use Rattle.sd_merge.specs.Copying.{Copying}
 use Rattle.sd_merge.specs.Merger.{Doing, Retiring, due, copying, opened, retiring}
 use Rattle.sd_merge.specs.Merger as merger
-use Rattle.sd_crash_safety.specs.Merges.{IsAskedIn, IsCopyOn, IsMergeAt, IsMergeOn, IsReadOn, IsRetiredOn, IsSpared, lanes_in_slot, order_of_slot, request_in_slot, stage_in_slot}
+use Rattle.sd_crash_safety.specs.Merges.{IsAskedIn, IsCopyOn, IsMergeAt, IsMergeOn, IsReadOn, IsRetiredOn, lanes_in_slot, order_of_slot, request_in_slot, stage_in_slot}
 use Rattle.sd_store_laws.specs.Store.{Store}
 use Rattle.sd_crash_safety.specs.InUse.{AreLeft, ArePagesOf, IsAtWork, IsImageOn, IsInUseOn, IsPageOf, IsSlotFor, NoneAt, body_written, calls_left, kind_of_call, lanes_of}
 use Rattle.sd_crash_safety.specs.View.{CoreView, history_of}
 use Rattle.sd_opener.specs.declared.stage.Stage.{Stage}
-use Rattle.sd_opener.specs.declared.stage.Stage.TheVariants.{Asking, Read as ReadStage, Broken}
 use Rattle.sd_opener.specs.Looking.{Looking}
 use Rattle.sd_opener.specs.Sees.{Sees, SeesSlot}
 use Rattle.sd_crash_safety.proofs.Lanes.{lane_cases, lanes_beside, lanes_get, lanes_ids, lanes_set, put_cases}

@@ -1,5 +1,5 @@
 -- What is believed goes by the pairs of a journal, and these are the same once its front is folded.
-use Rattle.std.proofs.Common.{◌≡◌, ℕ, Bool, List, ◌++◌, Option, Some, None, IfSome, refl, sym, ◌∙◌, ap, subst, arith}
+use Rattle.std.proofs.Common.{◌≡◌, ℕ, Bool, List, ◌++◌, Option, Some, None, IfSome, ◌∙◌, ap, subst, arith}
 use Rattle.sd_gate.specs.declared.phase.Phase.{Phase}
 use Rattle.sd_gate.specs.Requests.{Asked}
 use Rattle.sd_image.specs.Image.{Image}
@@ -15,10 +15,8 @@ use Rattle.sd_rounds.specs.Making.{Making}
 use Rattle.sd_rounds.specs.MakingLaws.{Pages}
 use Rattle.sd_store_laws.specs.Beliefs.{Belief}
 use Rattle.sd_store_laws.specs.Store.{Store}
-use Rattle.sd_crash_safety.specs.declared.standing.Standing.TheVariants.{Open}
 use Rattle.sd_crash_safety.specs.Believes.{Believes, HasStore, ShowsLast, ShowsPending}
-use Rattle.sd_crash_safety.specs.InUse.{IsAtWork, IsFrozenAs, IsImageOn, IsInUseOn, IsMakingOn, IsRunningOn, chain_of}
-use Rattle.sd_crash_safety.specs.Knows.{Knows}
+use Rattle.sd_crash_safety.specs.InUse.{IsAtWork, IsFrozenAs, IsImageOn, IsInUseOn, IsMakingOn, chain_of}
 use Rattle.sd_crash_safety.specs.Trims.{trimmed}
 use Rattle.sd_crash_safety.specs.View.{CoreView, history_of}
 

@@ -1,9 +1,8 @@
 -- The steps of an image in its pass, and the freeze.
-use Rattle.std.proofs.Common.{◌≡◌, ℕ, ◌==◌, ◌&&◌, Bool, true, false, if◌then◌else◌, List, ◌∷◌, Option, Some, refl, sym, ◌∙◌, ap, subst, arith}
+use Rattle.std.proofs.Common.{◌≡◌, ℕ, if◌then◌else◌, List, ◌∷◌, Option, Some, refl, sym, ◌∙◌, ap, subst, arith}
 use Rattle.std.proofs.lemmas.Bool.{eq-eqb, false≢true}
 use Rattle.sd_disk.specs.Contents.{file_at}
 use Rattle.sd_image.specs.Image.{Image}
-use Rattle.sd_image.specs.Words.{kind_number}
 use Rattle.sd_gate.specs.declared.phase.Phase.{Phase}
 use Rattle.sd_gate.specs.Requests.{Asked}
 use Rattle.sd_journal.specs.declared.entry.Entry.TheVariants.{Freeze}
@@ -11,11 +10,11 @@ use Rattle.sd_journal.specs.History.{Base, History, at_freeze, memory_after}
 use Rattle.sd_journal.specs.Marked.{entries_of}
 use Rattle.sd_pagetable.specs.Contents.{Contents}
 use Rattle.sd_rounds.specs.declared.image_step.ImageStep.{ImageStep}
-use Rattle.sd_rounds.specs.declared.image_step.ImageStep.TheVariants.{Call, PageCall, TableCall, Frozen, Visited, Copied}
-use Rattle.sd_rounds.specs.declared.stage.Stage.TheVariants.{Freeze as FreezeStage, Pass as PassStage}
+use Rattle.sd_rounds.specs.declared.image_step.ImageStep.TheVariants.{Frozen}
+use Rattle.sd_rounds.specs.declared.stage.Stage.TheVariants.{Pass as PassStage}
 use Rattle.sd_rounds.specs.Dumper.{Running, writes_of_image}
 use Rattle.sd_rounds.specs.Files.{IsFiledIn}
-use Rattle.sd_rounds.specs.Making.{Making, Steps, is_frozen_dump, is_past_freeze}
+use Rattle.sd_rounds.specs.Making.{Making, Steps, is_past_freeze}
 use Rattle.sd_rounds.specs.MakingLaws.{DumpsImage, KeepsImage, MakingLaws, Pages, pages_after}
 use Rattle.sd_store_laws.specs.Beliefs.{Belief}
 use Rattle.sd_store_laws.specs.Store.{Store}

@@ -1,5 +1,5 @@
 -- What one more event in a record says of what a crash may leave, in both directions, and of the moments.
-use Rattle.std.proofs.Common.{◌≡◌, ⊎_elim, inl, inr, ℕ, ◌<◌, ◌≤◌, Bool, true, cond, ◌||◌, nat_eq, List, [], ◌∷◌, length, refl, sym, ap, ◌∙◌, subst, arith}
+use Rattle.std.proofs.Common.{◌≡◌, ⊎_elim, ℕ, ◌<◌, ◌≤◌, Bool, true, cond, ◌||◌, nat_eq, List, [], ◌∷◌, length, refl, sym, ◌∙◌, subst, arith}
 use Rattle.std.proofs.lemmas.Bool.{cases_lt}
 use Rattle.std.proofs.lemmas.Bool.Decides.{eqb_tells}
 use Rattle.std.proofs.lemmas.List.{get_or_past, length-set}
@@ -9,9 +9,9 @@ use Rattle.sd_disk.specs.Events.{Outside, DiskEvent, files_after}
 use Rattle.sd_disk.specs.Laws.{CallLeadsTo}
 use Rattle.sd_disk.specs.Moments.{LeftSince}
 use Rattle.sd_disk.specs.Outcomes.{Unsynced, Leaves, MayLeave, at_rest, with_write, with_cut, unsynced_after, was_synced}
-use Rattle.sd_disk.specs.declared.call.Call.TheVariants.{Measured, Read, Written, Cut as Cuts, Synced, Failed, WriteFailed, CutFailed}
-use Rattle.sd_disk.proofs.LeaveLemmas.{rest_leaves, rest_only, write_leaves, cut_leaves, write_undone, cut_undone}
-use Rattle.sd_disk.proofs.OutcomeLemmas.{Allowed, changed_at, followed, reached}
+use Rattle.sd_disk.specs.declared.call.Call.TheVariants.{Written, Cut as Cuts, Synced, WriteFailed, CutFailed}
+use Rattle.sd_disk.proofs.LeaveLemmas.{rest_only, write_leaves, cut_leaves, write_undone, cut_undone}
+use Rattle.sd_disk.proofs.OutcomeLemmas.{Allowed, changed_at, followed}
 use Rattle.sd_disk.proofs.SoundLemmas.{sound}
 use Rattle.sd_disk.proofs.StepLemmas.{torn_same, cut_same}
 

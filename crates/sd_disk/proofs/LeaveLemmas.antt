@@ -28,7 +28,7 @@ untouched_outside range ranges place free =
 
 pub untouched_still : (range : Range) (ranges : List Range) (place : ℕ) → is_touched ranges place ≡ false
     → (place < range.from) ⊎ (range.to ≤ place) → is_touched (range ∷ ranges) place ≡ false
-untouched_still range ranges place free h4 = grind arith
+untouched_still range ranges place free given = grind arith
 
 pub rest_leaves : (file : List ℕ) → Leaves (at_rest file) file
 rest_leaves file = record { no_shorter = omega arith; no_longer = omega arith; untouched = λ place near known free. refl }

@@ -5,8 +5,8 @@ use Rattle.std.proofs.lemmas.List.{set_past}
 use Rattle.sd_disk.specs.Contents.{file_at, Torn, Cut, AtSlot}
 use Rattle.sd_disk.specs.Events.{Outside, DiskEvent, failures_in, files_after}
 use Rattle.sd_disk.specs.Outcomes.{Unsynced, Leaves, MayLeave, at_rest, with_write, with_cut, unsynced_after}
-use Rattle.sd_disk.specs.declared.call.Call.TheVariants.{Measured, Read, Written, Cut as Cuts, Synced, Failed, WriteFailed, CutFailed}
-use Rattle.sd_disk.proofs.LeaveLemmas.{Covers, rest_leaves, rest_covers, write_covers, cut_covers, write_leaves, cut_leaves}
+use Rattle.sd_disk.specs.declared.call.Call.TheVariants.{Written, Cut as Cuts, Synced, WriteFailed, CutFailed}
+use Rattle.sd_disk.proofs.LeaveLemmas.{Covers, rest_leaves, rest_covers}
 use Rattle.sd_disk.proofs.OutcomeLemmas.{chosen}
 use Rattle.sd_disk.proofs.StepLemmas.{at_slot, at_slot_same, torn_same, cut_same, torn_written, cut_taken, torn_by_write, torn_by_cut}
 

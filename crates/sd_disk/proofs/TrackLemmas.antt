@@ -1,11 +1,11 @@
 -- The slots of a disk in memory keep to its record of calls.
-use Rattle.std.proofs.Common.{◌≡◌, ◌≢◌, ⊎_elim, ℕ, ◌+◌, ◌<◌, Bool, true, false, cond, ◌||◌, nat_eq, List, [], ◌∷◌, length, map, slice_index_or, slice_set, refl, sym, ap, ◌∙◌, subst, arith, get_or-set_other, get_or-set_same}
+use Rattle.std.proofs.Common.{◌≡◌, ◌≢◌, ⊎_elim, ℕ, ◌+◌, ◌<◌, Bool, true, cond, ◌||◌, nat_eq, List, [], ◌∷◌, length, map, slice_index_or, slice_set, refl, sym, ap, ◌∙◌, subst, arith, get_or-set_other, get_or-set_same}
 use Rattle.std.proofs.lemmas.Bool.{cases_eq}
 use Rattle.std.proofs.lemmas.Bool.Decides.{eqb_tells}
 use Rattle.std.proofs.lemmas.List.{length-set, length-map, same_lists, get_or_default}
 use Rattle.sd_disk.specs.Contents.{file_at}
 use Rattle.sd_disk.specs.Crash.{Only}
-use Rattle.sd_disk.specs.Events.{Outside, DiskEvent, files_after_call, files_after, failures_in}
+use Rattle.sd_disk.specs.Events.{Outside, DiskEvent, files_after_call, files_after}
 use Rattle.sd_disk.specs.Outcomes.{Leaves, MayLeave, AreSettled, at_rest, with_write, with_cut, unsynced_after, was_synced}
 use Rattle.sd_disk.specs.Slots.{held, ShadowTracks, AreTracked}
 use Rattle.sd_disk.specs.declared.call.Call.TheVariants.{Written, Cut as Cuts, Synced}

@@ -64,6 +64,4 @@ maximal_within before (a ∷ areas) (suc i) area are less is = maximal_within (S
 -- ---- the parts of a front, one behind the other
 
 pub front_parts : (o0 o1 o2 o3 o4 o5 o6 a b c d e : List ℕ) (n m : ℕ) → o0 ≡ [] → o1 ≡ o0 ++ a → o2 ≡ o1 ++ b → o3 ≡ o2 ++ c → o4 ≡ o3 ++ d → o5 ≡ o4 ++ e → o6 ≡ padded n o5 → n ≡ m → o6 ≡ padded m (a ++ b ++ c ++ d ++ e)
-front_parts o0 o1 o2 o3 o4 o5 o6 a b c d e n m e0 e1 e2 e3 e4 e5 e6 same =
-    let whole : o5 ≡ a ++ b ++ c ++ d ++ e = e5 ∙ ap (λ x. x ++ e) (e4 ∙ ap (λ x. x ++ d) (e3 ∙ ap (λ x. x ++ c) (e2 ∙ ap (λ x. x ++ b) (e1 ∙ ap (λ x. x ++ a) e0)))) in
-    e6 ∙ ap (padded n) whole ∙ ap (λ k. padded k (a ++ b ++ c ++ d ++ e)) same
+front_parts o0 o1 o2 o3 o4 o5 o6 a b c d e n m e0 e1 e2 e3 e4 e5 e6 same = grind arith

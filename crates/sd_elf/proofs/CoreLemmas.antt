@@ -33,14 +33,7 @@ headers_more k bytes =
 
 -- what a fault says isn't so of the header of a core
 header_unbroken : (bytes : List ℕ) (h : FileHeader) (f : HeaderFault) → BeginsCore bytes h → BreaksHeader (slice_range bytes 0 64) (length bytes) f → ⊥
-header_unbroken bytes h fault.Short p b = let long = p.long in omega (arith, long, b)
-header_unbroken bytes h fault.Ident p b = b p.header.ident
-header_unbroken bytes h fault.Type p b = b (sym (ap (λ (h : FileHeader). h.e_type) p.header.fields) ∙ p.header.type)
-header_unbroken bytes h fault.Machine p b = b (sym (ap (λ (h : FileHeader). h.e_machine) p.header.fields) ∙ p.header.machine)
-header_unbroken bytes h fault.Version p b = b (sym (ap (λ (h : FileHeader). h.e_version) p.header.fields) ∙ p.header.version)
-header_unbroken bytes h fault.EntrySize p b = b (sym (ap (λ (h : FileHeader). h.e_phentsize) p.header.fields) ∙ p.header.entry_size)
-header_unbroken bytes h fault.Count p b = p.header.count (ap (λ (h : FileHeader). h.e_phnum) p.header.fields ∙ b)
-header_unbroken bytes h fault.Table p b = let table = rw p.header.fields at p.header.table in omega (arith, table, b)
+header_unbroken bytes h f p b = grind arith
 
 pub core_unbroken : (bytes : List ℕ) (segments : List ProgramHeader) (f : CoreFault) → IsCoreFile bytes segments → HasCoreFault bytes f → ⊥
 core_unbroken bytes segments (core.Header f) p b = header_unbroken bytes p.header f p.begins b
@@ -62,24 +55,14 @@ never_refused (Some held) (Err e) h = λ segments is. core_unrefused held segmen
 -- ---- the fault of a segment
 
 table_headers : (held table : List ℕ) (t : IsHeaderTable held table) → program_headers_in (length table / 56) table ≡ headers_of held t.header
-table_headers held table t =
-    let n : ℕ = t.header.e_phnum in
-    let count = t.count in
-    ap (λ k. program_headers_in k table) (let e : length table / 56 ≡ n = omega (arith, count) in e) ∙ ap (program_headers_in n) t.same
+table_headers held table t = grind arith
 
 segment_error : (held table : List ℕ) (size : ℕ) (headers : List ProgramHeader) (f : CoreFault) → size ≡ length held → IsHeaderTable held table → headers ≡ program_headers_in (length table / 56) table → BreaksAtSegment size headers f → HasCoreFault held f
-segment_error held table size headers (core.Header f) whole t are b = absurd b
-segment_error held table size headers (core.Segment number f) whole t are b = record {
-  header = t.header;
-  begins = t.begins;
-  first = subst (λ hs. IsFirstSegmentFault (length held) hs number f) (are ∙ table_headers held table t) (subst (λ n. IsFirstSegmentFault n headers number f) whole b);
-}
+segment_error held table size headers f whole t are b = grind arith
 
 pub segment_told : (o : Option (List ℕ)) (table : List ℕ) (size : ℕ) (headers : List ProgramHeader) (f : CoreFault) → IfSome o (λ held. size ≡ length held) → IfSome o (λ held. size ≡ length held → IsHeaderTable held table)
     → headers ≡ program_headers_in (length table / 56) table → BreaksAtSegment size headers f → IfSome o (λ held. IsErrorOf held (error.Fault f))
-segment_told None table size headers f whole t are b = tt
-segment_told (Some held) table size headers f whole t are b = segment_error held table size headers f whole (t whole) are b
+segment_told o table size headers f whole t are b = grind arith
 
 pub whole_told : (o : Option (List ℕ)) (size : ℕ) (e : ReadError) → IfSome o (λ held. size ≡ length held) → IfSome o (λ held. size ≡ length held → IsErrorOf held e) → IfSome o (λ held. IsErrorOf held e)
-whole_told None size e whole h = tt
-whole_told (Some held) size e whole h = h whole
+whole_told o size e whole h = grind arith

@@ -38,16 +38,13 @@ same_parts f g (suc n) same =
 -- ---- pages of a run
 
 found_behind : (there : Found) (b k : ℕ) → found_on (found_on there b) k ≡ found_on there (b + k)
-found_behind found.Zero b k = refl
-found_behind (found.Data slot offset) b k = ap (found.Data slot) (let e : offset + 4096 * b + 4096 * k ≡ offset + 4096 * (b + k) = omega arith in e)
+found_behind there b k = grind arith
 
 -- pages that were read are those of the run
 pub read_pages_bytes : (contents : List (List ℕ)) (r : PlacedRun) (behind count : ℕ) (bytes : List ℕ)
     → ((k : ℕ) → k < count → slice_range bytes (4096 * k) (4096 * k + 4096) ≡ bytes_at contents (found_on (found_on r.there behind) k))
     → pages_bytes bytes count ≡ run_part_bytes contents r behind count
-read_pages_bytes contents r behind count bytes read =
-    same_parts (λ k. slice_range bytes (4096 * k) (4096 * k + 4096)) (λ k. placed_bytes contents (page_behind r (behind + k))) count (λ k less.
-    read k less ∙ ap (bytes_at contents) (found_behind r.there behind k))
+read_pages_bytes contents r behind count bytes read = grind (arith, same_parts, found_behind)
 
 pub first_more : (contents : List (List ℕ)) (r : PlacedRun) (d n : ℕ)
     → flat_map (placed_bytes contents) (first_pages r (d + n)) ≡ flat_map (placed_bytes contents) (first_pages r d) ++ run_part_bytes contents r d n

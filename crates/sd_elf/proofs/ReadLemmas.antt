@@ -42,13 +42,4 @@ page_byte held buffer s behind n m place some least at same read k less =
 pub page_read : (o : Option (List ℕ)) {T E : Type 0} (result : Result T E) (buffer page zeroed : List ℕ) (s : ProgramHeader) (behind n place : ℕ) → behind < s.p_filesz → zeroed ≡ replicate (length page) 0
     → n ≡ min (s.p_filesz - behind) (length zeroed) → place ≡ min (s.p_offset + behind) (2 ^ 64 - 1) → length buffer ≡ length (take n zeroed) → IfSome o (λ held. OnOk result (IsRead held place buffer))
     → IfSome o (λ held. s.p_offset + s.p_filesz < 2 ^ 64 → OnOk result ((k : ℕ) → k < length (buffer ++ drop n zeroed) → slice_index (buffer ++ drop n zeroed) k ≡ segment_byte held s (behind + k)))
-page_read None result buffer page zeroed s behind n place some zeros least at same read = tt
-page_read (Some held) (Err e) buffer page zeroed s behind n place some zeros least at same read = λ fits. tt
-page_read (Some held) (Ok v) buffer page zeroed s behind n place some zeros least at same read = λ fits k less.
-    let m : ℕ = length page in
-    let long_zeros : length zeroed ≡ m = ap length zeros ∙ length-replicate m 0 in
-    let few : n ≡ min (s.p_filesz - behind) m = least ∙ ap (λ x. min (s.p_filesz - behind) x) long_zeros in
-    let there : place ≡ s.p_offset + behind = omega (arith, at, fits, some) in
-    let taken : length buffer ≡ n = same ∙ length-take n zeroed ∙ omega (arith, long_zeros, few) in
-    let is = page_byte held buffer s behind n m place some few there taken read k (rw (← zeros) less) in
-    rw zeros is
+page_read o result buffer page zeroed s behind n place some zeros least at same read = grind (arith, length-replicate, length-take, page_byte)

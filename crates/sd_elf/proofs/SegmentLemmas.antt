@@ -28,15 +28,7 @@ segment_among size e (x ∷ xs) s ys p = segment_among size (extent_after e x) x
 -- ---- what a fault says isn't so of a segment that a space can have
 
 pub breaks_none : (size : ℕ) (e : Extent) (s : ProgramHeader) (f : SegmentFault) → IsSegment size e s → BreaksSegment size e s f → ⊥
-breaks_none size e s fault.Pages p (inl b) = b p.stands.start
-breaks_none size e s fault.Pages p (inr (inl b)) = b p.stands.whole
-breaks_none size e s fault.Pages p (inr (inr b)) = let some = p.stands.some in omega (arith, some, b)
-breaks_none size e s fault.Order p b = let behind = p.stands.behind in omega (arith, behind, b)
-breaks_none size e s fault.Larger p b = let part = p.bytes.part in omega (arith, part, b)
-breaks_none size e s fault.PastEnd p b = let inside = p.bytes.inside in omega (arith, inside, b)
-breaks_none size e s fault.Above p b = let below = p.below in omega (arith, below, b)
-breaks_none size e s fault.TooManyPages p b = let pages = p.pages in omega (arith, pages, b)
-breaks_none size e s fault.TooManyAreas p b = let areas = p.areas in omega (arith, areas, b)
+breaks_none size e s f p h5 = grind arith
 
 -- ---- those of memory among others
 
@@ -85,14 +77,7 @@ one_more_extent xs i d e longer less memory is after =
 -- the first that a space can't have
 pub breaks_first : (size : ℕ) (xs : List ProgramHeader) (i : ℕ) (d : ProgramHeader) (e : Extent) (f : SegmentFault) → i < length xs → is_memory (slice_index_or xs i d) ≡ true → AreSegments size no_extent (passed i xs) → e ≡ extent_of no_extent (passed i xs)
     → BreaksSegment size e (slice_index_or xs i d) f → IsFirstSegmentFault size xs i f
-breaks_first size xs i d e f less memory before is breaks = record {
-  segment = slice_index_or xs i d;
-  within = less;
-  there = get_or_default xs i d (slice_index_or xs i d) less;
-  memory = memory;
-  before = before;
-  breaks = subst (λ e. BreaksSegment size e (slice_index_or xs i d) f) is breaks;
-}
+breaks_first size xs i d e f less memory before is breaks = grind (arith, get_or_default)
 
 -- where there is such a one, a space can't have them all
 pub first_break_none : (size : ℕ) (xs : List ProgramHeader) (i : ℕ) (f : SegmentFault) → IsFirstSegmentFault size xs i f → AreSegments size no_extent (filter is_memory xs) → ⊥

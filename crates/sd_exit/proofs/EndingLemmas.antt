@@ -4,7 +4,7 @@ use Rattle.std.specs.Prelude.{if◌then◌else◌}
 use Rattle.std.proofs.KnownBytes.{Appends-kept}
 use Rattle.std.proofs.lemmas.Bool.{cond-false, cond-true}
 use Rattle.std.specs.Io.KnownBytes.{Appends, Keeps}
-use Rattle.sd_restore.specs.declared.fault.Fault.TheVariants.{EmptyChain, Damaged, Device, OutOfMemory}
+use Rattle.sd_restore.specs.declared.fault.Fault.TheVariants.{EmptyChain}
 use Rattle.sd_exit.specs.declared.stop.Stop.{Stop}
 use Rattle.sd_exit.specs.declared.stop.Stop.TheVariants as stop
 use Rattle.sd_exit.specs.Ending.{Exits, IsWrittenLast, OnFault, OnWriter, end_status, end_text, status_of}
@@ -43,7 +43,7 @@ module _ (before after : Option (List ℕ)) (refused : Bool) (status : ℕ) wher
 
   -- a program that comes to its end or is stopped with status 1 exits with one of the two
   pub at_most_one : (ended : Result Unit Stop) → ExitsSo ended → IfErr ended (λ why. status_of why ≡ 1) → status ≤ 1
-  at_most_one ended h1 one = grind arith
+  at_most_one ended given one = grind arith
 
   -- what was printed before the end stands, where the program exits with status 0
   pub printed_at_its_end : (P : Option (List ℕ) → Type 0) → ((a b : Option (List ℕ)) → Appends a b [] → P a → P b) → (ended : Result Unit Stop)
@@ -54,7 +54,7 @@ module _ (before after : Option (List ℕ)) (refused : Bool) (status : ℕ) wher
 
   -- where nothing was refused the status is another than 1, or the end's
   pub whole_but_for_one : (text : List ℕ) (wanted : ℕ) → Exits before after refused text wanted status → status ≢ 1 → refused ≡ false
-  whole_but_for_one text wanted h2 other = grind arith
+  whole_but_for_one text wanted given other = grind arith
 
 -- ---- what holds of a stop
 

@@ -1,14 +1,13 @@
 -- Frames of 4,096 bytes.
-use Rattle.std.proofs.Common.{◌≡◌, ℕ, ◌+◌, ◌≤◌, List, [], ◌∷◌, ◌++◌, length, take, drop, Option, Some, None, IsSome, refl, sym, ◌∙◌, ap, inl, inr, arith, length-append, length-drop}
+use Rattle.std.proofs.Common.{◌≡◌, ℕ, ◌+◌, ◌≤◌, List, [], ◌∷◌, ◌++◌, length, Option, Some, None, IsSome, refl, sym, ◌∙◌, ap, inl, inr, arith, length-append, length-drop}
 use Rattle.std.proofs.lemmas.List.{length-take-le}
 use Rattle.std.proofs.lemmas.Bool.{cases_eq}
-use Rattle.std.specs.Option.{option_map_or}
 use Rattle.std.specs.List.{slice_get}
 use Rattle.sd_frames.specs.declared.frame_cell.FrameCell.{FrameCell}
 use Rattle.sd_frames.specs.declared.frame_cell.FrameCell.TheVariants.{Used}
-use Rattle.sd_frames.specs.Bytes.{stored_at, zeros}
+use Rattle.sd_frames.specs.Bytes.{stored_at}
 use Rattle.sd_frames.specs.Frames.{Cell, Pool, cell_at, cell_bytes, SetsCell, HasWholeFrames}
-use Rattle.sd_frames.proofs.FrameLemmas.{frames_of, some_cell, used_slot, at_cell, got_pushed, got_before}
+use Rattle.sd_frames.proofs.FrameLemmas.{frames_of, used_slot, at_cell, got_pushed, got_before}
 
 -- a frame that is used has its bytes
 pub whole_at : (pool : Pool) (k : ℕ) → HasWholeFrames pool → IsSome (cell_at pool k) → length (cell_bytes pool k) ≡ 4096

@@ -1,7 +1,6 @@
 -- What marking adds to marks.
-use Rattle.std.proofs.Common.{◌≡◌, ◌⊎◌, ℕ, zero, suc, ◌<◌, ◌≤◌, Bool, true, List, [], ◌∷◌, length, slice_get, slice_set, Option, Some, refl, sym, ◌∙◌, ap, subst, inl, inr, arith}
+use Rattle.std.proofs.Common.{◌≡◌, ◌⊎◌, ℕ, zero, suc, ◌<◌, ◌≤◌, Bool, true, List, [], ◌∷◌, length, slice_get, slice_set, Option, Some, refl, sym, ◌∙◌, ap, inl, inr, arith}
 use Rattle.std.proofs.lemmas.Option.{same_Some, slice_get_within}
-use Rattle.std.proofs.Math.Nat.{eq-or-lt_of_le}
 use Rattle.sd_rounds.proofs.WriteLemmas.{set_count}
 use Rattle.sd_chain.specs.Catalog.{Places}
 use Rattle.sd_free_slots.specs.Marks.{IsMarkedSlot, TakesNeeded, TakesSlots}

@@ -1,8 +1,8 @@
 -- Which slots are taken.
-use Rattle.std.proofs.Common.{◌≡◌, ◌⊎◌, ℕ, ◌<◌, Bool, true, false, List, length, Contains, slice_get, Option, Some, None, sym, ◌∙◌, ap, subst, inl, inr, arith}
+use Rattle.std.proofs.Common.{◌≡◌, ◌⊎◌, ℕ, ◌<◌, Bool, true, false, List, length, Contains, slice_get, Option, Some, sym, ◌∙◌, ap, subst, inl, inr, arith}
 use Rattle.std.specs.Prelude.{◌↔◌}
 use Rattle.std.specs.Option.{option_map}
-use Rattle.std.proofs.lemmas.Option.{same_Some, slice_get_within}
+use Rattle.std.proofs.lemmas.Option.{slice_get_within}
 use Rattle.sd_chain.specs.Catalog.{Names, Opened, Places}
 use Rattle.sd_gate.specs.declared.request_id.RequestId.{RequestId}
 use Rattle.sd_merge.specs.Merger as merger
@@ -49,7 +49,7 @@ needed_of places running merge tip parent source tips parents sources old one tw
 -- ---- jobs
 
 has_to : (running : Option Running) (slot : ℕ) → Contains (pre_dump_slots running) slot ⊎ (dump_slot running ≡ Some slot) → HasSlot running slot
-has_to running slot h2 = grind arith
+has_to running slot given = grind arith
 
 has_from : (running : Option Running) (slot : ℕ) → HasSlot running slot → Contains (pre_dump_slots running) slot ⊎ (dump_slot running ≡ Some slot)
 has_from running slot has = grind arith
@@ -70,7 +70,7 @@ jobs_of running merge outs old one two three four new a b c d e =
     all slot = (((Contains (pre_dump_slots running) slot ⊎ (dump_slot running ≡ Some slot)) ⊎ (option_map merger.slot_of merge ≡ Some slot)) ⊎ IsListedSlot (merger.list_of merge) slot) ⊎ IsOutAt outs slot
 
     to : (slot : ℕ) → all slot → IsReservedBy running merge outs slot
-    to slot h1 = grind arith
+    to slot given = grind arith
 
     from : (slot : ℕ) → IsReservedBy running merge outs slot → all slot
     from slot (inl has) = inl (inl (inl (has_from running slot has)))

@@ -3,7 +3,6 @@ use Rattle.std.proofs.Common.{◌≡◌, ◌⊎◌, ℕ, ◌<◌, Bool, true, Li
 use Rattle.std.specs.Prelude.{IfSome, IsNone}
 use Rattle.std.proofs.lemmas.List.Elements.{All-contains}
 use Rattle.std.proofs.lemmas.Option.{same_Some, slice_get_within}
-use Rattle.sd_free_slots.proofs.ListLemmas.{some_of}
 use Rattle.sd_chain.specs.Catalog.{IsSoundCatalog, Names, Opened, Places, images, place_of}
 use Rattle.sd_chain.specs.Reaches.{ParentsFall, ReachesInCatalog}
 use Rattle.sd_free_slots.specs.Marks.{IsMarkedSlot, IsReachedAt, TakesNeeded, TakesSlots}

@@ -8,9 +8,8 @@ use Rattle.sd_image.proofs.HeaderRules.{header_length}
 use Rattle.sd_disk.specs.Contents.{file_after_write}
 use Rattle.sd_image.specs.declared.header.Header.{Header}
 use Rattle.sd_image.specs.declared.header.Version.{Version}
-use Rattle.sd_image.specs.declared.header.Version.TheVariants.{One, Two}
-use Rattle.sd_image.specs.Header.{HasWords, IsDigest, header_front, header_text}
-use Rattle.sd_image.specs.Words.{number_bytes, zero_bytes}
+use Rattle.sd_image.specs.Header.{HasWords, IsDigest, header_text}
+use Rattle.sd_image.specs.Words.{zero_bytes}
 use Rattle.sd_gate.specs.Laws.{AreWholePages, pages_body, page_place}
 use Rattle.sd_gate.specs.Sequences.{table_place}
 

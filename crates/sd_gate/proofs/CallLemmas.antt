@@ -1,15 +1,14 @@
 -- A slot through any one call.
-use Rattle.std.proofs.Common.{◌≡◌, ◌≢◌, ℕ, ◌<◌, lit<, Bool, true, false, List, length, refl, sym, ap, ◌∙◌, subst, arith}
+use Rattle.std.proofs.Common.{◌≡◌, ◌≢◌, ℕ, ◌<◌, lit<, Bool, true, false, List, length, refl, sym, ◌∙◌, subst, arith}
 use Rattle.std.proofs.lemmas.Bool.{false≢true}
 use Rattle.sd_disk.specs.Contents.{file_at}
 use Rattle.sd_disk.specs.Crash.{Follows, OnlyAt}
 use Rattle.sd_gate.specs.declared.call.Call.{Call}
-use Rattle.sd_gate.specs.declared.call.Call.TheVariants.{Len, Read, Write, WriteHeader, Close, Open, Cut, Sync}
+use Rattle.sd_gate.specs.declared.call.Call.TheVariants.{Write, WriteHeader, Close, Open, Cut, Sync}
 use Rattle.sd_gate.specs.declared.phase.Phase.{Phase}
-use Rattle.sd_gate.specs.declared.phase.Phase.TheVariants.{Raw, RawClosing, Whole, Closing, Shut, ShutSynced, Bare, Writing, Ready, Opening, Doubt, DoubtSynced}
+use Rattle.sd_gate.specs.declared.phase.Phase.TheVariants.{Ready}
 use Rattle.sd_gate.specs.Calls.{contents_after, Makes, IsBehindGate, IsLook, IsSoundOrder, call_of}
 use Rattle.sd_gate.specs.declared.order.Order.{Order}
-use Rattle.sd_gate.specs.declared.order.Order.TheVariants.{Len as LenOrder, Read as ReadOrder, Write as WriteOrder, WriteHeader as HeaderOrder, Close as CloseOrder, Open as OpenOrder, Cut as CutOrder, Sync as SyncOrder}
 use Rattle.sd_gate.specs.Phases.{may_open, is_ready, after, body_after}
 use Rattle.sd_gate.specs.Fits.{PhaseReads, PhaseLeaves, SlotFits}
 use Rattle.sd_gate.proofs.PhaseLemmas.{slot_given_up, slot_kept, slot_synced, slot_filled, slot_not_filled, slot_cut, slot_not_cut, slot_closing, slot_not_closing, slot_opening, slot_not_opening}

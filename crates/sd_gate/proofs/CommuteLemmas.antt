@@ -1,5 +1,5 @@
 -- Writes behind the gate that don't overlap may be made in either order.
-use Rattle.std.proofs.Common.{◌≡◌, ◌≢◌, ◌⊎◌, ⊎_elim, inl, inr, ℕ, zero, suc, ◌+◌, ◌-◌, ◌<◌, ◌≤◌, max, List, [], ◌∷◌, ◌++◌, length, length-append, take, drop, replicate, slice_index, refl, sym, ◌∙◌, arith}
+use Rattle.std.proofs.Common.{◌≡◌, ◌≢◌, ◌⊎◌, ⊎_elim, inl, inr, ℕ, zero, suc, ◌+◌, ◌-◌, ◌<◌, ◌≤◌, max, List, [], ◌∷◌, ◌++◌, length, length-append, take, replicate, slice_index, refl, arith}
 use Rattle.std.proofs.lemmas.Bool.{cases_lt}
 use Rattle.std.proofs.lemmas.Grind.{common_steps, same_number_lists}
 use Rattle.std.proofs.lemmas.List.{length-replicate}
@@ -34,7 +34,7 @@ above_kept file bytes at i above = ⊎_elim
     (cases_lt i (length file))
 
 outside_kept : (file bytes : List ℕ) (at i : ℕ) → (i < at) ⊎ (at + length bytes ≤ i) → slice_index (file_after_write file at bytes) i ≡ slice_index file i
-outside_kept file bytes at i h4 = grind (arith, below_kept, above_kept)
+outside_kept file bytes at i given = grind (arith, below_kept, above_kept)
 
 -- and within it
 within_set : (file bytes : List ℕ) (at i : ℕ) → at ≤ i → i < at + length bytes → slice_index (file_after_write file at bytes) i ≡ slice_index bytes (i - at)
@@ -83,7 +83,7 @@ module _ (file first second : List ℕ) (i j : ℕ) (apart : (i + length first �
 
 behind_apart : (i j : ℕ) (first second : List ℕ) → 0 < i → 0 < j → AreApart i first j second
     → ((i - 1) + length first ≤ j - 1) ⊎ ((j - 1) + length second ≤ i - 1)
-behind_apart i j first second here there h6 = grind arith
+behind_apart i j first second here there given = grind arith
 
 pages_apart : (i j : ℕ) (first second : List ℕ) → i ≢ j → length first ≡ 4096 → length second ≡ 4096 → AreApart (data_place i) first (data_place j) second
 pages_apart i j first second other one two = grind arith

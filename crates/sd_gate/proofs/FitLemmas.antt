@@ -1,5 +1,5 @@
 -- A slot's file through the calls on it.
-use Rattle.std.proofs.Common.{◌≡◌, ℕ, zero, suc, ◌+◌, ◌-◌, ◌<◌, List, [], ◌∷◌, length, take, slice_index, refl, sym, ◌∙◌, ap, arith, sub-one}
+use Rattle.std.proofs.Common.{◌≡◌, ℕ, suc, ◌-◌, ◌<◌, List, [], ◌∷◌, take, refl, ap, arith}
 use Rattle.std.proofs.lemmas.Grind.{same_number_lists}
 use Rattle.sd_disk.specs.Contents.{file_after_write, Torn, Cut}
 use Rattle.sd_image.specs.Image.{gate}

@@ -6,7 +6,7 @@ use Rattle.sd_image.specs.Image.{gate}
 use Rattle.sd_image.specs.Reading.{header_in}
 use Rattle.sd_image.specs.Words.{zero_bytes}
 use Rattle.sd_gate.specs.declared.answer.Answer.{Answer}
-use Rattle.sd_gate.specs.declared.answer.Answer.TheVariants.{Done, Len as LenIs, Failed}
+use Rattle.sd_gate.specs.declared.answer.Answer.TheVariants.{Len as LenIs}
 use Rattle.sd_gate.specs.declared.call.Call.TheVariants.{Read}
 use Rattle.sd_gate.specs.Calls.{is_done, buffer_back}
 use Rattle.sd_gate.specs.Inspections.{Awaits, nothing, the_length, the_header, calls_awaited, Following, after_length, table_read, after_first, following, calls_then}

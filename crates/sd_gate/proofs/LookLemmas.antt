@@ -1,14 +1,12 @@
 -- An inspection finds the file that its outcomes told.
 use Rattle.std.proofs.Common.{◌≡◌, ◌≢◌, inl, inr, ℕ, ◌+◌, ◌≤◌, Bool, true, false, ◌==◌, ◌&&◌, nat_le, List, [], ◌∷◌, length, slice_index, slice_range, Some, None, Result, Ok, Err, refl, sym, ◌∙◌, ap, subst, arith, if◌then◌else◌}
 use Rattle.std.proofs.lemmas.Bool.{cases_eq, cases_lt}
-use Rattle.std.proofs.lemmas.List.{length-replicate}
 use Rattle.std.proofs.lemmas.Bool.Decides.{nat_tests}
 use Rattle.sd_gate.proofs.BodyLemmas.{length-zeros}
 use Rattle.sd_image.specs.declared.header.Header.{Header}
 use Rattle.sd_image.specs.declared.reason.Reason.{Reason}
 use Rattle.sd_image.specs.Image.{gate}
 use Rattle.sd_image.specs.Reading.{header_in}
-use Rattle.sd_image.specs.Words.{zero_bytes}
 use Rattle.sd_gate.specs.declared.answer.Answer.{Answer}
 use Rattle.sd_gate.specs.declared.answer.Answer.TheVariants.{Done, Len as LenIs}
 use Rattle.sd_gate.specs.declared.call.Call.{Call}
@@ -16,7 +14,7 @@ use Rattle.sd_gate.specs.declared.call.Call.TheVariants.{Len, Read, Sync}
 use Rattle.sd_gate.specs.declared.request_id.RequestId.{RequestId}
 use Rattle.sd_gate.specs.Calls.{CallTells, IsAnswerTo, buffer_back, is_done}
 use Rattle.sd_gate.specs.Inspections.{nothing, Following, calls_then}
-use Rattle.sd_gate.specs.Looks.{Look, AtSync, AtLength, AtFirst, AtTable, Short, Shut, Broken, Whole, front_of_file, table_of_file, IsLookAt, calls_at, calls_behind, awaits_at, back_at, IsCallAt, rests, asks, LooksAt, IsTold, IsFound, InspectionFinds}
+use Rattle.sd_gate.specs.Looks.{Look, AtSync, AtLength, AtFirst, AtTable, Short, Shut, Broken, Whole, front_of_file, table_of_file, IsLookAt, calls_at, calls_behind, back_at, IsCallAt, rests, asks, LooksAt, IsTold, IsFound, InspectionFinds}
 use Rattle.sd_gate.specs.Plans.{Gives, Planned, found_after, plan_after}
 use Rattle.sd_gate.specs.Requests.{Asked, Made}
 use Rattle.sd_gate.specs.Sequences.{Calls, table_place}

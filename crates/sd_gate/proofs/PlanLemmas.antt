@@ -1,5 +1,5 @@
 -- A plan's slot through its calls.
-use Rattle.std.proofs.Common.{◌≡◌, ◌⊎◌, ◌<◌, ℕ, Bool, inl, inr, true, false, cond, List, [], ◌∷◌, length, None, refl, sym, ◌∙◌, ap, subst, arith}
+use Rattle.std.proofs.Common.{◌≡◌, ◌⊎◌, ◌<◌, ℕ, Bool, true, false, List, [], ◌∷◌, length, None, refl, sym, ◌∙◌, ap, subst, arith}
 use Rattle.sd_disk.specs.Contents.{file_at}
 use Rattle.sd_disk.specs.Crash.{Elapses, Follows, Within}
 use Rattle.sd_disk.specs.Spans.{LeavesOnly, nothing_called, one_call}
@@ -7,9 +7,7 @@ use Rattle.sd_disk.specs.declared.disk.Disk.{Ghosts}
 use Rattle.sd_gate.specs.declared.answer.Answer.{Answer}
 use Rattle.sd_gate.specs.declared.answer.Answer.TheVariants.{Done}
 use Rattle.sd_gate.specs.declared.call.Call.{Call}
-use Rattle.sd_gate.specs.declared.call.Call.TheVariants.{Len, Read, Write, WriteHeader, Close, Open, Cut, Sync}
 use Rattle.sd_gate.specs.declared.phase.Phase.{Phase}
-use Rattle.sd_gate.specs.declared.request_id.RequestId.{RequestId}
 use Rattle.sd_gate.specs.declared.settled.Settled.{Settled}
 use Rattle.sd_gate.specs.declared.settled.Settled.TheVariants.{More, Finished, Failed, Strange}
 use Rattle.sd_gate.specs.Calls.{AreKept, IsAnswerTo, Makes, buffer_back, contents_after, is_done}

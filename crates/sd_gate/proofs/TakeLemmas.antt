@@ -1,18 +1,17 @@
 -- Each plan that writes leaves at most the image.
-use Rattle.std.proofs.Common.{◌≡◌, inl, inr, ℕ, true, List, [], ◌∷◌, refl, subst, sym, arith}
-use Rattle.std.proofs.lemmas.Bool.{false≢true}
+use Rattle.std.proofs.Common.{◌≡◌, inl, ℕ, true, List, [], ◌∷◌, refl, arith}
 use Rattle.sd_image.specs.declared.header.Header.{Header}
 use Rattle.sd_image.specs.Header.{header_text}
 use Rattle.sd_image.specs.Image.{gate}
 use Rattle.sd_gate.specs.declared.call.Call.TheVariants.{Write, WriteHeader, Open, Cut, Sync}
 use Rattle.sd_gate.specs.declared.phase.Phase.{Phase}
-use Rattle.sd_gate.specs.declared.phase.Phase.TheVariants.{Raw, RawClosing, Whole, Closing, Shut, ShutSynced, Bare, Writing, Ready, Opening, Doubt, DoubtSynced}
+use Rattle.sd_gate.specs.declared.phase.Phase.TheVariants.{Raw, RawClosing, Whole, Closing, Shut, Bare, Writing}
 use Rattle.sd_gate.specs.Fits.{IsBodyOf}
 use Rattle.sd_gate.specs.Laws.{IsClosedOrWhole}
 use Rattle.sd_gate.specs.PlanRuns.{LeavesAtMost, PlansTake, Takes, body_closed}
-use Rattle.sd_gate.specs.Phases.{body_after, closing, filled, given_up, may_close, may_write, state_of}
-use Rattle.sd_gate.specs.Sequences.{body_calls, closing_calls, format_calls, table_place}
-use Rattle.sd_gate.proofs.LawLemmas.{behind_whole, leaves_whole_or_closed}
+use Rattle.sd_gate.specs.Phases.{body_after, closing, filled, may_close, may_write, state_of}
+use Rattle.sd_gate.specs.Sequences.{body_calls, closing_calls, format_calls}
+use Rattle.sd_gate.proofs.LawLemmas.{leaves_whole_or_closed}
 
 -- a closed slot holds no image
 shut_at_most : (image : List ℕ) (phase : Phase) (body : List ℕ) → may_write phase ≡ true → LeavesAtMost image phase body

@@ -1,11 +1,10 @@
 -- A plan that only changes its slot, from outcome to outcome.
-use Rattle.std.proofs.Common.{◌≡◌, ℕ, ◌+◌, Bool, true, false, if◌then◌else◌, List, [], ◌∷◌, length, Option, Some, None, refl, sym, ◌∙◌, ap, subst, arith}
+use Rattle.std.proofs.Common.{◌≡◌, ℕ, ◌+◌, Bool, true, false, List, length, Option, Some, refl, sym, ap, subst, arith}
 use Rattle.sd_image.specs.declared.header.Header.{Header}
 use Rattle.sd_gate.specs.declared.settled.Settled.{Settled}
 use Rattle.sd_gate.specs.declared.answer.Answer.{Answer}
-use Rattle.sd_gate.specs.Calls.{is_done, buffer_back}
-use Rattle.sd_gate.specs.Inspections.{Awaits, Following, calls_then, nothing}
-use Rattle.sd_gate.specs.PlanRuns.{AreChanges}
+use Rattle.sd_gate.specs.Calls.{is_done}
+use Rattle.sd_gate.specs.Inspections.{calls_then, nothing}
 use Rattle.sd_gate.specs.Plans.{Gives, Planned, begun, calls_after, is_one, plan_after, settled}
 use Rattle.sd_gate.specs.PlanUse.{IsUnderWay, Settles, plan_left}
 use Rattle.sd_gate.specs.Requests.{Asked, Made}

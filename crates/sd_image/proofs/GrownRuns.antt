@@ -1,6 +1,6 @@
 -- Runs that grow by a page at their end.
-use Rattle.std.proofs.Common.{◌≡◌, ℕ, zero, suc, ◌<◌, ◌≤◌, ◌+◌, ◌^◌, Bool, true, false, nat_eq, ◌&&◌, IsTrue, List, [], ◌∷◌, ◌++◌, Option, Some, None, map, filter, refl, sym, ◌∙◌, ap, subst, arith, append_assoc, append-nil, cond}
-use Rattle.std.proofs.lemmas.Bool.{false≢true, eqb-true, and_parts}
+use Rattle.std.proofs.Common.{◌≡◌, ℕ, zero, suc, ◌<◌, ◌≤◌, ◌+◌, ◌^◌, Bool, true, false, nat_eq, IsTrue, List, [], ◌∷◌, ◌++◌, Option, Some, None, map, filter, refl, ◌∙◌, ap, arith, append_assoc, append-nil, cond}
+use Rattle.std.proofs.lemmas.Bool.{eqb-true, and_parts}
 use Rattle.std.proofs.lemmas.List.{map-append}
 use Rattle.std.proofs.lemmas.List.Elements.{filter-append}
 use Rattle.std.proofs.lemmas.Bool.Decides.{nat_tests}
@@ -9,7 +9,6 @@ use Rattle.std.proofs.lemmas.Grind.{flat_map-append}
 use Rattle.sd_areas.specs.Pages.{pages_from}
 use Rattle.sd_image.specs.declared.run.Run.{Run}
 use Rattle.sd_image.specs.declared.run.RunKind.{RunKind}
-use Rattle.sd_image.specs.declared.run.RunKind.TheVariants.{Data, Parent, Zero}
 use Rattle.sd_image.specs.Table.{AreRuns, is_run_after, run_pages}
 use Rattle.sd_image.specs.Words.{run_kind_number}
 use Rattle.sd_image.specs.Runs.{AreRunsOf, IsSourced, PageWay, RunsHavePages, end_of, has_way, is_continued, page_of_way, run_pages_by, run_ways}

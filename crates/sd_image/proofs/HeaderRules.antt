@@ -1,21 +1,19 @@
 -- The rules of a header: those that hold of what is read, and of what was written.
-use Rattle.std.proofs.Common.{◌≡◌, ℕ, zero, suc, ◌+◌, ◌≤◌, Bool, true, false, not, ◌&&◌, ltb, List, [], ◌∷◌, ◌++◌, length, get_or, take, drop, Result, Ok, refl, sym, ap, subst, ◌∙◌, arith}
+use Rattle.std.proofs.Common.{◌≡◌, ℕ, ◌≤◌, Bool, true, false, not, List, [], ◌∷◌, length, take, drop, Result, Ok, refl, sym, ap, subst, ◌∙◌, arith}
 use Rattle.std.specs.List.{slice_range}
-use Rattle.std.proofs.lemmas.Bool.{and_parts, and_from, not-false, eqb-true, eqb-false, ltb-true, leb-true, eq-eqb, ne_eqb, lt-ltb, le-leb}
+use Rattle.std.proofs.lemmas.Bool.{and_parts, and_from, not-false, leb-true, le-leb}
 use Rattle.std.proofs.lemmas.List.{drop_all, drop_more, length-append, length-take-le, length-drop, take_at, drop_at}
 use Rattle.std.proofs.lemmas.Slice.Eq.{bytes_eq-Decides}
 use Rattle.byteorder.specs.Endian.{little_number}
 use Rattle.byteorder.specs.Numbers.{little_number-reads_back}
 use Rattle.sd_image.specs.declared.header.Header.{Header}
 use Rattle.sd_image.specs.declared.header.Version.{Version}
-use Rattle.sd_image.specs.declared.header.Version.TheVariants.{One, Two}
 use Rattle.sd_image.specs.declared.header.Kind.{Kind}
-use Rattle.sd_image.specs.declared.header.Kind.TheVariants.{PreDump, Dump, Merged}
 use Rattle.sd_image.specs.declared.reason.Reason.{Reason}
 use Rattle.sd_image.specs.declared.reason.Reason.TheVariants as reason
 use Rattle.sd_image.specs.Words.{kind_number, version_number, number_bytes, zero_bytes}
 use Rattle.sd_image.specs.Header.{magic, header_front, header_text, AreNumbers, HasWords, IsDigest, IsHeader}
-use Rattle.sd_image.specs.Reading.{◌>>=◌, rules_kept, number_at, are_zero, has_no_digest, kind_of_number, version_of, breaks_bytes, bytes_kept, form_of, form_in, fields_of, stands_rightly, parent_rightly, breaks_fields, fields_kept, header_in}
+use Rattle.sd_image.specs.Reading.{◌>>=◌, rules_kept, number_at, are_zero, has_no_digest, kind_of_number, version_of, breaks_bytes, bytes_kept, form_of, form_in, fields_of, stands_rightly, parent_rightly, fields_kept, header_in}
 use Rattle.sd_image.proofs.Steps.{bind_ok, guard_ok, ok_is, IsBytes, piece}
 use Rattle.sd_image.proofs.Numbers.{bytes_2, bytes_8, number_fits, zeros_are}
 

@@ -1,15 +1,15 @@
 -- Items of a table: what their bytes are.
-use Rattle.std.proofs.Common.{◌≡◌, ℕ, ◌+◌, ◌^◌, ◌<◌, ◌≤◌, Bool, true, false, ◌&&◌, ◌⊎◌, ltb, leb, List, Option, Some, None, Ok, Err, refl, sym, ap, ◌∙◌, arith, inl, inr}
-use Rattle.std.proofs.lemmas.Bool.{ltb-true, leb-true, le-leb, and_parts, and_from, and_right, false_from_ne_true}
+use Rattle.std.proofs.Common.{◌≡◌, ℕ, ◌+◌, ◌^◌, ◌<◌, ◌≤◌, Bool, true, false, ◌&&◌, ◌⊎◌, leb, List, Option, Ok, Err, refl, sym, ap, ◌∙◌, arith, inl, inr}
+use Rattle.std.proofs.lemmas.Bool.{leb-true, le-leb, and_parts, and_from, and_right, false_from_ne_true}
 use Rattle.std.specs.Prelude.{MatchOption, IsSome, IfSome}
 use Rattle.sd_areas.specs.declared.prot.Prot.{Prot}
 use Rattle.sd_areas.specs.Prot.{prot_bits}
 use Rattle.sd_areas.specs.declared.area.Area.{Area}
-use Rattle.sd_areas.specs.Areas.{begins_after, is_area_after}
+use Rattle.sd_areas.specs.Areas.{is_area_after}
 use Rattle.sd_image.specs.declared.reason.Reason.{Reason}
 use Rattle.sd_image.specs.declared.run.Run.{Run}
 use Rattle.sd_image.specs.declared.run.RunKind.{RunKind}
-use Rattle.sd_image.specs.Table.{begins_behind, has_source, is_run_after}
+use Rattle.sd_image.specs.Table.{is_run_after}
 use Rattle.sd_image.specs.Reading.{number_at, item_at, prot_of_number, area_of, area_holds, area_from, area_at, run_kind_of, run_of, run_holds, run_from, run_at}
 
 -- permissions are those of their number

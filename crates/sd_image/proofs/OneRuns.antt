@@ -1,12 +1,11 @@
 -- Maximal runs are one list: where two have each page in the same way, they are the same.
-use Rattle.std.proofs.Common.{◌≡◌, ℕ, ◌+◌, ◌<◌, ◌≤◌, ◌^◌, ◌&&◌, true, false, ltb, leb, List, [], ◌∷◌, Option, Some, None, refl, sym, ap, subst, ◌∙◌, arith, inl, inr}
-use Rattle.std.proofs.lemmas.Bool.{and_parts, and_from, or_cases, lt-ltb, le-leb, ltb-true, eqb-true, eq-eqb, not-true, lt-leb, le-ltb, both_ways, cases_Bool, cond-true, cond-false, and_left, and_right, cases_lt, cases_order}
+use Rattle.std.proofs.Common.{◌≡◌, ℕ, ◌+◌, ◌<◌, ◌≤◌, true, false, ltb, leb, List, [], ◌∷◌, Option, Some, None, refl, sym, ap, subst, ◌∙◌, arith, inl, inr}
+use Rattle.std.proofs.lemmas.Bool.{and_parts, and_from, lt-ltb, le-leb, ltb-true, lt-leb, le-ltb, cases_Bool, cond-true, cond-false, and_left, and_right, cases_lt, cases_order}
 use Rattle.sd_image.proofs.ItemLaws.{same_run}
 use Rattle.sd_areas.specs.Pages.{is_within}
 use Rattle.sd_image.specs.declared.run.Run.{Run}
 use Rattle.sd_image.specs.declared.run.RunKind.{RunKind}
-use Rattle.sd_image.specs.Words.{run_kind_number}
-use Rattle.sd_image.specs.Table.{begins_behind, has_source, is_run_after, AreRuns}
+use Rattle.sd_image.specs.Table.{begins_behind, is_run_after, AreRuns}
 use Rattle.sd_image.specs.Laws.{kind_in, OneListOfRuns}
 use Rattle.sd_image.proofs.Items.{run_range}
 

@@ -1,22 +1,19 @@
 -- Spaces: what is read is spelled so, and what is spelled so is read.
-use Rattle.std.proofs.Common.{◌≡◌, ℕ, ◌+◌, ◌^◌, ◌<◌, ◌≤◌, true, not, ◌&&◌, eqb, ltb, leb, cond, List, [], ◌∷◌, ◌++◌, length, drop, Option, Some, None, Result, Ok, Err, refl, sym, ap, subst, ◌∙◌, arith, append_assoc, inl, inr}
+use Rattle.std.proofs.Common.{◌≡◌, ℕ, ◌+◌, ◌^◌, ◌<◌, ◌≤◌, true, not, ◌&&◌, ltb, leb, cond, List, [], ◌∷◌, ◌++◌, length, Option, Some, None, Result, Ok, Err, refl, sym, ap, subst, ◌∙◌, arith, append_assoc}
 use Rattle.std.specs.List.{flat_map}
-use Rattle.std.proofs.lemmas.Bool.{ltb-true, leb-true, lt-ltb, le-leb, eqb-true, eqb-false, ne_eqb, or_cases, and_parts, and_from, not-false, not-true, not_from_false}
+use Rattle.std.proofs.lemmas.Bool.{ltb-true, leb-true, lt-ltb, le-leb, eqb-false, ne_eqb, and_parts, and_from, not-false, not-true, not_from_false}
 use Rattle.std.proofs.lemmas.List.{append-nil, drop_all, nil_from_length}
 use Rattle.std.proofs.lemmas.Slice.Eq.{bytes_eq-Decides}
-use Rattle.byteorder.specs.Endian.{little_number}
-use Rattle.byteorder.specs.Numbers.{little_number-reads_back}
 use Rattle.sd_areas.specs.declared.area.Area.{Area}
-use Rattle.sd_areas.specs.Areas.{is_area_after, AreMaximal, area_pages}
+use Rattle.sd_areas.specs.Areas.{is_area_after, AreMaximal}
 use Rattle.sd_image.specs.declared.header.Header.{Header}
 use Rattle.sd_image.specs.declared.header.Kind.{Kind}
-use Rattle.sd_image.specs.declared.header.Kind.TheVariants.{PreDump, Dump, Merged}
 use Rattle.sd_image.specs.declared.reason.Reason.{Reason}
 use Rattle.sd_image.specs.declared.reason.Reason.TheVariants as reason
 use Rattle.sd_image.specs.declared.run.Run.{Run}
 use Rattle.sd_image.specs.declared.space_head.SpaceHead.{SpaceHead}
-use Rattle.sd_image.specs.Words.{run_kind_number, number_bytes}
-use Rattle.sd_image.specs.Table.{Listed, area_text, run_text, run_pages, space_text, begins_behind, has_source, is_run_after, AreRuns, Covers, IsSpace, AreSpaces}
+use Rattle.sd_image.specs.Words.{number_bytes}
+use Rattle.sd_image.specs.Table.{Listed, area_text, run_text, space_text, begins_behind, is_run_after, AreRuns, Covers, IsSpace, AreSpaces}
 use Rattle.sd_image.specs.Reading.{◌>>=◌, number_at, item_at, many, area_at, run_at, area_limit, space_head_of, space_head_at, covers, space_at}
 use Rattle.sd_image.proofs.Steps.{IsBytes, bind_ok, guard_ok, guard_ends, ok_is, Takes, Takes-then, piece}
 use Rattle.sd_image.proofs.Numbers.{bytes_4, bytes_8}

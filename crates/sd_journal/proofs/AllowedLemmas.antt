@@ -1,6 +1,5 @@
 -- What each entry makes of what a journal allows.
 use Rattle.std.proofs.Common.{◌≡◌, ◌≢◌, ◌⊎◌, ◌↔◌, ℕ, ◌∷◌, Option, Some, None, refl, sym, ◌∙◌, ap, subst, inl, inr, arith}
-use Rattle.std.proofs.lemmas.Option.{same_Some}
 use Rattle.sd_areas.specs.PlainMemory.{PlainMemory}
 use Rattle.sd_command.specs.declared.command.Command.{Command}
 use Rattle.sd_command.specs.declared.reply.Reply.{Reply}
@@ -8,7 +7,7 @@ use Rattle.sd_journal.specs.declared.entry.Entry.TheVariants.{Applied, Freeze, A
 use Rattle.sd_journal.specs.History.{Base, History, memory_after, at_freeze, last, pending, unless_it_is}
 use Rattle.sd_journal.specs.Legal.{IsAbove, IsLegal}
 use Rattle.sd_journal.specs.Allowed.{Shown, shown_number, IsLastPair, IsPendingPair, IsAllowed}
-use Rattle.sd_journal.proofs.HistoryLemmas.{same, none_is_some, unless_some, at_freeze-other, at_freeze-own, last_below}
+use Rattle.sd_journal.proofs.HistoryLemmas.{same, none_is_some, at_freeze-other, at_freeze-own, last_below}
 
 pub applied_allows : (base : Base) (history : History) (seat : ℕ) (command : Command) (reply : Reply) (shown : Shown)
     → IsAllowed base (Applied seat command reply ∷ history) shown ↔ IsAllowed base history shown
@@ -22,11 +21,11 @@ pair_is n k memory other e f = cc
 
 freeze_leaves : (base : Base) (history : History) (n : ℕ) (shown : Shown) → pending history ≡ None → IsAbove base history n
     → IsAllowed base (Freeze n ∷ history) shown → IsAllowed base history shown ⊎ (shown ≡ Some (n, memory_after base history))
-freeze_leaves base history n shown none above h6 = grind arith
+freeze_leaves base history n shown none above given = grind arith
 
 freeze_keeps : (base : Base) (history : History) (n : ℕ) (shown : Shown) → pending history ≡ None → IsAbove base history n
     → IsAllowed base history shown → IsAllowed base (Freeze n ∷ history) shown
-freeze_keeps base history n shown none above h6 = grind (arith, at_freeze-other, last_below, none_is_some)
+freeze_keeps base history n shown none above given = grind (arith, at_freeze-other, last_below, none_is_some)
 
 freeze_adds : (base : Base) (history : History) (n : ℕ) (shown : Shown) → shown ≡ Some (n, memory_after base history)
     → IsAllowed base (Freeze n ∷ history) shown
@@ -57,11 +56,11 @@ cancelled_allows base history n shown legal = grind arith
 found_before : (base : Base) (history : History) (m : Option ℕ) (pair : ℕ × PlainMemory)
     → (m ≡ last base history) ⊎ ((pending history ≢ None) × (m ≡ pending history)) → m ≡ Some pair.0 → at_freeze base history pair.0 ≡ Some pair.1
     → IsAllowed base history (Some pair)
-found_before base history m pair h4 is memory = grind arith
+found_before base history m pair given is memory = grind arith
 
 nothing_before : (base : Base) (history : History) (m : Option ℕ)
     → (m ≡ last base history) ⊎ ((pending history ≢ None) × (m ≡ pending history)) → m ≡ None → IsAllowed base history None
-nothing_before base history m h3 is = grind arith
+nothing_before base history m given is = grind arith
 
 pub reopened_allows : (base : Base) (history : History) (m : Option ℕ) (shown : Shown) → IsLegal base (Reopened m ∷ history)
     → IsAllowed base (Reopened m ∷ history) shown ↔ (IsAllowed base history shown × (shown_number shown ≡ m))

@@ -1,7 +1,6 @@
 -- The soft-dirty and the writable bits by one item more.
-use Rattle.std.proofs.Common.{◌≡◌, ℕ, Bool, true, false, not, cond, ◌||◌, if◌then◌else◌, [], List, ◌∷◌, Option, Some, None, refl, sym, ◌∙◌, ap, arith, inl, inr}
+use Rattle.std.proofs.Common.{◌≡◌, ℕ, Bool, true, false, not, cond, ◌||◌, if◌then◌else◌, [], List, ◌∷◌, Option, Some, refl, sym, ◌∙◌, ap, arith, inl, inr}
 use Rattle.std.proofs.lemmas.Bool.Decides.{nat_tests}
-use Rattle.std.proofs.lemmas.List.Sums.{take_while-cons}
 use Rattle.std.specs.List.{list_any}
 use Rattle.std.specs.Option.{option_map}
 use Rattle.sd_pagetable.proofs.LawTests.{writable_more, dirty_more}
@@ -10,7 +9,6 @@ use Rattle.sd_pagetable.specs.Law.{ClearLaw, IsClearedAt}
 use Rattle.sd_pagetable.specs.Page.{PageState, cleared_page}
 use Rattle.sd_pagetable.specs.PageLaw.{PageLaw}
 use Rattle.sd_pagetable.specs.Tracking.{MemoryEvent, Cleared, Passed, IsBeginning, Step, clears, is_dirty, is_page, is_writable, makes_writable, since, touches, write_protects}
-use Rattle.sd_journal.specs.declared.origin.Origin.{Origin}
 use Rattle.sd_journal.specs.declared.origin.Origin.TheVariants.{Opened}
 use Rattle.sd_journal.specs.History.{Base}
 use Rattle.sd_journal.specs.Marked.{HasBits, Item, Marked, events_of, is_due, is_opened, item_event}

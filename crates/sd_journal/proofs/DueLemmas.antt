@@ -1,11 +1,9 @@
 -- What is due stays due while a checkpoint is pending.
-use Rattle.std.proofs.Common.{◌≡◌, ℕ, Bool, true, false, cond, ◌||◌, [], ◌∷◌, Some, None, is_some, refl, sym, ◌∙◌, ap, inl, inr, arith}
+use Rattle.std.proofs.Common.{◌≡◌, ℕ, Bool, true, false, cond, [], ◌∷◌, Some, None, is_some, refl, sym, ◌∙◌, ap, inl, inr, arith}
 use Rattle.std.proofs.lemmas.Option.{same_Some}
 use Rattle.sd_pagetable.specs.Tracking.{is_page, touches, clears}
 use Rattle.sd_command.specs.declared.command.Command.{Command}
-use Rattle.sd_command.specs.declared.refusal.Refusal.TheVariants.{Frozen}
 use Rattle.sd_command.specs.declared.reply.Reply.{Reply}
-use Rattle.sd_command.specs.declared.reply.Reply.TheVariants.{Refused}
 use Rattle.sd_command.specs.Events.{event_of}
 use Rattle.sd_command.specs.Replies.{IsLegalReply}
 use Rattle.sd_journal.specs.declared.entry.Entry.TheVariants.{Applied, Freeze, Acked, Cancelled, Reopened}
@@ -13,9 +11,7 @@ use Rattle.sd_journal.specs.declared.mark.Mark.TheVariants.{Start, Visit, Table}
 use Rattle.sd_journal.specs.History.{Base, pending, unless_it_is}
 use Rattle.sd_journal.specs.Marked.{Item, Told, Noted, Marked, entries_of, is_due, item_event, memory_at, IsMarked}
 use Rattle.sd_journal.specs.TrackedLaws.{before_freeze, visited_since}
-use Rattle.sd_journal.proofs.BitLemmas.{due_more, due_passes}
 use Rattle.sd_journal.proofs.HistoryLemmas.{same, none_is_some}
-use Rattle.sd_journal.proofs.MarkedLemmas.{never, frozen_passes}
 
 -- a page that an event neither touches nor clears is as due as before
 passes : (base : Base) (item : Item) (items : Marked) (space page : ℕ) → clears space page (item_event item) ≡ false → touches space page (item_event item) ≡ false

@@ -1,5 +1,5 @@
 -- Entries and marks in one list, and what one more of either makes of it.
-use Rattle.std.proofs.Common.{◌≡◌, ℕ, suc, ◌+◌, ◌-◌, ◌≤◌, List, [], ◌∷◌, ◌++◌, length, take, drop, map, reverse, refl, sym, ◌∙◌, ap, subst, arith}
+use Rattle.std.proofs.Common.{◌≡◌, ℕ, suc, ◌+◌, ◌-◌, ◌≤◌, List, [], ◌∷◌, ◌++◌, length, take, drop, map, reverse, refl, ◌∙◌, ap, arith}
 use Rattle.std.proofs.lemmas.List.{reverse-append, length-reverse, take-append-drop}
 use Rattle.sd_journal.specs.declared.entry.Entry.{Entry}
 use Rattle.sd_journal.specs.declared.mark.Mark.{Mark}

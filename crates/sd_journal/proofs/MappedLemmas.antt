@@ -1,5 +1,5 @@
 -- A page that is mapped behind a command was mapped before, or the command made it.
-use Rattle.std.proofs.Common.{◌≡◌, ◌⊎◌, ℕ, ◌==◌, ◌&&◌, ◌||◌, Bool, true, false, cond, nat_eq, is_some, Option, Some, None, refl, sym, ◌∙◌, ap, subst, arith, unwrap_or, inl, inr}
+use Rattle.std.proofs.Common.{◌≡◌, ◌⊎◌, ℕ, ◌==◌, Bool, true, false, cond, nat_eq, is_some, Option, Some, None, refl, sym, ◌∙◌, ap, subst, arith, unwrap_or, inl, inr}
 use Rattle.std.proofs.lemmas.Bool.Decides.{nat_tests}
 use Rattle.std.specs.Option.{option_map, option_map_or}
 use Rattle.std.specs.Ordering.{nat_cmp}
@@ -101,7 +101,7 @@ stored_mapped memory s p x space page mapped = by (value_at memory s p) refl map
         inl (here memory s space page e (sym (ap (λ b. is_some (cond b (Some (x found)) (finmap.get (inside memory s) page))) other) ∙ some))
 
     only : Was memory space page ⊥ → is_mapped memory space page ≡ true
-    only h0 = grind arith
+    only given = grind arith
 
     by : (o : Option Page) → value_at memory s p ≡ o → is_mapped (option_map_or (λ (found : Page). put_at memory s p (x found)) o memory) space page ≡ true
         → is_mapped memory space page ≡ true
@@ -113,7 +113,7 @@ pub record IsMadeBy (asked : Command) (answer : Reply) (space page : ℕ) : Type
   pub protected : write_protects space page (event_of asked answer) ≡ true
 
 no_more : {P : Type 0} (memory : PlainMemory) (space page : ℕ) → Was memory space page ⊥ → Was memory space page P
-no_more memory space page h3 = grind arith
+no_more memory space page given = grind arith
 
 pub was_mapped : (asked : Command) (answer : Reply) (memory : PlainMemory) (space page : ℕ) → is_mapped (effect asked answer memory) space page ≡ true
     → (is_mapped memory space page ≡ true) ⊎ IsMadeBy asked answer space page

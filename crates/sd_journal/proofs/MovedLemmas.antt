@@ -1,7 +1,5 @@
 -- Entries that are moved from the end of a list into another one, the last of them first.
-use Rattle.std.proofs.Common.{◌≡◌, ◌+◌, ◌<◌, ◌≤◌, ℕ, List, [], ◌∷◌, ◌++◌, length, drop, take, reverse, sym, ◌∙◌, ap, arith}
-use Rattle.std.proofs.lemmas.List.{append_assoc, append-nil, length-append, length-reverse, reverse-append}
-use Rattle.std.proofs.Math.Seq.{take-append_seam, drop-append_seam}
+use Rattle.std.proofs.Common.{◌≡◌, ◌+◌, ◌≤◌, ℕ, List, ◌++◌, length, reverse}
 use Rattle.sd_journal.specs.declared.entry.Entry.{Entry}
 
 pub record AreMoved (all : List Entry) (count : ℕ) (left moved : List Entry) : Type 0 where

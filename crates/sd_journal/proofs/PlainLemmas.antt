@@ -1,8 +1,8 @@
 -- Finite maps by number: the code's maps seen as such, and runs of pages that change one after the other.
-use Rattle.std.proofs.Common.{◌≡◌, ℕ, zero, suc, ◌+◌, ◌-◌, ◌%◌, ◌<◌, ◌≤◌, Bool, true, false, not, cond, nat_eq, ◌||◌, List, [], ◌∷◌, ◌++◌, map, Option, Some, None, IsSome, refl, sym, ◌∙◌, ap, subst, inl, inr, arith}
+use Rattle.std.proofs.Common.{◌≡◌, ℕ, zero, suc, ◌+◌, ◌-◌, ◌<◌, ◌≤◌, Bool, true, false, not, cond, nat_eq, ◌||◌, List, [], ◌∷◌, ◌++◌, map, Option, Some, None, IsSome, refl, sym, ◌∙◌, ap, subst, inl, inr, arith}
 use Rattle.std.proofs.lemmas.Bool.Decides.{nat_tests}
 use Rattle.std.proofs.lemmas.Bool.{cases_Bool, cond-false}
-use Rattle.std.specs.Option.{option_map, option_map_or}
+use Rattle.std.specs.Option.{option_map}
 use Rattle.std.specs.Ordering.{nat_cmp, eq_by_cmp}
 use Rattle.std.specs.Cmp.{nat_cmp_total}
 use Rattle.std.specs.FinMap as finmap
@@ -14,11 +14,9 @@ use Rattle.std.specs.BTreeMap.{BTreeMap, is_at}
 use Rattle.sd_areas.specs.declared.snapshot_page.SnapshotPage.{SnapshotPage}
 use Rattle.sd_areas.specs.declared.snapshot.Snapshot.{Snapshot}
 use Rattle.sd_areas.specs.Memory.{memory_of, space_of, page_of_snapshot}
-use Rattle.sd_areas.specs.Pages.{page_of, pages_from, is_within}
-use Rattle.sd_areas.specs.PlainMemory.{Page, Space, PlainMemory}
-use Rattle.sd_pagetable.specs.Access.{stored_at}
-use Rattle.sd_pagetable.specs.Effects.{after_store}
-use Rattle.sd_pagetable.specs.Nested.{Table, inside, value_at, put_at, map_entries, set_within, remove_within, change_within}
+use Rattle.sd_areas.specs.Pages.{pages_from, is_within}
+use Rattle.sd_areas.specs.PlainMemory.{Page, Space}
+use Rattle.sd_pagetable.specs.Nested.{Table, map_entries, set_within, remove_within, change_within}
 
 same_test : (a b : ℕ) → eq_by_cmp nat_cmp a b ≡ nat_eq a b
 same_test a b = grind (arith, nat_tests)

@@ -8,7 +8,7 @@ use Rattle.sd_journal.specs.declared.entry.Entry.{Entry}
 use Rattle.sd_journal.specs.declared.placed_mark.PlacedMark.{PlacedMark}
 use Rattle.sd_journal.specs.History.{History}
 use Rattle.sd_journal.specs.Kept.{woven, AreWithin, is_behind}
-use Rattle.sd_journal.specs.Marked.{Item, Told, Noted, Marked, entries_of}
+use Rattle.sd_journal.specs.Marked.{Told, Marked, entries_of}
 use Rattle.sd_journal.specs.Trimming.{IsEntryFirst}
 use Rattle.sd_journal.proofs.KeptLemmas.{entries_of-woven, within_more, woven_entry}
 

@@ -218,7 +218,7 @@ none_frozen base (Reopened m ∷ earlier) k above = none_frozen base earlier k a
 
 base_freeze : (base : Base) (folded : History) (n k : ℕ) → IsLegal base folded → IsEnded n folded → IsFrom n k
     → at_base (Some n) (memory_after base folded) k ≡ at_freeze base folded k
-base_freeze base folded n k legal ended h6 = grind (arith, same, freeze_folded, not_same, none_frozen, above_folded)
+base_freeze base folded n k legal ended given = grind (arith, same, freeze_folded, not_same, none_frozen, above_folded)
 
 freeze_stays : (base : Base) (kept folded : History) (n k : ℕ) → IsLegal base (kept ++ folded) → IsEnded n folded → IsFrom n k
     → at_freeze (base_after base n folded) kept k ≡ at_freeze base (kept ++ folded) k

@@ -1,15 +1,14 @@
 -- What a trim leaves of a marked journal, and of the bits that it gives.
-use Rattle.std.proofs.Common.{◌≡◌, ◌⊎◌, ℕ, ◌==◌, ◌&&◌, ◌||◌, Bool, true, false, cond, [], ◌∷◌, ◌++◌, Option, Some, None, IfSome, is_some, if◌then◌else◌, refl, sym, ◌∙◌, ap, subst, inl, inr, arith}
+use Rattle.std.proofs.Common.{◌≡◌, ◌⊎◌, ℕ, ◌==◌, ◌&&◌, ◌||◌, Bool, true, false, cond, [], ◌∷◌, ◌++◌, Option, Some, None, IfSome, if◌then◌else◌, refl, sym, ◌∙◌, ap, subst, inl, inr, arith}
 use Rattle.std.proofs.lemmas.Bool.{eqb-true, or_parts}
 use Rattle.std.specs.List.{list_any}
-use Rattle.std.specs.Option.{option_map}
 use Rattle.std.proofs.lemmas.Option.{same_Some}
 use Rattle.std.proofs.Math.Bool.{and-false}
 use Rattle.sd_pagetable.proofs.LawTests.{writable_more}
 use Rattle.sd_pagetable.specs.Contents.{Contents, page_at, plain_of}
 use Rattle.sd_pagetable.specs.Law.{PlainLaw}
 use Rattle.sd_pagetable.specs.Order.{is_above}
-use Rattle.sd_pagetable.specs.Page.{PageState, plain_page}
+use Rattle.sd_pagetable.specs.Page.{PageState}
 use Rattle.sd_pagetable.specs.Tracking.{clears, is_page, is_writable, makes_writable, touches, write_protects}
 use Rattle.sd_journal.specs.declared.entry.Entry.{Entry}
 use Rattle.sd_journal.specs.declared.entry.Entry.TheVariants.{Applied, Freeze, Acked, Cancelled, Reopened}
@@ -18,7 +17,7 @@ use Rattle.sd_journal.specs.declared.mark.Mark.TheVariants.{Start, Visit, Table}
 use Rattle.sd_journal.specs.History.{Base, memory_after}
 use Rattle.sd_journal.specs.Legal.{IsLegal}
 use Rattle.sd_journal.specs.Marked.{Item, Told, Noted, Marked, entries_of, events_of, is_due, is_mapped, is_of, is_visit, is_visited, item_event, last_visit, memory_at, starts, stays_mapped, visiting, IsMarked, IsSwept, IsTracked, MayBeNoted}
-use Rattle.sd_journal.specs.Trimming.{Ends, HasVisited, IsEnded, IsFolded, base_after}
+use Rattle.sd_journal.specs.Trimming.{Ends, HasVisited, IsFolded, base_after}
 use Rattle.sd_journal.proofs.BitLemmas.{due_by, due_more}
 use Rattle.sd_journal.proofs.HistoryLemmas.{none_is_some}
 use Rattle.sd_journal.proofs.MappedLemmas.{was_mapped}

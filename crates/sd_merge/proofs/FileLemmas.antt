@@ -1,5 +1,5 @@
 -- The file of a merged image.
-use Rattle.std.proofs.Common.{◌≡◌, ℕ, ◌<◌, List, [], ◌∷◌, ◌++◌, length, map, Contains, Some, refl, sym, ◌∙◌, ap, subst, inl, inr, arith}
+use Rattle.std.proofs.Common.{◌≡◌, ℕ, ◌<◌, List, [], ◌++◌, length, map, Contains, Some, refl, sym, ◌∙◌, ap, subst, inl, inr, arith}
 use Rattle.std.specs.Prelude.{slice_get, replicate}
 use Rattle.std.specs.List.{AllByRecursion, concat}
 use Rattle.std.proofs.lemmas.List.{append-nil}
@@ -11,7 +11,7 @@ use Rattle.sd_image.specs.Header.{HasWords}
 use Rattle.sd_image.specs.Image.{HasItsDigest, Image, image_text}
 use Rattle.sd_image.specs.Laws.{HaveTables, HeldOnceAmong, IsComplete, SerialsDiffer, TextIsImage}
 use Rattle.sd_image.specs.Shows.{Holds, IsRestorable, pages_of}
-use Rattle.sd_image.specs.Table.{IsTable, Listed, table_text}
+use Rattle.sd_image.specs.Table.{Listed, table_text}
 use Rattle.sd_chain.specs.declared.way.Way.TheVariants as way
 use Rattle.sd_chain.specs.Catalog.{Opened, Places}
 use Rattle.sd_gate.specs.Laws.{BodiesFill, pages_body}
@@ -29,7 +29,7 @@ use Rattle.sd_merge.specs.declared.copy_order.CopyOrder.{CopyOrder}
 use Rattle.sd_merge.specs.declared.copy_progress.CopyProgress.TheVariants as progress
 use Rattle.sd_merge.specs.declared.merge_step.MergeStep.TheVariants as step
 use Rattle.sd_merge.specs.declared.stage.Stage.{Stage}
-use Rattle.sd_merge.specs.declared.stage.Stage.TheVariants.{Format, Pass as PassStage, PageRead, PageWrite, Close}
+use Rattle.sd_merge.specs.declared.stage.Stage.TheVariants.{Close}
 use Rattle.sd_merge.specs.Copying.{Copying, HandsIn, Steps, header_of, stage_after, with_plan}
 use Rattle.sd_merge.specs.Files.{AreItsNumbers, FileLaws, FilesCopy, HasItsNumbers, IsFiled, IsFiledIn}
 use Rattle.sd_merge.specs.Gathered.{IsTableOf, RepeatsTable}

@@ -1,5 +1,5 @@
 -- Pages that are kept as runs, with one page more.
-use Rattle.std.proofs.Common.{◌≡◌, ◌≢◌, ◌⊎◌, ℕ, ◌+◌, ◌<◌, ◌≤◌, List, [], ◌∷◌, ◌++◌, length, map, Option, Some, None, Result, Ok, Err, OnOk, refl, sym, ◌∙◌, ap, subst, inl, inr, arith}
+use Rattle.std.proofs.Common.{◌≡◌, ◌≢◌, ◌⊎◌, ℕ, ◌+◌, ◌<◌, ◌≤◌, List, [], ◌∷◌, ◌++◌, length, map, Option, Some, None, refl, sym, ◌∙◌, ap, subst, inl, inr, arith}
 use Rattle.std.specs.List.{flat_map, AllByRecursion}
 use Rattle.std.proofs.lemmas.List.{map-append, flat_map_more, append_assoc, length-append}
 use Rattle.sd_image.specs.declared.run.Run.{Run}
@@ -11,9 +11,9 @@ use Rattle.sd_image.specs.Table.{AreRuns, Listed, listing_of, run_pages}
 use Rattle.sd_rounds.specs.Pass.{Place, ImageEntry}
 use Rattle.sd_rounds.specs.Made.{entries_listed, run_entries}
 use Rattle.sd_rounds.specs.Rises.{last_of}
-use Rattle.sd_rounds.specs.Tables.{EndsBefore, EndBefore, entries_in, listed}
+use Rattle.sd_rounds.specs.Tables.{EndsBefore, EndBefore, listed}
 use Rattle.sd_merge.specs.Gathered.{AreCopies, AreGathered, IsGathered, IsPut, SpaceIsBegun}
-use Rattle.sd_rounds.proofs.TableLemmas.{runs_entries, on_ok_both, one_further, end_further, all_put, all_last}
+use Rattle.sd_rounds.proofs.TableLemmas.{runs_entries, one_further, end_further, all_put, all_last}
 
 -- ---- a space more
 
@@ -43,7 +43,7 @@ abbrev IsFurther : Place → Place → Type 0
 IsFurther a b = (a.0 < b.0) ⊎ ((a.0 ≡ b.0) × (a.1 ≤ b.1))
 
 ends_further : (a b : Place) (t : Listed) → IsFurther a b → EndsBefore a t → EndsBefore b t
-ends_further a b t h3 h4 = grind arith
+ends_further a b t given also = grind arith
 
 -- ---- entries
 

@@ -1,23 +1,21 @@
 -- Each step and each outcome leaves fewer before a merge.
-use Rattle.std.proofs.Common.{◌≡◌, ◌≢◌, ◌↔◌, ℕ, zero, suc, ◌+◌, ◌-◌, ◌*◌, ◌<◌, ◌≤◌, Bool, true, false, if◌then◌else◌, List, [], ◌∷◌, length, Option, Some, None, refl, sym, ◌∙◌, ap, subst, inl, inr, arith}
+use Rattle.std.proofs.Common.{◌≡◌, ◌≢◌, ◌↔◌, ℕ, zero, suc, ◌+◌, ◌-◌, ◌*◌, ◌<◌, ◌≤◌, Bool, true, false, if◌then◌else◌, List, [], ◌∷◌, length, Option, Some, None, refl, sym, ◌∙◌, ap, subst, arith}
 use Rattle.std.specs.Prelude.{slice_get}
 use Rattle.std.proofs.lemmas.Bool.{both_ways}
 use Rattle.sd_chain.specs.Catalog.{Places}
 use Rattle.sd_gate.specs.declared.slot_state.SlotState.{SlotState}
-use Rattle.sd_gate.specs.declared.slot_state.SlotState.TheVariants.{Closed}
 use Rattle.sd_gate.specs.Plans.{Planned, is_one, plan_after}
 use Rattle.sd_gate.specs.Requests.{Made}
 use Rattle.sd_gate.specs.Sequences.{Calls, format_calls}
 use Rattle.sd_gate.specs.PlanUse.{plan_left, IsUnderWay}
 use Rattle.sd_rounds.specs.declared.new_image.NewImage.{NewImage}
-use Rattle.sd_gate.proofs.UseLemmas.{gives_fewer, one_plan, settled_fewer}
+use Rattle.sd_gate.proofs.UseLemmas.{gives_fewer, settled_fewer}
 use Rattle.sd_merge.specs.declared.merge_progress.MergeProgress.{MergeProgress}
 use Rattle.sd_merge.specs.declared.merge_progress.MergeProgress.TheVariants as progress
 use Rattle.sd_merge.specs.declared.merge_step.MergeStep.{MergeStep}
-use Rattle.sd_merge.specs.declared.merge_step.MergeStep.TheVariants as step
 use Rattle.sd_merge.specs.declared.retired.Retired.{Retired}
 use Rattle.sd_merge.specs.declared.stage.Stage.{Stage}
-use Rattle.sd_merge.specs.declared.stage.Stage.TheVariants.{Format, Pass as PassStage, PageRead, PageWrite, Close}
+use Rattle.sd_merge.specs.declared.stage.Stage.TheVariants.{Pass as PassStage}
 use Rattle.sd_merge.specs.Copying.{Copying, IsClosing, Opens, PlanGoesOn, Steps, begun_copy, is_taking, plan_of, stage_after, with_plan}
 use Rattle.sd_merge.specs.Sources.{few_pages}
 use Rattle.sd_merge.specs.Left.{LeftLaws, body_left, copy_left, doing_left, left_of, retiring_left, running_left, stage_left}

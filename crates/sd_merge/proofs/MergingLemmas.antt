@@ -1,10 +1,10 @@
 -- What a merged image in the making has of its source, through each of its steps.
 use Rattle.std.proofs.Common.{◌≡◌, ◌≢◌, ◌⊎◌, ℕ, zero, suc, ◌+◌, ◌≤◌, List, [], ◌∷◌, ◌++◌, length, map, filter, min, sum_by, Contains, Option, Some, None, refl, sym, ◌∙◌, ap, subst, inl, inr, arith}
 use Rattle.std.specs.Prelude.{slice_get, replicate}
-use Rattle.std.specs.List.{AllByRecursion, concat, flat_map}
+use Rattle.std.specs.List.{concat, flat_map}
 use Rattle.std.proofs.lemmas.List.Folds.{concat-append}
 use Rattle.std.proofs.lemmas.List.{map-append, append_assoc, append-nil, length-append, length-map}
-use Rattle.std.proofs.lemmas.List.Elements.{All-contains, filter-append}
+use Rattle.std.proofs.lemmas.List.Elements.{filter-append}
 use Rattle.std.proofs.lemmas.List.Sums.{sum_by-cons}
 use Rattle.sd_rounds.proofs.RoomLemmas.{length-pages_from}
 use Rattle.sd_chain.proofs.TablePages.{get_left}
@@ -27,9 +27,9 @@ use Rattle.sd_chain.specs.declared.found.Found.{Found}
 use Rattle.sd_chain.specs.declared.found.Found.TheVariants as found
 use Rattle.sd_chain.specs.Catalog.{IsSoundCatalog, Opened, Places, images}
 use Rattle.sd_chain.specs.Tells.{Agrees, HaveDataPages, IsToldAs}
-use Rattle.sd_chain.specs.Passes.{IsListed, IsNextOf, IsNextPageOfImage}
+use Rattle.sd_chain.specs.Passes.{IsListed, IsNextPageOfImage}
 use Rattle.sd_chain.specs.Ways.{LiesAt, LiesBySerial}
-use Rattle.sd_gate.specs.Plans.{Planned, plan_after}
+use Rattle.sd_gate.specs.Plans.{Planned}
 use Rattle.sd_gate.specs.declared.call.Call.{Call}
 use Rattle.sd_gate.specs.declared.call.Call.TheVariants.{Read}
 use Rattle.sd_gate.specs.Requests.{Asked, Made}
@@ -47,7 +47,7 @@ use Rattle.sd_merge.specs.declared.copy_progress.CopyProgress.TheVariants as pro
 use Rattle.sd_merge.specs.declared.merge_step.MergeStep.{MergeStep}
 use Rattle.sd_merge.specs.declared.merge_step.MergeStep.TheVariants as step
 use Rattle.sd_merge.specs.declared.stage.Stage.{Stage}
-use Rattle.sd_merge.specs.declared.stage.Stage.TheVariants.{Format, Pass as PassStage, PageRead, PageWrite, Close}
+use Rattle.sd_merge.specs.declared.stage.Stage.TheVariants.{PageRead, PageWrite}
 use Rattle.sd_merge.specs.Copying.{Copying, HandsIn, IsLost, Steps, begun_copy, cursor, is_taking, page_or_zeros, read_after, stage_after, with_plan}
 use Rattle.sd_merge.specs.Sources.{few_pages, listed_count, runs_count}
 use Rattle.sd_merge.specs.Merging.{IsCopy, IsFirstOf, IsOverIn, IsReadOf, IsSoundCopy, IsSourceAt, KeepsCopy, MergeLaws, TellsIn, listed_places, pages_after}

@@ -23,16 +23,16 @@ use Rattle.sd_merge.proofs.TableLemmas.{in_space, places_cons, runs_places}
 -- ---- the order
 
 before_more : (a b c : Place) → IsBefore a b → IsBefore b c → IsBefore a c
-before_more a b c h3 h4 = grind arith
+before_more a b c given also = grind arith
 
 not_before : (a : Place) → IsBefore a a → ⊥
-not_before a h1 = grind arith
+not_before a given = grind arith
 
 abbrev after_place : Place → Place
 after_place a = (a.0, a.1 + 1)
 
 from_before : (a p : Place) → IsFrom (after_place a) p → IsBefore a p
-from_before a p h2 = grind arith
+from_before a p given = grind arith
 
 -- each from a place on, and behind the one before
 abbrev Rising : Place → List Place → Type 0

@@ -1,6 +1,5 @@
 -- Which page is next, and where the catalog has it.
-use Rattle.std.proofs.Common.{◌≡◌, Bool, true, false, IsTrue, ℕ, zero, suc, ◌+◌, ◌*◌, ◌<◌, ◌≤◌, ◌^◌, List, length, [], ◌∷◌, Option, Some, None, Contains, refl, sym, ◌∙◌, ap, subst, inl, inr, arith}
-use Rattle.std.specs.Prelude.{slice_get}
+use Rattle.std.proofs.Common.{◌≡◌, Bool, true, false, IsTrue, ℕ, ◌+◌, ◌*◌, ◌<◌, ◌≤◌, ◌^◌, Option, Some, None, Contains, refl, sym, ◌∙◌, ap, subst, inl, inr, arith}
 use Rattle.std.proofs.lemmas.List.Elements.{All-contains}
 use Rattle.sd_image.specs.declared.run.RunKind.TheVariants.{Data}
 use Rattle.sd_image.specs.Laws.{FewPages}
@@ -11,14 +10,13 @@ use Rattle.sd_chain.specs.declared.found.Found.TheVariants as found
 use Rattle.sd_chain.specs.Catalog.{IsSoundCatalog, Opened, Places, images, place_of}
 use Rattle.sd_chain.specs.Passes.{IsBehind, IsNextPageOfImage}
 use Rattle.sd_chain.specs.Ways.{AreImages, LiesAt, LiesBySerial}
-use Rattle.std.proofs.lemmas.Bool.{both_ways}
 use Rattle.sd_merge.proofs.LeftLemmas.{within_list}
 use Rattle.sd_merge.proofs.MergingLemmas.{no_zero, offsets}
 use Rattle.sd_gate.specs.Sequences.{data_place}
 use Rattle.sd_rounds.specs.Pass.{Place}
 use Rattle.sd_rounds.specs.Rises.{last_of}
 use Rattle.sd_merge.specs.declared.merge_step.MergeStep.{MergeStep}
-use Rattle.sd_merge.specs.declared.merge_step.MergeStep.TheVariants.{Call, ReadCall, PageCall, TableCall, Zero}
+use Rattle.sd_merge.specs.declared.merge_step.MergeStep.TheVariants.{Zero}
 use Rattle.sd_merge.specs.declared.stage.Stage.TheVariants.{Pass as PassStage}
 use Rattle.sd_gate.specs.declared.worker.Worker.TheVariants.{Merger}
 use Rattle.sd_gate.specs.PlanUse.{IsAskedBy}

@@ -1,19 +1,18 @@
 -- A plan that a merged image begins, and what holds of the image then.
-use Rattle.std.proofs.Common.{◌≡◌, ℕ, ◌+◌, ◌<◌, ◌≤◌, ◌^◌, List, length, Option, None, sym, ap, subst, arith}
+use Rattle.std.proofs.Common.{◌≡◌, ℕ, ◌+◌, ◌≤◌, List, Option, None, sym, subst, arith}
 use Rattle.sd_rounds.proofs.ImageTableLemmas.{table_is_long}
 use Rattle.sd_gate.specs.Inspections.{nothing}
 use Rattle.sd_gate.specs.Plans.{Planned, begun}
 use Rattle.sd_gate.specs.Sequences.{IsBody, body_calls}
 use Rattle.sd_image.specs.declared.header.Header.{Header}
 use Rattle.sd_image.specs.Table.{Listed, table_text}
-use Rattle.sd_image.specs.Words.{number_bytes}
 use Rattle.sd_gate.specs.PlanUse.{IsUnderWay}
 use Rattle.sd_gate.proofs.UseLemmas.{body_under_way}
 use Rattle.sd_rounds.specs.Pass.{ImageEntry, Place}
 use Rattle.sd_merge.specs.declared.copy_order.CopyOrder.{CopyOrder}
 use Rattle.sd_merge.specs.declared.stage.Stage.{Stage}
 use Rattle.sd_merge.specs.declared.stage.Stage.TheVariants.{Pass as PassStage}
-use Rattle.sd_merge.specs.Copying.{IsFreeOrRead, IsReadyFor, TakesNoPage, header_of}
+use Rattle.sd_merge.specs.Copying.{IsReadyFor, TakesNoPage, header_of}
 
 -- few data pages, and a table
 pub is_body : (order : CopyOrder) (header : Header) (text : List ℕ) (tables : List Listed) (stored taking ahead len : ℕ) (digest : List ℕ) → header ≡ header_of order stored len digest

@@ -1,7 +1,6 @@
 -- How far the inspection of a slot has come, through its calls and their outcomes.
-use Rattle.std.proofs.Common.{◌≡◌, ◌≢◌, ℕ, Bool, true, false, nat_le, ◌==◌, ◌&&◌, if◌then◌else◌, List, [], ◌∷◌, length, map, slice_index, Result, Option, Some, None, Ok, Err, IsSome, refl, sym, ◌∙◌, ap, subst, inl, inr, arith}
-use Rattle.std.proofs.lemmas.Bool.{and_from, cases_lt, eq-eqb, le-leb}
-use Rattle.std.proofs.lemmas.Bool.Decides.{nat_tests}
+use Rattle.std.proofs.Common.{◌≡◌, ◌≢◌, ℕ, Bool, true, false, ◌==◌, ◌&&◌, if◌then◌else◌, List, [], ◌∷◌, length, map, slice_index, Result, Option, Some, None, Ok, Err, IsSome, refl, sym, ◌∙◌, ap, subst, inl, inr, arith}
+use Rattle.std.proofs.lemmas.Bool.{and_from, eq-eqb}
 use Rattle.std.proofs.lemmas.Option.{same_Some}
 use Rattle.sd_image.specs.declared.header.Header.{Header}
 use Rattle.sd_image.specs.declared.reason.Reason.{Reason}
@@ -9,10 +8,10 @@ use Rattle.sd_image.specs.Image.{gate}
 use Rattle.sd_image.specs.Reading.{header_in}
 use Rattle.sd_image.specs.Words.{zero_bytes}
 use Rattle.sd_gate.specs.declared.answer.Answer.{Answer}
-use Rattle.sd_gate.specs.declared.answer.Answer.TheVariants.{Done as DoneAnswer, Len as LenIs, Failed as FailedAnswer}
+use Rattle.sd_gate.specs.declared.answer.Answer.TheVariants.{Done as DoneAnswer, Len as LenIs}
 use Rattle.sd_gate.specs.declared.call.Call.{Call}
 use Rattle.sd_gate.specs.declared.call.Call.TheVariants.{Len, Read, Sync}
-use Rattle.sd_gate.specs.declared.settled.Settled.TheVariants.{More, Finished, Failed}
+use Rattle.sd_gate.specs.declared.settled.Settled.TheVariants.{More, Finished}
 use Rattle.sd_gate.specs.Calls.{IsAnswerTo, buffer_back, is_done}
 use Rattle.sd_gate.specs.Inspections.{Awaits, Following, after_first, after_length, calls_then, nothing, table_read, the_header, the_length}
 use Rattle.sd_gate.specs.Plans.{Back, Planned, begun, calls_after, first_back, found_after, length_told, plan_after, second_back, settled}

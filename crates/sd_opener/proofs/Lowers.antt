@@ -1,7 +1,6 @@
 -- What is left of an opener gets less.
 use Rattle.std.proofs.Common.{◌≡◌, ℕ, zero, suc, ◌+◌, ◌-◌, ◌<◌, length, Some, refl, arith}
 use Rattle.sd_opener.specs.declared.stage.Stage.{Stage}
-use Rattle.sd_opener.specs.declared.stage.Stage.TheVariants.{Asking, Read, Broken}
 use Rattle.sd_gate.specs.declared.request_id.RequestId.{RequestId}
 use Rattle.sd_opener.specs.Left.{slot_left, slots_left}
 use Rattle.sd_opener.specs.Looking.{IsLooking, Looking, out_of_look}

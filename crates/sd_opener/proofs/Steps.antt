@@ -1,12 +1,12 @@
 -- What the steps of an opener keep of what it knows.
-use Rattle.std.proofs.Common.{◌≡◌, ◌≢◌, ℕ, zero, suc, ◌+◌, ◌<◌, ◌≤◌, true, List, [], ◌∷◌, ◌++◌, length, map, take, Option, Some, None, Ok, Err, refl, sym, ◌∙◌, ap, subst, arith}
+use Rattle.std.proofs.Common.{◌≡◌, ◌≢◌, ℕ, zero, suc, ◌+◌, ◌<◌, ◌≤◌, true, List, [], ◌∷◌, ◌++◌, length, map, take, Option, Some, None, refl, sym, ◌∙◌, ap, subst, arith}
 use Rattle.std.proofs.Math.Numerals.{add-one}
 use Rattle.sd_disk.specs.Contents.{file_at}
 use Rattle.sd_image.specs.declared.reason.Reason.{Reason}
 use Rattle.sd_image.specs.ReasonLaws.{GoodStoreHasNoReason}
 use Rattle.sd_gate.specs.declared.phase.Phase.{Phase}
 use Rattle.sd_gate.specs.declared.settled.Settled.{Settled}
-use Rattle.sd_gate.specs.declared.settled.Settled.TheVariants.{More, Finished, Failed}
+use Rattle.sd_gate.specs.declared.settled.Settled.TheVariants.{Finished, Failed}
 use Rattle.sd_gate.specs.Calls.{is_done}
 use Rattle.sd_gate.specs.Inspections.{the_length}
 use Rattle.sd_gate.specs.Laws.{found_phase}
@@ -18,7 +18,7 @@ use Rattle.sd_restore.specs.Faulty.{IsFaulty}
 use Rattle.sd_restore.specs.Reading.{AreRightlyDigested}
 use Rattle.sd_restore.specs.Scanned.{IsScanned}
 use Rattle.sd_opener.specs.declared.stage.Stage.{Stage}
-use Rattle.sd_opener.specs.declared.stage.Stage.TheVariants.{Asking, Read, Broken}
+use Rattle.sd_opener.specs.declared.stage.Stage.TheVariants.{Asking}
 use Rattle.sd_opener.specs.Looking.{IsStageOf, Looking, out_of_look}
 use Rattle.sd_opener.specs.Sees.{IsNoStore, IsOpenStage, IsToldOf, Sees, SeesSlot}
 

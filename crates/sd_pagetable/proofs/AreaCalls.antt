@@ -1,21 +1,17 @@
 -- What a call over a range makes of the areas, and what it is refused.
-use Rattle.std.proofs.Common.{◌≡◌, ◌⊎◌, ℕ, ◌<◌, ◌≤◌, length, Bool, true, false, cond, nat_eq, nat_lt, is_some, Option, Some, None, Result, Ok, Err, is_ok, IfOk, OnOk, OnErr, IfErr, MatchResult, unwrap_or, refl, sym, ◌∙◌, ap, subst, inl, inr, arith}
-use Rattle.std.proofs.lemmas.Bool.{cases_Bool, cond-true, cond-false, eqb-true, lt-ltb, le-ltb}
+use Rattle.std.proofs.Common.{◌≡◌, ◌⊎◌, ℕ, ◌<◌, ◌≤◌, length, Bool, true, false, cond, nat_eq, nat_lt, is_some, Option, Some, None, Result, Ok, Err, is_ok, IfOk, OnOk, OnErr, IfErr, MatchResult, refl, sym, ◌∙◌, ap, subst, arith}
+use Rattle.std.proofs.lemmas.Bool.{cond-true, cond-false, lt-ltb, le-ltb}
 use Rattle.std.proofs.lemmas.Bool.Decides.{nat_tests}
 use Rattle.std.specs.Ordering.{nat_cmp}
 use Rattle.std.specs.BTreeMap.{BTreeMap, get, is_at}
 use Rattle.std.specs.Option.{option_map}
 use Rattle.std.specs.FinMap as finmap
-use Rattle.sd_areas.proofs.Memory.{on_err}
 use Rattle.sd_areas.specs.declared.errno.Errno.{Errno}
 use Rattle.sd_areas.specs.declared.errno.Errno.TheVariants.{Enomem}
-use Rattle.sd_areas.specs.declared.errno.AreaError.{AreaError}
-use Rattle.sd_areas.specs.declared.errno.AreaError.TheVariants.{Refused as AreaRefused, OutOfMemory as AreaOutOfMemory}
 use Rattle.sd_areas.specs.Areas.{PageMap, areas_of}
 use Rattle.sd_areas.specs.Calls.{within_areas, map_result}
 use Rattle.sd_areas.specs.Pages.{page_of, pages_for}
 use Rattle.sd_areas.specs.declared.prot.Prot.{Prot}
-use Rattle.sd_areas.specs.Calls as calls
 use Rattle.sd_pagetable.specs.declared.access_error.AccessError.{AccessError}
 use Rattle.sd_pagetable.specs.declared.access_error.AccessError.TheVariants.{Refused}
 use Rattle.sd_pagetable.specs.declared.memory_error.MemoryError.{MemoryError}
@@ -25,7 +21,6 @@ use Rattle.sd_pagetable.specs.Nested.{Table, inside, is_alive, set_within}
 use Rattle.sd_pagetable.specs.Page.{PageState, fresh_page}
 use Rattle.sd_pagetable.specs.Contents.{Contents, page_count, plain_of}
 use Rattle.sd_pagetable.specs.Due.{Answers, area_due, in_space, or_else, mmap_due}
-use Rattle.sd_pagetable.specs.AreaErrors.{error_of}
 use Rattle.sd_pagetable.specs.Kept.{prots_of, HasAreas}
 use Rattle.sd_pagetable.specs.RangeCalls.{Refuses, HasPut, HasSame, pages_due}
 use Rattle.sd_pagetable.specs.Tracking.{with_space}
@@ -78,7 +73,7 @@ nothing_over r own after is few = ap (λ x. or_else (area_due x) (pages_due afte
 
 pub pages_refused : (e : MemoryError) (pages : PageMap) (r : Result PageMap Errno) (after : Contents) → r ≡ within_areas pages → (e ≡ OutOfMemory) ⊎ (e ≡ DeniedError (Refused NoMemory))
     → (e ≡ DeniedError (Refused NoMemory) → 65536 < page_count after.spaces) → Refuses e (or_else (area_due r) (pages_due after))
-pages_refused e pages r after is h5 many = grind (arith, refused_by_pages)
+pages_refused e pages r after is given many = grind (arith, refused_by_pages)
 
 -- what `map_err` leaves at `Ok`
 pub passed_on : {A D E : Type 0} (Q : E → Type 0) (r : Result A E) (s : Result A D) (x : A) (P : A → Type 0) → MatchResult r (λ y. s ≡ Ok y) Q → is_ok s ≡ is_ok r → s ≡ Ok x → IfOk r P → P x

@@ -1,9 +1,8 @@
 -- A page that is clean after an event.
-use Rattle.std.proofs.Common.{◌≡◌, ℕ, Bool, true, false, cond, ◌||◌, List, Option, Some, None, refl, sym, ◌∙◌, ap, inl, inr, arith}
-use Rattle.std.proofs.lemmas.Bool.{or_parts}
+use Rattle.std.proofs.Common.{◌≡◌, ℕ, Bool, true, false, cond, List, Option, Some, None, refl, sym, ◌∙◌, ap, arith}
 use Rattle.sd_pagetable.specs.Page.{PageState}
 use Rattle.sd_pagetable.specs.Contents.{Contents, page_at}
-use Rattle.sd_pagetable.specs.Tracking.{MemoryEvent, touches, clears}
+use Rattle.sd_pagetable.specs.Tracking.{MemoryEvent, clears}
 use Rattle.sd_pagetable.specs.PageLaw.{ComesFrom, CleanLaw, clean_at, clean_bytes}
 use Rattle.sd_pagetable.proofs.LawEvents.{page_law}
 
@@ -21,7 +20,7 @@ clean_there o page bytes there d b = ap clean_bytes there ∙ ap (λ x. cond x N
 
 was_clean : (old : Contents) (event : MemoryEvent) (space number : ℕ) (bytes : List ℕ) (after : PageState) → clears space number event ≡ false → after.soft_dirty ≡ false → after.bytes ≡ bytes
     → ComesFrom old event space number after → clean_at old space number ≡ Some bytes
-was_clean old event space number bytes after c d b h9 = grind arith
+was_clean old event space number bytes after c d b given = grind arith
 
 pub clean_law : CleanLaw
 clean_law old new event space number bytes sound step c clean =

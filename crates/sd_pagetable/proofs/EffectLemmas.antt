@@ -1,10 +1,9 @@
 -- What an event makes of the plain memory.
-use Rattle.std.proofs.Common.{◌≡◌, ℕ, List, Option, Some, refl, sym, ◌∙◌, ap, arith}
-use Rattle.std.specs.Option.{option_map, option_map_or}
+use Rattle.std.proofs.Common.{◌≡◌, ℕ, List, Some, refl, sym, ◌∙◌, ap, arith}
 use Rattle.std.specs.FinMap as finmap
 use Rattle.sd_areas.specs.declared.prot.Prot.{Prot}
 use Rattle.sd_areas.specs.PlainMemory as plain
-use Rattle.sd_pagetable.specs.Nested.{inside, put_at, set_within, remove_within, change_within}
+use Rattle.sd_pagetable.specs.Nested.{inside, set_within, remove_within, change_within}
 use Rattle.sd_pagetable.specs.Page.{PageState, plain_page, fresh_page, protected_page, cleared_page, stored_page, writable_page, zeros}
 use Rattle.sd_pagetable.specs.Access.{stored_at}
 use Rattle.sd_pagetable.specs.Contents.{Contents, page_at, put_page, plain_of}

@@ -1,5 +1,5 @@
 -- The first page of a space, as the tables have it.
-use Rattle.std.proofs.Common.{◌≡◌, ℕ, is_some, Option, Some, None, refl, sym, ◌∙◌, ap, subst, arith}
+use Rattle.std.proofs.Common.{◌≡◌, ℕ, is_some, Option, Some, None, sym, ◌∙◌, ap, arith}
 use Rattle.std.specs.Option.{option_map, IfSome}
 use Rattle.std.specs.FinMap as finmap
 use Rattle.std.specs.declared.ops.Bound.{Bound}
@@ -9,7 +9,7 @@ use Rattle.sd_frames.specs.Frames.{Pool}
 use Rattle.sd_pagetable.specs.Nested.{Table, Nested, inside, value_at}
 use Rattle.sd_pagetable.specs.Page.{PageState}
 use Rattle.sd_pagetable.specs.Contents.{Contents, page_at}
-use Rattle.sd_pagetable.specs.View.{page_of_entry, entry_of, contents_of, HasEntry}
+use Rattle.sd_pagetable.specs.View.{entry_of, contents_of, HasEntry}
 use Rattle.sd_pagetable.proofs.NestedLemmas.{value_at-map}
 use Rattle.sd_pagetable.proofs.ViewLemmas.{entry_there}
 

@@ -9,7 +9,7 @@ use Rattle.sd_pagetable.specs.declared.memory_refusal.MemoryRefusal.TheVariants.
 use Rattle.sd_pagetable.specs.Nested.{Nested, value_at, put_at}
 use Rattle.sd_pagetable.specs.Page.{writable_page}
 use Rattle.sd_pagetable.specs.Contents.{Contents, page_at, put_page, members, is_full, is_alone}
-use Rattle.sd_frames.specs.Frames.{Pool, Cell, cell_at, count_at, IsExhausted, HasFree, frame_bytes}
+use Rattle.sd_frames.specs.Frames.{Pool, Cell, count_at, IsExhausted, HasFree, frame_bytes}
 use Rattle.sd_pagetable.specs.View.{page_of_entry, contents_of, IsKept}
 use Rattle.sd_pagetable.specs.Owning.{is_own, OwnsFrame}
 use Rattle.sd_pagetable.specs.Tracking.{MakesWritable}

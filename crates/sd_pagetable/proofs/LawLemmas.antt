@@ -1,10 +1,10 @@
 -- The tracking law over whole histories.
-use Rattle.std.proofs.Common.{◌≡◌, ℕ, Bool, true, false, cond, ◌||◌, List, [], ◌∷◌, Option, Some, None, Ok, refl, sym, ◌∙◌, ap, subst, inl, inr, arith}
+use Rattle.std.proofs.Common.{◌≡◌, ℕ, Bool, true, false, cond, ◌||◌, List, [], ◌∷◌, Option, Some, None, Ok, sym, ◌∙◌, ap, subst, inl, inr, arith}
 use Rattle.std.specs.Option.{option_map_or}
 use Rattle.sd_areas.specs.Pages.{page_of}
-use Rattle.sd_pagetable.specs.Page.{PageState, plain_page}
+use Rattle.sd_pagetable.specs.Page.{PageState}
 use Rattle.sd_pagetable.specs.Contents.{Contents, page_at, plain_of}
-use Rattle.sd_pagetable.specs.Tracking.{MemoryEvent, Step, Tracks, TracksLaw, IsBeginning, BitsLaw, TryLaw, touches, clears, makes_writable, write_protects, is_dirty, is_writable}
+use Rattle.sd_pagetable.specs.Tracking.{MemoryEvent, Step, Tracks, TracksLaw, IsBeginning, BitsLaw, TryLaw, touches, clears, is_dirty, is_writable}
 use Rattle.std.specs.Prelude.{Result}
 use Rattle.sd_areas.specs.PlainMemory as plain
 use Rattle.sd_pagetable.specs.declared.access_error.AccessError.{AccessError}
@@ -12,13 +12,12 @@ use Rattle.sd_pagetable.specs.declared.access_error.AccessError.TheVariants.{Ref
 use Rattle.sd_pagetable.specs.declared.memory_refusal.MemoryRefusal.TheVariants.{Einval, NoSuchSpace}
 use Rattle.sd_pagetable.specs.declared.access.Access.TheVariants.{Write}
 use Rattle.sd_pagetable.specs.declared.store_outcome.StoreOutcome.{StoreOutcome}
-use Rattle.sd_pagetable.specs.declared.store_outcome.StoreOutcome.TheVariants.{Done, NeedsFault}
-use Rattle.sd_pagetable.specs.Nested.{value_at}
+use Rattle.sd_pagetable.specs.declared.store_outcome.StoreOutcome.TheVariants.{NeedsFault}
 use Rattle.sd_pagetable.specs.Due.{access_due, answer, page_due, try_outcome, try_answer}
 use Rattle.sd_pagetable.specs.PageLaw.{ComesFrom}
 use Rattle.sd_pagetable.proofs.LawEvents.{comes, changed}
 use Rattle.sd_pagetable.proofs.NestedLemmas.{value_at-map}
-use Rattle.sd_pagetable.proofs.LawTests.{dirty_more, writable_more, writable_is_dirty}
+use Rattle.sd_pagetable.proofs.LawTests.{dirty_more, writable_is_dirty}
 
 pub tracks_more : (history : List MemoryEvent) (event : MemoryEvent) (old new : Contents) → Tracks history old → Step old event new → Tracks (event ∷ history) new
 tracks_more history event old new tracks step = record {
@@ -36,7 +35,7 @@ tracks_more history event old new tracks step = record {
         ∙ sym (dirty_more event history space number ∙ ap (λ c. cond c false (touches space number event || is_dirty history space number)) m.uncleared ∙ ap (λ t. t || is_dirty history space number) m.touched)
 
     writable_then : (space number : ℕ) (page : PageState) → ComesFrom old event space number page → page.writable ≡ is_writable (event ∷ history) space number
-    writable_then space number page h3 = grind arith
+    writable_then space number page given = grind arith
 
 tracks_none : (contents : Contents) → IsBeginning contents → Tracks [] contents
 tracks_none contents beginning = grind arith

@@ -1,7 +1,7 @@
 -- One event more in a history: whether a page is then dirty, and whether it is open.
-use Rattle.std.proofs.Common.{◌≡◌, ℕ, ◌+◌, suc, Bool, true, false, not, cond, ◌||◌, List, [], ◌∷◌, take, refl, sym, ◌∙◌, ap, arith}
+use Rattle.std.proofs.Common.{◌≡◌, ℕ, ◌+◌, Bool, true, false, not, cond, ◌||◌, List, [], ◌∷◌, take, refl, sym, ◌∙◌, ap, arith}
 use Rattle.std.specs.List.{list_any, prefix_len}
-use Rattle.sd_pagetable.specs.Tracking.{MemoryEvent, Mapped, Unmapped, Protected, Forked, Exited, Faulted, Tried, Stored, Cleared, Passed, touches, clears, makes_writable, write_protects, since, is_dirty, is_writable}
+use Rattle.sd_pagetable.specs.Tracking.{MemoryEvent, touches, clears, makes_writable, write_protects, since, is_dirty, is_writable}
 
 taken : (b : Bool) (event : MemoryEvent) (history : List MemoryEvent) (n : ℕ) → take (cond (not b) (1 + n) 0) (event ∷ history) ≡ cond b [] (event ∷ take n history)
 taken b event history n = grind arith

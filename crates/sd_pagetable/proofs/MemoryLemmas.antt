@@ -1,8 +1,8 @@
 -- A memory as plain memory, with its areas.
 use Rattle.std.proofs.Common.{◌≡◌, ℕ, ◌+◌, ◌≤◌, ◌%◌, Bool, true, false, cond, nat_eq, ◌&&◌, ◌||◌, is_some, List, [], Option, Some, None, IsSome, unwrap_or, refl, sym, ◌∙◌, ap, subst, inl, inr, arith}
-use Rattle.std.proofs.lemmas.Bool.{cases_Bool, cond-true, cond-false, or_parts, ltb-false, and_from, and_left, not_from_true}
+use Rattle.std.proofs.lemmas.Bool.{cases_Bool, cond-true, cond-false, or_parts, ltb-false, and_from}
 use Rattle.std.proofs.lemmas.Bool.Decides.{nat_tests}
-use Rattle.std.specs.Option.{option_map, option_map_or}
+use Rattle.std.specs.Option.{option_map}
 use Rattle.std.specs.Ordering.{nat_cmp, is_eq}
 use Rattle.std.specs.FinMap.{get-empty}
 use Rattle.std.specs.Map.{lookup}
@@ -11,14 +11,13 @@ use Rattle.std.specs.FinMap as finmap
 use Rattle.sd_areas.specs.Areas.{PageMap}
 use Rattle.sd_areas.specs.Pages.{page_of}
 use Rattle.sd_areas.specs.declared.prot.Prot.{Prot}
-use Rattle.sd_areas.specs.PlainMemory as plain
 use Rattle.sd_pagetable.specs.declared.access.Access.{Access}
-use Rattle.sd_pagetable.specs.declared.access.Access.TheVariants.{Read, Write}
+use Rattle.sd_pagetable.specs.declared.access.Access.TheVariants.{Write}
 use Rattle.sd_pagetable.specs.declared.access_error.AccessError.{AccessError}
 use Rattle.sd_pagetable.specs.declared.access_error.AccessError.TheVariants.{Segv as Stopped, Refused}
 use Rattle.sd_pagetable.specs.declared.segv.Segv.TheVariants.{Maperr, Accerr}
 use Rattle.sd_tables.specs.declared.entry.Entry.{Entry}
-use Rattle.sd_pagetable.specs.Nested.{Table, Nested, map_values, inside, value_at, is_alive, put_at}
+use Rattle.sd_pagetable.specs.Nested.{Table, Nested, map_values, value_at, is_alive, put_at}
 use Rattle.sd_pagetable.specs.Page.{PageState, plain_page, writable_page, stored_page}
 use Rattle.sd_pagetable.specs.Contents.{Contents, page_at, put_page, plain_of, IsSound}
 use Rattle.sd_pagetable.specs.View.{entry_of, HasEntry}
@@ -35,7 +34,7 @@ use Rattle.sd_pagetable.specs.declared.memory_error.MemoryError.TheVariants.{Den
 use Rattle.sd_pagetable.specs.Kept.{prots_of, HasAreas}
 use Rattle.sd_pagetable.proofs.TableLemmas.{turned_test, map_values-empty, get_put, map_values-insert, turned_in, some_of, get-map_values}
 use Rattle.sd_pagetable.proofs.ViewLemmas.{alone_in}
-use Rattle.sd_pagetable.proofs.NestedLemmas.{same_nested, value_at-insert, value_at-put, alive-put, alive-put_same, value_at-map, alive-map, alive_at, tests}
+use Rattle.sd_pagetable.proofs.NestedLemmas.{same_nested, value_at-insert, value_at-put, alive-put, alive-put_same, value_at-map, alive-map, alive_at}
 
 pub plain_alive : (m : Contents) (s : ℕ) → is_alive (plain_of m) s ≡ is_alive m.spaces s
 unfolding plain_of
@@ -191,7 +190,7 @@ writable_there m n s p (x, k, there, own, is) = (writable_page x k x.bytes, ap (
 pub stored_after : (m n l : Contents) (s address : ℕ) (bytes : List ℕ) → MakesWritable m s (page_of address) (λ b. b) n
     → IfSome (page_at n s (page_of address)) (λ (before : PageState). l ≡ put_page n s (page_of address) (stored_page before (stored_at before.bytes (address % 4096) bytes)))
     → MakesWritable m s (page_of address) (λ before. stored_at before (address % 4096) bytes) l × (plain_of l ≡ after_store (plain_of m) s address bytes)
-stored_after m n l s address bytes h6 h = grind (arith, at_put_here, put_twice, plain_stored)
+stored_after m n l s address bytes given h = grind (arith, at_put_here, put_twice, plain_stored)
 
 -- ---- the areas stay where the permissions do
 pub areas_made_writable : (areas : BTreeMap ℕ PageMap) (m n : Contents) (s p : ℕ) (f : List ℕ → List ℕ) → HasAreas areas m → MakesWritable m s p f n → HasAreas areas n

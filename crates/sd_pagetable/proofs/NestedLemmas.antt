@@ -1,11 +1,10 @@
 -- Tables of tables: what each space has at a page after a change.
-use Rattle.std.proofs.Common.{◌≡◌, ◌⊎◌, ℕ, Bool, true, false, cond, nat_eq, ◌&&◌, ◌||◌, is_some, Option, Some, None, unwrap_or, refl, sym, ◌∙◌, ap, inl, inr, arith}
+use Rattle.std.proofs.Common.{◌≡◌, ℕ, Bool, true, cond, nat_eq, ◌&&◌, ◌||◌, is_some, Option, Some, None, unwrap_or, refl, sym, ◌∙◌, ap, arith}
 use Rattle.std.proofs.lemmas.Bool.Decides.{nat_tests}
 use Rattle.std.specs.Option.{option_map}
 use Rattle.std.specs.Ordering.{nat_cmp}
 use Rattle.std.specs.FinMap as finmap
 use Rattle.std.specs.FinMap.{get-empty}
-use Rattle.std.proofs.lemmas.Bool.{cases_Bool}
 use Rattle.sd_pagetable.specs.Nested.{Table, Nested, map_values, inside, value_at, is_alive, put_at, remove_at}
 use Rattle.sd_pagetable.proofs.TableLemmas.{same_table, get_put, get_removed, get-map_values, map_values-empty}
 

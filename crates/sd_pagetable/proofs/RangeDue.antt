@@ -1,5 +1,5 @@
 -- Which refusal a call over a range is due, and the areas after it.
-use Rattle.std.proofs.Common.{◌≡◌, ◌⊎◌, ℕ, ◌+◌, ◌-◌, ◌%◌, ◌<◌, ◌≤◌, ◌^◌, Bool, true, false, not, cond, nat_eq, nat_lt, ◌&&◌, ◌||◌, is_some, IsSome, Option, Some, None, Result, Ok, Err, refl, sym, ◌∙◌, ap, subst, inl, inr, arith}
+use Rattle.std.proofs.Common.{◌≡◌, ℕ, ◌+◌, ◌-◌, ◌%◌, ◌<◌, ◌≤◌, ◌^◌, Bool, true, false, not, cond, nat_eq, nat_lt, ◌&&◌, ◌||◌, is_some, IsSome, Option, Some, None, Result, Ok, Err, refl, sym, ◌∙◌, ap, subst, arith}
 use Rattle.std.proofs.lemmas.Bool.Decides.{nat_tests}
 use Rattle.std.proofs.lemmas.Bool.{eq-eqb, ne_eqb, cond-true, cond-false}
 use Rattle.std.specs.Ordering.{nat_cmp}
@@ -21,10 +21,7 @@ use Rattle.sd_pagetable.specs.Page.{PageState, fresh_page, protected_page}
 use Rattle.sd_pagetable.specs.Contents.{Contents, plain_of, page_count, page_at}
 use Rattle.sd_pagetable.specs.Due.{answer, area_due, in_space, or_else, mmap_due, munmap_due, mprotect_due}
 use Rattle.sd_pagetable.specs.Effects.{after_mmap}
-use Rattle.sd_pagetable.specs.declared.memory_error.MemoryError.{MemoryError}
-use Rattle.sd_pagetable.specs.declared.memory_error.MemoryError.TheVariants.{Denied as DeniedError, OutOfMemory}
 use Rattle.sd_pagetable.specs.Kept.{prots_of, HasAreas}
-use Rattle.sd_pagetable.specs.RangeCalls.{Refuses}
 use Rattle.sd_pagetable.specs.Ranges.{IsCleared}
 use Rattle.sd_pagetable.specs.Tracking.{with_space}
 use Rattle.sd_pagetable.proofs.TableLemmas.{same_table, get-map_values, get-set_within, get-remove_within, get-change_within, get-fill_within}

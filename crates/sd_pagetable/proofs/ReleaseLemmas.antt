@@ -12,7 +12,7 @@ use Rattle.sd_pagetable.specs.Owning.{ReleasesFrame}
 use Rattle.sd_pagetable.proofs.NestedLemmas.{alive_at, alive-remove_same, value_at-remove}
 use Rattle.sd_pagetable.proofs.TotalLemmas.{total_within-remove}
 use Rattle.sd_pagetable.proofs.ViewLemmas.{view_put, view_remove, SameOthers, is_at, entry_there, alone_in, is_alone_in, alone_apart, one_share}
-use Rattle.sd_pagetable.proofs.KeptLemmas.{kept_put, apart_none, other_class, one_page}
+use Rattle.sd_pagetable.proofs.KeptLemmas.{kept_put, apart_none, one_page}
 
 module _ (old new : Pool) (tables : Nested Entry) (n s p : ℕ) (e : Entry) (kept : IsKept old tables n) (h : value_at tables s p ≡ Some e) (released : ReleasesFrame old new e.frame) where
   -- a frame that another entry has keeps its bytes

@@ -1,10 +1,10 @@
 -- Frames and entries as the contents of a memory, after a change of one entry.
-use Rattle.std.proofs.Common.{◌≡◌, ◌⊎◌, ℕ, ◌<◌, ◌≤◌, ◌^◌, Bool, true, false, cond, nat_eq, ◌&&◌, ◌||◌, Option, Some, None, refl, sym, ◌∙◌, ap, subst, inl, inr, arith}
+use Rattle.std.proofs.Common.{◌≡◌, ◌⊎◌, ℕ, ◌<◌, ◌≤◌, ◌^◌, Bool, true, false, cond, nat_eq, ◌&&◌, Option, Some, None, refl, sym, ◌∙◌, ap, subst, inl, inr, arith}
 use Rattle.std.proofs.lemmas.Bool.Decides.{nat_tests}
-use Rattle.std.proofs.lemmas.Bool.{cases_Bool, cond-true, and_from, eqb-true, eq-eqb}
+use Rattle.std.proofs.lemmas.Bool.{cases_Bool, cond-true, and_from, eq-eqb}
 use Rattle.std.specs.Option.{option_map, option_map_or}
 use Rattle.sd_tables.specs.declared.entry.Entry.{Entry}
-use Rattle.sd_pagetable.specs.Nested.{Nested, map_values, value_at, is_alive, put_at, remove_at}
+use Rattle.sd_pagetable.specs.Nested.{Nested, value_at, is_alive, put_at, remove_at}
 use Rattle.sd_pagetable.specs.Page.{PageState}
 use Rattle.sd_pagetable.specs.Contents.{Contents, page_at, put_page, remove_page, members, share_of, is_alone, page_count, IsWritable, IsSound}
 use Rattle.sd_frames.specs.Frames.{Pool}

@@ -1,14 +1,12 @@
 -- Pages of 4,096 bytes.
-use Rattle.std.proofs.Common.{◌≡◌, ℕ, length, replicate, Option, Some, None, IsSome, refl, sym, ◌∙◌, ap, arith}
+use Rattle.std.proofs.Common.{◌≡◌, ℕ, length, replicate, Option, Some, IsSome, arith}
 use Rattle.std.proofs.lemmas.List.{length-replicate}
-use Rattle.std.specs.Option.{option_map_or}
 use Rattle.sd_tables.specs.declared.entry.Entry.{Entry}
-use Rattle.sd_pagetable.specs.Nested.{Nested, value_at}
-use Rattle.sd_pagetable.specs.Page.{PageState, zeros}
+use Rattle.sd_pagetable.specs.Nested.{Nested}
+use Rattle.sd_pagetable.specs.Page.{zeros}
 use Rattle.sd_pagetable.specs.Contents.{AreWhole}
-use Rattle.sd_frames.specs.Frames.{Cell, Pool, cell_at, cell_bytes, HasWholeFrames, frame_bytes}
-use Rattle.sd_pagetable.specs.View.{page_of_entry, contents_of, IsKept}
-use Rattle.sd_pagetable.proofs.TableLemmas.{some_of}
+use Rattle.sd_frames.specs.Frames.{Pool, cell_at, cell_bytes, HasWholeFrames, frame_bytes}
+use Rattle.sd_pagetable.specs.View.{contents_of, IsKept}
 use Rattle.sd_pagetable.proofs.ViewLemmas.{page_at-view}
 use Rattle.sd_pagetable.proofs.KeptLemmas.{frame_used}
 use Rattle.sd_pagetable.proofs.LawEvents.{changed}

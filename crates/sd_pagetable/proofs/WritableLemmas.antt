@@ -13,7 +13,7 @@ use Rattle.sd_pagetable.specs.Owning.{is_own, TakesFrame}
 use Rattle.sd_pagetable.proofs.NestedLemmas.{alive_at}
 use Rattle.sd_pagetable.proofs.TotalLemmas.{total_within-put, total_within_ge}
 use Rattle.sd_pagetable.proofs.ViewLemmas.{view_put, same_pool, SameOthers, entry_there, is_alone_in, one_share}
-use Rattle.sd_pagetable.proofs.KeptLemmas.{kept_put, apart_same, apart_new, frame_counted, share_class, other_class}
+use Rattle.sd_pagetable.proofs.KeptLemmas.{kept_put, apart_same, apart_new, frame_counted, share_class}
 
 pub own_at : (pool : Pool) (frame : Option ℕ) (own : ℕ) → is_own pool frame ≡ true → frame ≡ Some own → count_at pool own ≡ 1
 own_at pool frame own h e = eqb-true _ _ (sym (ap (is_own pool) e) ∙ h)

@@ -5,8 +5,7 @@ use Rattle.sd_areas.specs.declared.area.Area.{Area}
 use Rattle.sd_areas.specs.Areas.{AreMaximal, is_area_after}
 
 ends_within : (before : Option Area) (area : Area) → is_area_after before area ≡ true → area.first + area.count ≤ 2 ^ 35
-ends_within None area is = grind (arith, nat_tests)
-ends_within (Some before) area is = grind (arith, nat_tests)
+ends_within before area is = grind arith
 
 pub each_ends_within : (before : Option Area) (areas : List Area) (i : ℕ) (area : Area) → AreMaximal before areas → i < length areas → area ≡ get_or areas i area
     → area.first + area.count ≤ 2 ^ 35

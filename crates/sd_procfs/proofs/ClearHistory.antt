@@ -53,17 +53,10 @@ module _ (space page : ℕ) (old now new : Contents) (next : Option ℕ) (was : 
       unchanged = cleared.others space p (grind (arith, nat_tests)) ∙ was.ahead p (is_above p page (omega (arith, above)))
 
       of : (behind : Bool) (o : Option PageState) → is_behind next p ≡ behind → page_at old space p ≡ o → (behind && is_some o) ≡ false
-      of true (Some x) e f = absurd (between next new space page p least above e (ap is_some (unchanged ∙ f)))
-      of _ _ e f = refl
+      of behind o e f = grind arith
 
   order : (p : ℕ) → (p < page) ⊎ ((p ≡ page) ⊎ (page < p))
-  order p = elim (cases_Bool (nat_lt p page)) [
-    | inl t ↦ inl (below_is p page t)
-    | inr f ↦ elim (cases_Bool (nat_lt page p)) [
-      | inl t ↦ inr (inr (below_is page p t))
-      | inr g ↦ inr (inl (omega (arith, above_is p page f, above_is page p g)))
-    ]
-  ]
+  order p = grind arith
 
   -- one page more is behind the next, if it was mapped
   more : (mapped : Bool) → is_some (page_at old space page) ≡ mapped → (p : ℕ) → (is_behind next p && is_some (page_at old space p)) ≡ ((nat_eq page p && mapped) || (nat_lt p page && is_some (page_at old space p)))
@@ -85,8 +78,7 @@ module _ (space page : ℕ) (old now new : Contents) (next : Option ℕ) (was : 
       with_below behind is_page mapped lower some b q l = ap (λ x. x && some) b ∙ sym (ap (λ x. (x && mapped) || (lower && some)) q ∙ ap (λ x. x && some) l)
 
       both : (mapped : Bool) → mapped ≡ (mapped || false)
-      both true = refl
-      both false = refl
+      both mapped = grind arith
 
       with_same : (behind is_page mapped lower some : Bool) → behind ≡ true → is_page ≡ true → lower ≡ false → some ≡ mapped → (behind && some) ≡ ((is_page && mapped) || (lower && some))
       with_same behind is_page mapped lower some b q l e = ap (λ x. x && some) b ∙ e ∙ both mapped ∙ sym (ap (λ x. (x && mapped) || (lower && some)) q ∙ ap (λ x. mapped || (x && some)) l)

@@ -33,14 +33,7 @@ never_below : (p n : ℕ) → n ≡ 0 → nat_lt p n ≡ true → ⊥
 never_below p n zero below = grind (arith, nat_tests)
 
 pub starts : (cursor : Option ℕ) (space : ℕ) (memory : Contents) → IsSome cursor → IfSome cursor (λ page. page ≡ 0) → ClearsBehind cursor space memory memory
-starts None space memory some zero = absurd (let f : false ≡ true = some in cc)
-starts (Some cursor) space memory some zero = record {
-  pool = refl;
-  alive = λ other. refl;
-  behind = λ page below. absurd (never_below page cursor zero below);
-  ahead = λ page above. refl;
-  others = λ other page differs. refl;
-}
+starts cursor space memory some h4 = grind arith
 
 -- a test and clear, also of a page that isn't mapped
 pub tested : ClearLaw → (result : Option Bool) (space page : ℕ) (old new : Contents) → result ≡ option_map (λ (p : PageState). p.soft_dirty) (page_at old space page)
@@ -67,8 +60,7 @@ apart_from : (space page other p : ℕ) → other ≢ space → is_page space pa
 apart_from space page other p differs = grind (arith, nat_tests)
 
 pub not_mapped : (o : Option PageState) → (IsSome o → ⊥) → o ≡ None
-not_mapped None none = refl
-not_mapped (Some p) none = absurd (none refl)
+not_mapped o none = grind arith
 
 pub below_is : (p n : ℕ) → nat_lt p n ≡ true → p < n
 below_is p n below = grind (arith, nat_tests)
@@ -84,8 +76,7 @@ is_above p n above = grind (arith, nat_tests)
 
 -- a page behind the one that was just cleared, before the next
 pub between : (next : Option ℕ) (memory : Contents) (space page p : ℕ) → IsNextIn memory space page next → page < p → is_behind next p ≡ true → IsSome (page_at memory space p) → ⊥
-between None memory space page p least above behind mapped = omega (arith, above, least p mapped)
-between (Some next) memory space page p least above behind mapped = omega (arith, least.2 p mapped above, below_is p next behind)
+between next memory space page p least above behind mapped = grind arith
 
 module _ (space page : ℕ) (old now new : Contents) (was : ClearsBehind (Some page) space old now) (cleared : IsClearedAt space page now new) where
   same_in : (p : ℕ) → p ≢ page → page_at new space p ≡ page_at now space p
@@ -110,10 +101,7 @@ module _ (space page : ℕ) (old now new : Contents) (was : ClearsBehind (Some p
       ]
 
   not_passed : (next : Option ℕ) → IsNextIn new space page next → (p : ℕ) → is_behind next p ≡ false → page_at new space p ≡ page_at old space p
-  not_passed None least p ahead = absurd (let f : true ≡ false = ahead in cc)
-  not_passed (Some next) least p ahead =
-      let above : page < p = omega (arith, least.0, above_is p next ahead) in
-      same_in p (λ e. omega (arith, above, e)) ∙ was.ahead p (is_above p page (omega (arith, above)))
+  not_passed next least p ahead = grind arith
 
   pub one_more : (next : Option ℕ) → IsNextIn new space page next → ClearsBehind next space old new
   one_more next least = record {

@@ -1,9 +1,7 @@
 -- Texts that are broken off.
-use Rattle.std.proofs.Common.{◌≡◌, ◌<◌, ◌≤◌, ◌+◌, ◌-◌, ℕ, codes, nat_eq, List, [], ◌∷◌, ◌++◌, Option, Result, refl, sym, ◌∙◌, ap, arith, take, drop, length, slice_index_or, map, append_assoc, append-nil}
-use Rattle.std.specs.Prelude.{filter}
+use Rattle.std.proofs.Common.{◌≡◌, ◌<◌, ◌≤◌, ◌+◌, ◌-◌, ℕ, codes, List, [], ◌∷◌, ◌++◌, Option, Result, refl, sym, ◌∙◌, ap, arith, take, drop, length, slice_index_or, map, append_assoc, append-nil}
 use Rattle.std.specs.List.{flat_map}
 use Rattle.std.specs.Io.KnownBytes.{Appends}
-use Rattle.std.proofs.KnownBytes.{Appends-trans}
 use Rattle.std.proofs.lemmas.Grind.{flat_map-append}
 use Rattle.sd_exit.specs.declared.stop.Stop.{Stop}
 use Rattle.sd_exit.specs.Ending.{OnFault}

@@ -1,15 +1,14 @@
 -- What a program's exit status says.
-use Rattle.std.proofs.Common.{◌≡◌, ◌≢◌, ◌≤◌, ◌++◌, ℕ, Bool, false, true, append-nil, List, [], Option, Some, None, Result, Ok, Err, OnOk, IfErr, refl, sym, ◌∙◌, ap, subst, inl, inr, arith, length}
-use Rattle.std.specs.Prelude.{◌⊎◌, if◌then◌else◌, filter}
-use Rattle.std.proofs.KnownBytes.{Appends-kept, Appends-nil, Appends-trans, Keeps-refl}
-use Rattle.std.proofs.lemmas.Bool.{cond-false, cond-true}
+use Rattle.std.proofs.Common.{◌≡◌, ◌≢◌, ℕ, Bool, false, true, append-nil, List, [], Option, Some, Result, Ok, Err, OnOk, IfErr, sym, ◌∙◌, ap, subst, inl, inr, arith, length}
+use Rattle.std.specs.Prelude.{filter}
+use Rattle.std.proofs.KnownBytes.{Appends-trans, Keeps-refl}
 use Rattle.sd_image.specs.Image.{is_open}
 use Rattle.sd_restore.specs.Faulty.{FaultNames}
 use Rattle.sd_restore.specs.declared.fault.Fault.{Fault}
-use Rattle.sd_restore.specs.declared.fault.Fault.TheVariants.{EmptyChain, Damaged, Device, OutOfMemory}
+use Rattle.sd_restore.specs.declared.fault.Fault.TheVariants.{EmptyChain}
 use Rattle.sd_exit.specs.declared.stop.Stop.{Stop}
 use Rattle.sd_exit.specs.declared.stop.Stop.TheVariants as stop
-use Rattle.sd_exit.specs.Ending.{Exits, end_status, end_text, stop_text}
+use Rattle.sd_exit.specs.Ending.{Exits, end_status, end_text}
 use Rattle.sd_exit.specs.Texts.{fault_line}
 use Rattle.sd_exit.proofs.EndingLemmas.{only_empty}
 use Rattle.std.specs.Io.KnownBytes.{Appends, Keeps}
@@ -17,7 +16,7 @@ use Rattle.sd_readers.specs.declared.steady.Reader.{Reader}
 use Rattle.sd_readers.specs.declared.steady.Reader.TheVariants as reader
 use Rattle.sd_readers.specs.Printed.{Prints}
 use Rattle.sd_readers.specs.Texts.{memory_text, verdict_text}
-use Rattle.sd_readers.specs.Ending.{EndsWithOne, IsOutsideStore, StandsAlone, is_of_store}
+use Rattle.sd_readers.specs.Ending.{EndsWithOne, IsOutsideStore, StandsAlone}
 
 pub on_ok : {A B : Type 0} {P : Type 0} (result : Result A B) → P → OnOk result P
 on_ok (Ok value) p = p
@@ -31,7 +30,7 @@ module _ (before printed after : Option (List ℕ)) (refused : Bool) (status : �
   -- status 3 comes with the line of an empty chain, and nothing before it
   pub told_empty : (ended : Result Unit Stop) → Exits printed after refused (end_text ended) (end_status ended) status
       → IfErr ended (StandsAlone before printed) → status ≡ 3 → Appends before after (fault_line EmptyChain)
-  told_empty ended h1 alone is = grind arith
+  told_empty ended given alone is = grind arith
 
   -- and only where the contents show nothing
   pub empty_told : {P : Type 0} (ended : Result Unit Stop) → Exits printed after refused (end_text ended) (end_status ended) status

@@ -1,6 +1,5 @@
 -- The text of a memory is that of the pages that lie in slots.
 use Rattle.std.proofs.Common.{◌≡◌, ◌*◌, ℕ, List, [], ◌∷◌, ◌++◌, map, codes, Option, Some, refl, sym, ◌∙◌, ap, subst, arith}
-use Rattle.std.specs.Prelude.{filter, nat_eq}
 use Rattle.std.specs.List.{flat_map}
 use Rattle.std.specs.Fmt.{decimal}
 use Rattle.std.specs.FinMap as finmap
@@ -12,7 +11,7 @@ use Rattle.sd_image.specs.Shows.{Shows}
 use Rattle.sd_image.specs.Table.{Listed}
 use Rattle.sd_procfs.specs.Listing.{area_line}
 use Rattle.sd_restore.specs.Fits.{prots_in}
-use Rattle.sd_restore.specs.Placed.{IsLaidOut, PlacedPage, SpaceEntry, placed_entries, placed_memory, placed_page}
+use Rattle.sd_restore.specs.Placed.{IsLaidOut, PlacedPage, SpaceEntry, placed_entries, placed_memory}
 use Rattle.sd_readers.specs.Printed.{PrintsMemory}
 use Rattle.sd_readers.specs.Texts.{memory_text, page_text, placed_memory_text, placed_space_text}
 

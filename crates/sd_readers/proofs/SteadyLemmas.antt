@@ -1,10 +1,10 @@
 -- What came of a program that reads a store, by its parts.
-use Rattle.std.proofs.Common.{◌≡◌, ◌≢◌, ℕ, true, false, List, [], Option, Some, None, Result, Ok, Err, OnOk, IfErr, ◌++◌, append-nil, refl, ◌∙◌, ap, subst, inl, inr, length, arith}
+use Rattle.std.proofs.Common.{◌≡◌, ◌≢◌, ℕ, true, false, List, [], Option, Some, None, Result, Ok, Err, OnOk, IfErr, append-nil, refl, subst, inl, inr, length, arith}
 use Rattle.std.specs.Prelude.{filter}
 use Rattle.std.specs.Io.KnownBytes.{Appends, Keeps}
 use Rattle.sd_image.specs.Image.{is_open}
 use Rattle.sd_restore.specs.declared.fault.Fault.{Fault}
-use Rattle.sd_restore.specs.declared.fault.Fault.TheVariants.{EmptyChain, Damaged, Device, OutOfMemory}
+use Rattle.sd_restore.specs.declared.fault.Fault.TheVariants.{EmptyChain}
 use Rattle.sd_readers.specs.declared.steady.Reader.{Reader}
 use Rattle.sd_readers.specs.declared.steady.Reader.TheVariants as reader
 use Rattle.sd_exit.specs.declared.stop.Stop.{Stop}
@@ -94,7 +94,7 @@ module _ (by : Reader) (contents : List (List ℕ)) where
   unknown_text (Err why) before is = record {}
 
   unknown_beginning : (before : Option (List ℕ)) → BeginsToPrint by contents (Some []) None → BeginsToPrint by contents before None
-  unknown_beginning before h1 = grind arith
+  unknown_beginning before given = grind arith
 
   unknown_alone : (ended : Result Unit Stop) (before : Option (List ℕ)) → IfErr ended (StandsAlone (Some []) None) → IfErr ended (StandsAlone before None)
   unknown_alone ended before is = grind arith

@@ -1,12 +1,11 @@
 -- Entries by their numbers, and the acknowledgements among them.
-use Rattle.std.proofs.Common.{◌≡◌, ◌+◌, ◌<◌, ◌≤◌, ◌++◌, ℕ, true, false, List, [], ◌∷◌, length, take, drop, get_or, None, slice_get, IsTrue, refl, sym, ◌∙◌, ap, arith, append_assoc, take-append-drop, append-nil, length-append}
+use Rattle.std.proofs.Common.{◌≡◌, ◌+◌, ◌<◌, ◌≤◌, ◌++◌, ℕ, true, false, List, [], ◌∷◌, length, take, drop, get_or, None, IsTrue, refl, sym, ◌∙◌, ap, arith, append_assoc, take-append-drop, append-nil, length-append}
 use Rattle.std.specs.List.{filter_map}
 use Rattle.std.proofs.lemmas.List.{take_more, length-take-le}
 use Rattle.std.proofs.Math.Seq.{get_or-append_seam}
 use Rattle.std.proofs.lemmas.List.Elements.{filter_map-append}
-use Rattle.std.proofs.lemmas.Option.{same_Some}
 use Rattle.sd_journal.specs.declared.entry.Entry.{Entry}
-use Rattle.sd_journal.specs.declared.entry.Entry.TheVariants.{Applied, Freeze, Acked, Cancelled, Reopened}
+use Rattle.sd_journal.specs.declared.entry.Entry.TheVariants.{Applied, Acked}
 use Rattle.sd_journal.specs.Receipts.{HasCommand, IsEntryAt, acked_number, acked_numbers, is_command}
 
 -- a number has one entry

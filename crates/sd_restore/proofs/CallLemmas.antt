@@ -19,30 +19,19 @@ not_device x e = cc
 
 -- where a failure would have been the answer, none was counted
 pub none_failed : {T : Type 0} (x : T) (before now : ℕ) → before ≤ now → (before < now → IsErrOf {T = T} {E = Fault} (Ok x) Device) → now ≡ before
-none_failed x before now later stops = elim (cases_lt before now) [
-  | inl less ↦ absurd (not_device x (stops less))
-  | inr back ↦ omega (arith, later, back)
-]
+none_failed x before now later stops = grind arith
 
 -- one slot more
 pub slot_more : (contents : List (List ℕ)) (slot a b c : ℕ) → slot < length contents → b ≤ a + sum_by calls_for (take slot contents)
     → c ≤ b + calls_for (file_at contents slot) → c ≤ a + sum_by calls_for (take (slot + 1) contents)
-slot_more contents slot a b c within was now =
-    let more = sum_by_more calls_for contents slot [] within in
-    omega (arith, was, now, more)
+slot_more contents slot a b c within was now = grind (arith, sum_by_more)
 
 -- and none behind it
 pub slot_last : (contents : List (List ℕ)) (slot a b c : ℕ) → slot < length contents → b ≤ a + sum_by calls_for (take slot contents)
     → c ≤ b + calls_for (file_at contents slot) → c ≤ a + sum_by calls_for contents
-slot_last contents slot a b c within was now =
-    let more = sum_by_more_le calls_for contents slot [] within in
-    omega (arith, was, now, more)
+slot_last contents slot a b c within was now = grind (arith, sum_by_more_le)
 
 -- the pages that were placed are those of the newest image
 pub pages_within : (contents : List (List ℕ)) (places : Places) (serial : ℕ) (tip : Bor Opened) (pages : List PlacedPage) (count : ℕ) → FindsTip contents (Some tip)
     → ArePlaced places serial (mapped_pages tip.now.spaces) pages → HasPagesWithin contents count → length pages ≤ count
-pages_within contents places serial tip pages count finds placed within =
-    let low = within finds.images finds.newest.0 finds.store finds.newest.2 in
-    let same = ap (λ (spaces : List Listed). length (mapped_pages spaces)) finds.newest.1.spaces in
-    let long = sym (length-map pages mapped_of) ∙ ap length placed.are in
-    omega (arith, low, same, long)
+pages_within contents places serial tip pages count finds placed within = grind (arith, length-map)

@@ -46,10 +46,7 @@ pages_of_bytes (suc k) bytes =
 -- all pages of bytes that are whole pages
 pub pages_are_bytes : (bytes : List ℕ) (pages : List (List ℕ)) (i : ℕ) → pages ≡ first_chunks 4096 (length bytes / 4096) bytes → length bytes ≡ length bytes / 4096 * 4096
     → length pages ≤ i → flat_map (λ (page : List ℕ). page) (take i pages) ≡ bytes
-pages_are_bytes bytes pages i are whole all =
-    ap (flat_map (λ (page : List ℕ). page)) (taken_all pages i all ∙ are)
-    ∙ pages_of_bytes (length bytes / 4096) bytes
-    ∙ taken_all bytes (length bytes / 4096 * 4096) (omega (arith, whole))
+pages_are_bytes bytes pages i are whole all = grind (arith, taken_all, pages_of_bytes)
 
 -- so many pages more
 pub pages_more : (file : List ℕ) (done count len : ℕ) → len ≡ 4096 * count
@@ -80,8 +77,7 @@ digested_is file h table has is =
 -- ---- a wrong digest
 
 wrong_digest : (version : Version) (digest other : List ℕ) → version ≡ Two → digest ≢ other → (version_number version == 2 && not (bytes_eq digest other)) ≡ true
-wrong_digest One digest other is differs = absurd (let no : One ≡ Two = is in cc)
-wrong_digest Two digest other is differs = ap not (false_from_ne_true (bytes_eq digest other) (λ same. differs ((bytes_eq-Decides digest other).0 same)))
+wrong_digest version digest other is differs = grind (arith, false_from_ne_true, bytes_eq-Decides)
 
 breaks_so : (h : Header) (file : List ℕ) → h.version ≡ Two → h.digest ≢ digest_of_file file → breaks_digest h file ≡ true
 unfolding breaks_digest
@@ -90,24 +86,19 @@ breaks_so h file is differs = wrong_digest h.version h.digest (digest_of_file fi
 -- a file whose header and table are good, and its digest wrong
 pub digest_is_faulty : GoodHeaderHasNoReason → (file : List ℕ) (h : Header) (spaces : List Listed) → HasHeader file h → table_in h (table_bytes h file) ≡ Ok spaces
     → h.version ≡ Two → h.digest ≢ digest_of_file file → IsFaulty file Digest
-digest_is_faulty law file h spaces has table is differs =
-    let read : header_in (slice_range file 0 4096) (length file) ≡ Ok h = header_read law file h has in
-    let behind : table_in h (drop (4096 + 4096 * h.pages) file) ≡ Ok spaces = ap (table_in h) (sym (table_is_rest file h has.is)) ∙ table in
-    record { opens = has.opens; breaks = rw (read, behind, breaks_so h file is differs) refl }
+digest_is_faulty law file h spaces has table is differs = grind (arith, header_read, table_is_rest, breaks_so)
 
 -- ---- a right digest
 
 right_digest : (version : Version) (digest other : List ℕ) → (version_number version == 2 && not (bytes_eq digest other)) ≡ false → version ≡ Two → digest ≡ other
-right_digest One digest other e is = absurd (let no : One ≡ Two = is in cc)
-right_digest Two digest other e is = (bytes_eq-Decides digest other).0 (not-false _ e)
+right_digest version digest other e is = grind (arith, bytes_eq-Decides, not-false)
 
 kept_so : (h : Header) (file : List ℕ) → breaks_digest h file ≡ false → HasDigestOf file h
 unfolding breaks_digest
 kept_so h file kept is = right_digest h.version h.digest (digest_of_file file) kept is
 
 not_broken : {X Y : Type 0} (spaces : Result X Reason) (broken : Bool) (value : X → Y) (y : Y) → (spaces >>= λ x. cond broken (Err Digest) (Ok (value x))) ≡ Ok y → broken ≡ false
-not_broken (Ok x) false value y is = refl
-not_broken _ _ value y is = absurd cc
+not_broken spaces broken value y is = grind arith
 
 pub image_digested : GoodFileHasNoReason → GoodHeaderHasNoReason → ImageIsRightlyDigested
 image_digested good law file i image h has =

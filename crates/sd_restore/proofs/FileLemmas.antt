@@ -17,19 +17,12 @@ use Rattle.sd_restore.specs.Reading.{HasDigestOf, HasHeader, IsDecodedAs, table_
 use Rattle.sd_restore.proofs.TakeLemmas.{taken_all}
 
 index_of_first : (file : List ℕ) → slice_index (slice_range file 0 4096) 0 ≡ slice_index file 0
-index_of_first [] = refl
-index_of_first (x ∷ file) = refl
+index_of_first file = grind arith
 
 -- a file with such a header behind its gate is open
 pub has_header : (file : List ℕ) (h : Header) → slice_index (slice_range file 0 4096) 0 ≡ 165 → drop 1 (slice_range file 0 4096) ≡ header_text h
     → IsHeader h (length file) → HasHeader file h
-has_header file h gate spelled is =
-    let long : 4096 ≤ length file = omega (arith, is.fills) in
-    record {
-      opens = ap (λ b. b && nat_eq (slice_index file 0) 165) (le-leb 4096 (length file) long) ∙ ap (λ k. nat_eq k 165) (sym (index_of_first file) ∙ gate);
-      spelled = spelled;
-      is = is;
-    }
+has_header file h gate spelled is = grind (arith, le-leb, index_of_first)
 
 -- so is one whose first bytes were read, and this header in them
 pub read_header : (file : List ℕ) (h : Header) (bytes : List ℕ) (len : ℕ) → bytes ≡ slice_range file 0 4096 → len ≡ length file → slice_index bytes 0 ≡ 165
@@ -39,10 +32,7 @@ read_header file h bytes len are long gate found =
 
 -- the table is all that stands behind the data pages
 pub table_is_rest : (file : List ℕ) (h : Header) → IsHeader h (length file) → table_bytes h file ≡ drop (4096 + 4096 * h.pages) file
-table_is_rest file h is =
-    let place : ℕ = 4096 + 4096 * h.pages in
-    let count : place + h.table_len - place ≡ h.table_len = omega arith in
-    ap (λ n. take n (drop place file)) count ∙ taken_all (drop place file) h.table_len (omega (arith, length-drop place file, is.fills))
+table_is_rest file h is = grind (arith, taken_all, length-drop)
 
 -- such a file is the image that its header and its table say
 pub is_decoded : FileIsImage → (file : List ℕ) (decoded : Decoded) → HasHeader file decoded.header
@@ -61,10 +51,7 @@ header_read law file h has =
 -- and where its table breaks a rule, so does it
 pub table_is_faulty : GoodHeaderHasNoReason → (file : List ℕ) (h : Header) (reason : Reason) → HasHeader file h → table_in h (table_bytes h file) ≡ Err reason
     → IsFaulty file reason
-table_is_faulty law file h reason has breaks =
-    let read : header_in (slice_range file 0 4096) (length file) ≡ Ok h = header_read law file h has in
-    let table : table_in h (drop (4096 + 4096 * h.pages) file) ≡ Err reason = ap (table_in h) (sym (table_is_rest file h has.is)) ∙ breaks in
-    record { opens = has.opens; breaks = rw (read, table) refl }
+table_is_faulty law file h reason has breaks = grind (arith, header_read, table_is_rest)
 
 -- Images of open slots, one slot more.
 

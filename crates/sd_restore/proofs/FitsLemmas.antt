@@ -120,10 +120,7 @@ HasIts spaces e = (s : Listed) × Contains spaces s × (s.space ≡ e.0) × (fin
 
 -- a space with a greater number is one of those behind
 skips : (s : Listed) (spaces : List Listed) (f : ℕ × Space) → s.space < f.0 → HasIts (s ∷ spaces) f → HasIts spaces f
-skips s spaces f less its = elim (contains_cases s its.0 spaces its.1) [
-  | inl same ↦ let key = ap (λ (x : Listed). x.space) same in let number = its.2 in absurd (omega (arith, less, key, number))
-  | inr later ↦ (its.0, later, its.2, its.3)
-]
+skips s spaces f less its = grind arith
 
 sum_within : (h : Header) (before : ℕ) (spaces : List Listed) (es : List (ℕ × Space)) → AreSpaces h before spaces → T (is_sorted nat_cmp es)
     → ((e : ℕ × Space) → Contains es e → HasIts spaces e) → sum_by (λ (e : ℕ × Space). finmap.len e.1) es ≤ sum_by (λ (s : Listed). sum_by (λ (a : Area). a.count) s.areas) spaces
@@ -176,8 +173,7 @@ listed_with number spaces any =
 
 pub same_prot : (listed : Option Prot) (space page : ℕ) (images : List Image) (i : Image) (o : Option Page)
     → MatchOption o (listed ≡ None) (λ (p : Page). (listed ≡ Some p.prot) × Holds images space page p.bytes i) → listed ≡ option_map (λ (p : Page). p.prot) o
-same_prot listed space page images i None is = is
-same_prot listed space page images i (Some p) is = is.0
+same_prot listed space page images i o is = grind arith
 
 module _ (areas_law : AreasLaw) (one_list : OneListLaw) (counts : CountLaw) (contents : List (List ℕ)) (images : List Image) (i : Image) (memory : PlainMemory)
     (table : IsTable i.header i.spaces) (is : IsMemory images i memory) where

@@ -21,9 +21,7 @@ true_is_not_false b t f = absurd (let e : true ≡ false = sym t ∙ f in cc)
 
 no_first_fault : GoodStoreHasNoReason → (contents : List (List ℕ)) (images : List Image) (slot : ℕ) (reason : Reason) → OpenImages contents images
     → IsFirstFaulty contents slot reason → ⊥
-no_first_fault good contents images slot reason slots first =
-    let found = good contents images slot slots first.faulty.opens in
-    ok_is_no_error _ _ _ found.2 first.faulty.breaks
+no_first_fault good contents images slot reason slots first = grind arith
 
 -- no number of a list without doubles stands before itself
 differs : (x : ℕ) (xs : List ℕ) (y : ℕ) (zs : List ℕ) → AllByRecursion (λ k. nat_eq x k ≡ false) (xs ++ y ∷ zs) → nat_eq x y ≡ false

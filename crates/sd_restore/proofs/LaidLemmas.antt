@@ -38,8 +38,7 @@ use Rattle.sd_restore.proofs.MemoryLemmas.{After, empty_bare, pages_are, spaces_
 -- ---- lists that rise
 
 both : (a b : Bool) → T a → T b → T (a && b)
-both true b p q = q
-both false b p q = absurd p
+both a b p q = grind arith
 
 less_is : (a b : ℕ) → a < b → T (is_lt (nat_cmp a b))
 less_is a b less = grind (arith, nat_tests)

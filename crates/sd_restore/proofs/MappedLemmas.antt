@@ -146,8 +146,7 @@ space_of h before (t ∷ spaces) s are c = elim (contains_cases t s spaces c) [
 
 -- the runs of an image that is restored have the pages of its areas
 covers_pages : (kind : Kind) (areas : List Area) (runs : List Run) → (kind ≡ PreDump → ⊥) → Covers kind areas runs → flat_map run_pages runs ≡ flat_map area_pages areas
-covers_pages PreDump areas runs restored covers = absurd (restored refl)
-covers_pages _ areas runs restored covers = covers
+covers_pages kind areas runs restored covers = grind arith
 
 -- ---- a mapped page is listed
 

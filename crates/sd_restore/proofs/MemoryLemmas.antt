@@ -41,11 +41,7 @@ pub put_here : (m : PlainMemory) (s p : ℕ) (f : Page) → page_in (put_page m 
 put_here m s p f = page_in_put m s p p f ∙ cond-true _ _ _ (tied p p refl)
 
 pub put_elsewhere : (m : PlainMemory) (s p space page : ℕ) (f : Page) → ((s ≡ space) × (p ≡ page) → ⊥) → page_in (put_page m s p f) space page ≡ page_in m space page
-put_elsewhere m s p space page f apart = elim (cases_eq space s) [
-  | inl same ↦ subst (λ n. page_in (put_page m s p f) n page ≡ page_in m n page) (sym same)
-      (page_in_put m s p page f ∙ cond-false _ _ _ (untied page p (λ e. apart (sym same, sym e))))
-  | inr differs ↦ ap (option_and_then (λ pages. finmap.get pages page)) (other_space m s p space f differs)
-]
+put_elsewhere m s p space page f apart = grind (arith, cases_eq, page_in_put, cond-false, untied, other_space)
 
 pub put_keeps : (m : PlainMemory) (s p space : ℕ) (f : Page) → IsTrue (finmap.contains_key m s) → finmap.contains_key (put_page m s p f) space ≡ finmap.contains_key m space
 put_keeps m s p space f alive = elim (cases_eq space s) [
@@ -67,24 +63,19 @@ added memory s space b is = ap is_some (get-insert nat_cmp_total memory s finmap
     turned s space false is = grind (arith, nat_tests)
 
     or_true : (x : Bool) → true ≡ (x || true)
-    or_true true = refl
-    or_true false = refl
+    or_true x = grind arith
 
     or_false : (x : Bool) → x ≡ (x || false)
-    or_false true = refl
-    or_false false = refl
+    or_false x = grind arith
 
     by : (b : Bool) → eq_by_cmp nat_cmp space s ≡ b → is_some (cond (eq_by_cmp nat_cmp space s) (Some finmap.empty) (finmap.get memory space)) ≡ (finmap.contains_key memory space || b)
-    by true e = ap is_some (cond-true _ _ _ e) ∙ or_true (finmap.contains_key memory space)
-    by false e = ap is_some (cond-false _ _ _ e) ∙ or_false (finmap.contains_key memory space)
+    by b e = grind arith
 
 or_assoc : (a b c : Bool) → ((a || b) || c) ≡ (a || (b || c))
-or_assoc true b c = refl
-or_assoc false b c = refl
+or_assoc a b c = grind arith
 
 or_none : (a : Bool) → a ≡ (a || false)
-or_none true = refl
-or_none false = refl
+or_none a = grind arith
 
 pub spaces_alive : (memory : PlainMemory) (spaces : List Listed) (space : ℕ) → finmap.contains_key (with_spaces memory spaces) space
     ≡ (finmap.contains_key memory space || list_any (λ (s : Listed). nat_eq s.space space) spaces)
@@ -161,10 +152,7 @@ later_put contents p pages space page found put = record {
 }
 
 either_place : (p : PlacedPage) (space page : ℕ) → ((p.space ≡ space) × (p.page ≡ page)) ⊎ ((p.space ≡ space) × (p.page ≡ page) → ⊥)
-either_place p space page = elim (cases_eq p.space space) [
-  | inl s ↦ elim (cases_eq p.page page) [ inl q ↦ inl (s, q) | inr differs ↦ inr (λ both. differs both.1) ]
-  | inr differs ↦ inr (λ both. differs both.0)
-]
+either_place p space page = grind arith
 
 pub pages_are : (contents : List (List ℕ)) (memory : PlainMemory) (pages : List PlacedPage) (space page : ℕ)
     → After contents memory pages space page (page_in (with_pages contents memory pages) space page)

@@ -31,9 +31,7 @@ pub none_first : (r : PlacedRun) → first_pages r 0 ≡ []
 none_first r = ap (map (page_behind r)) (no_pages 0)
 
 pub one_more : (r : PlacedRun) (k : ℕ) → first_pages r (suc k) ≡ first_pages r k ++ page_behind r k ∷ []
-one_more r k =
-    ap (map (page_behind r)) (grown 0 k) ∙ map-append (page_behind r) (pages_from 0 k) ((0 + k) ∷ [])
-    ∙ ap (λ n. first_pages r k ++ page_behind r n ∷ []) (let e : 0 + k ≡ k = omega arith in e)
+one_more r k = grind (arith, grown, map-append)
 
 pub length-first : (r : PlacedRun) (k : ℕ) → length (first_pages r k) ≡ k
 length-first r zero = ap length (none_first r)
@@ -73,8 +71,7 @@ pages_placed places serial space area k (suc n) done pages r was at_space at_pag
 -- ---- what is so of all pages is so of the runs
 
 slots_of_first : (count : ℕ) (there : Found) → IsInSlots count (found_on there 0) → IsInSlots count there
-slots_of_first count found.Zero h = h
-slots_of_first count (found.Data slot offset) h = h
+slots_of_first count there h = grind arith
 
 pub runs_in_slots : (count : ℕ) (runs : List PlacedRun) → All IsWithin runs → All (λ (p : PlacedPage). IsInSlots count p.there) (placed_pages runs) → All (λ (r : PlacedRun). IsInSlots count r.there) runs
 runs_in_slots count runs within slots k d less =

@@ -30,12 +30,7 @@ abbrev pub serials_of : List Image → List ℕ
 serials_of = map (λ (i : Image). i.header.serial)
 
 pub scan_closed : ClosedSlotAddsNothing → (files : List (List ℕ)) (places : Places) (file : List ℕ) → IsScan files places → is_open file ≡ false → IsScan (files ++ file ∷ []) places
-scan_closed law files places file was closed = record {
-  catalog = law files places file was.catalog closed;
-  images = was.images;
-  store = record { slots = closed_more files was.images file was.store.slots closed; serials = was.store.serials };
-  serials = was.serials;
-}
+scan_closed law files places file was closed = grind (arith, closed_more)
 
 pub readable_closed : (files : List (List ℕ)) (file : List ℕ) → AreReadable files → is_open file ≡ false → AreReadable (files ++ file ∷ [])
 readable_closed files file was closed = record { images = was.images; are = closed_more files was.images file was.are closed }
@@ -44,14 +39,10 @@ pub readable_open : (files : List (List ℕ)) (file : List ℕ) (image : Image) 
 readable_open files file image was opens is = record { images = was.images ++ image ∷ []; are = open_more files was.images file image was.are opens is }
 
 no_image : (place : Option (Option Opened)) → ((other : Opened) → place ≡ Some (Some other) → ⊥) → has_image place ≡ false
-no_image (Some (Some i)) none = absurd (none i refl)
-no_image _ none = refl
+no_image place none = grind arith
 
 one_more : (b : Bool) (x y : Option (Option Opened)) (c : Bool) → has_image y ≡ true → has_image x ≡ c → has_image (cond b y x) ≡ (c || (b || false))
-one_more true x y true e f = e
-one_more true x y false e f = e
-one_more false x y true e f = f
-one_more false x y false e f = f
+one_more b x y c e f = grind arith
 
 turned : (a b : ℕ) → nat_eq a b ≡ nat_eq b a
 turned a b = grind (arith, nat_tests)
@@ -116,8 +107,7 @@ all_more P old new i others here all k d less = elim (others (slice_index_or (im
 ]
 
 held_stays : (b : Bool) (x : Option (Option Opened)) (i : Opened) → cond b (Some (Some i)) x ≡ Some None → x ≡ Some None
-held_stays true x i e = absurd (let no : Some (Some i) ≡ Some None = e in cc)
-held_stays false x i e = e
+held_stays b x i e = grind arith
 
 pub one_more_read : (count : ℕ) (old new : Places) (i : Opened) → Changes old new i.header.serial (Some (Some i)) → ((j : Opened) → Contains (images new) j → Contains (images old) j ⊎ (j ≡ i)) → i.slot < count
     → IsTable i.header i.spaces → i.header.parent < i.header.stands_for → AreRead count old → AreRead count new
@@ -163,20 +153,12 @@ open_scanned law contents slot scanned new i image less opens is header spaces a
 -- a serial that was there
 first_double : (contents : List (List ℕ)) (slot : ℕ) (places : Places) (i : Opened) (image : Image) → is_open (file_at contents slot) ≡ true → IsImage (file_at contents slot) image
     → place_of places image.header.serial ≡ Some (Some i) → IsScan (take slot contents) places → IsFirstDouble contents slot
-first_double contents slot places i image opens is there scan = record {
-  earlier = scan.images;
-  before = scan.store;
-  image = image;
-  opens = opens;
-  is = is;
-  double = sym (scan.serials image.header.serial) ∙ ap has_image there;
-}
+first_double contents slot places i image opens is there scan = grind arith
 
 first_here : (contents : List (List ℕ)) (slot : ℕ) (places : Places) (double : Option ℕ) (none : Bool) → none ≡ true → is_some double ≡ not none
     → (IsScan (take slot contents) places → IsFirstDouble contents slot)
     → MatchOption double (IsScan (take slot contents) places) (IsFirstDouble contents) → IsFirstDouble contents slot
-first_here contents slot places None none is has this state = this state
-first_here contents slot places (Some first) none is has this state = absurd (let e : true ≡ false = has ∙ ap not is in cc)
+first_here contents slot places double none is has this state = grind arith
 
 first_before : (contents : List (List ℕ)) (slot : ℕ) (old new : Places) (double : Option ℕ) (none : Bool) → none ≡ false → is_some double ≡ not none
     → MatchOption double (IsScan (take slot contents) old) (IsFirstDouble contents)
@@ -218,17 +200,10 @@ first_faulty contents slot fault before = names_more _ _ fault (λ s reason is.
 -- All slots.
 
 pub double_is_damage : (contents : List (List ℕ)) (scanned : Scanned) (slot : ℕ) → scanned.double ≡ Some slot → IsScanned contents (length contents) scanned → IsDamage contents slot DoubleSerial
-double_is_damage contents scanned slot is was = inr (record {
-  why = refl;
-  all = subst AreReadable (taken_all contents (length contents) (omega arith)) was.readable;
-  first = subst (λ double. MatchOption double (IsScan (take (length contents) contents) scanned.catalog) (IsFirstDouble contents)) is was.state;
-})
+double_is_damage contents scanned slot is was = grind (arith, taken_all)
 
 pub catalog_of_all : (contents : List (List ℕ)) (scanned : Scanned) → scanned.double ≡ None → IsScanned contents (length contents) scanned → IsCatalogOf contents scanned.catalog
-catalog_of_all contents scanned is was =
-    let scan : IsScan (take (length contents) contents) scanned.catalog =
-    subst (λ double. MatchOption double (IsScan (take (length contents) contents) scanned.catalog) (IsFirstDouble contents)) is was.state in
-    subst (λ files. IsCatalogOf files scanned.catalog) (taken_all contents (length contents) (omega arith)) scan.catalog
+catalog_of_all contents scanned is was = grind (arith, taken_all)
 
 pub store_of_all : (contents : List (List ℕ)) (scanned : Scanned) → scanned.double ≡ None → IsScanned contents (length contents) scanned → (images : List Image) × IsStore contents images
 store_of_all contents scanned is was =

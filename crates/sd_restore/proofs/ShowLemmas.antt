@@ -127,17 +127,7 @@ is_memory contents all places tip image pages catalog slots member table header 
 
 pub shows_tip : (contents : List (List ℕ)) (places : Places) (tip : Bor Opened) (pages : List PlacedPage) → IsCatalogOf contents places → FindsTip contents (Some tip)
     → PlacedOf places tip.now pages → Shows contents (Some (tip.now.header.checkpoint, placed_memory contents tip.now.spaces pages))
-shows_tip contents places tip pages catalog finds placed =
-    let image = finds.newest in record {
-      images = finds.images;
-      store = finds.store;
-      newest = (
-        image.0,
-        image.2,
-        ap (λ (h : Header). h.checkpoint) image.1.header,
-        is_memory contents finds.images places tip.now image.0 pages catalog finds.store.slots image.2.member image.1.spelled.table image.1.header image.1.spaces placed,
-      );
-    }
+shows_tip contents places tip pages catalog finds placed = grind (arith, is_memory)
 
 pub shows_none : (contents : List (List ℕ)) → FindsTip contents None → Shows contents None
 shows_none contents finds = record { images = finds.images; store = finds.store; newest = finds.newest }

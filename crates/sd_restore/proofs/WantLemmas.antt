@@ -21,9 +21,7 @@ header_wants before contents slot h bytes len same are long gate found =
 
 -- a file that is an image is open
 image_opens : (file : List ℕ) (image : Image) → IsImage file image → is_open file ≡ true
-image_opens file image is =
-    let long : 4096 ≤ length file = omega (arith, is.header.fills) in
-    ap (λ b. b && nat_eq (slice_index file 0) 165) (le-leb 4096 (length file) long) ∙ ap (λ (xs : List ℕ). nat_eq (slice_index xs 0) 165) is.spelled
+image_opens file image is = grind arith
 
 -- the newest image of a catalog stands in an open slot
 pub tip_opens : (contents : List (List ℕ)) (places : Places) (tip : Opened) → IsCatalogOf contents places → IsSoundCatalog places → IsTip places tip

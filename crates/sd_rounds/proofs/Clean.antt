@@ -1,5 +1,5 @@
 -- Clean pages.
-use Rattle.std.proofs.Common.{◌≡◌, ℕ, Bool, true, false, cond, List, Option, Some, None, IsSome, refl, sym, ◌∙◌, ap, arith}
+use Rattle.std.proofs.Common.{◌≡◌, ℕ, Bool, false, cond, List, Option, Some, None, IsSome, refl, sym, ◌∙◌, ap, arith}
 use Rattle.sd_pagetable.specs.Page.{PageState}
 use Rattle.sd_pagetable.specs.PageLaw.{clean_bytes}
 

@@ -7,7 +7,7 @@ use Rattle.std.specs.List.{list_all}
 use Rattle.std.specs.FinMap as finmap
 use Rattle.std.specs.FinMap.{get-empty}
 use Rattle.std.proofs.lemmas.Bool.{both_ways}
-use Rattle.sd_pagetable.specs.Nested.{Nested, Table, inside, put_at, value_at}
+use Rattle.sd_pagetable.specs.Nested.{Nested, Table, put_at, value_at}
 use Rattle.sd_pagetable.specs.Page.{PageState, cleared_page}
 use Rattle.sd_pagetable.specs.Contents.{Contents, IsSound, page_at, put_page}
 use Rattle.sd_pagetable.specs.Tracking.{Cleared, Step}

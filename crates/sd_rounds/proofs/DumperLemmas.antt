@@ -1,5 +1,5 @@
 -- What holds of every checkpoint that runs, from step to step.
-use Rattle.std.proofs.Common.{◌≡◌, ◌⊎◌, ℕ, ◌+◌, ◌≤◌, Bool, true, false, nat_eq, nat_le, ◌&&◌, if◌then◌else◌, [], ◌∷◌, length, Option, Some, None, slice_set, refl, sym, ◌∙◌, ap, subst, inl, inr, arith}
+use Rattle.std.proofs.Common.{◌≡◌, ◌⊎◌, ℕ, ◌+◌, ◌≤◌, Bool, true, false, nat_eq, nat_le, ◌&&◌, if◌then◌else◌, [], ◌∷◌, length, Option, Some, None, refl, sym, ◌∙◌, ap, subst, inl, inr, arith}
 use Rattle.std.specs.Prelude.{Result, Ok, Err, IfOk, OnErr}
 use Rattle.std.specs.Option.{option_map}
 use Rattle.std.proofs.lemmas.Bool.{both_ways, and_parts}
@@ -8,7 +8,7 @@ use Rattle.sd_image.specs.declared.header.Kind.{Kind}
 use Rattle.sd_image.specs.declared.header.Kind.TheVariants.{Dump, Merged, PreDump}
 use Rattle.sd_image.specs.Words.{kind_number}
 use Rattle.sd_gate.specs.declared.slot_state.SlotState.{SlotState}
-use Rattle.sd_gate.specs.Plans.{Gives, Planned, is_one, plan_after}
+use Rattle.sd_gate.specs.Plans.{Gives, Planned, plan_after}
 use Rattle.sd_gate.specs.Requests.{Asked, Made}
 use Rattle.sd_gate.specs.Sequences.{Calls}
 use Rattle.sd_pagetable.specs.Contents.{Contents}
@@ -17,7 +17,7 @@ use Rattle.sd_rounds.specs.declared.image_order.ImageOrder.{ImageOrder}
 use Rattle.sd_rounds.specs.declared.image_step.ImageStep.{ImageStep}
 use Rattle.sd_rounds.specs.declared.image_step.ImageStep.TheVariants.{Call, PageCall, TableCall, Frozen, Visited, Copied}
 use Rattle.sd_rounds.specs.declared.progress.Progress.{Progress}
-use Rattle.sd_rounds.specs.declared.progress.Progress.TheVariants.{Strange, Failed as HasFailed, More as GoesOnWith, PreDump as PreDumpOpen, Dump as DumpOpen}
+use Rattle.sd_rounds.specs.declared.progress.Progress.TheVariants.{Strange, More as GoesOnWith, PreDump as PreDumpOpen}
 use Rattle.sd_rounds.specs.declared.stage.Stage.{Stage}
 use Rattle.std.specs.declared.alloc.AllocError.{AllocError}
 use Rattle.std.proofs.Math.Bool.{and-false}
@@ -28,7 +28,6 @@ use Rattle.sd_rounds.specs.Making.{IsWritten, Making, PlanGoesOn, Steps, closing
 use Rattle.sd_rounds.specs.Pass.{data_pages}
 use Rattle.sd_rounds.specs.PlanSteps.{is_freeze_next, is_to_freeze}
 use Rattle.sd_rounds.specs.Writes.{writes_out}
-use Rattle.sd_gate.proofs.UseLemmas.{one_plan}
 use Rattle.sd_rounds.proofs.MakingLemmas.{copy_counts, take_counts, visit_counts}
 use Rattle.sd_rounds.proofs.WriteLemmas.{none_count, put_count, take_count}
 
@@ -222,7 +221,7 @@ more_leaves since old new made (inl g) was frozen = hands_leaves since old new m
 more_leaves since old new made (inr w) was frozen = written_leaves since old new made w was frozen
 
 more_order : (old new : Making) (made : Made) → PlanGoesOn old made new ⊎ IsWritten old made new → new.order ≡ old.order
-more_order old new made h3 = grind arith
+more_order old new made given = grind arith
 
 image_counts : (since : ℕ) (running : Running) (image : Making) → running.image ≡ Some image → IsRunning since running → is_frozen_dump image ≡ true → IsCounted since image
 image_counts since running image e is = subst (AreCounted since) e is.counts

@@ -1,6 +1,6 @@
 -- The file of an image whose table is written.
 use Rattle.std.specs.List.{concat}
-use Rattle.std.proofs.Common.{◌≡◌, ◌≢◌, ◌↔◌, Contains, List, ℕ, ◌<◌, Bool, [], ◌∷◌, Option, Some, None, is_some, refl, sym, ◌∙◌, ap, subst, inl, inr, arith}
+use Rattle.std.proofs.Common.{◌≡◌, ◌≢◌, ◌↔◌, Contains, List, ℕ, ◌<◌, Bool, [], ◌∷◌, Option, Some, is_some, sym, ◌∙◌, ap, subst, arith}
 use Rattle.std.specs.Option.{option_map}
 use Rattle.sd_image.specs.declared.header.Header.{Header}
 use Rattle.sd_image.specs.declared.header.Kind.{Kind}
@@ -18,14 +18,13 @@ use Rattle.sd_gate.specs.Requests.{Asked, Made}
 use Rattle.sd_gate.specs.Sequences.{Calls}
 use Rattle.sd_pagetable.specs.Contents.{Contents, page_at, plain_of}
 use Rattle.sd_pagetable.specs.Law.{PlainLaw}
-use Rattle.sd_pagetable.specs.Nested.{value_at}
 use Rattle.sd_pagetable.specs.Page.{PageState, plain_page}
 use Rattle.sd_rounds.specs.declared.image_order.ImageOrder.{ImageOrder}
 use Rattle.sd_rounds.specs.declared.image_progress.ImageProgress.TheVariants.{More}
 use Rattle.sd_rounds.specs.declared.image_step.ImageStep.TheVariants.{Call, TableCall}
 use Rattle.sd_rounds.specs.declared.new_image.NewImage.{NewImage}
 use Rattle.sd_rounds.specs.declared.stage.Stage.{Stage}
-use Rattle.sd_rounds.specs.declared.stage.Stage.TheVariants.{Format, Freeze, Pass as PassStage, Close}
+use Rattle.sd_rounds.specs.declared.stage.Stage.TheVariants.{Pass as PassStage}
 use Rattle.sd_rounds.specs.Dump.{IsDumped, kind_due}
 use Rattle.sd_rounds.specs.Files.{FileLaws, FilesImage, HasAreasAtFreeze, HasAreasIn, IsFiled, IsFiledIn}
 use Rattle.sd_rounds.specs.Keeps.{Chain, ChainWithin, Rests, Stored}
@@ -152,7 +151,7 @@ goes_on cut pages old new made h was =
 
 hands : (cut : Contents) (pages : Pages) (old new : Making) (made : Made) → HandsIn old made More new
     → FilesImage pages old × HasAreasAtFreeze cut old → FilesImage pages new × HasAreasAtFreeze cut new
-hands cut pages old new made h5 was = grind arith
+hands cut pages old new made given was = grind arith
 
 -- ---- the image is open
 

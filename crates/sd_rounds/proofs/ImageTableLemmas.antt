@@ -277,4 +277,4 @@ no_merged : Merged ≡ PreDump → ⊥
 no_merged e = cc
 
 pub is_other : (kind : Kind) → (kind ≡ Dump) ⊎ (kind ≡ Merged) → kind ≢ PreDump
-is_other kind h1 = grind arith
+is_other kind given = grind arith

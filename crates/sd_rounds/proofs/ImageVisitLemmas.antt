@@ -1,6 +1,5 @@
 -- Which pages an image visits, and which it leaves to its parent.
-use Rattle.std.proofs.Common.{◌≡◌, ◌⊎◌, inl, inr, ℕ, Bool, true, false, nat_eq, List, [], ◌∷◌, ◌++◌, map, Contains, None, refl, sym, ◌∙◌, ap, subst, arith}
-use Rattle.std.proofs.lemmas.Bool.{both_ways}
+use Rattle.std.proofs.Common.{◌≡◌, ◌⊎◌, inl, inr, ℕ, Bool, true, List, [], ◌∷◌, ◌++◌, map, Contains, None, refl, sym, ◌∙◌, ap, subst, arith}
 use Rattle.sd_image.specs.declared.run.RunKind.TheVariants.{Data, Parent, Zero}
 use Rattle.sd_image.specs.Shows.{pages_of}
 use Rattle.sd_gate.specs.Requests.{Asked, Made}
@@ -10,7 +9,7 @@ use Rattle.sd_rounds.specs.declared.copied.Copied.TheVariants.{More as MoreSecto
 use Rattle.sd_rounds.specs.declared.image_order.ImageOrder.{ImageOrder}
 use Rattle.sd_rounds.specs.declared.image_progress.ImageProgress.TheVariants.{More}
 use Rattle.sd_rounds.specs.declared.image_step.ImageStep.{ImageStep}
-use Rattle.sd_rounds.specs.declared.image_step.ImageStep.TheVariants.{Call, PageCall, TableCall, Frozen, Visited, Copied}
+use Rattle.sd_rounds.specs.declared.image_step.ImageStep.TheVariants.{PageCall, TableCall, Visited, Copied}
 use Rattle.sd_rounds.specs.declared.new_image.NewImage.{NewImage}
 use Rattle.sd_rounds.specs.declared.stage.Stage.{Stage}
 use Rattle.sd_rounds.specs.declared.visit.Visit as visit
@@ -72,7 +71,7 @@ steps laws still ticket visits old new before after _ s mapped was = same_pass s
 
 hands : (still : Place → Bool) (visits : List Visit) (old new : Making) (made : Made) → HandsIn old made More new
     → IsVisited still visits old → IsVisited still visits new
-hands still visits old new made h5 was = grind arith
+hands still visits old new made given was = grind arith
 
 all : VisitLaws → (still : Place → Bool) (ticket : ℕ) (visits : List Visit) (old new : Making) (before after : Contents) (request : Asked) → Steps ticket old before (TableCall request) new after
     → AreStillMapped still before → IsVisited still visits old → (at : Place) → still at ≡ true → Contains (map visited_page visits) at

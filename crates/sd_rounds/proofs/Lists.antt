@@ -1,11 +1,11 @@
 -- Lists of entries with one more.
-use Rattle.std.proofs.Common.{◌≡◌, ℕ, zero, suc, ◌+◌, ◌-◌, ◌*◌, ◌<◌, List, [], ◌∷◌, ◌++◌, length, map, take, drop, Option, Some, None, refl, sym, ◌∙◌, ap, arith}
-use Rattle.std.specs.Prelude.{filter, slice_get}
+use Rattle.std.proofs.Common.{◌≡◌, ℕ, zero, suc, ◌+◌, ◌-◌, ◌*◌, ◌<◌, List, [], ◌∷◌, ◌++◌, length, take, Option, Some, None, refl, arith}
+use Rattle.std.specs.Prelude.{slice_get}
 use Rattle.std.proofs.lemmas.List.{map-append, length-append, length-take-le, length-drop}
 use Rattle.std.proofs.Math.Seq.{take-add}
 use Rattle.std.proofs.lemmas.List.Elements.{filter-append}
 use Rattle.sd_image.specs.declared.run.RunKind.{RunKind}
-use Rattle.sd_rounds.specs.Pass.{Place, ImageEntry, pages_by, has_kind, place_of_entry, sector_of}
+use Rattle.sd_rounds.specs.Pass.{Place, ImageEntry, pages_by, sector_of}
 
 -- one entry at the end
 abbrev pub put_behind : List ImageEntry → Place → RunKind → List ImageEntry

@@ -1,5 +1,5 @@
 -- Which pages an image takes, whatever its file holds.
-use Rattle.std.proofs.Common.{◌≡◌, ◌↔◌, ℕ, ◌*◌, ◌<◌, Bool, true, false, cond, nat_eq, ◌||◌, List, [], ◌∷◌, ◌++◌, length, take, Contains, Some, None, refl, sym, ◌∙◌, ap, subst, inl, inr, arith}
+use Rattle.std.proofs.Common.{◌≡◌, ◌↔◌, ℕ, ◌*◌, ◌<◌, Bool, true, false, cond, nat_eq, ◌||◌, List, [], ◌∷◌, ◌++◌, length, Contains, Some, None, refl, sym, ◌∙◌, ap, subst, arith}
 use Rattle.std.proofs.lemmas.Bool.{both_ways}
 use Rattle.std.proofs.lemmas.List.{take_all}
 use Rattle.sd_image.specs.declared.header.Kind.{Kind}
@@ -22,7 +22,7 @@ use Rattle.sd_rounds.specs.declared.image_step.ImageStep.{ImageStep}
 use Rattle.sd_rounds.specs.declared.image_step.ImageStep.TheVariants.{Call, PageCall, TableCall, Frozen, Visited, Copied}
 use Rattle.sd_rounds.specs.declared.new_image.NewImage.{NewImage}
 use Rattle.sd_rounds.specs.declared.stage.Stage.{Stage}
-use Rattle.sd_rounds.specs.declared.stage.Stage.TheVariants.{Format, Freeze, Pass as PassStage, Close}
+use Rattle.sd_rounds.specs.declared.stage.Stage.TheVariants.{Pass as PassStage, Close}
 use Rattle.sd_rounds.specs.Dump.{DumpLaws, IsDumping, WasDue, kind_due, kind_of_bytes}
 use Rattle.sd_rounds.specs.ImageVisits.{visits_after}
 use Rattle.sd_rounds.specs.LittleWork.{HasWays, IsFrontOf, IsTaking, ListsIn, LittleLaws, TakesDue, TakesDueIn, TakesVisited, TookVisited}
@@ -34,7 +34,7 @@ use Rattle.sd_rounds.specs.Rounds.{Copies, IsNextSector, TakesPage, Tests}
 use Rattle.sd_rounds.specs.Steps.{StepLaws}
 use Rattle.sd_rounds.specs.Visits.{AreStillMapped, IsPassOf, PassSweeps, Visit, VisitLaws}
 use Rattle.sd_rounds.proofs.Clean.{no_some, one_some}
-use Rattle.sd_rounds.proofs.DumpLemmas.{ends_ways, enters_same, other_page, zeros_are_zero}
+use Rattle.sd_rounds.proofs.DumpLemmas.{ends_ways, enters_same, zeros_are_zero}
 use Rattle.sd_rounds.proofs.FileLemmas.{are_the_pages}
 use Rattle.sd_rounds.proofs.ImageVisitLemmas.{copies, takes, tests}
 use Rattle.sd_rounds.proofs.KeepsLemmas.{long_zeros}
@@ -190,7 +190,7 @@ image_goes_on cut old new memory made h past was =
 
 hands : (cut : Contents) (old new : Making) (memory : Contents) (made : Made) → HandsIn old made More new
     → is_past_freeze old.stage ≡ true → TakesDue cut old memory → TakesDue cut new memory
-hands cut old new memory made h5 past was = grind arith
+hands cut old new memory made given past was = grind arith
 
 opens : (cut : Contents) (old : Making) (made : Made) (opened : NewImage) (memory : Contents) → Opens old made opened → IsRising old.pass
     → TakesDue cut old memory → (kind : RunKind) (at : Place) → Contains (pages_of kind opened.table) at ↔ kind_due old.pass.takes_all (page_at cut at.0 at.1) ≡ Some kind
@@ -259,7 +259,7 @@ visits_go_on visits old new made h was = subst (λ (m : Making). TakesVisited vi
     by (call ∷ calls) = asked_lists old.stage (plan_after h.plan made) old.pass.entries was.lists
 
 goes_on : (visits : List Visit) (old new : Making) (made : Made) → HandsIn old made More new → TakesVisited visits old → TakesVisited visits new
-goes_on visits old new made h4 was = grind arith
+goes_on visits old new made given was = grind arith
 
 took : (visits : List Visit) (old : Making) (made : Made) (opened : NewImage) → Opens old made opened → TakesVisited visits old
     → TookVisited old.pass.takes_all visits opened.table

@@ -1,15 +1,14 @@
 -- What the steps of an image keep.
-use Rattle.std.proofs.Common.{◌≡◌, ◌≢◌, ℕ, ◌+◌, Bool, true, false, nat_eq, ◌||◌, if◌then◌else◌, List, [], ◌∷◌, ◌++◌, length, Option, Some, None, slice_set, refl, sym, ◌∙◌, ap, subst, inl, inr, arith}
+use Rattle.std.proofs.Common.{◌≡◌, ◌≢◌, ℕ, ◌+◌, Bool, true, false, nat_eq, ◌||◌, if◌then◌else◌, List, [], ◌∷◌, ◌++◌, length, Option, Some, refl, sym, ◌∙◌, ap, subst, arith}
 use Rattle.std.specs.List.{AllByRecursion, concat}
 use Rattle.std.proofs.lemmas.List.Folds.{concat-append}
 use Rattle.std.proofs.lemmas.Bool.{both_ways}
 use Rattle.std.proofs.lemmas.List.{append-nil, length-append}
 use Rattle.sd_image.specs.declared.header.Kind.{Kind}
-use Rattle.sd_image.specs.declared.header.Kind.TheVariants.{Dump, Merged, PreDump}
 use Rattle.sd_image.specs.declared.run.RunKind.{RunKind}
 use Rattle.sd_image.specs.declared.digester.Digester.{Digester}
 use Rattle.sd_image.specs.Digests.{HasFed}
-use Rattle.sd_image.specs.declared.run.RunKind.TheVariants.{Data, Parent, Zero}
+use Rattle.sd_image.specs.declared.run.RunKind.TheVariants.{Data, Parent}
 use Rattle.sd_gate.specs.declared.request_id.RequestId.{RequestId}
 use Rattle.sd_gate.specs.Plans.{Planned, plan_after}
 use Rattle.sd_gate.specs.Requests.{Made}
@@ -17,7 +16,6 @@ use Rattle.sd_gate.specs.Sequences.{Calls}
 use Rattle.sd_pagetable.specs.Contents.{Contents, IsSound}
 use Rattle.sd_pagetable.specs.Tracking.{MemoryEvent, Step}
 use Rattle.sd_rounds.specs.declared.copied.Copied as copied
-use Rattle.sd_rounds.specs.declared.copied.Copied.TheVariants.{More as MoreSectors, Zero as ZeroPage, Gone}
 use Rattle.sd_rounds.specs.declared.visit.Visit as visit
 use Rattle.sd_rounds.specs.declared.image_order.ImageOrder.{ImageOrder}
 use Rattle.sd_rounds.specs.declared.image_progress.ImageProgress.TheVariants.{More}
@@ -155,7 +153,7 @@ goes_on pages chain old new memory made h was =
 
 hands : (pages : Pages) (chain : Chain) (old new : Making) (memory : Contents) (made : Made) → HandsIn old made More new
     → KeepsImage pages chain old memory → KeepsImage pages chain new memory
-hands pages chain old new memory made h6 was = grind arith
+hands pages chain old new memory made given was = grind arith
 
 calls : KeepsLaws → (pages : Pages) (one other : Chain) (making : Making) (old new : Contents) (event : MemoryEvent) → IsSound old → Step old event new → IsCall event → ChainWithin one other
     → KeepsImage pages one making old → KeepsImage pages other making new
@@ -256,7 +254,7 @@ goes_on_dump cut pages chain old new memory made h past was =
 
 hands_dump : (cut : Contents) (pages : Pages) (chain : Chain) (old new : Making) (memory : Contents) (made : Made) → HandsIn old made More new
     → is_past_freeze old.stage ≡ true → DumpsImage cut pages chain old memory → DumpsImage cut pages chain new memory
-hands_dump cut pages chain old new memory made h7 past was = grind arith
+hands_dump cut pages chain old new memory made given past was = grind arith
 
 pub making_laws : KeepsLaws → DumpLaws → StepLaws → MakingLaws
 making_laws keeps dump laws = record {

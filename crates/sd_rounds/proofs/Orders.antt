@@ -1,6 +1,6 @@
 -- The cursor and the pages, by their order.
-use Rattle.std.proofs.Common.{◌≡◌, ◌⊎◌, ℕ, true, false, not, ◌||◌, ◌&&◌, nat_eq, nat_lt, Option, Some, None, IsSome, refl, ◌∙◌, ap, subst, inl, inr, arith}
-use Rattle.std.proofs.lemmas.Bool.{and_parts, eqb-true, not-true, not-false, cases_Bool, both_ways}
+use Rattle.std.proofs.Common.{◌≡◌, ◌⊎◌, ℕ, true, false, not, ◌||◌, ◌&&◌, nat_eq, nat_lt, Option, Some, None, IsSome, ◌∙◌, ap, inl, inr, arith}
+use Rattle.std.proofs.lemmas.Bool.{not-false, cases_Bool}
 use Rattle.std.proofs.lemmas.Bool.Decides.{nat_tests}
 use Rattle.sd_pagetable.specs.Nested.{Nested, value_at}
 use Rattle.sd_pagetable.specs.Order.{is_above, IsNextPage}

@@ -7,7 +7,6 @@ use Rattle.sd_gate.specs.declared.slot_state.SlotState.TheVariants.{Raw}
 use Rattle.sd_pagetable.specs.Contents.{Contents}
 use Rattle.sd_rounds.specs.declared.checkpoint.Checkpoint.{Checkpoint}
 use Rattle.sd_rounds.specs.declared.pass_step.PassStep.{PassStep}
-use Rattle.sd_rounds.specs.declared.pass_step.PassStep.TheVariants.{Visited, Copied}
 use Rattle.sd_rounds.specs.Dumper.{AreRunning, Dumping, IsRunning, Running, Works, WorksOn, freezes, running_of}
 use Rattle.sd_rounds.specs.PlanSteps.{HaveNoPage, image_step}
 use Rattle.sd_rounds.specs.PassSteps.{NoPageIsNext, Passes}

@@ -1,5 +1,5 @@
 -- The plan that closes the body of an image.
-use Rattle.std.proofs.Common.{◌≡◌, ℕ, ◌<◌, ◌≤◌, ◌^◌, List, length, sym, ◌∙◌, ap, subst, arith}
+use Rattle.std.proofs.Common.{◌≡◌, ℕ, ◌<◌, ◌≤◌, ◌^◌, List, length, arith}
 use Rattle.sd_gate.specs.Sequences.{IsBody}
 use Rattle.sd_image.specs.declared.header.Header.{Header}
 

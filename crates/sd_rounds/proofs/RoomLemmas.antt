@@ -2,13 +2,11 @@
 use Rattle.std.proofs.Common.{◌≡◌, ℕ, zero, suc, ◌+◌, ◌*◌, ◌-◌, ◌<◌, ◌≤◌, ◌^◌, Bool, true, false, if◌then◌else◌, List, [], ◌∷◌, length, filter, Option, Some, None, IsTrue, refl, sym, ◌∙◌, ap, subst, inl, inr, arith}
 use Rattle.std.specs.List.{flat_map}
 use Rattle.std.proofs.lemmas.List.{length-append, length-map}
-use Rattle.std.proofs.lemmas.Bool.Decides.{nat_tests}
 use Rattle.sd_areas.specs.Pages.{pages_from}
 use Rattle.sd_image.specs.declared.run.Run.{Run}
-use Rattle.sd_image.specs.declared.run.RunKind.TheVariants.{Data}
 use Rattle.sd_image.specs.Runs.{end_of}
 use Rattle.sd_image.specs.Table.{AreRuns, Listed, is_run_after}
-use Rattle.sd_rounds.specs.Pass.{Place, ImageEntry, data_pages, has_kind, place_of_entry}
+use Rattle.sd_rounds.specs.Pass.{Place, ImageEntry, data_pages}
 use Rattle.sd_rounds.specs.Made.{entries_listed, run_entries}
 use Rattle.sd_rounds.specs.Tables.{AreTables, EndBefore, EndsBefore, IsTableAfter}
 

@@ -1,7 +1,7 @@
 -- What holds of a pass in code, from step to step.
-use Rattle.std.proofs.Common.{◌≡◌, ◌≢◌, ℕ, ◌+◌, ◌*◌, ◌<◌, ◌≤◌, Bool, true, false, nat_eq, nat_lt, List, [], ◌∷◌, ◌++◌, length, Option, Some, None, refl, sym, ◌∙◌, ap, subst, inl, inr, arith}
+use Rattle.std.proofs.Common.{◌≡◌, ◌≢◌, ℕ, ◌+◌, ◌*◌, ◌<◌, ◌≤◌, Bool, true, false, List, [], ◌++◌, length, Option, Some, None, refl, sym, ◌∙◌, ap, subst, arith}
 use Rattle.std.specs.Option.{option_map}
-use Rattle.std.proofs.lemmas.Bool.{both_ways, or_cases, and_parts, ltb-true, eqb-true}
+use Rattle.std.proofs.lemmas.Bool.{both_ways}
 use Rattle.sd_image.specs.declared.run.RunKind.TheVariants.{Parent}
 use Rattle.sd_image.specs.declared.table.SpaceTable.{SpaceTable}
 use Rattle.sd_pagetable.specs.Order.{is_above}
@@ -15,7 +15,7 @@ use Rattle.std.proofs.lemmas.List.{length-append}
 use Rattle.sd_rounds.specs.Pass.{Place, ImageEntry, Pass, Taking, left_to_parent, with_entry}
 use Rattle.sd_rounds.specs.Rises.{IsRising}
 use Rattle.sd_rounds.specs.Rounds.{IsCopying, IsRound, entry_parent, is_page_of_zeros, limit, pass_of, taking_of}
-use Rattle.sd_rounds.specs.Tables.{EndBefore, IsPushed, listed, entries_in}
+use Rattle.sd_rounds.specs.Tables.{EndBefore, IsPushed, listed}
 use Rattle.sd_rounds.proofs.Clean.{no_some, one_some}
 use Rattle.sd_rounds.proofs.RisesLemmas.{takes_rising, leaves_rising, copies, enters}
 use Rattle.sd_rounds.proofs.TableLemmas.{IsFurther, end_further}

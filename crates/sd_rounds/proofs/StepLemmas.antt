@@ -7,7 +7,7 @@ use Rattle.sd_pagetable.specs.Contents.{Contents}
 use Rattle.sd_rounds.specs.declared.copied.Copied.{Copied}
 use Rattle.sd_rounds.specs.declared.copied.Copied.TheVariants as copied
 use Rattle.sd_rounds.specs.declared.visit.Visit.{Visit}
-use Rattle.sd_rounds.specs.Pass.{Pass, Taking, copied_more, data_pages, sector_of, taken_as_data, with_entry}
+use Rattle.sd_rounds.specs.Pass.{Pass, Taking, copied_more, data_pages, sector_of, with_entry}
 use Rattle.sd_rounds.specs.Keeps.{Stored, Chain, Keeps, KeepsLaws}
 use Rattle.sd_rounds.specs.Rises.{IsRising, RisesLaws}
 use Rattle.sd_rounds.specs.Dump.{DumpLaws, IsDumping, kind_of_bytes}

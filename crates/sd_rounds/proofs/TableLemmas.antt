@@ -49,7 +49,7 @@ abbrev pub IsFurther : Place → Place → Type 0
 IsFurther a b = (a.0 < b.0) ⊎ ((a.0 ≡ b.0) × (a.1 ≤ b.1))
 
 ends_further : (a b : Place) (t : Listed) → IsFurther a b → EndsBefore a t → EndsBefore b t
-ends_further a b t h3 h4 = grind arith
+ends_further a b t given also = grind arith
 
 pub end_further : (a b : Place) (tables : List Listed) → IsFurther a b → EndBefore a tables → EndBefore b tables
 end_further a b [] further ends = tt

@@ -20,9 +20,7 @@ module _ (contents : List (List ℕ)) (before now : ℕ) where
   -- an end that says nothing against the store is no fault of it
   no_fault : (P : Stop → Type 0) → ((slot : ℕ) (reason : Reason) → P (stop.Fault (fault.Damaged slot reason)) → ⊥) → (P (stop.Fault fault.Device) → ⊥)
       → (ended : Result Unit Stop) (why : OpenFault) → IfErr ended P → ended ≡ Err (unopened why) → IsFaultOf contents before now why
-  no_fault P damaged device ended (opening.Damaged slot reason) stops is = absurd (damaged slot reason (subst (λ (r : Result Unit Stop). IfErr r P) is stops))
-  no_fault P damaged device ended opening.Device stops is = absurd (device (subst (λ (r : Result Unit Stop). IfErr r P) is stops))
-  no_fault P damaged device ended _ stops is = record {}
+  no_fault P damaged device ended why stops is = grind arith
 
   pub unprinted_is_no_fault : (ended : Result Unit Stop) (why : OpenFault) → IfErr ended IsUnprinted → ended ≡ Err (unopened why) → IsFaultOf contents before now why
   unprinted_is_no_fault = no_fault IsUnprinted (λ slot reason is. is) (λ is. is)
@@ -35,16 +33,7 @@ module _ (contents : List (List ℕ)) (before now : ℕ) where
 
   -- the fault that is told is that of the opening
   told_fault : (met why : OpenFault) → unopened met ≡ unopened why → IsFaultOf contents before now met → IsFaultOf contents before now why
-  told_fault met opening.NoFrame is holds = record {}
-  told_fault met opening.OutOfMemory is holds = record {}
-  told_fault (opening.Damaged a c) (opening.Damaged b d) is holds = subst (IsFaultOf contents before now) (same_damage a b c d is) holds
-  told_fault opening.NoFrame (opening.Damaged b d) is holds = absurd (let e : stop.NoFrame ≡ stop.Fault (fault.Damaged b d) = is in cc)
-  told_fault opening.Device (opening.Damaged b d) is holds = absurd (let e : stop.Fault fault.Device ≡ stop.Fault (fault.Damaged b d) = is in cc)
-  told_fault opening.OutOfMemory (opening.Damaged b d) is holds = absurd (let e : stop.Fault fault.OutOfMemory ≡ stop.Fault (fault.Damaged b d) = is in cc)
-  told_fault opening.Device opening.Device is holds = holds
-  told_fault opening.NoFrame opening.Device is holds = absurd (let e : stop.NoFrame ≡ stop.Fault fault.Device = is in cc)
-  told_fault (opening.Damaged a c) opening.Device is holds = absurd (let e : stop.Fault (fault.Damaged a c) ≡ stop.Fault fault.Device = is in cc)
-  told_fault opening.OutOfMemory opening.Device is holds = absurd (let e : stop.Fault fault.OutOfMemory ≡ stop.Fault fault.Device = is in cc)
+  told_fault met why is holds = grind arith
 
   same_stop : (a b : Stop) (first second : Result Unit Stop) → first ≡ Err a → second ≡ Err b → first ≡ second → a ≡ b
   same_stop a b first second one two same = cc
@@ -56,18 +45,13 @@ module _ (contents : List (List ℕ)) (before now : ℕ) where
 -- ---- statuses
 
 pub unopened_is_one : (why : OpenFault) → status_of (unopened why) ≡ 1
-unopened_is_one opening.NoFrame = refl
-unopened_is_one _ = refl
+unopened_is_one why = grind arith
 
 end_is_one : (why : Stop) → IsEndOfMerge why → status_of why ≡ 1
-end_is_one (stop.Fault fault.OutOfMemory) is = refl
-end_is_one stop.Refused is = refl
-end_is_one (stop.Writer why) is = refl
-end_is_one _ is = absurd is
+end_is_one why is = grind arith
 
 pub ends_with_one : (ended : Result Unit Stop) → IfErr ended IsEndOfMerge → IfErr ended (λ why. status_of why ≡ 1)
-ends_with_one (Ok value) is = record {}
-ends_with_one (Err why) is = end_is_one why is
+ends_with_one ended is = grind arith
 
 -- ---- a script that can't be taken
 
@@ -79,8 +63,7 @@ never_writer P error.OutOfMemory = record {}
 -- it is never the end of a run
 pub unfit_is_seen : (why : ScriptError) (before after : Option (List ℕ)) (refused : Bool) (status : ℕ)
     → Exits before after refused (end_text (Err (unfit why))) (end_status (Err (unfit why))) status → status ≢ 0
-unfit_is_seen why before after refused status (inl e) zero = cause_is_seen (unfit why) (sym e.2 ∙ zero)
-unfit_is_seen why before after refused status (inr e) zero = let one : status ≡ 1 = e.1 in absurd (omega (arith, one, zero))
+unfit_is_seen why before after refused status h5 h6 = grind arith
 
 -- with status 2 the line that doesn't fit is the one that is blamed
 pub blamed_line : (told : ScriptError) (before after : Option (List ℕ)) (refused : Bool) (status : ℕ) (first : Option ℕ)

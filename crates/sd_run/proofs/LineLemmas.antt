@@ -1,5 +1,5 @@
 -- Lines that are answered, one after the other.
-use Rattle.std.proofs.Common.{◌≡◌, ◌+◌, ◌<◌, ℕ, List, [], ◌∷◌, ◌++◌, length, map, take, drop, get_or, Option, Result, Ok, Err, OnErr, OnOk, refl, sym, ◌∙◌, ap, subst, append_assoc, append-nil, take-append-drop, inl, inr}
+use Rattle.std.proofs.Common.{◌≡◌, ◌+◌, ◌<◌, ℕ, List, [], ◌∷◌, ◌++◌, length, map, take, drop, get_or, Option, Result, Ok, Err, OnErr, OnOk, refl, sym, ◌∙◌, ap, subst, append_assoc, append-nil, take-append-drop, inl, inr, arith}
 use Rattle.std.specs.List.{flat_map}
 use Rattle.std.specs.Io.KnownBytes.{Appends, Keeps}
 use Rattle.std.proofs.KnownBytes.{Appends-kept, Appends-trans, Keeps-refl}
@@ -22,10 +22,7 @@ use Rattle.sd_run.specs.Whole.{AreTold, BreaksOff, IsWholeRun, PrintsLines, Tell
 module _ {D : Type 0} (g : Ghosts D) where
   pub answered_as : (first last new : WorldView D) (line asked : Line) (reply given : Reply) → line ≡ asked → reply ≡ given → last ≡ new
       → AnswersLine g asked first (answer.Reply given) new → AnswersLine g line first (answer.Reply reply) last
-  answered_as first last new line asked reply given line_is reply_is last_is answers =
-      subst (λ l. AnswersLine g l first (answer.Reply reply) last) (sym line_is)
-      (subst (λ r. AnswersLine g asked first (answer.Reply r) last) (sym reply_is)
-      (subst (λ world. AnswersLine g asked first (answer.Reply given) world) (sym last_is) answers))
+  answered_as first last new line asked reply given line_is reply_is last_is answers = grind arith
 
   -- one line more
   pub answers_more : (first mid last : WorldView D) (lines : List Line) (answers : List Answer) (line : Line) (given : Answer)
@@ -53,12 +50,7 @@ pub stays : (a : Option (List ℕ)) → Keeps a a
 stays a = Keeps-refl a
 
 pub begins_still : (a b c : Option (List ℕ)) (text : List ℕ) → PrintsBeginning a b text → Keeps b c → PrintsBeginning a c text
-begins_still a b c text begins kept = record {
-  front = begins.front;
-  rest = begins.rest;
-  whole = begins.whole;
-  printed = Appends-kept a b c begins.front begins.printed kept;
-}
+begins_still a b c text begins kept = grind arith
 
 pub always_on_ok : {T E : Type 0} {P : Type 0} (result : Result T E) → P → OnOk result P
 always_on_ok (Ok value) p = p
@@ -152,11 +144,7 @@ module _ {D : Type 0} (g : Ghosts D) (old new : D) (before a b : Option (List �
 
 pub one_more : {A : Type 0} (all seen : List A) (item : A) → map (λ y. y) seen ≡ take (length seen) all → length seen < length all
     → item ≡ get_or all (length seen) item → all ≡ (seen ++ item ∷ []) ++ drop (length seen + 1) all
-one_more all seen item front within is =
-    let front_is : seen ≡ take (length seen) all = sym (map-id seen) ∙ front in
-    let parts : take (length seen + 1) all ≡ seen ++ item ∷ [] =
-    take_more all (length seen) item within ∙ ap (λ i. take (length seen) all ++ i ∷ []) (sym is) ∙ ap (λ f. f ++ item ∷ []) (sym front_is) in
-    sym (take-append-drop (length seen + 1) all) ∙ ap (λ f. f ++ drop (length seen + 1) all) parts
+one_more all seen item front within is = grind (arith, map-id, take_more, take-append-drop)
 
 -- ---- what holds where a call succeeded
 

@@ -1,5 +1,5 @@
 -- What is promised of the run of a script, from how its world goes on.
-use Rattle.std.proofs.Common.{◌≡◌, ℕ, true, List, [], ◌∷◌, ◌++◌, Option, Some, None, Result, IfOk, refl, sym, ◌∙◌, ap, subst}
+use Rattle.std.proofs.Common.{◌≡◌, ℕ, true, List, [], ◌∷◌, ◌++◌, Option, Some, None, Result, IfOk, refl, sym, ◌∙◌, ap, subst, arith}
 use Rattle.sd_command.specs.declared.reply.Reply.{Reply}
 use Rattle.sd_disk.specs.declared.disk.Disk.{Ghosts}
 use Rattle.sd_gate.specs.declared.worker.Worker.{Worker}
@@ -190,13 +190,7 @@ module _ {D : Type 0} (g : Ghosts D) (follow : PointsFollow g) where
   }
 
   first_starts : (old : D) (opened : WorldView D) → RunIsOpened g old opened → g.is_honest opened.disk → Starts g old (first_point opened)
-  first_starts old opened opening honest = record {
-    reads = opening.reads;
-    entries = refl;
-    begun = refl;
-    shows = opening.shows honest;
-    everywhere = opening.everywhere honest;
-  }
+  first_starts old opened opening honest = grind arith
 
   pub promise_of : (lines : List Line) (old new : D) (before now : Option (List ℕ)) (run : IsWholeRun g lines old new before now) → g.is_honest new
       → Promise g lines old new before now

@@ -1,12 +1,10 @@
 -- Lemmas on the fields of a line.
-use Rattle.std.proofs.Common.{◌≡◌, ◌≢◌, ◌<◌, ◌≤◌, ◌+◌, ◌==◌, ◌++◌, ℕ, Bool, true, false, if◌then◌else◌, List, [], ◌∷◌, map, length, take, drop, get_or, slice_set, codes, ◌-◌, Bor, Option, None, refl, arith, ap, sym, subst, ◌∙◌, suc, inl, inr, append_assoc, length-append, length-drop}
-use Rattle.std.specs.Prelude.{bytes_eq}
+use Rattle.std.proofs.Common.{◌≡◌, ◌≢◌, ◌<◌, ◌≤◌, ◌+◌, ◌==◌, ◌++◌, ℕ, Bool, List, [], ◌∷◌, map, length, take, slice_set, ◌-◌, Bor, None, refl, arith, ap, sym, ◌∙◌, inl, inr, append_assoc, length-append, length-drop}
 use Rattle.std.specs.List.{slice_split, onto_first, position_or_len, before_first, after_first}
 use Rattle.std.proofs.lemmas.Bool.{cases_Bool}
-use Rattle.std.proofs.lemmas.List.{take_all, take_more_set, length-map, length-take-le, map-append}
+use Rattle.std.proofs.lemmas.List.{take_more_set, length-map, length-take-le, map-append}
 use Rattle.std.proofs.lemmas.List.Splits.{length-slice_split, slice_split_first, slice_split-cons_no}
-use Rattle.sd_script.specs.Line.{mmap_of, munmap_of, mprotect_of, fork_of, exit_of, try_of, fault_of, words_of, store_of, load_of, begin_of, work_of, perform_of, perform_at_of, step_of, finish_of, checkpoint_of, asked_by, asked_by_word, asked_by_fields}
-use Rattle.sd_script.specs.declared.line.Line.{Line}
+use Rattle.sd_script.specs.Line.{mmap_of, munmap_of, mprotect_of, fork_of, exit_of, try_of, fault_of, words_of, store_of, load_of, begin_of, work_of, perform_of, perform_at_of, step_of, finish_of, checkpoint_of}
 
 -- the texts of fields
 abbrev pub texts : List (Bor (List ℕ)) → List (List ℕ)

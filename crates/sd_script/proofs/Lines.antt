@@ -1,8 +1,7 @@
 -- What one line of a script means.
-use Rattle.std.proofs.Common.{◌≡◌, ℕ, Bool, true, false, List, [], ◌∷◌, length, refl, arith, sym, ◌==◌, ◌||◌, ◌∙◌, slice_index}
+use Rattle.std.proofs.Common.{◌≡◌, ℕ, Bool, true, false, List, length, refl, arith, ◌==◌, ◌||◌, slice_index}
 use Rattle.std.specs.Str.{is_utf8, IsUtf8}
 use Rattle.std.proofs.lemmas.Str.{IsUtf8-from_is_utf8, is_utf8-from_IsUtf8}
-use Rattle.std.proofs.lemmas.Bool.Decides.{nat_tests}
 use Rattle.sd_script.specs.Line.{asked_by}
 use Rattle.sd_script.specs.Script.{meaning_of, asks_or_unfit, is_skipped, unfit, nothing}
 

@@ -1,12 +1,11 @@
 -- A merge beside a round.
-use Rattle.std.proofs.lemmas.Option.{same_Some, none-some}
-use Rattle.std.proofs.Common.{◌≡◌, ◌≢◌, ◌⊎◌, ◌<◌, ◌≤◌, ℕ, List, [], ◌∷◌, Some, Contains, refl, sym, ◌∙◌, ap, subst, inl, inr, arith, suc, zero, ◌+◌}
+use Rattle.std.proofs.Common.{◌≡◌, ◌⊎◌, ℕ, List, [], ◌∷◌, Some, Contains, refl, sym, ap, subst, inl, inr, arith, ◌+◌}
 use Rattle.std.specs.List.{IsDistinct}
-use Rattle.sd_image.specs.declared.header.Kind.TheVariants.{PreDump, Dump, Merged}
+use Rattle.sd_image.specs.declared.header.Kind.TheVariants.{Dump, Merged}
 use Rattle.sd_image.specs.declared.run.RunKind.TheVariants.{Data, Parent}
 use Rattle.sd_image.specs.Image.{Image}
 use Rattle.sd_image.specs.Shows.{IsNamed, IsNotAfter, IsRestorable, IsTip, ImagesShow}
-use Rattle.sd_image.proofs.Members.{contains_cases, contains_front, contains_later, contains_none}
+use Rattle.sd_image.proofs.Members.{contains_cases, contains_front, contains_none}
 use Rattle.sd_store_laws.specs.Store.{IsNextDump, IsSoundStore, IsTwin, Store, jobs}
 use Rattle.sd_store_laws.specs.Steps.{Adds, checkpoint_begun, committed, found_store, merging}
 use Rattle.sd_store_laws.specs.Beliefs.{AreSlotsOf, Belief, Kept, Closing, Opening, IsAdded, image_at}
@@ -18,7 +17,7 @@ use Rattle.sd_store_laws.proofs.StepLemmas.{steps_keep_lem}
 use Rattle.sd_store_laws.proofs.Worked.{alike_pages, each_of_one, each_of_two, holds_unchanged, holds_whole}
 
 pub restores : (i : Image) → (i.header.kind ≡ Dump) ⊎ (i.header.kind ≡ Merged) → IsRestorable i
-restores i h1 f = grind arith
+restores i given f = grind arith
 
 module _ (bytes : List ℕ) where
   abbrev pub a : Image

@@ -70,7 +70,7 @@ pub not_after_self : (i : Image) → IsNotAfter i i
 not_after_self i = inr (refl, omega arith)
 
 pub not_after_step : (a b c : Image) → IsNotAfter a b → IsNotAfter b c → IsNotAfter a c
-not_after_step a b c h3 h4 = grind arith
+not_after_step a b c given also = grind arith
 
 order_cases : (a b : Image) → IsNotAfter a b ⊎ IsNotAfter b a
 order_cases a b = grind arith
@@ -131,7 +131,7 @@ some_tip images i c is = elim (find_tip images) [
 ]
 
 pub same_pair : (i j : Image) → IsNotAfter i j → IsNotAfter j i → i.header.serial ≡ j.header.serial
-same_pair i j h2 h3 = grind arith
+same_pair i j given also = grind arith
 
 pub one_tip : (images : List Image) (i j : Image) → SerialsDiffer images → IsTip images i → IsTip images j → i ≡ j
 one_tip images i j differ a b =

@@ -92,7 +92,7 @@ abbrev IsSameTip : List Image → Image → Image → Type 0
 IsSameTip catalog tip j = (j ≡ tip) ⊎ Repeats catalog tip j
 
 not_below : (i j : Image) → IsNotAfter i j → j.header.checkpoint < i.header.checkpoint → ⊥
-not_below i j h2 less = grind arith
+not_below i j given less = grind arith
 
 tip_on : (catalog images : List Image) (jobs : List ℕ) (tip : Image) → IsHarmlessly catalog jobs images → IsTip catalog tip
     → (j : Image) × IsTip images j × IsSameTip catalog tip j
@@ -131,7 +131,7 @@ tip_holds catalog images jobs tip j memory f is (inr repeats) was =
     memory_moves catalog images tip j memory repeats.areas (record { bytes = λ space page bytes holds. (repeats.bytes images space page bytes).1 holds }) was
 
 same_checkpoint : (catalog : List Image) (tip j : Image) → IsSameTip catalog tip j → j.header.checkpoint ≡ tip.header.checkpoint
-same_checkpoint catalog tip j h3 = grind arith
+same_checkpoint catalog tip j given = grind arith
 
 pub shows_on : (catalog images : List Image) (jobs : List ℕ) (shown : Option (ℕ × PlainMemory)) → IsHarmlessly catalog jobs images
     → ImagesShow catalog shown → ImagesShow images shown
@@ -223,7 +223,7 @@ followed catalog adding images jobs pending u needs known = record {
 }
 
 pub needed_in : (catalog : List Image) (jobs : List ℕ) (i : Image) → IsNeeded catalog jobs i → Contains catalog i
-needed_in catalog jobs i h3 = grind arith
+needed_in catalog jobs i given = grind arith
 
 pending_shows : (catalog adding images : List Image) (jobs : List ℕ) (pending : Image) (next : Option (ℕ × PlainMemory)) → IsUnder catalog adding jobs pending
     → IsCut catalog (pending ∷ adding) jobs images → Contains images pending → ImagesShow (pending ∷ catalog) next

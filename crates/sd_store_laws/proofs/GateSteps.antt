@@ -6,7 +6,7 @@ use Rattle.std.proofs.lemmas.Option.{same_Some}
 use Rattle.sd_disk.specs.Contents.{file_at}
 use Rattle.sd_image.specs.Image.{Image, IsImage, gate, is_open}
 use Rattle.sd_gate.specs.declared.call.Call.{Call}
-use Rattle.sd_gate.specs.declared.call.Call.TheVariants.{Len, Read, Write, WriteHeader, Close, Open, Cut, Sync}
+use Rattle.sd_gate.specs.declared.call.Call.TheVariants.{Write, WriteHeader, Close, Open, Cut, Sync}
 use Rattle.sd_gate.specs.declared.phase.Phase.{Phase}
 use Rattle.sd_gate.specs.declared.phase.Phase.TheVariants.{Raw, RawClosing, Whole, Closing as ClosingPhase, Shut, ShutSynced, Bare, Writing, Ready, Opening as OpeningPhase, Doubt, DoubtSynced}
 use Rattle.sd_gate.specs.Fits.{IsShort, SlotFits}
@@ -16,7 +16,6 @@ use Rattle.sd_store_laws.specs.Beliefs.{Belief, Closed, Kept, Closing, Opening, 
 use Rattle.sd_store_laws.specs.SlotSteps.{IsFoundAs}
 use Rattle.sd_store_laws.specs.Gates.{BeliefsWeaken, GivenUpIsBelieved, IsBelievedAs, IsInDoubt, IsWeaker, MayBelieve}
 use Rattle.sd_store_laws.specs.GateSteps.{BeliefsFollowCalls, FilesAreBelieved, FoundIsExact, GivenUpSyncs, OneBeliefChanges, SyncedIsFound}
-use Rattle.sd_image.proofs.ReadyLemmas.{image_opens}
 use Rattle.sd_store_laws.proofs.SlotSteps.{set_other}
 
 -- ---- weaker beliefs

@@ -1,11 +1,11 @@
 -- What a crash leaves of slots in their phases is as believed.
-use Rattle.std.proofs.Common.{◌≡◌, ◌⊎◌, ℕ, zero, suc, ◌<◌, false, List, [], ◌∷◌, length, slice_get, slice_index_or, Some, refl, sym, ◌∙◌, subst, inl, inr, arith}
+use Rattle.std.proofs.Common.{◌≡◌, ◌⊎◌, ℕ, zero, suc, ◌<◌, false, List, [], ◌∷◌, length, slice_get, slice_index_or, Some, refl, sym, ◌∙◌, subst, arith}
 use Rattle.std.specs.List.{AllZip}
 use Rattle.std.proofs.lemmas.Option.{same_Some}
 use Rattle.sd_disk.specs.Contents.{file_at}
 use Rattle.sd_image.specs.Image.{Image, IsImage, gate, is_open}
 use Rattle.sd_gate.specs.declared.phase.Phase.{Phase}
-use Rattle.sd_gate.specs.declared.phase.Phase.TheVariants.{Raw, RawClosing, Whole, Closing as ClosingPhase, Shut, ShutSynced, Bare, Writing, Ready, Opening as OpeningPhase, Doubt, DoubtSynced}
+use Rattle.sd_gate.specs.declared.phase.Phase.TheVariants.{Raw}
 use Rattle.sd_gate.specs.Fits.{PhaseLeaves}
 use Rattle.sd_gate.specs.Laws.{ImageWholeOrClosed, IsClosedOrWhole}
 use Rattle.sd_store_laws.specs.Beliefs.{Belief, Closed, FitsBelief}
@@ -15,7 +15,7 @@ closed_fits : (belief : Belief) (file : List ℕ) → belief ≡ Closed → is_o
 closed_fits belief file is shut = subst (λ b. FitsBelief b file) (sym is) shut
 
 whole_or_closed : (body file : List ℕ) (i : Image) → IsImage (gate ∷ body) i → IsClosedOrWhole body file → (is_open file ≡ false) ⊎ IsImage file i
-whole_or_closed body file i is h4 = grind arith
+whole_or_closed body file i is given = grind arith
 
 doubt_fits : (body file : List ℕ) (belief : Belief) → IsInDoubt body belief → IsClosedOrWhole body file → FitsBelief belief file
 doubt_fits body file belief doubt left = grind arith

@@ -1,7 +1,7 @@
 -- The catalog of a store in use.
 use Rattle.std.proofs.Common.{◌≡◌, ◌≢◌, ◌⊎◌, ℕ, zero, suc, Bool, true, false, not, cond, nat_eq, List, [], ◌∷◌, Some, None, Contains, slice_get, refl, sym, ◌∙◌, ap, subst, inl, inr, arith}
 use Rattle.std.specs.List.{AllZip}
-use Rattle.std.proofs.lemmas.Bool.{cases_eq, eq-eqb, false≢true, ne_eqb}
+use Rattle.std.proofs.lemmas.Bool.{cases_eq, eq-eqb, ne_eqb}
 use Rattle.std.proofs.lemmas.Option.{same_Some}
 use Rattle.sd_image.specs.declared.header.Header.{Header}
 use Rattle.sd_image.specs.Image.{Image, IsImage}
@@ -145,16 +145,16 @@ move_back beliefs slot k b i other (inr e) = inr (sym (set_other beliefs slot k 
 
 -- the image of a slot with this belief
 image_of : (beliefs : List Belief) (slot : ℕ) (b : Belief) (i : Image) → slice_get beliefs slot ≡ Some b → SlotHasImage beliefs slot i → (b ≡ Kept i) ⊎ (b ≡ Closing i)
-image_of beliefs slot b i there h5 = grind arith
+image_of beliefs slot b i there given = grind arith
 
 not_opening : (i j : Image) → (Opening i ≡ Kept j) ⊎ (Opening i ≡ Closing j) → ⊥
-not_opening i j h2 = grind arith
+not_opening i j given = grind arith
 
 not_closed : (j : Image) → (Closed ≡ Kept j) ⊎ (Closed ≡ Closing j) → ⊥
-not_closed j h1 = grind arith
+not_closed j given = grind arith
 
 is_kept : (i j : Image) → (Kept i ≡ Kept j) ⊎ (Kept i ≡ Closing j) → i ≡ j
-is_kept i j h2 = grind arith
+is_kept i j given = grind arith
 
 module _ (old new : Places) (beliefs : List Belief) (o : Opened) (i : Image) (held : IsCatalogInUse old beliefs) (there : slice_get beliefs o.slot ≡ Some (Opening i))
     (told : IsToldAs o i) (none : (other : Opened) → place_of old o.header.serial ≡ Some (Some other) → ⊥) (changes : Changes old new o.header.serial (Some (Some o))) where

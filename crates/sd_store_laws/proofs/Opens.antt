@@ -1,5 +1,5 @@
 -- A store as it is found is sound, and steps leave what is shown.
-use Rattle.std.proofs.Common.{ℕ, ◌<◌, nat_eq, List, [], ◌∷◌, map, Contains, Option, Some, None, IfSome, refl, sym, ◌∙◌, ap, subst, inl, inr, arith}
+use Rattle.std.proofs.Common.{ℕ, ◌<◌, nat_eq, List, [], ◌∷◌, map, Contains, Option, Some, None, refl, sym, ◌∙◌, ap, subst, inl, inr, arith}
 use Rattle.std.specs.Prelude.{◌↔◌}
 use Rattle.std.specs.List.{IsDistinct}
 use Rattle.sd_areas.specs.PlainMemory.{PlainMemory}
@@ -8,13 +8,13 @@ use Rattle.sd_image.specs.Shows.{Holds, by_data, by_zero, by_parent, IsNamed, Is
 use Rattle.sd_image.specs.Laws.{SerialsDiffer}
 use Rattle.sd_image.proofs.Members.{contains_cases, contains_front, contains_later, contains_none}
 use Rattle.sd_store_laws.specs.Cut.{IsHarmless}
-use Rattle.sd_store_laws.specs.Store.{IsMergeSource, IsSoundStore, IsTwin, Store, jobs}
+use Rattle.sd_store_laws.specs.Store.{IsSoundStore, IsTwin, Store, jobs}
 use Rattle.sd_store_laws.specs.Steps.{Adds}
 use Rattle.sd_store_laws.specs.Opens.{OpenedIsSound, OrderIsFree, StepsShow}
 use Rattle.sd_chain.proofs.Stores.{falls}
 use Rattle.sd_image.proofs.OneImage.{not_behind as other_serials}
 use Rattle.sd_store_laws.proofs.Cuts.{cut_shows_the_same_lem, needed_in}
-use Rattle.sd_store_laws.proofs.Harmless.{pre_dump_is_harmless_lem, twin_is_harmless_lem}
+use Rattle.sd_store_laws.proofs.Harmless.{pre_dump_is_harmless_lem}
 use Rattle.sd_store_laws.proofs.Memories.{memory_moves}
 use Rattle.sd_store_laws.proofs.StepLemmas.{steps_keep_lem}
 

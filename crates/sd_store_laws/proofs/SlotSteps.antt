@@ -183,7 +183,7 @@ closes s pending beliefs slot i are there unneeded =
 
 same_added : (s t : Store) (pending : Option Image) (i : Image) → (IsFresh s i → IsFresh t i) → (IsTwin s.catalog s.source i → IsTwin t.catalog t.source i)
     → IsAdded s pending i → IsAdded t pending i
-same_added s t pending i fresh twin h6 = grind arith
+same_added s t pending i fresh twin given = grind arith
 
 same_dump : (s t : Store) (pending : Option Image) → ((i : Image) → IsNextDump s i → IsNextDump t i) → IfSome pending (IsNextDump s) → IfSome pending (IsNextDump t)
 same_dump s t pending keeps was = grind arith

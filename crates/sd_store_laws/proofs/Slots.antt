@@ -1,5 +1,5 @@
 -- What contents show whose slots are as believed.
-use Rattle.std.proofs.Common.{◌≡◌, ◌⊎◌, ℕ, false, nat_eq, List, [], ◌∷◌, map, filter_map, Option, Some, None, Contains, IfSome, refl, sym, ◌∙◌, subst, inl, inr, arith, suc}
+use Rattle.std.proofs.Common.{◌≡◌, ◌⊎◌, ℕ, false, nat_eq, List, [], ◌∷◌, map, filter_map, Option, Some, None, Contains, refl, sym, ◌∙◌, subst, inl, inr, arith, suc}
 use Rattle.std.specs.List.{AllByRecursion, AllZip, IsDistinct}
 use Rattle.std.proofs.lemmas.Bool.{ne_eqb}
 use Rattle.std.proofs.lemmas.Option.{none-some, same_Some}
@@ -9,7 +9,7 @@ use Rattle.sd_image.specs.Image.{Image, IsImage, OpenImages, is_open}
 use Rattle.sd_image.specs.Shows.{Shows, ImagesShow}
 use Rattle.sd_image.proofs.Members.{contains_cases, contains_front, contains_later, contains_none}
 use Rattle.sd_store_laws.specs.Cut.{IsHarmless, IsPending}
-use Rattle.sd_store_laws.specs.Store.{IsMergeSource, IsNextDump, IsSoundStore, Store, jobs}
+use Rattle.sd_store_laws.specs.Store.{IsNextDump, IsSoundStore, Store, jobs}
 use Rattle.sd_store_laws.specs.Beliefs.{AreSlotsOf, Belief, Closed, Kept, Closing, Opening, ContentsShow, FitsBelief, IsAdded, IsLeft, LeftImagesShow, image_in, image_at}
 use Rattle.sd_image.proofs.ReadyLemmas.{image_opens}
 use Rattle.sd_store_laws.proofs.Cuts.{cut_shows_the_same_lem, cut_shows_last_or_pending_lem}
@@ -47,7 +47,7 @@ was_opening (Opening j ∷ beliefs) i c = elim (contains_cases j i (openings bel
 
 -- what is being opened, beside the pending dump, is harmless
 harmless_or_pending : (s : Store) (pending : Option Image) (i : Image) → IsSoundStore s → IsAdded s pending i → IsHarmless s.catalog (jobs s) i ⊎ (pending ≡ Some i)
-harmless_or_pending s pending i sound h4 = grind (arith, pre_dump_is_harmless_lem, twin_is_harmless_lem)
+harmless_or_pending s pending i sound given = grind (arith, pre_dump_is_harmless_lem, twin_is_harmless_lem)
 
 left_last : (s : Store) (beliefs : List Belief) (images : List Image) (shown : Option (ℕ × PlainMemory))
     → IsSoundStore s → AreSlotsOf s None beliefs → IsLeft beliefs images → ImagesShow s.catalog shown → ImagesShow images shown

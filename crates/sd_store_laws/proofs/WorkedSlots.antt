@@ -1,17 +1,15 @@
 -- Worked stores with their slots.
-use Rattle.std.proofs.Common.{◌≡◌, ◌≢◌, ◌⊎◌, ◌<◌, ℕ, zero, suc, List, [], ◌∷◌, Some, None, Contains, refl, sym, ◌∙◌, ap, subst, inl, inr, arith}
-use Rattle.std.proofs.lemmas.Option.{same_Some, none-some}
+use Rattle.std.proofs.Common.{◌≡◌, ◌≢◌, ◌⊎◌, ◌<◌, ℕ, List, [], ◌∷◌, Some, None, Contains, refl, sym, ◌∙◌, ap, inl, inr, arith}
 use Rattle.sd_image.specs.Image.{Image}
-use Rattle.sd_image.specs.Shows.{IsNamed, IsNotAfter, IsRestorable, IsTip}
+use Rattle.sd_image.specs.Shows.{IsNamed, IsNotAfter, IsTip}
 use Rattle.sd_image.proofs.Members.{contains_cases, contains_front, contains_later, contains_none}
 use Rattle.sd_store_laws.specs.Needed.{IsCalled}
-use Rattle.sd_store_laws.specs.Store.{IsFresh, IsNextDump, IsSoundStore, IsTwin, jobs}
+use Rattle.sd_store_laws.specs.Store.{IsFresh, IsNextDump, IsSoundStore, IsTwin}
 use Rattle.sd_store_laws.specs.Steps.{cancelled, committed}
 use Rattle.sd_store_laws.specs.Beliefs.{AreSlotsOf, Belief, Closed, Kept, Closing, Opening, image_at}
 use Rattle.sd_store_laws.specs.Worked.{busy, busy_slots, merged, one_page_memory, unchanged, whole}
 use Rattle.sd_store_laws.specs.WorkedSlots.{DumpInDoubt, MergeBehindTip, PreDumpGivenUp, in_round, outrun, pre_dump}
 use Rattle.sd_store_laws.proofs.Busy.{a_tip, busy_are_slots, busy_sound, last, next, restores, saved_sound, second_dump, started, twin}
-use Rattle.sd_store_laws.proofs.Cuts.{needed_in}
 use Rattle.sd_store_laws.proofs.Growth.{called_all}
 use Rattle.sd_store_laws.proofs.Pending.{adds_front}
 use Rattle.sd_store_laws.proofs.Slots.{left_images_show_lem}

@@ -1,6 +1,6 @@
 -- A place for a table, after a change.
 use Rattle.std.proofs.Common.{◌≡◌, ℕ, ◌<◌, cond, nat_eq, IsSome, Option, Some, refl, sym, ◌∙◌, subst, arith}
-use Rattle.std.specs.Prelude.{Result, Ok, Err, IfOk, OnErr}
+use Rattle.std.specs.Prelude.{Result, IfOk, OnErr}
 use Rattle.std.proofs.lemmas.Bool.{eq-eqb, cond-true}
 use Rattle.sd_tables.specs.declared.entry.Entry.{Entry}
 use Rattle.sd_tables.specs.Radix.{HasMappedPage}

@@ -7,15 +7,14 @@ use Rattle.std.specs.Cmp.{nat_cmp_total}
 use Rattle.std.specs.FinMap as finmap
 use Rattle.std.specs.FinMap.{find, get-empty, get-from_entries, len-empty, len-insert, len-remove, empty_of_len}
 use Rattle.std.specs.declared.ops.Bound.{Bound}
-use Rattle.std.specs.declared.ops.Bound.TheVariants.{Included, Excluded, Unbounded}
-use Rattle.std.proofs.lemmas.Bool.{cases_Bool, cases_eq, cases_lt, cond-true, cond-false, eqb-true, leb-true, le-leb, lt-leb}
+use Rattle.std.proofs.lemmas.Bool.{cases_eq, cases_lt, cond-true, cond-false, eqb-true, leb-true, le-leb, lt-leb}
 use Rattle.std.proofs.lemmas.Bool.Decides.{nat_tests}
 use Rattle.sd_areas.specs.Pages.{pages_from, is_within}
 use Rattle.sd_tables.specs.declared.entry.Entry.{Entry}
 use Rattle.sd_tables.specs.Firsts.{is_from, first_allowed, IsFirstFrom}
 use Rattle.sd_tables.specs.Tables.{Table}
 use Rattle.sd_tables.specs.Radix.{table_of, IsFirstAt}
-use Rattle.sd_tables.proofs.TableLemmas.{same_table, same_test, get_put, get_removed, within_next, none_within, not_none}
+use Rattle.sd_tables.proofs.TableLemmas.{same_table, get_put, get_removed, within_next, none_within, not_none}
 
 module _ (at : ℕ → Option Entry) where
   -- the entry of a page, if it has one

@@ -89,14 +89,7 @@ none_there g world is = subst (λ o. IfSome o (λ r. ArePreDumpsThere (g.content
 there_next : (contents : List (List ℕ)) (job from : Running) (old new : Places) (opened serial : ℕ) (image : Opened) → KeepsEach old new → HasPreDumps job new (suc opened) serial
     → ArePreDumpsThere contents job old opened from.parent → place_of new serial ≡ Some (Some image) → image.header.parent ≡ from.parent → IsThere contents image
     → ArePreDumpsThere contents job new (suc opened) serial
-there_next contents job from old new opened serial image keeps has there is_in parent stands =
-    let same : has.0 ≡ image = same_image has.0 image (sym has.1.is_in ∙ is_in) in
-    let named : has.0.header.parent ≡ from.parent = ap (λ (o : Opened). o.header.parent) same ∙ parent in (
-      has.0,
-      has.1,
-      subst (IsThere contents) (sym same) stands,
-      there_still contents job old new opened has.0.header.parent keeps has.2 (subst (ArePreDumpsThere contents job old opened) (sym named) there),
-    )
+there_next contents job from old new opened serial image keeps has there is_in parent stands = grind (arith, same_image, there_still)
 
 -- ---- an image whose gate is open
 
@@ -137,16 +130,10 @@ record IsFirstRound (core : CoreView) : Type 0 where
 -- the core is as it was, or the checkpoint begins that was asked for
 begins_or_stays : (old : CoreView) (rounds : ℕ) (answer : Reply) (new : CoreView) → BeginsAs old rounds answer new
     → (new ≡ old) ⊎ ((n : ℕ) × (answer ≡ reply.Begun n) × Begins old rounds n new)
-begins_or_stays old rounds (reply.Begun n) new begins = inr (n, refl, begins)
-begins_or_stays old rounds (reply.Refused refusal.OutOfMemory) new begins = inl begins
-begins_or_stays old rounds (reply.Refused refusal.NoSlot) new begins = inl begins.1
-begins_or_stays old rounds _ new begins = absurd begins
+begins_or_stays old rounds answer new begins = grind arith
 
 begins_there : (old : CoreView) (rounds : ℕ) (answer : Reply) (new : CoreView) → BeginsAs old rounds answer new → (new ≡ old) ⊎ IsFirstRound new
-begins_there old rounds answer new begins = elim (begins_or_stays old rounds answer new begins) [
-  | inl same ↦ inl same
-  | inr begun ↦ inr (record { job = _; is = begun.2.running; none = refl; first = refl })
-]
+begins_there old rounds answer new begins = grind arith
 
 same_dumper : (old new : CoreView) → new.dumper ≡ old.dumper → SameRound old.dumper.running new.dumper.running
 same_dumper old new same = subst (SameRound old.dumper.running) (sym (ap (λ (d : Dumping). d.running) same)) (itself old.dumper.running refl)
@@ -164,13 +151,10 @@ none_goes old new idle = by new.dumper.running idle
 
 -- another worker's call leaves the dumper
 others_dumper : (worker : Worker) (old new : CoreView) → LeavesOthers worker old new → worker ≢ Dumper → new.dumper ≡ old.dumper
-others_dumper Dumper old new others other = absurd (other refl)
-others_dumper _ old new others other = others.0
+others_dumper worker old new others other = grind arith
 
 is_dumper : (worker : Worker) → (worker ≡ Dumper) ⊎ (worker ≢ Dumper)
-is_dumper Dumper = inl refl
-is_dumper Merger = inr (λ no. (let not : Merger ≡ Dumper = no in cc))
-is_dumper Opener = inr (λ no. (let not : Opener ≡ Dumper = no in cc))
+is_dumper worker = grind arith
 
 module _ {D : Type 0} (g : Ghosts D) (old new : WorldView D) (pre_new : HasItsPreDumps new.core) where
   abbrev contents : List (List ℕ)
@@ -436,8 +420,7 @@ module _ {D : Type 0} (g : Ghosts D) (old new : WorldView D) (pre_new : HasItsPr
     -- ---- the acknowledgement
 
     none_taken : (worker : Worker) (answer : Reply) → WorkerTakesUp worker old.core old.kept answer new.core new.kept → AcksThere g old answer new
-    none_taken worker answer (WorkerTakesUp.step taken left) n is = absurd (subst (λ a. AddsByStep worker old.core a (history_of old.core) (history_of new.core)) is taken.takes.adds)
-    none_taken worker answer (WorkerTakesUp.call request taken left worked) n is = absurd (let no : reply.Worked ≡ reply.Acked n = sym worked ∙ is in cc)
+    none_taken worker answer h2 n is = grind arith
 
     works_ack : (worker : Worker) (answer : Reply) → g.contents new.disk ≡ contents → HasFewOpen old.core.dumper.running → HasPreDumpsThere g old
         → WorkerWorks worker old.core old.kept answer new.core new.kept → AcksThere g old answer new

@@ -1,5 +1,5 @@
 -- What each event adds to the journal, and where it leaves the disk.
-use Rattle.std.proofs.Common.{◌≡◌, ◌≢◌, ℕ, List, [], ◌∷◌, ◌++◌, Some, Result, Ok, Err, refl, slice_get, sym, ◌∙◌, ap, subst, inl, inr}
+use Rattle.std.proofs.Common.{◌≡◌, ◌≢◌, ℕ, List, [], ◌∷◌, ◌++◌, Some, Result, Ok, Err, refl, slice_get, sym, ◌∙◌, ap, subst, inl, inr, arith}
 use Rattle.sd_command.specs.declared.command.Command.{Command as CommandOf}
 use Rattle.sd_command.specs.declared.refusal.Refusal.{Refusal}
 use Rattle.sd_command.specs.declared.reply.Reply.{Reply}
@@ -29,27 +29,18 @@ use Rattle.sd_world.proofs.TrimLemmas.{trim_cases}
 
 adds_by_step : (worker : Worker) (core : CoreView) (answer : Reply) (old new : History) → AddsByStep worker core answer old new
     → AddsByWork worker core answer old new
-adds_by_step worker core reply.Worked old new adds = adds
-adds_by_step worker core (reply.Reopened m) old new adds = adds
-adds_by_step worker core (reply.Refused why) old new adds = adds
-adds_by_step worker core _ old new adds = absurd adds
+adds_by_step worker core answer old new adds = grind arith
 
 adds_by_outcome : (worker : Worker) (core : CoreView) (answer : Reply) (old new : History) → AddsByOutcome worker answer old new
     → AddsByWork worker core answer old new
-adds_by_outcome worker core reply.Worked old new adds = inl adds
-adds_by_outcome worker core (reply.Acked n) old new adds = adds
-adds_by_outcome worker core (reply.Merged serial) old new adds = adds
-adds_by_outcome worker core (reply.Refused why) old new adds = adds
-adds_by_outcome worker core _ old new adds = absurd adds
+adds_by_outcome worker core answer old new adds = grind arith
 
 adds_by_perform : (answer : Answer) (old new : History) → new ≡ old → AddsByPerform (reply_of_answer answer) old new
-adds_by_perform Done old new same = same
-adds_by_perform _ old new same = same
+adds_by_perform answer old new same = grind arith
 
 told_adds : (seat : ℕ) (command : CommandOf) (told : Result (ℕ × Reply) Refusal) (old new : CoreView) → Applies seat command told old new
     → AddsByCommand seat command (answer_of told) (history_of old) (history_of new)
-told_adds seat command (Ok told) old new applies = inl applies
-told_adds seat command (Err why) old new applies = inr (record { why = why; either = applies.0; is = refl }, ap history_of applies.1)
+told_adds seat command told old new applies = grind arith
 
 module _ {D : Type 0} (g : Ghosts D) (old new : WorldView D) (world : IsWorld g old) where
   -- the outcome that is kept in a lane is out in it
@@ -60,9 +51,7 @@ module _ {D : Type 0} (g : Ghosts D) (old new : WorldView D) (world : IsWorld g 
 
   taken_adds : (worker : Worker) (answer : Reply) → WorkerTakesUp worker old.core old.kept answer new.core new.kept
       → AddsByWork worker old.core answer (history_of old.core) (history_of new.core)
-  taken_adds worker answer (WorkerTakesUp.step taken left) = adds_by_step worker old.core answer (history_of old.core) (history_of new.core) taken.takes.adds
-  taken_adds worker answer (WorkerTakesUp.call request taken left worked) =
-      subst (λ a. AddsByWork worker old.core a (history_of old.core) (history_of new.core)) (sym worked) (inl taken.takes.history)
+  taken_adds worker answer h2 = grind arith
 
   handed_adds : (worker : Worker) (place : ℕ) (answer : Reply) → HandsInAt worker place old.core old.kept answer new.core new.kept
       → AddsByWork worker old.core answer (history_of old.core) (history_of new.core)
@@ -84,10 +73,7 @@ module _ {D : Type 0} (g : Ghosts D) (old new : WorldView D) (world : IsWorld g 
 
   perform_adds : (worker : Worker) (place : ℕ) (answer : Reply) → Performs g worker place old.disk old.kept answer new.disk new.kept → new.core ≡ old.core
       → AddsByPerform answer (history_of old.core) (history_of new.core)
-  perform_adds worker place answer (Performs.none none idle) core = subst (λ a. AddsByPerform a (history_of old.core) (history_of new.core)) (sym idle.refused) (ap history_of core)
-  perform_adds worker place answer (Performs.performs performs) core =
-      subst (λ a. AddsByPerform a (history_of old.core) (history_of new.core)) (sym performs.keeps.replied)
-      (adds_by_perform performs.keeps.made.answer (history_of old.core) (history_of new.core) (ap history_of core))
+  perform_adds worker place answer h3 core = grind arith
 
   trim_adds : (answer : Reply) → TrimsJournal old.core answer new.core → AddsByTrim answer (history_of old.core) (history_of new.core)
   trim_adds answer trims = elim (trim_cases old.core answer new.core trims) [
@@ -122,8 +108,7 @@ module _ {D : Type 0} (g : Ghosts D) (old new : WorldView D) (world : IsWorld g 
   -- ---- the base
 
   taken_base : (worker : Worker) (answer : Reply) → WorkerTakesUp worker old.core old.kept answer new.core new.kept → new.core.base ≡ old.core.base
-  taken_base worker answer (WorkerTakesUp.step taken left) = elim taken.takes.keeps [ inl stays ↦ stays.base | inr anew ↦ anew.base ]
-  taken_base worker answer (WorkerTakesUp.call request taken left worked) = taken.takes.base
+  taken_base worker answer h2 = grind arith
 
   handed_base : (worker : Worker) (place : ℕ) (answer : Reply) → HandsInAt worker place old.core old.kept answer new.core new.kept → new.core.base ≡ old.core.base
   handed_base worker place answer hands = (hands.hands.does.handed (is_out hands.lane hands.made hands.is)).base
@@ -180,11 +165,4 @@ module _ {D : Type 0} (g : Ghosts D) (old new : WorldView D) (world : IsWorld g 
     -- a crash at any moment of the event leaves what it may leave before, or after a device call
     pub step_span : (event : Event) (answer : Reply) → Does g event old answer new
         → (new.core ≡ old.core → Within (g.may_leave new.disk) P) → LeavesOnly g old.disk new.disk P
-    step_span (Command seat command) answer does after = no_call does.rest.disk
-    step_span (Work worker) answer does after = no_call does.disk
-    step_span (TakeUp worker) answer does after = no_call does.disk
-    step_span (HandInAt worker place) answer does after = no_call does.disk
-    step_span (Perform worker) answer does after = perform_span worker 0 answer does.performs (after does.core)
-    step_span (PerformAt worker place) answer does after = perform_span worker place answer does.performs (after does.core)
-    step_span Trim answer does after = no_call does.disk
-    step_span _ answer does after = no_call does.0.disk
+    step_span event answer does after = grind arith

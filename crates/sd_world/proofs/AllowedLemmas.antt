@@ -1,5 +1,5 @@
 -- Whatever a crash leaves of a world's disk shows what its journal allows.
-use Rattle.std.proofs.Common.{◌≡◌, ◌≢◌, ℕ, ◌<◌, true, List, [], ◌∷◌, length, Option, Some, None, IfSome, slice_get, slice_index_or, zero, suc, refl, sym, ◌∙◌, ap, subst, inl, inr}
+use Rattle.std.proofs.Common.{◌≡◌, ◌≢◌, ℕ, ◌<◌, true, List, [], ◌∷◌, length, Option, Some, None, IfSome, slice_get, slice_index_or, zero, suc, refl, sym, ◌∙◌, ap, subst, inl, inr, arith}
 use Rattle.std.specs.List.{AllZip}
 use Rattle.std.proofs.lemmas.Bool.{cases_eq, false≢true}
 use Rattle.std.proofs.lemmas.Option.{same_Some, get_or_from_slice_get, slice_get_within, slice_get-get_or}
@@ -43,8 +43,7 @@ fits_one left phase body file belief may leaves = all.0
 
     believed : (slot : ℕ) (p : Phase) (b : Belief) → slice_get phases slot ≡ Some p → slice_get (belief ∷ []) slot ≡ Some b
         → MayBelieve p (file_at bodies slot) b
-    believed zero p b is has = subst (λ q. MayBelieve q body b) (same_Some phase p is) (subst (MayBelieve phase body) (same_Some belief b has) may)
-    believed (suc slot) p b is has = absurd cc
+    believed slot p b is has = grind arith
 
     lies : (slot : ℕ) (p : Phase) → slice_get phases slot ≡ Some p → PhaseLeaves p (file_at bodies slot) (file_at (file ∷ []) slot)
     lies zero p is = subst (λ q. PhaseLeaves q body file) (same_Some phase p is) leaves
@@ -94,12 +93,7 @@ closed_belief p q body other belief may too m = record { strong = Closed; is = c
     closed ph.DoubtSynced is = absurd (false≢true is)
 
     its : (phase : Phase) → may_write phase ≡ true → (strong : Belief) → IsBelievedAs phase body strong → strong ≡ Closed
-    its ph.Whole is strong believed = absurd (false≢true is)
-    its ph.Closing is strong believed = absurd (false≢true is)
-    its ph.Opening is strong believed = absurd (false≢true is)
-    its ph.Doubt is strong believed = absurd (false≢true is)
-    its ph.DoubtSynced is strong believed = absurd (false≢true is)
-    its _ is strong believed = believed
+    its phase is strong believed = grind arith
 
 -- it may be written, and is believed so
 record MayBoth (belief : Belief) (s : SlotNow) : Type 0 where
@@ -107,9 +101,7 @@ record MayBoth (belief : Belief) (s : SlotNow) : Type 0 where
   believed : MayBelieve s.phase s.body belief
 
 both_kept : (belief : Belief) (s : SlotNow) (made : Made) → IsWrite made.request.id.call → MayBoth belief s → MayBoth belief (slot_after s made)
-both_kept belief s made write both =
-    let may = written_writes s.phase made.request.id.call (is_done made.answer) write both.may in
-    record { may = may; believed = closed_belief s.phase (slot_after s made).phase s.body (slot_after s made).body belief both.may may both.believed }
+both_kept belief s made write both = grind arith
 
 -- some outcome is on a slot, or none
 pub data FirstOn (kept : List Kept) (slot : ℕ) : Type 0 where

@@ -1,5 +1,5 @@
 -- What an audit is lent is the base and the history of a core.
-use Rattle.std.proofs.Common.{◌≡◌, ◌↔◌, ℕ, Bool, List, Result, Ok, Err, IfOk, IsTrue, reverse, sym, ◌∙◌, ap}
+use Rattle.std.proofs.Common.{◌≡◌, ◌↔◌, ℕ, Bool, List, Result, Ok, Err, IfOk, IsTrue, reverse, sym, ◌∙◌, ap, arith}
 use Rattle.std.proofs.lemmas.List.{reverse-reverse}
 use Rattle.sd_audit.specs.ShowsOne.{ShowsOne}
 use Rattle.sd_crash_safety.specs.Shown.{ShowsAllowed}
@@ -13,10 +13,7 @@ same_history history entries is = sym (ap reverse is ∙ reverse-reverse history
 
 -- the contents show what the journal allows
 shows_so : (base : Base) (history : History) (contents : List (List ℕ)) → ShowsOne base history contents ↔ ShowsAllowed base history contents
-shows_so base history contents = (
-  (λ one. record { shown = one.shown; allowed = one.allowed; shows = one.shows }),
-  (λ it. record { shown = it.shown; allowed = it.allowed; shows = it.shows }),
-)
+shows_so base history contents = grind arith
 
 -- what is shown of a base with the same number and memory
 shows_alike : JournalLaws → (one other : Base) (history : History) (contents : List (List ℕ)) → one.number ≡ other.number → one.memory ≡ other.memory

@@ -24,14 +24,10 @@ none_busy (x ∷ kept) zero k none is = sym (same_Some x k is) ∙ nothing x (le
 none_busy (x ∷ kept) (suc lane) k none is = none_busy kept lane k (let e = busy_cons x kept in omega (arith, e, none)) is
 
 none_in : (state : CallState) → id_in state Nothing ≡ None
-none_in its.Asked = refl
-none_in its.Made = refl
+none_in state = grind arith
 
 pub idle_nowhere : (kept : List Kept) (state : CallState) (worker : Worker) (place : ℕ) → busy_count kept ≡ 0 → IsNowhere kept state worker place
-idle_nowhere kept state worker place none lane at =
-    let gone : at.there ≡ Nothing = none_busy kept lane at.there none at.is in
-    let no : None ≡ Some at.id = sym (none_in state) ∙ ap (id_in state) (sym gone) ∙ at.id_is in
-    cc
+idle_nowhere kept state worker place none lane at = grind (arith, none_busy, none_in)
 
 pub idle_unasked : (kept : List Kept) (worker : Worker) → busy_count kept ≡ 0 → is_asked kept worker ≡ false
 idle_unasked [] worker none = refl

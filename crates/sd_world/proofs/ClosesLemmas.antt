@@ -1,5 +1,5 @@
 -- How a merge comes to close images, and to its end.
-use Rattle.std.proofs.Common.{◌≡◌, ℕ, Bool, true, false, List, [], ◌∷◌, map, Option, Some, None, MatchOption, IfOk, IfSome, is_none, is_some, Result, Ok, Err, refl, sym, ◌∙◌, ap, subst, inl, inr}
+use Rattle.std.proofs.Common.{◌≡◌, ℕ, Bool, true, false, List, [], ◌∷◌, map, Option, Some, None, MatchOption, IfOk, IfSome, is_none, is_some, Result, Ok, Err, refl, sym, ◌∙◌, ap, subst, inl, inr, arith}
 use Rattle.std.proofs.lemmas.Option.{same_Some}
 use Rattle.sd_areas.specs.PlainMemory.{PlainMemory}
 use Rattle.sd_command.specs.declared.command.Command.{Command as CommandOf}
@@ -58,10 +58,7 @@ none_idle : (new : CoreView) (slot serial : ℕ) → MergeCloses new slot serial
 none_idle new slot serial c idle = let no : false ≡ true = sym (ap is_none c.runs) ∙ idle in cc
 
 retiring_in : (doing : Doing) (serial : ℕ) (list : List Retired) → fixed_in doing ≡ Some (serial, list) → (r : Retiring) × (doing ≡ retiring r) × (r.serial ≡ serial)
-retiring_in due serial list is = absurd (let no : None ≡ Some (serial, list) = is in cc)
-retiring_in (copying copy) serial list is = absurd (let no : None ≡ Some (serial, list) = is in cc)
-retiring_in (opened number) serial list is = absurd (let no : None ≡ Some (serial, list) = is in cc)
-retiring_in (retiring r) serial list is = (r, refl, ap (λ (p : ℕ × List Retired). p.0) (same_Some (r.serial, r.list) (serial, list) is))
+retiring_in doing serial list is = grind arith
 
 fixed_as : (doing : Doing) (r : Retiring) → doing ≡ retiring r → fixed_in doing ≡ Some (r.serial, r.list)
 fixed_as doing r is = ap fixed_in is
@@ -98,34 +95,20 @@ module _ (old new : CoreView) (made : Taken) where
 -- ---- which replies aren't `merged`
 
 none_accepted : (asked : CommandOf) (memory : PlainMemory) (serial : ℕ) → Accepts asked memory (reply.Merged serial) → ⊥
-none_accepted (command.Mmap space address bytes prot) memory serial is = (let no : reply.Merged serial ≡ reply.Done = is in cc)
-none_accepted (command.Munmap space address bytes) memory serial is = (let no : reply.Merged serial ≡ reply.Done = is in cc)
-none_accepted (command.Mprotect space address bytes prot) memory serial is = (let no : reply.Merged serial ≡ reply.Done = is in cc)
-none_accepted (command.Fork space) memory serial is = (let no : reply.Merged serial ≡ reply.Child is.0 = is.1 in cc)
-none_accepted (command.Exit space) memory serial is = (let no : reply.Merged serial ≡ reply.Done = is in cc)
-none_accepted (command.Load space address count) memory serial is = (let no = is.2 in cc)
-none_accepted (command.TryStore space address bytes) memory serial (inl is) = (let no : reply.Merged serial ≡ reply.Done = is in cc)
-none_accepted (command.TryStore space address bytes) memory serial (inr is) = (let no : reply.Merged serial ≡ reply.NeedsFault = is in cc)
-none_accepted (command.Fault space address) memory serial (inl is) = (let no : reply.Merged serial ≡ reply.Done = is in cc)
-none_accepted (command.Store space address bytes) memory serial (inl is) = (let no : reply.Merged serial ≡ reply.Done = is in cc)
-none_accepted _ memory serial (inr is) = (let no = is in cc)
+none_accepted asked memory serial is = grind arith
 
 none_denied : (why : AccessError) (serial : ℕ) → reply.Merged serial ≡ denied_as why → ⊥
-none_denied (Refused why) serial is = (let no = is in cc)
-none_denied (Segv why) serial is = (let no = is in cc)
+none_denied why serial is = grind arith
 
 none_legal : (memory : PlainMemory) (asked : CommandOf) (serial : ℕ) (denial : Option AccessError)
     → MatchOption denial (Accepts asked memory (reply.Merged serial)) (λ why. reply.Merged serial ≡ denied_as why) → ⊥
-none_legal memory asked serial None is = none_accepted asked memory serial is
-none_legal memory asked serial (Some why) is = none_denied why serial is
+none_legal memory asked serial denial is = grind arith
 
 none_answered : (frozen : Bool) (asked : CommandOf) (serial : ℕ) (old new : Contents) → IsAnswered frozen asked (reply.Merged serial) old new → ⊥
-none_answered true asked serial old new is = (let no : reply.Merged serial ≡ reply.Refused Frozen = is.0 in cc)
-none_answered false asked serial old new is = none_legal (plain_of old) asked serial (denial_in (plain_of old) asked) is.legal
+none_answered frozen asked serial old new is = grind arith
 
 none_replied : (answer : Answer) (serial : ℕ) → reply_of_answer answer ≡ reply.Merged serial → ⊥
-none_replied Done serial is = (let no = is in cc)
-none_replied _ serial is = (let no = is in cc)
+none_replied answer serial is = grind arith
 
 -- ---- an event
 
@@ -137,8 +120,7 @@ module _ {D : Type 0} (g : Ghosts D) (old new : WorldView D) (world : IsWorld g 
       frozen = is_some (pending (history_of old.core))
 
       by : (told : Result (ℕ × Reply) Refusal) → answer ≡ answer_of told → IfOk told (λ t. IsAnswered frozen asked t.1 old.core.memory new.core.memory) → ⊥
-      by (Ok told) answered legal = none_answered frozen asked serial old.core.memory new.core.memory (subst (λ a. IsAnswered frozen asked a old.core.memory new.core.memory) (sym answered ∙ is) legal)
-      by (Err why) answered legal = (let no : reply.Refused why ≡ reply.Merged serial = sym answered ∙ is in cc)
+      by told answered legal = grind arith
 
   module _ (worker : Worker) (place : ℕ) (answer : Reply) (hands : HandsInAt worker place old.core old.kept answer new.core new.kept) (there : MergesThere g worker place old answer new) where
     it : IsHandedIn hands.made answer old.core new.core
@@ -234,19 +216,13 @@ module _ {D : Type 0} (g : Ghosts D) (old new : WorldView D) (world : IsWorld g 
       stays same = same_core (ap (λ (v : CoreView). v.merger) same)
 
       refused : (why : Refusal) → MergesAs old.core (reply.Refused why) new.core → ClosesBehind g old new
-      refused refusal.NoSlot merges = stays merges.1
-      refused refusal.OutOfMemory merges = stays merges
-      refused _ merges = absurd merges
+      refused why merges = grind arith
 
       begun : (a : Reply) → MergesAs old.core a new.core → ClosesBehind g old new
-      begun reply.Worked merges slot serial c =
-          absurd (let no : due ≡ retiring c.r = ap (λ (m : merger.Running). m.doing) (same_Some (begun_merge (source_from merges.tip) merges.slot (map serial_of (images old.core.catalog))) c.merge (sym merges.is ∙ c.runs)) ∙ c.doing in cc)
-      begun (reply.Refused why) merges slot serial c = refused why merges slot serial c
-      begun _ merges slot serial c = absurd merges
+      begun a merges slot serial c = grind arith
 
       by : (why : Option Refusal) → merge_refusal old.core ≡ why → ClosesBehind g old new
-      by (Some why) is = same_core (ap (λ (v : CoreView). v.merger) (order.refused why is).1)
-      by None is = begun answer (order.merges is)
+      by why is = grind arith
 
   trim_closes : (answer : Reply) → TrimsJournal old.core answer new.core → ClosesBehind g old new
   trim_closes answer trims = elim (trim_cases old.core answer new.core trims) [
@@ -269,8 +245,7 @@ module _ {D : Type 0} (g : Ghosts D) (old new : WorldView D) (world : IsWorld g 
   -- ---- what ends one
 
   take_up_ends : (worker : Worker) (answer : Reply) (serial : ℕ) → WorkerTakesUp worker old.core old.kept answer new.core new.kept → answer ≡ reply.Merged serial → ⊥
-  take_up_ends worker answer serial (WorkerTakesUp.step taken left) is = subst (λ a. AddsByStep worker old.core a (history_of old.core) (history_of new.core)) is taken.takes.adds
-  take_up_ends worker answer serial (WorkerTakesUp.call request taken left worked) is = (let no : reply.Worked ≡ reply.Merged serial = sym worked ∙ is in cc)
+  take_up_ends worker answer serial h3 is = grind arith
 
   none_kept_ends : (answer : Reply) (serial : ℕ) → answer ≡ reply.Refused Idle → answer ≡ reply.Merged serial → ⊥
   none_kept_ends answer serial idle is = (let no : reply.Refused Idle ≡ reply.Merged serial = sym idle ∙ is in cc)
@@ -285,8 +260,7 @@ module _ {D : Type 0} (g : Ghosts D) (old new : WorldView D) (world : IsWorld g 
   work_ends worker answer there (WorkerWorks.takes_up none takes) serial is = absurd (take_up_ends worker answer serial takes is)
 
   perform_ends : (worker : Worker) (place : ℕ) (answer : Reply) (serial : ℕ) → Performs g worker place old.disk old.kept answer new.disk new.kept → answer ≡ reply.Merged serial → ⊥
-  perform_ends worker place answer serial (Performs.none none idle) is = none_kept_ends answer serial idle.refused is
-  perform_ends worker place answer serial (Performs.performs performs) is = none_replied performs.keeps.made.answer serial (sym performs.keeps.replied ∙ is)
+  perform_ends worker place answer serial h4 is = grind arith
 
   trim_ends : (answer : Reply) (serial : ℕ) → TrimsJournal old.core answer new.core → answer ≡ reply.Merged serial → ⊥
   trim_ends answer serial trims is = elim (trim_cases old.core answer new.core trims) [

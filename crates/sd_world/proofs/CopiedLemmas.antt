@@ -1,5 +1,5 @@
 -- What a merged image is read from, and what is to be closed behind it, in the contents of a disk.
-use Rattle.std.proofs.Common.{◌≡◌, ◌⊎◌, ℕ, ◌<◌, false, List, [], length, Option, sym, ◌∙◌, ap, subst, inl, inr}
+use Rattle.std.proofs.Common.{◌≡◌, ◌⊎◌, ℕ, ◌<◌, false, List, [], length, Option, sym, ◌∙◌, ap, subst, inl, inr, arith}
 use Rattle.std.proofs.lemmas.Option.{slice_get-get_or}
 use Rattle.sd_command.specs.declared.reply.Reply.{Reply}
 use Rattle.sd_chain.specs.Catalog.{Opened, place_of}
@@ -34,8 +34,7 @@ use Rattle.sd_world.proofs.MergesLemmas.{believed, out, reads_free, same_opened,
 -- the image that is being closed stands in its slot, or the slot's gate is closed
 closing_there : (contents : List (List ℕ)) (o : Opened) (i : Image) (slot : ℕ) → IsToldAs o i → o.slot ≡ slot → FitsBelief (Closing i) (file_at contents o.slot)
     → IsThere contents o ⊎ (is_open (file_at contents slot) ≡ false)
-closing_there contents o i slot told at (inl shut) = inr (subst (λ n. is_open (file_at contents n) ≡ false) at shut)
-closing_there contents o i slot told at (inr stands) = inl (record { image = i; told = told; stands = stands })
+closing_there contents o i slot told at h6 = grind arith
 
 module _ {D : Type 0} (g : Ghosts D) (old new : WorldView D) (world : IsWorld g old) (law : WritesCommute) (gives : GivenUpFits (g.contents old.disk) (g.may_leave old.disk))
     (own : AreOwnLanes old.core.outs) (now : IsWorld g new) (left : LeftAsBelieved) (read : g.may_leave new.disk (g.contents new.disk)) where

@@ -32,12 +32,7 @@ none_ends_on (r ∷ rs) other none more = (none.0, none_ends_on rs other none.1 
 
 -- what is left is less, where neither the job ended nor it was refused
 pub less_of : (answer : Reply) (before now : ℕ) → is_end answer ≡ false → LeavesLess answer before now → now < before
-less_of reply.Worked before now goes leaves = leaves
-less_of (reply.Acked n) before now goes leaves = absurd (let no : true ≡ false = goes in cc)
-less_of (reply.Merged serial) before now goes leaves = absurd (let no : true ≡ false = goes in cc)
-less_of (reply.Reopened m) before now goes leaves = absurd (let no : true ≡ false = goes in cc)
-less_of (reply.Refused why) before now goes leaves = absurd (let no : true ≡ false = goes in cc)
-less_of _ before now goes leaves = elim leaves [ ]
+less_of answer before now goes leaves = grind arith
 
 one_longer : (before : List Reply) (answer : Reply) → length (before ++ answer ∷ []) ≡ length before + 1
 one_longer [] answer = refl

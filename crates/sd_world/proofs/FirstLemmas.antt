@@ -79,10 +79,7 @@ count_set test n (z ∷ xs) (suc i) x y at passes fails = count_set test (n + co
 -- ---- a worker's calls
 
 same_worker : (a b : Worker) → index a ≡ index b → a ≡ b
-same_worker Dumper Dumper e = refl
-same_worker Merger Merger e = refl
-same_worker Opener Opener e = refl
-same_worker _ _ e = absurd cc
+same_worker a b e = grind arith
 
 pub same_number : (n : ℕ) → (n == n) ≡ true
 same_number n = grind (arith, nat_tests)
@@ -95,14 +92,10 @@ lesser m n is = grind (arith, nat_tests, is)
 
 before_at : (worker : Worker) (ticket : ℕ) (o : Option RequestId) → is_before worker ticket o ≡ true
     → (id : RequestId) × (o ≡ Some id) × (id.worker ≡ worker) × (id.ticket < ticket)
-before_at worker ticket None is = absurd (false≢true is)
-before_at worker ticket (Some id) is =
-    let parts = and_parts (index id.worker == index worker) (nat_lt id.ticket ticket) is in
-    (id, refl, same_worker id.worker worker (same_index (index id.worker) (index worker) parts.0), lesser id.ticket ticket parts.1)
+before_at worker ticket o is = grind arith
 
 of_at : (worker : Worker) (o : Option RequestId) → is_of_worker worker o ≡ true → (id : RequestId) × (o ≡ Some id) × (id.worker ≡ worker)
-of_at worker None is = absurd (false≢true is)
-of_at worker (Some id) is = (id, refl, same_worker id.worker worker (same_index (index id.worker) (index worker) is))
+of_at worker o is = grind arith
 
 -- where a worker has a call in this state, it has one at the first place
 pub first_at : (more : ℕ) (kept : List Kept) (state : CallState) (worker : Worker) (lane : ℕ) (k : Kept) (id : RequestId) → slice_get kept lane ≡ Some k
@@ -129,8 +122,7 @@ asked_any kept worker place lane at = any_at (λ k. is_of_worker worker (asked_i
 -- ---- how a device call is answered
 
 answered : (answer : Answer) (before now : ℕ) → AnswerHasCause before now answer → IsAnsweredByDevice before now (reply_of_answer answer)
-answered Failed before now cause = inr (refl, cause.failed refl)
-answered _ before now cause = inl (refl, cause.done refl)
+answered answer before now cause = grind arith
 
 module _ {D : Type 0} (g : Ghosts D) (old new : WorldView D) (worker : Worker) (answer : Reply) where
   same_world : new.core ≡ old.core → new.disk ≡ old.disk → new.kept ≡ old.kept → new ≡ old

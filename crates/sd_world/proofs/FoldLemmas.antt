@@ -25,20 +25,7 @@ legal_behind base (entry ∷ newer) older legal = legal_behind base newer older 
 module _ (laws : TrimLaws) where
   follows_back : (base : Base) (n : ℕ) (folded kept : History) (entry : Entry) → IsEnded n folded → IsLegal base (kept ++ folded)
       → MayFollow (base_after base n folded) kept entry → MayFollow base (kept ++ folded) entry
-  follows_back base n folded kept (Applied seat command reply) ended legal follows =
-      subst (λ memory. IsLegalReply memory (is_some (pending (kept ++ folded))) command reply) (laws.memory base kept folded n)
-      (subst (λ p. IsLegalReply (memory_after (base_after base n folded) kept) (is_some p) command reply) (laws.pending_stays kept folded n ended) follows)
-  follows_back base n folded kept (Freeze m) ended legal follows =
-      (sym (laws.pending_stays kept folded n ended) ∙ follows.0, (laws.above base kept folded n m legal ended).0 follows.1)
-  follows_back base n folded kept (Acked m) ended legal follows = sym (laws.pending_stays kept folded n ended) ∙ follows
-  follows_back base n folded kept (Cancelled m) ended legal follows = elim follows [
-    | inl is ↦ inl (sym (laws.pending_stays kept folded n ended) ∙ is)
-    | inr none ↦ inr (sym (laws.pending_stays kept folded n ended) ∙ none.0, (laws.above base kept folded n m legal ended).0 none.1)
-  ]
-  follows_back base n folded kept (Reopened m) ended legal follows = elim follows [
-    | inl is ↦ inl (is ∙ laws.last_stays base kept folded n ended)
-    | inr found ↦ inr ((λ none. found.0 (laws.pending_stays kept folded n ended ∙ none)), found.1 ∙ laws.pending_stays kept folded n ended)
-  ]
+  follows_back base n folded kept entry ended legal follows = grind arith
 
   legal_back : (base : Base) (n : ℕ) (folded kept : History) → IsEnded n folded → IsLegal base folded → IsLegal (base_after base n folded) kept
       → IsLegal base (kept ++ folded)

@@ -1,5 +1,5 @@
 -- What ends a job: the last reply of its worker.
-use Rattle.std.proofs.Common.{◌≡◌, ℕ, Bool, true, false, List, [], ◌∷◌, ◌++◌, Option, Ok, Err, refl, sym, ◌∙◌, subst}
+use Rattle.std.proofs.Common.{◌≡◌, ℕ, Bool, true, false, List, [], ◌∷◌, ◌++◌, Option, Ok, Err, refl, sym, ◌∙◌, subst, arith}
 use Rattle.sd_command.specs.declared.refusal.Refusal.{Refusal}
 use Rattle.sd_command.specs.declared.refusal.Refusal.TheVariants.{Idle}
 use Rattle.sd_command.specs.declared.reply.Reply.{Reply}
@@ -53,21 +53,11 @@ by_work worker core _ old new merger adds ends = absurd adds
 
 never_merged : (worker : Worker) (old : CoreView) (kept : List Kept) (serial : ℕ) (new : CoreView) (later : List Kept) → (worker ≡ Merger → ⊥)
     → WorkerWorks worker old kept (reply.Merged serial) new later → ⊥
-never_merged worker old kept serial new later other (WorkerWorks.hands_in it) =
-    let its = whose kept worker 0 it.lane it.made it.at it.is in
-    let no : reply.Merged serial ≡ reply.Refused Idle = (it.hands.does.strange (λ out. other (sym its ∙ (it.hands.does.leaves out).0))).0 in
-    absurd cc
-never_merged worker old kept serial new later other (WorkerWorks.takes_up none (WorkerTakesUp.step up left)) = absurd up.takes.adds
-never_merged worker old kept serial new later other (WorkerWorks.takes_up none (WorkerTakesUp.call request up keeps is)) =
-    absurd (let no : reply.Merged serial ≡ reply.Worked = is in cc)
+never_merged worker old kept serial new later other h7 = grind arith
 
 merger_of : (worker : Worker) (old : CoreView) (kept : List Kept) (serial : ℕ) (new : CoreView) (later : List Kept)
     → WorkerWorks worker old kept (reply.Merged serial) new later → worker ≡ Merger
-merger_of Dumper old kept serial new later works =
-    absurd (never_merged Dumper old kept serial new later (λ no. (let not : Dumper ≡ Merger = no in cc)) works)
-merger_of Merger old kept serial new later works = refl
-merger_of Opener old kept serial new later works =
-    absurd (never_merged Opener old kept serial new later (λ no. (let not : Opener ≡ Merger = no in cc)) works)
+merger_of worker old kept serial new later works = grind arith
 
 -- ---- a whole job
 

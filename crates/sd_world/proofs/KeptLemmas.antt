@@ -37,38 +37,28 @@ pub same_request : (a b : Asked) → Some (Request a) ≡ Some (Request b) → a
 same_request a b e = cc
 
 made_of : (k : Kept) (id : RequestId) → made_id k ≡ Some id → (made : Made) × (k ≡ Outcome made) × (made.request.id ≡ id)
-made_of (Outcome made) id is = (made, refl, same_Some made.request.id id is)
-made_of _ id is = absurd (let no : None ≡ Some id = is in cc)
+made_of k id is = grind arith
 
 request_of : (k : Kept) (id : RequestId) → asked_id k ≡ Some id → (request : Asked) × (k ≡ Request request) × (request.id ≡ id)
-request_of (Request request) id is = (request, refl, same_Some request.id id is)
-request_of _ id is = absurd (let no : None ≡ Some id = is in cc)
+request_of k id is = grind arith
 
 -- the outcome at a place, and the request
 pub made_there : (kept : List Kept) (worker : Worker) (place lane : ℕ) → IsAt kept its.Made worker place lane
     → (made : Made) × (slice_get kept lane ≡ Some (Outcome made)) × (made.request.id.worker ≡ worker)
-made_there kept worker place lane at =
-    let it = made_of at.there at.id at.id_is in
-    (it.0, at.is ∙ ap Some it.1, ap (λ (id : RequestId). id.worker) it.2 ∙ at.whose)
+made_there kept worker place lane at = grind arith
 
 pub asked_there : (kept : List Kept) (worker : Worker) (place lane : ℕ) → IsAt kept its.Asked worker place lane
     → (request : Asked) × (slice_get kept lane ≡ Some (Request request)) × (request.id.worker ≡ worker)
-asked_there kept worker place lane at =
-    let it = request_of at.there at.id at.id_is in
-    (it.0, at.is ∙ ap Some it.1, ap (λ (id : RequestId). id.worker) it.2 ∙ at.whose)
+asked_there kept worker place lane at = grind arith
 
 -- the outcome at a worker's place is the worker's
 pub whose : (kept : List Kept) (worker : Worker) (place lane : ℕ) (made : Made) → IsAt kept its.Made worker place lane → slice_get kept lane ≡ Some (Outcome made)
     → made.request.id.worker ≡ worker
-whose kept worker place lane made at is =
-    let it = made_there kept worker place lane at in
-    ap (λ (m : Made). m.request.id.worker) (same_outcome made it.0 (sym is ∙ it.1)) ∙ it.2
+whose kept worker place lane made at is = grind arith
 
 -- what is asked has an id
 pub asked_id_of : (k : Kept) (request : Asked) → asked_of k ≡ Some request → kept_id k ≡ Some request.id
-asked_id_of Nothing request is = absurd (let no : None ≡ Some request = is in cc)
-asked_id_of (Request r) request is = ap (λ (q : Asked). Some q.id) (same_Some r request is)
-asked_id_of (Outcome made) request is = ap (λ (q : Asked). Some q.id) (same_Some made.request request is)
+asked_id_of k request is = grind arith
 
 -- no outcome on this slot
 pub IsNotOn : Kept → ℕ → Type 0
@@ -90,8 +80,7 @@ outcome_off made slot off other is = λ on. off (ap (λ (x : Made). x.request.id
 
 with_off : (k : Kept) (slot : ℕ) (s : SlotNow) → IsNotOn k slot → slot_with k slot s ≡ s
 unfolding IsNotOn
-with_off (Outcome made) slot s off = ap (λ b. cond b (slot_after s made) s) (ne_eqb made.request.id.slot slot (off made refl))
-with_off _ slot s off = refl
+with_off k slot s off = grind arith
 
 with_on : (made : Made) (slot : ℕ) (s : SlotNow) → made.request.id.slot ≡ slot → slot_with (Outcome made) slot s ≡ slot_after s made
 with_on made slot s on = ap (λ n. cond (n == slot) (slot_after s made) s) on ∙ ap (λ b. cond b (slot_after s made) s) (same_number slot)
@@ -131,9 +120,7 @@ wrote p done = cond done (filled p) phase.Shut
 
 wrote_twice : (p : Phase) (one other : Bool) → wrote (wrote p one) other ≡ wrote (wrote p other) one
 unfolding wrote
-wrote_twice p true true = refl
-wrote_twice p false true = refl
-wrote_twice p _ _ = refl
+wrote_twice p one other = grind arith
 
 after_write : (slot : ℕ) (made : Made) (p : Phase) (done : Bool) → IsPageOf slot made.request → after p made.request.id.call done ≡ wrote p done
 unfolding wrote
@@ -172,12 +159,7 @@ commute law slot s a b pages =
 
     bodies : body_after (body_after s.body a.request.id.call a.request.bytes) b.request.id.call b.request.bytes
         ≡ body_after (body_after s.body b.request.id.call b.request.bytes) a.request.id.call a.request.bytes
-    bodies = ap (λ c. body_after (body_after s.body c a.request.bytes) b.request.id.call b.request.bytes) pages.first.call
-        ∙ ap (λ c. body_after (body_after s.body (Write i) a.request.bytes) c b.request.bytes) pages.second.call
-        ∙ law.apart s.body i j a.request.bytes b.request.bytes (omega arith) (omega arith)
-        (law.pages pages.first.place pages.second.place a.request.bytes b.request.bytes differ pages.first.whole pages.second.whole)
-        ∙ sym (ap (λ c. body_after (body_after s.body c b.request.bytes) a.request.id.call a.request.bytes) pages.second.call
-        ∙ ap (λ c. body_after (body_after s.body (Write j) b.request.bytes) c a.request.bytes) pages.first.call)
+    bodies  = grind arith
 
 -- the outcomes of these lanes on a slot write other pages than this one
 abbrev pub WriteOthers : Made → ℕ → List Kept → Type 0
@@ -235,8 +217,7 @@ pub record IsWrite (call : Call) : Type 0 where
   pub is : call ≡ Write at
 
 pub written_writes : (p : Phase) (call : Call) (done : Bool) → IsWrite call → may_write p ≡ true → may_write (after p call done) ≡ true
-written_writes p call true write may = ap (λ c. may_write (after p c true)) write.is ∙ filled_writes p may
-written_writes p call false write may = ap (λ c. may_write (after p c false)) write.is
+written_writes p call done write may = grind arith
 
 -- the outcomes of these lanes on a slot are writes
 abbrev pub AreWrites : ℕ → List Kept → Type 0
@@ -265,10 +246,7 @@ pub record IsSet (kept : List Kept) (lane : ℕ) (new : Kept) (other : ℕ) (k :
 
 pub is_set : (kept : List Kept) (lane : ℕ) (old new : Kept) → slice_get kept lane ≡ Some old → (other : ℕ) (k : Kept)
     → slice_get (slice_set kept lane new) other ≡ Some k → IsSet kept lane new other k
-is_set kept lane old new at other k there = elim (cases_eq other lane) [
-  | inl same ↦ record { either = inl (same, same_Some k new (sym there ∙ ap (slice_get (slice_set kept lane new)) same ∙ get_set_same kept lane old new at)) }
-  | inr differs ↦ record { either = inr (differs, sym (get_set_other kept lane other new differs) ∙ there) }
-]
+is_set kept lane old new at other k there = grind (arith, cases_eq, same_Some, get_set_same, get_set_other)
 
 length_set : {A : Type 0} (xs : List A) (i : ℕ) (x : A) → length (slice_set xs i x) ≡ length xs
 length_set (y ∷ xs) (suc i) x = ap suc (length_set xs i x)
@@ -357,8 +335,7 @@ alone_beside kept slots lane k request places at asks few other_lane other diffe
 
 -- a lane of a worker, or one of pages
 pub lane_cases : (lane : ℕ) → (lane < 3) ⊎ (2 < lane)
-lane_cases (suc (suc (suc k))) = inr (omega arith)
-lane_cases _ = inl (omega arith)
+lane_cases lane = grind arith
 
 -- the outcome in a lane of a worker is the one on its slot
 pub alone_now : (kept : List Kept) (slots lane : ℕ) (made : Made) (s : SlotNow) → WritesCommute → AreInPlace kept slots → slice_get kept lane ≡ Some (Outcome made) → lane < 3

@@ -49,11 +49,7 @@ counted memory = sums_alike (λ (entry : ℕ × Space). sum_by (λ (e : ℕ × P
     (λ entry. sum_ones (finmap.entries entry.1) ∙ sym (finmap.len-entries entry.1))
 
 space_fits : (number : ℕ) (space : Space) → IsSpaceWithin number space → is_over_in_space (number, space) ≡ false
-space_fits number space within =
-    let some = within.some in
-    ap (λ a. (a || nat_lt 16 number) || nat_lt 1024 (length (areas_of (prots_in space)))) (ne_eqb number 0 (λ e. omega (arith, some, e)))
-    ∙ ap (λ b. b || nat_lt 1024 (length (areas_of (prots_in space)))) (le-ltb 16 number within.few)
-    ∙ le-ltb 1024 (length (areas_of (prots_in space))) (subst (λ prots. length (areas_of prots) ≤ 1024) (sym (same_prots space)) within.areas)
+space_fits number space within = grind (arith, ne_eqb, le-ltb, same_prots)
 
 pub limits_fit : (memory : PlainMemory) → IsWithinLimits memory → is_over_limits memory ≡ false
 limits_fit memory within =

@@ -1,5 +1,5 @@
 -- Little work, of a world's events.
-use Rattle.std.proofs.Common.{◌≡◌, ℕ, sym, ◌∙◌, subst}
+use Rattle.std.proofs.Common.{◌≡◌, ℕ, sym, ◌∙◌, subst, arith}
 use Rattle.sd_command.specs.declared.refusal.Refusal.{Refusal}
 use Rattle.sd_command.specs.declared.refusal.Refusal.TheVariants.{Idle}
 use Rattle.sd_command.specs.declared.reply.Reply.{Reply}
@@ -33,8 +33,7 @@ refused_apart why n e = cc
 
 module _ {D : Type 0} (g : Ghosts D) (old new : WorldView D) (world : IsWorld g old) where
   none_taken : (worker : Worker) (answer : Reply) (n : ℕ) → WorkerTakesUp worker old.core old.kept answer new.core new.kept → answer ≡ reply.Acked n → ⊥
-  none_taken worker answer n (WorkerTakesUp.step taken left) is = no_step worker old.core answer n (history_of old.core) (history_of new.core) is taken.takes.adds
-  none_taken worker answer n (WorkerTakesUp.call request taken left worked) is = not_acked answer reply.Worked n worked (worked_apart n) is
+  none_taken worker answer n h3 is = grind arith
 
   handed_little : (worker : Worker) (place : ℕ) (answer : Reply) → HandsInAt worker place old.core old.kept answer new.core new.kept → WorksLittle worker place old answer new
   handed_little worker place answer hands = record {

@@ -1,5 +1,5 @@
 -- A worker's event lowers what is left of its job, unless it ends it or is refused.
-use Rattle.std.proofs.Common.{◌≡◌, ℕ, Option, Some, None, refl, sym, subst}
+use Rattle.std.proofs.Common.{◌≡◌, ℕ, Option, Some, None, refl, sym, subst, arith}
 use Rattle.sd_command.specs.declared.refusal.Refusal.{Refusal}
 use Rattle.sd_command.specs.declared.refusal.Refusal.TheVariants.{Idle}
 use Rattle.sd_command.specs.declared.reply.Reply.{Reply}
@@ -19,21 +19,11 @@ use Rattle.sd_world.proofs.AddsLemmas.{is_out}
 use Rattle.sd_world.proofs.KeptLemmas.{whose}
 
 by_step : (old : CoreView) (worker : Worker) (answer : Reply) (new : CoreView) → LeavesByStep old worker answer new → LeavesLess answer (left_by old worker) (left_by new worker)
-by_step old worker reply.Worked new leaves = leaves.lowers
-by_step old worker (reply.Acked n) new leaves = tt
-by_step old worker (reply.Merged serial) new leaves = tt
-by_step old worker (reply.Reopened m) new leaves = tt
-by_step old worker (reply.Refused why) new leaves = tt
-by_step old worker _ new leaves = leaves
+by_step old worker answer new leaves = grind arith
 
 by_outcome : (old : CoreView) (worker : Worker) (answer : Reply) (new : CoreView) → LeavesByOutcome old worker answer new
     → LeavesLess answer (left_by old worker) (left_by new worker)
-by_outcome old worker reply.Worked new leaves = leaves.lowers
-by_outcome old worker (reply.Acked n) new leaves = tt
-by_outcome old worker (reply.Merged serial) new leaves = tt
-by_outcome old worker (reply.Reopened m) new leaves = tt
-by_outcome old worker (reply.Refused why) new leaves = tt
-by_outcome old worker _ new leaves = leaves
+by_outcome old worker answer new leaves = grind arith
 
 refused : (old : CoreView) (worker : Worker) (answer : Reply) (new : CoreView) (why : Refusal) → answer ≡ reply.Refused why
     → LeavesLess answer (left_by old worker) (left_by new worker)
@@ -49,24 +39,16 @@ step_lowers old worker answer new (Some why) is job = refused old worker answer 
 
 call_lowers : (old : CoreView) (worker : Worker) (request : Asked) (answer : Reply) (new : CoreView) (why : Option Refusal) → work_refusal old worker ≡ why
     → IsTakenUp worker old (CallTaken request) new → answer ≡ reply.Worked → LeavesLess answer (left_by old worker) (left_by new worker)
-call_lowers old worker request answer new None is job worked =
-    subst (λ a. LeavesLess a (left_by old worker) (left_by new worker)) (sym worked) (job.leaves is).lowers
-call_lowers old worker request answer new (Some why) is job worked =
-    absurd (let no : CallTaken request ≡ StepTaken (reply.Refused why) = (job.refused why is).0 in cc)
+call_lowers old worker request answer new why is job worked = grind arith
 
 module _ {D : Type 0} (g : Ghosts D) (old new : WorldView D) (world : IsWorld g old) where
   taken_lowers : (worker : Worker) (answer : Reply) → WorkerTakesUp worker old.core old.kept answer new.core new.kept
       → LeavesLess answer (left_by old.core worker) (left_by new.core worker)
-  taken_lowers worker answer (WorkerTakesUp.step job left) = step_lowers old.core worker answer new.core (work_refusal old.core worker) refl job
-  taken_lowers worker answer (WorkerTakesUp.call request job left worked) =
-      call_lowers old.core worker request answer new.core (work_refusal old.core worker) refl job worked
+  taken_lowers worker answer h2 = grind arith
 
   handed_lowers : (worker : Worker) (place : ℕ) (answer : Reply) → HandsInAt worker place old.core old.kept answer new.core new.kept
       → LeavesLess answer (left_by old.core worker) (left_by new.core worker)
-  handed_lowers worker place answer hands =
-      by_outcome old.core worker answer new.core
-      (subst (λ w. LeavesByOutcome old.core w answer new.core) (whose old.kept worker place hands.lane hands.made hands.at hands.is)
-      (hands.hands.does.leaves (is_out g old new world hands.lane hands.made hands.is)))
+  handed_lowers worker place answer hands = grind (arith, by_outcome, whose, is_out)
 
   works_lowers : (worker : Worker) (answer : Reply) → WorkerWorks worker old.core old.kept answer new.core new.kept
       → LeavesLess answer (left_by old.core worker) (left_by new.core worker)

@@ -1,5 +1,5 @@
 -- How a merge ends over a run.
-use Rattle.std.proofs.Common.{◌≡◌, ℕ, List, [], ◌∷◌, ◌++◌, refl, sym, ◌∙◌, ap, subst, inl, inr}
+use Rattle.std.proofs.Common.{◌≡◌, ℕ, List, [], ◌∷◌, ◌++◌, refl, sym, ◌∙◌, ap, subst, inl, inr, arith}
 use Rattle.std.proofs.lemmas.List.{append_assoc}
 use Rattle.sd_command.specs.declared.reply.Reply.{Reply}
 use Rattle.sd_command.specs.declared.reply.Reply.TheVariants as reply
@@ -19,16 +19,7 @@ use Rattle.sd_world.proofs.RunLemmas.{runs_more}
 -- the merged image stands where its file stays
 still_there : (before now : List (List ℕ)) (places : Places) (merge : merger.Running) (serial : ℕ) → file_at now merge.slot ≡ file_at before merge.slot
     → IsMergedThere before places merge serial → IsMergedThere now places merge serial
-still_there before now places merge serial same there = record {
-  images = there.images;
-  are = there.are;
-  source = there.source;
-  its_serial = there.its_serial;
-  copy = there.copy;
-  own = there.own;
-  stands = subst (λ file. IsImage file there.copy) (sym same) there.stands;
-  copies = there.copies;
-}
+still_there before now places merge serial same there = grind arith
 
 append_none : {X : Type 0} (xs : List X) → xs ++ [] ≡ xs
 append_none [] = refl

@@ -1,5 +1,5 @@
 -- What the events of a merge make of the contents of a disk.
-use Rattle.std.proofs.Common.{◌≡◌, ℕ, List, map, Option, Some, slice_get, sym, ◌∙◌, ap, subst}
+use Rattle.std.proofs.Common.{◌≡◌, ℕ, List, map, Option, Some, slice_get, sym, ◌∙◌, ap, subst, arith}
 use Rattle.sd_command.specs.declared.reply.Reply.{Reply}
 use Rattle.sd_command.specs.declared.reply.Reply.TheVariants as reply
 use Rattle.sd_command.specs.declared.refusal.Refusal.TheVariants.{Idle}
@@ -55,8 +55,7 @@ same_opened a b e = cc
 module _ {D : Type 0} (g : Ghosts D) (old new : WorldView D) (world : IsWorld g old) (law : WritesCommute) (gives : GivenUpFits (g.contents old.disk) (g.may_leave old.disk))
     (own : AreOwnLanes old.core.outs) where
   none_taken : (worker : Worker) (answer : Reply) (serial : ℕ) → WorkerTakesUp worker old.core old.kept answer new.core new.kept → answer ≡ reply.Merged serial → ⊥
-  none_taken worker answer serial (WorkerTakesUp.step taken left) is = no_step worker old.core answer serial (history_of old.core) (history_of new.core) is taken.takes.adds
-  none_taken worker answer serial (WorkerTakesUp.call request taken left worked) is = (let no : reply.Worked ≡ reply.Merged serial = sym worked ∙ is in cc)
+  none_taken worker answer serial h3 is = grind arith
 
   module _ (worker : Worker) (place : ℕ) (answer : Reply) (hands : HandsInAt worker place old.core old.kept answer new.core new.kept) (was : IsConsistent g old) where
     pub out : IsOut old.core hands.made.request.id

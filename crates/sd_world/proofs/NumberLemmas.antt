@@ -1,5 +1,5 @@
 -- Which checkpoint runs behind an event: the one that was begun last, or the one that ran before.
-use Rattle.std.proofs.Common.{◌≡◌, ◌≢◌, ◌⊎◌, ℕ, Bool, true, false, is_none, Option, Some, None, refl, sym, ◌∙◌, ap, subst, inl, inr}
+use Rattle.std.proofs.Common.{◌≡◌, ◌≢◌, ◌⊎◌, ℕ, Bool, true, false, is_none, Option, Some, None, refl, sym, ◌∙◌, ap, subst, inl, inr, arith}
 use Rattle.std.proofs.lemmas.Bool.{cases_eq}
 use Rattle.sd_command.specs.declared.refusal.Refusal.{Refusal}
 use Rattle.sd_command.specs.declared.refusal.Refusal.TheVariants as refusal
@@ -41,8 +41,7 @@ NumberGoes event answer old new = (n : ℕ) → running_number new.dumper.runnin
     → begun_after event answer (running_number old.dumper.running) ≡ Some n
 
 number_of_job : (running : Option Running) → running_number (job_of running) ≡ running_number running
-number_of_job None = refl
-number_of_job (Some running) = refl
+number_of_job running = grind arith
 
 same_job : (old new : CoreView) → job_of new.dumper.running ≡ job_of old.dumper.running → KeepsNumber old new
 same_job old new job n is = sym (number_of_job old.dumper.running) ∙ ap running_number (sym job) ∙ number_of_job new.dumper.running ∙ is
@@ -61,10 +60,7 @@ none_begins : (old new : CoreView) → is_none new.dumper.running ≡ true → K
 none_begins old new idle n is = none_runs new.dumper.running (running_number old.dumper.running ≡ Some n) n idle is
 
 by_dumper_step : (old new : CoreView) (answer : Reply) → LeavesByStep old Dumper answer new → KeepsNumber old new
-by_dumper_step old new reply.Worked leaves = same_job old new leaves.job
-by_dumper_step old new (reply.Reopened m) leaves = none_begins old new leaves.idle
-by_dumper_step old new (reply.Refused refusal.OutOfMemory) leaves = same_core old new leaves
-by_dumper_step old new _ leaves = absurd leaves
+by_dumper_step old new answer leaves = grind arith
 
 by_dumper_outcome : (old new : CoreView) (answer : Reply) → LeavesByOutcome old Dumper answer new → KeepsNumber old new
 by_dumper_outcome old new reply.Worked leaves = same_job old new leaves.job
@@ -76,9 +72,7 @@ by_dumper_outcome old new _ leaves = absurd leaves
 -- ---- a step of a worker, and an outcome
 
 step_number : (old new : CoreView) (worker : Worker) (taken : Taken) → LeavesByWork old worker taken new → LeavesOthers worker old new → KeepsNumber old new
-step_number old new Dumper (Step answer) leaves others = by_dumper_step old new answer leaves
-step_number old new Dumper (Call request) leaves others = same_job old new leaves.job
-step_number old new _ taken leaves others = same_dumper old new others.0
+step_number old new worker taken leaves others = grind arith
 
 taken_number : (old new : CoreView) (worker : Worker) (taken : Taken) → IsTakenUp worker old taken new → KeepsNumber old new
 taken_number old new worker taken up = by (work_refusal old worker) refl
@@ -89,8 +83,7 @@ taken_number old new worker taken up = by (work_refusal old worker) refl
 
 done_number : (old new : CoreView) (worker : Worker) (answer : Reply) → LeavesByOutcome old worker answer new → LeavesOthers worker old new
     → KeepsNumber old new
-done_number old new Dumper answer leaves others = by_dumper_outcome old new answer leaves
-done_number old new _ answer leaves others = same_dumper old new others.0
+done_number old new worker answer leaves others = grind (arith, by_dumper_outcome, same_dumper)
 
 out_number : (old new : CoreView) (made : Made) (answer : Reply) → IsHandedIn made answer old new → IsOut old made.request.id → KeepsNumber old new
 out_number old new made answer handed out = by (is_done made.answer) refl
@@ -140,10 +133,7 @@ begin_number old rounds answer new refused begins = by (begin_refusal old rounds
 -- ---- the order to merge
 
 merges_as : (old : CoreView) (answer : Reply) (new : CoreView) → MergesAs old answer new → KeepsNumber old new
-merges_as old reply.Worked new merges = same_dumper old new merges.dumper
-merges_as old (reply.Refused refusal.OutOfMemory) new merges = same_core old new merges
-merges_as old (reply.Refused refusal.NoSlot) new merges = same_core old new merges.1
-merges_as old _ new merges = absurd merges
+merges_as old answer new merges = grind arith
 
 merge_number : (old : CoreView) (answer : Reply) (new : CoreView)
     → ((why : Refusal) → merge_refusal old ≡ Some why → (answer ≡ reply.Refused why) × (new ≡ old))
@@ -178,18 +168,15 @@ trim_number old answer new trims = elim (trim_cases old answer new trims) [
 module _ {D : Type 0} (g : Ghosts D) where
   takes_number : (worker : Worker) (old new : WorldView D) (answer : Reply) → WorkerTakesUp worker old.core old.kept answer new.core new.kept
       → KeepsNumber old.core new.core
-  takes_number worker old new answer (WorkerTakesUp.step taken left) = taken_number old.core new.core worker (Step answer) taken
-  takes_number worker old new answer (WorkerTakesUp.call request taken left worked) = taken_number old.core new.core worker (Call request) taken
+  takes_number worker old new answer h4 = grind arith
 
   works_number : (worker : Worker) (old new : WorldView D) (answer : Reply) → WorkerWorks worker old.core old.kept answer new.core new.kept
       → KeepsNumber old.core new.core
-  works_number worker old new answer (WorkerWorks.hands_in hands) = handed_number old.core new.core hands.made answer hands.hands.does
-  works_number worker old new answer (WorkerWorks.takes_up none takes) = takes_number worker old new answer takes
+  works_number worker old new answer h4 = grind (arith, handed_number)
 
   hands_number : (worker : Worker) (place : ℕ) (old new : WorldView D) (answer : Reply)
       → HandsInIfAny worker place old.core old.kept answer new.core new.kept → KeepsNumber old.core new.core
-  hands_number worker place old new answer (HandsInIfAny.hands_in hands) = handed_number old.core new.core hands.made answer hands.hands.does
-  hands_number worker place old new answer (HandsInIfAny.none none idle) = same_core old.core new.core idle.core
+  hands_number worker place old new answer h5 = grind (arith, handed_number, same_core)
 
   pub number_goes : (event : Event) (old : WorldView D) (answer : Reply) (new : WorldView D) → Does g event old answer new
       → NumberGoes event answer old.core new.core

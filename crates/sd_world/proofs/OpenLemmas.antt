@@ -18,17 +18,12 @@ use Rattle.sd_world.specs.Opens.{AreSynced, IsFaultOf, IsWantOf}
 -- one slot more is synced
 pub synced_more : (contents : List (List ℕ)) (slot : ℕ) (old new : List (List ℕ) → Type 0) → AreSynced slot contents old → Within new old
     → OnlyAt slot (file_at contents slot) new → AreSynced (slot + 1) contents new
-synced_more contents slot old new before crash now other within c may = elim (cases_eq other slot) [
-  | inl same ↦ subst (λ s. file_at c s ≡ file_at contents s) (sym same) (now c may)
-  | inr differs ↦ before other (omega (arith, within, differs)) c (crash c may)
-]
+synced_more contents slot old new before crash now other within c may = grind arith
 
 -- or by memory alone
 pub fault_of_want : (contents : List (List ℕ)) (before now frames : ℕ) (memory : PlainMemory) (fault : OpenFault) → IsWantOf frames memory fault
     → IsFaultOf contents before now fault
-fault_of_want contents before now frames memory (Damaged slot reason) is = absurd is
-fault_of_want contents before now frames memory Device is = absurd is
-fault_of_want contents before now frames memory _ is = tt
+fault_of_want contents before now frames memory fault is = grind arith
 
 -- ---- a world in which nothing is out
 
@@ -38,22 +33,13 @@ at_replicate (suc count) zero k at = same_Some k Nothing (sym at)
 at_replicate (suc count) (suc lane) k at = at_replicate count lane k at
 
 nothing_out : (lane : ℕ) (k : Kept) (request : Asked) → slice_get nothing_kept lane ≡ Some k → asked_of k ≡ Some request → ⊥
-nothing_out lane k request at has =
-    let none : None ≡ Some request = sym (ap asked_of (at_replicate 11 lane k at)) ∙ has in
-    cc
+nothing_out lane k request at has = grind arith
 
 pub nobody_places : (slots : ℕ) → AreInPlace nothing_kept slots
-nobody_places slots = record {
-  count = refl;
-  range = λ lane k request at has. absurd (nothing_out lane k request at has);
-  pages = λ lane k request at has some. absurd (nothing_out lane k request at has);
-  apart = λ one other j k a b at_j at_k has_a has_b on. absurd (nothing_out one j a at_j has_a);
-}
+nobody_places slots = grind arith
 
 pub nothing_made : (lane : ℕ) (made : Made) → slice_get nothing_kept lane ≡ Some (Outcome made) → ⊥
-nothing_made lane made at =
-    let gone : Outcome made ≡ Nothing = at_replicate 11 lane (Outcome made) at in
-    cc
+nothing_made lane made at = grind arith
 
 -- where every slot was synced, a crash leaves the contents
 pub all_synced : (contents c : List (List ℕ)) (may_leave : List (List ℕ) → Type 0) → AreSynced (length contents) contents may_leave

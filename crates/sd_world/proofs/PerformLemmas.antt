@@ -1,5 +1,5 @@
 -- What is so of every world stays so where a device call is made.
-use Rattle.std.proofs.Common.{◌≡◌, ◌≢◌, ℕ, ◌<◌, true, List, map, length, Some, slice_get, slice_set, refl, sym, ◌∙◌, ap, subst, inl, inr}
+use Rattle.std.proofs.Common.{◌≡◌, ◌≢◌, ℕ, ◌<◌, true, List, map, length, Some, slice_get, slice_set, refl, sym, ◌∙◌, ap, subst, inl, inr, arith}
 use Rattle.std.proofs.lemmas.Bool.{cases_eq}
 use Rattle.std.proofs.lemmas.Option.{same_Some}
 use Rattle.sd_disk.specs.Contents.{file_at}
@@ -29,19 +29,11 @@ use Rattle.sd_world.proofs.Worlds.{Fits, slot_as}
 
 -- the write of a page keeps its bytes
 page_kept : (slot : ℕ) (request other : Asked) → other.id ≡ request.id → AreKept request.id.call request.bytes other.bytes → IsPageOf slot request → IsPageOf slot other
-page_kept slot request other same kept page = record {
-  on = ap (λ (id : RequestId). id.slot) same ∙ page.on;
-  place = page.place;
-  call = ap (λ (id : RequestId). id.call) same ∙ page.call;
-  whole = ap length (subst (λ c. AreKept c request.bytes other.bytes) page.call kept) ∙ page.whole;
-}
+page_kept slot request other same kept page = grind arith
 
 -- what a write told of a file is so of every file
 told_anyway : (file other : List ℕ) (made : Made) → IsWrite made.request.id.call → IsTold file made → IsTold other made
-told_anyway file other made write told = record {
-  answers = told.answers;
-  tells = subst (λ c. CallTells c other made.answer made.request.bytes) (sym write.is) tt;
-}
+told_anyway file other made write told = grind arith
 
 module _ (law : WritesCommute) {D : Type 0} (g : Ghosts D) (core : CoreView) (kept : List Kept) (lane : ℕ) (request : Asked) (old : D) (made : Made) (new : D)
     (at : slice_get kept lane ≡ Some (Request request)) (p : IsPerformed g request old made new)
@@ -122,12 +114,7 @@ module _ (law : WritesCommute) {D : Type 0} (g : Ghosts D) (core : CoreView) (ke
     ]
 
     told_here : g.is_honest new → is_done made.answer ≡ true → IsTold (file_at files made.request.id.slot) made
-    told_here honest done = record {
-      answers = subst (λ (id : RequestId). IsAnswerTo id.call made.answer) (sym same_id) (p.answers done);
-      tells = subst (λ (id : RequestId). CallTells id.call (file_at files id.slot) made.answer made.request.bytes) (sym same_id)
-          (tells_now request.id.call (file_at (g.contents old) request.id.slot) (file_at files request.id.slot) made.answer made.request.bytes
-          (λ looks. ap (λ c. file_at c request.id.slot) (p.made_of.looks looks)) (p.tells honest done));
-    }
+    told_here honest done = grind arith
 
     told_other : (other : ℕ) (m : Made) → other ≢ lane → slice_get kept other ≡ Some (Outcome m) → is_done m.answer ≡ true → IsTold (file_at files m.request.id.slot) m
     told_other other m differs before done = elim (cases_eq m.request.id.slot request.id.slot) [

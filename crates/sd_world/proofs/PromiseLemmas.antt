@@ -1,5 +1,5 @@
 -- From each point at which a world stands a step goes to one at which it stands then.
-use Rattle.std.proofs.Common.{◌≡◌, ◌≢◌, ◌⊎◌, ℕ, List, [], ◌∷◌, ◌++◌, Option, Some, None, refl, sym, ◌∙◌, ap, subst, inl, inr}
+use Rattle.std.proofs.Common.{◌≡◌, ◌≢◌, ◌⊎◌, ℕ, List, [], ◌∷◌, ◌++◌, Option, Some, None, refl, sym, ◌∙◌, ap, subst, inl, inr, arith}
 use Rattle.std.proofs.lemmas.List.{append_assoc}
 use Rattle.sd_command.specs.declared.command.Command.{Command}
 use Rattle.sd_command.specs.declared.refusal.Refusal.{Refusal}
@@ -35,85 +35,47 @@ use Rattle.sd_world.proofs.TrimLemmas.{trim_cases}
 
 module _ (old new gone : History) where
   adds_order : (answer : Reply) → AddsByOrder answer old new → new ++ gone ≡ old ++ gone
-  adds_order (reply.Begun n) adds = ap (λ h. h ++ gone) adds
-  adds_order reply.Worked adds = ap (λ h. h ++ gone) adds
-  adds_order (reply.Refused why) adds = ap (λ h. h ++ gone) adds
-  adds_order _ adds = absurd adds
+  adds_order answer adds = grind arith
 
   adds_perform : (answer : Reply) → AddsByPerform answer old new → new ++ gone ≡ old ++ gone
-  adds_perform reply.Worked adds = ap (λ h. h ++ gone) adds
-  adds_perform (reply.Refused why) adds = ap (λ h. h ++ gone) adds
-  adds_perform _ adds = absurd adds
+  adds_perform answer adds = grind arith
 
   adds_cancel : (answer : Reply) → AddsByCancel answer old new → AddsCancelled answer (old ++ gone) (new ++ gone)
-  adds_cancel (reply.Cancelled n) adds = ap (λ h. h ++ gone) adds
-  adds_cancel (reply.Refused why) adds = ap (λ h. h ++ gone) adds
-  adds_cancel _ adds = absurd adds
+  adds_cancel answer adds = grind arith
 
   adds_work : (worker : Worker) (core : CoreView) (base : Base) (begun : Option ℕ) (answer : Reply)
       → ((n : ℕ) → running_number core.dumper.running ≡ Some n → begun ≡ Some n)
       → ((n : ℕ) → new ≡ Freeze n ∷ old → at_freeze base (old ++ gone) n ≡ None)
       → AddsByWork worker core answer old new → AddsByReply answer base begun (old ++ gone) (new ++ gone)
-  adds_work worker core base begun reply.Worked last fresh adds = elim adds [
-    | inl same ↦ inl (ap (λ h. h ++ gone) same)
-    | inr freeze ↦ inr (record {
-      number = freeze.0;
-      last = last freeze.0 freeze.1.number;
-      fresh = fresh freeze.0 freeze.2;
-      entry = ap (λ h. h ++ gone) freeze.2;
-    })
-  ]
-  adds_work worker core base begun (reply.Acked n) last fresh adds = ap (λ h. h ++ gone) adds.1
-  adds_work worker core base begun (reply.Merged serial) last fresh adds = ap (λ h. h ++ gone) adds
-  adds_work worker core base begun (reply.Reopened m) last fresh adds = ap (λ h. h ++ gone) adds.1
-  adds_work worker core base begun (reply.Refused why) last fresh adds = ap (λ h. h ++ gone) adds
-  adds_work worker core base begun _ last fresh adds = absurd adds
+  adds_work worker core base begun answer last fresh adds = grind arith
 
   journaled : (seat : ℕ) (command : Command) (answer : Reply) → IsJournaled answer → new ≡ Applied seat command answer ∷ old
       → AddsCommand seat command answer (old ++ gone) (new ++ gone)
-  journaled seat command (reply.Refused refusal.JournalFull) is adds = absurd is
-  journaled seat command (reply.Refused refusal.OutOfMemory) is adds = absurd is
-  journaled seat command _ is adds = ap (λ h. h ++ gone) adds
+  journaled seat command answer is adds = grind arith
 
   unjournaled : (seat : ℕ) (command : Command) (why : Refusal) → IsUnjournaled why → new ≡ old
       → AddsCommand seat command (reply.Refused why) (old ++ gone) (new ++ gone)
-  unjournaled seat command why either same = elim either [
-    | inl full ↦ subst (λ w. AddsCommand seat command (reply.Refused w) (old ++ gone) (new ++ gone)) (sym full) (ap (λ h. h ++ gone) same)
-    | inr memory ↦ subst (λ w. AddsCommand seat command (reply.Refused w) (old ++ gone) (new ++ gone)) (sym memory) (ap (λ h. h ++ gone) same)
-  ]
+  unjournaled seat command why either same = grind arith
 
   adds_command : (seat : ℕ) (command : Command) (answer : Reply) → AddsByCommand seat command answer old new
       → AddsCommand seat command answer (old ++ gone) (new ++ gone)
-  adds_command seat command answer adds = elim adds [
-    | inl (is, added) ↦ journaled seat command answer is added
-    | inr (is, same) ↦ subst (λ a. AddsCommand seat command a (old ++ gone) (new ++ gone)) (sym is.is) (unjournaled seat command is.why is.either same)
-  ]
+  adds_command seat command answer adds = grind arith
 
 adds_entry : (event : Event) (answer : Reply) (old new : CoreView) (base : Base) (begun : Option ℕ) (gone : History) → event ≢ Trim
     → ((n : ℕ) → running_number old.dumper.running ≡ Some n → begun ≡ Some n)
     → ((n : ℕ) → history_of new ≡ Freeze n ∷ history_of old → at_freeze base (history_of old ++ gone) n ≡ None)
     → AddsToJournal event answer old new → AddsEntry event answer base begun (history_of old ++ gone) (history_of new ++ gone)
-adds_entry (CommandEvent seat command) answer old new base begun gone other last fresh adds = adds_command (history_of old) (history_of new) gone seat command answer adds
-adds_entry (Work worker) answer old new base begun gone other last fresh adds = adds_work (history_of old) (history_of new) gone worker old base begun answer last fresh adds
-adds_entry (TakeUp worker) answer old new base begun gone other last fresh adds = adds_work (history_of old) (history_of new) gone worker old base begun answer last fresh adds
-adds_entry (HandInAt worker place) answer old new base begun gone other last fresh adds = adds_work (history_of old) (history_of new) gone worker old base begun answer last fresh adds
-adds_entry (Perform worker) answer old new base begun gone other last fresh adds = adds_perform (history_of old) (history_of new) gone answer adds
-adds_entry (PerformAt worker place) answer old new base begun gone other last fresh adds = adds_perform (history_of old) (history_of new) gone answer adds
-adds_entry Cancel answer old new base begun gone other last fresh adds = adds_cancel (history_of old) (history_of new) gone answer adds
-adds_entry Trim answer old new base begun gone other last fresh adds = absurd (other refl)
-adds_entry _ answer old new base begun gone other last fresh adds = adds_order (history_of old) (history_of new) gone answer adds
+adds_entry event answer old new base begun gone other last fresh adds = grind arith
 
 -- ---- the number that was begun last
 
 begins_so : (answer : Reply) (rounds : ℕ) (one other : Option ℕ) → ((n : ℕ) → one ≡ Some n → other ≡ Some n)
     → (n : ℕ) → begun_after (Begin rounds) answer one ≡ Some n → begun_after (Begin rounds) answer other ≡ Some n
-begins_so (reply.Begun n) rounds one other so k is = is
-begins_so _ rounds one other so k is = so k is
+begins_so answer rounds one other so n is = grind arith
 
 begun_so : (event : Event) (answer : Reply) (one other : Option ℕ) → ((n : ℕ) → one ≡ Some n → other ≡ Some n)
     → (n : ℕ) → begun_after event answer one ≡ Some n → begun_after event answer other ≡ Some n
-begun_so (Begin rounds) answer one other so n is = begins_so answer rounds one other so n is
-begun_so _ answer one other so n is = so n is
+begun_so event answer one other so n is = grind arith
 
 -- ---- what a trim folds
 
@@ -163,17 +125,7 @@ trims_of : {D : Type 0} (g : Ghosts D) (event : Event) (answer : Reply) (old new
 trims_of g event answer old new does is = (subst (λ e. Does g e old answer new) is does).trims
 
 no_trim : (event : Event) → (event ≡ Trim) ⊎ (event ≢ Trim)
-no_trim (CommandEvent seat command) = inr (λ is. absurd (let no : (CommandEvent seat command) ≡ Trim = is in cc))
-no_trim (Begin rounds) = inr (λ is. absurd (let no : (Begin rounds) ≡ Trim = is in cc))
-no_trim (Work worker) = inr (λ is. absurd (let no : (Work worker) ≡ Trim = is in cc))
-no_trim (TakeUp worker) = inr (λ is. absurd (let no : (TakeUp worker) ≡ Trim = is in cc))
-no_trim (HandInAt worker place) = inr (λ is. absurd (let no : (HandInAt worker place) ≡ Trim = is in cc))
-no_trim (Perform worker) = inr (λ is. absurd (let no : (Perform worker) ≡ Trim = is in cc))
-no_trim (PerformAt worker place) = inr (λ is. absurd (let no : (PerformAt worker place) ≡ Trim = is in cc))
-no_trim Merge = inr (λ is. absurd (let no : Merge ≡ Trim = is in cc))
-no_trim Cancel = inr (λ is. absurd (let no : Cancel ≡ Trim = is in cc))
-no_trim Reopen = inr (λ is. absurd (let no : Reopen ≡ Trim = is in cc))
-no_trim Trim = inl refl
+no_trim event = grind arith
 
 module _ (laws : TrimLaws) {D : Type 0} (g : Ghosts D) where
   went : (event : Event) (old : WorldView D) (answer : Reply) (new : WorldView D) → IsStep g event old answer new → (first : Point D)

@@ -30,16 +30,12 @@ use Rattle.sd_world.proofs.RestingLemmas.{left}
 
 -- an outcome is refused only since the store is down
 outcome_refused : (old : CoreView) (worker : Worker) (why : Refusal) (new : CoreView) → LeavesByOutcome old worker (reply.Refused why) new → why ≡ StoreDown
-outcome_refused old worker StoreDown new leaves = refl
-outcome_refused old worker why new leaves = absurd leaves
+outcome_refused old worker why new leaves = grind arith
 
 -- and a step for want of memory
 step_refused : (kept : List Kept) (old : CoreView) (worker : Worker) (why : Refusal) (new : CoreView) → LeavesByStep old worker (reply.Refused why) new
     → (worker ≡ Merger → why ≢ Damaged) → (worker ≡ Opener → why ≢ Damaged) → MayBeRefused kept worker why
-step_refused kept old worker OutOfMemory new leaves found opens = tt
-step_refused kept old Merger Damaged new leaves found opens = absurd (found refl refl)
-step_refused kept old Opener Damaged new leaves found opens = absurd (opens refl refl)
-step_refused kept old _ _ new leaves found opens = absurd leaves
+step_refused kept old worker why new leaves found opens = grind arith
 
 -- a worker of which no call waits, and no outcome is kept, has none out
 none_out : (kept : List Kept) (worker : Worker) → is_asked kept worker ≡ false → IsNowhere kept its.Made worker 0 → HasNoneOut (map kept_id kept) worker
@@ -63,27 +59,12 @@ module _ {D : Type 0} (g : Ghosts D) (old new : WorldView D) (world : IsWorld g 
     (as_read : g.may_leave old.disk (g.contents old.disk)) (worker : Worker) (answer : Reply) (why : Refusal)
     (busy : is_idle old.core worker ≡ false) (is : answer ≡ reply.Refused why) where
   handed_refused : HandsInAt worker 0 old.core old.kept answer new.core new.kept → MayBeRefused old.kept worker why
-  handed_refused hands =
-      let own = whose old.kept worker 0 hands.lane hands.made hands.at hands.is in
-      let out = is_out g old new world hands.lane hands.made hands.is in
-      let down = outcome_refused old.core hands.made.request.id.worker why new.core
-      (subst (λ a. LeavesByOutcome old.core hands.made.request.id.worker a new.core) is (hands.hands.does.leaves out)) in
-      let refused : answer ≡ reply.Refused StoreDown = is ∙ ap reply.Refused down in
-      subst (MayBeRefused old.kept worker) (sym down) (record {
-        lane = hands.lane;
-        at = hands.at;
-        made = hands.made;
-        is = hands.is;
-        failed = λ other. hands.hands.does.down out (λ its. other (sym own ∙ its)) (subst (λ w. is_idle old.core w ≡ false) (sym own) busy) refused;
-        unlike = λ opener done. (let no : reply.Worked ≡ reply.Refused StoreDown = sym (hands.hands.does.goes_on out (own ∙ opener) done) ∙ refused in cc);
-      })
+  handed_refused hands = grind (arith, whose, is_out, outcome_refused)
 
   -- beside an opener that has none out nobody has
   nobody_out : is_asked old.kept worker ≡ false → IsNowhere old.kept its.Made worker 0 → worker ≡ Opener
       → (lane : ℕ) (id : RequestId) → slice_get old.core.outs lane ≡ Some (Some id) → ⊥
-  nobody_out unasked none opener lane id at =
-      none_out old.kept worker unasked none lane id (ap (λ outs. slice_get outs lane) (sym world.outs) ∙ at)
-      (alone (subst (λ w. is_idle old.core w ≡ false) opener busy) lane id at ∙ sym opener)
+  nobody_out unasked none opener lane id at = grind (arith, none_out)
 
   taken_refused : is_asked old.kept worker ≡ false → IsNowhere old.kept its.Made worker 0 → IsConsistent g old
       → WorkerTakesUp worker old.core old.kept answer new.core new.kept → MayBeRefused old.kept worker why

@@ -40,48 +40,26 @@ module _ (base : Base) (history : History) (contents : List (List ℕ)) where
   says_done answer is = subst (λ a. ShowsReply a base history contents) (sym is) tt
 
   says_access : (why : AccessError) → ShowsReply (access_reply why) base history contents
-  says_access (Refused why) = tt
-  says_access (Segv why) = tt
+  says_access why = grind arith
 
   says_accepted : (asked : Command) (memory : PlainMemory) (answer : Reply) → Accepts asked memory answer → Says answer
-  says_accepted (command.Mmap space address bytes prot) memory answer is = says_done answer is
-  says_accepted (command.Munmap space address bytes) memory answer is = says_done answer is
-  says_accepted (command.Mprotect space address bytes prot) memory answer is = says_done answer is
-  says_accepted (command.Fork space) memory answer is = subst (λ a. ShowsReply a base history contents) (sym is.1) tt
-  says_accepted (command.Exit space) memory answer is = says_done answer is
-  says_accepted (command.Load space address count) memory answer is = subst (λ a. ShowsReply a base history contents) (sym is.2) tt
-  says_accepted (command.TryStore space address bytes) memory answer is = elim is [
-    | inl done ↦ says_done answer done
-    | inr needs ↦ subst (λ a. ShowsReply a base history contents) (sym needs) tt
-  ]
-  says_accepted _ memory answer is = elim is [
-    | inl done ↦ says_done answer done
-    | inr refused ↦ subst (λ a. ShowsReply a base history contents) (sym refused) tt
-  ]
+  says_accepted asked memory answer is = grind arith
 
   says_judged : (due : Option AccessError) (asked : Command) (memory : PlainMemory) (answer : Reply)
       → MatchOption due (Accepts asked memory answer) (λ why. answer ≡ access_reply why) → Says answer
-  says_judged None asked memory answer is = says_accepted asked memory answer is
-  says_judged (Some why) asked memory answer is = subst (λ a. ShowsReply a base history contents) (sym is) (says_access why)
+  says_judged due asked memory answer is = grind arith
 
   says_legal : (memory : PlainMemory) (frozen : Bool) (asked : Command) (answer : Reply) → IsLegalReply memory frozen asked answer → Says answer
-  says_legal memory true asked answer is = subst (λ a. ShowsReply a base history contents) (sym is) tt
-  says_legal memory false asked answer is = says_judged (denial_in memory asked) asked memory answer is
+  says_legal memory frozen asked answer is = grind arith
 
   says_order : (answer : Reply) (old new : History) → AddsByOrder answer old new → Says answer
-  says_order (reply.Acked n) old new adds = absurd adds
-  says_order (reply.Reopened m) old new adds = absurd adds
-  says_order _ old new adds = tt
+  says_order answer old new adds = grind arith
 
   says_cancel : (answer : Reply) (old new : History) → AddsByCancel answer old new → Says answer
-  says_cancel (reply.Acked n) old new adds = absurd adds
-  says_cancel (reply.Reopened m) old new adds = absurd adds
-  says_cancel _ old new adds = tt
+  says_cancel answer old new adds = grind arith
 
   says_perform : (answer : Reply) (old new : History) → AddsByPerform answer old new → Says answer
-  says_perform (reply.Acked n) old new adds = absurd adds
-  says_perform (reply.Reopened m) old new adds = absurd adds
-  says_perform _ old new adds = tt
+  says_perform answer old new adds = grind arith
 
 -- ---- an acknowledgement, and a reopening
 
@@ -89,8 +67,7 @@ same_test : (n : ℕ) → (n == n) ≡ true
 same_test n = grind (arith, nat_tests)
 
 ended : (n : ℕ) (was : Option ℕ) → was ≡ Some n → unless_it_is n was ≡ None
-ended n None is = absurd cc
-ended n (Some m) is = ap (λ k. unless_it_is n (Some k)) (same_Some m n is) ∙ ap (λ b. cond b None (Some n)) (same_test n)
+ended n was is = grind arith
 
 module _ (base : Base) (earlier : History) (contents : List (List ℕ)) where
   last_shown : (history : History) (n : ℕ) (shown : Shown) → last base history ≡ Some n → IsLastPair base history shown → Shows contents shown
@@ -149,28 +126,11 @@ says_work base contents worker core _ old new adds legal allowed = tt
 
 says_command : (base : Base) (contents : List (List ℕ)) (seat : ℕ) (asked : Command) (answer : Reply) (old new : History)
     → AddsByCommand seat asked answer old new → IsLegal base new → ShowsReply answer base new contents
-says_command base contents seat asked answer old new adds legal = elim adds [
-  | inl (journaled, is) ↦ says_legal base new contents (memory_after base old) (is_some (pending old)) asked answer (subst (IsLegal base) is legal).0
-  | inr (unjournaled, is) ↦ subst (λ a. ShowsReply a base new contents) (sym unjournaled.is) tt
-]
+says_command base contents seat asked answer old new adds legal = grind arith
 
 says_trim : (base : Base) (history : History) (contents : List (List ℕ)) (answer : Reply) (old new : History) → AddsByTrim answer old new → ShowsReply answer base history contents
-says_trim base history contents (reply.Trimmed count) old new adds = tt
-says_trim base history contents (reply.Refused why) old new adds = tt
-says_trim base history contents _ old new adds = absurd adds
+says_trim base history contents answer old new adds = grind arith
 
 pub says : (event : Event) (answer : Reply) (old new : CoreView) (contents : List (List ℕ)) → AddsToJournal event answer old new → IsLegal new.base (history_of new)
     → ShowsAllowed new.base (history_of new) contents → ShowsReply answer new.base (history_of new) contents
-says (CommandEvent seat asked) answer old new contents adds legal allowed =
-    says_command new.base contents seat asked answer (history_of old) (history_of new) adds legal
-says (Work worker) answer old new contents adds legal allowed =
-    says_work new.base contents worker old answer (history_of old) (history_of new) adds legal allowed
-says (TakeUp worker) answer old new contents adds legal allowed =
-    says_work new.base contents worker old answer (history_of old) (history_of new) adds legal allowed
-says (HandInAt worker place) answer old new contents adds legal allowed =
-    says_work new.base contents worker old answer (history_of old) (history_of new) adds legal allowed
-says (Perform worker) answer old new contents adds legal allowed = says_perform new.base (history_of new) contents answer (history_of old) (history_of new) adds
-says (PerformAt worker place) answer old new contents adds legal allowed = says_perform new.base (history_of new) contents answer (history_of old) (history_of new) adds
-says Cancel answer old new contents adds legal allowed = says_cancel new.base (history_of new) contents answer (history_of old) (history_of new) adds
-says Trim answer old new contents adds legal allowed = says_trim new.base (history_of new) contents answer (history_of old) (history_of new) adds
-says _ answer old new contents adds legal allowed = says_order new.base (history_of new) contents answer (history_of old) (history_of new) adds
+says event answer old new contents adds legal allowed = grind (arith, says_command, says_work, says_trim)

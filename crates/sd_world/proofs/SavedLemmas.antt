@@ -1,5 +1,5 @@
 -- What a job leaves of the memory, and what a checkpoint saves: the memory with which it began.
-use Rattle.std.proofs.Common.{◌≡◌, ◌≢◌, ◌⊎◌, inl, inr, ℕ, Bool, true, false, if◌then◌else◌, List, [], ◌∷◌, ◌++◌, Option, Some, None, cond, Result, Ok, Err, IfOk, refl, sym, ◌∙◌, ap, subst}
+use Rattle.std.proofs.Common.{◌≡◌, ◌≢◌, ◌⊎◌, inl, inr, ℕ, Bool, true, false, if◌then◌else◌, List, [], ◌∷◌, ◌++◌, Option, Some, None, cond, Result, Ok, Err, IfOk, refl, sym, ◌∙◌, ap, subst, arith}
 use Rattle.std.proofs.lemmas.Bool.{eq-eqb}
 use Rattle.std.specs.List.{AllByRecursion}
 use Rattle.sd_areas.specs.PlainMemory.{PlainMemory}
@@ -50,25 +50,14 @@ of_next false worker = work worker
 -- ---- the entries of a job make nothing of the memory
 
 by_order : (base : Base) (answer : Reply) (old new : History) → AddsByOrder answer old new → new ≡ old
-by_order base (reply.Begun n) old new adds = adds
-by_order base reply.Worked old new adds = adds
-by_order base (reply.Refused why) old new adds = adds
-by_order base _ old new adds = absurd adds
+by_order base answer old new adds = grind arith
 
 by_call : (answer : Reply) (old new : History) → AddsByPerform answer old new → new ≡ old
-by_call reply.Worked old new adds = adds
-by_call (reply.Refused why) old new adds = adds
-by_call _ old new adds = absurd adds
+by_call answer old new adds = grind arith
 
 by_work : (base : Base) (worker : Worker) (core : CoreView) (answer : Reply) (old new : History) → AddsByWork worker core answer old new
     → memory_after base new ≡ memory_after base old
-by_work base worker core reply.Worked old new adds =
-    elim adds [ inl same ↦ ap (memory_after base) same | inr frozen ↦ ap (memory_after base) frozen.2 ]
-by_work base worker core (reply.Acked n) old new adds = ap (memory_after base) adds.1
-by_work base worker core (reply.Reopened m) old new adds = ap (memory_after base) adds.1
-by_work base worker core (reply.Merged serial) old new adds = ap (memory_after base) adds
-by_work base worker core (reply.Refused why) old new adds = ap (memory_after base) adds
-by_work base worker core _ old new adds = absurd adds
+by_work base worker core answer old new adds = grind arith
 
 by_event : (base : Base) (event : Event) (core : CoreView) (answer : Reply) (old new : History) → IsOfJob event → AddsBy event core answer old new
     → memory_after base new ≡ memory_after base old
@@ -81,12 +70,7 @@ by_event base event core answer old new (perform worker) adds = ap (memory_after
 module _ {D : Type 0} (g : Ghosts D) where
   step_keeps : (event : Event) (old new : WorldView D) (answer : Reply) → IsOfJob event → IsTracked old.core.base old.core.items old.core.memory
       → IsStep g event old answer new → plain_of new.core.memory ≡ plain_of old.core.memory
-  step_keeps event old new answer job tracked step =
-      let based = step.base (no_trim event job) in
-      step.tracked.memory
-      ∙ ap (λ (base : Base). memory_after base (history_of new.core)) based
-      ∙ by_event old.core.base event old.core answer (history_of old.core) (history_of new.core) job step.adds
-      ∙ sym tracked.memory
+  step_keeps event old new answer job tracked step = grind arith
 
   drives_keep : (worker : Worker) (first last : WorldView D) (answers : List Reply) → IsTracked first.core.base first.core.items first.core.memory
       → Drives g worker first answers last → plain_of last.core.memory ≡ plain_of first.core.memory
@@ -120,12 +104,7 @@ frozen_once base start old new legal (inr once) (inr froze) =
 
 by_worked : (worker : Worker) (core : CoreView) (answer : Reply) (old new : History) → is_end answer ≡ false → AddsByWork worker core answer old new
     → (new ≡ old) ⊎ ((n : ℕ) × (new ≡ Freeze n ∷ old))
-by_worked worker core reply.Worked old new goes adds = elim adds [ inl same ↦ inl same | inr frozen ↦ inr (frozen.0, frozen.2) ]
-by_worked worker core (reply.Acked n) old new goes adds = absurd (let no : true ≡ false = goes in cc)
-by_worked worker core (reply.Merged serial) old new goes adds = absurd (let no : true ≡ false = goes in cc)
-by_worked worker core (reply.Reopened m) old new goes adds = absurd (let no : true ≡ false = goes in cc)
-by_worked worker core (reply.Refused why) old new goes adds = absurd (let no : true ≡ false = goes in cc)
-by_worked worker core _ old new goes adds = absurd adds
+by_worked worker core answer old new goes adds = grind arith
 
 -- the memory at the freeze of a number, where the freeze is the newest entry but for its acknowledgement
 freeze_of : (base : Base) (start : History) (m n : ℕ) → m ≡ n → at_freeze base (Acked n ∷ Freeze m ∷ start) n ≡ Some (memory_after base start)

@@ -1,5 +1,5 @@
 -- What an opener leaves that opened a store again, behind its world's opening.
-use Rattle.std.proofs.Common.{◌≡◌, ℕ, Bool, true, false, List, [], ◌∷◌, if◌then◌else◌, Option, Some, None, inl, inr, refl, sym, ◌∙◌, ap, subst}
+use Rattle.std.proofs.Common.{◌≡◌, ℕ, Bool, true, false, List, [], ◌∷◌, if◌then◌else◌, Option, Some, None, inl, inr, refl, sym, ◌∙◌, ap, subst, arith}
 use Rattle.std.specs.List.{AllByRecursion}
 use Rattle.sd_command.specs.declared.refusal.Refusal.{Refusal}
 use Rattle.sd_command.specs.declared.refusal.Refusal.TheVariants.{Idle}
@@ -30,27 +30,16 @@ use Rattle.sd_world.proofs.JobLemmas.{last_event}
 -- ---- what goes on adds nothing
 
 by_order : (answer : Reply) (old new : History) → AddsByOrder answer old new → is_end answer ≡ false → new ≡ old
-by_order (reply.Begun n) old new adds goes = adds
-by_order reply.Worked old new adds goes = adds
-by_order (reply.Refused why) old new adds goes = adds
-by_order _ old new adds goes = absurd adds
+by_order answer old new adds goes = grind arith
 
 by_call : (answer : Reply) (old new : History) → AddsByPerform answer old new → is_end answer ≡ false → new ≡ old
-by_call reply.Worked old new adds goes = adds
-by_call (reply.Refused why) old new adds goes = adds
-by_call _ old new adds goes = absurd adds
+by_call answer old new adds goes = grind arith
 
 by_work : (core : CoreView) (answer : Reply) (old new : History) → AddsByWork Opener core answer old new → is_end answer ≡ false → new ≡ old
-by_work core reply.Worked old new adds goes = elim adds [ inl same ↦ same | inr freezes ↦ absurd (let no : Opener ≡ Dumper = freezes.1.dumper in cc) ]
-by_work core (reply.Acked n) old new adds goes = absurd (let no : true ≡ false = goes in cc)
-by_work core (reply.Merged serial) old new adds goes = adds
-by_work core (reply.Reopened m) old new adds goes = absurd (let no : true ≡ false = goes in cc)
-by_work core (reply.Refused why) old new adds goes = adds
-by_work core _ old new adds goes = absurd adds
+by_work core answer old new adds goes = grind arith
 
 either : (b : Bool) (n : Option ℕ) → (if b then n else n) ≡ n
-either true n = refl
-either false n = refl
+either b n = grind arith
 
 -- ---- the step that opens
 
@@ -69,11 +58,7 @@ taken_opens old m new up = by (work_refusal old Opener) refl
 
 module _ {D : Type 0} (g : Ghosts D) where
   works_open : (old new : WorldView D) (m : Option ℕ) → WorkerWorks Opener old.core old.kept (reply.Reopened m) new.core new.kept → Opens old.core m new.core
-  works_open old new m (WorkerWorks.hands_in it) =
-      let no : reply.Reopened m ≡ reply.Refused Idle = (it.hands.does.strange (λ out. it.hands.does.leaves out)).0 in
-      absurd cc
-  works_open old new m (WorkerWorks.takes_up none (WorkerTakesUp.step up left)) = taken_opens old.core m new.core up
-  works_open old new m (WorkerWorks.takes_up none (WorkerTakesUp.call request up keeps is)) = absurd (let no : reply.Reopened m ≡ reply.Worked = is in cc)
+  works_open old new m h3 = grind arith
 
   event_opens : (old new : WorldView D) (m : Option ℕ) → IsStep g (next_event old.kept Opener) old (reply.Reopened m) new → Opens old.core m new.core
   event_opens old new m step = by (is_asked old.kept Opener) refl
@@ -140,11 +125,7 @@ module _ {D : Type 0} (g : Ghosts D) where
 
   finds_base : (core : CoreView) (m : Option ℕ) → history_of core ≡ [] → IsExpected (last_number core.base (history_of core)) (awaited_checkpoint core) m
       → m ≡ core.base.number
-  finds_base core m none expected =
-      elim expected [
-        | inl is ↦ is ∙ ap (λ history. last_number core.base history) none
-        | inr pending_one ↦ absurd (pending_one.0 (none_awaited core none))
-      ]
+  finds_base core m none expected = grind arith
 
   pub job_begins : (opened world : WorldView D) (m : Option ℕ) → opened.core.items ≡ [] → IsJob g Reopen Opener opened (reply.Reopened m) world
       → IsBegun opened world

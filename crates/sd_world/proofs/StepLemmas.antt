@@ -1,5 +1,5 @@
 -- What each event does to a world.
-use Rattle.std.proofs.Common.{◌≡◌, ℕ, Some, length, map, slice_get, slice_set, sym, ◌∙◌, ap, subst, inl, inr}
+use Rattle.std.proofs.Common.{◌≡◌, ℕ, Some, length, map, slice_get, slice_set, sym, ◌∙◌, ap, subst, inl, inr, arith}
 use Rattle.sd_command.specs.declared.reply.Reply.{Reply}
 use Rattle.sd_disk.specs.Contents.{file_at}
 use Rattle.sd_disk.specs.declared.disk.Disk.{Ghosts}
@@ -76,12 +76,7 @@ module _ {D : Type 0} (g : Ghosts D) (old new : WorldView D) (gives : GivenUpFit
       same_rest disk idle.left (subst (λ c. IsWorld g (record { core = c; disk = old.disk; kept = old.kept })) (sym idle.core) world)
 
   performs_world : (worker : Worker) (place : ℕ) (answer : Reply) → Performs g worker place old.disk old.kept answer new.disk new.kept → new.core ≡ old.core → IsWorld g new
-  performs_world worker place answer (Performs.none none idle) core =
-      same_rest idle.disk idle.left (subst (λ c. IsWorld g (record { core = c; disk = old.disk; kept = old.kept })) (sym core) world)
-  performs_world worker place answer (Performs.performs it) core =
-      subst (λ k. IsWorld g (record { core = new.core; disk = new.disk; kept = k })) (sym it.keeps.left)
-      (subst (λ c. IsWorld g (record { core = c; disk = new.disk; kept = slice_set old.kept it.lane (Outcome it.keeps.made) })) (sym core)
-      (performed_world law g old.core old.kept it.lane it.request old.disk it.keeps.made new.disk it.is it.keeps.performed world performed))
+  performs_world worker place answer h3 core = grind (arith, performed_world)
 
   pub step_world : (event : Event) (answer : Reply) → Does g event old answer new → IsWorld g new
   step_world (Command seat command) answer does = order_world does.rest does.applied.keeps

@@ -31,24 +31,19 @@ same_numbers : (old new : CoreView) (grows committing : Bool) → HasFlags grows
 same_numbers old new grows committing flags = ap (λ (n : Numbers). n.ticket) flags.numbers_are
 
 begin_ticket : (old : CoreView) (answer : Reply) (new : CoreView) → FlagsByBegin old answer new → new.numbers.ticket ≡ old.numbers.ticket
-begin_ticket old (reply.Begun n) new flags = ap (λ (n : Numbers). n.ticket) flags.numbers_are
-begin_ticket old _ new flags = same_numbers old new _ _ flags
+begin_ticket old answer new flags = grind arith
 
 cancel_ticket : (old : CoreView) (answer : Reply) (new : CoreView) → FlagsByCancel old answer new → new.numbers.ticket ≡ old.numbers.ticket
-cancel_ticket old reply.Done new flags = same_numbers old new _ _ flags
-cancel_ticket old _ new flags = same_numbers old new _ _ flags
+cancel_ticket old answer new flags = grind arith
 
 reply_ticket : (old : CoreView) (answer : Reply) (new : CoreView) → FlagsByReply old answer new → new.numbers.ticket ≡ old.numbers.ticket
-reply_ticket old (reply.Reopened m) new flags = flags.finds.ticket
-reply_ticket old _ new flags = same_numbers old new _ _ flags
+reply_ticket old answer new flags = grind arith
 
 outcome_ticket : (old : CoreView) (answer : Reply) (new : CoreView) → FlagsByOutcome old answer new → new.numbers.ticket ≡ old.numbers.ticket
-outcome_ticket old reply.Done new flags = same_numbers old new _ _ flags
-outcome_ticket old _ new flags = same_numbers old new _ _ flags
+outcome_ticket old answer new flags = grind arith
 
 asked_ticket : (begins : Bool) (numbers : Numbers) → (numbers_asked begins numbers).ticket ≡ ticket_after numbers.ticket
-asked_ticket true numbers = refl
-asked_ticket false numbers = refl
+asked_ticket begins numbers = grind arith
 
 next_ticket : (ticket : ℕ) → ticket + 1 < 2 ^ 64 → ticket_after ticket ≡ ticket + 1
 next_ticket ticket less = omega (arith, less)
@@ -75,14 +70,7 @@ abbrev pub KeepsTickets : CoreView → CoreView → Type 0
 KeepsTickets old new = old.numbers.ticket + 1 < 2 ^ 64 → HasOwnTickets old → (new.numbers.ticket ≤ old.numbers.ticket + 1) × HasOwnTickets new
 
 same_outs : (old new : CoreView) → new.outs ≡ old.outs → new.numbers.ticket ≡ old.numbers.ticket → KeepsTickets old new
-same_outs old new outs ticket room has = (
-  omega (arith, ticket),
-  record {
-    given = λ lane id is. subst (λ t. id.ticket < t) (sym ticket) (has.given lane id (ap (λ all. slice_get all lane) (sym outs) ∙ is));
-    own = λ one other first second here there. has.own one other first second (ap (λ all. slice_get all one) (sym outs) ∙ here)
-        (ap (λ all. slice_get all other) (sym outs) ∙ there);
-  },
-)
+same_outs old new outs ticket room has = grind arith
 
 same_core : (old new : CoreView) → new ≡ old → KeepsTickets old new
 same_core old new same = same_outs old new (ap (λ (c : CoreView). c.outs) same) (ap (λ (c : CoreView). c.numbers.ticket) same)
@@ -92,10 +80,7 @@ stays old new same ticket = same_outs old new same.outs ticket
 
 step_keeps : (old : CoreView) (worker : Worker) (answer : Reply) (new : CoreView) → MakesStep old worker answer new → FlagsByReply old answer new
     → KeepsTickets old new
-step_keeps old worker answer new makes flags = elim makes.keeps [
-  | inl same ↦ same_outs old new same.outs (reply_ticket old answer new flags)
-  | inr anew ↦ same_outs old new anew.outs (reply_ticket old answer new flags)
-]
+step_keeps old worker answer new makes flags = grind arith
 
 -- what is out behind a request that is handed out
 module _ (outs : List (Option RequestId)) (lane : ℕ) (id : RequestId) (free : slice_get outs lane ≡ Some None) where
@@ -128,9 +113,7 @@ call_keeps old worker request new out flags room has = (omega (arith, next), rec
     ]
 
     apart : (lane : ℕ) (id : RequestId) → slice_get old.outs lane ≡ Some (Some id) → (one : RequestId) → one ≡ request.id → id.ticket ≡ one.ticket → ⊥
-    apart lane id is one mine same =
-        let less = has.given lane id is in
-        let last : one.ticket ≡ old.numbers.ticket = ap (λ (i : RequestId). i.ticket) mine ∙ flags.ticket in omega (arith, less, last, same)
+    apart lane id is one mine same = grind arith
 
     own : (one other : ℕ) (first second : RequestId) → slice_get new.outs one ≡ Some (Some first) → slice_get new.outs other ≡ Some (Some second)
         → first.ticket ≡ second.ticket → one ≡ other
@@ -195,8 +178,7 @@ module _ {D : Type 0} (g : Ghosts D) where
 
   hands_keeps : (worker : Worker) (place : ℕ) (old : WorldView D) (answer : Reply) (new : WorldView D)
       → HandsInIfAny worker place old.core old.kept answer new.core new.kept → KeepsTickets old.core new.core
-  hands_keeps worker place old answer new (HandsInIfAny.hands_in hands) = handed_keeps old.core new.core hands.made answer hands.hands.does
-  hands_keeps worker place old answer new (HandsInIfAny.none none idle) = same_core old.core new.core idle.core
+  hands_keeps worker place old answer new h5 = grind (arith, handed_keeps, same_core)
 
   trim_keeps : (old new : CoreView) (answer : Reply) → TrimsJournal old answer new → KeepsTickets old new
   trim_keeps old new answer trims = elim (trim_cases old answer new trims) [

@@ -1,5 +1,5 @@
 -- A trim changes the base and the journal alone, or nothing.
-use Rattle.std.proofs.Common.{◌≡◌, ◌⊎◌, ℕ, ◌++◌, length, Option, Some, None, Result, Ok, Err, MatchResult, refl, sym, ◌∙◌, ap, subst, inl, inr}
+use Rattle.std.proofs.Common.{◌≡◌, ◌⊎◌, ℕ, ◌++◌, length, Option, Some, None, Result, Ok, Err, MatchResult, refl, sym, ◌∙◌, ap, subst, inl, inr, arith}
 use Rattle.std.proofs.lemmas.List.{length-reverse}
 use Rattle.sd_command.specs.declared.refusal.Refusal.{Refusal}
 use Rattle.sd_command.specs.declared.refusal.Refusal.TheVariants.{Idle}
@@ -18,9 +18,7 @@ use Rattle.sd_world.specs.Trims.{TrimsFrontTo, TrimsJournal}
 front_to : (n : ℕ) (old : CoreView) (kept front : Marked) (result : Result Folded Refusal) (new : CoreView) (answer : Reply)
     → MatchResult result (λ folded. answer ≡ reply.Trimmed (length folded.entries.items)) (λ refusal. answer ≡ reply.Refused refusal)
     → TrimsFront n old kept front result new → TrimsFrontTo n old kept front answer new
-front_to n old kept front (Ok folded) new answer told does = subst (λ a. TrimsFrontTo n old kept front a new) (sym told)
-    (ap length does.1.entries ∙ length-reverse (entries_of front), does.0, does.2)
-front_to n old kept front (Err refusal) new answer told does = subst (λ a. TrimsFrontTo n old kept front a new) (sym told) does
+front_to n old kept front result new answer told does = grind (arith, length-reverse)
 
 pub trims_journal : (old : CoreView) (result : Result Folded Refusal) (new : CoreView) (answer : Reply)
     → MatchResult result (λ folded. answer ≡ reply.Trimmed (length folded.entries.items)) (λ refusal. answer ≡ reply.Refused refusal)
@@ -60,10 +58,7 @@ pub record LeavesAll (old : CoreView) (answer : Reply) (new : CoreView) : Type 0
 
 front_cases : (n : ℕ) (old : CoreView) (kept front : Marked) (answer : Reply) (new : CoreView) → old.items ≡ kept ++ front → IsFolded n front
     → TrimsFrontTo n old kept front answer new → LeavesFront old answer new ⊎ LeavesAll old answer new
-front_cases n old kept front (reply.Trimmed count) new parts ended does =
-    inl (record { n = n; kept = kept; front = front; parts = parts; ended = ended; answered = ap reply.Trimmed does.0; is = does.2 })
-front_cases n old kept front (reply.Refused refusal) new parts ended does = inr (record { refusal = refusal; answered = refl; is = does.1 })
-front_cases n old kept front _ new parts ended does = absurd does
+front_cases n old kept front answer new parts ended does = grind arith
 
 pub trim_cases : (old : CoreView) (answer : Reply) (new : CoreView) → TrimsJournal old answer new → LeavesFront old answer new ⊎ LeavesAll old answer new
 trim_cases old answer new trims = by (unfolded (last old.base (history_of old)) old.base.number) refl

@@ -1,8 +1,7 @@
-use Rattle.std.proofs.Common.{List, subst, sym, ◌≡◌, rules, arith}
-use Rattle.std.specs.Prelude.{slice_range, None}
+use Rattle.std.proofs.Common.{subst, sym, rules, arith}
+use Rattle.std.specs.Prelude.{None}
 use Rattle.std.specs.List.{splice}
 use Rattle.std.proofs.lemmas.Result.{on_ok_weaker}
-use Rattle.sd_areas.specs.declared.area.Area.{Area}
 use Rattle.sd_areas.specs.Areas.{AreMaximal}
 use Rattle.sd_areas.specs.Runs.{HasGap}
 use Rattle.sd_areas.proofs.Around.{bare_fits, middle_maximal, gap_spliced_at, gap_fits, gap_refused, on_ok_both, if_err_weaker}

@@ -1,4 +1,4 @@
-use Rattle.std.proofs.Common.{arith, ◌∙◌}
+use Rattle.std.proofs.Common.{arith}
 use Rattle.sd_image.proofs.PageLists.{goes_on, next_area, all_met, other_page, no_page}
 use Rattle.sd_image.proofs.coverage.behind.Goals as goal
 

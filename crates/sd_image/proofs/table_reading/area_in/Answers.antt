@@ -1,4 +1,4 @@
-use Rattle.std.proofs.Common.{◌∙◌, arith}
+use Rattle.std.proofs.Common.{arith}
 use Rattle.sd_image.proofs.Items.{first_past, prot_past, area_is, not_after, is_after}
 use Rattle.sd_image.proofs.table_reading.area_in.Goals as goal
 

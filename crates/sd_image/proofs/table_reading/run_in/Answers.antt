@@ -1,4 +1,4 @@
-use Rattle.std.proofs.Common.{◌∙◌, arith}
+use Rattle.std.proofs.Common.{arith}
 use Rattle.sd_image.proofs.Items.{run_first_past, kind_past, run_is, run_not_after, run_is_after}
 use Rattle.sd_image.proofs.table_reading.run_in.Goals as goal
 

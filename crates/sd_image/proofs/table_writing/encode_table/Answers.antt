@@ -1,9 +1,6 @@
-use Rattle.std.proofs.Common.{rules, ap, sym, ◌∙◌, ◌++◌, ◌≡◌, ℕ, List, length, map, arith}
+use Rattle.std.proofs.Common.{ap, ◌∙◌, map, arith}
 use Rattle.std.proofs.lemmas.List.{length-map}
-use Rattle.std.specs.List.{flat_map}
-use Rattle.sd_image.specs.declared.table.SpaceTable.{SpaceTable}
-use Rattle.sd_image.specs.Words.{number_bytes, zero_bytes}
-use Rattle.sd_image.specs.Table.{listing_of, space_text, table_text}
+use Rattle.sd_image.specs.Table.{listing_of, table_text}
 use Rattle.sd_image.proofs.Written.{three_parts, zero_4}
 use Rattle.sd_image.specs.Reading.{table_in}
 use Rattle.sd_image.proofs.TableLaws.{table_again}

@@ -1,10 +1,4 @@
-use Rattle.std.proofs.Common.{rules, ◌≡◌, ◌+◌, ◌<◌, ◌≤◌, ◌^◌, true, false, Some, refl, sym, ap, subst, ◌∙◌, arith}
-use Rattle.std.specs.FinMap as finmap
-use Rattle.sd_pagetable.specs.declared.access_error.AccessError.TheVariants.{Refused}
-use Rattle.sd_pagetable.specs.declared.memory_refusal.MemoryRefusal.TheVariants.{NoSuchSpace, TooManySpaces, Enomem}
-use Rattle.sd_pagetable.specs.Nested.{inside, is_alive}
-use Rattle.sd_pagetable.specs.Contents.{page_count, plain_of}
-use Rattle.sd_pagetable.specs.Due.{fork_due}
+use Rattle.std.proofs.Common.{sym, subst, ◌∙◌, arith}
 use Rattle.sd_pagetable.specs.Kept.{HasAreas}
 use Rattle.sd_pagetable.proofs.MemoryLemmas.{plain_alive}
 use Rattle.sd_pagetable.proofs.RangeDue.{many_pages, few_pages}

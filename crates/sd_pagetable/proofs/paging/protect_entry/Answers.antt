@@ -1,5 +1,4 @@
-use Rattle.std.proofs.Common.{◌≡◌, Bool, refl, sym, ap, ◌∙◌, arith}
-use Rattle.sd_tables.specs.declared.entry.Entry.{Entry}
+use Rattle.std.proofs.Common.{refl, ap, ◌∙◌, arith}
 use Rattle.sd_pagetable.specs.Nested.{put_at}
 use Rattle.sd_pagetable.proofs.MemoryLemmas.{put_again}
 use Rattle.sd_pagetable.proofs.paging.protect_entry.Goals as goal

@@ -1,8 +1,7 @@
-use Rattle.std.proofs.Common.{◌≡◌, ◌-◌, ap, subst, ◌∙◌, arith}
-use Rattle.sd_pagetable.specs.Nested.{inside, is_alive, fill_within}
+use Rattle.std.proofs.Common.{◌-◌, ap, ◌∙◌, arith}
+use Rattle.sd_pagetable.specs.Nested.{is_alive}
 use Rattle.sd_pagetable.specs.Page.{fresh_page}
 use Rattle.sd_pagetable.specs.Contents.{Contents}
-use Rattle.sd_pagetable.specs.Tracking.{with_space}
 use Rattle.sd_pagetable.proofs.RangeSteps.{alive_with}
 use Rattle.sd_pagetable.proofs.RangeDue.{filled_back}
 use Rattle.sd_pagetable.proofs.range_calls.fill_holes.Goals as goal

@@ -1,4 +1,4 @@
-use Rattle.std.proofs.Common.{rules, ◌≡◌, ap, is_some, sym, subst, ◌∙◌, ◌≤◌, Option, Ok, IfErr, arith}
+use Rattle.std.proofs.Common.{◌≡◌, ap, is_some, sym, subst, ◌∙◌, ◌≤◌, Option, Ok, IfErr, arith}
 use Rattle.sd_areas.specs.Calls.{map_result}
 use Rattle.sd_areas.specs.Pages.{page_of, pages_for}
 use Rattle.sd_pagetable.specs.Nested.{inside, set_within}

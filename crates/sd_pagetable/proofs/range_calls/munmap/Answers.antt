@@ -2,9 +2,7 @@ use Rattle.std.proofs.Common.{rules, ◌≡◌, sym, ap, subst, ◌∙◌, arith
 use Rattle.sd_areas.specs.Pages.{page_of, pages_for}
 use Rattle.sd_pagetable.specs.Nested.{inside, remove_within}
 use Rattle.sd_pagetable.specs.Contents.{plain_of}
-use Rattle.sd_pagetable.specs.Due.{munmap_due}
 use Rattle.sd_pagetable.specs.Kept.{HasAreas, prots_of}
-use Rattle.sd_pagetable.specs.RangeCalls.{Refuses}
 use Rattle.sd_pagetable.specs.Tracking.{with_space}
 use Rattle.sd_pagetable.proofs.PlainRanges.{areas_with, plain_unmapped}
 use Rattle.sd_pagetable.proofs.RangeDue.{munmap_seen, nothing_due, unmapped_within, own_unmapped}

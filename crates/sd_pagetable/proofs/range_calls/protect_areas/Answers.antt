@@ -1,4 +1,4 @@
-use Rattle.std.proofs.Common.{rules, ap, sym, is_some, arith}
+use Rattle.std.proofs.Common.{ap, sym, is_some, arith}
 use Rattle.sd_areas.proofs.Memory.{on_err}
 use Rattle.sd_pagetable.proofs.AreaCalls.{areas_put, areas_same, areas_found}
 use Rattle.sd_pagetable.proofs.range_calls.protect_areas.Goals as goal

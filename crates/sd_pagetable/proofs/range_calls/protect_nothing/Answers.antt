@@ -1,8 +1,4 @@
-use Rattle.std.proofs.Common.{rules, ◌≡◌, true, false, is_some, Option, sym, ap, arith}
-use Rattle.std.specs.Ordering.{nat_cmp}
-use Rattle.std.specs.BTreeMap.{get}
-use Rattle.sd_pagetable.specs.declared.access_error.AccessError.{AccessError}
-use Rattle.sd_pagetable.specs.Due.{answer}
+use Rattle.std.proofs.Common.{arith}
 use Rattle.sd_pagetable.proofs.RangeDue.{alive_areas, nothing_dead, nothing_between, nothing_refused}
 use Rattle.sd_pagetable.proofs.range_calls.protect_nothing.Goals as goal
 

@@ -1,10 +1,8 @@
-use Rattle.std.proofs.Common.{rules, sym, ap, subst, ◌∙◌, arith}
+use Rattle.std.proofs.Common.{sym, ap, subst, ◌∙◌, arith}
 use Rattle.sd_areas.specs.Pages.{page_of, pages_for}
 use Rattle.sd_pagetable.specs.Nested.{inside}
 use Rattle.sd_pagetable.specs.Contents.{plain_of}
-use Rattle.sd_pagetable.specs.Due.{mprotect_due}
 use Rattle.sd_pagetable.specs.Kept.{HasAreas, prots_of}
-use Rattle.sd_pagetable.specs.RangeCalls.{Refuses}
 use Rattle.sd_pagetable.proofs.PlainRanges.{areas_with, plain_protected, prots_seen}
 use Rattle.sd_pagetable.proofs.RangeDue.{mprotect_seen, nothing_due, protected_within, own_protected}
 use Rattle.sd_pagetable.proofs.AreaCalls.{still_kept}

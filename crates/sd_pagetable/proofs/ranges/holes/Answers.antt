@@ -1,4 +1,4 @@
-use Rattle.std.proofs.Common.{rules, ◌≡◌, ◌+◌, ◌-◌, ◌<◌, subst, not, is_some, sym, arith}
+use Rattle.std.proofs.Common.{rules, ◌≡◌, ◌+◌, ◌-◌, ◌<◌, subst, not, is_some, arith}
 use Rattle.std.specs.Prelude.{count_by}
 use Rattle.sd_areas.specs.Pages.{pages_from}
 use Rattle.sd_pagetable.specs.Contents.{page_at}

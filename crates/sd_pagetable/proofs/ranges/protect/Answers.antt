@@ -1,8 +1,7 @@
-use Rattle.std.proofs.Common.{◌≡◌, ◌-◌, ◌∙◌, ap, subst, arith}
-use Rattle.sd_pagetable.specs.Nested.{inside, is_alive, change_within}
+use Rattle.std.proofs.Common.{◌-◌, ◌∙◌, ap, arith}
+use Rattle.sd_pagetable.specs.Nested.{is_alive}
 use Rattle.sd_pagetable.specs.Contents.{Contents}
 use Rattle.sd_pagetable.specs.Page.{protected_page}
-use Rattle.sd_pagetable.specs.Tracking.{with_space}
 use Rattle.sd_pagetable.proofs.RangeSteps.{none_changed, alive_with}
 use Rattle.sd_pagetable.proofs.RunSteps.{changed_run}
 use Rattle.sd_pagetable.proofs.ranges.protect.Goals as goal

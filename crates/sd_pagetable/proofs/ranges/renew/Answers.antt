@@ -1,8 +1,7 @@
-use Rattle.std.proofs.Common.{◌≡◌, ◌-◌, ◌∙◌, ap, subst, arith}
-use Rattle.sd_pagetable.specs.Nested.{inside, is_alive, set_within}
+use Rattle.std.proofs.Common.{◌-◌, ◌∙◌, ap, arith}
+use Rattle.sd_pagetable.specs.Nested.{is_alive}
 use Rattle.sd_pagetable.specs.Contents.{Contents}
 use Rattle.sd_pagetable.specs.Page.{fresh_page}
-use Rattle.sd_pagetable.specs.Tracking.{with_space}
 use Rattle.sd_pagetable.proofs.RangeLemmas.{none_renewed, still_there}
 use Rattle.sd_pagetable.proofs.RangeSteps.{alive_with}
 use Rattle.sd_pagetable.proofs.RunSteps.{renewed_run}

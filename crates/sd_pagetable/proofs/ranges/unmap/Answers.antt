@@ -1,4 +1,4 @@
-use Rattle.std.proofs.Common.{◌<◌, ◌≤◌, refl, sym, subst, arith}
+use Rattle.std.proofs.Common.{◌<◌, refl, sym, subst, arith}
 use Rattle.sd_pagetable.specs.Contents.{Contents, page_count}
 use Rattle.sd_pagetable.proofs.RangeLemmas.{with_itself}
 use Rattle.sd_pagetable.proofs.RangeCounts.{one_less}

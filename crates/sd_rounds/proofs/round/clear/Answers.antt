@@ -1,4 +1,4 @@
-use Rattle.std.proofs.Common.{sym, ◌∙◌, arith}
+use Rattle.std.proofs.Common.{arith}
 use Rattle.sd_rounds.proofs.ClearLemmas.{clear_of_clean}
 use Rattle.sd_rounds.proofs.round.clear.Goals as goal
 

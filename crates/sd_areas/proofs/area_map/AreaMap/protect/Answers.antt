@@ -1,8 +1,6 @@
-use Rattle.std.proofs.Common.{List, subst, sym, ◌∙◌, ◌≡◌, true, false, arith}
-use Rattle.std.specs.Prelude.{slice_range, None}
-use Rattle.sd_areas.specs.declared.area.Area.{Area}
+use Rattle.std.proofs.Common.{sym, ◌∙◌, ◌≡◌, true, false, arith}
 use Rattle.sd_areas.specs.Pages.{page_of, pages_for}
-use Rattle.sd_areas.specs.Areas.{AreMaximal, page_map_of}
+use Rattle.sd_areas.specs.Areas.{page_map_of}
 use Rattle.sd_areas.specs.Calls.{protect_result, within_areas, set_pages, has_hole}
 use Rattle.sd_areas.proofs.Calls.{protected_invalid, protected_nothing, protected_outside, protected_hole, set_by_range, hole_test}
 use Rattle.sd_areas.proofs.Around.{middle_maximal, hole_around_at}

@@ -1,4 +1,4 @@
-use Rattle.std.proofs.Common.{◌≡◌, rules, arith}
+use Rattle.std.proofs.Common.{rules, arith}
 use Rattle.sd_areas.proofs.Calls.{shows_none}
 use Rattle.sd_areas.proofs.area_map.AreaMap.unmap.Goals as goal
 

@@ -1,7 +1,5 @@
-use Rattle.std.proofs.Common.{ℕ, List, ◌++◌, take, sym, ap, ◌∙◌, arith}
+use Rattle.std.proofs.Common.{sym, arith}
 use Rattle.std.proofs.lemmas.List.{length-take-le}
-use Rattle.sha2.specs.Sha256.{sha256}
-use Rattle.sd_image.specs.Header.{header_front}
 use Rattle.sd_image.proofs.HeaderBytes.{front_of_text}
 use Rattle.sd_image.proofs.digester.Digester.finish.Goals as goal
 

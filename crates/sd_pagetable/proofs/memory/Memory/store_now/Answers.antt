@@ -1,4 +1,4 @@
-use Rattle.std.proofs.Common.{◌≡◌, ℕ, ◌%◌, ap, sym, subst, refl, is_some, List}
+use Rattle.std.proofs.Common.{◌≡◌, ℕ, ◌%◌, ap, sym, subst, is_some, List}
 use Rattle.std.specs.Option.{IfSome}
 use Rattle.sd_areas.specs.Pages.{page_of}
 use Rattle.sd_pagetable.specs.Page.{PageState, stored_page}

@@ -1,6 +1,4 @@
-use Rattle.std.proofs.Common.{◌≡◌, ap, ◌∙◌, sym, false, arith}
-use Rattle.sd_pagetable.specs.Contents.{plain_of}
-use Rattle.sd_areas.specs.declared.prot.Prot.{Prot}
+use Rattle.std.proofs.Common.{ap, ◌∙◌, sym, false, arith}
 use Rattle.sd_tables.specs.declared.entry.Entry.{Entry}
 use Rattle.sd_pagetable.proofs.MemoryLemmas.{plain_same, page_of_seen, areas_write_protected}
 use Rattle.sd_pagetable.proofs.memory.Memory.test_and_clear.Goals as goal

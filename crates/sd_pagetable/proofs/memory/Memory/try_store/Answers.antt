@@ -1,10 +1,7 @@
-use Rattle.std.proofs.Common.{◌≡◌, ◌%◌, ap, ◌∙◌, sym, subst, refl, is_some, Some, arith}
-use Rattle.sd_areas.specs.Pages.{page_of}
-use Rattle.sd_pagetable.specs.Page.{stored_page}
-use Rattle.sd_pagetable.specs.Contents.{Contents, page_at, put_page, plain_of}
+use Rattle.std.proofs.Common.{ap, sym, subst, is_some, arith}
+use Rattle.sd_pagetable.specs.Contents.{Contents}
 use Rattle.sd_pagetable.specs.View.{HasEntry}
 use Rattle.sd_pagetable.specs.Access.{stored_at}
-use Rattle.sd_pagetable.specs.Effects.{after_store}
 use Rattle.sd_pagetable.proofs.MemoryLemmas.{plain_stored, page_of_seen, areas_stored}
 use Rattle.sd_pagetable.proofs.memory.Memory.try_store.Goals as goal
 

@@ -2,7 +2,7 @@ use Rattle.std.proofs.Common.{◌≡◌, ◌+◌, ◌-◌, sym, ap, ◌∙◌, a
 use Rattle.std.specs.FinMap as finmap
 use Rattle.sd_pagetable.specs.Nested.{inside, is_alive}
 use Rattle.sd_pagetable.specs.Contents.{Contents}
-use Rattle.sd_pagetable.specs.View.{page_of_entry, contents_of}
+use Rattle.sd_pagetable.specs.View.{page_of_entry}
 use Rattle.sd_pagetable.proofs.NestedLemmas.{alive-map}
 use Rattle.sd_pagetable.proofs.ExitLemmas.{kept_any, ended_view, ended_count, ended_kept}
 use Rattle.sd_pagetable.proofs.paging.Paging.end_space.Goals as goal

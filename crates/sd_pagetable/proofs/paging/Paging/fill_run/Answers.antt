@@ -1,7 +1,6 @@
 use Rattle.std.proofs.Common.{◌≡◌, ◌+◌, ◌-◌, ap, ◌∙◌, sym, subst, arith}
 use Rattle.sd_tables.specs.declared.entry.Entry.{Entry}
 use Rattle.sd_pagetable.specs.Nested.{is_alive}
-use Rattle.sd_pagetable.specs.Page.{fresh_page}
 use Rattle.sd_pagetable.specs.Contents.{Contents, page_count}
 use Rattle.sd_pagetable.specs.View.{page_of_entry, IsKept}
 use Rattle.sd_pagetable.proofs.NestedLemmas.{alive-map}

@@ -5,7 +5,7 @@ use Rattle.sd_pagetable.specs.Nested.{Nested, value_at, put_at}
 use Rattle.sd_pagetable.specs.Page.{PageState}
 use Rattle.sd_pagetable.specs.Contents.{Contents, page_at, IsSound}
 use Rattle.sd_frames.specs.Frames.{Pool, IsExhausted, HasFree}
-use Rattle.sd_pagetable.specs.View.{contents_of, HasEntry, IsKept}
+use Rattle.sd_pagetable.specs.View.{contents_of, IsKept}
 use Rattle.sd_pagetable.proofs.ViewLemmas.{entry_there, entry_seen, put_seen}
 use Rattle.sd_pagetable.proofs.MemoryLemmas.{writable_already, none_due}
 use Rattle.sd_pagetable.proofs.KeptLemmas.{frame_counted}

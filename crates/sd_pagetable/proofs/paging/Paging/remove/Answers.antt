@@ -1,5 +1,5 @@
 use Rattle.std.proofs.Common.{ap, ◌∙◌, sym, arith}
-use Rattle.sd_pagetable.specs.Contents.{Contents, page_at, remove_page}
+use Rattle.sd_pagetable.specs.Contents.{Contents, remove_page}
 use Rattle.sd_pagetable.specs.View.{contents_of}
 use Rattle.sd_pagetable.proofs.TableLemmas.{not_none, some_of}
 use Rattle.sd_pagetable.proofs.ViewLemmas.{none_there, alive_at_view}

@@ -1,5 +1,4 @@
-use Rattle.std.proofs.Common.{length, sym, ap, ◌∙◌, arith}
-use Rattle.sd_rounds.specs.Making.{Making}
+use Rattle.std.proofs.Common.{arith}
 use Rattle.sd_rounds.proofs.WaitLemmas.{all_written}
 use Rattle.sd_rounds.proofs.image_maker.ImageMaker.work.Goals as goal
 

@@ -1,6 +1,4 @@
-use Rattle.std.proofs.Common.{◌≡◌, ◌++◌, true, nat_eq, List, ℕ, ◌==◌, sym, ◌∙◌, ap, arith}
-use Rattle.std.specs.List.{list_all}
-use Rattle.sd_pagetable.specs.Sectors.{sector_bytes}
+use Rattle.std.proofs.Common.{true, ◌==◌, sym, ◌∙◌, ap, arith}
 use Rattle.sd_rounds.proofs.PageCopyLemmas.{more_zeros, zeros_more, is_bare}
 use Rattle.sd_rounds.proofs.page_copy.PageCopy.add.Goals as goal
 

@@ -1,5 +1,4 @@
-use Rattle.std.proofs.Common.{◌≡◌, None, sym, subst, arith}
-use Rattle.sd_rounds.specs.Pass.{Pass}
+use Rattle.std.proofs.Common.{arith}
 use Rattle.sd_rounds.proofs.RoundLemmas.{other_round}
 use Rattle.sd_rounds.proofs.round.Round.give_back.Goals as goal
 
