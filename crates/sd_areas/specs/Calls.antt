@@ -1,5 +1,6 @@
 -- What the calls of POSIX.1-2017 on an address space do: the space afterwards, or why they are refused.
-use Rattle.std.specs.Prelude.{◌≡◌, ℕ, ◌%◌, Bool, not, ◌==◌, nat_lt, if◌then◌else◌, ◌++◌, map, length, Result, Ok, Err, is_some}
+use Rattle.std.specs.Prelude.{◌≡◌, ℕ, ◌%◌, Bool, not, ◌==◌, nat_lt, if◌then◌else◌, ◌++◌, map, length, Result, Ok, Err}
+use Rattle.std.specs.Prelude.{is_some}
 use Rattle.std.specs.List.{list_any}
 use Rattle.std.specs.FinMap as finmap
 use Rattle.sd_areas.specs.declared.prot.Prot.{Prot}

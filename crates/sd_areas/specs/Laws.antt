@@ -1,5 +1,6 @@
 -- What holds of address spaces, in words that name no fold and no loop.
-use Rattle.std.specs.Prelude.{◌≡◌, ◌↔◌, ℕ, ◌<◌, if◌then◌else◌, List, length, sum_by, Some, None, Ok, Err, IsSome, IsTrue}
+use Rattle.std.specs.Prelude.{◌≡◌, ◌↔◌, ℕ, ◌<◌, if◌then◌else◌, List, length, sum_by, Some, None, Ok, Err, IsSome}
+use Rattle.std.specs.Prelude.{IsTrue}
 use Rattle.std.specs.FinMap as finmap
 use Rattle.std.specs.Option.{option_map}
 use Rattle.std.specs.Ordering.{nat_cmp}

@@ -1,5 +1,6 @@
 -- The catalog as it is seen: the places of serials, rising, each held or with an open image.
-use Rattle.std.specs.Prelude.{◌≡◌, ◌≢◌, ◌⊎◌, ℕ, ◌<◌, ◌≤◌, ◌==◌, if◌then◌else◌, Bool, true, not, List, [], ◌∷◌, Option, Some, None, IsSorted, All, nat_eq, Contains, MatchOption}
+use Rattle.std.specs.Prelude.{◌≡◌, ◌≢◌, ◌⊎◌, ℕ, ◌<◌, ◌≤◌, ◌==◌, if◌then◌else◌, Bool, true, not, List, [], ◌∷◌, Option}
+use Rattle.std.specs.Prelude.{Some, None, IsSorted, All, nat_eq, Contains, MatchOption}
 use Rattle.std.specs.Borrow.{Bor}
 use Rattle.std.specs.List.{filter_map, AllByRecursion, IsDistinct}
 use Rattle.std.specs.Map.{lookup, keys_of}

@@ -1,5 +1,6 @@
 -- The pages that a table lists, one after the other: rising by space and page.
-use Rattle.std.specs.Prelude.{◌≡◌, ◌⊎◌, ◌==◌, ◌^◌, ◌+◌, ℕ, ◌<◌, ◌≤◌, nat_lt, if◌then◌else◌, List, Option, Some, None, MatchOption, Contains, IsNone, IsTrue}
+use Rattle.std.specs.Prelude.{◌≡◌, ◌⊎◌, ◌==◌, ◌^◌, ◌+◌, ℕ, ◌<◌, ◌≤◌, nat_lt, if◌then◌else◌, List, Option, Some, None}
+use Rattle.std.specs.Prelude.{MatchOption, Contains, IsNone, IsTrue}
 use Rattle.sd_areas.specs.Pages.{is_within}
 use Rattle.sd_image.specs.declared.run.Run.{Run}
 use Rattle.sd_image.specs.declared.table.SpaceTable.{SpaceTable}

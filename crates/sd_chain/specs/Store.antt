@@ -1,5 +1,6 @@
 -- The catalog of a store: its images are those of the open slots.
-use Rattle.std.specs.Prelude.{◌≡◌, ◌↔◌, ℕ, ◌+◌, ◌<◌, ◌≤◌, true, List, [], length, Option, Some, MatchOption, Contains, replicate, slice_get, slice_index_or, slice_range}
+use Rattle.std.specs.Prelude.{◌≡◌, ◌↔◌, ℕ, ◌+◌, ◌<◌, ◌≤◌, true, List, [], length, Option, Some, MatchOption, Contains}
+use Rattle.std.specs.Prelude.{replicate, slice_get, slice_index_or, slice_range}
 use Rattle.std.specs.Borrow.{Bor}
 use Rattle.sd_image.specs.Image.{Image, IsImage, is_open}
 use Rattle.sd_image.specs.Shows.{Holds, IsNamed, IsRestorable, IsStore, IsTip}

@@ -10,7 +10,9 @@ use Rattle.sd_pagetable.specs.Nested.{inside, is_alive}
 use Rattle.sd_pagetable.specs.RangeCalls.{IsRangeIn}
 use Rattle.sd_pagetable.specs.declared.access.Access.TheVariants.{Read}
 use Rattle.sd_pagetable.specs.Page.{PageState}
-use Rattle.sd_pagetable.specs.Tracking.{MemoryEvent, Mapped, Unmapped, Protected, Forked, Exited, Faulted, Tried, Stored, Passed, Step}
+use Rattle.sd_pagetable.specs.Tracking.{MemoryEvent, Mapped, Unmapped, Protected, Forked, Exited, Faulted, Tried}
+use Rattle.sd_pagetable.specs.Tracking.{Stored}
+use Rattle.sd_pagetable.specs.Tracking.{Passed, Step}
 use Rattle.sd_command.specs.declared.command.Command.{Command}
 use Rattle.sd_command.specs.declared.command.Command.TheVariants as command
 use Rattle.sd_command.specs.declared.refusal.Refusal.TheVariants as refusal

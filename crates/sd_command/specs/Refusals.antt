@@ -2,7 +2,10 @@
 use Rattle.std.specs.Prelude.{ℕ, List, codes}
 use Rattle.sd_areas.specs.Refusals.{numbered_text}
 use Rattle.sd_command.specs.declared.refusal.Refusal.{Refusal}
-use Rattle.sd_command.specs.declared.refusal.Refusal.TheVariants.{Einval, Enomem, NoSuchSpace, TooManySpaces, NoFrame, Frozen, JournalFull, OutOfMemory, UnsupportedValue, NotOpen, Busy, NoSlot, StoreDown, Idle, LastSpace, LockBusy, NumbersUsed, Damaged, Device}
+use Rattle.sd_command.specs.declared.refusal.Refusal.TheVariants.{Einval, Enomem, NoSuchSpace, TooManySpaces, NoFrame}
+use Rattle.sd_command.specs.declared.refusal.Refusal.TheVariants.{Frozen, JournalFull, OutOfMemory, UnsupportedValue}
+use Rattle.sd_command.specs.declared.refusal.Refusal.TheVariants.{NotOpen, Busy, NoSlot, StoreDown, Idle, LastSpace}
+use Rattle.sd_command.specs.declared.refusal.Refusal.TheVariants.{LockBusy, NumbersUsed, Damaged, Device}
 
 abbrev pub refusal_number : Refusal → ℕ
 refusal_number Einval = 1

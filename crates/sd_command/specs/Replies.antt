@@ -7,8 +7,10 @@ use Rattle.sd_pagetable.specs.declared.access_error.AccessError.{AccessError}
 use Rattle.sd_pagetable.specs.declared.access_error.AccessError.TheVariants.{Refused, Segv}
 use Rattle.sd_pagetable.specs.declared.memory_refusal.MemoryRefusal.{MemoryRefusal}
 use Rattle.sd_pagetable.specs.declared.memory_refusal.MemoryRefusal.TheVariants as due
-use Rattle.sd_pagetable.specs.Due.{in_space, page_due, access_due, mmap_due, munmap_due, mprotect_due, fork_due, exit_due}
-use Rattle.sd_pagetable.specs.Effects.{after_mmap, after_munmap, after_mprotect, after_fork, after_exit, after_store, IsLeastFree}
+use Rattle.sd_pagetable.specs.Due.{in_space, page_due, access_due, mmap_due, munmap_due, mprotect_due, fork_due}
+use Rattle.sd_pagetable.specs.Due.{exit_due}
+use Rattle.sd_pagetable.specs.Effects.{after_mmap, after_munmap, after_mprotect, after_fork, after_exit, after_store}
+use Rattle.sd_pagetable.specs.Effects.{IsLeastFree}
 use Rattle.sd_pagetable.specs.Nested.{value_at}
 use Rattle.sd_command.specs.declared.command.Command.{Command}
 use Rattle.sd_command.specs.declared.command.Command.TheVariants as command

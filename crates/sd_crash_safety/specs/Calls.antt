@@ -1,5 +1,6 @@
 -- What the calls of a core do, as a world sees it.
-use Rattle.std.specs.Prelude.{◌≡◌, ◌≢◌, ◌⊎◌, ℕ, ◌<◌, true, List, ◌∷◌, length, map, drop, Option, Some, None, Result, Ok, Err, slice_get, slice_set}
+use Rattle.std.specs.Prelude.{◌≡◌, ◌≢◌, ◌⊎◌, ℕ, ◌<◌, true, List, ◌∷◌, length, map, drop, Option, Some, None, Result, Ok}
+use Rattle.std.specs.Prelude.{Err, slice_get, slice_set}
 use Rattle.sd_disk.specs.Contents.{file_at}
 use Rattle.sd_command.specs.declared.command.Command.{Command}
 use Rattle.sd_command.specs.declared.refusal.Refusal.{Refusal}

@@ -1,5 +1,6 @@
 -- How the beginning of a checkpoint and its cancelling keep what a core believes.
-use Rattle.std.specs.Prelude.{◌≡◌, ◌≢◌, ◌⊎◌, ◌↔◌, ℕ, ◌<◌, ◌≤◌, true, false, List, ◌∷◌, length, Option, Some, None, slice_get}
+use Rattle.std.specs.Prelude.{◌≡◌, ◌≢◌, ◌⊎◌, ◌↔◌, ℕ, ◌<◌, ◌≤◌, true, false, List, ◌∷◌, length, Option, Some, None}
+use Rattle.std.specs.Prelude.{slice_get}
 use Rattle.sd_chain.specs.Catalog.{IsTip, Opened, Places, place_of}
 use Rattle.sd_chain.specs.Reaches.{ParentsFall, ReachesSerial}
 use Rattle.sd_gate.specs.Requests.{Asked}

@@ -1,5 +1,6 @@
 -- How the steps of a dumper keep what a core believes.
-use Rattle.std.specs.Prelude.{◌≡◌, ℕ, ◌+◌, ◌&&◌, ◌||◌, Bool, true, false, List, ◌∷◌, Option, Some, None, slice_get, slice_set}
+use Rattle.std.specs.Prelude.{◌≡◌, ℕ, ◌+◌, ◌&&◌, ◌||◌, Bool, true, false, List, ◌∷◌, Option, Some, None, slice_get}
+use Rattle.std.specs.Prelude.{slice_set}
 use Rattle.sd_chain.specs.Catalog.{Changes}
 use Rattle.sd_gate.specs.declared.call.Call.{Call as DeviceCall}
 use Rattle.sd_gate.specs.declared.call.Call.TheVariants as call
@@ -7,7 +8,8 @@ use Rattle.sd_gate.specs.declared.phase.Phase.{Phase}
 use Rattle.sd_gate.specs.Phases.{state_of}
 use Rattle.sd_gate.specs.Requests.{Asked}
 use Rattle.sd_rounds.specs.declared.image_step.ImageStep.{ImageStep}
-use Rattle.sd_rounds.specs.declared.image_step.ImageStep.TheVariants.{Call, PageCall, TableCall, Frozen, Visited, Copied}
+use Rattle.sd_rounds.specs.declared.image_step.ImageStep.TheVariants.{Call, PageCall, TableCall, Frozen, Visited}
+use Rattle.sd_rounds.specs.declared.image_step.ImageStep.TheVariants.{Copied}
 use Rattle.sd_journal.specs.declared.entry.Entry.TheVariants.{Freeze}
 use Rattle.sd_journal.specs.History.{memory_after}
 use Rattle.sd_journal.specs.Legal.{IsLegal}

@@ -1,6 +1,7 @@
 -- What a core knows of a store that is open: of its catalog, of the numbers that were used, and of the checkpoint that
 -- runs.
-use Rattle.std.specs.Prelude.{◌≡◌, ◌≢◌, ℕ, ◌+◌, ◌<◌, ◌≤◌, Bool, true, false, ◌==◌, ◌&&◌, ◌||◌, nat_lt, is_some, List, [], ◌∷◌, drop, length, map, Option, Some, None, Contains, IfSome, slice_get}
+use Rattle.std.specs.Prelude.{◌≡◌, ◌≢◌, ℕ, ◌+◌, ◌<◌, ◌≤◌, Bool, true, false, ◌==◌, ◌&&◌, ◌||◌, nat_lt, is_some, List}
+use Rattle.std.specs.Prelude.{[], ◌∷◌, drop, length, map, Option, Some, None, Contains, IfSome, slice_get}
 use Rattle.std.specs.Option.{option_map}
 use Rattle.sd_disk.specs.Contents.{file_at}
 use Rattle.sd_image.specs.declared.header.Kind.{Kind}

@@ -1,5 +1,6 @@
 -- What a core goes on believing.
-use Rattle.std.specs.Prelude.{◌≡◌, ◌⊎◌, ℕ, List, ◌∷◌, ◌≤◌, drop, true, false, length, map, Option, Some, None, slice_get, slice_set}
+use Rattle.std.specs.Prelude.{◌≡◌, ◌⊎◌, ℕ, List, ◌∷◌, ◌≤◌, drop, true, false, length, map, Option, Some, None}
+use Rattle.std.specs.Prelude.{slice_get, slice_set}
 use Rattle.sd_chain.specs.Catalog.{AreInOrder, Opened, place_of}
 use Rattle.sd_chain.specs.Store.{IsCatalogOf}
 use Rattle.sd_gate.specs.Calls.{AreKept, IsLook}

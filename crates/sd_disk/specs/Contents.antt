@@ -1,5 +1,6 @@
 -- The contents of a disk: the list of its slots' files, each a list of bytes.
-use Rattle.std.specs.Prelude.{◌≡◌, ◌≢◌, ℕ, ◌+◌, ◌-◌, ◌<◌, ◌≤◌, max, min, List, [], ◌++◌, length, take, drop, replicate, slice_index, slice_index_or}
+use Rattle.std.specs.Prelude.{◌≡◌, ◌≢◌, ℕ, ◌+◌, ◌-◌, ◌<◌, ◌≤◌, max, min, List, [], ◌++◌, length, take, drop, replicate}
+use Rattle.std.specs.Prelude.{slice_index, slice_index_or}
 
 -- the file of a slot
 abbrev pub file_at : List (List ℕ) → ℕ → List ℕ

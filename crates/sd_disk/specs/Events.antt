@@ -1,9 +1,11 @@
 -- What a record of calls says of files.
-use Rattle.std.specs.Prelude.{◌≡◌, ℕ, ◌+◌, ◌≤◌, max, min, Bool, true, false, not, cond, ◌&&◌, ◌||◌, nat_lt, List, [], ◌∷◌, length, take, map, slice_index, slice_range, slice_set}
+use Rattle.std.specs.Prelude.{◌≡◌, ℕ, ◌+◌, ◌≤◌, max, min, Bool, true, false, not, cond, ◌&&◌, ◌||◌, nat_lt, List, []}
+use Rattle.std.specs.Prelude.{◌∷◌, length, take, map, slice_index, slice_range, slice_set}
 use Rattle.std.specs.List.{range_with_len}
 use Rattle.sd_disk.specs.Contents.{file_at, file_after_write}
 use Rattle.sd_disk.specs.declared.call.Call.{Call}
-use Rattle.sd_disk.specs.declared.call.Call.TheVariants.{Measured, Read, Written, Cut, Synced, Failed, WriteFailed, CutFailed}
+use Rattle.sd_disk.specs.declared.call.Call.TheVariants.{Measured, Read, Written, Cut, Synced, Failed, WriteFailed}
+use Rattle.sd_disk.specs.declared.call.Call.TheVariants.{CutFailed}
 
 -- what no code knows: what the files held when they were opened, and what a failed write or cut left of its
 -- file, at the number of calls that had failed before it

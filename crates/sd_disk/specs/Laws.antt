@@ -4,7 +4,8 @@ use Rattle.sd_disk.specs.Contents.{file_at, Torn, Cut, AtSlot}
 use Rattle.sd_disk.specs.Events.{Outside, DiskEvent, files_after}
 use Rattle.sd_disk.specs.Outcomes.{MayLeave}
 use Rattle.sd_disk.specs.declared.call.Call.{Call}
-use Rattle.sd_disk.specs.declared.call.Call.TheVariants.{Measured, Read, Written, Cut as Cuts, Synced, Failed, WriteFailed, CutFailed}
+use Rattle.sd_disk.specs.declared.call.Call.TheVariants.{Measured, Read, Written, Cut as Cuts, Synced, Failed}
+use Rattle.sd_disk.specs.declared.call.Call.TheVariants.{WriteFailed, CutFailed}
 
 -- the outcomes after a call are those before it, with any bytes where it wrote or cut
 abbrev pub CallLeadsTo : Call → List ℕ → List (List ℕ) → List (List ℕ) → List (List ℕ) → Type 0

@@ -5,12 +5,14 @@
 -- and the greatest since, and all other bytes as synced. A failed write may have changed its range, and a failed
 -- cut may have cut: they count as done. A failed sync promises nothing new. Before its first successful sync
 -- nothing is known of a slot.
-use Rattle.std.specs.Prelude.{◌≡◌, ℕ, ◌+◌, ◌<◌, ◌≤◌, max, min, Bool, true, false, if◌then◌else◌, ◌==◌, ◌&&◌, ◌||◌, nat_lt, nat_le, List, [], ◌∷◌, length, slice_index}
+use Rattle.std.specs.Prelude.{◌≡◌, ℕ, ◌+◌, ◌<◌, ◌≤◌, max, min, Bool, true, false, if◌then◌else◌, ◌==◌, ◌&&◌, ◌||◌}
+use Rattle.std.specs.Prelude.{nat_lt, nat_le, List, [], ◌∷◌, length, slice_index}
 use Rattle.std.proofs.Common.{subst, ap, ◌∙◌}
 use Rattle.sd_disk.specs.Contents.{file_at}
 use Rattle.sd_disk.specs.Events.{Outside, DiskEvent, files_after, failures_in}
 use Rattle.sd_disk.specs.declared.call.Call.{Call}
-use Rattle.sd_disk.specs.declared.call.Call.TheVariants.{Measured, Read, Written, Cut, Synced, Failed, WriteFailed, CutFailed}
+use Rattle.sd_disk.specs.declared.call.Call.TheVariants.{Measured, Read, Written, Cut, Synced, Failed, WriteFailed}
+use Rattle.sd_disk.specs.declared.call.Call.TheVariants.{CutFailed}
 
 -- the places from one on and below another
 pub record Range : Type 0 where

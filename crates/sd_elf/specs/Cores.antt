@@ -1,5 +1,6 @@
 -- A core file: its bytes, and the memory that it says.
-use Rattle.std.specs.Prelude.{nat_lt, if◌then◌else◌, slice_index, ◌≡◌, ◌+◌, ◌*◌, ◌≤◌, ℕ, List, length, map, filter, slice_range}
+use Rattle.std.specs.Prelude.{nat_lt, if◌then◌else◌, slice_index, ◌≡◌, ◌+◌, ◌*◌, ◌≤◌, ℕ, List, length, map, filter}
+use Rattle.std.specs.Prelude.{slice_range}
 use Rattle.std.specs.List.{range_with_len}
 use Rattle.sd_elf.specs.declared.core_file.ReadError.{ReadError}
 use Rattle.sd_elf.specs.declared.core_file.ReadError.TheVariants as error

@@ -1,5 +1,6 @@
 -- The segments of a core, and whether a space can have them.
-use Rattle.std.specs.Prelude.{◌≡◌, ◌≢◌, ◌⊎◌, ◌+◌, ◌/◌, ◌%◌, ◌^◌, ◌<◌, ◌≤◌, ◌==◌, ◌&&◌, ◌||◌, not, nat_lt, if◌then◌else◌, Bool, IsTrue, ℕ, List, [], ◌∷◌, filter, take, length, slice_index_or}
+use Rattle.std.specs.Prelude.{◌≡◌, ◌≢◌, ◌⊎◌, ◌+◌, ◌/◌, ◌%◌, ◌^◌, ◌<◌, ◌≤◌, ◌==◌, ◌&&◌, ◌||◌, not, nat_lt, if◌then◌else◌}
+use Rattle.std.specs.Prelude.{Bool, IsTrue, ℕ, List, [], ◌∷◌, filter, take, length, slice_index_or}
 use Rattle.sd_areas.specs.declared.prot.Prot.{Prot}
 use Rattle.sd_areas.specs.Prot.{prot_bits}
 use Rattle.sd_elf.specs.declared.fault.SegmentFault.{SegmentFault}

@@ -1,5 +1,6 @@
 -- What a device call makes of the contents of a disk.
-use Rattle.std.specs.Prelude.{◌≡◌, ℕ, ◌+◌, ◌<◌, ◌≤◌, Bool, true, false, List, [], ◌∷◌, length, take, slice_range, slice_set, Option, Some, None}
+use Rattle.std.specs.Prelude.{◌≡◌, ℕ, ◌+◌, ◌<◌, ◌≤◌, Bool, true, false, List, [], ◌∷◌, length, take, slice_range}
+use Rattle.std.specs.Prelude.{slice_set, Option, Some, None}
 use Rattle.sd_disk.specs.Contents.{file_at, file_after_write, Torn, AtSlot, Cut as CutTo}
 use Rattle.sd_image.specs.Header.{header_text}
 use Rattle.sd_image.specs.Image.{gate}
@@ -8,7 +9,9 @@ use Rattle.sd_gate.specs.declared.answer.Answer.TheVariants.{Done, Len as LenIs,
 use Rattle.sd_gate.specs.declared.call.Call.{Call}
 use Rattle.sd_gate.specs.declared.call.Call.TheVariants.{Len, Read, Write, WriteHeader, Close, Open, Cut, Sync}
 use Rattle.sd_gate.specs.declared.order.Order.{Order}
-use Rattle.sd_gate.specs.declared.order.Order.TheVariants.{Len as LenOrder, Read as ReadOrder, Write as WriteOrder, WriteHeader as HeaderOrder, Close as CloseOrder, Open as OpenOrder, Cut as CutOrder, Sync as SyncOrder}
+use Rattle.sd_gate.specs.declared.order.Order.TheVariants.{Len as LenOrder, Read as ReadOrder, Write as WriteOrder}
+use Rattle.sd_gate.specs.declared.order.Order.TheVariants.{WriteHeader as HeaderOrder, Close as CloseOrder}
+use Rattle.sd_gate.specs.declared.order.Order.TheVariants.{Open as OpenOrder, Cut as CutOrder, Sync as SyncOrder}
 
 -- the call that an order is for
 abbrev pub call_of : Order → Call

@@ -1,5 +1,6 @@
 -- The calls of an inspection: what is found decides what follows.
-use Rattle.std.specs.Prelude.{ℕ, ◌==◌, ◌&&◌, nat_le, if◌then◌else◌, List, [], ◌∷◌, length, slice_index, Result, Ok, Err, Option, Some, None, IsSome}
+use Rattle.std.specs.Prelude.{ℕ, ◌==◌, ◌&&◌, nat_le, if◌then◌else◌, List, [], ◌∷◌, length, slice_index, Result, Ok, Err}
+use Rattle.std.specs.Prelude.{Option, Some, None, IsSome}
 use Rattle.sd_image.specs.declared.header.Header.{Header}
 use Rattle.sd_image.specs.declared.reason.Reason.{Reason}
 use Rattle.sd_image.specs.Image.{gate}
@@ -9,7 +10,9 @@ use Rattle.sd_gate.specs.declared.answer.Answer.{Answer}
 use Rattle.sd_gate.specs.declared.answer.Answer.TheVariants.{Done as DoneAnswer, Len as LenIs, Failed}
 use Rattle.sd_gate.specs.declared.call.Call.TheVariants.{Len, Read, Write, WriteHeader, Close, Open, Cut, Sync}
 use Rattle.sd_gate.specs.declared.inspection_stage.InspectionStage.{InspectionStage}
-use Rattle.sd_gate.specs.declared.inspection_stage.InspectionStage.TheVariants.{Sync as SyncStage, Len as LenStage, AwaitLen, First, AwaitFirst, Table, Done}
+use Rattle.sd_gate.specs.declared.inspection_stage.InspectionStage.TheVariants.{Sync as SyncStage, Len as LenStage}
+use Rattle.sd_gate.specs.declared.inspection_stage.InspectionStage.TheVariants.{AwaitLen, First, AwaitFirst, Table}
+use Rattle.sd_gate.specs.declared.inspection_stage.InspectionStage.TheVariants.{Done}
 use Rattle.sd_gate.specs.Sequences.{Calls, table_place}
 
 -- the outcome that decides what follows the calls that are known

@@ -1,5 +1,6 @@
 -- A plan as it is seen, and what its calls do to it.
-use Rattle.std.specs.Prelude.{◌≡◌, ℕ, ◌+◌, ◌*◌, Bool, true, false, if◌then◌else◌, List, [], ◌∷◌, length, Option, None, Some}
+use Rattle.std.specs.Prelude.{◌≡◌, ℕ, ◌+◌, ◌*◌, Bool, true, false, if◌then◌else◌, List, [], ◌∷◌, length, Option, None}
+use Rattle.std.specs.Prelude.{Some}
 use Rattle.std.specs.Option.{option_map}
 use Rattle.sd_gate.specs.declared.answer.Answer.{Answer}
 use Rattle.sd_gate.specs.declared.answer.Answer.TheVariants.{Done as DoneAnswer, Len as LenIs, Failed as FailedAnswer}
@@ -12,7 +13,8 @@ use Rattle.sd_gate.specs.declared.settled.Settled.TheVariants.{More, Finished, F
 use Rattle.sd_gate.specs.Calls.{is_done, buffer_back}
 use Rattle.sd_gate.specs.Requests.{Asked, Made}
 use Rattle.sd_gate.specs.Sequences.{Calls, calls_of_sequence, AreSound}
-use Rattle.sd_gate.specs.Inspections.{KnowsLength, Awaits, nothing, calls_awaited, calls_of_stage, awaits_of, Following, calls_then}
+use Rattle.sd_gate.specs.Inspections.{KnowsLength, Awaits, nothing, calls_awaited, calls_of_stage, awaits_of, Following}
+use Rattle.sd_gate.specs.Inspections.{calls_then}
 
 abbrev pub calls_of : Job → Calls
 calls_of (SequenceJob sequence) = calls_of_sequence sequence

@@ -7,7 +7,10 @@ use Rattle.sd_gate.specs.declared.call.Call.TheVariants.{Len, Read, Write, Write
 use Rattle.sd_gate.specs.declared.slot_state.SlotState.{SlotState}
 use Rattle.sd_gate.specs.declared.slot_state.SlotState.TheVariants.{Raw, Closed, Open as OpenSlot, Writing}
 use Rattle.sd_gate.specs.declared.call_sequence.CallSequence.{CallSequence}
-use Rattle.sd_gate.specs.declared.call_sequence.CallSequence.TheVariants.{Close as CloseStep, SyncClosed, Cut as CutStep, ReadPage, WritePage, Table, Header as HeaderStep, SyncBody, Open as OpenStep, SyncOpen, Done}
+use Rattle.sd_gate.specs.declared.call_sequence.CallSequence.TheVariants.{Close as CloseStep, SyncClosed}
+use Rattle.sd_gate.specs.declared.call_sequence.CallSequence.TheVariants.{Cut as CutStep, ReadPage, WritePage, Table}
+use Rattle.sd_gate.specs.declared.call_sequence.CallSequence.TheVariants.{Header as HeaderStep, SyncBody}
+use Rattle.sd_gate.specs.declared.call_sequence.CallSequence.TheVariants.{Open as OpenStep, SyncOpen, Done}
 
 -- calls with the bytes that they write or fill
 abbrev pub Calls : Type 0

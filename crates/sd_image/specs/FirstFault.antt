@@ -1,6 +1,7 @@
 -- The first item of a table at which a rule breaks, and the least reason that applies to it. The items are: the table's
 -- head; of each space its head, its areas, its runs and its end; and the table's end.
-use Rattle.std.specs.Prelude.{◌≡◌, ℕ, suc, Bool, false, not, ◌&&◌, ◌==◌, nat_lt, nat_le, List, [], ◌∷◌, length, take, Option, Some, None, Result, Ok, Err}
+use Rattle.std.specs.Prelude.{◌≡◌, ℕ, suc, Bool, false, not, ◌&&◌, ◌==◌, nat_lt, nat_le, List, [], ◌∷◌, length, take}
+use Rattle.std.specs.Prelude.{Option, Some, None, Result, Ok, Err}
 use Rattle.std.specs.List.{list_any}
 use Rattle.sd_areas.specs.declared.area.Area.{Area}
 use Rattle.sd_image.specs.declared.header.Header.{Header}
@@ -10,7 +11,8 @@ use Rattle.sd_image.specs.declared.reason.Reason.TheVariants as reason
 use Rattle.sd_image.specs.declared.run.Run.{Run}
 use Rattle.sd_image.specs.declared.space_head.SpaceHead.{SpaceHead}
 use Rattle.sd_image.specs.Table.{Listed}
-use Rattle.sd_image.specs.Reading.{number_at, many, head_at, space_head_of, space_head_at, area_limit, area_holds, area_at, run_holds, run_at, covers, space_at, ends_rightly, table_in}
+use Rattle.sd_image.specs.Reading.{number_at, many, head_at, space_head_of, space_head_at, area_limit, area_holds}
+use Rattle.sd_image.specs.Reading.{area_at, run_holds, run_at, covers, space_at, ends_rightly, table_in}
 use Rattle.sd_image.specs.ReasonLaws.{reason_number, IsLeast}
 
 -- a reason applies where the rule that has it is broken

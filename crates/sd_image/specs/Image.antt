@@ -1,5 +1,6 @@
 -- Image text: which files are an image, and which.
-use Rattle.std.specs.Prelude.{◌≡◌, ◌⊎◌, ℕ, Bool, false, true, ◌&&◌, ◌==◌, nat_le, List, [], ◌∷◌, ◌++◌, length, slice_index}
+use Rattle.std.specs.Prelude.{◌≡◌, ◌⊎◌, ℕ, Bool, false, true, ◌&&◌, ◌==◌, nat_le, List, [], ◌∷◌, ◌++◌, length}
+use Rattle.std.specs.Prelude.{slice_index}
 use Rattle.std.specs.List.{concat, AllByRecursion}
 use Rattle.sd_image.specs.declared.header.Header.{Header}
 use Rattle.sha2.specs.Sha256.{sha256}

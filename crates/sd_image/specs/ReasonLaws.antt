@@ -1,5 +1,6 @@
 -- Image text has no reason against it, and all else that is open has one: laws that functions with an empty body carry.
-use Rattle.std.specs.Prelude.{◌≡◌, ◌⊎◌, ℕ, ◌<◌, Bool, true, false, ◌||◌, List, [], length, drop, All, Contains, slice_index_or, Ok, Err}
+use Rattle.std.specs.Prelude.{◌≡◌, ◌⊎◌, ℕ, ◌<◌, Bool, true, false, ◌||◌, List, [], length, drop, All, Contains}
+use Rattle.std.specs.Prelude.{slice_index_or, Ok, Err}
 use Rattle.sd_image.specs.declared.header.Header.{Header}
 use Rattle.sd_image.specs.declared.reason.Reason.{Reason}
 use Rattle.sd_image.specs.declared.reason.Reason.TheVariants as reason

@@ -1,12 +1,14 @@
 -- The marked journal: entries with the dumper's marks between them, the newest first.
-use Rattle.std.specs.Prelude.{◌≡◌, ℕ, Bool, true, false, ◌==◌, ◌&&◌, ◌||◌, if◌then◌else◌, List, [], ◌∷◌, map, Option, Some, None, IfSome, is_some}
+use Rattle.std.specs.Prelude.{◌≡◌, ℕ, Bool, true, false, ◌==◌, ◌&&◌, ◌||◌, if◌then◌else◌, List, [], ◌∷◌, map, Option}
+use Rattle.std.specs.Prelude.{Some, None, IfSome, is_some}
 use Rattle.std.specs.List.{list_any}
 use Rattle.sd_areas.specs.PlainMemory.{PlainMemory}
 use Rattle.sd_pagetable.specs.Contents.{Contents, page_at, plain_of}
 use Rattle.sd_pagetable.specs.Nested.{value_at}
 use Rattle.sd_pagetable.specs.Order.{is_above}
 use Rattle.sd_pagetable.specs.Page.{PageState}
-use Rattle.sd_pagetable.specs.Tracking.{MemoryEvent, Cleared, Passed, clears, is_dirty, is_page, is_writable, since, touches}
+use Rattle.sd_pagetable.specs.Tracking.{MemoryEvent, Cleared, Passed, clears, is_dirty, is_page, is_writable, since}
+use Rattle.sd_pagetable.specs.Tracking.{touches}
 use Rattle.sd_command.specs.Events.{event_of}
 use Rattle.sd_journal.specs.declared.entry.Entry.{Entry}
 use Rattle.sd_journal.specs.declared.entry.Entry.TheVariants.{Applied, Acked, Cancelled, Reopened}

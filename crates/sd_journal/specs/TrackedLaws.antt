@@ -17,7 +17,8 @@ use Rattle.sd_journal.specs.declared.mark.Mark.TheVariants.{Start, Visit, Table}
 use Rattle.sd_journal.specs.declared.origin.Origin.TheVariants.{Opened}
 use Rattle.sd_journal.specs.History.{Base, pending}
 use Rattle.sd_journal.specs.Legal.{IsLegal, MayFollow}
-use Rattle.sd_journal.specs.Marked.{Item, Told, Noted, Marked, entries_of, is_due, item_event, is_of, last_visit, visiting, IsMarked, IsTracked}
+use Rattle.sd_journal.specs.Marked.{Item, Told, Noted, Marked, entries_of, is_due, item_event, is_of, last_visit}
+use Rattle.sd_journal.specs.Marked.{visiting, IsMarked, IsTracked}
 use Rattle.sd_journal.specs.Receipts.{is_command}
 
 -- the marked journal tells each page's soft-dirty bit, step by step

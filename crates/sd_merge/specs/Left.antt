@@ -11,7 +11,8 @@ use Rattle.sd_merge.specs.declared.stage.Stage.{Stage}
 use Rattle.sd_merge.specs.declared.stage.Stage.TheVariants.{Format, Pass as PassStage, PageRead, PageWrite, Close}
 use Rattle.sd_merge.specs.Copying.{Copying, is_taking}
 use Rattle.sd_merge.specs.Sources.{few_pages}
-use Rattle.sd_merge.specs.Merger.{AreRunning, Doing, Hands, TakesList, Retiring, Running, Works, due, copying, opened, retiring, is_strange}
+use Rattle.sd_merge.specs.Merger.{AreRunning, Doing, Hands, TakesList, Retiring, Running, Works, due, copying, opened}
+use Rattle.sd_merge.specs.Merger.{retiring, is_strange}
 
 -- what the pages that are ahead, the one that is being taken, and the five calls that close the body come to: a page is
 -- read by a request with an outcome, and written by another

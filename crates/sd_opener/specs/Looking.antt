@@ -1,5 +1,6 @@
 -- An opener, as it is seen.
-use Rattle.std.specs.Prelude.{◌≡◌, ◌≢◌, ◌⊎◌, ℕ, ◌+◌, ◌<◌, ◌≤◌, true, List, [], ◌∷◌, length, map, Option, None, Some, IsSome}
+use Rattle.std.specs.Prelude.{◌≡◌, ◌≢◌, ◌⊎◌, ℕ, ◌+◌, ◌<◌, ◌≤◌, true, List, [], ◌∷◌, length, map, Option, None, Some}
+use Rattle.std.specs.Prelude.{IsSome}
 use Rattle.sd_gate.specs.declared.call.Call.{Call as DeviceCall}
 use Rattle.sd_gate.specs.declared.call.Call.TheVariants.{Len, Read as ReadCall, Sync}
 use Rattle.sd_gate.specs.declared.phase.Phase.{Phase}

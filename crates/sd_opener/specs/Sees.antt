@@ -1,5 +1,6 @@
 -- What an opener knows of the files that it reads.
-use Rattle.std.specs.Prelude.{◌≡◌, ℕ, ◌≤◌, true, false, List, length, map, slice_index, take, Option, Some, None, IsSome, Ok}
+use Rattle.std.specs.Prelude.{◌≡◌, ℕ, ◌≤◌, true, false, List, length, map, slice_index, take, Option, Some, None}
+use Rattle.std.specs.Prelude.{IsSome, Ok}
 use Rattle.sd_disk.specs.Contents.{file_at}
 use Rattle.sd_image.specs.declared.header.Header.{Header}
 use Rattle.sd_image.specs.declared.reason.Reason.{Reason}

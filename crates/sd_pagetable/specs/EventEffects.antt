@@ -7,7 +7,9 @@ use Rattle.sd_pagetable.specs.Nested.{inside, value_at, put_at, set_within, remo
 use Rattle.sd_pagetable.specs.Page.{zeros}
 use Rattle.sd_pagetable.specs.Access.{stored_at}
 use Rattle.sd_pagetable.specs.Contents.{Contents, plain_of}
-use Rattle.sd_pagetable.specs.Tracking.{MemoryEvent, Mapped, Unmapped, Protected, Forked, Exited, Faulted, Tried, Stored, Cleared, Passed, Step}
+use Rattle.sd_pagetable.specs.Tracking.{MemoryEvent, Mapped, Unmapped, Protected, Forked, Exited, Faulted, Tried}
+use Rattle.sd_pagetable.specs.Tracking.{Stored}
+use Rattle.sd_pagetable.specs.Tracking.{Cleared, Passed, Step}
 
 -- bytes stand at an offset of a page, if it is mapped
 abbrev pub after_write : PlainMemory → ℕ → ℕ → ℕ → List ℕ → PlainMemory

@@ -2,7 +2,8 @@
 use Rattle.std.specs.Prelude.{ℕ, List, ◌++◌, codes}
 use Rattle.sd_areas.specs.Refusals.{numbered_text}
 use Rattle.sd_pagetable.specs.declared.memory_refusal.MemoryRefusal.{MemoryRefusal}
-use Rattle.sd_pagetable.specs.declared.memory_refusal.MemoryRefusal.TheVariants.{Einval, Enomem, NoSuchSpace, TooManySpaces, NoFrame, LastSpace}
+use Rattle.sd_pagetable.specs.declared.memory_refusal.MemoryRefusal.TheVariants.{Einval, Enomem, NoSuchSpace}
+use Rattle.sd_pagetable.specs.declared.memory_refusal.MemoryRefusal.TheVariants.{TooManySpaces, NoFrame, LastSpace}
 use Rattle.sd_pagetable.specs.declared.segv.Segv as segv
 use Rattle.sd_pagetable.specs.declared.segv.Segv.TheVariants.{Maperr, Accerr}
 use Rattle.sd_pagetable.specs.declared.access_error.AccessError.{AccessError}

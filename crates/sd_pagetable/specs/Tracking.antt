@@ -1,7 +1,8 @@
 -- What each accepted call and each clear does to the frame classes, the soft-dirty and the writable bits, and the
 -- tracking law over whole histories: when a page is soft-dirty, and when it is writable. After the kernel document
 -- `soft-dirty`.
-use Rattle.std.specs.Prelude.{◌≡◌, ◌↔◌, ◌⊎◌, ℕ, ◌<◌, Bool, true, false, not, ◌&&◌, ◌||◌, ◌==◌, List, [], ◌∷◌, Some, None, Ok, take_while}
+use Rattle.std.specs.Prelude.{◌≡◌, ◌↔◌, ◌⊎◌, ℕ, ◌<◌, Bool, true, false, not, ◌&&◌, ◌||◌, ◌==◌, List, [], ◌∷◌, Some}
+use Rattle.std.specs.Prelude.{None, Ok, take_while}
 use Rattle.std.specs.List.{list_any}
 use Rattle.std.specs.FinMap as finmap
 use Rattle.sd_areas.specs.declared.prot.Prot.{Prot}
@@ -9,7 +10,8 @@ use Rattle.sd_areas.specs.Pages.{is_within, page_of}
 use Rattle.sd_pagetable.specs.declared.access.Access.TheVariants.{Write}
 use Rattle.sd_pagetable.specs.declared.store_outcome.StoreOutcome.TheVariants.{NeedsFault}
 use Rattle.sd_pagetable.specs.Nested.{Table, map_values, inside, is_alive, set_within, remove_within, change_within}
-use Rattle.sd_pagetable.specs.Page.{PageState, fresh_page, cleared_page, protected_page, shared_page, inherited_page, writable_page, stored_page}
+use Rattle.sd_pagetable.specs.Page.{PageState, fresh_page, cleared_page, protected_page, shared_page, inherited_page}
+use Rattle.sd_pagetable.specs.Page.{writable_page, stored_page}
 use Rattle.sd_pagetable.specs.Contents.{Contents, page_at, put_page, members, is_alone, plain_of}
 use Rattle.sd_pagetable.specs.Access.{stored_at}
 use Rattle.sd_pagetable.specs.Due.{access_due, try_outcome}

@@ -1,5 +1,6 @@
 -- What was read of a slot.
-use Rattle.std.specs.Prelude.{◌≡◌, ℕ, ◌<◌, ◌+◌, ◌*◌, true, false, List, length, map, drop, Option, MatchOption, slice_range}
+use Rattle.std.specs.Prelude.{◌≡◌, ℕ, ◌<◌, ◌+◌, ◌*◌, true, false, List, length, map, drop, Option, MatchOption}
+use Rattle.std.specs.Prelude.{slice_range}
 use Rattle.sd_disk.specs.Contents.{file_at}
 use Rattle.sd_image.specs.declared.header.Header.{Header}
 use Rattle.sd_image.specs.declared.header.Version.TheVariants.{Two}

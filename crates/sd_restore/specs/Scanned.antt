@@ -1,5 +1,6 @@
 -- What was found in the first slots.
-use Rattle.std.specs.Prelude.{◌≡◌, ◌==◌, ℕ, ◌<◌, Bool, true, false, List, map, filter, take, length, All, Option, None, Some, MatchOption}
+use Rattle.std.specs.Prelude.{◌≡◌, ◌==◌, ℕ, ◌<◌, Bool, true, false, List, map, filter, take, length, All, Option, None}
+use Rattle.std.specs.Prelude.{Some, MatchOption}
 use Rattle.std.specs.List.{list_any}
 use Rattle.sd_image.specs.Image.{Image, is_open}
 use Rattle.sd_image.specs.Shows.{IsStore}

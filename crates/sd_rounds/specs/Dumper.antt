@@ -1,5 +1,6 @@
 -- The dumper, as it is seen: the images of a checkpoint, one after the other.
-use Rattle.std.specs.Prelude.{◌≡◌, ◌⊎◌, ℕ, ◌+◌, ◌≤◌, ◌^◌, Bool, true, false, if◌then◌else◌, nat_le, List, [], length, get_or, Contains, Option, Some, None}
+use Rattle.std.specs.Prelude.{◌≡◌, ◌⊎◌, ℕ, ◌+◌, ◌≤◌, ◌^◌, Bool, true, false, if◌then◌else◌, nat_le, List, [], length}
+use Rattle.std.specs.Prelude.{get_or, Contains, Option, Some, None}
 use Rattle.sd_image.specs.declared.header.Kind.{Kind}
 use Rattle.sd_image.specs.declared.header.Kind.TheVariants.{PreDump, Dump}
 use Rattle.sd_gate.specs.declared.request_id.RequestId.{RequestId}
@@ -11,11 +12,15 @@ use Rattle.sd_rounds.specs.declared.image_order.ImageOrder.{ImageOrder}
 use Rattle.sd_rounds.specs.declared.image_progress.ImageProgress.{ImageProgress}
 use Rattle.sd_rounds.specs.declared.image_progress.ImageProgress.TheVariants.{Failed, More, Opened}
 use Rattle.sd_rounds.specs.declared.image_step.ImageStep.{ImageStep}
-use Rattle.sd_rounds.specs.declared.image_step.ImageStep.TheVariants.{Call, PageCall, TableCall, Frozen, Visited, Copied}
+use Rattle.sd_rounds.specs.declared.image_step.ImageStep.TheVariants.{Call, PageCall, TableCall, Frozen, Visited}
+use Rattle.sd_rounds.specs.declared.image_step.ImageStep.TheVariants.{Copied}
 use Rattle.sd_rounds.specs.declared.new_image.NewImage.{NewImage}
 use Rattle.sd_rounds.specs.declared.progress.Progress.{Progress}
-use Rattle.sd_rounds.specs.declared.progress.Progress.TheVariants.{Strange, Failed as HasFailed, More as GoesOn, PreDump as PreDumpOpen, Dump as DumpOpen}
-use Rattle.sd_rounds.specs.Making.{HandsIn, IsOutOf, Making, Steps, begun_image, closing_outcomes, is_frozen_dump, out_of, outcomes_left}
+use Rattle.sd_rounds.specs.declared.progress.Progress.TheVariants.{Strange, Failed as HasFailed, More as GoesOn}
+use Rattle.sd_rounds.specs.declared.progress.Progress.TheVariants.{PreDump as PreDumpOpen, Dump as DumpOpen}
+use Rattle.sd_rounds.specs.Making.{HandsIn, IsOutOf, Making, Steps, begun_image, closing_outcomes, is_frozen_dump}
+use Rattle.sd_rounds.specs.Making.{out_of}
+use Rattle.sd_rounds.specs.Making.{outcomes_left}
 use Rattle.sd_rounds.specs.Pass.{data_pages}
 use Rattle.sd_rounds.specs.Writes.{no_writes, writes_out}
 

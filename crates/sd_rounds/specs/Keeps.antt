@@ -1,5 +1,6 @@
 -- What an image in the making gives of a memory, with the images below it.
-use Rattle.std.specs.Prelude.{◌≡◌, ℕ, ◌*◌, ◌<◌, true, false, List, length, take, Contains, slice_get, Option, Some, None}
+use Rattle.std.specs.Prelude.{◌≡◌, ℕ, ◌*◌, ◌<◌, true, false, List, length, take, Contains, slice_get, Option, Some}
+use Rattle.std.specs.Prelude.{None}
 use Rattle.sd_image.specs.declared.run.RunKind.TheVariants.{Data, Parent, Zero}
 use Rattle.sd_image.specs.Image.{Image}
 use Rattle.sd_image.specs.Shows.{Holds, IsNamed}
@@ -8,7 +9,9 @@ use Rattle.sd_pagetable.specs.Contents.{Contents, IsSound, page_at}
 use Rattle.sd_pagetable.specs.Order.{IsNextPage}
 use Rattle.sd_pagetable.specs.PageLaw.{clean_at}
 use Rattle.sd_pagetable.specs.Tracking.{MemoryEvent, Step, Cleared, clears}
-use Rattle.sd_rounds.specs.Pass.{Place, ImageEntry, Taking, Pass, IsTaken, pages_by, data_pages, has_passed, opened, visited, sector_of, copied_more, dropped, taken_as_zero, taken_as_data}
+use Rattle.sd_rounds.specs.Pass.{Place, ImageEntry, Taking, Pass, IsTaken, pages_by, data_pages, has_passed, opened}
+use Rattle.sd_rounds.specs.Pass.{visited}
+use Rattle.sd_rounds.specs.Pass.{sector_of, copied_more, dropped, taken_as_zero, taken_as_data}
 
 -- the data pages of the image's file, by their place, once every write that is out is done
 abbrev pub Stored : Type 0

@@ -11,7 +11,8 @@ use Rattle.sd_pagetable.specs.Tracking.{MemoryEvent, Step}
 use Rattle.sd_rounds.specs.declared.image_order.ImageOrder.{ImageOrder}
 use Rattle.sd_rounds.specs.declared.image_progress.ImageProgress.TheVariants.{More}
 use Rattle.sd_rounds.specs.declared.image_step.ImageStep.{ImageStep}
-use Rattle.sd_rounds.specs.declared.image_step.ImageStep.TheVariants.{Call, PageCall, TableCall, Frozen, Visited, Copied}
+use Rattle.sd_rounds.specs.declared.image_step.ImageStep.TheVariants.{Call, PageCall, TableCall, Frozen, Visited}
+use Rattle.sd_rounds.specs.declared.image_step.ImageStep.TheVariants.{Copied}
 use Rattle.sd_rounds.specs.declared.stage.Stage.{Stage}
 use Rattle.sd_rounds.specs.declared.stage.Stage.TheVariants.{Format, Freeze, Pass as PassStage, Close}
 use Rattle.sd_rounds.specs.Dump.{IsDumped, IsDumping}

@@ -3,7 +3,8 @@ use Rattle.std.specs.Prelude.{◌≡◌, ℕ, Bool, true, false, if◌then◌els
 use Rattle.sd_image.specs.declared.run.RunKind.{RunKind}
 use Rattle.sd_pagetable.specs.Order.{is_above}
 use Rattle.sd_pagetable.specs.Tracking.{is_page}
-use Rattle.sd_rounds.specs.Pass.{Place, ImageEntry, Taking, Pass, has_passed, opened, visited, copied_more, dropped, with_entry}
+use Rattle.sd_rounds.specs.Pass.{Place, ImageEntry, Taking, Pass, has_passed, opened, visited, copied_more, dropped}
+use Rattle.sd_rounds.specs.Pass.{with_entry}
 
 -- each above the one before
 abbrev pub EntriesRise : Option Place → List ImageEntry → Type 0

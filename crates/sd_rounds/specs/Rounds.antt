@@ -1,5 +1,6 @@
 -- A pass in code, as it is seen, and what its steps do.
-use Rattle.std.specs.Prelude.{◌≡◌, ℕ, ◌+◌, ◌*◌, ◌<◌, ◌≤◌, Bool, false, ◌&&◌, ◌==◌, if◌then◌else◌, List, length, ◌++◌, Option, Some, None}
+use Rattle.std.specs.Prelude.{◌≡◌, ℕ, ◌+◌, ◌*◌, ◌<◌, ◌≤◌, Bool, false, ◌&&◌, ◌==◌, if◌then◌else◌, List, length, ◌++◌}
+use Rattle.std.specs.Prelude.{Option, Some, None}
 use Rattle.std.specs.List.{list_all}
 use Rattle.std.specs.Option.{option_map}
 use Rattle.sd_image.specs.declared.table.SpaceTable.{SpaceTable}
@@ -12,7 +13,8 @@ use Rattle.sd_rounds.specs.declared.copied.Copied.TheVariants.{More, Zero as Zer
 use Rattle.sd_rounds.specs.declared.standing.Standing.{Standing}
 use Rattle.sd_rounds.specs.declared.standing.Standing.TheVariants.{Free, Copying, Copied}
 use Rattle.sd_rounds.specs.declared.visit.Visit.{Visit}
-use Rattle.sd_rounds.specs.Pass.{Place, Taking, Pass, visited, sector_of, copied_more, dropped, taken_as_zero, taken_as_data}
+use Rattle.sd_rounds.specs.Pass.{Place, Taking, Pass, visited, sector_of, copied_more, dropped, taken_as_zero}
+use Rattle.sd_rounds.specs.Pass.{taken_as_data}
 use Rattle.sd_rounds.specs.Rises.{IsRising}
 use Rattle.sd_rounds.specs.Tables.{AreTables, EndBefore, entries_in, listed}
 

@@ -1,9 +1,11 @@
 -- Which pages a pass takes, by its visits.
-use Rattle.std.specs.Prelude.{◌≡◌, ℕ, Bool, true, not, ◌||◌, List, [], ◌∷◌, ◌++◌, map, filter, Contains, Some, None, IsSome}
+use Rattle.std.specs.Prelude.{◌≡◌, ℕ, Bool, true, not, ◌||◌, List, [], ◌∷◌, ◌++◌, map, filter, Contains, Some, None}
+use Rattle.std.specs.Prelude.{IsSome}
 use Rattle.sd_image.specs.declared.run.RunKind.TheVariants.{Data, Parent, Zero}
 use Rattle.sd_pagetable.specs.Contents.{Contents, page_at}
 use Rattle.sd_pagetable.specs.Order.{IsNextPage}
-use Rattle.sd_rounds.specs.Pass.{Place, Taking, Pass, pages_by, has_passed, opened, visited, copied_more, dropped, with_entry}
+use Rattle.sd_rounds.specs.Pass.{Place, Taking, Pass, pages_by, has_passed, opened, visited, copied_more, dropped}
+use Rattle.sd_rounds.specs.Pass.{with_entry}
 
 -- a test and clear, and whether the page was soft-dirty
 pub record Visit : Type 0 where

@@ -18,7 +18,8 @@ use Rattle.sd_script.specs.declared.line.Line.{Line}
 use Rattle.sd_script.specs.declared.line.Line.TheVariants as line
 use Rattle.sd_script.specs.Texts.{answer_line}
 use Rattle.sd_world.specs.declared.event.Event.{Event}
-use Rattle.sd_world.specs.declared.event.Event.TheVariants.{Command, Begin, Work, Perform, PerformAt, Merge, Cancel, Reopen, Trim}
+use Rattle.sd_world.specs.declared.event.Event.TheVariants.{Command, Begin, Work, Perform, PerformAt, Merge, Cancel}
+use Rattle.sd_world.specs.declared.event.Event.TheVariants.{Reopen, Trim}
 use Rattle.sd_world.specs.Points.{StandsAt}
 use Rattle.sd_world.specs.Promise.{Goes, Point}
 use Rattle.sd_world.specs.View.{WorldView}

@@ -1,5 +1,6 @@
 -- What a line of a script asks for, by its bytes.
-use Rattle.std.specs.Prelude.{◌≡◌, ⊤, ℕ, ◌^◌, ◌==◌, ◌&&◌, ◌||◌, ◌++◌, nat_eq, nat_lt, Bool, true, false, if◌then◌else◌, List, [], ◌∷◌, length, drop, find, codes, bytes_eq, Option, Some, None, Result, Ok, Err}
+use Rattle.std.specs.Prelude.{◌≡◌, ⊤, ℕ, ◌^◌, ◌==◌, ◌&&◌, ◌||◌, ◌++◌, nat_eq, nat_lt, Bool, true, false, if◌then◌else◌}
+use Rattle.std.specs.Prelude.{List, [], ◌∷◌, length, drop, find, codes, bytes_eq, Option, Some, None, Result, Ok, Err}
 use Rattle.std.specs.List.{list_all, starts_with, slice_split}
 use Rattle.std.specs.Char.{is_digit}
 use Rattle.std.specs.Str.Parse.{digits_value}
@@ -7,11 +8,13 @@ use Rattle.std.specs.Global.{Vec}
 use Rattle.std.specs.Result.{result_ok}
 use Rattle.hex.specs.Hex.{decode_of}
 use Rattle.sd_areas.specs.declared.prot.Prot.{Prot}
-use Rattle.sd_command.specs.declared.command.Command.TheVariants.{Mmap, Munmap, Mprotect, Fork, Exit, Load, TryStore, Fault, Store}
+use Rattle.sd_command.specs.declared.command.Command.TheVariants.{Mmap, Munmap, Mprotect, Fork, Exit, Load, TryStore}
+use Rattle.sd_command.specs.declared.command.Command.TheVariants.{Fault, Store}
 use Rattle.sd_gate.specs.declared.worker.Worker.{Worker}
 use Rattle.sd_gate.specs.declared.worker.Worker.TheVariants.{Dumper, Merger, Opener}
 use Rattle.sd_script.specs.declared.line.Line.{Line}
-use Rattle.sd_script.specs.declared.line.Line.TheVariants.{Command, Words, Begin, BeginMerge, Cancel, Work, Perform, PerformAt, Step, Finish, Checkpoint, Merge, Reopen, Trim}
+use Rattle.sd_script.specs.declared.line.Line.TheVariants.{Command, Words, Begin, BeginMerge, Cancel, Work, Perform}
+use Rattle.sd_script.specs.declared.line.Line.TheVariants.{PerformAt, Step, Finish, Checkpoint, Merge, Reopen, Trim}
 use Rattle.sd_script.specs.declared.line_error.LineError.{LineError}
 use Rattle.sd_script.specs.declared.line_error.LineError.TheVariants.{Unfit, OutOfMemory}
 

@@ -1,5 +1,6 @@
 -- What a script asks for, line by line.
-use Rattle.std.specs.Prelude.{◌≡◌, ⊤, ℕ, ◌+◌, ◌==◌, ◌||◌, nat_eq, Bool, true, false, if◌then◌else◌, List, length, position, codes, Option, Some, None, Result, Ok, Err}
+use Rattle.std.specs.Prelude.{◌≡◌, ⊤, ℕ, ◌+◌, ◌==◌, ◌||◌, nat_eq, Bool, true, false, if◌then◌else◌, List, length}
+use Rattle.std.specs.Prelude.{position, codes, Option, Some, None, Result, Ok, Err}
 use Rattle.std.specs.List.{starts_with, slice_split, filter_map}
 use Rattle.std.specs.Option.{option_map}
 use Rattle.std.specs.Str.{is_utf8}

@@ -7,7 +7,8 @@ use Rattle.hex.specs.Hex.{encode_lower}
 use Rattle.sd_pagetable.specs.Refusals.{segv_name}
 use Rattle.sd_command.specs.Refusals.{refusal_text}
 use Rattle.sd_command.specs.declared.reply.Reply.{Reply}
-use Rattle.sd_command.specs.declared.reply.Reply.TheVariants.{Done, Bytes, Child, NeedsFault, Segv, Begun, Worked, Acked, Cancelled, Merged, Trimmed, Reopened, Refused}
+use Rattle.sd_command.specs.declared.reply.Reply.TheVariants.{Done, Bytes, Child, NeedsFault, Segv, Begun, Worked}
+use Rattle.sd_command.specs.declared.reply.Reply.TheVariants.{Acked, Cancelled, Merged, Trimmed, Reopened, Refused}
 use Rattle.sd_script.specs.declared.answer.Answer.{Answer}
 use Rattle.sd_script.specs.declared.answer.Answer.TheVariants as answer
 

@@ -1,5 +1,6 @@
 -- What one turn does: one hold of the lock on the core.
-use Rattle.std.specs.Prelude.{◌≡◌, ◌≢◌, ◌⊎◌, ℕ, ◌+◌, ◌≤◌, ◌%◌, ◌^◌, Bool, false, not, List, ◌&&◌, length, is_none, is_some, if◌then◌else◌, Option, Some, None, Result, Err, ⊤}
+use Rattle.std.specs.Prelude.{◌≡◌, ◌≢◌, ◌⊎◌, ℕ, ◌+◌, ◌≤◌, ◌%◌, ◌^◌, Bool, false, not, List, ◌&&◌, length, is_none}
+use Rattle.std.specs.Prelude.{is_some, if◌then◌else◌, Option, Some, None, Result, Err, ⊤}
 use Rattle.sd_command.specs.declared.command.Command.{Command}
 use Rattle.sd_command.specs.declared.refusal.Refusal.{Refusal}
 use Rattle.sd_command.specs.declared.refusal.Refusal.TheVariants as refusal

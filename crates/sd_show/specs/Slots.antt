@@ -1,5 +1,7 @@
 -- The state of a slot, what is wrong with it, and what is read of it.
-use Rattle.std.specs.Prelude.{◌≡◌, ◌⊎◌, ◌<◌, All, ℕ, ◌+◌, ◌*◌, ◌==◌, ◌&&◌, nat_le, Bool, true, false, if◌then◌else◌, List, [], codes, length, drop, slice_index, slice_range, Option, None, Some, MatchOption, Result, Ok, Err, is_some}
+use Rattle.std.specs.Prelude.{◌≡◌, ◌⊎◌, ◌<◌, All, ℕ, ◌+◌, ◌*◌, ◌==◌, ◌&&◌, nat_le, Bool, true, false, if◌then◌else◌}
+use Rattle.std.specs.Prelude.{List, [], codes, length, drop, slice_index, slice_range, Option, None, Some, MatchOption}
+use Rattle.std.specs.Prelude.{Result, Ok, Err, is_some}
 use Rattle.sd_image.specs.declared.reason.Reason.{Reason}
 use Rattle.sd_image.specs.declared.reason.Reason.TheVariants.{Digest}
 use Rattle.sd_image.specs.Image.{Image, IsImage, is_open, gate}

@@ -4,7 +4,9 @@ use Rattle.std.specs.List.{AllZip}
 use Rattle.sd_disk.specs.Contents.{file_at}
 use Rattle.sd_image.specs.Image.{Image, IsImage, gate}
 use Rattle.sd_gate.specs.declared.phase.Phase.{Phase}
-use Rattle.sd_gate.specs.declared.phase.Phase.TheVariants.{Raw, RawClosing, Whole, Closing as ClosingPhase, Shut, ShutSynced, Bare, Writing, Ready, Opening as OpeningPhase, Doubt, DoubtSynced}
+use Rattle.sd_gate.specs.declared.phase.Phase.TheVariants.{Raw, RawClosing, Whole, Closing as ClosingPhase, Shut}
+use Rattle.sd_gate.specs.declared.phase.Phase.TheVariants.{ShutSynced, Bare, Writing, Ready, Opening as OpeningPhase}
+use Rattle.sd_gate.specs.declared.phase.Phase.TheVariants.{Doubt, DoubtSynced}
 use Rattle.sd_gate.specs.Fits.{DiskLeaves}
 use Rattle.sd_gate.specs.Phases.{given_up}
 use Rattle.sd_store_laws.specs.Beliefs.{Belief, Closed, Kept, Closing, Opening, FitsBelief}

@@ -5,7 +5,8 @@ use Rattle.sd_image.specs.Shows.{IsNamed, IsTip}
 use Rattle.sd_store_laws.specs.Reached.{Reaches}
 use Rattle.sd_store_laws.specs.Needs.{IsNeededIn, IsUnneeded}
 use Rattle.sd_store_laws.specs.Store.{IsSoundStore, Store}
-use Rattle.sd_store_laws.specs.Steps.{added, cancelled, checkpoint_begun, committed, found_store, merging, replaced, retired}
+use Rattle.sd_store_laws.specs.Steps.{added, cancelled, checkpoint_begun, committed, found_store, merging, replaced}
+use Rattle.sd_store_laws.specs.Steps.{retired}
 use Rattle.sd_store_laws.specs.Beliefs.{Belief, image_at}
 
 -- the image that the running checkpoint's next parent number names: the last one that it made, or the tip that it began

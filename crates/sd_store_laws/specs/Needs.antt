@@ -4,7 +4,9 @@ use Rattle.sd_image.specs.Image.{Image}
 use Rattle.sd_image.specs.Shows.{IsTip}
 use Rattle.sd_store_laws.specs.Needed.{IsNeeded}
 use Rattle.sd_store_laws.specs.Store.{IsNextDump, IsNextPreDump, IsSoundStore, IsTwin, Store, jobs}
-use Rattle.sd_store_laws.specs.Steps.{Adds, Retires, added, cancelled, checkpoint_begun, committed, found_store, merging, replaced, retired}
+use Rattle.sd_store_laws.specs.Steps.{Adds, Retires, added, cancelled, checkpoint_begun, committed, found_store}
+use Rattle.sd_store_laws.specs.Steps.{merging, replaced}
+use Rattle.sd_store_laws.specs.Steps.{retired}
 
 -- nobody may close an image of a store
 abbrev pub IsNeededIn : Store → Image → Type 0

@@ -1,11 +1,14 @@
 -- How the beliefs about slots follow the steps of a store and the calls that are made on slots.
 use Rattle.std.specs.List.{AllZip}
-use Rattle.std.specs.Prelude.{◌≡◌, ◌≢◌, ◌↔◌, ℕ, true, List, Option, Some, None, Contains, IfSome, slice_get, slice_set, false}
+use Rattle.std.specs.Prelude.{◌≡◌, ◌≢◌, ◌↔◌, ℕ, true, List, Option, Some, None, Contains, IfSome, slice_get, slice_set}
+use Rattle.std.specs.Prelude.{false}
 use Rattle.sd_image.specs.Image.{Image, IsImage, is_open}
 use Rattle.sd_image.specs.Shows.{IsTip, IsStore}
 use Rattle.sd_store_laws.specs.Needed.{IsNeeded}
 use Rattle.sd_store_laws.specs.Store.{IsNextDump, IsNextPreDump, IsSoundStore, IsTwin, Store, jobs}
-use Rattle.sd_store_laws.specs.Steps.{Adds, Retires, added, cancelled, checkpoint_begun, committed, merging, replaced, retired, found_store}
+use Rattle.sd_store_laws.specs.Steps.{Adds, Retires, added, cancelled, checkpoint_begun, committed, merging, replaced}
+use Rattle.sd_store_laws.specs.Steps.{retired}
+use Rattle.sd_store_laws.specs.Steps.{found_store}
 use Rattle.sd_store_laws.specs.Beliefs.{AreSlotsOf, Belief, Closed, Kept, Closing, Opening, IsAdded, image_at}
 
 -- a list lacks one image

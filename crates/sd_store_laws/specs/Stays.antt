@@ -5,7 +5,8 @@ use Rattle.sd_image.specs.Shows.{IsTip}
 use Rattle.sd_store_laws.specs.Needed.{IsNeeded}
 use Rattle.sd_store_laws.specs.Reached.{Reaches}
 use Rattle.sd_store_laws.specs.Store.{IsFresh, IsNext, IsNextDump, IsSoundStore, IsTwin, Store, jobs}
-use Rattle.sd_store_laws.specs.Steps.{Adds, Retires, added, cancelled, checkpoint_begun, committed, merging, replaced, retired}
+use Rattle.sd_store_laws.specs.Steps.{Adds, Retires, added, cancelled, checkpoint_begun, committed, merging, replaced}
+use Rattle.sd_store_laws.specs.Steps.{retired}
 
 -- Its serial and its number stay new.
 pub record FreshStays : Type 0 where

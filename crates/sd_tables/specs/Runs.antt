@@ -1,5 +1,6 @@
 -- Runs of pages that change where they are, without a change of frames.
-use Rattle.std.specs.Prelude.{◌≡◌, ◌⊎◌, ℕ, ◌<◌, ◌≤◌, Bool, true, false, Option, Some, None, is_some, IsSome, not, if◌then◌else◌}
+use Rattle.std.specs.Prelude.{◌≡◌, ◌⊎◌, ℕ, ◌<◌, ◌≤◌, Bool, true, false, Option, Some, None, is_some, IsSome, not}
+use Rattle.std.specs.Prelude.{if◌then◌else◌}
 use Rattle.sd_tables.specs.declared.entry.Entry.{Entry}
 use Rattle.sd_tables.specs.declared.run_change.RunChange.{RunChange}
 use Rattle.sd_tables.specs.declared.run_change.RunChange.TheVariants.{Renew, Protect}

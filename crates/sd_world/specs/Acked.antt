@@ -10,7 +10,8 @@ use Rattle.sd_image.specs.Image.{Image, IsImage}
 use Rattle.sd_rounds.specs.Dumper.{Running, is_last}
 use Rattle.sd_core.specs.Images.{HasImage, IsPreDump, begun_as}
 use Rattle.sd_world.specs.declared.event.Event.{Event}
-use Rattle.sd_world.specs.declared.event.Event.TheVariants.{Command, Begin, Work, TakeUp, HandInAt, Perform, PerformAt, Merge, Cancel, Reopen, Trim}
+use Rattle.sd_world.specs.declared.event.Event.TheVariants.{Command, Begin, Work, TakeUp, HandInAt, Perform, PerformAt}
+use Rattle.sd_world.specs.declared.event.Event.TheVariants.{Merge, Cancel, Reopen, Trim}
 use Rattle.sd_world.specs.Consistent.{IsWorld}
 use Rattle.sd_world.specs.View.{WorldView}
 

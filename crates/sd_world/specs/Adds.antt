@@ -11,7 +11,8 @@ use Rattle.sd_journal.specs.History.{History}
 use Rattle.sd_crash_safety.specs.Calls.{AddsByCancel, AddsByOrder, AddsByWorked, IsJournaled, IsUnjournaled}
 use Rattle.sd_crash_safety.specs.View.{CoreView, history_of}
 use Rattle.sd_world.specs.declared.event.Event.{Event}
-use Rattle.sd_world.specs.declared.event.Event.TheVariants.{Command as CommandEvent, Begin, Work, TakeUp, HandInAt, Perform, PerformAt, Merge, Cancel, Reopen, Trim}
+use Rattle.sd_world.specs.declared.event.Event.TheVariants.{Command as CommandEvent, Begin, Work, TakeUp, HandInAt}
+use Rattle.sd_world.specs.declared.event.Event.TheVariants.{Perform, PerformAt, Merge, Cancel, Reopen, Trim}
 
 -- refused with a full journal or for want of memory
 pub record IsUnjournaledReply (answer : Reply) : Type 0 where

@@ -8,7 +8,8 @@ use Rattle.sd_rounds.specs.Dumper.{Running}
 use Rattle.sd_core.specs.Images.{IsAcked}
 use Rattle.sd_core.specs.LittleWork.{IsLittleDump, IsLittlePreDump, OpensPreDump}
 use Rattle.sd_world.specs.declared.event.Event.{Event}
-use Rattle.sd_world.specs.declared.event.Event.TheVariants.{Command, Begin, Work, TakeUp, HandInAt, Perform, PerformAt, Merge, Cancel, Reopen, Trim}
+use Rattle.sd_world.specs.declared.event.Event.TheVariants.{Command, Begin, Work, TakeUp, HandInAt, Perform, PerformAt}
+use Rattle.sd_world.specs.declared.event.Event.TheVariants.{Merge, Cancel, Reopen, Trim}
 use Rattle.sd_world.specs.declared.call_state.CallState.TheVariants as its
 use Rattle.sd_world.specs.View.{IsAt, WorldView}
 

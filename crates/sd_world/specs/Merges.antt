@@ -17,7 +17,8 @@ use Rattle.sd_crash_safety.specs.Copies.{AreImagesOf}
 use Rattle.sd_core.specs.Merging.{OpensMerged}
 use Rattle.sd_world.specs.declared.call_state.CallState.TheVariants as its
 use Rattle.sd_world.specs.declared.event.Event.{Event}
-use Rattle.sd_world.specs.declared.event.Event.TheVariants.{Command, Begin, Work, TakeUp, HandInAt, Perform, PerformAt, Merge, Cancel, Reopen, Trim}
+use Rattle.sd_world.specs.declared.event.Event.TheVariants.{Command, Begin, Work, TakeUp, HandInAt, Perform, PerformAt}
+use Rattle.sd_world.specs.declared.event.Event.TheVariants.{Merge, Cancel, Reopen, Trim}
 use Rattle.sd_world.specs.View.{IsAt, WorldView}
 
 -- The merged image is open in the merge's slot of these contents: it has the checkpoint, the number and the areas of

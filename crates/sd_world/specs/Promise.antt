@@ -13,7 +13,8 @@ use Rattle.sd_image.specs.Shows.{Shows}
 use Rattle.sd_journal.specs.History.{Base, History, at_freeze}
 use Rattle.sd_crash_safety.specs.Shown.{ShowsAllowed}
 use Rattle.sd_world.specs.declared.event.Event.{Event}
-use Rattle.sd_world.specs.declared.event.Event.TheVariants.{Command as CommandEvent, Begin, Work, TakeUp, HandInAt, Cancel}
+use Rattle.sd_world.specs.declared.event.Event.TheVariants.{Command as CommandEvent, Begin, Work, TakeUp, HandInAt}
+use Rattle.sd_world.specs.declared.event.Event.TheVariants.{Cancel}
 
 -- A point of a run: the disk; what the run started from, and all entries of its journal since, the newest first; and
 -- the number of the checkpoint that was begun last.

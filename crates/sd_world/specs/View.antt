@@ -1,5 +1,6 @@
 -- A world as callers see it.
-use Rattle.std.specs.Prelude.{◌≡◌, ℕ, Bool, true, false, cond, ◌&&◌, ◌==◌, nat_lt, List, Option, Some, None, slice_get, replicate, refl}
+use Rattle.std.specs.Prelude.{◌≡◌, ℕ, Bool, true, false, cond, ◌&&◌, ◌==◌, nat_lt, List, Option, Some, None, slice_get}
+use Rattle.std.specs.Prelude.{replicate, refl}
 use Rattle.std.specs.Coded.{Coded, code_by, coded×}
 use Rattle.std.specs.List.{count_by, list_any}
 use Rattle.sd_gate.specs.declared.request_id.RequestId.{RequestId}
