@@ -9,11 +9,10 @@ use Rattle.sd_elf.specs.declared.core_file.ReadError.TheVariants as error
 use Rattle.sd_elf.specs.declared.fault.CoreFault.{CoreFault}
 use Rattle.sd_elf.specs.declared.fault.CoreFault.TheVariants as core
 use Rattle.sd_elf.specs.declared.fault.HeaderFault.{HeaderFault}
-use Rattle.sd_elf.specs.declared.fault.HeaderFault.TheVariants as fault
 use Rattle.sd_elf.specs.declared.file_header.FileHeader.{FileHeader}
 use Rattle.sd_elf.specs.declared.program_header.ProgramHeader.{ProgramHeader}
 use Rattle.sd_elf.specs.Headers.{BreaksHeader, program_header_in}
-use Rattle.sd_elf.specs.Segments.{AreSegments, BreaksAtSegment, IsFirstSegmentFault, is_memory, no_extent}
+use Rattle.sd_elf.specs.Segments.{AreSegments, BreaksAtSegment, is_memory, no_extent}
 use Rattle.sd_elf.specs.Cores.{BeginsCore, HasCoreFault, IsCoreFile, IsErrorOf, IsHeaderTable, IsOutside, headers_of, program_headers_in}
 use Rattle.sd_elf.proofs.SegmentLemmas.{first_break_none}
 

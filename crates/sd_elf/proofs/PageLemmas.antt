@@ -7,7 +7,6 @@ use Rattle.std.proofs.lemmas.Bool.{cond-true, cond-false}
 use Rattle.std.proofs.lemmas.Grind.{flat_map-append}
 use Rattle.sd_areas.specs.Pages.{pages_from}
 use Rattle.sd_chain.specs.declared.found.Found.{Found}
-use Rattle.sd_chain.specs.declared.found.Found.TheVariants as found
 use Rattle.sd_chain.specs.Chains.{found_on}
 use Rattle.sd_chain.specs.Store.{bytes_at}
 use Rattle.sd_restore.specs.declared.placed_run.PlacedRun.{PlacedRun}

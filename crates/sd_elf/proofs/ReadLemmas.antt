@@ -1,5 +1,5 @@
 -- A page of a segment, read.
-use Rattle.std.proofs.Common.{◌≡◌, ◌≤◌, ◌<◌, ◌+◌, ◌-◌, ◌^◌, ℕ, zero, suc, List, ◌++◌, Option, Some, None, IfSome, Result, Ok, Err, OnOk, replicate, take, drop, length, min, refl, sym, ap, ◌∙◌, arith, inl, inr}
+use Rattle.std.proofs.Common.{◌≡◌, ◌≤◌, ◌<◌, ◌+◌, ◌-◌, ◌^◌, ℕ, suc, List, ◌++◌, Option, IfSome, Result, OnOk, replicate, take, drop, length, min, refl, sym, ap, ◌∙◌, arith, inl, inr}
 use Rattle.std.specs.Prelude.{slice_index}
 use Rattle.std.proofs.lemmas.Bool.{cases_lt}
 use Rattle.std.proofs.lemmas.List.{drop-replicate, get_or-append_right, length-append, length-replicate, length-take}

@@ -1,11 +1,10 @@
 -- Segments one after the other.
-use Rattle.std.proofs.Common.{◌≡◌, ◌+◌, ◌<◌, ℕ, Bool, true, false, List, [], ◌∷◌, ◌++◌, inl, inr, refl, sym, ap, ◌∙◌, subst, arith, append-nil}
+use Rattle.std.proofs.Common.{◌≡◌, ◌+◌, ◌<◌, ℕ, Bool, true, false, List, [], ◌∷◌, ◌++◌, refl, sym, ap, ◌∙◌, subst, arith, append-nil}
 use Rattle.std.specs.Prelude.{filter, take, drop, slice_index_or, length}
 use Rattle.std.proofs.lemmas.Bool.{cond-true, cond-false}
 use Rattle.std.proofs.lemmas.List.{drop_more, get_or_default, take-append-drop}
 use Rattle.sd_restore.proofs.TakeLemmas.{taken_at}
 use Rattle.sd_elf.specs.declared.fault.SegmentFault.{SegmentFault}
-use Rattle.sd_elf.specs.declared.fault.SegmentFault.TheVariants as fault
 use Rattle.sd_elf.specs.declared.program_header.ProgramHeader.{ProgramHeader}
 use Rattle.sd_elf.specs.declared.segments.Extent.{Extent}
 use Rattle.sd_elf.specs.Segments.{AreSegments, BreaksSegment, IsFirstSegmentFault, IsSegment, extent_after, extent_of, is_memory, no_extent}
@@ -28,7 +27,7 @@ segment_among size e (x ∷ xs) s ys p = segment_among size (extent_after e x) x
 -- ---- what a fault says isn't so of a segment that a space can have
 
 pub breaks_none : (size : ℕ) (e : Extent) (s : ProgramHeader) (f : SegmentFault) → IsSegment size e s → BreaksSegment size e s f → ⊥
-breaks_none size e s f p h5 = grind arith
+breaks_none size e s f p given = grind arith
 
 -- ---- those of memory among others
 

@@ -1,18 +1,16 @@
 -- How many calls were made, and that none of them failed.
-use Rattle.std.proofs.Common.{◌≡◌, ◌+◌, ◌<◌, ◌≤◌, ℕ, List, [], length, sum_by, take, Bor, Some, Ok, sym, ◌∙◌, ap, inl, inr, arith}
+use Rattle.std.proofs.Common.{◌≡◌, ◌+◌, ◌<◌, ◌≤◌, ℕ, List, length, sum_by, take, Bor, Some, Ok, arith}
 use Rattle.std.specs.Result.{IsErrOf}
-use Rattle.std.proofs.lemmas.Bool.{cases_lt}
 use Rattle.std.proofs.lemmas.List.{length-map}
 use Rattle.std.proofs.lemmas.List.Sums.{sum_by_more, sum_by_more_le}
 use Rattle.sd_disk.specs.Contents.{file_at}
-use Rattle.sd_image.specs.Table.{Listed}
 use Rattle.sd_chain.specs.Catalog.{Opened, Places}
 use Rattle.sd_chain.specs.Store.{FindsTip}
 use Rattle.sd_restore.specs.declared.fault.Fault.{Fault}
 use Rattle.sd_restore.specs.declared.fault.Fault.TheVariants.{Device}
 use Rattle.sd_restore.specs.Calls.{HasPagesWithin, calls_for}
 use Rattle.sd_restore.specs.Mapped.{mapped_pages}
-use Rattle.sd_restore.specs.Placed.{PlacedPage, ArePlaced, mapped_of}
+use Rattle.sd_restore.specs.Placed.{PlacedPage, ArePlaced}
 
 not_device : {T : Type 0} (x : T) → IsErrOf {T = T} {E = Fault} (Ok x) Device → ⊥
 not_device x e = cc

@@ -10,7 +10,7 @@ use Rattle.std.proofs.lemmas.List.{drop-drop, length-drop, take-take}
 use Rattle.std.proofs.lemmas.Slice.Eq.{bytes_eq-Decides}
 use Rattle.sd_image.specs.declared.header.Header.{Header}
 use Rattle.sd_image.specs.declared.header.Version.{Version}
-use Rattle.sd_image.specs.declared.header.Version.TheVariants.{One, Two}
+use Rattle.sd_image.specs.declared.header.Version.TheVariants.{Two}
 use Rattle.sd_image.specs.declared.reason.Reason.{Reason}
 use Rattle.sd_image.specs.declared.reason.Reason.TheVariants.{Digest}
 use Rattle.sd_image.specs.Header.{header_front, header_text}

@@ -1,5 +1,5 @@
 -- The file of an open slot is the image that was read from it.
-use Rattle.std.proofs.Common.{◌≡◌, ◌≤◌, ◌+◌, ◌-◌, ◌*◌, ℕ, true, false, nat_eq, ◌&&◌, List, [], ◌∷◌, ◌++◌, map, drop, take, length, Ok, Err, refl, sym, ◌∙◌, ap, subst, arith, inl, inr}
+use Rattle.std.proofs.Common.{◌≡◌, ◌≤◌, ◌+◌, ◌-◌, ◌*◌, ℕ, true, false, List, [], ◌∷◌, ◌++◌, map, drop, length, Ok, Err, refl, sym, ◌∙◌, ap, subst, arith, inl, inr}
 use Rattle.std.specs.Prelude.{slice_range, slice_index}
 use Rattle.std.proofs.lemmas.Bool.{le-leb}
 use Rattle.sd_image.specs.Header.{header_text, IsHeader}

@@ -1,5 +1,5 @@
 -- The memory that a store shows is within the limits of a page table.
-use Rattle.std.proofs.Common.{◌≡◌, ◌+◌, ◌<◌, ◌≤◌, ◌^◌, ℕ, Bool, true, false, cond, ◌&&◌, nat_eq, nat_lt, nat_le, T, List, [], ◌∷◌, map, length, sum_by, Contains, Option, Some, None, MatchOption, IsSome, is_some, suc, refl, sym, ◌∙◌, ap, subst, inl, inr, arith}
+use Rattle.std.proofs.Common.{◌≡◌, ◌+◌, ◌<◌, ◌≤◌, ◌^◌, ℕ, Bool, true, false, cond, ◌&&◌, nat_eq, nat_lt, nat_le, T, List, [], ◌∷◌, map, length, sum_by, Contains, Option, Some, None, MatchOption, IsSome, is_some, refl, sym, ◌∙◌, ap, subst, inl, inr, arith}
 use Rattle.std.specs.List.{list_any}
 use Rattle.std.specs.Option.{option_map, option_and_then}
 use Rattle.std.specs.Ordering.{nat_cmp, is_lt, eq_by_cmp}

@@ -15,11 +15,11 @@ use Rattle.sd_image.specs.Table.{IsTable}
 use Rattle.std.proofs.lemmas.List.Elements.{All-contains, Contains-get_or, filter-append}
 use Rattle.sd_chain.specs.Catalog.{Opened, Places, place_of, Changes, images}
 use Rattle.sd_chain.specs.Store.{IsCatalogOf}
-use Rattle.sd_chain.specs.Laws.{EmptyCatalog, ClosedSlotAddsNothing, OpenSlotAddsItsImage}
+use Rattle.sd_chain.specs.Laws.{ClosedSlotAddsNothing, OpenSlotAddsItsImage}
 use Rattle.sd_image.specs.declared.reason.Reason.{Reason}
 use Rattle.sd_image.specs.declared.reason.Reason.TheVariants.{DoubleSerial}
 use Rattle.sd_restore.specs.declared.fault.Fault.{Fault}
-use Rattle.sd_restore.specs.declared.fault.Fault.TheVariants.{EmptyChain, Damaged, Device, OutOfMemory}
+use Rattle.sd_restore.specs.declared.fault.Fault.TheVariants.{Damaged}
 use Rattle.sd_restore.specs.Faulty.{FaultNames, AreReadable, IsFaulty, IsFirstFaulty, IsFirstDouble, IsDamage}
 use Rattle.sd_restore.specs.declared.scanned.Scanned.{Scanned}
 use Rattle.sd_restore.specs.Scanned.{has_image, AreRead, IsScan, IsScanned}

@@ -1,10 +1,9 @@
 -- How a run ends.
-use Rattle.std.proofs.Common.{◌≡◌, ◌≢◌, ℕ, Bool, List, Option, Some, Result, Ok, Err, IfErr, sym, ◌∙◌, subst, inl, inr, refl, arith}
+use Rattle.std.proofs.Common.{◌≡◌, ◌≢◌, ℕ, Bool, List, Option, Some, Result, Err, IfErr, sym, ◌∙◌, subst, inl, inr, refl, arith}
 use Rattle.std.specs.Io.KnownBytes.{Appends}
 use Rattle.sd_exit.specs.declared.stop.Stop.{Stop}
 use Rattle.sd_exit.specs.declared.stop.Stop.TheVariants as stop
 use Rattle.sd_exit.specs.Ending.{Exits, OnWriter, end_status, end_text, status_of}
-use Rattle.sd_exit.proofs.EndingLemmas.{cause_is_seen}
 use Rattle.sd_image.specs.declared.reason.Reason.{Reason}
 use Rattle.sd_restore.specs.declared.fault.Fault.TheVariants as fault
 use Rattle.sd_script.specs.declared.script_error.ScriptError.{ScriptError}
@@ -63,7 +62,7 @@ never_writer P error.OutOfMemory = record {}
 -- it is never the end of a run
 pub unfit_is_seen : (why : ScriptError) (before after : Option (List ℕ)) (refused : Bool) (status : ℕ)
     → Exits before after refused (end_text (Err (unfit why))) (end_status (Err (unfit why))) status → status ≢ 0
-unfit_is_seen why before after refused status h5 h6 = grind arith
+unfit_is_seen why before after refused status given also = grind arith
 
 -- with status 2 the line that doesn't fit is the one that is blamed
 pub blamed_line : (told : ScriptError) (before after : Option (List ℕ)) (refused : Bool) (status : ℕ) (first : Option ℕ)

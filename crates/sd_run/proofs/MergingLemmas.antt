@@ -1,5 +1,5 @@
 -- The replies of a merge of a whole store.
-use Rattle.std.proofs.Common.{◌≡◌, ℕ, false, Option, refl, arith}
+use Rattle.std.proofs.Common.{◌≡◌, ℕ, false, Option, arith}
 use Rattle.sd_command.specs.declared.reply.Reply.{Reply}
 use Rattle.sd_command.specs.declared.reply.Reply.TheVariants as reply
 use Rattle.sd_run.specs.Merging.{is_reopened}

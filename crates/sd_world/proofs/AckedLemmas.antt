@@ -1,5 +1,5 @@
 -- The images of a checkpoint, in the contents of a disk, from event to event.
-use Rattle.std.proofs.Common.{◌≡◌, ◌≢◌, ◌⊎◌, ℕ, zero, suc, ◌+◌, ◌<◌, ◌≤◌, Bool, true, false, List, get_or, length, map, is_none, Option, Some, None, IfSome, slice_get, refl, sym, ◌∙◌, ap, subst, inl, inr, arith}
+use Rattle.std.proofs.Common.{◌≡◌, ◌≢◌, ◌⊎◌, ℕ, zero, suc, ◌<◌, ◌≤◌, Bool, true, false, List, get_or, length, map, is_none, Option, Some, None, IfSome, slice_get, refl, sym, ◌∙◌, ap, subst, inl, inr, arith}
 use Rattle.std.proofs.lemmas.Bool.{cases_eq, leb-true}
 use Rattle.std.proofs.Math.Numerals.{add-one}
 use Rattle.sd_chain.specs.Catalog.{Opened, Places, place_of}
@@ -18,7 +18,7 @@ use Rattle.sd_image.specs.Image.{IsImage}
 use Rattle.sd_rounds.specs.Dumper.{Dumping, Running, slot_of}
 use Rattle.sd_store_laws.specs.Beliefs.{Closing, Kept as KeptBelief}
 use Rattle.sd_crash_safety.specs.declared.standing.Standing.TheVariants.{Open}
-use Rattle.sd_crash_safety.specs.Calls.{AddsByOutcome, AddsByStep, IsFree, IsOut}
+use Rattle.sd_crash_safety.specs.Calls.{AddsByOutcome, IsFree, IsOut}
 use Rattle.sd_crash_safety.specs.View.{CoreView, history_of}
 use Rattle.sd_core.specs.declared.taken.Taken.{Taken}
 use Rattle.sd_core.specs.declared.taken.Taken.TheVariants.{Step, Call}
@@ -420,7 +420,7 @@ module _ {D : Type 0} (g : Ghosts D) (old new : WorldView D) (pre_new : HasItsPr
     -- ---- the acknowledgement
 
     none_taken : (worker : Worker) (answer : Reply) → WorkerTakesUp worker old.core old.kept answer new.core new.kept → AcksThere g old answer new
-    none_taken worker answer h2 n is = grind arith
+    none_taken worker answer given n is = grind arith
 
     works_ack : (worker : Worker) (answer : Reply) → g.contents new.disk ≡ contents → HasFewOpen old.core.dumper.running → HasPreDumpsThere g old
         → WorkerWorks worker old.core old.kept answer new.core new.kept → AcksThere g old answer new

@@ -1,14 +1,12 @@
 -- What each event adds to the journal, and where it leaves the disk.
-use Rattle.std.proofs.Common.{◌≡◌, ◌≢◌, ℕ, List, [], ◌∷◌, ◌++◌, Some, Result, Ok, Err, refl, slice_get, sym, ◌∙◌, ap, subst, inl, inr, arith}
+use Rattle.std.proofs.Common.{◌≡◌, ◌≢◌, ℕ, List, [], ◌∷◌, ◌++◌, Some, Result, refl, slice_get, sym, ◌∙◌, ap, subst, inl, inr, arith}
 use Rattle.sd_command.specs.declared.command.Command.{Command as CommandOf}
 use Rattle.sd_command.specs.declared.refusal.Refusal.{Refusal}
 use Rattle.sd_command.specs.declared.reply.Reply.{Reply}
-use Rattle.sd_command.specs.declared.reply.Reply.TheVariants as reply
 use Rattle.sd_disk.specs.Crash.{Within}
 use Rattle.sd_disk.specs.Spans.{LeavesOnly, nothing_called, one_call}
 use Rattle.sd_disk.specs.declared.disk.Disk.{Ghosts}
 use Rattle.sd_gate.specs.declared.answer.Answer.{Answer}
-use Rattle.sd_gate.specs.declared.answer.Answer.TheVariants.{Done, Len, Failed}
 use Rattle.sd_gate.specs.declared.worker.Worker.{Worker}
 use Rattle.sd_gate.specs.Requests.{Made}
 use Rattle.sd_journal.specs.History.{History}
@@ -16,7 +14,7 @@ use Rattle.sd_journal.specs.Marked.{Marked, Noted, Told, entries_of}
 use Rattle.sd_crash_safety.specs.Calls.{AddsByOutcome, AddsByStep, Applies, IsOut}
 use Rattle.sd_crash_safety.specs.View.{CoreView, history_of}
 use Rattle.sd_world.specs.declared.event.Event.{Event}
-use Rattle.sd_world.specs.declared.event.Event.TheVariants.{Command, Begin, Work, TakeUp, HandInAt, Perform, PerformAt, Merge, Cancel, Reopen, Trim}
+use Rattle.sd_world.specs.declared.event.Event.TheVariants.{Command, Work, TakeUp, HandInAt, Perform, PerformAt, Trim}
 use Rattle.sd_world.specs.declared.kept.Kept.TheVariants.{Outcome}
 use Rattle.sd_world.specs.Adds.{AddsByCommand, AddsByPerform, AddsByTrim, AddsByWork, AddsToJournal}
 use Rattle.sd_world.specs.Consistent.{IsWorld}
@@ -51,7 +49,7 @@ module _ {D : Type 0} (g : Ghosts D) (old new : WorldView D) (world : IsWorld g 
 
   taken_adds : (worker : Worker) (answer : Reply) → WorkerTakesUp worker old.core old.kept answer new.core new.kept
       → AddsByWork worker old.core answer (history_of old.core) (history_of new.core)
-  taken_adds worker answer h2 = grind arith
+  taken_adds worker answer given = grind arith
 
   handed_adds : (worker : Worker) (place : ℕ) (answer : Reply) → HandsInAt worker place old.core old.kept answer new.core new.kept
       → AddsByWork worker old.core answer (history_of old.core) (history_of new.core)
@@ -73,7 +71,7 @@ module _ {D : Type 0} (g : Ghosts D) (old new : WorldView D) (world : IsWorld g 
 
   perform_adds : (worker : Worker) (place : ℕ) (answer : Reply) → Performs g worker place old.disk old.kept answer new.disk new.kept → new.core ≡ old.core
       → AddsByPerform answer (history_of old.core) (history_of new.core)
-  perform_adds worker place answer h3 core = grind arith
+  perform_adds worker place answer given core = grind arith
 
   trim_adds : (answer : Reply) → TrimsJournal old.core answer new.core → AddsByTrim answer (history_of old.core) (history_of new.core)
   trim_adds answer trims = elim (trim_cases old.core answer new.core trims) [
@@ -108,7 +106,7 @@ module _ {D : Type 0} (g : Ghosts D) (old new : WorldView D) (world : IsWorld g 
   -- ---- the base
 
   taken_base : (worker : Worker) (answer : Reply) → WorkerTakesUp worker old.core old.kept answer new.core new.kept → new.core.base ≡ old.core.base
-  taken_base worker answer h2 = grind arith
+  taken_base worker answer given = grind arith
 
   handed_base : (worker : Worker) (place : ℕ) (answer : Reply) → HandsInAt worker place old.core old.kept answer new.core new.kept → new.core.base ≡ old.core.base
   handed_base worker place answer hands = (hands.hands.does.handed (is_out hands.lane hands.made hands.is)).base

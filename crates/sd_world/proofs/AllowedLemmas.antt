@@ -26,7 +26,7 @@ use Rattle.sd_world.specs.declared.kept.Kept.{Kept}
 use Rattle.sd_world.specs.declared.kept.Kept.TheVariants.{Nothing, Request, Outcome}
 use Rattle.sd_world.specs.Consistent.{AreInPlace, IsConsistent, IsWorld, SlotNow, slot_after, slot_now}
 use Rattle.sd_world.specs.View.{WorldView, asked_of}
-use Rattle.sd_world.proofs.KeptLemmas.{AreWrites, IsWrite, NoneOn, alone_now, lane_cases, none_now, same_outcome, writes_keep, writes_there, written_writes}
+use Rattle.sd_world.proofs.KeptLemmas.{AreWrites, IsWrite, NoneOn, alone_now, lane_cases, none_now, same_outcome, writes_keep, writes_there}
 use Rattle.sd_world.proofs.Lists.{get_map}
 use Rattle.sd_world.proofs.Worlds.{slot_as}
 

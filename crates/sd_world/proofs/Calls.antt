@@ -2,7 +2,7 @@
 use Rattle.std.proofs.Common.{◌≡◌, ℕ, List, sym, subst}
 use Rattle.sd_gate.specs.declared.answer.Answer.{Answer}
 use Rattle.sd_gate.specs.declared.call.Call.{Call}
-use Rattle.sd_gate.specs.declared.call.Call.TheVariants.{Len, Read, Write, WriteHeader, Close, Open, Cut, Sync}
+use Rattle.sd_gate.specs.declared.call.Call.TheVariants.{Len, Read}
 use Rattle.sd_gate.specs.Calls.{CallTells, IsLook}
 
 -- what a call told of a file, it tells of the file afterwards

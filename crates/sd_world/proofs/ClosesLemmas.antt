@@ -1,30 +1,25 @@
 -- How a merge comes to close images, and to its end.
-use Rattle.std.proofs.Common.{◌≡◌, ℕ, Bool, true, false, List, [], ◌∷◌, map, Option, Some, None, MatchOption, IfOk, IfSome, is_none, is_some, Result, Ok, Err, refl, sym, ◌∙◌, ap, subst, inl, inr, arith}
-use Rattle.std.proofs.lemmas.Option.{same_Some}
+use Rattle.std.proofs.Common.{◌≡◌, ℕ, Bool, true, false, List, [], ◌∷◌, Option, Some, None, MatchOption, IfOk, IfSome, is_none, is_some, Result, refl, sym, ◌∙◌, ap, subst, inl, inr, arith}
 use Rattle.sd_areas.specs.PlainMemory.{PlainMemory}
 use Rattle.sd_command.specs.declared.command.Command.{Command as CommandOf}
 use Rattle.sd_command.specs.declared.command.Command.TheVariants as command
 use Rattle.sd_command.specs.declared.refusal.Refusal.{Refusal}
-use Rattle.sd_command.specs.declared.refusal.Refusal.TheVariants.{Busy, Device, Frozen, Idle, StoreDown}
-use Rattle.sd_command.specs.declared.refusal.Refusal.TheVariants as refusal
+use Rattle.sd_command.specs.declared.refusal.Refusal.TheVariants.{Busy, Idle, StoreDown}
 use Rattle.sd_command.specs.declared.reply.Reply.{Reply}
 use Rattle.sd_command.specs.declared.reply.Reply.TheVariants as reply
-use Rattle.sd_command.specs.Replies.{Accepts, denial_in, reply_of as denied_as}
+use Rattle.sd_command.specs.Replies.{Accepts, reply_of as denied_as}
 use Rattle.sd_disk.specs.declared.disk.Disk.{Ghosts}
 use Rattle.sd_gate.specs.declared.answer.Answer.{Answer}
-use Rattle.sd_gate.specs.declared.answer.Answer.TheVariants.{Done, Len, Failed}
 use Rattle.sd_gate.specs.declared.worker.Worker.{Worker}
 use Rattle.sd_gate.specs.declared.worker.Worker.TheVariants.{Dumper, Merger, Opener}
 use Rattle.sd_gate.specs.Calls.{is_done}
 use Rattle.sd_merge.specs.declared.retired.Retired.{Retired}
 use Rattle.sd_merge.specs.Merger as merger
-use Rattle.sd_chain.specs.Catalog.{images, serial_of}
-use Rattle.sd_merge.specs.Sources.{source_from}
-use Rattle.sd_merge.specs.Merger.{Doing, Retiring, begun_merge, copying, due, opened, retiring, source_in, source_of}
-use Rattle.sd_pagetable.specs.Contents.{Contents, plain_of}
+use Rattle.sd_merge.specs.Merger.{Doing, Retiring, copying, due, opened, retiring, source_in, source_of}
+use Rattle.sd_pagetable.specs.Contents.{Contents}
 use Rattle.sd_pagetable.specs.declared.access_error.AccessError.{AccessError}
-use Rattle.sd_pagetable.specs.declared.access_error.AccessError.TheVariants.{Refused, Segv}
-use Rattle.sd_crash_safety.specs.Calls.{AddsByCancel, AddsByOrder, AddsByStep, IsOut}
+use Rattle.sd_pagetable.specs.declared.access_error.AccessError.TheVariants.{Refused}
+use Rattle.sd_crash_safety.specs.Calls.{AddsByCancel, AddsByOrder, IsOut}
 use Rattle.sd_journal.specs.History.{pending}
 use Rattle.sd_crash_safety.specs.View.{CoreView, history_of}
 use Rattle.sd_core.specs.declared.taken.Taken.{Taken}
@@ -38,7 +33,7 @@ use Rattle.sd_core.specs.Merging.{IsSerialOf, MergesAs, OpensMerged, merge_refus
 use Rattle.sd_core.specs.Refusals.{is_idle, must_wait, work_refusal}
 use Rattle.sd_core.specs.Working.{LeavesByOutcome}
 use Rattle.sd_world.specs.declared.event.Event.{Event}
-use Rattle.sd_world.specs.declared.event.Event.TheVariants.{Command, Begin, Work, TakeUp, HandInAt, Perform, PerformAt, Merge, Cancel, Reopen, Trim}
+use Rattle.sd_world.specs.declared.event.Event.TheVariants.{Command, Work, TakeUp, HandInAt, Perform, PerformAt, Merge, Cancel, Reopen, Trim}
 use Rattle.sd_world.specs.Closing.{ClosesBehind, ComesToClose, EndsBehind, EndsIn, EntersIn, MergeCloses}
 use Rattle.sd_world.specs.Merges.{DoesMerge, MergesThere}
 use Rattle.sd_world.specs.Steps.{Does, HandsInAt, HandsInIfAny, IsCommand, Performs, WorkerTakesUp, WorkerWorks, answer_of, reply_of_answer}
@@ -245,7 +240,7 @@ module _ {D : Type 0} (g : Ghosts D) (old new : WorldView D) (world : IsWorld g 
   -- ---- what ends one
 
   take_up_ends : (worker : Worker) (answer : Reply) (serial : ℕ) → WorkerTakesUp worker old.core old.kept answer new.core new.kept → answer ≡ reply.Merged serial → ⊥
-  take_up_ends worker answer serial h3 is = grind arith
+  take_up_ends worker answer serial given is = grind arith
 
   none_kept_ends : (answer : Reply) (serial : ℕ) → answer ≡ reply.Refused Idle → answer ≡ reply.Merged serial → ⊥
   none_kept_ends answer serial idle is = (let no : reply.Refused Idle ≡ reply.Merged serial = sym idle ∙ is in cc)
@@ -260,7 +255,7 @@ module _ {D : Type 0} (g : Ghosts D) (old new : WorldView D) (world : IsWorld g 
   work_ends worker answer there (WorkerWorks.takes_up none takes) serial is = absurd (take_up_ends worker answer serial takes is)
 
   perform_ends : (worker : Worker) (place : ℕ) (answer : Reply) (serial : ℕ) → Performs g worker place old.disk old.kept answer new.disk new.kept → answer ≡ reply.Merged serial → ⊥
-  perform_ends worker place answer serial h4 is = grind arith
+  perform_ends worker place answer serial given is = grind arith
 
   trim_ends : (answer : Reply) (serial : ℕ) → TrimsJournal old.core answer new.core → answer ≡ reply.Merged serial → ⊥
   trim_ends answer serial trims is = elim (trim_cases old.core answer new.core trims) [

@@ -21,7 +21,7 @@ use Rattle.sd_crash_safety.specs.View.{CoreView}
 use Rattle.sd_core.specs.GoingOn.{AreOwnLanes}
 use Rattle.sd_core.specs.Merging.{IsAsBelieved, OpensMerged}
 use Rattle.sd_world.specs.declared.event.Event.{Event}
-use Rattle.sd_world.specs.declared.event.Event.TheVariants.{Command, Begin, Work, TakeUp, HandInAt, Perform, PerformAt, Merge, Cancel, Reopen, Trim}
+use Rattle.sd_world.specs.declared.event.Event.TheVariants.{Work, HandInAt}
 use Rattle.sd_world.specs.Acked.{IsThere}
 use Rattle.sd_world.specs.Consistent.{IsConsistent, IsWorld}
 use Rattle.sd_world.specs.Copied.{CopiesStored, DoesCopy, EntersStored}
@@ -34,7 +34,7 @@ use Rattle.sd_world.proofs.MergesLemmas.{believed, out, reads_free, same_opened,
 -- the image that is being closed stands in its slot, or the slot's gate is closed
 closing_there : (contents : List (List ℕ)) (o : Opened) (i : Image) (slot : ℕ) → IsToldAs o i → o.slot ≡ slot → FitsBelief (Closing i) (file_at contents o.slot)
     → IsThere contents o ⊎ (is_open (file_at contents slot) ≡ false)
-closing_there contents o i slot told at h6 = grind arith
+closing_there contents o i slot told at given = grind arith
 
 module _ {D : Type 0} (g : Ghosts D) (old new : WorldView D) (world : IsWorld g old) (law : WritesCommute) (gives : GivenUpFits (g.contents old.disk) (g.may_leave old.disk))
     (own : AreOwnLanes old.core.outs) (now : IsWorld g new) (left : LeftAsBelieved) (read : g.may_leave new.disk (g.contents new.disk)) where

@@ -1,16 +1,15 @@
 -- What trims folded into the base counts as if it were still there.
-use Rattle.std.proofs.Common.{◌≡◌, ℕ, ◌<◌, ◌==◌, Bool, true, false, cond, [], ◌∷◌, ◌++◌, Option, Some, None, IfSome, is_some, refl, sym, ◌∙◌, ap, subst, inl, inr, append-nil, arith}
+use Rattle.std.proofs.Common.{◌≡◌, ℕ, ◌<◌, ◌==◌, Bool, true, false, cond, [], ◌∷◌, ◌++◌, Option, Some, None, IfSome, refl, sym, ◌∙◌, ap, subst, inl, inr, append-nil, arith}
 use Rattle.std.proofs.lemmas.Bool.{cases_eq, eq-eqb, ne_eqb}
 use Rattle.std.proofs.lemmas.List.{append_assoc}
 use Rattle.sd_areas.specs.PlainMemory.{PlainMemory}
 use Rattle.sd_command.specs.declared.reply.Reply.{Reply}
 use Rattle.sd_command.specs.declared.reply.Reply.TheVariants as reply
-use Rattle.sd_command.specs.Replies.{IsLegalReply}
 use Rattle.sd_disk.specs.Crash.{Within}
 use Rattle.sd_journal.specs.declared.entry.Entry.{Entry}
 use Rattle.sd_journal.specs.declared.entry.Entry.TheVariants.{Applied, Freeze, Acked, Cancelled, Reopened}
 use Rattle.sd_journal.specs.Allowed.{IsAllowed, Shown}
-use Rattle.sd_journal.specs.History.{Base, History, at_base, at_freeze, memory_after, pending}
+use Rattle.sd_journal.specs.History.{Base, History, at_base, at_freeze, memory_after}
 use Rattle.sd_journal.specs.Legal.{IsAbove, IsLegal, MayFollow}
 use Rattle.sd_journal.specs.Trimming.{IsEnded, TrimLaws, base_after}
 use Rattle.sd_crash_safety.specs.Shown.{ShowsAllowed}

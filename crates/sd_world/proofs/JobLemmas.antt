@@ -1,7 +1,6 @@
 -- What ends a job: the last reply of its worker.
-use Rattle.std.proofs.Common.{◌≡◌, ℕ, Bool, true, false, List, [], ◌∷◌, ◌++◌, Option, Ok, Err, refl, sym, ◌∙◌, subst, arith}
+use Rattle.std.proofs.Common.{◌≡◌, ℕ, Bool, true, false, List, [], ◌∷◌, ◌++◌, Option, Ok, Err, refl, sym, subst, arith}
 use Rattle.sd_command.specs.declared.refusal.Refusal.{Refusal}
-use Rattle.sd_command.specs.declared.refusal.Refusal.TheVariants.{Idle}
 use Rattle.sd_command.specs.declared.reply.Reply.{Reply}
 use Rattle.sd_command.specs.declared.reply.Reply.TheVariants as reply
 use Rattle.sd_disk.specs.Crash.{Within}
@@ -17,7 +16,7 @@ use Rattle.sd_world.specs.declared.kept.Kept.{Kept}
 use Rattle.sd_world.specs.Adds.{AddsBy, AddsByPerform, AddsByWork}
 use Rattle.sd_world.specs.Jobs.{Drives, EndsAs, IsJob, is_end, next_event}
 use Rattle.sd_world.specs.Runs.{IsStep, ShowsReply}
-use Rattle.sd_world.specs.Steps.{WorkerTakesUp, WorkerWorks}
+use Rattle.sd_world.specs.Steps.{WorkerWorks}
 use Rattle.sd_world.specs.View.{WorldView, is_asked}
 use Rattle.sd_world.proofs.DriveLemmas.{call_next, step_next}
 use Rattle.sd_world.proofs.KeptLemmas.{whose}
@@ -53,7 +52,7 @@ by_work worker core _ old new merger adds ends = absurd adds
 
 never_merged : (worker : Worker) (old : CoreView) (kept : List Kept) (serial : ℕ) (new : CoreView) (later : List Kept) → (worker ≡ Merger → ⊥)
     → WorkerWorks worker old kept (reply.Merged serial) new later → ⊥
-never_merged worker old kept serial new later other h7 = grind arith
+never_merged worker old kept serial new later other given = grind arith
 
 merger_of : (worker : Worker) (old : CoreView) (kept : List Kept) (serial : ℕ) (new : CoreView) (later : List Kept)
     → WorkerWorks worker old kept (reply.Merged serial) new later → worker ≡ Merger

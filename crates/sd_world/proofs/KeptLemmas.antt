@@ -1,6 +1,6 @@
 -- What is kept in the lanes: what the outcomes on a slot make of it, and what stays of that where one lane changes.
-use Rattle.std.proofs.Common.{◌≡◌, ◌≢◌, ◌⊎◌, ℕ, ◌<◌, ◌==◌, Bool, true, false, cond, List, [], ◌∷◌, map, length, Some, None, slice_get, slice_set, zero, suc, refl, sym, ◌∙◌, ap, subst, inl, inr, arith}
-use Rattle.std.proofs.lemmas.Bool.{cases_eq, ne_eqb}
+use Rattle.std.proofs.Common.{◌≡◌, ◌≢◌, ◌⊎◌, ℕ, ◌<◌, ◌==◌, Bool, true, cond, List, [], ◌∷◌, map, length, Some, None, slice_get, slice_set, zero, suc, refl, sym, ◌∙◌, ap, subst, inl, inr, arith}
+use Rattle.std.proofs.lemmas.Bool.{cases_eq}
 use Rattle.std.proofs.lemmas.Bool.Decides.{nat_tests}
 use Rattle.std.proofs.lemmas.Option.{same_Some}
 use Rattle.sd_gate.specs.declared.call.Call.{Call}
@@ -21,7 +21,6 @@ use Rattle.sd_world.specs.declared.kept.Kept.{Kept}
 use Rattle.sd_world.specs.declared.kept.Kept.TheVariants.{Nothing, Request, Outcome}
 use Rattle.sd_world.specs.Consistent.{AreAskedInPages, AreInPlace, SlotNow, slot_after, slot_now, slot_with}
 use Rattle.sd_world.specs.View.{IsAt, asked_id, asked_of, kept_id, made_id}
-use Rattle.sd_gate.proofs.TakeLemmas.{filled_writes}
 use Rattle.sd_store_laws.proofs.SlotSteps.{set_other as get_set_other}
 use Rattle.sd_world.proofs.Lists.{get_map, get_set_same}
 

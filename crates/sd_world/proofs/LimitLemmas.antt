@@ -3,7 +3,6 @@ use Rattle.std.proofs.Common.{◌≡◌, ℕ, ◌+◌, ◌<◌, ◌≤◌, ◌||
 use Rattle.std.proofs.lemmas.Bool.{le-ltb, ltb-true, ne_eqb}
 use Rattle.std.specs.List.{fold, list_any}
 use Rattle.std.specs.FinMap as finmap
-use Rattle.sd_areas.specs.Areas.{areas_of}
 use Rattle.sd_areas.specs.PlainMemory.{Page, PlainMemory, Space}
 use Rattle.sd_pagetable.specs.declared.access_error.AccessError.{AccessError}
 use Rattle.sd_pagetable.specs.declared.access_error.AccessError.TheVariants.{Refused}

@@ -8,9 +8,9 @@ use Rattle.sd_disk.specs.declared.disk.Disk.{Ghosts}
 use Rattle.sd_gate.specs.declared.worker.Worker.{Worker}
 use Rattle.sd_journal.specs.History.{History}
 use Rattle.sd_crash_safety.specs.Calls.{AddsByStep, IsOut}
-use Rattle.sd_crash_safety.specs.View.{CoreView, history_of}
+use Rattle.sd_crash_safety.specs.View.{CoreView}
 use Rattle.sd_world.specs.declared.event.Event.{Event}
-use Rattle.sd_world.specs.declared.event.Event.TheVariants.{Command, Begin, Work, TakeUp, HandInAt, Perform, PerformAt, Merge, Cancel, Reopen, Trim}
+use Rattle.sd_world.specs.declared.event.Event.TheVariants.{Work, TakeUp, HandInAt}
 use Rattle.sd_world.specs.Consistent.{IsWorld}
 use Rattle.sd_world.specs.Little.{DoesLittle, WorksLittle}
 use Rattle.sd_world.specs.Steps.{Does, HandsInAt, HandsInIfAny, WorkerTakesUp, WorkerWorks}
@@ -33,7 +33,7 @@ refused_apart why n e = cc
 
 module _ {D : Type 0} (g : Ghosts D) (old new : WorldView D) (world : IsWorld g old) where
   none_taken : (worker : Worker) (answer : Reply) (n : ℕ) → WorkerTakesUp worker old.core old.kept answer new.core new.kept → answer ≡ reply.Acked n → ⊥
-  none_taken worker answer n h3 is = grind arith
+  none_taken worker answer n given is = grind arith
 
   handed_little : (worker : Worker) (place : ℕ) (answer : Reply) → HandsInAt worker place old.core old.kept answer new.core new.kept → WorksLittle worker place old answer new
   handed_little worker place answer hands = record {

@@ -1,5 +1,5 @@
 -- A worker's event lowers what is left of its job, unless it ends it or is refused.
-use Rattle.std.proofs.Common.{◌≡◌, ℕ, Option, Some, None, refl, sym, subst, arith}
+use Rattle.std.proofs.Common.{◌≡◌, ℕ, Option, Some, None, sym, subst, arith}
 use Rattle.sd_command.specs.declared.refusal.Refusal.{Refusal}
 use Rattle.sd_command.specs.declared.refusal.Refusal.TheVariants.{Idle}
 use Rattle.sd_command.specs.declared.reply.Reply.{Reply}
@@ -44,7 +44,7 @@ call_lowers old worker request answer new why is job worked = grind arith
 module _ {D : Type 0} (g : Ghosts D) (old new : WorldView D) (world : IsWorld g old) where
   taken_lowers : (worker : Worker) (answer : Reply) → WorkerTakesUp worker old.core old.kept answer new.core new.kept
       → LeavesLess answer (left_by old.core worker) (left_by new.core worker)
-  taken_lowers worker answer h2 = grind arith
+  taken_lowers worker answer given = grind arith
 
   handed_lowers : (worker : Worker) (place : ℕ) (answer : Reply) → HandsInAt worker place old.core old.kept answer new.core new.kept
       → LeavesLess answer (left_by old.core worker) (left_by new.core worker)

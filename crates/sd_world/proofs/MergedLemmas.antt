@@ -5,7 +5,6 @@ use Rattle.sd_command.specs.declared.reply.Reply.{Reply}
 use Rattle.sd_command.specs.declared.reply.Reply.TheVariants as reply
 use Rattle.sd_disk.specs.Contents.{file_at}
 use Rattle.sd_disk.specs.declared.disk.Disk.{Ghosts}
-use Rattle.sd_image.specs.Image.{IsImage}
 use Rattle.sd_merge.specs.Merger as merger
 use Rattle.sd_chain.specs.Catalog.{Places}
 use Rattle.sd_world.specs.declared.event.Event.{Event}

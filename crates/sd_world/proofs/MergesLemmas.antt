@@ -19,13 +19,13 @@ use Rattle.sd_journal.specs.History.{History}
 use Rattle.sd_merge.specs.Merger as merger
 use Rattle.sd_merge.specs.Merger.{list_of}
 use Rattle.sd_crash_safety.specs.Calls.{AddsByStep, IsFree, IsOut}
-use Rattle.sd_crash_safety.specs.View.{CoreView, history_of}
+use Rattle.sd_crash_safety.specs.View.{CoreView}
 use Rattle.sd_core.specs.GoingOn.{AreOwnLanes}
 use Rattle.sd_core.specs.Lasting.{LeavesMerged}
 use Rattle.sd_core.specs.Merging.{IsAsBelieved, OpensMerged}
 use Rattle.sd_core.specs.Working.{LeavesByOutcome}
 use Rattle.sd_world.specs.declared.event.Event.{Event}
-use Rattle.sd_world.specs.declared.event.Event.TheVariants.{Command, Begin, Work, TakeUp, HandInAt, Perform, PerformAt, Merge, Cancel, Reopen, Trim}
+use Rattle.sd_world.specs.declared.event.Event.TheVariants.{Command, Work, TakeUp, HandInAt, Perform, PerformAt, Trim}
 use Rattle.sd_world.specs.declared.kept.Kept.{Kept}
 use Rattle.sd_world.specs.declared.kept.Kept.TheVariants.{Request, Outcome}
 use Rattle.sd_world.specs.Consistent.{IsConsistent, IsWorld}
@@ -55,7 +55,7 @@ same_opened a b e = cc
 module _ {D : Type 0} (g : Ghosts D) (old new : WorldView D) (world : IsWorld g old) (law : WritesCommute) (gives : GivenUpFits (g.contents old.disk) (g.may_leave old.disk))
     (own : AreOwnLanes old.core.outs) where
   none_taken : (worker : Worker) (answer : Reply) (serial : ℕ) → WorkerTakesUp worker old.core old.kept answer new.core new.kept → answer ≡ reply.Merged serial → ⊥
-  none_taken worker answer serial h3 is = grind arith
+  none_taken worker answer serial given is = grind arith
 
   module _ (worker : Worker) (place : ℕ) (answer : Reply) (hands : HandsInAt worker place old.core old.kept answer new.core new.kept) (was : IsConsistent g old) where
     pub out : IsOut old.core hands.made.request.id

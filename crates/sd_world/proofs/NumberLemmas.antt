@@ -6,7 +6,7 @@ use Rattle.sd_command.specs.declared.refusal.Refusal.TheVariants as refusal
 use Rattle.sd_command.specs.declared.reply.Reply.{Reply}
 use Rattle.sd_command.specs.declared.reply.Reply.TheVariants as reply
 use Rattle.sd_gate.specs.declared.worker.Worker.{Worker}
-use Rattle.sd_gate.specs.declared.worker.Worker.TheVariants.{Dumper, Merger, Opener}
+use Rattle.sd_gate.specs.declared.worker.Worker.TheVariants.{Dumper, Merger}
 use Rattle.sd_gate.specs.Calls.{is_done}
 use Rattle.sd_gate.specs.Requests.{Made}
 use Rattle.sd_disk.specs.declared.disk.Disk.{Ghosts}
@@ -14,7 +14,6 @@ use Rattle.sd_rounds.specs.Dumper.{Dumping, Running}
 use Rattle.sd_crash_safety.specs.Calls.{IsOut, running_number}
 use Rattle.sd_crash_safety.specs.View.{CoreView}
 use Rattle.sd_core.specs.declared.taken.Taken.{Taken}
-use Rattle.sd_core.specs.declared.taken.Taken.TheVariants.{Step, Call}
 use Rattle.sd_core.specs.Beginning.{BeginsAs, begin_refusal}
 use Rattle.sd_core.specs.Beside.{LeavesOthers}
 use Rattle.sd_core.specs.Called.{IsHandedIn, IsTakenUp}
@@ -24,7 +23,7 @@ use Rattle.sd_core.specs.Orders.{IsCancelled}
 use Rattle.sd_core.specs.Refusals.{cancel_refusal, work_refusal}
 use Rattle.sd_core.specs.Working.{HasFallen, LeavesByOutcome, LeavesByStep, LeavesByWork}
 use Rattle.sd_world.specs.declared.event.Event.{Event}
-use Rattle.sd_world.specs.declared.event.Event.TheVariants.{Command as CommandEvent, Begin, Work, TakeUp, HandInAt, Perform, PerformAt, Merge, Cancel, Reopen, Trim}
+use Rattle.sd_world.specs.declared.event.Event.TheVariants.{Command as CommandEvent, Begin, Work, TakeUp, HandInAt, Merge, Cancel, Reopen, Trim}
 use Rattle.sd_world.specs.Promise.{begun_after}
 use Rattle.sd_world.specs.Steps.{Does, HandsInIfAny, WorkerTakesUp, WorkerWorks}
 use Rattle.sd_world.specs.Trims.{TrimsJournal}
@@ -168,15 +167,15 @@ trim_number old answer new trims = elim (trim_cases old answer new trims) [
 module _ {D : Type 0} (g : Ghosts D) where
   takes_number : (worker : Worker) (old new : WorldView D) (answer : Reply) → WorkerTakesUp worker old.core old.kept answer new.core new.kept
       → KeepsNumber old.core new.core
-  takes_number worker old new answer h4 = grind arith
+  takes_number worker old new answer given = grind arith
 
   works_number : (worker : Worker) (old new : WorldView D) (answer : Reply) → WorkerWorks worker old.core old.kept answer new.core new.kept
       → KeepsNumber old.core new.core
-  works_number worker old new answer h4 = grind (arith, handed_number)
+  works_number worker old new answer given = grind (arith, handed_number)
 
   hands_number : (worker : Worker) (place : ℕ) (old new : WorldView D) (answer : Reply)
       → HandsInIfAny worker place old.core old.kept answer new.core new.kept → KeepsNumber old.core new.core
-  hands_number worker place old new answer h5 = grind (arith, handed_number, same_core)
+  hands_number worker place old new answer given = grind (arith, handed_number, same_core)
 
   pub number_goes : (event : Event) (old : WorldView D) (answer : Reply) (new : WorldView D) → Does g event old answer new
       → NumberGoes event answer old.core new.core

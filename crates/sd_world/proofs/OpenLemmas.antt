@@ -1,6 +1,5 @@
 -- Slots that are synced and looked at, one after the other.
-use Rattle.std.proofs.Common.{◌≡◌, ℕ, ◌+◌, ◌<◌, List, [], length, Some, None, slice_get, replicate, zero, suc, refl, sym, ◌∙◌, ap, subst, inl, inr, arith}
-use Rattle.std.proofs.lemmas.Bool.{cases_eq}
+use Rattle.std.proofs.Common.{◌≡◌, ℕ, ◌+◌, ◌<◌, List, [], length, Some, None, slice_get, replicate, zero, suc, sym, subst, arith}
 use Rattle.std.proofs.lemmas.List.{ext_get_or}
 use Rattle.std.proofs.lemmas.Option.{same_Some}
 use Rattle.sd_areas.specs.PlainMemory.{PlainMemory}
@@ -12,7 +11,6 @@ use Rattle.sd_world.specs.declared.kept.Kept.TheVariants.{Nothing, Outcome}
 use Rattle.sd_world.specs.Consistent.{AreInPlace}
 use Rattle.sd_world.specs.View.{asked_of, nothing_kept}
 use Rattle.sd_world.specs.declared.open_fault.OpenFault.{OpenFault}
-use Rattle.sd_world.specs.declared.open_fault.OpenFault.TheVariants.{NoFrame, Damaged, Device, OutOfMemory}
 use Rattle.sd_world.specs.Opens.{AreSynced, IsFaultOf, IsWantOf}
 
 -- one slot more is synced

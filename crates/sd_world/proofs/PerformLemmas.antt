@@ -6,7 +6,7 @@ use Rattle.sd_disk.specs.Contents.{file_at}
 use Rattle.sd_disk.specs.declared.disk.Disk.{Ghosts}
 use Rattle.sd_gate.specs.declared.phase.Phase.{Phase}
 use Rattle.sd_gate.specs.declared.request_id.RequestId.{RequestId}
-use Rattle.sd_gate.specs.Calls.{AreKept, CallTells, IsAnswerTo, is_done}
+use Rattle.sd_gate.specs.Calls.{AreKept, is_done}
 use Rattle.sd_gate.specs.Laws.{WritesCommute}
 use Rattle.sd_gate.specs.Looks.{IsTold}
 use Rattle.sd_gate.specs.Phases.{after as phase_after, body_after, is_ready}
@@ -22,7 +22,6 @@ use Rattle.sd_world.specs.Consistent.{AreAskedInPages, AreInPlace, IsConsistent,
 use Rattle.sd_world.specs.Steps.{IsPerformed}
 use Rattle.sd_world.specs.View.{asked_of, kept_id}
 use Rattle.sd_crash_safety.proofs.Performed.{kept_body as same_body}
-use Rattle.sd_world.proofs.Calls.{tells_now}
 use Rattle.sd_world.proofs.KeptLemmas.{IsWrite, WriteBeside, filled_places, is_set, made_now, outcome_off, ready_now, request_on, same_outcome, set_elsewhere}
 use Rattle.sd_world.proofs.Lists.{get_map, map_set, set_itself}
 use Rattle.sd_world.proofs.Worlds.{Fits, slot_as}

@@ -3,7 +3,6 @@ use Rattle.std.proofs.Common.{◌≡◌, ◌≢◌, ◌⊎◌, ℕ, List, [], �
 use Rattle.std.proofs.lemmas.List.{append_assoc}
 use Rattle.sd_command.specs.declared.command.Command.{Command}
 use Rattle.sd_command.specs.declared.refusal.Refusal.{Refusal}
-use Rattle.sd_command.specs.declared.refusal.Refusal.TheVariants as refusal
 use Rattle.sd_command.specs.declared.reply.Reply.{Reply}
 use Rattle.sd_command.specs.declared.reply.Reply.TheVariants as reply
 use Rattle.sd_disk.specs.Spans.{LeavesOnly, span_widened}
@@ -18,7 +17,7 @@ use Rattle.sd_crash_safety.specs.Calls.{AddsByCancel, AddsByOrder, IsJournaled, 
 use Rattle.sd_crash_safety.specs.Shown.{ShowsAllowed}
 use Rattle.sd_crash_safety.specs.View.{CoreView, history_of}
 use Rattle.sd_world.specs.declared.event.Event.{Event}
-use Rattle.sd_world.specs.declared.event.Event.TheVariants.{Command as CommandEvent, Begin, Work, TakeUp, HandInAt, Perform, PerformAt, Merge, Cancel, Reopen, Trim}
+use Rattle.sd_world.specs.declared.event.Event.TheVariants.{Begin, Trim}
 use Rattle.sd_world.specs.Adds.{AddsByCommand, AddsByPerform, AddsByWork, AddsToJournal}
 use Rattle.sd_world.specs.Points.{Folds, PointsFollow, StandsAt}
 use Rattle.sd_world.specs.Promise.{AddsByReply, AddsCancelled, AddsCommand, AddsEntry, Goes, Point, begun_after}

@@ -3,13 +3,13 @@ use Rattle.std.proofs.Common.{◌≡◌, ◌≢◌, ℕ, false, List, map, Some,
 use Rattle.std.proofs.lemmas.Bool.{false≢true}
 use Rattle.std.proofs.lemmas.Option.{same_Some}
 use Rattle.sd_command.specs.declared.refusal.Refusal.{Refusal}
-use Rattle.sd_command.specs.declared.refusal.Refusal.TheVariants.{Damaged, OutOfMemory, StoreDown}
+use Rattle.sd_command.specs.declared.refusal.Refusal.TheVariants.{Damaged, StoreDown}
 use Rattle.sd_command.specs.declared.reply.Reply.{Reply}
 use Rattle.sd_command.specs.declared.reply.Reply.TheVariants as reply
 use Rattle.sd_disk.specs.declared.disk.Disk.{Ghosts}
 use Rattle.sd_gate.specs.declared.request_id.RequestId.{RequestId}
 use Rattle.sd_gate.specs.declared.worker.Worker.{Worker}
-use Rattle.sd_gate.specs.declared.worker.Worker.TheVariants.{Dumper, Merger, Opener}
+use Rattle.sd_gate.specs.declared.worker.Worker.TheVariants.{Merger, Opener}
 use Rattle.sd_crash_safety.specs.View.{CoreView, index}
 use Rattle.sd_core.specs.declared.taken.Taken.TheVariants.{Step as StepTaken}
 use Rattle.sd_core.specs.GoingOn.{CanGoOn, HasNoneOut, OpenerAsksAlone}

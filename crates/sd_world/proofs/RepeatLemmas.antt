@@ -1,7 +1,6 @@
 -- Events that are alike, each answered alike.
-use Rattle.std.proofs.Common.{◌≡◌, ℕ, ◌+◌, zero, suc, replicate, refl, subst}
+use Rattle.std.proofs.Common.{ℕ, ◌+◌, zero, suc, replicate, refl, subst}
 use Rattle.std.proofs.Math.Numerals.{suc-eq-add-one}
-use native.Mathlib.Numerals.{unary_clauses}
 use Rattle.sd_command.specs.declared.reply.Reply.{Reply}
 use Rattle.sd_disk.specs.declared.disk.Disk.{Ghosts}
 use Rattle.sd_world.specs.declared.event.Event.{Event}

@@ -1,19 +1,17 @@
 -- What contents show after an acknowledgement or a reopening.
-use Rattle.std.proofs.Common.{◌≡◌, ℕ, ◌==◌, Bool, true, false, cond, List, [], ◌∷◌, Option, Some, None, MatchOption, refl, sym, ◌∙◌, ap, subst, inl, inr, is_some, arith}
+use Rattle.std.proofs.Common.{◌≡◌, ℕ, ◌==◌, Bool, true, List, [], ◌∷◌, Option, Some, None, MatchOption, refl, sym, ◌∙◌, ap, subst, inl, inr, arith}
 use Rattle.std.proofs.lemmas.Option.{same_Some}
 use Rattle.std.proofs.lemmas.Bool.Decides.{nat_tests}
 use Rattle.sd_areas.specs.PlainMemory.{PlainMemory}
 use Rattle.sd_pagetable.specs.declared.access_error.AccessError.{AccessError}
-use Rattle.sd_pagetable.specs.declared.access_error.AccessError.TheVariants.{Refused, Segv}
 use Rattle.sd_command.specs.declared.command.Command.{Command}
-use Rattle.sd_command.specs.declared.command.Command.TheVariants as command
 use Rattle.sd_command.specs.declared.reply.Reply.{Reply}
 use Rattle.sd_command.specs.declared.reply.Reply.TheVariants as reply
-use Rattle.sd_command.specs.Replies.{Accepts, IsLegalReply, denial_in, reply_of as access_reply}
+use Rattle.sd_command.specs.Replies.{Accepts, IsLegalReply, reply_of as access_reply}
 use Rattle.sd_image.specs.Shows.{Shows}
 use Rattle.sd_journal.specs.declared.entry.Entry.TheVariants.{Acked, Reopened}
 use Rattle.sd_journal.specs.Allowed.{IsLastPair, IsPendingPair, Shown}
-use Rattle.sd_journal.specs.History.{Base, History, at_freeze, last, memory_after, pending, unless_it_is}
+use Rattle.sd_journal.specs.History.{Base, History, at_freeze, last, pending, unless_it_is}
 use Rattle.sd_journal.specs.Legal.{IsLegal}
 use Rattle.sd_journal.specs.Marked.{IsMarked, Marked, Noted, Told, entries_of}
 use Rattle.sd_crash_safety.specs.Calls.{AddsByCancel, AddsByOrder}
@@ -21,7 +19,6 @@ use Rattle.sd_crash_safety.specs.Shown.{ShowsAllowed}
 use Rattle.sd_crash_safety.specs.View.{CoreView, history_of}
 use Rattle.sd_gate.specs.declared.worker.Worker.{Worker}
 use Rattle.sd_world.specs.declared.event.Event.{Event}
-use Rattle.sd_world.specs.declared.event.Event.TheVariants.{Command as CommandEvent, Begin, Work, TakeUp, HandInAt, Perform, PerformAt, Merge, Cancel, Reopen, Trim}
 use Rattle.sd_world.specs.Adds.{AddsByCommand, AddsByPerform, AddsByTrim, AddsByWork, AddsToJournal}
 use Rattle.sd_world.specs.Runs.{ShowsFreeze, ShowsReply}
 

@@ -7,7 +7,7 @@ use Rattle.sd_image.specs.Shows.{Shows}
 use Rattle.sd_journal.specs.Allowed.{Shown}
 use Rattle.sd_journal.specs.History.{Base, History}
 use Rattle.sd_restore.specs.declared.fault.Fault.{Fault}
-use Rattle.sd_restore.specs.declared.fault.Fault.TheVariants.{EmptyChain, Damaged, Device, OutOfMemory}
+use Rattle.sd_restore.specs.declared.fault.Fault.TheVariants.{EmptyChain, Damaged}
 use Rattle.sd_restore.specs.Faulty.{FaultNames}
 use Rattle.sd_crash_safety.specs.Shown.{ShowsAllowed}
 use Rattle.sd_world.specs.Restored.{IsRestored, IsRestoredAs}

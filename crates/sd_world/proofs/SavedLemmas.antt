@@ -1,5 +1,5 @@
 -- What a job leaves of the memory, and what a checkpoint saves: the memory with which it began.
-use Rattle.std.proofs.Common.{◌≡◌, ◌≢◌, ◌⊎◌, inl, inr, ℕ, Bool, true, false, if◌then◌else◌, List, [], ◌∷◌, ◌++◌, Option, Some, None, cond, Result, Ok, Err, IfOk, refl, sym, ◌∙◌, ap, subst, arith}
+use Rattle.std.proofs.Common.{◌≡◌, ◌≢◌, ◌⊎◌, inl, inr, ℕ, Bool, true, false, if◌then◌else◌, List, [], ◌∷◌, Some, None, cond, Result, Ok, Err, IfOk, refl, sym, ◌∙◌, ap, subst, arith}
 use Rattle.std.proofs.lemmas.Bool.{eq-eqb}
 use Rattle.std.specs.List.{AllByRecursion}
 use Rattle.sd_areas.specs.PlainMemory.{PlainMemory}
@@ -21,7 +21,7 @@ use Rattle.sd_crash_safety.specs.View.{CoreView, history_of}
 use Rattle.sd_world.specs.declared.event.Event.{Event}
 use Rattle.sd_world.specs.declared.event.Event.TheVariants.{Begin, Merge, Perform, Reopen, Trim, Work}
 use Rattle.sd_world.specs.Adds.{AddsBy, AddsByPerform, AddsByWork}
-use Rattle.sd_world.specs.Jobs.{Drives, IsFinished, IsJob, is_end, last_reply, next_event}
+use Rattle.sd_world.specs.Jobs.{Drives, IsJob, is_end, last_reply, next_event}
 use Rattle.sd_world.specs.Runs.{IsStep, ShowsReply}
 use Rattle.sd_world.specs.View.{WorldView, is_asked}
 use Rattle.sd_world.proofs.DriveLemmas.{call_next, step_next}

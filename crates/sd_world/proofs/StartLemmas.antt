@@ -1,12 +1,11 @@
 -- What an opener leaves that opened a store again, behind its world's opening.
-use Rattle.std.proofs.Common.{◌≡◌, ℕ, Bool, true, false, List, [], ◌∷◌, if◌then◌else◌, Option, Some, None, inl, inr, refl, sym, ◌∙◌, ap, subst, arith}
+use Rattle.std.proofs.Common.{◌≡◌, ℕ, Bool, true, false, List, [], ◌∷◌, if◌then◌else◌, Option, Some, None, refl, sym, ◌∙◌, ap, subst, arith}
 use Rattle.std.specs.List.{AllByRecursion}
 use Rattle.sd_command.specs.declared.refusal.Refusal.{Refusal}
-use Rattle.sd_command.specs.declared.refusal.Refusal.TheVariants.{Idle}
 use Rattle.sd_command.specs.declared.reply.Reply.{Reply}
 use Rattle.sd_command.specs.declared.reply.Reply.TheVariants as reply
 use Rattle.sd_disk.specs.declared.disk.Disk.{Ghosts}
-use Rattle.sd_gate.specs.declared.worker.Worker.TheVariants.{Dumper, Opener}
+use Rattle.sd_gate.specs.declared.worker.Worker.TheVariants.{Opener}
 use Rattle.sd_journal.specs.declared.entry.Entry.TheVariants as entry
 use Rattle.sd_journal.specs.History.{Base, History, last as last_number, pending}
 use Rattle.sd_journal.specs.Marked.{entries_of}
@@ -22,7 +21,7 @@ use Rattle.sd_world.specs.declared.event.Event.TheVariants.{Perform, Reopen, Tri
 use Rattle.sd_world.specs.Adds.{AddsByPerform, AddsByWork}
 use Rattle.sd_world.specs.Jobs.{Drives, IsJob, is_end, next_event}
 use Rattle.sd_world.specs.Runs.{IsStep}
-use Rattle.sd_world.specs.Steps.{WorkerTakesUp, WorkerWorks}
+use Rattle.sd_world.specs.Steps.{WorkerWorks}
 use Rattle.sd_world.specs.View.{WorldView, is_asked}
 use Rattle.sd_world.proofs.DriveLemmas.{call_next, step_next}
 use Rattle.sd_world.proofs.JobLemmas.{last_event}
@@ -58,7 +57,7 @@ taken_opens old m new up = by (work_refusal old Opener) refl
 
 module _ {D : Type 0} (g : Ghosts D) where
   works_open : (old new : WorldView D) (m : Option ℕ) → WorkerWorks Opener old.core old.kept (reply.Reopened m) new.core new.kept → Opens old.core m new.core
-  works_open old new m h3 = grind arith
+  works_open old new m given = grind arith
 
   event_opens : (old new : WorldView D) (m : Option ℕ) → IsStep g (next_event old.kept Opener) old (reply.Reopened m) new → Opens old.core m new.core
   event_opens old new m step = by (is_asked old.kept Opener) refl

@@ -10,8 +10,8 @@ use Rattle.sd_store_laws.specs.GateSteps.{SyncedIsFound}
 use Rattle.sd_crash_safety.specs.Calls.{HandsOut, Stays}
 use Rattle.sd_crash_safety.specs.Laws.{PerformedIsBelieved}
 use Rattle.sd_world.specs.declared.event.Event.{Event}
-use Rattle.sd_world.specs.declared.event.Event.TheVariants.{Command, Begin, Work, TakeUp, HandInAt, Perform, PerformAt, Merge, Cancel, Reopen, Trim}
-use Rattle.sd_world.specs.declared.kept.Kept.TheVariants.{Nothing, Request, Outcome}
+use Rattle.sd_world.specs.declared.event.Event.TheVariants.{Command, Work, TakeUp, HandInAt, Perform, PerformAt, Trim}
+use Rattle.sd_world.specs.declared.kept.Kept.TheVariants.{Nothing, Request}
 use Rattle.sd_world.specs.Consistent.{FitsNow, IsWorld, slot_now}
 use Rattle.sd_world.specs.Steps.{ChangesCoreAlone, Does, HandsInAt, HandsInIfAny, IsTrim, Performs, WorkerTakesUp, WorkerWorks}
 use Rattle.sd_world.specs.View.{WorldView, asked_of}
@@ -76,7 +76,7 @@ module _ {D : Type 0} (g : Ghosts D) (old new : WorldView D) (gives : GivenUpFit
       same_rest disk idle.left (subst (λ c. IsWorld g (record { core = c; disk = old.disk; kept = old.kept })) (sym idle.core) world)
 
   performs_world : (worker : Worker) (place : ℕ) (answer : Reply) → Performs g worker place old.disk old.kept answer new.disk new.kept → new.core ≡ old.core → IsWorld g new
-  performs_world worker place answer h3 core = grind (arith, performed_world)
+  performs_world worker place answer given core = grind (arith, performed_world)
 
   pub step_world : (event : Event) (answer : Reply) → Does g event old answer new → IsWorld g new
   step_world (Command seat command) answer does = order_world does.rest does.applied.keeps

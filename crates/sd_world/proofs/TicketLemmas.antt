@@ -1,9 +1,8 @@
 -- The requests that are out keep tickets of their own.
-use Rattle.std.proofs.Common.{◌≡◌, ◌≢◌, ◌⊎◌, ℕ, ◌+◌, ◌^◌, ◌<◌, ◌≤◌, Bool, true, false, List, [], ◌∷◌, Option, Some, None, slice_get, slice_set, replicate, zero, suc, refl, sym, ◌∙◌, ap, subst, inl, inr, arith}
+use Rattle.std.proofs.Common.{◌≡◌, ◌≢◌, ◌⊎◌, ℕ, ◌+◌, ◌^◌, ◌<◌, ◌≤◌, Bool, List, [], ◌∷◌, Option, Some, None, slice_get, slice_set, replicate, zero, suc, sym, ◌∙◌, ap, subst, inl, inr, arith}
 use Rattle.std.proofs.lemmas.Bool.{cases_eq, cases_lt}
 use Rattle.std.proofs.lemmas.Option.{same_Some}
 use Rattle.sd_command.specs.declared.reply.Reply.{Reply}
-use Rattle.sd_command.specs.declared.reply.Reply.TheVariants as reply
 use Rattle.sd_disk.specs.declared.disk.Disk.{Ghosts}
 use Rattle.sd_gate.specs.declared.request_id.RequestId.{RequestId}
 use Rattle.sd_gate.specs.declared.worker.Worker.{Worker}
@@ -15,7 +14,7 @@ use Rattle.sd_core.specs.declared.taken.Taken.TheVariants.{Step}
 use Rattle.sd_core.specs.Called.{IsHandedIn, IsTakenUp}
 use Rattle.sd_core.specs.Flags.{AsksFlags, FlagsByBegin, FlagsByCancel, FlagsByOutcome, FlagsByReply, HasFlags, begins_image, numbers_asked, ticket_after}
 use Rattle.sd_world.specs.declared.event.Event.{Event}
-use Rattle.sd_world.specs.declared.event.Event.TheVariants.{Command as CommandEvent, Begin, Work, TakeUp, HandInAt, Perform, PerformAt, Merge, Cancel, Reopen, Trim}
+use Rattle.sd_world.specs.declared.event.Event.TheVariants.{Command as CommandEvent, Begin, Work, TakeUp, HandInAt, Merge, Cancel, Reopen, Trim}
 use Rattle.sd_world.specs.Steps.{Does, HandsInIfAny, WorkerTakesUp, WorkerWorks}
 use Rattle.sd_world.specs.Tickets.{HasOwnTickets, TicketsLast}
 use Rattle.sd_world.specs.Trims.{TrimsJournal}
@@ -178,7 +177,7 @@ module _ {D : Type 0} (g : Ghosts D) where
 
   hands_keeps : (worker : Worker) (place : ℕ) (old : WorldView D) (answer : Reply) (new : WorldView D)
       → HandsInIfAny worker place old.core old.kept answer new.core new.kept → KeepsTickets old.core new.core
-  hands_keeps worker place old answer new h5 = grind (arith, handed_keeps, same_core)
+  hands_keeps worker place old answer new given = grind (arith, handed_keeps, same_core)
 
   trim_keeps : (old new : CoreView) (answer : Reply) → TrimsJournal old answer new → KeepsTickets old new
   trim_keeps old new answer trims = elim (trim_cases old answer new trims) [

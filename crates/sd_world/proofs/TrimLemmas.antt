@@ -1,5 +1,5 @@
 -- A trim changes the base and the journal alone, or nothing.
-use Rattle.std.proofs.Common.{◌≡◌, ◌⊎◌, ℕ, ◌++◌, length, Option, Some, None, Result, Ok, Err, MatchResult, refl, sym, ◌∙◌, ap, subst, inl, inr, arith}
+use Rattle.std.proofs.Common.{◌≡◌, ◌⊎◌, ℕ, ◌++◌, length, Option, Some, None, Result, Ok, Err, MatchResult, refl, ◌∙◌, ap, inl, inr, arith}
 use Rattle.std.proofs.lemmas.List.{length-reverse}
 use Rattle.sd_command.specs.declared.refusal.Refusal.{Refusal}
 use Rattle.sd_command.specs.declared.refusal.Refusal.TheVariants.{Idle}
