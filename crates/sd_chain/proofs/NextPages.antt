@@ -69,7 +69,7 @@ least_there parent from runs at run n answer good point within got is some value
     parts = subst (λ (r : Run). (0 < r.count) × (r.first + r.count ≤ 2 ^ 35)) (sym got) (is_run parent None runs at run good within)
 
     beyond : from < run.first + run.count
-    beyond  = grind arith
+    beyond = grind arith
 
     least : (page : ℕ) → from ≤ page → HasPageInRuns runs page → n ≤ page
     least page low has = elim (cases_lt has.1.0 at) [

@@ -1,9 +1,8 @@
 -- A command that is applied and journaled.
-use Rattle.std.proofs.Common.{◌≡◌, ℕ, Bool, true, false, List, ◌∷◌, Option, Some, None, is_some, refl, sym, subst, inl}
+use Rattle.std.proofs.Common.{◌≡◌, ℕ, Bool, List, ◌∷◌, Option, Some, None, is_some, refl, sym, subst, inl, arith}
 use Rattle.sd_gate.specs.declared.phase.Phase.{Phase}
 use Rattle.sd_gate.specs.declared.request_id.RequestId.{RequestId}
 use Rattle.sd_command.specs.declared.command.Command.{Command}
-use Rattle.sd_command.specs.declared.command.Command.TheVariants.{Mmap, Munmap, Mprotect, Fork, Exit, Load, TryStore, Fault, Store as StoreCommand}
 use Rattle.sd_command.specs.declared.refusal.Refusal.TheVariants.{Frozen}
 use Rattle.sd_command.specs.declared.reply.Reply.{Reply}
 use Rattle.sd_command.specs.declared.reply.Reply.TheVariants.{Bytes, Refused}
@@ -22,13 +21,11 @@ use Rattle.sd_core.specs.Answering.{IsAnswered}
 -- ---- what a reply with bytes changes: nothing
 
 load_passes : (command : Command) (bytes : List ℕ) (old new : Contents) → Step old (event_of command (Bytes bytes)) new → new ≡ old
-load_passes (Mmap space address count prot) bytes old new step = step
-load_passes _ bytes old new step = step
+load_passes command bytes old new step = grind arith
 
 pub bytes_pass : (frozen : Bool) (command : Command) (reply : Reply) (bytes : List ℕ) (old new : Contents) → reply ≡ Bytes bytes
     → IsAnswered frozen command reply old new → new ≡ old
-bytes_pass true command reply bytes old new is told = told.1
-bytes_pass false command reply bytes old new is told = load_passes command bytes old new (subst (λ r. Step old (event_of command r) new) is told.step)
+bytes_pass frozen command reply bytes old new is told = grind arith
 
 -- ---- the memory stays tracked
 
@@ -67,5 +64,4 @@ stays_applied steps old new seat command reply a = record {
 -- what the memory does, by what is pending
 pub commanded : (waiting : Option ℕ) (command : Command) (reply : Reply) (old new : Contents) → IsSound old → IsAnswered (is_some waiting) command reply old new
     → IsCommanded waiting command reply old new
-commanded None command reply old new sound answered = (sound, answered.step)
-commanded (Some n) command reply old new sound answered = answered.1
+commanded waiting command reply old new sound answered = grind arith

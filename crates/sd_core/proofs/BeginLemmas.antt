@@ -1,6 +1,5 @@
 -- A checkpoint begins.
-use Rattle.std.proofs.Common.{◌≡◌, ℕ, ◌+◌, ◌<◌, ◌≤◌, ◌^◌, ◌||◌, nat_le, nat_lt, Bool, true, false, if◌then◌else◌, is_none, is_some, not, List, Option, Some, None, IfSome, refl, ◌∙◌, ap, arith}
-use Rattle.std.proofs.lemmas.Bool.{leb-false, ltb-false, or_parts}
+use Rattle.std.proofs.Common.{◌≡◌, ℕ, ◌+◌, ◌<◌, ◌≤◌, ◌^◌, nat_lt, Bool, false, if◌then◌else◌, is_none, is_some, not, List, Option, Some, None, IfSome, arith}
 use Rattle.sd_chain.specs.Catalog.{Places}
 use Rattle.sd_command.specs.declared.refusal.Refusal.{Refusal}
 use Rattle.sd_command.specs.declared.refusal.Refusal.TheVariants as refusal
@@ -19,17 +18,13 @@ use Rattle.sd_core.specs.Sound.{AreSoundNumbers, CheckpointsAreCounted, IsOpenin
 
 -- the first doesn't, and none of the others
 pub first_no : (holds : Bool) (why : Refusal) (rest : Option Refusal) → (if holds then Some why else rest) ≡ None → (holds ≡ false) × (rest ≡ None)
-first_no true why rest is = absurd (let no : Some why ≡ None = is in cc)
-first_no false why rest is = (refl, is)
+first_no holds why rest is = grind arith
 
 pub stands_open : (stands : Standing) → is_not_open stands ≡ false → is_down stands ≡ false → stands ≡ standing.Open
-stands_open standing.NotOpen is down = absurd (let no : true ≡ false = is in cc)
-stands_open standing.Open is down = refl
-stands_open standing.Down is down = absurd (let no : true ≡ false = down in cc)
+stands_open stands is down = grind arith
 
 pub none_some : {X : Type 0} (one : Option X) → is_some one ≡ false → one ≡ None
-none_some None is = refl
-none_some (Some x) is = absurd (let no : true ≡ false = is in cc)
+none_some one is = grind arith
 
 pub record MayBegin (core : CoreView) (rounds : ℕ) : Type 0 where
   pub stands : core.standing ≡ standing.Open
@@ -40,22 +35,7 @@ pub record MayBegin (core : CoreView) (rounds : ℕ) : Type 0 where
   pub serial : core.numbers.serial < 2 ^ 63
 
 pub may_begin : (core : CoreView) (rounds : ℕ) → begin_refusal core rounds ≡ None → MayBegin core rounds
-may_begin core rounds is =
-    let a = first_no (is_not_open core.standing) refusal.NotOpen _ is in
-    let b = first_no (is_down core.standing) refusal.StoreDown _ a.1 in
-    let d = first_no (is_some core.dumper.running) refusal.Busy _ b.1 in
-    let e = first_no (nat_lt 8 rounds) refusal.Einval _ d.1 in
-    let f = first_no (nat_lt (free_entries core) 2) refusal.JournalFull _ e.1 in
-    let g = first_no (are_used_up core.numbers) refusal.NumbersUsed _ f.1 in
-    let used = or_parts (nat_le (2 ^ 63) core.numbers.checkpoint) (nat_le (2 ^ 63) core.numbers.serial) g.0 in
-    record {
-      stands = stands_open core.standing a.0 b.0;
-      idle = none_some core.dumper.running d.0;
-      few = ltb-false 8 rounds e.0;
-      free = ltb-false (free_entries core) 2 f.0;
-      checkpoint = leb-false (2 ^ 63) core.numbers.checkpoint used.0;
-      serial = leb-false (2 ^ 63) core.numbers.serial used.1;
-    }
+may_begin core rounds is = grind arith
 
 -- conditions that are alike give the same refusal
 pub same_first : (core : CoreView) (rounds : ℕ) (not_open down busy rounds_over few used : Bool) → not_open ≡ is_not_open core.standing → down ≡ is_down core.standing
@@ -63,32 +43,15 @@ pub same_first : (core : CoreView) (rounds : ℕ) (not_open down busy rounds_ove
     → (if not_open then Some refusal.NotOpen else if down then Some refusal.StoreDown else if busy then Some refusal.Busy
     else if rounds_over then Some refusal.Einval else if few then Some refusal.JournalFull else if used then Some refusal.NumbersUsed else None)
     ≡ begin_refusal core rounds
-same_first core rounds not_open down busy rounds_over few used a b d e f g =
-    ap (λ x. if x then Some refusal.NotOpen else if down then Some refusal.StoreDown else if busy then Some refusal.Busy
-    else if rounds_over then Some refusal.Einval else if few then Some refusal.JournalFull else if used then Some refusal.NumbersUsed else None) a
-    ∙ ap (λ x. if is_not_open core.standing then Some refusal.NotOpen else if x then Some refusal.StoreDown else if busy then Some refusal.Busy
-    else if rounds_over then Some refusal.Einval else if few then Some refusal.JournalFull else if used then Some refusal.NumbersUsed else None) b
-    ∙ ap (λ x. if is_not_open core.standing then Some refusal.NotOpen else if is_down core.standing then Some refusal.StoreDown else if x then Some refusal.Busy
-    else if rounds_over then Some refusal.Einval else if few then Some refusal.JournalFull else if used then Some refusal.NumbersUsed else None) d
-    ∙ ap (λ x. if is_not_open core.standing then Some refusal.NotOpen else if is_down core.standing then Some refusal.StoreDown
-    else if is_some core.dumper.running then Some refusal.Busy
-    else if x then Some refusal.Einval else if few then Some refusal.JournalFull else if used then Some refusal.NumbersUsed else None) e
-    ∙ ap (λ x. if is_not_open core.standing then Some refusal.NotOpen else if is_down core.standing then Some refusal.StoreDown
-    else if is_some core.dumper.running then Some refusal.Busy
-    else if nat_lt 8 rounds then Some refusal.Einval else if x then Some refusal.JournalFull else if used then Some refusal.NumbersUsed else None) f
-    ∙ ap (λ x. if is_not_open core.standing then Some refusal.NotOpen else if is_down core.standing then Some refusal.StoreDown
-    else if is_some core.dumper.running then Some refusal.Busy else if nat_lt 8 rounds then Some refusal.Einval
-    else if nat_lt (free_entries core) 2 then Some refusal.JournalFull else if x then Some refusal.NumbersUsed else None) g
+same_first core rounds not_open down busy rounds_over few used a b d e f g = grind arith
 
 pub is_busy : {X : Type 0} (one : Option X) (idle : Bool) → idle ≡ is_none one → not idle ≡ is_some one
-is_busy None idle is = ap not is
-is_busy (Some x) idle is = ap not is
+is_busy one idle is = grind arith
 
 -- ---- numbers
 
 newest_below : (newest : Option ℕ) (old new : ℕ) → old ≤ new → IfSome newest (λ n. n ≤ old) → IfSome newest (λ n. n ≤ new)
-newest_below None old new rises was = tt
-newest_below (Some n) old new rises was = omega (arith, rises, was)
+newest_below newest old new rises was = grind arith
 
 pub begun_numbers : (base : Base) (items : Marked) (newest : Option ℕ) (old new : Numbers) → new.begun ≡ old.checkpoint + 1 → new.checkpoint ≡ old.checkpoint + 1
     → new.given ≡ old.given → new.serial ≡ old.serial → AreSoundNumbers base items None newest old → AreSoundNumbers base items None newest new
@@ -109,5 +72,4 @@ begun_counted places old new checkpoint was serial o at = let below = was serial
 
 -- an opener runs only while the store isn't open
 pub none_opens : (opener : Option Looking) (stands : Standing) (phases : List Phase) → IfSome opener (IsOpening stands phases) → stands ≡ standing.Open → opener ≡ None
-none_opens None stands phases opening is = refl
-none_opens (Some looking) stands phases opening is = absurd (opening.closed is)
+none_opens opener stands phases opening is = grind arith

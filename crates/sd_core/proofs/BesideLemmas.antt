@@ -8,7 +8,6 @@ use Rattle.sd_gate.specs.declared.worker.Worker.TheVariants.{Merger}
 use Rattle.sd_gate.specs.declared.call.Call.TheVariants.{Sync}
 use Rattle.sd_merge.specs.declared.retired.Retired.{Retired}
 use Rattle.sd_merge.specs.declared.copy_order.CopyOrder.{CopyOrder}
-use Rattle.sd_merge.specs.declared.source.Source.{Source}
 use Rattle.sd_merge.specs.Copying.{Copying, out_of}
 use Rattle.sd_merge.specs.Merger as merger
 use Rattle.sd_merge.specs.Merger.{Retiring, due, copying, retiring}
@@ -22,7 +21,7 @@ use Rattle.sd_core.specs.Images.{begun_as}
 use Rattle.sd_core.specs.Merging.{IsMergedImage}
 use Rattle.sd_core.specs.Sound.{AreOuts, CheckpointRuns, CheckpointsAreCounted, ClosesWithHeader, IsCore, IsDoing, IsImageInMaking, IsOpening, MergeRuns, Parts, begun_images, due_serials}
 use Rattle.sd_core.proofs.MergeLemmas.{image_stays}
-use Rattle.sd_core.proofs.OutsLemmas.{DumperOuts, IsOfDumper, dumper_none, dumper_outs, lane_at, no_write, on_slot, open_outs}
+use Rattle.sd_core.proofs.OutsLemmas.{DumperOuts, IsOfDumper, dumper_none, dumper_outs, no_write, on_slot, open_outs}
 use Rattle.sd_core.proofs.OwnLemmas.{own_has, spared_of}
 use Rattle.sd_core.proofs.PreDumpLemmas.{pre_dumps_stay}
 use Rattle.sd_core.proofs.WorkLemmas.{SameNumbers, at_work, image_of_work}
@@ -61,13 +60,7 @@ dumper_on core id slot sound out spared same = by core.dumper.running refl out s
 -- one that is out in a lane of an open store is the dumper's, or the merger's
 out_of_jobs : (core : Parts) (merge : Option RequestId) (outs : List (Option RequestId)) (lane : ℕ) (id : RequestId) → outs ≡ out_of_running core.dumper.running ∷ merge ∷ None ∷ writes_of_running core.dumper.running
     → slice_get outs lane ≡ Some (Some id) → IsOfDumper core.dumper.running id ⊎ (merge ≡ Some id)
-out_of_jobs core merge outs lane id are at = elim (lane_at (out_of_running core.dumper.running) merge (writes_of_running core.dumper.running) lane id (ap (λ all. slice_get all lane) (sym are) ∙ at)) [
-  | inl a ↦ inl (inl a.1)
-  | inr rest ↦ elim rest [
-    | inl b ↦ inr b.1
-    | inr page ↦ inl (inr (page.0, page.2))
-  ]
-]
+out_of_jobs core merge outs lane id are at = grind arith
 
 -- none is out on a spared slot, once the merger's is in
 pub free_spared : (core : Parts) (slot : ℕ) → IsCore core → core.standing ≡ Open → IsSpared core.dumper.running slot → IsFree (slice_set core.outs 1 None) slot
@@ -122,17 +115,7 @@ pub record LeavesWork (core : Parts) (places : Places) (numbers : Numbers) (merg
 image_beside : (core : Parts) (places : Places) (numbers : Numbers) (merge : Option merger.Running) (running : Running) (image : Option Making) → LeavesWork core places numbers merge
     → core.dumper.running ≡ Some running → running.image ≡ image → IfSome image (IsImageInMaking core.journal.items core.places core.numbers)
     → IfSome image (IsImageInMaking core.journal.items places numbers)
-image_beside core places numbers merge running None l was making is = tt
-image_beside core places numbers merge running (Some image) l was making is =
-    let given = is.given in
-    let more = l.given in
-    record {
-      given = omega (arith, given, more);
-      held = l.held running image was making is.held;
-      stage = is.stage;
-      visiting_in = is.visiting_in;
-      begun = is.begun;
-    }
+image_beside core places numbers merge running image l was making is = grind arith
 
 work_beside : (core : Parts) (phases : List Phase) (places : Places) (numbers : Numbers) (merge : Option merger.Running) → IsCore core → length phases ≡ length core.phases
     → LeavesWork core places numbers merge
@@ -238,40 +221,18 @@ other_above core serial sound above = by core.dumper.running refl
     by_image running (Some image) is making = λ same. (let given = (image_of_work core running image sound is making).given in omega (arith, given, same, above))
 
     by : (running : Option Running) → core.dumper.running ≡ running → MakesOther running serial
-    by None is = tt
-    by (Some running) is = by_image running running.image is refl
+    by running is = grind arith
 
 -- nothing of the checkpoint changes, nor what the merge takes of serials
 pub leaves_same : (core : Parts) (numbers : Numbers) (merge next : merger.Running) → IsCore core → core.merger ≡ Some merge → due_serials (Some next) ≤ due_serials (Some merge)
     → SameNumbers core.numbers numbers → LeavesWork core core.places numbers (Some next)
-leaves_same core numbers merge next sound is fewer same =
-    let given = same.given in
-    let serial = same.serial in
-    let above = sound.numbers_are.serials in
-    record {
-      begun = same.begun;
-      given = omega (arith, given);
-      checkpoint = same.checkpoint;
-      above = omega (arith, given, serial, above);
-      serials = λ running runs. (let before = (at_work core running sound runs).serials in let due_is = ap due_serials is in omega (arith, before, due_is, serial, fewer));
-      held = λ running image runs making held. held;
-      stay = λ number o at has. at;
-    }
+leaves_same core numbers merge next sound is fewer same = grind arith
 
 -- ---- the merge
 
 merged_as : (merge next : merger.Running) (places : Places) (serial own : ℕ) → own ≡ serial → next.slot ≡ merge.slot → next.source ≡ merge.source → IsMergedImage merge places serial
     → IsMergedImage next places own
-merged_as merge next places serial own same slot source i = record {
-  image = i.image;
-  there = ap (place_of places) same ∙ i.there;
-  slot = i.slot ∙ sym slot;
-  kind = i.kind;
-  own = i.own ∙ sym same;
-  stands = i.stands ∙ ap (λ (s : Source). s.stands_for) (sym source);
-  checkpoint = i.checkpoint ∙ ap (λ (s : Source). s.checkpoint) (sym source);
-  parent = i.parent;
-}
+merged_as merge next places serial own same slot source i = grind arith
 
 -- its image goes on: another request is out, on a slot that the checkpoint spares
 pub copy_goes_on : (core : Parts) (phases : List Phase) (places : Places) (numbers : Numbers) (merge : merger.Running) (copy next : Copying) → IsCore core → core.merger ≡ Some merge

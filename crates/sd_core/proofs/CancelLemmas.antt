@@ -1,6 +1,5 @@
 -- A checkpoint is cancelled.
 use Rattle.std.proofs.Common.{◌≡◌, ◌≢◌, ◌⊎◌, ◌↔◌, ℕ, ◌==◌, Bool, true, false, if◌then◌else◌, ◌∷◌, length, Option, Some, None, IfSome, slice_get, refl, sym, ◌∙◌, ap, subst, inl, inr, arith}
-use Rattle.std.proofs.lemmas.Bool.{eq-eqb}
 use Rattle.std.proofs.lemmas.Bool.Decides.{eqb_tells}
 use Rattle.sd_chain.specs.Catalog.{Changes, IsHeld, Opened, Places, place_of}
 use Rattle.sd_journal.specs.declared.entry.Entry.TheVariants.{Cancelled}
@@ -38,13 +37,10 @@ may_cancel core sound some = by_frozen core.frozen refl
     by_frozen : (frozen : Option ℕ) → core.frozen ≡ frozen
         → (pending (entries_of core.journal.items) ≡ Some core.numbers.begun)
         ⊎ ((pending (entries_of core.journal.items) ≡ None) × IsAbove core.base (entries_of core.journal.items) core.numbers.begun)
-    by_frozen None is = inr (sym sound.journal_is.frozen_for ∙ is, by_running is core.dumper.running refl)
-    by_frozen (Some n) is =
-        inl (sym sound.journal_is.frozen_for ∙ is ∙ ap Some (subst (λ f. IfSome f (λ m. m ≡ core.numbers.begun)) is sound.numbers_are.frozen_used))
+    by_frozen frozen is = grind arith
 
 none_left : (n : ℕ) (frozen : Option ℕ) → IfSome frozen (λ m. m ≡ n) → None ≡ unless_it_is n frozen
-none_left n None used = refl
-none_left n (Some m) used = sym (ap (λ b. if b then None else Some m) (eq-eqb n m (sym used)))
+none_left n frozen used = grind arith
 
 pub cancelled_journal : TrackedLaws → (core : Parts) (journal : JournalView) → IsCore core → MayFollow core.base (entries_of core.journal.items) (Cancelled core.numbers.begun)
     → journal.items ≡ Told (Cancelled core.numbers.begun) ∷ core.journal.items → journal.first ≡ core.journal.first → journal.limit ≡ core.journal.limit
@@ -62,14 +58,7 @@ cancelled_journal laws core journal sound may items first limit = record {
 
 pub cancelled_numbers : (base : Base) (items : Marked) (frozen newest : Option ℕ) (numbers : Numbers) → AreSoundNumbers base items frozen newest numbers
     → AreSoundNumbers base (Told (Cancelled numbers.begun) ∷ items) None newest numbers
-cancelled_numbers base items frozen newest numbers was = record {
-  used = λ n below. (below, was.used n below);
-  newest_used = was.newest_used;
-  frozen_used = tt;
-  marks = was.marks;
-  checkpoints = was.checkpoints;
-  serials = was.serials;
-}
+cancelled_numbers base items frozen newest numbers was = grind arith
 
 -- ---- the catalog has the same images
 
@@ -86,29 +75,19 @@ same_images old new serial r s o = by_place (place_of old serial) refl
     same is = ((λ at. ap (λ all. place_of all s) (sym is) ∙ at), (λ at. ap (λ all. place_of all s) is ∙ at))
 
     same_serial : (serial == s) ≡ true → serial ≡ s
-    same_serial is = elim (eqb_tells serial s) [
-      | inl one ↦ one.1
-      | inr other ↦ absurd (let no : true ≡ false = sym is ∙ other.0 in cc)
-    ]
+    same_serial is = grind arith
 
     by_serial : IsHeld old serial → (b : Bool) → (serial == s) ≡ b → place_of new s ≡ (if b then None else place_of old s)
         → place_of new s ≡ Some (Some o) ↔ place_of old s ≡ Some (Some o)
-    by_serial held true is now = (
-      (λ at. absurd (let no : None ≡ Some (Some o) = sym now ∙ at in cc)),
-      (λ at. absurd (let no : Some None ≡ Some (Some o) = sym held ∙ ap (place_of old) (same_serial is) ∙ at in cc)),
-    )
-    by_serial held false is now = ((λ at. sym now ∙ at), (λ at. now ∙ at))
+    by_serial held b is now = grind arith
 
     by_place : (place : Option (Option Opened)) → place_of old serial ≡ place → place_of new s ≡ Some (Some o) ↔ place_of old s ≡ Some (Some o)
-    by_place None is = same (r.nothing (λ held. let no : None ≡ Some None = sym is ∙ held in cc))
-    by_place (Some None) is = by_serial is (serial == s) refl (r.released is s)
-    by_place (Some (Some i)) is = same (r.nothing (λ held. let no : Some (Some i) ≡ Some None = sym is ∙ held in cc))
+    by_place place is = grind arith
 
 -- whichever place was released
 pub images_same : (own : Option ℕ) (old new : Places) → ReleasesPlace own old new → (s : ℕ) (o : Opened)
     → place_of new s ≡ Some (Some o) ↔ place_of old s ≡ Some (Some o)
-images_same None old new r s o = ((λ at. ap (λ all. place_of all s) (sym r) ∙ at), (λ at. ap (λ all. place_of all s) r ∙ at))
-images_same (Some own) old new r s o = same_images old new own (record { released = r.0; nothing = r.1 }) s o
+images_same own old new r s o = grind arith
 
 pub counted_released : (numbers : Numbers) (old new : Places) (own : Option ℕ) → ReleasesPlace own old new → CheckpointsAreCounted numbers old → CheckpointsAreCounted numbers new
 counted_released numbers old new own r was s o at = was s o ((images_same own old new r s o).0 at)
@@ -177,9 +156,7 @@ merges_on core places dumper sound gone released = merging_stays core core.phase
         same is = ap (λ all. place_of all serial) is ∙ held
 
         by_place : (place : Option (Option Opened)) → place_of old own ≡ place → IsHeld new serial
-        by_place None is = same (r.nothing (λ h. let no : None ≡ Some None = sym is ∙ h in cc))
-        by_place (Some None) is = r.released is serial ∙ ap (λ b. if b then None else place_of old serial) (not_same own serial differs) ∙ held
-        by_place (Some (Some i)) is = same (r.nothing (λ h. let no : Some (Some i) ≡ Some None = sym is ∙ h in cc))
+        by_place place is = grind arith
 
     still_held : (running : Option Running) (serial : ℕ) → MakesOther running serial → ReleasesPlace (serial_of_running running) core.places places → IsHeld core.places serial → IsHeld places serial
     still_held None serial other r held = ap (λ all. place_of all serial) r ∙ held
@@ -190,5 +167,4 @@ merges_on core places dumper sound gone released = merging_stays core core.phase
         by_image (Some image) other r = held_on serial image.order.serial core.places places other (record { released = r.0; nothing = r.1 }) held
 
     still_open : (own : Option ℕ) (serial : ℕ) (o : Opened) → ReleasesPlace own core.places places → place_of core.places serial ≡ Some (Some o) → place_of places serial ≡ Some (Some o)
-    still_open None serial o r there = ap (λ all. place_of all serial) r ∙ there
-    still_open (Some own) serial o r there = (same_images core.places places own (record { released = r.0; nothing = r.1 }) serial o).1 there
+    still_open own serial o r there = grind arith

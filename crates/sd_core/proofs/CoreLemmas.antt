@@ -1,5 +1,5 @@
 -- What is so of every core, while its opener works.
-use Rattle.std.proofs.Common.{◌≡◌, ◌≢◌, ℕ, zero, suc, ◌<◌, true, false, List, [], ◌∷◌, length, Option, Some, None, IfSome, slice_get, slice_set, refl, sym, ◌∙◌, ap, subst, inl, arith}
+use Rattle.std.proofs.Common.{◌≡◌, ◌≢◌, ℕ, zero, suc, ◌<◌, true, false, List, ◌∷◌, length, Option, Some, None, IfSome, slice_get, slice_set, refl, sym, ◌∙◌, ap, subst, inl, arith}
 use Rattle.sd_gate.specs.declared.phase.Phase.{Phase}
 use Rattle.sd_gate.specs.Requests.{Made}
 use Rattle.sd_gate.specs.declared.request_id.RequestId.{RequestId}
@@ -7,18 +7,17 @@ use Rattle.sd_gate.specs.declared.worker.Worker.TheVariants.{Opener}
 use Rattle.sd_journal.specs.Kept.{JournalView}
 use Rattle.sd_merge.specs.Merger as merger
 use Rattle.sd_opener.specs.Looking.{IsDoneAsAsked, Looking}
-use Rattle.sd_rounds.specs.Dumper.{Running, out_of_running, writes_of_running}
+use Rattle.sd_rounds.specs.Dumper.{Running}
 use Rattle.sd_rounds.specs.Writes.{no_writes}
 use Rattle.sd_crash_safety.specs.declared.standing.Standing.{Standing}
 use Rattle.sd_crash_safety.specs.declared.standing.Standing.TheVariants.{Open}
 use Rattle.sd_crash_safety.specs.OpenerSteps.{nobody, opener_alone}
 use Rattle.sd_core.specs.Opening.{LetsGo, OpenerGoesOn, TeachesOpener}
 use Rattle.sd_core.specs.Sound.{AreOuts, IsCore, IsOpening, Parts, held_for, out_of_opener, worker_of_lane}
-use Rattle.sd_core.proofs.OutsLemmas.{no_write, nobody_out}
+use Rattle.sd_core.proofs.OutsLemmas.{no_write}
 
 pub held_opening : (frozen : Option ℕ) (running : Option Running) (opener : Looking) → running ≡ None → held_for frozen running (Some opener) ≡ 1
-held_opening (Some n) running opener none = refl
-held_opening None running opener none = ap (λ r. held_for None r (Some opener)) none
+held_opening frozen running opener none = grind arith
 
 pub held_idle : (running : Option Running) → running ≡ None → held_for None running None ≡ 0
 held_idle running none = ap (λ r. held_for None r None) none
@@ -26,17 +25,11 @@ held_idle running none = ap (λ r. held_for None r None) none
 -- once the opener let go of its entry, a pending checkpoint's is held
 pub held_let_go : (frozen : Option ℕ) (running : Option Running) (opener : Looking) (old new : JournalView) → running ≡ None
     → old.held ≡ held_for frozen running (Some opener) → LetsGo frozen old new → new.held ≡ held_for frozen running None
-held_let_go (Some n) running opener old new none held gone = gone.held ∙ held
-held_let_go None running opener old new none held gone =
-    let one : old.held ≡ 1 = held ∙ held_opening None running opener none in
-    let less = gone.held in
-    let zero_is : new.held ≡ 0 = omega (arith, one, less) in
-    zero_is ∙ sym (held_idle running none)
+held_let_go frozen running opener old new none held gone = grind arith
 
 -- whatever opener there is
 if_any : {X : Type 0} (P : Type 0) (one : Option X) → P → IfSome one (λ any. P)
-if_any P None is = tt
-if_any P (Some x) is = is
+if_any P one is = grind arith
 
 any_is : {X : Type 0} (P : Type 0) (one : Option X) (x : X) → one ≡ Some x → IfSome one (λ any. P) → P
 any_is P None x is all = absurd (let no : None ≡ Some x = is in cc)
@@ -55,26 +48,12 @@ alone_is core id sound out = by core.opener refl
     last_of o e = cc
 
     by : (opener : Option Looking) → core.opener ≡ opener → (out_of_opener core.opener ≡ Some id) × (core.outs ≡ opener_alone id)
-    by None is = absurd (let two = (sound.outs_are.two is).are in let no : Some None ≡ Some (Some id) = ap (λ all. slice_get all 2) (sym two) ∙ out in cc)
-    by (Some looking) is =
-        let are = any_is (core.outs ≡ None ∷ None ∷ out_of_opener core.opener ∷ no_writes) core.opener looking is sound.outs_are.opening in
-        let own = last_of (out_of_opener core.opener) (ap (λ all. slice_get all 2) (sym are) ∙ out) in
-        (own, are ∙ ap (λ o. None ∷ None ∷ o ∷ no_writes) own)
+    by opener is = grind arith
 
 -- no worker has a request out, and no job runs
 pub none_out : (stands : Standing) (outs : List (Option RequestId)) (phases : List Phase) (running : Option Running) (merge : Option merger.Running) (opener : Option Looking)
     → running ≡ None → merge ≡ None → out_of_opener opener ≡ None → outs ≡ nobody → AreOuts stands outs phases running merge opener
-none_out stands outs phases running merge opener none unmerged rests is = record {
-  count = ap length is;
-  jobs = λ stands_open. is ∙ ap (λ r. out_of_running r ∷ None ∷ None ∷ writes_of_running r) (sym none)
-      ∙ ap (λ m. out_of_running running ∷ merger.out_of_merge m ∷ None ∷ writes_of_running running) (sym unmerged);
-  opening = if_any (outs ≡ None ∷ None ∷ out_of_opener opener ∷ no_writes) opener (is ∙ ap (λ o. None ∷ None ∷ o ∷ no_writes) (sym rests));
-  none = λ closed idle. is;
-  two = λ idle. record { dumper = None; merger = None; pages = no_writes; are = is };
-  within = λ lane id out. absurd (nobody_out lane id (ap (λ all. slice_get all lane) (sym is) ∙ out));
-  whose = λ lane id out. absurd (nobody_out lane id (ap (λ all. slice_get all lane) (sym is) ∙ out));
-  apart = λ one other a b out its same. absurd (nobody_out one a (ap (λ all. slice_get all one) (sym is) ∙ out));
-}
+none_out stands outs phases running merge opener none unmerged rests is = grind arith
 
 -- the opener's alone is
 pub one_out : (stands : Standing) (outs : List (Option RequestId)) (phases : List Phase) (running : Option Running) (merge : Option merger.Running) (opener : Option Looking)
@@ -118,17 +97,14 @@ pub record IsTaughtOn (old : Option Looking) (made : Made) (new : Option Looking
   pub goes_on : OpenerGoesOn opener made next
 
 pub taught_opener : (old : Option Looking) (made : Made) (new : Option Looking) → TeachesOpener old made true new → IsTaughtOn old made new
-taught_opener None made new taught = absurd (let no : true ≡ false = taught.0 in cc)
-taught_opener (Some opener) made new taught = record { opener = opener; next = taught.0; was = refl; is = taught.1; goes_on = taught.2 }
+taught_opener old made new taught = grind arith
 
 -- an opener that doesn't go on wasn't answered as it asked
 pub not_taught : (old : Option Looking) (made : Made) (new : Option Looking) → TeachesOpener old made false new → out_of_opener old ≡ Some made.request.id
     → IsDoneAsAsked made → ⊥
-not_taught None made new taught out as_asked = (let none : None ≡ Some made.request.id = out in cc)
-not_taught (Some opener) made new taught out as_asked = taught out as_asked
+not_taught old made new taught out as_asked = grind arith
 
 -- an opener whose request is out runs while the store isn't open
 pub closed_by : (opener : Option Looking) (id : RequestId) (standing : Standing) (phases : List Phase) → IfSome opener (IsOpening standing phases) → out_of_opener opener ≡ Some id
     → standing ≢ Open
-closed_by None id standing phases opening out = absurd (let no : None ≡ Some id = out in cc)
-closed_by (Some opener) id standing phases opening out = opening.closed
+closed_by opener id standing phases opening out = grind arith

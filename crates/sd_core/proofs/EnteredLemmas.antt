@@ -1,5 +1,5 @@
 -- A merge beside an image of the checkpoint that leaves the catalog, or enters it.
-use Rattle.std.proofs.Common.{◌≡◌, ◌≢◌, ◌⊎◌, ℕ, ◌==◌, Bool, true, false, not, if◌then◌else◌, Option, Some, None, ◌∙◌, ap, inl, inr}
+use Rattle.std.proofs.Common.{◌≡◌, ◌≢◌, ◌⊎◌, ℕ, ◌==◌, Bool, true, false, not, if◌then◌else◌, Option, Some, None, ◌∙◌, ap, inl, inr, arith}
 use Rattle.std.proofs.lemmas.Bool.Decides.{eqb_tells}
 use Rattle.sd_chain.specs.Catalog.{Changes, IsHeld, Opened, Places, place_of, without_slot}
 use Rattle.sd_crash_safety.specs.DumperOutcomes.{LeavesCatalog}
@@ -30,7 +30,4 @@ entered_image old new serial to other o changes held there = changes other ∙ b
     by (inr differs) = ap (λ b. if b then to else place_of old other) differs.0 ∙ there
 
 pub entered_held : (old new : Places) (serial : ℕ) (to : Option (Option Opened)) (other : ℕ) → Changes old new serial to → serial ≢ other → IsHeld old other → IsHeld new other
-entered_held old new serial to other changes differs held = changes other ∙ elim (eqb_tells serial other) [
-  | inl same ↦ absurd (differs same.1)
-  | inr one ↦ ap (λ b. if b then to else place_of old other) one.0 ∙ held
-]
+entered_held old new serial to other changes differs held = grind arith

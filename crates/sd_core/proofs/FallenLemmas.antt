@@ -1,5 +1,5 @@
 -- A call failed: the jobs have ended, and the calls of the others are still out.
-use Rattle.std.proofs.Common.{◌≡◌, ◌≢◌, ℕ, zero, suc, ◌<◌, ◌-◌, true, false, List, [], ◌∷◌, length, Option, Some, None, IfSome, slice_get, slice_set, refl, sym, ◌∙◌, ap, subst, inl, inr, arith}
+use Rattle.std.proofs.Common.{◌≡◌, ◌≢◌, ℕ, zero, suc, ◌<◌, ◌-◌, true, false, List, [], ◌∷◌, length, Option, Some, None, IfSome, slice_get, slice_set, sym, ◌∙◌, ap, subst, inl, inr, arith}
 use Rattle.std.proofs.lemmas.Bool.{both_ways}
 use Rattle.sd_gate.specs.declared.phase.Phase.{Phase}
 use Rattle.sd_gate.specs.declared.request_id.RequestId.{RequestId}
@@ -32,10 +32,7 @@ less_out (o ∷ outs) (suc place) (suc worker) id at = less_out outs place worke
 less_out _ _ _ id at = at
 
 two_left : (outs : List (Option RequestId)) (place : ℕ) → AreTwo outs → AreTwo (slice_set outs place None)
-two_left outs zero two = record { dumper = None; merger = two.merger; pages = two.pages; are = ap (λ all. slice_set all 0 None) two.are }
-two_left outs (suc zero) two = record { dumper = two.dumper; merger = None; pages = two.pages; are = ap (λ all. slice_set all 1 None) two.are }
-two_left outs (suc (suc zero)) two = record { dumper = two.dumper; merger = two.merger; pages = two.pages; are = ap (λ all. slice_set all 2 None) two.are }
-two_left outs (suc (suc (suc lane))) two = record { dumper = two.dumper; merger = two.merger; pages = slice_set two.pages lane None; are = ap (λ all. slice_set all (suc (suc (suc lane))) None) two.are }
+two_left outs place two = grind arith
 
 -- in a store that is down
 pub fallen_outs : (stands : Standing) (outs : List (Option RequestId)) (phases new : List Phase) (running now : Option Running) (merge next : Option merger.Running)
@@ -76,17 +73,11 @@ free_after stands outs phases running merge opener place id are own few lane oth
 -- the entries of the checkpoint that ended are let go, but that of a pending one
 pub let_go_two : (frozen : Option ℕ) (running : Option Running) (now : Running) (old new : JournalView) → running ≡ Some now → old.held ≡ held_for frozen running None → LetsGoOfTwo frozen old new
     → new.held ≡ held_for frozen None None
-let_go_two (Some n) running now old new is held goes = goes.held ∙ held
-let_go_two None running now old new is held goes =
-    let before : old.held ≡ 2 = held ∙ ap (λ r. held_for None r None) is in
-    let less = goes.held in
-    omega (arith, before, less)
+let_go_two frozen running now old new is held goes = grind arith
 
 -- those of the one that ended with the merger's call
 pub let_go_all : (frozen : Option ℕ) (running : Option Running) (old new : JournalView) → old.held ≡ held_for frozen running None → EndsCheckpoint running frozen old new → new.held ≡ held_for frozen None None
-let_go_all None None old new held ends = (let less = ends.held in omega (arith, held, less))
-let_go_all (Some n) None old new held ends = (let less = ends.held in omega (arith, held, less))
-let_go_all _ _ old new held ends = (let less = ends.held in omega (arith, held, less))
+let_go_all frozen running old new held ends = grind arith
 
 -- a core whose store is down
 pub fallen_core : (core : Parts) (journal : JournalView) (stands : Standing) (phases : List Phase) (outs : List (Option RequestId)) (dumper : Dumping) (merge : Option merger.Running) (room place : ℕ)
@@ -123,8 +114,7 @@ pub none_busy : {P : Type 0} (core : CoreView) (worker : Worker) → is_idle cor
 none_busy core worker idle busy = absurd (both_ways (is_idle core worker) busy idle)
 
 pub fallen_same : (stands : Standing) → stands ≢ Open → stands ≡ fallen stands
-fallen_same Open closed = absurd (closed refl)
-fallen_same _ closed = refl
+fallen_same stands closed = grind arith
 
 -- an opener has something left
 pub opener_left_some : (opener : Looking) → 0 < looking_left opener
@@ -136,5 +126,4 @@ opener_left_some opener = by (opener.slots - length opener.told)
 
 -- one of whom a request is out runs
 pub runs_by : (opener : Option Looking) (id : RequestId) → out_of_opener opener ≡ Some id → (looking : Looking) × (opener ≡ Some looking)
-runs_by None id out = absurd (let no : None ≡ Some id = out in cc)
-runs_by (Some looking) id out = (looking, refl)
+runs_by opener id out = grind arith

@@ -1,17 +1,15 @@
 -- Whether the next checkpoint goes on from the tip, and whether a gate's opening was taken up.
-use Rattle.std.proofs.Common.{◌≡◌, ◌⊎◌, ℕ, Bool, true, false, ◌||◌, ◌&&◌, if◌then◌else◌, List, [], ◌∷◌, ◌++◌, Option, Some, None, IfSome, IsSome, is_some, refl, sym, ◌∙◌, ap, subst, inl, inr}
+use Rattle.std.proofs.Common.{◌≡◌, ◌⊎◌, ℕ, Bool, true, false, ◌||◌, ◌&&◌, if◌then◌else◌, List, [], ◌∷◌, ◌++◌, Option, Some, IfSome, IsSome, is_some, refl, sym, ◌∙◌, ap, subst, arith}
 use Rattle.std.proofs.lemmas.Option.{same_Some}
 use Rattle.std.proofs.Math.Bool.{or-true}
 use Rattle.sd_gate.specs.declared.answer.Answer.{Answer}
 use Rattle.sd_gate.specs.declared.slot_state.SlotState.{SlotState}
-use Rattle.sd_gate.specs.declared.slot_state.SlotState.TheVariants.{Raw, Closed, Open as OpenSlot, Writing}
 use Rattle.sd_gate.specs.Calls.{buffer_back, is_done}
 use Rattle.sd_gate.specs.Inspections.{calls_then, nothing}
 use Rattle.sd_gate.specs.Plans.{Gives, Planned, plan_after}
 use Rattle.sd_gate.specs.Requests.{Asked, Made}
 use Rattle.sd_gate.specs.Sequences.{Calls, format_calls}
 use Rattle.sd_image.specs.declared.header.Kind.{Kind}
-use Rattle.sd_image.specs.declared.header.Kind.TheVariants.{PreDump, Dump, Merged}
 use Rattle.sd_journal.specs.declared.entry.Entry.{Entry}
 use Rattle.sd_journal.specs.declared.entry.Entry.TheVariants.{Applied, Freeze, Acked, Cancelled, Reopened}
 use Rattle.sd_journal.specs.declared.mark.Mark.TheVariants.{Start, Visit, Table}
@@ -20,7 +18,6 @@ use Rattle.sd_journal.specs.Marked.{Marked, Noted, Told, entries_of}
 use Rattle.sd_journal.specs.Trimming.{Ends, IsEnded, IsFolded, MarkedTrimLaws, TrimLaws, base_after}
 use Rattle.sd_rounds.specs.declared.image_order.ImageOrder.{ImageOrder}
 use Rattle.sd_rounds.specs.declared.stage.Stage.{Stage}
-use Rattle.sd_rounds.specs.declared.stage.Stage.TheVariants.{Format, Freeze as FreezeStage, Pass as PassStage, Close}
 use Rattle.sd_rounds.specs.Dumper.{Running, is_last}
 use Rattle.sd_rounds.specs.Making.{IsReadyFor, IsWritten, Making, PlanGoesOn, plan_of, stage_after, stage_behind, with_plan}
 use Rattle.sd_rounds.specs.Pass.{Pass}
@@ -58,8 +55,7 @@ set_flags base items swept grows committing grown none by = record { grown = gro
 
 -- whether the pending checkpoint was swept stays so over a trim
 ends_unswept : (n : ℕ) (entry : Entry) (earlier : Marked) → Ends n (entries_of earlier) entry → has_swept (Told entry ∷ earlier) ≡ false
-ends_unswept n (Applied seat command reply) earlier is = absurd is
-ends_unswept n _ earlier is = refl
+ends_unswept n entry earlier is = grind arith
 
 pub swept_trims : TrimLaws → MarkedTrimLaws → (kept front : Marked) (n : ℕ) → IsFolded n front → has_swept (kept ++ front) ≡ has_swept kept
 swept_trims laws marked [] front n f =
@@ -76,8 +72,7 @@ swept_trims laws marked (Noted (Table serial) ∷ kept) front n f =
 
 -- behind the table of the pending checkpoint's dump it is swept
 pub table_swept_by : (swept last : Bool) (frozen : Option ℕ) → (swept ≡ true → IsSome frozen) → is_some frozen ≡ last → (swept || last) ≡ is_some frozen
-table_swept_by true last frozen some is = sym (some refl)
-table_swept_by false last frozen some is = sym is
+table_swept_by swept last frozen some is = grind arith
 
 -- ---- the gate of the image in the making
 
@@ -87,9 +82,7 @@ gated_of swept all running image gated was making = subst (IsGatedImage (is_last
 
 -- the calls that make a slot ready
 pub format_has_no_open : (state : SlotState) → HasNoOpen (format_calls state)
-format_has_no_open Closed = (refl, tt)
-format_has_no_open Writing = (refl, tt)
-format_has_no_open _ = (refl, (refl, (refl, tt)))
+format_has_no_open state = grind arith
 
 same_plan : (plan other : Planned) → Some plan ≡ Some other → plan ≡ other
 same_plan plan other e = same_Some plan other e
@@ -97,35 +90,23 @@ same_plan plan other e = same_Some plan other e
 -- the next call is asked for, and more are left
 pub gated_asked : (last swept : Bool) (stage : Stage) (plan next : Planned) (request : Asked) → IsGatedStage last swept stage → plan_of stage ≡ Some plan → Gives plan next request
     → IsGatedStage last swept (with_plan stage next)
-gated_asked last swept (Format own) plan next request gated is gives = (subst HasNoOpen (ap (λ (p : Planned). p.calls) (same_plan own plan is) ∙ gives.next) gated).1
-gated_asked last swept (Close own header tables) plan next request gated is gives = gated
-gated_asked last swept _ plan next request gated is gives = tt
+gated_asked last swept stage plan next request gated is gives = grind arith
 
 -- where it opens the gate of the last image, that one's pass is over
 pub gate_swept : (last swept : Bool) (stage : Stage) (plan next : Planned) (request : Asked) → IsGatedStage last swept stage → plan_of stage ≡ Some plan → Gives plan next request
     → last ≡ true → opens_gate request.id.call ≡ true → swept ≡ true
-gate_swept last swept (Format own) plan next request gated is gives dump opens =
-    no_true (sym (subst HasNoOpen (ap (λ (p : Planned). p.calls) (same_plan own plan is) ∙ gives.next) gated).0 ∙ opens)
-gate_swept last swept (Close own header tables) plan next request gated is gives dump opens = gated dump
-gate_swept last swept _ plan next request gated is gives dump opens = absurd (let no : None ≡ Some plan = is in cc)
+gate_swept last swept stage plan next request gated is gives dump opens = grind arith
 
 -- the opening of a gate may be taken up
 pub sure_asked : (committing last opens swept : Bool) → (committing ≡ true → swept ≡ true) → (last ≡ true → opens ≡ true → swept ≡ true) → (committing || last && opens) ≡ true → swept ≡ true
-sure_asked true last opens swept sure new is = sure refl
-sure_asked false true true swept sure new is = new refl refl
-sure_asked false _ _ swept sure new is = no_true is
+sure_asked committing last opens swept sure new is = grind arith
 
 -- an outcome comes, and the plan goes on or the next stage begins
 gated_behind : (last swept : Bool) (kind : Kind) (stage : Stage) → IsGatedStage last swept (stage_behind kind stage)
-gated_behind last swept PreDump (Format plan) = tt
-gated_behind last swept Dump (Format plan) = tt
-gated_behind last swept Merged (Format plan) = tt
-gated_behind last swept kind FreezeStage = tt
-gated_behind last swept _ _ = tt
+gated_behind last swept kind stage = grind arith
 
 calls_kept : (calls : Calls) (answer : Answer) (buffer : Option (List ℕ)) → HasNoOpen calls → HasNoOpen (calls_then calls nothing answer buffer).0
-calls_kept [] answer buffer none = tt
-calls_kept (call ∷ calls) answer buffer none = none
+calls_kept calls answer buffer none = grind arith
 
 open_after : (plan : Planned) (made : Made) → plan.awaits ≡ nothing → HasNoOpen plan.calls → HasNoOpen (plan_after plan made).calls
 open_after plan made known none = by (is_done made.answer)
@@ -134,22 +115,15 @@ open_after plan made known none = by (is_done made.answer)
     buffer = buffer_back made.request.id.call made.request.bytes
 
     by : (done : Bool) → HasNoOpen (if done then calls_then plan.calls plan.awaits made.answer buffer else ([], nothing)).0
-    by true = subst (λ a. HasNoOpen (calls_then plan.calls a made.answer buffer).0) (sym known) (calls_kept plan.calls made.answer buffer none)
-    by false = tt
+    by done = grind arith
 
 gated_after : (last swept : Bool) (order : ImageOrder) (pass : Pass) (stage : Stage) (plan : Planned) (made : Made) (calls : Calls) → plan_of stage ≡ Some plan → IsReadyFor order pass stage
     → IsGatedStage last swept stage → IsGatedStage last swept (stage_after order.kind stage (plan_after plan made) calls)
-gated_after last swept order pass stage plan made [] is ready gated = gated_behind last swept order.kind stage
-gated_after last swept order pass (Format own) plan made (call ∷ calls) is ready gated =
-    subst (λ p. HasNoOpen (plan_after p made).calls) (same_plan own plan is) (open_after own made ready.1.known gated)
-gated_after last swept order pass (Close own header tables) plan made (call ∷ calls) is ready gated = gated
-gated_after last swept order pass _ plan made (call ∷ calls) is ready gated = tt
+gated_after last swept order pass stage plan made calls is ready gated = grind arith
 
 pub gated_more : (last swept : Bool) (image next : Making) (made : Made) → IsSoundImage image → PlanGoesOn image made next ⊎ IsWritten image made next
     → IsGatedStage last swept image.stage → IsGatedStage last swept next.stage
-gated_more last swept image next made sound (inl goes) gated = subst (IsGatedStage last swept) (sym (ap (λ (m : Making). m.stage) goes.is))
-    (gated_after last swept image.order image.pass image.stage goes.plan made (plan_after goes.plan made).calls goes.awaited.was sound.ready gated)
-gated_more last swept image next made sound (inr written) gated = subst (IsGatedStage last swept) (sym (ap (λ (m : Making). m.stage) written.is)) gated
+gated_more last swept image next made sound given gated = grind arith
 
 -- once the table is asked for, the pass is over
 pub table_sure : (committing last opens swept now : Bool) → now ≡ (swept || last) → (committing ≡ true → swept ≡ true) → (committing || last && opens) ≡ true → now ≡ true

@@ -1,5 +1,5 @@
 -- A worker that has a job, and of which no request is out, can go on.
-use Rattle.std.proofs.Common.{◌≡◌, ℕ, ◌<◌, ◌&&◌, ◌||◌, Bool, true, false, not, if◌then◌else◌, is_none, is_some, zero, suc, List, [], ◌∷◌, length, slice_index_or, Option, Some, None, slice_get, refl, sym, ◌∙◌, ap, subst, arith}
+use Rattle.std.proofs.Common.{◌≡◌, ℕ, ◌<◌, ◌&&◌, ◌||◌, Bool, true, false, not, if◌then◌else◌, is_none, suc, List, [], ◌∷◌, length, slice_index_or, Option, Some, None, slice_get, refl, sym, ◌∙◌, ap, subst, arith}
 use Rattle.std.specs.Prelude.{IfSome}
 use Rattle.std.proofs.lemmas.Option.{same_Some, slice_get-get_or}
 use Rattle.sd_areas.specs.PlainMemory.{PlainMemory}
@@ -10,8 +10,8 @@ use Rattle.sd_gate.specs.declared.worker.Worker.TheVariants.{Dumper, Merger, Ope
 use Rattle.sd_merge.specs.Merger as merger
 use Rattle.sd_pagetable.specs.Contents.{plain_of}
 use Rattle.sd_rounds.specs.Dumper.{Running, out_of_image, out_of_running, writes_of_image, writes_of_running}
-use Rattle.sd_rounds.specs.Making.{Making, out_of}
-use Rattle.sd_rounds.specs.Waits.{dumper_must_wait, image_must_wait, is_over}
+use Rattle.sd_rounds.specs.Making.{Making}
+use Rattle.sd_rounds.specs.Waits.{dumper_must_wait, image_must_wait}
 use Rattle.sd_opener.specs.Looking.{Looking}
 use Rattle.sd_gate.specs.Lanes.{is_any_out}
 use Rattle.sd_rounds.specs.Writes.{are_all_out, no_writes}
@@ -50,14 +50,11 @@ neither_waits a b c d one two three = ap (λ x. x || b || (c && d)) one ∙ ap (
 
 image_goes : (image : Option Making) (memory : PlainMemory) → out_of_image image ≡ None → is_any_out (writes_of_image image) ≡ false → are_all_out (writes_of_image image) ≡ false
     → image_must_wait image memory ≡ false
-image_goes None memory out any all = refl
-image_goes (Some image) memory out any all =
-    neither_waits (is_some (out_of image.stage)) (are_all_out image.writes) (is_any_out image.writes) (is_over image.pass memory) (ap is_some out) all any
+image_goes image memory out any all = grind arith
 
 dumper_goes : (running : Option Running) (memory : PlainMemory) → out_of_running running ≡ None → is_any_out (writes_of_running running) ≡ false
     → are_all_out (writes_of_running running) ≡ false → dumper_must_wait running memory ≡ false
-dumper_goes None memory out any all = refl
-dumper_goes (Some running) memory out any all = image_goes running.image memory out any all
+dumper_goes running memory out any all = grind arith
 
 -- a worker that needn't wait, and has a job
 pub goes_by : (core : CoreView) (worker : Worker) → must_wait core worker ≡ false → is_idle core worker ≡ false → work_refusal core worker ≡ None
@@ -69,13 +66,10 @@ rests_by outs lane is = ap (λ o. not (none_at o)) is
 
 -- where only the opener's lane can have a request, no write of a page is out
 no_page : (lane : ℕ) (id : RequestId) → slice_get no_writes lane ≡ Some (Some id) → ⊥
-no_page (suc (suc (suc (suc (suc (suc (suc (suc lane)))))))) id at = absurd (let no : None ≡ Some (Some id) = at in cc)
-no_page _ id at = absurd (let no : Some None ≡ Some (Some id) = at in cc)
+no_page lane id at = grind arith
 
 its_lane : (out : Option RequestId) (lane : ℕ) (id : RequestId) → slice_get (None ∷ None ∷ out ∷ no_writes) lane ≡ Some (Some id) → worker_of_lane lane ≡ Opener
-its_lane out (suc (suc zero)) id at = refl
-its_lane out (suc (suc (suc lane))) id at = absurd (no_page lane id at)
-its_lane out _ id at = absurd (let no : Some None ≡ Some (Some id) = at in cc)
+its_lane out lane id at = grind arith
 
 module _ (core : Parts) (view : CoreView) (sound : IsCore core) (outs_are : view.outs ≡ core.outs) (dumper_is : view.dumper ≡ core.dumper) where
   pub own_lanes : AreOwnLanes view.outs

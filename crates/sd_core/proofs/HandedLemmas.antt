@@ -1,5 +1,5 @@
 -- The outcomes of a merger's calls, and of those that come late.
-use Rattle.std.proofs.Common.{◌≡◌, ◌≢◌, ◌⊎◌, ℕ, zero, suc, ◌&&◌, Bool, true, false, List, ◌∷◌, length, is_none, Option, Some, None, IfSome, slice_get, slice_set, refl, sym, ◌∙◌, ap, subst, inl, inr, arith}
+use Rattle.std.proofs.Common.{◌≡◌, ◌≢◌, ◌⊎◌, ℕ, Bool, true, false, List, ◌∷◌, length, is_none, Option, Some, None, slice_get, slice_set, refl, sym, ◌∙◌, ap, subst, arith}
 use Rattle.std.proofs.lemmas.Option.{same_Some}
 use Rattle.std.proofs.lemmas.Bool.{and_parts}
 use Rattle.sd_chain.specs.Catalog.{Places}
@@ -17,7 +17,6 @@ use Rattle.sd_gate.specs.Phases.{phases_after}
 use Rattle.sd_gate.specs.Requests.{Made}
 use Rattle.sd_merge.specs.Merger as merger
 use Rattle.sd_opener.specs.Looking.{Looking}
-use Rattle.sd_rounds.specs.Dumper.{out_of_running, writes_of_running}
 use Rattle.sd_rounds.specs.Writes.{no_writes}
 use Rattle.sd_crash_safety.specs.declared.standing.Standing.{Standing}
 use Rattle.sd_crash_safety.specs.declared.standing.Standing.TheVariants.{NotOpen, Open, Down}
@@ -26,13 +25,13 @@ use Rattle.sd_crash_safety.specs.DumperOutcomes.{DumperOutcomes, IsDumpersOutcom
 use Rattle.sd_crash_safety.specs.MergerOutcomes.{IsMergersOutcome, MergerOutcomes, OutcomeIsBelieved}
 use Rattle.sd_crash_safety.specs.View.{CoreView, history_of}
 use Rattle.sd_core.specs.Refusals.{is_idle}
-use Rattle.sd_core.specs.Sound.{AreInPages, IsCore, Parts, out_of_opener, worker_of_lane}
+use Rattle.sd_core.specs.Sound.{AreInPages, IsCore, Parts, worker_of_lane}
 use Rattle.sd_core.specs.Following.{FollowsOutcome}
 use Rattle.sd_core.proofs.ApplyLemmas.{same_phases}
 use Rattle.sd_core.proofs.CoreParts.{seen_of}
 use Rattle.sd_core.proofs.FallenLemmas.{apart_after}
 use Rattle.sd_core.proofs.OutcomeLemmas.{handed_dumper}
-use Rattle.sd_core.proofs.OutsLemmas.{lane_at, no_write, nobody_out}
+use Rattle.sd_core.proofs.OutsLemmas.{nobody_out}
 
 -- ---- the merger's
 
@@ -67,15 +66,12 @@ pub record IsLate (core : Parts) (id : RequestId) : Type 0 where
   pub other : id.worker ≢ Opener
 
 none_is : {X : Type 0} (one : Option X) → is_none one ≡ true → one ≡ None
-none_is None e = refl
-none_is (Some x) e = absurd (let no : false ≡ true = e in cc)
+none_is one e = grind arith
 
 -- what is so of the worker whose job has ended
 idle_one : (core : Parts) (worker : Worker) → is_idle (seen_of core) worker ≡ true
     → ((worker ≡ Dumper) × (core.dumper.running ≡ None)) ⊎ (((worker ≡ Merger) × (core.merger ≡ None)) ⊎ ((worker ≡ Opener) × (core.opener ≡ None)))
-idle_one core Dumper is = inl (refl, none_is core.dumper.running is)
-idle_one core Merger is = inr (inl (refl, none_is core.merger is))
-idle_one core Opener is = inr (inr (refl, none_is core.opener is))
+idle_one core worker is = grind arith
 
 pub is_late : (core : Parts) (lane : ℕ) (id : RequestId) → IsCore core → slice_get core.outs lane ≡ Some (Some id) → is_idle (seen_of core) id.worker ≡ true → IsLate core id
 is_late core lane id sound out ended = record { down = stands core.standing refl; closed = none; other = other }
@@ -97,60 +93,19 @@ is_late core lane id sound out ended = record { down = stands core.standing refl
 
     -- one that is out while an opener runs is its own
     in_opener : (o : Option RequestId) (at : ℕ) → slice_get (None ∷ None ∷ o ∷ no_writes) at ≡ Some (Some id) → worker_of_lane at ≡ Opener
-    in_opener o (suc (suc zero)) e = refl
-    in_opener o (suc (suc (suc k))) e = absurd (no_write k id e)
-    in_opener o _ e = absurd (let no : Some None ≡ Some (Some id) = e in cc)
+    in_opener o at e = grind arith
 
     no_opener : (o : Option Looking) → core.opener ≡ o → core.opener ≡ None
-    no_opener None is = is
-    no_opener (Some looking) is =
-        let are = subst (λ o. IfSome o (λ one. core.outs ≡ None ∷ None ∷ out_of_opener core.opener ∷ no_writes)) is sound.outs_are.opening in
-        let own = whose ∙ in_opener (out_of_opener core.opener) lane (ap (λ all. slice_get all lane) (sym are) ∙ out) in
-        elim idle [
-          | inl d ↦ absurd (not_opener own d.0)
-          | inr rest ↦ elim rest [
-            | inl m ↦ absurd (opener_merger own m.0)
-            | inr o ↦ o.1
-          ]
-        ]
+    no_opener o is = grind arith
 
     none : core.opener ≡ None
     none = no_opener core.opener refl
 
     other : id.worker ≢ Opener
-    other same =
-        let two = sound.outs_are.two none in
-        elim (lane_at two.dumper two.merger two.pages lane id (ap (λ all. slice_get all lane) (sym two.are) ∙ out)) [
-          | inl a ↦ not_opener same (whose ∙ ap worker_of_lane a.0)
-          | inr rest ↦ elim rest [
-            | inl b ↦ opener_merger same (whose ∙ ap worker_of_lane b.0)
-            | inr page ↦ not_opener same (whose ∙ ap worker_of_lane page.1)
-          ]
-        ]
+    other same = grind arith
 
     not_open : core.standing ≡ Open → ⊥
-    not_open is =
-        let jobs = sound.outs_are.jobs is in
-        let at = lane_at (out_of_running core.dumper.running) (merger.out_of_merge core.merger) (writes_of_running core.dumper.running) lane id (ap (λ all. slice_get all lane) (sym jobs) ∙ out) in
-        elim idle [
-          | inl d ↦ elim at [
-            | inl a ↦ (let no : None ≡ Some id = ap out_of_running (sym d.1) ∙ a.1 in cc)
-            | inr rest ↦ elim rest [
-              | inl b ↦ not_dumper (whose ∙ ap worker_of_lane b.0) d.0
-              | inr page ↦ no_write page.0 id (ap (λ r. slice_get (writes_of_running r) page.0) (sym d.1) ∙ page.2)
-            ]
-          ]
-          | inr others ↦ elim others [
-            | inl m ↦ elim at [
-              | inl a ↦ not_dumper m.0 (whose ∙ ap worker_of_lane a.0)
-              | inr rest ↦ elim rest [
-                | inl b ↦ (let no : None ≡ Some id = ap merger.out_of_merge (sym m.1) ∙ b.1 in cc)
-                | inr page ↦ not_dumper m.0 (whose ∙ ap worker_of_lane page.1)
-              ]
-            ]
-            | inr o ↦ other o.0
-          ]
-        ]
+    not_open is = grind arith
 
     nobody : core.standing ≡ NotOpen → ⊥
     nobody is = nobody_out lane id (ap (λ all. slice_get all lane) (sym (sound.outs_are.none is none)) ∙ out)
@@ -161,14 +116,10 @@ is_late core lane id sound out ended = record { down = stands core.standing refl
     stands Down is = is
 
 pub merger_lane : (lane : ℕ) → worker_of_lane lane ≡ Merger → lane ≡ 1
-merger_lane (suc zero) is = refl
-merger_lane (suc (suc zero)) is = absurd (let no : Opener ≡ Merger = is in cc)
-merger_lane _ is = absurd (let no : Dumper ≡ Merger = is in cc)
+merger_lane lane is = grind arith
 
 pub opener_lane : (lane : ℕ) → worker_of_lane lane ≡ Opener → lane ≡ 2
-opener_lane (suc zero) is = absurd (let no : Merger ≡ Opener = is in cc)
-opener_lane (suc (suc zero)) is = refl
-opener_lane _ is = absurd (let no : Dumper ≡ Opener = is in cc)
+opener_lane lane is = grind arith
 
 -- nothing but the request and its slot's phase changes
 pub handed_late : DumperOutcomes → {places : Places} → MergerOutcomes places → (core : Parts) (lane : ℕ) (made : Made) (phases : List Phase) (outs : List (Option RequestId)) (closed : Bool) → IsCore core

@@ -3,7 +3,7 @@ use Rattle.std.proofs.Common.{◌≡◌, ◌≢◌, ◌⊎◌, ◌↔◌, ℕ, s
 use Rattle.std.proofs.lemmas.Bool.{eq-eqb}
 use Rattle.std.proofs.lemmas.Option.{same_Some}
 use Rattle.std.proofs.Math.Bool.{and-false}
-use Rattle.sd_chain.specs.Catalog.{Changes, Places, place_of}
+use Rattle.sd_chain.specs.Catalog.{Changes, Places}
 use Rattle.sd_command.specs.declared.reply.Reply.{Reply}
 use Rattle.sd_command.specs.declared.reply.Reply.TheVariants as reply
 use Rattle.sd_gate.specs.declared.phase.Phase.{Phase}
@@ -54,7 +54,7 @@ use Rattle.sd_core.proofs.LittleLemmas.{due_is_way, freeze_memory, little_of, mo
 use Rattle.sd_core.proofs.MarkLemmas.{sound_image}
 use Rattle.sd_core.proofs.MergeLemmas.{merging_stays}
 use Rattle.sd_core.proofs.OpenedLemmas.{image_of}
-use Rattle.sd_core.proofs.OutcomeLemmas.{counted_opened, handed_dumper, left_counted, left_held}
+use Rattle.sd_core.proofs.OutcomeLemmas.{handed_dumper, left_counted, left_held}
 use Rattle.sd_core.proofs.OutsLemmas.{DumperOuts, IsOfDumper, dumper_none, dumper_outs, far, no_write, open_outs}
 use Rattle.sd_core.proofs.OwnLemmas.{own_has}
 use Rattle.sd_core.proofs.PreDumpLemmas.{TheyStay, all_pre_dumps, change_stays, few_opened, none_held, pre_dump_entered, pre_dumps_stay}
@@ -306,20 +306,10 @@ module _ {core : Parts} {seen : CoreView} {lane : ℕ} {made : Made} {phases : L
   changes = subst (λ s. Changes core.places places s (Some (Some (image_of opened)))) header.serial o.changes
 
   pub has : HasImage o.running places (image_of opened)
-  has = record {
-    is_in = o.changes opened.header.serial ∙ ap (λ b. if b then Some (Some (image_of opened)) else place_of core.places opened.header.serial)
-        (eq-eqb opened.header.serial opened.header.serial refl);
-    slot = o.opens.slot ∙ its_slot o.hands;
-    kind = header.kind ∙ ap (λ (i : ImageOrder). i.kind) (its_order o.hands);
-    parent = header.parent ∙ ap (λ (i : ImageOrder). i.parent) (its_order o.hands);
-    checkpoint = header.checkpoint ∙ ap (λ (i : ImageOrder). i.checkpoint) (its_order o.hands);
-  }
+  has = grind arith
 
   counted : CheckpointsAreCounted core.numbers places
-  counted =
-      let number = header.checkpoint ∙ ap (λ (i : ImageOrder). i.checkpoint) (its_order o.hands) ∙ (work o.hands).number in
-      let begun = o.hands.sound.numbers_are.checkpoints in
-      counted_opened core.numbers core.places places o.image.order.serial (image_of opened) changes (omega (arith, number, begun)) o.hands.sound.counted
+  counted = grind arith
 
   stay : TheyStay (begun_as o.running) core.places places o.running.opened
   stay = change_stays (begun_as o.running) core.places places o.image.order.serial o.running.opened (Some (Some (image_of opened))) changes
@@ -363,18 +353,14 @@ module _ {core : Parts} {seen : CoreView} {lane : ℕ} {made : Made} {phases : L
       differs serial other = subst (λ i. IsOtherImage i serial) o.hands.making other
 
       has_slot : (b : Bool) → dumper.running ≡ (if b then None else Some (after_pre_dump o.running opened)) → (slot : ℕ) → HasSlot dumper.running slot → HasSlot (Some o.running) slot
-      has_slot true is slot has = absurd (subst (λ r. HasSlot r slot) is has)
-      has_slot false is slot has = subst (λ r. HasSlot r slot) is has
+      has_slot b is slot has = grind arith
 
       -- behind a pre-dump the checkpoint fills one slot less
       fills : (b : Bool) → dumper.running ≡ (if b then None else Some (after_pre_dump o.running opened)) → (slot : ℕ) → IsSpared (Some o.running) slot → IsSpared dumper.running slot
-      fills true is slot spared = subst (λ r. IsSpared r slot) (sym is) tt
-      fills false is slot spared = subst (λ r. IsSpared r slot) (sym is)
-          (λ reserved. spared (record { place = reserved.place; from = (let from = reserved.from in omega (arith, from)); is = reserved.is }))
+      fills b is slot spared = grind arith
 
       makes_other : (b : Bool) → dumper.running ≡ (if b then None else Some (after_pre_dump o.running opened)) → (serial : ℕ) → MakesOther dumper.running serial
-      makes_other true is serial = subst (λ r. MakesOther r serial) (sym is) tt
-      makes_other false is serial = subst (λ r. MakesOther r serial) (sym is) tt
+      makes_other b is serial = grind arith
 
   -- as the laws of beliefs take it
   as_believed : (new : Parts) → IsDumpersOutcome (seen_of core) 0 made o.hands.follows.phase (seen_of new) → new.merger ≡ core.merger → new.numbers.serial ≡ core.numbers.serial → new.places ≡ places
@@ -543,9 +529,7 @@ module _ {core : Parts} {seen : CoreView} {lane : ℕ} {made : Made} {phases : L
           (laws.told core.base core.journal.items core.memory (Acked core.numbers.begun) o.hands.sound.journal_is.tracked pending_is refl)
 
       free : journal.held ≡ 0
-      free =
-          let one = held_at_work core o.running o.hands.sound o.hands.was ∙ ap (λ f. held_for f (Some o.running) None) (pends o) in
-          omega (arith, held, one)
+      free = grind arith
 
   dump_outcome : (journal : JournalView) → IsDumpersOutcome (seen_of core) 0 made o.hands.follows.phase (seen_of (acked_core (handed_core core phases outs places dumper) journal))
   dump_outcome journal = its_outcome o.hands (acked_core (handed_core core phases outs places dumper) journal) 0 (zero_is o) refl refl refl refl refl

@@ -1,5 +1,5 @@
 -- What the steps and outcomes of an image leave of what is so of it.
-use Rattle.std.proofs.Common.{◌≡◌, ◌⊎◌, ℕ, ◌≤◌, ◌==◌, ◌&&◌, ◌||◌, true, if◌then◌else◌, List, ◌∷◌, Option, Some, None, IfSome, slice_set, refl, sym, ◌∙◌, ap, subst, inl, inr, arith}
+use Rattle.std.proofs.Common.{◌≡◌, ◌⊎◌, ℕ, ◌≤◌, ◌==◌, ◌&&◌, true, if◌then◌else◌, List, ◌∷◌, Option, Some, None, IfSome, slice_set, refl, sym, ◌∙◌, ap, subst, inl, inr, arith}
 use Rattle.std.proofs.lemmas.Bool.{eq-eqb, false≢true}
 use Rattle.sd_chain.specs.Catalog.{IsHeld, Places}
 use Rattle.sd_gate.specs.declared.request_id.RequestId.{RequestId}
@@ -37,13 +37,7 @@ pub record IsTurned (items : Marked) (places : Places) (numbers : Numbers) (imag
 turn : (items now : Marked) (places after : Places) (old new : Numbers) (image : Making) (pass : Pass) (stage : Stage) (writes : List (Option RequestId)) (digester : Digester) → SameNumbers old new
     → IsImageInMaking items places old image → IsHeld after image.order.serial → IsStageOfImage image.order stage → IsVisitingIn now image.order.serial pass stage
     → is_begun now image.order.serial ≡ true → IsImageInMaking now after new (record { order = image.order; pass = pass; stage = stage; writes = writes; digester = digester })
-turn items now places after old new image pass stage writes digester same is held at visits begun = record {
-  given = (let given = is.given in let more = same.given in omega (arith, given, more));
-  held = held;
-  stage = at;
-  visiting_in = visits;
-  begun = begun;
-}
+turn items now places after old new image pass stage writes digester same is held at visits begun = grind arith
 
 -- the next call of a plan
 pub image_asked : (items : Marked) (places : Places) (old new : Numbers) (image next : Making) (request : Asked) → SameNumbers old new
@@ -87,22 +81,7 @@ image_page items places old new image next lane request same is writes = subst (
 -- the first call that writes the table: the image's visits are over
 pub image_table : (items : Marked) (places : Places) (old new : Numbers) (image next : Making) (memory : Contents) (request : Asked) → SameNumbers old new
     → IsImageInMaking items places old image → WritesTable image memory request next → IsTurned (Noted (Table image.order.serial) ∷ items) places new image next (Some request.id)
-image_table items places old new image next memory request same is writes =
-    subst (λ m. IsTurned (Noted (Table image.order.serial) ∷ items) places new image m (Some request.id)) (sym writes.is) (record {
-      image_is = turn items (Noted (Table image.order.serial) ∷ items) places places old new image image.pass (Close writes.next writes.header writes.tables) image.writes image.digester same is is.held (
-        writes.gives.same_slot,
-        record {
-          kind = ap (λ h. h.kind) writes.numbers;
-          serial = ap (λ h. h.serial) writes.numbers;
-          parent = ap (λ h. h.parent) writes.numbers;
-          checkpoint = ap (λ h. h.checkpoint) writes.numbers;
-        },
-      ) tt is.begun;
-      order = refl;
-      still = ap (λ s. (kind_number image.order.kind == 2) && is_past_freeze s) (sym writes.stage);
-      out_is = writes.gives.out;
-      slot = writes.gives.slot;
-    })
+image_table items places old new image next memory request same is writes = grind arith
 
 -- a page was visited: the journal's mark tells the cursor
 pub image_visited : (items : Marked) (places : Places) (numbers : Numbers) (image next : Making) (before after : Contents) (visit : PageVisit)
@@ -200,11 +179,4 @@ image_frozen items places numbers image next is f = subst (IsFrozenNext items pl
 -- an image that begins, with its first call
 pub begun_asked : (items : Marked) (places : Places) (numbers : Numbers) (order : ImageOrder) (next : Making) (request : Asked) → order.serial ≤ numbers.given → IsHeld places order.serial → last_visit items order.serial ≡ None → Asks (begun_image order) request next
     → IsTurned (Noted (Start order.serial) ∷ items) places numbers (begun_image order) next (Some request.id)
-begun_asked items places numbers order next request given held none asks =
-    image_asked (Noted (Start order.serial) ∷ items) places numbers numbers (begun_image order) next request (same_numbers numbers) (record {
-      given = given;
-      held = held;
-      stage = refl;
-      visiting_in = record { started = refl; cursor = none };
-      begun = ap (λ b. b || is_begun items order.serial) (eq-eqb order.serial order.serial refl);
-    }) asks
+begun_asked items places numbers order next request given held none asks = grind arith

@@ -20,14 +20,7 @@ use Rattle.sd_core.proofs.SettledLemmas.{settled_more, settled_now}
 -- the entries are the same
 pub same_journal : (base : Base) (old new : JournalView) (memory : Contents) (frozen newest : Option ℕ) → new.first ≡ old.first → new.items ≡ old.items → new.limit ≡ old.limit
     → IsJournal base old memory frozen newest → IsJournal base new memory frozen newest
-same_journal base old new memory frozen newest first items limit was = record {
-  tracked = subst (λ all. IsTracked base all memory) (sym items) was.tracked;
-  first = first ∙ was.first;
-  limit = limit ∙ was.limit;
-  frozen_for = was.frozen_for ∙ ap (λ all. pending (entries_of all)) (sym items);
-  newest_is = was.newest_is ∙ ap (λ all. last base (entries_of all)) (sym items);
-  settled = subst (λ all. HasSettled base all newest) (sym items) was.settled;
-}
+same_journal base old new memory frozen newest first items limit was = grind arith
 
 -- a command was journaled
 pub applied_journal : TrackedLaws → (base : Base) (old new : JournalView) (before after : Contents) (frozen newest : Option ℕ) (seat : ℕ) (command : Command) (reply : Reply)
@@ -46,10 +39,7 @@ applied_journal laws base old new before after frozen newest seat command reply 
 -- what the store shows may follow: the last checkpoint, or the pending one whose dump's pass was over
 pub expected_may : (frozen newest found : Option ℕ) (swept : Bool) → (found ≡ newest) ⊎ (((if swept then frozen else None) ≢ None) × (found ≡ (if swept then frozen else None)))
     → (found ≡ newest) ⊎ ((frozen ≢ None) × (found ≡ frozen) × (swept ≡ true))
-expected_may frozen newest found true (inl own) = inl own
-expected_may frozen newest found true (inr pends) = inr (pends.0, pends.1, refl)
-expected_may frozen newest found false (inl own) = inl own
-expected_may frozen newest found false (inr pends) = absurd (pends.0 refl)
+expected_may frozen newest found swept given = grind arith
 
 -- the store was opened again
 pub reopened_journal : TrackedLaws → PlainLaw → (base : Base) (old new : JournalView) (memory : Contents) (frozen newest found : Option ℕ) (swept : Bool)

@@ -1,16 +1,14 @@
 -- In which lane a request of the dumper is, and what is out once its outcome was handed in.
-use Rattle.std.proofs.Common.{◌≡◌, ℕ, suc, ◌<◌, true, false, List, ◌∷◌, is_none, Option, Some, None, slice_get, slice_set, refl, sym, ◌∙◌, ap, subst, inl, inr, arith}
-use Rattle.std.proofs.lemmas.Option.{same_Some}
+use Rattle.std.proofs.Common.{◌≡◌, ℕ, suc, ◌<◌, false, List, ◌∷◌, is_none, Option, Some, None, slice_get, slice_set, refl, sym, ◌∙◌, ap, subst, inl, inr, arith}
 use Rattle.sd_gate.specs.declared.call.Call.TheVariants.{Write}
 use Rattle.sd_gate.specs.declared.request_id.RequestId.{RequestId}
-use Rattle.sd_gate.specs.declared.worker.Worker.TheVariants.{Dumper, Merger}
+use Rattle.sd_gate.specs.declared.worker.Worker.TheVariants.{Dumper}
 use Rattle.sd_gate.specs.Plans.{Planned}
 use Rattle.sd_gate.specs.Requests.{Asked, Made}
 use Rattle.sd_gate.specs.Sequences.{data_place}
 use Rattle.sd_command.specs.declared.reply.Reply.{Reply}
 use Rattle.sd_merge.specs.Merger as merger
 use Rattle.sd_rounds.specs.declared.stage.Stage.{Stage}
-use Rattle.sd_rounds.specs.declared.stage.Stage.TheVariants.{Format, Freeze, Pass as PassStage, Close}
 use Rattle.sd_rounds.specs.Dumper.{IsOutOfImage, IsOutOfRunning, Running, out_of_running, slot_of, writes_of_running}
 use Rattle.sd_rounds.specs.Making.{Making, WritesPage, out_of, plan_of}
 use Rattle.sd_rounds.specs.Pass.{data_pages}
@@ -38,14 +36,7 @@ jobs_are core running sound is = sound.outs_are.jobs (at_work core running sound
 
 its_lane : (core : Parts) (running : Running) (lane : ℕ) (id : RequestId) → IsCore core → core.dumper.running ≡ Some running → id.worker ≡ Dumper
     → slice_get core.outs lane ≡ Some (Some id) → IsOfDumper (Some running) id
-its_lane core running lane id sound is whose at =
-    elim (lane_at (out_of_running (Some running)) (merger.out_of_merge core.merger) (writes_of_running (Some running)) lane id (ap (λ all. slice_get all lane) (sym (jobs_are core running sound is)) ∙ at)) [
-      | inl a ↦ inl a.1
-      | inr rest ↦ elim rest [
-        | inl b ↦ absurd (let no : Dumper ≡ Merger = sym whose ∙ sound.outs_are.whose 1 id (ap (slice_get core.outs) (sym b.0) ∙ at) in cc)
-        | inr page ↦ inr (page.0, page.2)
-      ]
-    ]
+its_lane core running lane id sound is whose at = grind arith
 
 -- it is out of the image that is being made
 pub out_there : (core : Parts) (lane : ℕ) (id : RequestId) → IsCore core → is_none core.dumper.running ≡ false → id.worker ≡ Dumper → slice_get core.outs lane ≡ Some (Some id)
@@ -59,8 +50,7 @@ out_there core lane id sound runs whose at = by core.dumper.running refl
     by_image running (Some image) is (inr page) = inr (record { lane = page.0; is = ap (λ i. slice_get (writes_of_running (Some (record running { image = i }))) page.0) (sym is) ∙ page.1 })
 
     by : (running : Option Running) → core.dumper.running ≡ running → IsOutOfRunning running id
-    by None is = absurd (let no : true ≡ false = sym (ap is_none is) ∙ runs in cc)
-    by (Some running) is = by_image running running.image refl (its_lane core running lane id sound is whose at)
+    by running is = grind arith
 
 -- it is on the slot of the image
 pub slot_at : (core : Parts) (running : Running) (lane : ℕ) (id : RequestId) → IsCore core → core.dumper.running ≡ Some running → id.worker ≡ Dumper
@@ -72,9 +62,7 @@ slot_at core running lane id sound is whose at =
 -- ---- one of the plan
 
 pub out_is : (stage : Stage) (plan : Planned) → plan_of stage ≡ Some plan → out_of stage ≡ plan.out
-out_is (Format own) plan was = ap (λ (p : Planned). p.out) (same_Some own plan was)
-out_is (Close own header tables) plan was = ap (λ (p : Planned). p.out) (same_Some own plan was)
-out_is _ plan was = absurd (let no : None ≡ Some plan = was in cc)
+out_is stage plan was = grind arith
 
 -- ---- the write of a data page
 

@@ -1,21 +1,20 @@
 -- The list of the images that a merge closes, where its image enters the catalog, and what is so at its end.
-use Rattle.std.proofs.Common.{◌≡◌, ℕ, true, false, is_none, List, length, Contains, Option, Some, None, slice_get, refl, sym, ◌∙◌, ap, subst, inl, inr, arith}
+use Rattle.std.proofs.Common.{◌≡◌, ℕ, true, List, length, Contains, Option, Some, None, slice_get, sym, ◌∙◌, ap, subst, arith}
 use Rattle.std.proofs.lemmas.Option.{same_Some}
 use Rattle.sd_image.proofs.Members.{place_in}
-use Rattle.sd_chain.specs.Catalog.{IsHeld, Places, place_of}
+use Rattle.sd_chain.specs.Catalog.{IsHeld, Places}
 use Rattle.sd_gate.specs.declared.phase.Phase.{Phase}
 use Rattle.sd_gate.specs.declared.phase.Phase.TheVariants.{Bare}
 use Rattle.sd_gate.specs.declared.request_id.RequestId.{RequestId}
 use Rattle.sd_gate.specs.declared.worker.Worker.{Worker}
 use Rattle.sd_gate.specs.declared.worker.Worker.TheVariants as its
-use Rattle.sd_gate.specs.Fits.{IsClosed}
 use Rattle.sd_gate.specs.Phases.{bodies_after}
 use Rattle.sd_gate.specs.Requests.{Made}
 use Rattle.sd_merge.specs.declared.merge_progress.MergeProgress.{MergeProgress}
 use Rattle.sd_merge.specs.declared.retired.Retired.{Retired}
 use Rattle.sd_merge.specs.Copying.{Copying}
 use Rattle.sd_merge.specs.Merger as merger
-use Rattle.sd_merge.specs.Merger.{HandsAt, TakesList, copying, list_in, list_of, retiring, source_of}
+use Rattle.sd_merge.specs.Merger.{HandsAt, TakesList, copying, list_in, list_of, source_of}
 use Rattle.sd_rounds.specs.declared.new_image.NewImage.{NewImage}
 use Rattle.sd_crash_safety.specs.Calls.{IsFree}
 use Rattle.sd_crash_safety.specs.Copies.{IsCopyAtRest, IsCopyThere, IsOrderly}
@@ -25,24 +24,19 @@ use Rattle.sd_crash_safety.specs.declared.standing.Standing.TheVariants.{Open}
 use Rattle.sd_free_slots.specs.Taken.{IsListOf}
 use Rattle.sd_core.specs.Merging.{AreCut, HasItsList, IsAsBelieved, IsMergedImage, IsOneByte, OpensMerged, RetiresThese, opened_merge, retires_as}
 use Rattle.sd_core.specs.Refusals.{is_idle}
-use Rattle.sd_core.specs.Sound.{IsCore, IsDoing, Parts}
-use Rattle.sd_core.proofs.BesideLemmas.{merger_works}
+use Rattle.sd_core.specs.Sound.{IsCore, Parts}
 use Rattle.sd_core.proofs.OwnLemmas.{spared_of}
 use Rattle.sd_core.proofs.CoreParts.{seen_of}
 use Rattle.sd_core.proofs.MergerHands.{EndsMerge, GoesOnMerge, IsMore, LeavesMerge, ended_goes_on, free_then, list_free, merged_core, work}
 use Rattle.sd_core.proofs.OpenedLemmas.{OpensMerge, beside, fixed, merged_image, merged_opens, opened_core}
 use Rattle.sd_core.proofs.OutcomeLemmas.{left_held}
-use Rattle.sd_core.proofs.PreDumpLemmas.{none_held}
 
 -- ---- the image doesn't enter
 
 -- its place was held, and stays so
 pub not_opened : (core : Parts) (seen new : CoreView) → IsCore core → seen_of core ≡ seen → ((n : ℕ) → IsHeld core.places n → IsHeld new.catalog n)
     → (merge : merger.Running) (serial : ℕ) → OpensMerged merge serial seen new → ⊥
-not_opened core seen new sound same stays merge serial o =
-    let is = ap (λ (v : CoreView). v.merger) same ∙ o.was in
-    let d = subst (IsDoing core.phases core.places core.numbers core.room core.dumper.running merge) o.doing (merger_works core merge sound is).doing in
-    none_held new.catalog serial o.image (stays serial (subst (IsHeld core.places) (sym o.own) d.0.held)) o.there
+not_opened core seen new sound same stays merge serial o = grind arith
 
 -- nor where one that the merger closed may leave
 pub none_enters : {core : Parts} {seen : CoreView} {made : Made} {phases : List Phase} {outs : List (Option RequestId)} {places : Places} {now : Option merger.Running}
@@ -52,9 +46,7 @@ none_enters {core} {seen} {made} {phases} {outs} {places} {now} l = not_opened c
 
 -- nor behind a call that comes late
 pub late_opens : (old new : CoreView) (worker : Worker) → is_idle old worker ≡ true → worker ≡ its.Merger → (merge : merger.Running) (serial : ℕ) → OpensMerged merge serial old new → ⊥
-late_opens old new worker idle whose merge serial opens =
-    let none : is_none old.merger ≡ true = subst (λ w. is_idle old w ≡ true) whose idle in
-    let no : false ≡ true = ap is_none (sym opens.was) ∙ none in cc
+late_opens old new worker idle whose merge serial opens = grind arith
 
 -- a merge that goes on with its image goes on repeating its source
 pub still_copies : {core : Parts} {seen : CoreView} {made : Made} {phases : List Phase} {outs : List (Option RequestId)} {places : Places} {done : MergeProgress} {now : Option merger.Running}
@@ -68,8 +60,7 @@ still_copies {made = made} {done = done} g merge copy was doing none = by g.more
     goes next is = let no : Some g.leaves.merge.source ≡ None = sym (ap source_of g.is ∙ ap (λ d. source_of (Some (record g.leaves.merge { doing = d }))) is) ∙ none in cc
 
     by : IsMore done → HandsAt (copying copy) made done g.doing → ⊥
-    by (inl one) hands = (let it = subst (λ k. HandsAt (copying copy) made k g.doing) one hands in goes it.copy it.is)
-    by (inr one) hands = subst (λ k. HandsAt (copying copy) made k g.doing) one.1 hands
+    by given hands = grind arith
 
 -- ---- the list
 
@@ -95,9 +86,7 @@ module _ {core : Parts} {seen : CoreView} {made : Made} {phases : List Phase} {o
 
   -- the copy of the merge that was seen is the one whose image is open
   its_copy : (other : merger.Running) (copy : Copying) → seen.merger ≡ Some other → other.doing ≡ copying copy → (other ≡ o.merge) × (copy.order.serial ≡ image.header.serial)
-  its_copy other copy was copies =
-      let same : other ≡ o.merge = same_Some other o.merge (sym was ∙ merge_was) in
-      (same, ap (λ (k : Copying). k.order.serial) (one_copy copy (beside o).copy (sym copies ∙ ap (λ (m : merger.Running). m.doing) same ∙ (beside o).was)) ∙ sym (beside o).header.serial)
+  its_copy other copy was copies = grind arith
 
   -- what is so of that merge and its serial is so of those that were seen
   of_seen : (P : merger.Running → ℕ → Type 0) → P o.merge image.header.serial → (other : merger.Running) (serial : ℕ) → OpensMerged other serial seen (seen_of (opened_core o)) → P other serial
@@ -106,14 +95,7 @@ module _ {core : Parts} {seen : CoreView} {made : Made} {phases : List Phase} {o
       subst (λ n. P other n) (sym (opens.own ∙ is.1)) (subst (λ m. P m image.header.serial) (sym is.0) so)
 
   pub opened_now : (other : merger.Running) (copy : Copying) → seen.merger ≡ Some other → other.doing ≡ copying copy → OpensMerged other copy.order.serial seen (seen_of (opened_core o))
-  opened_now other copy was copies = record {
-    was = was;
-    copy = copy;
-    doing = copies;
-    own = refl;
-    image = (merged_image o).image;
-    there = ap (place_of places) (its_copy other copy was copies).1 ∙ (merged_image o).there;
-  }
+  opened_now other copy was copies = grind arith
 
   list_here : HasItsList (opened_merge o.merge image.header.serial) (seen_of (opened_core o))
   list_here = subst (IsListOf places core.dumper.running (Some (opened_merge o.merge image.header.serial)) outs (length phases)) (list_is ended o.fixes.retires)
@@ -172,13 +154,7 @@ module _ {core : Parts} {seen : CoreView} {made : Made} {phases : List Phase} {o
 -- ---- the end
 
 one_byte : (phases : List Phase) (slot : ℕ) → slice_get phases slot ≡ Some Bare → IsOneByte phases slot
-one_byte phases slot bare = record {
-  bare = bare;
-  reads = λ body file is. (
-    subst IsClosed (sym is.1.spelled) (record { some = omega arith; shut = is.1.shut }),
-    ap length is.1.spelled,
-  );
-}
+one_byte phases slot bare = grind arith
 
 module _ {core : Parts} {seen : CoreView} {made : Made} {phases : List Phase} {outs : List (Option RequestId)}
     {places : Places} {serial : ℕ} {now : Option merger.Running}
@@ -202,6 +178,4 @@ module _ {core : Parts} {seen : CoreView} {made : Made} {phases : List Phase} {o
 
   -- a merge that closes images doesn't make its own
   pub not_copying : (merge : merger.Running) (copy : Copying) → seen.merger ≡ Some merge → merge.doing ≡ copying copy → ⊥
-  not_copying merge copy was copies =
-      let same : m.leaves.merge ≡ merge = same_Some m.leaves.merge merge (sym ended_was ∙ was) in
-      let no : retiring m.ends.r ≡ copying copy = sym m.ends.was ∙ ap (λ (k : merger.Running). k.doing) same ∙ copies in cc
+  not_copying merge copy was copies = grind arith

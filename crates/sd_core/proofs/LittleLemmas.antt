@@ -1,12 +1,12 @@
 -- Which pages an image has, by the marked journal.
-use Rattle.std.proofs.Common.{◌≡◌, ◌⊎◌, ℕ, ◌==◌, ◌&&◌, ◌||◌, Bool, true, false, if◌then◌else◌, [], ◌∷◌, ◌++◌, Option, Some, None, IfSome, IsSome, is_some, not, refl, sym, ◌∙◌, ap, subst, inr, inl}
+use Rattle.std.proofs.Common.{◌≡◌, ◌⊎◌, ℕ, ◌==◌, ◌||◌, Bool, true, false, if◌then◌else◌, [], ◌∷◌, ◌++◌, Option, Some, None, IfSome, IsSome, is_some, not, refl, sym, ◌∙◌, ap, subst, inr, inl, arith}
 use Rattle.std.specs.List.{list_any}
 use Rattle.std.specs.Option.{option_map}
 use Rattle.std.proofs.lemmas.Bool.{both_ways, eq-eqb, or_parts, and_parts}
 use Rattle.std.proofs.lemmas.Option.{same_Some}
 use Rattle.sd_areas.specs.PlainMemory as plain
 use Rattle.sd_gate.specs.Requests.{Asked, Made}
-use Rattle.sd_gate.specs.Plans.{Planned, plan_after}
+use Rattle.sd_gate.specs.Plans.{Planned}
 use Rattle.sd_gate.specs.Sequences.{Calls}
 use Rattle.sd_image.specs.declared.header.Kind.{Kind}
 use Rattle.sd_image.specs.declared.header.Kind.TheVariants.{Dump, Merged, PreDump}
@@ -27,7 +27,7 @@ use Rattle.sd_rounds.specs.declared.image_order.ImageOrder.{ImageOrder}
 use Rattle.sd_rounds.specs.declared.image_step.ImageStep.{ImageStep}
 use Rattle.sd_rounds.specs.declared.image_step.ImageStep.TheVariants.{Call, PageCall, TableCall, Frozen, Visited, Copied}
 use Rattle.sd_rounds.specs.declared.stage.Stage.{Stage}
-use Rattle.sd_rounds.specs.declared.stage.Stage.TheVariants.{Format, Freeze as FreezeStage, Pass as PassStage, Close}
+use Rattle.sd_rounds.specs.declared.stage.Stage.TheVariants.{Format, Freeze as FreezeStage, Pass as PassStage}
 use Rattle.sd_rounds.specs.declared.visit.Visit.{Visit as PageVisit}
 use Rattle.sd_rounds.specs.Dump.{kind_due, kind_of_bytes}
 use Rattle.sd_rounds.specs.Dumper.{Running, is_frozen_image}
@@ -59,19 +59,12 @@ no_visits base (Noted (Table s) ∷ items) serial none = no_visits base items se
 pub visit_more : DueLaws → (base : Base) (items : Marked) (before after : Contents) (image next : Making) (visit : PageVisit) (serial : ℕ) → IsTracked base items before
     → Visits image before visit next after
     → visits_of base (Noted (Visit serial visit.space visit.page) ∷ items) serial ≡ visits_after (Visited visit) (visits_of base items serial)
-visit_more laws base items before after image next visit serial tracked v =
-    ap (λ b. if b then visits_of base items serial ++ (record { place = (visit.space, visit.page); soft_dirty = is_due base items visit.space visit.page }) ∷ [] else visits_of base items serial)
-    (eq-eqb serial serial refl)
-    ∙ ap (λ d. visits_of base items serial ++ (record { place = (visit.space, visit.page); soft_dirty = d }) ∷ [])
-    (sym (laws.bit base items before visit.space visit.page v.tests.page tracked v.tests.there) ∙ sym v.tests.bit)
+visit_more laws base items before after image next visit serial tracked v = grind arith
 
 -- ---- a step of the image in the making
 
 same_order : (ticket : ℕ) (image next : Making) (before after : Contents) (step : ImageStep) → Steps ticket image before step next after → next.order ≡ image.order
-same_order ticket image next before after (PageCall lane request) s = s.0.order
-same_order ticket image next before after (Visited visit) s = ap (λ (m : Making). m.order) s.passes.1
-same_order ticket image next before after (Copied copied) s = ap (λ (m : Making). m.order) s.0.passes.1
-same_order ticket image next before after _ s = ap (λ (m : Making). m.order) s.0.is
+same_order ticket image next before after step s = grind arith
 
 past_freeze : (image : Making) → is_frozen_dump image ≡ true → is_past_freeze image.stage ≡ true
 past_freeze image is = (and_parts (kind_number image.order.kind == 2) (is_past_freeze image.stage) is).1
@@ -80,8 +73,7 @@ not_closing : {P : Type 0} (stage : Stage) → stage ≡ PassStage → is_closin
 not_closing stage is closing = absurd (let no : false ≡ true = sym (ap is_closing is) ∙ closing in cc)
 
 same_closing : (stage : Stage) (plan : Planned) → is_closing (with_plan stage plan) ≡ is_closing stage
-same_closing (Format old) plan = refl
-same_closing _ plan = refl
+same_closing stage plan = grind arith
 
 -- once its table is written each page was visited, and nothing was touched since
 closed_step : (base : Base) (items : Marked) (number ticket : ℕ) (image next : Making) (before after : Contents) (step : ImageStep) → Steps ticket image before step next after
@@ -160,13 +152,10 @@ behind_closing kind FreezeStage closing = absurd (let no : false ≡ true = clos
 behind_closing _ _ closing = absurd (let no : false ≡ true = closing in cc)
 
 after_closing : (kind : Kind) (stage : Stage) (plan : Planned) (calls : Calls) → is_closing (stage_after kind stage plan calls) ≡ true → is_closing stage ≡ true
-after_closing kind stage plan [] closing = behind_closing kind stage closing
-after_closing kind stage plan (call ∷ calls) closing = sym (same_closing stage plan) ∙ closing
+after_closing kind stage plan calls closing = grind arith
 
 still_closing : (image next : Making) (made : Made) → PlanGoesOn image made next ⊎ IsWritten image made next → is_closing next.stage ≡ true → is_closing image.stage ≡ true
-still_closing image next made (inl goes) closing =
-    after_closing image.order.kind image.stage (plan_after goes.plan made) (plan_after goes.plan made).calls (sym (ap (λ (m : Making). is_closing m.stage) goes.is) ∙ closing)
-still_closing image next made (inr written) closing = sym (ap (λ (m : Making). is_closing m.stage) written.is) ∙ closing
+still_closing image next made given closing = grind arith
 
 -- an outcome with which it goes on
 pub more_little : LittleLaws → (base : Base) (items : Marked) (memory : Contents) (number : ℕ) (image next : Making) (made : Made)

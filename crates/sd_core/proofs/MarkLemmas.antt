@@ -9,7 +9,7 @@ use Rattle.sd_journal.specs.declared.entry.Entry.TheVariants.{Freeze}
 use Rattle.sd_journal.specs.declared.mark.Mark.TheVariants.{Start, Table, Visit}
 use Rattle.sd_journal.specs.History.{Base, last, pending}
 use Rattle.sd_journal.specs.Kept.{JournalView}
-use Rattle.sd_journal.specs.Legal.{IsAbove, MayFollow}
+use Rattle.sd_journal.specs.Legal.{MayFollow}
 use Rattle.sd_journal.specs.Marked.{IsTracked, Marked, Noted, Told, entries_of}
 use Rattle.sd_journal.specs.TrackedLaws.{TrackedLaws}
 use Rattle.sd_pagetable.specs.Contents.{Contents}
@@ -83,10 +83,7 @@ frozen_next image next dump f = ap is_frozen_dump f.is ∙ ap (λ k. (kind_numbe
 -- the freeze may come
 pub may_freeze : (core : Parts) (running : Running) → IsCore core → core.dumper.running ≡ Some running → core.frozen ≡ None
     → MayFollow core.base (entries_of core.journal.items) (Freeze core.numbers.begun)
-may_freeze core running sound was none = (
-  sym sound.journal_is.frozen_for ∙ none,
-  subst (IsAbove core.base (entries_of core.journal.items)) (at_work core running sound was).number ((at_work core running sound was).above none),
-)
+may_freeze core running sound was none = grind arith
 
 pub freeze_journal : TrackedLaws → (core : Parts) (running : Running) (journal : JournalView) → IsCore core → core.dumper.running ≡ Some running → core.frozen ≡ None
     → journal.items ≡ Told (Freeze core.numbers.begun) ∷ core.journal.items → journal.first ≡ core.journal.first → journal.limit ≡ core.journal.limit
@@ -103,14 +100,7 @@ freeze_journal laws core running journal sound was none items first limit = reco
 
 pub freeze_numbers : (base : Base) (items : Marked) (newest : Option ℕ) (numbers : Numbers) → AreSoundNumbers base items None newest numbers
     → AreSoundNumbers base (Told (Freeze numbers.begun) ∷ items) (Some numbers.begun) newest numbers
-freeze_numbers base items newest numbers was = record {
-  used = λ n below. (below, was.used n below);
-  newest_used = was.newest_used;
-  frozen_used = refl;
-  marks = was.marks;
-  checkpoints = was.checkpoints;
-  serials = was.serials;
-}
+freeze_numbers base items newest numbers was = grind arith
 
 -- ---- what is so of the image
 
@@ -149,8 +139,7 @@ next_is (Some running) slot is = go running.image refl is
     first e = cc
 
     go : (image : Option Making) → running.image ≡ image → slot_before running image ≡ Some slot → IsNext (Some running) slot
-    go None none e = record { running = running; was = refl; none = none; slot_is = first e }
-    go (Some image) none e = absurd (let no : None ≡ Some slot = e in cc)
+    go image none e = grind arith
 
 -- its place in the catalog
 pub held_place : (old new : Places) (serial : ℕ) → Changes old new serial (Some None) → IsHeld new serial

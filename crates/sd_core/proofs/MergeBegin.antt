@@ -1,10 +1,8 @@
 -- A merge begins.
-use Rattle.std.proofs.Common.{◌≡◌, ℕ, ◌<◌, ◌^◌, Bool, true, false, not, nat_le, is_some, List, [], ◌∷◌, length, Option, Some, None, refl, sym, ◌∙◌, ap, subst, inl, inr, arith}
-use Rattle.std.proofs.lemmas.Bool.{leb-false, not-false}
+use Rattle.std.proofs.Common.{◌≡◌, ℕ, ◌<◌, ◌^◌, Bool, true, List, [], ◌∷◌, length, Option, Some, None, refl, sym, ◌∙◌, ap, subst, inl, inr, arith}
 use Rattle.sd_chain.specs.Catalog.{IsSoundCatalog, Opened, place_of}
 use Rattle.sd_chain.specs.Reaches.{ParentsFall}
 use Rattle.sd_command.specs.declared.refusal.Refusal.{Refusal}
-use Rattle.sd_command.specs.declared.refusal.Refusal.TheVariants as refusal
 use Rattle.sd_merge.specs.Merger as merger
 use Rattle.sd_merge.specs.Merger.{begun_merge}
 use Rattle.sd_merge.specs.Sources.{source_from}
@@ -13,23 +11,17 @@ use Rattle.sd_crash_safety.specs.declared.standing.Standing.TheVariants as stand
 use Rattle.sd_crash_safety.specs.MergerSteps.{IsUncalled}
 use Rattle.sd_crash_safety.specs.View.{CoreView}
 use Rattle.sd_free_slots.specs.Taken.{FreeSlotsLaw, NamesParent}
-use Rattle.sd_core.specs.Beginning.{FreeSlots, first_of, is_down, is_not_open}
+use Rattle.sd_core.specs.Beginning.{FreeSlots, first_of}
 use Rattle.sd_core.specs.Merging.{has_tip, merge_refusal}
 use Rattle.sd_core.specs.Sound.{IsCore, Parts}
 use Rattle.sd_core.proofs.BesideLemmas.{core_beside, jobs_out}
-use Rattle.sd_core.proofs.BeginLemmas.{first_no, none_some, stands_open}
 use Rattle.sd_core.proofs.SlotLemmas.{IsFreeAt, reached_at}
 
 -- ---- when no refusal holds
 
 pub first_five : (a b d e f x y z u v : Bool) (p q r s t : Refusal) → a ≡ x → b ≡ y → d ≡ z → e ≡ u → f ≡ v
     → first_of ((a, p) ∷ (b, q) ∷ (d, r) ∷ (e, s) ∷ (f, t) ∷ []) ≡ first_of ((x, p) ∷ (y, q) ∷ (z, r) ∷ (u, s) ∷ (v, t) ∷ [])
-first_five a b d e f x y z u v p q r s t one two three four five =
-    ap (λ h. first_of ((h, p) ∷ (b, q) ∷ (d, r) ∷ (e, s) ∷ (f, t) ∷ [])) one
-    ∙ ap (λ h. first_of ((x, p) ∷ (h, q) ∷ (d, r) ∷ (e, s) ∷ (f, t) ∷ [])) two
-    ∙ ap (λ h. first_of ((x, p) ∷ (y, q) ∷ (h, r) ∷ (e, s) ∷ (f, t) ∷ [])) three
-    ∙ ap (λ h. first_of ((x, p) ∷ (y, q) ∷ (z, r) ∷ (h, s) ∷ (f, t) ∷ [])) four
-    ∙ ap (λ h. first_of ((x, p) ∷ (y, q) ∷ (z, r) ∷ (u, s) ∷ (h, t) ∷ [])) five
+first_five a b d e f x y z u v p q r s t one two three four five = grind arith
 
 pub record MayMerge (core : CoreView) : Type 0 where
   pub stands : core.standing ≡ standing.Open
@@ -38,18 +30,7 @@ pub record MayMerge (core : CoreView) : Type 0 where
   pub serial : core.numbers.serial < 2 ^ 63
 
 pub may_merge : (core : CoreView) → merge_refusal core ≡ None → MayMerge core
-may_merge core is =
-    let a = first_no (is_not_open core.standing) refusal.NotOpen _ is in
-    let b = first_no (is_down core.standing) refusal.StoreDown _ a.1 in
-    let d = first_no (is_some core.merger) refusal.Busy _ b.1 in
-    let e = first_no (not (has_tip core.catalog)) refusal.Idle _ d.1 in
-    let f = first_no (nat_le (2 ^ 63) core.numbers.serial) refusal.NumbersUsed _ e.1 in
-    record {
-      stands = stands_open core.standing a.0 b.0;
-      idle = none_some core.merger d.0;
-      tip = not-false (has_tip core.catalog) e.0;
-      serial = leb-false (2 ^ 63) core.numbers.serial f.0;
-    }
+may_merge core is = grind arith
 
 -- ---- what stands in the merged image's slot isn't called for
 

@@ -28,16 +28,7 @@ pub record MergeStays (core : Parts) (phases : List Phase) (places : Places) (nu
 pub image_stays : (merge : merger.Running) (places new : Places) (serial : ℕ)
     → ((o : Opened) → place_of places serial ≡ Some (Some o) → o.slot ≡ merge.slot → place_of new serial ≡ Some (Some o))
     → IsMergedImage merge places serial → IsMergedImage merge new serial
-image_stays merge places new serial stays i = record {
-  image = i.image;
-  there = stays i.image i.there i.slot;
-  slot = i.slot;
-  kind = i.kind;
-  own = i.own;
-  stands = i.stands;
-  checkpoint = i.checkpoint;
-  parent = i.parent;
-}
+image_stays merge places new serial stays i = grind arith
 
 module _ {core : Parts} {phases : List Phase} {places : Places} {numbers : Numbers} {running : Option Running} (s : MergeStays core phases places numbers running)
     (merge : merger.Running) (was : core.merger ≡ Some merge) where

@@ -22,7 +22,7 @@ use Rattle.sd_core.specs.Merging.{IsStepOf, MayRead, StepsAt}
 use Rattle.sd_core.specs.Sound.{ClosesWithHeader, IsCore, IsDoing, MergeRuns, Parts, due_serials}
 use Rattle.sd_core.proofs.BesideLemmas.{copy_goes_on, core_asks, free_asked, leaves_same, merger_works, retiring_goes_on}
 use Rattle.sd_core.proofs.CoreParts.{seen_of}
-use Rattle.sd_core.proofs.MergerSteps.{AsksOwn, asks_header, asks_own, reads_header, reads_source, tables_header, tables_own, writes_header, writes_own}
+use Rattle.sd_core.proofs.MergerSteps.{AsksOwn, asks_header, asks_own, tables_header, tables_own, writes_header, writes_own}
 use Rattle.sd_core.proofs.OwnLemmas.{makes_in, spared_of}
 use Rattle.sd_core.proofs.WorkLemmas.{SameNumbers, counted_same}
 
@@ -154,17 +154,7 @@ module _ {core : Parts} {seen : CoreView} {made : MergeStep} {now : Option merge
 
   merges_on : (outs : List (Option RequestId)) (numbers : Numbers) → numbers.serial ≡ core.numbers.serial → (i : OnImage core.numbers.ticket core.places s.on.merge made s.on.doing)
       → MergesOn (seen_of core) s.on.merge i.copy core.numbers.ticket made i.next (seen_of (stepped_core core outs numbers now))
-  merges_on outs numbers serial i = record {
-    rest = only_merges outs numbers;
-    phases = refl;
-    serial = serial;
-    catalog = refl;
-    was = s.on.was;
-    doing = i.was;
-    sound = i.sound;
-    steps = i.steps;
-    is = s.on.is ∙ ap (λ k. Some (record s.on.merge { doing = k })) i.is;
-  }
+  merges_on outs numbers serial i = grind arith
 
   -- ---- it asks for a call
 
@@ -279,19 +269,7 @@ module _ {core : Parts} {seen : CoreView} {request : Asked} {now : Option merger
   read_image = on_image s (λ other is. let no : ReadCall request ≡ Call other = is in cc)
 
   pub read_asks : (numbers : Numbers) → SameNumbers core.numbers numbers → MayRead core.dumper.running (length core.phases) request.id.slot → AsksBeside core numbers s.on.merge s.on.doing request
-  read_asks numbers same may =
-      let i = read_image in
-      let r = reads_source core.places i.copy i.next request i.steps.0 in
-      subst (λ k. AsksBeside core numbers s.on.merge k request) (sym i.is) (record {
-        out = r.out;
-        worker = i.steps.1.worker;
-        within = may.within;
-        spared = may.spared;
-        fewer = omega arith;
-        merging = copy_goes_on core core.phases core.places numbers s.on.merge i.copy i.next s.sound s.on.was i.was r.order refl same (reads_header core.places i.copy i.next request i.steps.0) (λ held. held)
-            (λ id out. subst (λ (i : RequestId). IsSpared core.dumper.running i.slot) (same_Some request.id id (sym r.out ∙ out)) may.spared)
-            (λ id out sync has. r.no_sync (ap (λ (i : RequestId). i.call) (same_Some request.id id (sym r.out ∙ out)) ∙ sync));
-      })
+  read_asks numbers same may = grind arith
 
   pub read_handed : (outs : List (Option RequestId)) (numbers : Numbers) → SameNumbers core.numbers numbers → outs ≡ slice_set core.outs 1 (Some request.id)
       → MayRead core.dumper.running (length core.phases) request.id.slot → HandsOut seen its.Merger request (seen_of (stepped_core core outs numbers now))

@@ -1,5 +1,5 @@
 -- What is known of an outcome of a merger's call, and what it leaves of the merge and of the checkpoint beside it.
-use Rattle.std.proofs.Common.{◌≡◌, ◌⊎◌, ℕ, ◌+◌, ◌≤◌, Bool, true, false, List, [], ◌∷◌, length, Option, Some, None, IfSome, slice_get, slice_set, refl, sym, ◌∙◌, ap, subst, inl, inr, arith}
+use Rattle.std.proofs.Common.{◌≡◌, ◌⊎◌, ℕ, ◌+◌, ◌≤◌, Bool, true, false, List, ◌∷◌, length, Option, Some, None, IfSome, slice_get, slice_set, refl, sym, ◌∙◌, ap, subst, inl, inr, arith}
 use Rattle.std.proofs.lemmas.Option.{same_Some}
 use Rattle.sd_chain.specs.Catalog.{Opened, Places, place_of}
 use Rattle.sd_command.specs.declared.reply.Reply.{Reply}
@@ -16,7 +16,6 @@ use Rattle.sd_merge.specs.declared.merge_progress.MergeProgress.{MergeProgress}
 use Rattle.sd_merge.specs.declared.merge_progress.MergeProgress.TheVariants as progress
 use Rattle.sd_merge.specs.declared.retired.Retired.{Retired}
 use Rattle.sd_merge.specs.declared.stage.Stage.{Stage}
-use Rattle.sd_merge.specs.declared.stage.Stage.TheVariants.{Format, Pass as PassStage, PageRead, PageWrite, Close}
 use Rattle.sd_merge.specs.Copying.{Copying, PlanGoesOn, out_of, stage_after}
 use Rattle.sd_merge.specs.Merger as merger
 use Rattle.sd_merge.specs.Merger.{AreRunning, Doing, GoesOnWith, Hands, HandsAt, HandsClosing, HasSoundCopy, HasSoundCopyIn, IsRunningAt, Retiring, due, copying, opened, retiring}
@@ -34,7 +33,6 @@ use Rattle.sd_core.proofs.CoreParts.{seen_of}
 use Rattle.sd_core.proofs.EnteredLemmas.{left_image}
 use Rattle.sd_core.proofs.FallenLemmas.{free_after}
 use Rattle.sd_core.proofs.HandedLemmas.{handed_merger, sync_of}
-use Rattle.sd_core.proofs.MergerSteps.{asked_header}
 use Rattle.sd_core.proofs.OutcomeLemmas.{left_counted, left_held}
 use Rattle.sd_core.proofs.OwnLemmas.{makes_in, spared_of}
 use Rattle.sd_core.proofs.WorkLemmas.{at_work, same_numbers}
@@ -128,23 +126,15 @@ pub record IsHandedOn (old : Option merger.Running) (made : Made) (done : MergeP
   pub is : new ≡ Some (record merge { doing = doing })
 
 pub handed_on : (old : Option merger.Running) (made : Made) (done : MergeProgress) (new : Option merger.Running) → IsMore done → Hands old made done new → IsHandedOn old made done new
-handed_on old made done new (inl one) hands =
-    let h = subst (λ k. Hands old made k new) one hands in
-    record { merge = h.running; was = h.was; doing = h.next.doing; hands = subst (λ k. HandsAt h.running.doing made k h.next.doing) (sym one) h.hands.hands; is = h.is ∙ ap Some h.hands.is }
-handed_on old made done new (inr one) hands =
-    let h = subst (λ k. Hands old made k new) one.1 hands in
-    record { merge = h.running; was = h.was; doing = h.next.doing; hands = subst (λ k. HandsAt h.running.doing made k h.next.doing) (sym one.1) h.hands.hands; is = h.is ∙ ap Some h.hands.is }
+handed_on old made done new given hands = grind arith
 
 -- ---- what is left of the plan
 
 header_after : (order : CopyOrder) (stage : Stage) (plan : Planned) (calls : Calls) → ClosesWithHeader order stage → ClosesWithHeader order (stage_after stage plan calls)
-header_after order stage plan [] has = tt
-header_after order stage plan (call ∷ calls) has = asked_header order stage plan has
+header_after order stage plan calls has = grind arith
 
 rests_after : (stage : Stage) (plan : Planned) (calls : Calls) → plan.out ≡ None → out_of (stage_after stage plan calls) ≡ None
-rests_after stage plan [] rests = refl
-rests_after PassStage plan (call ∷ calls) rests = refl
-rests_after _ plan (call ∷ calls) rests = rests
+rests_after stage plan calls rests = grind arith
 
 -- ---- an image that the merger closed may leave the catalog
 

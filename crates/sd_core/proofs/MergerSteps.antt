@@ -1,5 +1,5 @@
 -- What the steps of a merger leave of its merge.
-use Rattle.std.proofs.Common.{◌≡◌, ◌≢◌, ℕ, List, [], ◌∷◌, Some, None, slice_get, refl, sym, ◌∙◌, ap, subst, arith}
+use Rattle.std.proofs.Common.{◌≡◌, ◌≢◌, ℕ, List, [], ◌∷◌, Some, slice_get, refl, sym, ◌∙◌, ap, subst, arith}
 use Rattle.std.proofs.Math.Nat.{min-le_right}
 use Rattle.std.proofs.lemmas.Option.{same_Some}
 use Rattle.sd_chain.specs.Catalog.{Places}
@@ -13,7 +13,6 @@ use Rattle.sd_gate.specs.Requests.{Asked}
 use Rattle.sd_gate.specs.Sequences.{Calls, data_place, format_calls}
 use Rattle.sd_merge.specs.declared.copy_order.CopyOrder.{CopyOrder}
 use Rattle.sd_merge.specs.declared.stage.Stage.{Stage}
-use Rattle.sd_merge.specs.declared.stage.Stage.TheVariants.{Format, Pass as PassStage, PageRead, PageWrite, Close}
 use Rattle.sd_merge.specs.Copying.{Asks, Copying, IsOwnPlan, IsReadyFor, IsSoundCopying, StepsRead, StepsTable, WritesPage, begun_copy, out_of, plan_of, with_plan}
 use Rattle.sd_core.specs.Sound.{ClosesWithHeader, IsMergedHeader}
 
@@ -35,30 +34,16 @@ asks_own copy next request sound a = record {
     on_plan p was own = a.gives.slot ∙ ap (λ (q : Planned). q.slot) (sym (same_Some p a.plan was)) ∙ own
 
     own_by : (stage : Stage) → plan_of stage ≡ Some a.plan → IsReadyFor copy.entries copy.taking copy.read stage → IsOwnPlan copy.order.slot stage → request.id.slot ≡ copy.order.slot
-    own_by (Format p) was ready own = on_plan p was own
-    own_by PassStage was ready own = absurd (let no : None ≡ Some a.plan = was in cc)
-    own_by (PageRead p) was ready own =
-        absurd (let no : [] ≡ (request.id.call, request.bytes) ∷ a.next.calls = sym ready.2.last ∙ ap (λ (q : Planned). q.calls) (same_Some p a.plan was) ∙ a.gives.next in cc)
-    own_by (PageWrite p) was ready own = on_plan p was own
-    own_by (Close p header tables) was ready own = on_plan p was own
+    own_by stage was ready own = grind arith
 
     out_by : (stage : Stage) → plan_of stage ≡ Some a.plan → out_of (with_plan stage a.next) ≡ Some request.id
-    out_by PassStage was = absurd (let no : None ≡ Some a.plan = was in cc)
-    out_by _ was = a.gives.out
+    out_by stage was = grind arith
 
 pub writes_own : (copy next : Copying) (request : Asked) → WritesPage copy request next → AsksOwn copy next request
-writes_own copy next request w = record {
-  order = ap (λ (k : Copying). k.order) w.is;
-  slot = w.gives.slot;
-  out = ap (λ (k : Copying). out_of k.stage) w.is ∙ w.gives.out;
-}
+writes_own copy next request w = grind arith
 
 pub tables_own : (places : Places) (copy next : Copying) (request : Asked) → StepsTable places copy request next → AsksOwn copy next request
-tables_own places copy next request t = record {
-  order = ap (λ (k : Copying). k.order) t.writes.is;
-  slot = t.writes.gives.slot;
-  out = ap (λ (k : Copying). out_of k.stage) t.writes.is ∙ t.writes.gives.out;
-}
+tables_own places copy next request t = grind arith
 
 -- the image that begins is sound
 pub begun_sound : (order : CopyOrder) → IsSoundCopying (begun_copy order)
@@ -75,8 +60,7 @@ begun_sound order = record {
     changes Writing = (tt, tt)
 
     some : (state : SlotState) → format_calls state ≢ []
-    some Raw none = cc
-    some _ none = cc
+    some state none = grind arith
 
 -- ---- a read of the source
 
@@ -102,8 +86,7 @@ reads_source places copy next request s = record {
 
 -- a plan that goes on ends with the same header
 pub asked_header : (order : CopyOrder) (stage : Stage) (next : Planned) → ClosesWithHeader order stage → ClosesWithHeader order (with_plan stage next)
-asked_header order (Close p header tables) next has = has
-asked_header order _ next has = tt
+asked_header order stage next has = grind arith
 
 -- what the steps leave of it
 pub asks_header : (copy next : Copying) (request : Asked) → Asks copy request next → ClosesWithHeader copy.order copy.stage → ClosesWithHeader copy.order next.stage

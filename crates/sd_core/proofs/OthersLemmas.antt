@@ -1,6 +1,5 @@
 -- What a call leaves beside the job that it is made for.
-use Rattle.std.proofs.Common.{◌≡◌, ℕ, ◌&&◌, Bool, true, false, not, if◌then◌else◌, Option, Some, None, IfSome, is_some, refl, sym, ◌∙◌, ap, subst, inl, inr}
-use Rattle.std.proofs.lemmas.Bool.Decides.{eqb_tells}
+use Rattle.std.proofs.Common.{◌≡◌, ℕ, ◌&&◌, Bool, true, false, not, if◌then◌else◌, Option, Some, None, IfSome, is_some, refl, sym, ◌∙◌, ap, subst, arith}
 use Rattle.sd_chain.specs.Catalog.{Changes, Opened, Places, place_of}
 use Rattle.sd_gate.specs.declared.worker.Worker.{Worker}
 use Rattle.sd_journal.specs.declared.mark.Mark.TheVariants.{Start, Table}
@@ -20,8 +19,7 @@ same_image : (a b : Opened) → Some (Some a) ≡ Some (Some b) → b ≡ a
 same_image a b e = cc
 
 counted_same : (frozen : Bool) (since : ℕ) → since ≡ (if not frozen && frozen then 0 else since)
-counted_same true since = refl
-counted_same false since = refl
+counted_same frozen since = grind arith
 
 -- the catalog is as it was
 pub keeps_same : (old new : Places) → new ≡ old → KeepsEach old new
@@ -31,10 +29,7 @@ keeps_same old new same serial image other there now = same_image image other (s
 
 -- one place changes, at which no image stood
 pub keeps_changed : (old new : Places) (serial : ℕ) (to : Option (Option Opened)) → Changes old new serial to → ((o : Opened) → place_of old serial ≡ Some (Some o) → ⊥) → KeepsEach old new
-keeps_changed old new serial to changes none at image other there now = elim (eqb_tells serial at) [
-  | inl same ↦ absurd (none image (ap (place_of old) same.1 ∙ there))
-  | inr apart ↦ same_image image other (sym there ∙ sym (ap (λ b. if b then to else place_of old at) apart.0) ∙ sym (changes at) ∙ now)
-]
+keeps_changed old new serial to changes none at image other there now = grind arith
 
 -- as the core is seen
 pub beside_seen : (worker : Worker) (made : Taken) (inside now new : CoreView) → inside ≡ now → StepsBeside worker inside made new → StepsBeside worker now made new
@@ -66,8 +61,7 @@ notes_start old new slot own ends is notes = subst (λ s. NotesByCall (is_some s
 
 -- a pass that stays one, or wasn't one, doesn't end
 pub still_passes : (was now : Bool) → now ≡ true → (was && not now) ≡ false
-still_passes true now is = ap not is
-still_passes false now is = refl
+still_passes was now is = grind arith
 
 pub never_passed : (was now : Bool) → was ≡ false → (was && not now) ≡ false
 never_passed was now is = ap (λ b. b && not now) is

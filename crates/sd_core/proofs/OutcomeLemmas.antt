@@ -1,7 +1,7 @@
 -- The outcomes of a dumper's calls.
-use Rattle.std.proofs.Common.{◌≡◌, ℕ, ◌≤◌, ◌==◌, Bool, true, false, if◌then◌else◌, List, length, Option, Some, None, slice_get, slice_set, refl, sym, ◌∙◌, ap, subst}
+use Rattle.std.proofs.Common.{◌≡◌, ℕ, ◌≤◌, ◌==◌, Bool, true, false, if◌then◌else◌, List, length, Option, Some, None, slice_get, slice_set, refl, sym, ◌∙◌, ap, subst, arith}
 use Rattle.std.proofs.lemmas.Option.{same_Some}
-use Rattle.sd_chain.specs.Catalog.{Changes, IsHeld, Opened, Places, place_of, without_slot}
+use Rattle.sd_chain.specs.Catalog.{Changes, IsHeld, Opened, Places, place_of}
 use Rattle.sd_gate.specs.declared.phase.Phase.{Phase}
 use Rattle.sd_gate.specs.Calls.{is_done}
 use Rattle.sd_gate.specs.Phases.{bodies_after, phases_after}
@@ -13,7 +13,6 @@ use Rattle.sd_crash_safety.specs.DumperOutcomes.{IsDumpersOutcome, LeavesCatalog
 use Rattle.sd_crash_safety.specs.View.{CoreView, history_of}
 use Rattle.sd_core.specs.declared.numbers.Numbers.{Numbers}
 use Rattle.sd_core.specs.Sound.{CheckpointsAreCounted}
-use Rattle.sd_chain.proofs.Places.{some_stays as kept_of}
 use Rattle.sd_core.proofs.ApplyLemmas.{same_phases}
 
 -- ---- as the calls of a core tell it
@@ -39,12 +38,10 @@ handed_dumper old new lane made phase answer o count goes adds = record {
 -- ---- images that leave the catalog
 
 pub left_held : (closed : Bool) (slot : ℕ) (old new : Places) (serial : ℕ) → LeavesCatalog closed slot old new → IsHeld old serial → IsHeld new serial
-left_held true slot old new serial leaves held = leaves serial ∙ ap (without_slot slot) held
-left_held false slot old new serial leaves held = ap (λ all. place_of all serial) leaves ∙ held
+left_held closed slot old new serial leaves held = grind arith
 
 pub left_counted : (closed : Bool) (slot : ℕ) (old new : Places) (numbers : Numbers) → LeavesCatalog closed slot old new → CheckpointsAreCounted numbers old → CheckpointsAreCounted numbers new
-left_counted true slot old new numbers leaves was serial o at = was serial o (kept_of slot (place_of old serial) o (sym (leaves serial) ∙ at))
-left_counted false slot old new numbers leaves was serial o at = was serial o (ap (λ all. place_of all serial) (sym leaves) ∙ at)
+left_counted closed slot old new numbers leaves was serial o at = grind arith
 
 -- ---- an image that is open
 

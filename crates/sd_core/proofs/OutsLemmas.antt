@@ -1,7 +1,6 @@
 -- The requests that are out, lane by lane.
-use Rattle.std.proofs.Common.{◌≡◌, ◌≢◌, ◌⊎◌, ℕ, zero, suc, ◌<◌, true, false, List, [], ◌∷◌, length, Option, Some, None, IfSome, slice_get, slice_set, refl, sym, ◌∙◌, ap, subst, inl, inr, arith}
+use Rattle.std.proofs.Common.{◌≡◌, ◌≢◌, ◌⊎◌, ℕ, suc, ◌<◌, true, false, List, [], ◌∷◌, length, Option, Some, None, IfSome, slice_get, slice_set, refl, sym, ◌∙◌, ap, subst, inl, inr, arith}
 use Rattle.std.proofs.lemmas.Bool.{both_ways, cases_eq}
-use Rattle.std.proofs.lemmas.Option.{same_Some}
 use Rattle.sd_gate.specs.declared.phase.Phase.{Phase}
 use Rattle.sd_gate.specs.declared.request_id.RequestId.{RequestId}
 use Rattle.sd_gate.specs.declared.worker.Worker.TheVariants.{Dumper, Merger}
@@ -9,7 +8,6 @@ use Rattle.sd_merge.specs.Merger as merger
 use Rattle.sd_rounds.specs.Dumper.{Running, out_of_image, out_of_running, slot_of, writes_of_running}
 use Rattle.sd_rounds.specs.Making.{Making, out_of, is_passing}
 use Rattle.sd_rounds.specs.declared.stage.Stage.{Stage}
-use Rattle.sd_rounds.specs.declared.stage.Stage.TheVariants.{Format, Freeze, Pass as PassStage, Close}
 use Rattle.sd_rounds.specs.Pass.{data_pages}
 use Rattle.sd_gate.specs.Lanes.{is_any_out}
 use Rattle.sd_rounds.specs.Writes.{IsPageWrite, no_writes}
@@ -28,10 +26,7 @@ far k = omega arith
 -- which request is out in one of these
 pub lane_at : (one two : Option RequestId) (pages : List (Option RequestId)) (lane : ℕ) (id : RequestId) → slice_get (one ∷ two ∷ None ∷ pages) lane ≡ Some (Some id)
     → ((lane ≡ 0) × (one ≡ Some id)) ⊎ (((lane ≡ 1) × (two ≡ Some id)) ⊎ ((k : ℕ) × (lane ≡ suc (suc (suc k))) × (slice_get pages k ≡ Some (Some id))))
-lane_at one two pages zero id at = inl (refl, same_Some one (Some id) at)
-lane_at one two pages (suc zero) id at = inr (inl (refl, same_Some two (Some id) at))
-lane_at one two pages (suc (suc zero)) id at = absurd (let no : Some None ≡ Some (Some id) = at in cc)
-lane_at one two pages (suc (suc (suc k))) id at = inr (inr (k, refl, at))
+lane_at one two pages lane id at = grind arith
 
 pub nobody_out : (lane : ℕ) (id : RequestId) → slice_get nobody lane ≡ Some (Some id) → ⊥
 nobody_out lane id is = none_in nobody lane id refl is
@@ -71,8 +66,7 @@ pub record DumperOuts (phases : List Phase) (running : Option Running) : Type 0 
   pub count : length (writes_of_running running) ≡ 8
 
 out_outside : (stage : Stage) (id : RequestId) → out_of stage ≡ Some id → is_passing stage ≡ false
-out_outside PassStage id is = absurd (let no : None ≡ Some id = is in cc)
-out_outside _ id is = refl
+out_outside stage id is = grind arith
 
 -- each is on the slot of its image
 pub on_slot : (running : Running) (id : RequestId) → IfSome (out_of_image running.image) (λ i. i.slot ≡ slot_of running) → HasWrites running running.image → IsOfDumper (Some running) id

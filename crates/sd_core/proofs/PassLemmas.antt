@@ -1,5 +1,5 @@
 -- A step of the pass, as one of the image in the making.
-use Rattle.std.proofs.Common.{◌≡◌, ◌<◌, ◌||◌, ℕ, Bool, true, false, not, if◌then◌else◌, is_none, is_some, [], ◌∷◌, Option, None, Some, IfSome, IsSome, slice_get, ◌⊎◌, refl, sym, ◌∙◌, ap, subst, inl, inr}
+use Rattle.std.proofs.Common.{◌≡◌, ◌<◌, ◌||◌, ℕ, Bool, true, false, not, if◌then◌else◌, is_none, is_some, [], ◌∷◌, Option, None, Some, IfSome, IsSome, slice_get, ◌⊎◌, refl, sym, ◌∙◌, ap, subst, arith}
 use Rattle.sd_command.specs.declared.refusal.Refusal.TheVariants as refusal
 use Rattle.sd_gate.specs.declared.slot_state.SlotState.{SlotState}
 use Rattle.sd_gate.specs.declared.slot_state.SlotState.TheVariants.{Raw}
@@ -7,8 +7,8 @@ use Rattle.sd_gate.specs.declared.worker.Worker.TheVariants.{Dumper}
 use Rattle.sd_pagetable.specs.Contents.{Contents, plain_of}
 use Rattle.sd_rounds.specs.declared.image_step.ImageStep.{ImageStep}
 use Rattle.sd_rounds.specs.declared.pass_step.PassStep.{PassStep}
-use Rattle.sd_rounds.specs.Dumper.{Dumping, Running, Works, image_from, next_slot, serial_of_running, slot_before, slot_of}
-use Rattle.sd_rounds.specs.Making.{Making, Steps}
+use Rattle.sd_rounds.specs.Dumper.{Dumping, Running, Works, next_slot, serial_of_running, slot_before}
+use Rattle.sd_rounds.specs.Making.{Making}
 use Rattle.sd_rounds.specs.Left.{LeftLaws, left_of}
 use Rattle.sd_rounds.specs.PassSteps.{NoPageIsNext, Passes}
 use Rattle.sd_rounds.specs.PlanSteps.{image_step}
@@ -26,17 +26,7 @@ use Rattle.sd_core.proofs.GoOnLemmas.{goes_by}
 module _ (ticket serial : ℕ) (state : SlotState) (old : Dumping) (before : Contents) (step : ImageStep) (new : Dumping) (after : Contents)
     (work : Works serial state ticket old before step new after) where
   on_image : (image : Option Making) → work.running.image ≡ image → slot_before work.running image ≡ None → StepsOn ticket old before step new after
-  on_image None is none = absurd (let no : Some (slot_of work.running) ≡ None = none in cc)
-  on_image (Some image) is none = record {
-    running = work.running;
-    was = work.was;
-    image = image;
-    making = is;
-    next = work.works.image;
-    steps = subst (λ m. Steps ticket (image_from work.running serial state m) before step work.works.image after) is work.works.steps;
-    is = ap (λ (d : Dumping). d.running) work.is ∙ ap Some work.works.is;
-    counted = ap (λ (d : Dumping). d.since_freeze) work.is;
-  }
+  on_image image is none = grind arith
 
   pub steps_on : next_slot old.running ≡ None → StepsOn ticket old before step new after
   steps_on none = on_image work.running.image refl (sym (ap next_slot work.was) ∙ none)
@@ -89,8 +79,7 @@ step_passed old before new after found step is steps =
 -- ---- where a step is refused
 
 not_none : {X : Type 0} (one : Option X) → IsSome one → is_none one ≡ false
-not_none None some = absurd (let no : false ≡ true = some in cc)
-not_none (Some x) some = refl
+not_none one some = grind arith
 
 module _ (core : CoreView) where
   abbrev waits : Bool
@@ -112,8 +101,7 @@ module _ (core : CoreView) where
   busy_refused busy = refused_by (ap (λ b. not b || must_wait_for_pages core) busy)
 
   either_waits : (rests : Bool) → (not rests || true) ≡ true
-  either_waits true = refl
-  either_waits false = refl
+  either_waits rests = grind arith
 
   -- and so is one that must wait
   pub waiting_refused : waits ≡ true → IsSome (work_refusal core Dumper)
@@ -125,14 +113,8 @@ module _ (core : CoreView) where
 
   -- a pass that finds no step, of a dumper that isn't asked whether it must wait
   pub none_found : ((waits ≡ true) ⊎ NoPageIsNext core.dumper.running core.memory) → HasNoPassStep core
-  none_found found = elim found [
-    | inl must ↦ inl (waiting_refused must)
-    | inr none ↦ inr none
-  ]
+  none_found found = grind arith
 
   -- where the dumper isn't refused, none is next
   pub none_next : work_refusal core Dumper ≡ None → HasNoPassStep core → NoPageIsNext core.dumper.running core.memory
-  none_next free found = elim found [
-    | inl refused ↦ absurd (let no : false ≡ true = sym (ap is_some free) ∙ refused in cc)
-    | inr none ↦ none
-  ]
+  none_next free found = grind arith

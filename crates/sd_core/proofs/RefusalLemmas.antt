@@ -1,17 +1,16 @@
 -- What is so where a call isn't refused.
-use Rattle.std.proofs.Common.{◌≡◌, ◌≢◌, ◌<◌, ◌==◌, ◌&&◌, ◌||◌, Bool, true, false, not, is_none, is_some, Option, Some, None, slice_get, refl, sym, ◌∙◌, ap, inl, inr, arith}
+use Rattle.std.proofs.Common.{◌≡◌, ◌≢◌, ◌<◌, ◌==◌, ◌&&◌, ◌||◌, true, false, not, is_none, is_some, Option, Some, None, slice_get, sym, ◌∙◌, ap, inl, inr, arith}
 use Rattle.std.proofs.lemmas.Bool.Decides.{eqb_tells}
 use Rattle.std.proofs.lemmas.Bool.{or_parts, not-true, not-false}
 use Rattle.sd_command.specs.declared.refusal.Refusal.TheVariants as refusal
 use Rattle.sd_gate.specs.declared.request_id.RequestId.{RequestId}
-use Rattle.sd_gate.specs.declared.worker.Worker.TheVariants.{Dumper}
 use Rattle.sd_journal.specs.History.{pending}
 use Rattle.sd_gate.specs.Lanes.{is_any_out}
 use Rattle.sd_crash_safety.specs.declared.standing.Standing.TheVariants as standing
 use Rattle.sd_crash_safety.specs.OpenerSteps.{nobody}
 use Rattle.sd_crash_safety.specs.View.{CoreView, history_of}
 use Rattle.sd_core.specs.Beginning.{free_entries}
-use Rattle.sd_core.specs.Refusals.{are_resting, cancel_refusal, cant_cancel, has_checkpoint, is_in_use, is_page_out, is_resting, is_store_open, none_at, reopen_refusal, wants_entry}
+use Rattle.sd_core.specs.Refusals.{are_resting, cancel_refusal, is_in_use, is_page_out, is_store_open, none_at, reopen_refusal, wants_entry}
 use Rattle.sd_core.specs.Sound.{IsCore, Parts}
 use Rattle.sd_core.proofs.BeginLemmas.{first_no, none_some}
 use Rattle.sd_core.proofs.OutsLemmas.{nobody_of}
@@ -19,18 +18,15 @@ use Rattle.sd_core.proofs.OutsLemmas.{nobody_of}
 -- ---- Booleans
 
 pub none_true : {X : Type 0} (one : Option X) → one ≡ None → is_none one ≡ true
-none_true None is = refl
-none_true (Some x) is = absurd (let no : Some x ≡ None = is in cc)
+none_true one is = grind arith
 
 some_false : {X : Type 0} (one : Option X) → one ≡ None → is_some one ≡ false
-some_false None is = refl
-some_false (Some x) is = absurd (let no : Some x ≡ None = is in cc)
+some_false one is = grind arith
 
 -- ---- requests that are out
 
 pub rests_where : (one : Option (Option RequestId)) → none_at one ≡ true → one ≡ Some None
-rests_where (Some None) is = refl
-rests_where _ is = absurd (let no : false ≡ true = is in cc)
+rests_where one is = grind arith
 
 pub nobody_rests : (core : Parts) → IsCore core → are_resting core.outs ≡ true → core.outs ≡ nobody
 nobody_rests core sound is = nobody_of core.outs sound.outs_are.count (not-true (is_any_out core.outs) is)
@@ -45,21 +41,7 @@ pub record MayCancel (core : CoreView) : Type 0 where
   pub sure : core.committing ≡ false
 
 pub may_cancel_now : (core : CoreView) → cancel_refusal core ≡ None → MayCancel core
-may_cancel_now core is =
-    let one = first_no (not (has_checkpoint core)) refusal.Idle _ is in
-    let two = first_no (cant_cancel core) refusal.Busy _ one.1 in
-    let sure = or_parts (is_some core.opener || not (is_resting core.outs Dumper) || is_page_out core.outs) core.committing two.0 in
-    let pages = or_parts (is_some core.opener || not (is_resting core.outs Dumper)) (is_page_out core.outs) sure.0 in
-    let rests = or_parts (is_some core.opener) (not (is_resting core.outs Dumper)) pages.0 in
-    let has = not-false (has_checkpoint core) one.0 in
-    record {
-      some = λ idle none.
-          let no : false ≡ true = sym (ap (λ r. is_some r || is_some (pending (history_of core))) idle ∙ some_false (pending (history_of core)) none) ∙ has in cc;
-      closed = none_some core.opener rests.0;
-      rests = rests_where (slice_get core.outs 0) (not-false (is_resting core.outs Dumper) rests.1);
-      pages = pages.1;
-      sure = sure.1;
-    }
+may_cancel_now core is = grind arith
 
 -- ---- a store that can be opened again
 

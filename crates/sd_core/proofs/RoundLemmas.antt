@@ -1,5 +1,5 @@
 -- The images of a checkpoint that runs, from call to call.
-use Rattle.std.proofs.Common.{◌≡◌, ◌≢◌, ◌⊎◌, ℕ, zero, suc, ◌<◌, ◌≤◌, List, [], ◌∷◌, get_or, length, Option, Some, None, is_none, true, false, slice_get, refl, sym, ◌∙◌, ap, subst, inl, inr, arith}
+use Rattle.std.proofs.Common.{◌≡◌, ◌≢◌, ◌⊎◌, ℕ, zero, suc, ◌<◌, ◌≤◌, List, [], ◌∷◌, get_or, length, Option, Some, None, is_none, true, slice_get, refl, sym, ◌∙◌, ap, subst, inl, inr, arith}
 use Rattle.std.specs.Option.{option_map}
 use Rattle.std.proofs.lemmas.Option.{same_Some}
 use Rattle.sd_chain.specs.Catalog.{Places}
@@ -14,7 +14,6 @@ use Rattle.sd_gate.specs.Calls.{IsLook}
 use Rattle.sd_gate.specs.Requests.{Asked}
 use Rattle.sd_image.specs.Image.{Image}
 use Rattle.sd_merge.specs.declared.stage.Stage.{Stage as CopyStage}
-use Rattle.sd_merge.specs.declared.stage.Stage.TheVariants as copy_stage
 use Rattle.sd_merge.specs.Merger as merger
 use Rattle.sd_merge.specs.Merger.{Doing, due, copying, opened, retiring}
 use Rattle.sd_rounds.specs.Dumper.{AreRunning, HasSlot, Running, out_of_running, slot_of, writes_of_running}
@@ -41,8 +40,7 @@ pub round_goes_on : (old new : Option Running) (from to : Running) → old ≡ S
 round_goes_on old new from to was is same = subst (SameRound old) (sym is) (from, was, same)
 
 pub turns_same : (old new : Option Running) (places : Places) → SameRound old new → TurnsRound old new places
-turns_same old None places same = tt
-turns_same old (Some next) places same = (same.0, same.1, inl same.2)
+turns_same old new places same = grind arith
 
 pub none_turns : (old new : Option Running) (places : Places) → new ≡ None → TurnsRound old new places
 none_turns old new places none = subst (λ running. TurnsRound old running places) (sym none) tt
@@ -51,8 +49,7 @@ pub next_turns : (old new : Option Running) (places : Places) (from to : Running
 next_turns old new places from to was is next = subst (λ running. TurnsRound old running places) (sym is) (from, was, inr next)
 
 none_idle : (running : Option Running) → is_none running ≡ true → running ≡ None
-none_idle None is = refl
-none_idle (Some running) is = absurd (let no : false ≡ true = is in cc)
+none_idle running is = grind arith
 
 -- behind an outcome that came late none runs
 pub late_turns : (worker : Worker) (old new : CoreView) (answer : Reply) → answer ≡ reply.Refused StoreDown → LeavesByOutcome old worker answer new
@@ -64,31 +61,22 @@ late_turns worker old new answer is leaves =
 -- ---- the image that enters
 
 pub opens_for : (running : Running) (old new : CoreView) (answer : Reply) → OpensImage running old answer new → old.dumper.running ≡ Some running
-opens_for running old new answer (inl pre_dump) = pre_dump.was
-opens_for running old new answer (inr dump) = dump.0
+opens_for running old new answer given = grind arith
 
 pub none_enters : (running : Running) (old new : CoreView) (answer : Reply) → is_none old.dumper.running ≡ true → OpensImage running old answer new → ⊥
 none_enters running old new answer idle enters = let no : Some running ≡ None = sym (opens_for running old new answer enters) ∙ none_idle old.dumper.running idle in cc
 
 -- none does where as many are open as before
 pub none_opens : (running : Running) (old new : CoreView) (answer : Reply) → ((n : ℕ) → answer ≢ reply.Acked n) → SameRound old.dumper.running new.dumper.running → OpensImage running old answer new → ⊥
-none_opens running old new answer other same (inl o) =
-    let still = subst (SameRound old.dumper.running) o.is same in
-    let more = o.one in
-    let opened_is = still.2.opened in
-    let own = ap (λ (r : Running). r.opened) (same_Some still.0 running (sym still.1 ∙ o.was)) in
-    omega (arith, more, opened_is, own)
-none_opens running old new answer other same (inr dump) = other dump.1.0 dump.1.1
+none_opens running old new answer other same given = grind arith
 
 pub ends_opens : (running : Running) (old new : CoreView) (answer : Reply) → ((n : ℕ) → answer ≢ reply.Acked n) → new.dumper.running ≡ None → OpensImage running old answer new → ⊥
-ends_opens running old new answer other none (inl o) = let no : None ≡ Some o.next = sym none ∙ o.is in cc
-ends_opens running old new answer other none (inr dump) = other dump.1.0 dump.1.1
+ends_opens running old new answer other none given = grind arith
 
 -- ---- between calls
 
 pub few_are : (since : ℕ) (running : Option Running) → AreRunning since running → HasFewOpen running
-few_are since None are = tt
-few_are since (Some running) are = are.few
+few_are since running are = grind arith
 
 -- no checkpoint runs beside an opener
 pub opens_alone : (core : Parts) → IsCore core → core.opener ≢ None → core.dumper.running ≡ None
@@ -108,9 +96,7 @@ ids_at (a ∷ asked) (suc lane) request is = ids_at asked lane request is
 -- a request for a merged image in the making is on the merge's slot, or only looks
 copy_looks : (stage : CopyStage) (phases : List Phase) (bodies : List (List ℕ)) (store : Store) (beliefs : List Belief) (running : Option Running) (target : ℕ) (source : Image) (page : Option Place) (request : Asked)
     → IsAskedIn stage phases bodies store beliefs running target source page (Some request) → (request.id.slot ≡ target) ⊎ IsLook request.id.call
-copy_looks (copy_stage.PageRead plan) phases bodies store beliefs running target source page request is = inr (subst IsLook (sym is.call) tt)
-copy_looks (copy_stage.PageWrite plan) phases bodies store beliefs running target source page request is = inl is.on
-copy_looks _ phases bodies store beliefs running target source page request is = inl is
+copy_looks stage phases bodies store beliefs running target source page request is = grind arith
 
 module _ (core : Parts) (view : CoreView) (sound : IsCore core) (outs : view.outs ≡ core.outs) (stands : view.standing ≡ core.standing) (merges : view.merger ≡ core.merger)
     (running : Running) (place : ℕ) (asked : List (Option Asked)) (bodies files : List (List ℕ)) (was : core.dumper.running ≡ Some running) (below : place < running.opened)
@@ -128,17 +114,10 @@ module _ (core : Parts) (view : CoreView) (sound : IsCore core) (outs : view.out
 
   asks_copy : (request : Option Asked) (stage : CopyStage) (store : Store) (beliefs : List Belief) (runs : Option Running) (target : ℕ) (source : Image) (page : Option Place)
       → option_map id_of request ≡ Some id → IsAskedIn stage view.phases bodies store beliefs runs target source page request → id.slot ≢ target → IsLook id.call
-  asks_copy None stage store beliefs runs target source page is asks other = absurd (let no : None ≡ Some id = is in cc)
-  asks_copy (Some r) stage store beliefs runs target source page is asks other =
-      let same : r.id ≡ id = same_Some r.id id is in
-      elim (copy_looks stage view.phases bodies store beliefs runs target source page r asks) [
-        | inl at ↦ absurd (other (sym (ap (λ (i : RequestId). i.slot) same) ∙ at))
-        | inr looks ↦ subst (λ (i : RequestId). IsLook i.call) same looks
-      ]
+  asks_copy request stage store beliefs runs target source page is asks other = grind arith
 
   asks_close : (request : Option Asked) (slot : ℕ) → option_map id_of request ≡ Some id → ((out : Asked) → request ≡ Some out → out.id.slot ≡ slot) → id.slot ≢ slot → IsLook id.call
-  asks_close None slot is at other = absurd (let no : None ≡ Some id = is in cc)
-  asks_close (Some r) slot is at other = absurd (other (sym (ap (λ (i : RequestId). i.slot) (same_Some r.id id is)) ∙ at r refl))
+  asks_close request slot is at other = grind arith
 
   doing_looks : (merge : merger.Running) (doing : Doing) → core.merger ≡ Some merge → merge.doing ≡ doing → slice_get core.outs 1 ≡ Some (Some id)
       → IsMergeAt view.phases asked bodies view.numbers.serial b.store b.beliefs view.dumper.running merge.slot merge.source doing

@@ -47,8 +47,7 @@ visited_now law base items memory tracked sound clean = record {
     there space page mapped = ap is_some (sym (law.pages memory space page)) ∙ ap (λ m. is_mapped m space page) tracked.memory ∙ mapped
 
     due : (space page : ℕ) (o : Option PageState) → page_at memory space page ≡ o → is_some (option_map plain_page o) ≡ true → is_due base items space page ≡ false
-    due space page None is some = no_true some
-    due space page (Some found) is some = sym (tracked.bits.soft_dirty space page found is) ∙ clean space page found is
+    due space page o is some = grind arith
 
     still : (space page : ℕ) (o : Option PageState) → page_at memory space page ≡ o → is_some (option_map plain_page o) ≡ true → is_writable (events_of items) space page ≡ false
     still space page None is some = no_true some
@@ -93,8 +92,7 @@ not_swept now frozen memory none is = no_true (sym none ∙ is)
 
 -- while nothing is pending it isn't over
 pub unswept : (swept : Bool) (frozen : Option ℕ) (memory : Contents) → frozen ≡ None → HasSwept swept frozen memory → swept ≡ false
-unswept true frozen memory none was = no_true (subst IsSome none (was refl).0)
-unswept false frozen memory none was = refl
+unswept swept frozen memory none was = grind arith
 
 pub none_swept : (swept : Bool) (frozen after : Option ℕ) (memory new : Contents) → frozen ≡ None → HasSwept swept frozen memory → HasSwept swept after new
 none_swept swept frozen after memory new none was is = no_true (subst IsSome none (was is).0)
@@ -102,8 +100,7 @@ none_swept swept frozen after memory new none was is = no_true (subst IsSome non
 -- a command that comes then changes nothing
 pub swept_answered : (swept : Bool) (frozen : Option ℕ) (command : Command) (reply : Reply) (memory new : Contents) → IsAnswered (is_some frozen) command reply memory new
     → HasSwept swept frozen memory → HasSwept swept frozen new
-swept_answered swept None command reply memory new answered was is = no_true (was is).0
-swept_answered swept (Some n) command reply memory new answered was is = (refl, subst IsClean (sym answered.1) (was is).1)
+swept_answered swept frozen command reply memory new answered was is = grind arith
 
 same_space : (s p space page : ℕ) → is_page s p space page ≡ true → s ≡ space
 same_space s p space page e = grind (arith, nat_tests)

@@ -1,19 +1,17 @@
 -- What the steps and outcomes of an image leave of its plan, its cursor and its freeze.
-use Rattle.std.proofs.Common.{◌≡◌, ◌≢◌, ℕ, ◌==◌, ◌&&◌, true, false, [], ◌∷◌, Some, None, refl, sym, ◌∙◌, ap}
+use Rattle.std.proofs.Common.{◌≡◌, ◌≢◌, ℕ, ◌==◌, ◌&&◌, [], Some, None, sym, ◌∙◌, ap, arith}
 use Rattle.std.proofs.lemmas.Option.{same_Some}
 use Rattle.sd_gate.specs.Plans.{Gives, Planned}
 use Rattle.sd_gate.specs.Requests.{Asked}
 use Rattle.sd_gate.specs.Sequences.{Calls}
 use Rattle.sd_image.specs.declared.header.Kind.{Kind}
-use Rattle.sd_image.specs.declared.header.Kind.TheVariants.{PreDump, Dump, Merged}
 use Rattle.sd_image.specs.Words.{kind_number}
 use Rattle.sd_journal.specs.Marked.{Marked}
 use Rattle.sd_pagetable.specs.Contents.{Contents}
 use Rattle.sd_rounds.specs.declared.copied.Copied.{Copied}
-use Rattle.sd_rounds.specs.declared.copied.Copied.TheVariants.{More, Zero, Gone}
 use Rattle.sd_rounds.specs.declared.image_order.ImageOrder.{ImageOrder}
 use Rattle.sd_rounds.specs.declared.stage.Stage.{Stage}
-use Rattle.sd_rounds.specs.declared.stage.Stage.TheVariants.{Format, Freeze, Pass as PassStage, Close}
+use Rattle.sd_rounds.specs.declared.stage.Stage.TheVariants.{Format, Close}
 use Rattle.sd_rounds.specs.Making.{closing_outcomes, is_past_freeze, out_of, plan_of, stage_after, stage_behind, with_plan}
 use Rattle.sd_rounds.specs.Pass.{Pass}
 use Rattle.sd_rounds.specs.Rounds.{Copies}
@@ -42,8 +40,7 @@ asked_in order _ plan next request was gives is = absurd (let no : None ≡ Some
 
 pub visiting_asked : (items : Marked) (serial : ℕ) (pass : Pass) (stage : Stage) (next : Planned) → IsVisitingIn items serial pass stage
     → IsVisitingIn items serial pass (with_plan stage next)
-visiting_asked items serial pass (Close p header tables) next is = tt
-visiting_asked items serial pass _ next is = is
+visiting_asked items serial pass stage next is = grind arith
 
 -- ---- an outcome with which it goes on
 
@@ -58,26 +55,13 @@ slot_on p plan next slot was same is = same ∙ ap (λ (q : Planned). q.slot) (s
 
 format_behind : (items : Marked) (order : ImageOrder) (pass : Pass) (plan : Planned) (kind : Kind) → order.kind ≡ kind
     → IsBehind items order pass (Format plan) (stage_behind kind (Format plan))
-format_behind items order pass plan Dump is = record { stage_is = λ at. tt; rests = refl; frozen = refl; visiting_in = λ v. v }
-format_behind items order pass plan _ is = record {
-  stage_is = λ at. tt;
-  rests = refl;
-  frozen = ap (λ k. (kind_number k == 2) && true) is ∙ sym (ap (λ k. (kind_number k == 2) && false) is);
-  visiting_in = λ v. v;
-}
+format_behind items order pass plan kind is = grind arith
 
 pub behind : (items : Marked) (order : ImageOrder) (pass : Pass) (stage : Stage) (plan next : Planned) (calls : Calls) → plan_of stage ≡ Some plan
     → next.slot ≡ plan.slot → next.out ≡ None → (closing_outcomes stage ≢ 0 → calls ≢ []) → IsBehind items order pass stage (stage_after order.kind stage next calls)
-behind items order pass (Format p) plan next [] was same rests closes = format_behind items order pass p order.kind refl
-behind items order pass (Format p) plan next (call ∷ calls) was same rests closes =
-    record { stage_is = slot_on p plan next order.slot was same; rests = rests; frozen = refl; visiting_in = λ v. v }
-behind items order pass (Close p header tables) plan next [] was same rests closes = absurd (closes (λ is. cc) refl)
-behind items order pass (Close p header tables) plan next (call ∷ calls) was same rests closes =
-    record { stage_is = λ at. (slot_on p plan next order.slot was same at.0, at.1); rests = rests; frozen = refl; visiting_in = λ v. tt }
-behind items order pass _ plan next calls was same rests closes = absurd (let no : None ≡ Some plan = was in cc)
+behind items order pass stage plan next calls was same rests closes = grind arith
 
 -- ---- its cursor
 
 pub copied_after : (old new : Pass) (memory : Contents) (copied : Copied) → Copies old memory copied new → new.after ≡ old.after
-copied_after old new memory More copies = ap (λ (p : Pass). p.after) copies.is
-copied_after old new memory _ copies = ap (λ (p : Pass). p.after) copies.is
+copied_after old new memory copied copies = grind arith

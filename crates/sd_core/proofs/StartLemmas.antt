@@ -1,7 +1,6 @@
 -- A core as it starts.
-use Rattle.std.proofs.Common.{◌≡◌, ℕ, true, zero, suc, ◌<◌, ◌≤◌, List, [], ◌∷◌, if◌then◌else◌, Option, Some, None, IfSome, slice_get, refl, sym, ◌∙◌, ap, subst, arith, inl}
+use Rattle.std.proofs.Common.{◌≡◌, ℕ, true, zero, suc, ◌<◌, ◌≤◌, List, [], ◌∷◌, if◌then◌else◌, Option, Some, None, IfSome, slice_get, sym, ap, subst, arith}
 use Rattle.std.specs.List.{list_any}
-use Rattle.std.proofs.lemmas.Bool.{eq-eqb}
 use Rattle.sd_areas.specs.PlainMemory.{PlainMemory}
 use Rattle.std.specs.Option.{option_map}
 use Rattle.std.proofs.lemmas.Option.{same_Some}
@@ -9,10 +8,10 @@ use Rattle.sd_gate.specs.Requests.{Asked}
 use Rattle.sd_journal.specs.declared.origin.Origin.{Origin}
 use Rattle.sd_journal.specs.declared.origin.Origin.TheVariants as origins
 use Rattle.sd_journal.specs.Allowed.{IsLastPair}
-use Rattle.sd_journal.specs.History.{Base, last, pending}
+use Rattle.sd_journal.specs.History.{Base}
 use Rattle.sd_journal.specs.Kept.{JournalView}
 use Rattle.sd_journal.specs.Legal.{IsAbove}
-use Rattle.sd_journal.specs.Marked.{IsTracked, Marked, entries_of, is_due, is_of, is_opened}
+use Rattle.sd_journal.specs.Marked.{Marked, entries_of, is_due, is_of, is_opened}
 use Rattle.sd_pagetable.specs.Contents.{Contents, plain_of}
 use Rattle.sd_pagetable.specs.Tracking.{IsBeginning, clears, is_dirty, since, touches}
 use Rattle.sd_core.specs.declared.numbers.Numbers.{Numbers}
@@ -32,8 +31,7 @@ none_of lane one is = nobody_out lane one.id (id_there nothing_asked lane one is
 
 -- the base is the last pair of a journal without entries
 pub base_is_last : (number : Option ℕ) (base : PlainMemory) → IsLastPair (record { number = number; memory = base; origin = origins.Opened; folded = 0 }) [] (shown_base number base)
-base_is_last None base = refl
-base_is_last (Some number) base = (refl, ap (λ b. if b then Some base else None) (eq-eqb number number refl))
+base_is_last number base = grind arith
 
 -- ---- its invariant
 
@@ -43,14 +41,7 @@ due_at_first base opened space page =
 
 pub start_journal : (base : Base) (journal : JournalView) (memory : Contents) (number : Option ℕ) → base.origin ≡ origins.Opened → IsBeginning memory → plain_of memory ≡ base.memory → base.number ≡ number → base.folded ≡ 0
     → journal.items ≡ [] → journal.first ≡ 0 → journal.limit ≡ 1048576 → IsJournal base journal memory None number
-start_journal base journal memory number opened begins same own none_folded items first limit = record {
-  tracked = subst (λ all. IsTracked base all memory) (sym items) (record { marked = tt; memory = same; bits = record { soft_dirty = λ space page at there. (begins space page at there).0 ∙ sym (due_at_first base opened space page); writable = λ space page at there. (begins space page at there).1 }; swept = tt });
-  first = first ∙ sym none_folded;
-  limit = limit;
-  frozen_for = ap (λ all. pending (entries_of all)) (sym items);
-  newest_is = sym own ∙ ap (λ all. last base (entries_of all)) (sym items);
-  settled = inl (sym own);
-}
+start_journal base journal memory number opened begins same own none_folded items first limit = grind arith
 
 pub start_numbers : (base : Base) (items : Marked) (number : Option ℕ) (numbers : Numbers) → base.number ≡ number → items ≡ [] → IfSome number (λ n. n ≡ numbers.begun)
     → numbers.checkpoint ≡ numbers.begun → numbers.serial ≡ 0 → numbers.given ≡ 0 → AreSoundNumbers base items None number numbers
@@ -68,5 +59,4 @@ start_numbers base items number numbers own none begun checkpoint serial given =
     below (Some m) n is above = omega (arith, is, above)
 
     newest : (number : Option ℕ) → IfSome number (λ m. m ≡ numbers.begun) → IfSome number (λ m. m ≤ numbers.begun)
-    newest None is = tt
-    newest (Some m) is = omega (arith, is)
+    newest number is = grind arith

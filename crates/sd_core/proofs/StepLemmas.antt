@@ -24,20 +24,7 @@ pub hands_asked : (old new : CoreView) (running : Running) (image next : Making)
     → ((asked : List (Option Asked)) (bodies files : List (List ℕ)) → AsksFor old running image number step request next new → Believes old asked bodies files
     → Believes new (slice_set asked 0 (Some request)) bodies files)
     → HandsOut old Dumper request new
-hands_asked old new running image next number step request a whose slot goes = record {
-  lane = 0;
-  free = a.free;
-  base = a.rest.base;
-  history = a.history;
-  phases = a.phases;
-  outs = a.outs;
-  whose = whose.worker;
-  slot = slot;
-  apart = λ lane other out same. absurd (a.apart lane other out same);
-  pages = λ few. absurd (omega (arith, few));
-  beside = λ lane other out same. absurd (a.apart lane other out same);
-  goes_on = λ asked bodies files b. goes asked bodies files a b;
-}
+hands_asked old new running image next number step request a whose slot goes = grind arith
 
 -- the write of a page
 pub hands_page : DumperSteps → (old new : CoreView) (running : Running) (image next : Making) (number lane : ℕ) (request : Asked)

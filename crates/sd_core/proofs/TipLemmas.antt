@@ -1,25 +1,22 @@
 -- Whether a catalog shows a checkpoint, and the serials of its images.
-use Rattle.std.proofs.Common.{◌≡◌, ℕ, zero, suc, ◌||◌, Bool, true, false, List, [], ◌∷◌, ◌++◌, map, take, slice_get, is_some, Option, Some, None, Bor, refl, sym, ◌∙◌, ap}
+use Rattle.std.proofs.Common.{◌≡◌, ℕ, zero, suc, ◌||◌, Bool, true, false, List, [], ◌∷◌, ◌++◌, map, take, slice_get, is_some, Option, Some, None, Bor, refl, sym, ◌∙◌, ap, arith}
 use Rattle.std.specs.List.{list_any}
 use Rattle.std.proofs.lemmas.List.Folds.{list_any_none}
 use Rattle.std.proofs.lemmas.Option.{same_Some, slice_get-get_or}
 use Rattle.std.proofs.Math.Bool.{or-true}
 use Rattle.sd_chain.specs.Catalog.{IsNewestChoice, Opened, Places, images, serial_of}
 use Rattle.sd_image.specs.declared.header.Kind.{Kind}
-use Rattle.sd_image.specs.declared.header.Kind.TheVariants.{PreDump, Dump, Merged}
+use Rattle.sd_image.specs.declared.header.Kind.TheVariants.{PreDump}
 use Rattle.sd_core.specs.Merging.{has_tip, is_restored}
 
 abbrev restored : Opened → Bool
 restored i = is_restored i.header.kind
 
 restored_kind : (kind : Kind) → (kind ≡ PreDump → ⊥) → is_restored kind ≡ true
-restored_kind PreDump other = absurd (other refl)
-restored_kind _ other = refl
+restored_kind kind other = grind arith
 
 not_restored : (kind : Kind) → ((kind ≡ PreDump → ⊥) → ⊥) → is_restored kind ≡ false
-not_restored PreDump not_other = refl
-not_restored Dump not_other = absurd (not_other (λ is. (let no : Dump ≡ PreDump = is in cc)))
-not_restored Merged not_other = absurd (not_other (λ is. (let no : Merged ≡ PreDump = is in cc)))
+not_restored kind not_other = grind arith
 
 any_at : (all : List Opened) (place : ℕ) (i : Opened) → slice_get all place ≡ Some i → restored i ≡ true → list_any restored all ≡ true
 any_at [] place i at is = absurd (let no : None ≡ Some i = at in cc)
@@ -48,5 +45,4 @@ serials_more (x ∷ all) zero i at = ap (λ (o : Bor Opened). o.now.header.seria
 serials_more (x ∷ all) (suc place) i at = ap (λ rest. x.now.header.serial ∷ rest) (serials_more all place i at)
 
 pub never_some : {X : Type 0} (one : Option X) → ((x : X) → one ≡ Some x → ⊥) → one ≡ None
-never_some None none = refl
-never_some (Some x) none = absurd (none x refl)
+never_some one none = grind arith

@@ -12,7 +12,7 @@ use Rattle.sd_journal.specs.Marked.{IsMarked, IsTracked, Marked, Noted, Told, en
 use Rattle.sd_journal.specs.TrackedLaws.{TrackedLaws, before_freeze}
 use Rattle.sd_journal.specs.Trimming.{HasVisited, IsFolded, MarkedTrimLaws, TrimLaws, base_after}
 use Rattle.sd_rounds.specs.declared.stage.Stage.{Stage}
-use Rattle.sd_rounds.specs.declared.stage.Stage.TheVariants.{Format, Freeze as FreezeStage, Pass as PassStage, Close}
+use Rattle.sd_rounds.specs.declared.stage.Stage.TheVariants.{Close}
 use Rattle.sd_rounds.specs.Dumper.{Running, is_frozen_image}
 use Rattle.sd_rounds.specs.LittleWork.{TakesVisited}
 use Rattle.sd_rounds.specs.Making.{Making, is_frozen_dump}

@@ -19,7 +19,6 @@ use Rattle.sd_merge.specs.Merger as merger
 use Rattle.sd_opener.specs.Looking.{Looking}
 use Rattle.sd_pagetable.specs.Contents.{Contents}
 use Rattle.sd_rounds.specs.declared.stage.Stage.{Stage}
-use Rattle.sd_rounds.specs.declared.stage.Stage.TheVariants.{Format, Freeze as FreezeStage, Pass as PassStage, Close}
 use Rattle.sd_rounds.specs.Dumper.{AreRunning, Dumping, HasSlot, IsItsImage, Running, order_of, out_of_image, out_of_running, serial_of_running, slot_of, writes_of_image, writes_of_running}
 use Rattle.sd_rounds.specs.Making.{Making, is_frozen_dump, out_of}
 use Rattle.sd_rounds.specs.Pass.{data_pages}
@@ -32,20 +31,18 @@ use Rattle.sd_crash_safety.specs.Merges.{IsOtherImage, IsSpared, MakesOther}
 use Rattle.sd_core.specs.Grown.{AreFlags, IsGated}
 use Rattle.sd_core.specs.declared.numbers.Numbers.{Numbers}
 use Rattle.sd_core.specs.Visited.{HasSwept}
-use Rattle.sd_core.proofs.JournalLemmas.{same_journal}
 use Rattle.sd_core.proofs.MergeLemmas.{asks_apart, fills_same, merging_stays}
 use Rattle.sd_core.proofs.OutsLemmas.{dumper_outs, lane_at, no_write, on_slot, open_outs}
 use Rattle.sd_core.proofs.PreDumpLemmas.{TheyStay, pre_dumps_stay}
 use Rattle.sd_core.proofs.SettledLemmas.{settled_more}
 use Rattle.sd_core.specs.Images.{begun_as}
 use Rattle.sd_core.specs.LittleWork.{HasLittle, TakesLittle}
-use Rattle.sd_core.specs.Sound.{AreOuts, AreSoundNumbers, CheckpointRuns, CheckpointsAreCounted, HasWrites, IsCore, IsImageInMaking, IsJournal, IsOpening, IsVisiting, IsVisitingIn, MergeRuns, Parts, begun_images, due_serials, frozen_by, held_for}
+use Rattle.sd_core.specs.Sound.{AreOuts, AreSoundNumbers, CheckpointRuns, CheckpointsAreCounted, HasWrites, IsCore, IsImageInMaking, IsJournal, IsVisiting, IsVisitingIn, MergeRuns, Parts, begun_images, due_serials, frozen_by, held_for}
 
 -- ---- where none runs
 
 none_runs : {P : Running → Type 0} (running : Option Running) → IfSome running P → ((r : Running) → P r → ⊥) → running ≡ None
-none_runs None work none = refl
-none_runs (Some running) work none = absurd (none running work)
+none_runs running work none = grind arith
 
 -- no checkpoint runs while the store isn't open
 pub none_closed : (core : Parts) → IsCore core → core.standing ≢ Open → core.dumper.running ≡ None
@@ -93,22 +90,7 @@ pub record IsWorking (core : Parts) (running : Running) : Type 0 where
   pub gated : IsGated core.swept running
 
 pub core_working : (core : Parts) (running : Running) → core.dumper.running ≡ Some running → IsWorking core running → IsCore core
-core_working core running is w = record {
-  journal_is = w.journal_is;
-  held = w.held ∙ ap (λ r. held_for core.frozen r None) (sym is) ∙ ap (held_for core.frozen core.dumper.running) (sym w.work.closed);
-  outs_are = subst (λ r. AreOuts core.standing core.outs core.phases r core.merger core.opener) (sym is)
-      (subst (λ o. AreOuts core.standing core.outs core.phases (Some running) core.merger o) (sym w.work.closed) w.outs_are);
-  opening = subst (λ o. IfSome o (IsOpening core.standing core.phases)) (sym w.work.closed) tt;
-  numbers_are = w.numbers_are;
-  counted = w.counted;
-  rests = λ none. absurd (let no : None ≡ Some running = sym none ∙ is in cc);
-  swept_is = w.swept_is;
-  flags_are = w.flags_are;
-  gated = subst (λ r. IfSome r (IsGated core.swept)) (sym is) w.gated;
-  work = subst (λ r. IfSome r (CheckpointRuns core.base core.journal.items core.frozen core.standing core.phases core.places core.merger core.opener core.numbers)) (sym is) w.work;
-  little = subst (λ r. IfSome r (HasLittle core.base core.journal.items core.memory)) (sym is) w.little;
-  merging = subst (λ r. IfSome core.merger (MergeRuns core.standing core.phases core.places core.opener core.numbers core.room r)) (sym is) w.merging;
-}
+core_working core running is w = grind arith
 
 -- ---- numbers
 
@@ -140,16 +122,10 @@ numbers_same base items frozen newest old new same was =
     }
 
 pub counted_same : (places : Places) (old new : Numbers) → SameNumbers old new → CheckpointsAreCounted old places → CheckpointsAreCounted new places
-counted_same places old new same was serial o at =
-    let checkpoint = same.checkpoint in
-    let below = was serial o at in
-    omega (arith, checkpoint, below)
+counted_same places old new same was serial o at = grind arith
 
 below-eqb : (a b : ℕ) → a < b → (a == b) ≡ false
-below-eqb a b below = elim (eqb_tells a b) [
-  | inl same ↦ absurd (let is = same.1 in omega (arith, is, below))
-  | inr other ↦ other.0
-]
+below-eqb a b below = grind arith
 
 -- a mark with a serial that was given out
 pub numbers_noted : (base : Base) (items : Marked) (frozen newest : Option ℕ) (numbers : Numbers) (mark : Mark) → mark_serial mark ≤ numbers.given
@@ -224,8 +200,7 @@ merger_out core id sound stands out =
     (sound.outs_are.within 1 id at, sound.outs_are.whose 1 id at)
 
 pub held_same : (frozen : Option ℕ) (one other : Running) (opener : Option Looking) → held_for frozen (Some one) opener ≡ held_for frozen (Some other) opener
-held_same (Some n) one other opener = refl
-held_same None one other opener = refl
+held_same frozen one other opener = grind arith
 
 pub held_at_work : (core : Parts) (running : Running) → IsCore core → core.dumper.running ≡ Some running → core.journal.held ≡ held_for core.frozen (Some running) None
 held_at_work core running sound is = sound.held ∙ ap (λ r. held_for core.frozen r core.opener) is ∙ ap (held_for core.frozen (Some running)) (at_work core running sound is).closed
@@ -298,21 +273,7 @@ turned {core} {journal} {memory} {phases} {outs} {places} {dumper} {numbers} {co
 -- ---- more room in the journal
 
 pub grown_core : (core : Parts) (journal : JournalView) → IsCore core → HasGrown core.journal journal → IsCore (record core { journal = journal })
-grown_core core journal sound grown = record {
-  journal_is = same_journal core.base core.journal journal core.memory core.frozen core.newest grown.first grown.items grown.limit sound.journal_is;
-  held = grown.held ∙ sound.held;
-  outs_are = sound.outs_are;
-  opening = sound.opening;
-  numbers_are = subst (λ all. AreSoundNumbers core.base all core.frozen core.newest core.numbers) (sym grown.items) sound.numbers_are;
-  counted = sound.counted;
-  rests = sound.rests;
-  swept_is = sound.swept_is;
-  flags_are = subst (λ all. AreFlags core.base all core.swept core.grows core.committing) (sym grown.items) sound.flags_are;
-  gated = sound.gated;
-  work = subst (λ all. IfSome core.dumper.running (CheckpointRuns core.base all core.frozen core.standing core.phases core.places core.merger core.opener core.numbers)) (sym grown.items) sound.work;
-  little = subst (λ all. IfSome core.dumper.running (HasLittle core.base all core.memory)) (sym grown.items) sound.little;
-  merging = sound.merging;
-}
+grown_core core journal sound grown = grind arith
 
 -- ---- the image in the making
 
@@ -396,14 +357,7 @@ open_more old new serial other o changes none there = changes other ∙ by (eqb_
 
 pub applied_numbers : (base : Base) (items : Marked) (frozen newest : Option ℕ) (numbers : Numbers) (seat : ℕ) (command : Command) (reply : Reply)
     → AreSoundNumbers base items frozen newest numbers → AreSoundNumbers base (Told (Applied seat command reply) ∷ items) frozen newest numbers
-applied_numbers base items frozen newest numbers seat command reply was = record {
-  used = was.used;
-  newest_used = was.newest_used;
-  frozen_used = was.frozen_used;
-  marks = was.marks;
-  checkpoints = was.checkpoints;
-  serials = was.serials;
-}
+applied_numbers base items frozen newest numbers seat command reply was = grind arith
 
 image_applied : (items : Marked) (places : Places) (numbers : Numbers) (image : Making) (seat : ℕ) (command : Command) (reply : Reply)
     → IsImageInMaking items places numbers image → IsImageInMaking (Told (Applied seat command reply) ∷ items) places numbers image
@@ -420,32 +374,13 @@ image_applied items places numbers image seat command reply is = record {
 
     by_stage : (stage : Stage) → IsVisitingIn items image.order.serial image.pass stage
         → IsVisitingIn (Told (Applied seat command reply) ∷ items) image.order.serial image.pass stage
-    by_stage (Close plan header tables) v = tt
-    by_stage _ v = same v
+    by_stage stage v = grind arith
 
 image_applied_some : (items : Marked) (places : Places) (numbers : Numbers) (image : Option Making) (seat : ℕ) (command : Command) (reply : Reply)
     → IfSome image (IsImageInMaking items places numbers) → IfSome image (IsImageInMaking (Told (Applied seat command reply) ∷ items) places numbers)
-image_applied_some items places numbers None seat command reply is = tt
-image_applied_some items places numbers (Some image) seat command reply is = image_applied items places numbers image seat command reply is
+image_applied_some items places numbers image seat command reply is = grind arith
 
 pub applied_work : (base : Base) (items : Marked) (frozen : Option ℕ) (stands : Standing) (phases : List Phase) (places : Places) (merge : Option merger.Running) (opener : Option Looking) (numbers : Numbers)
     (running : Option Running) (seat : ℕ) (command : Command) (reply : Reply) → IfSome running (CheckpointRuns base items frozen stands phases places merge opener numbers)
     → IfSome running (CheckpointRuns base (Told (Applied seat command reply) ∷ items) frozen stands phases places merge opener numbers)
-applied_work base items frozen stands phases places merge opener numbers None seat command reply work = tt
-applied_work base items frozen stands phases places merge opener numbers (Some running) seat command reply work = record {
-  stands = work.stands;
-  closed = work.closed;
-  pends = work.pends;
-  above = work.above;
-  some = work.some;
-  number = work.number;
-  few = work.few;
-  serials = work.serials;
-  within = work.within;
-  apart = work.apart;
-  pre_dumps = work.pre_dumps;
-  asked = work.asked;
-  whose = work.whose;
-  writes = work.writes;
-  image = image_applied_some items places numbers running.image seat command reply work.image;
-}
+applied_work base items frozen stands phases places merge opener numbers running seat command reply work = grind arith

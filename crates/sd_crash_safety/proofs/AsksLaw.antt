@@ -84,7 +84,7 @@ module _ (quiet : QuietSteps) (gates : GateSteps) (made : MadeLaws) (follows : C
   none = same_Some m.request None (sym m.own ∙ free)
 
   slot_is : IsSlotFor image.stage image.order m.pages m.phase (file_at bodies slot) None m.belief b.dump
-  slot_is  = grind (arith, body_still, plan_outside)
+  slot_is = grind (arith, body_still, plan_outside)
 
   on : request.id.slot ≡ slot
   on = asks.gives.slot ∙ plan_on image.stage image.order m.pages m.phase (file_at bodies slot) None m.belief b.dump asks.plan asks.was slot_is
@@ -221,7 +221,7 @@ module _ (quiet : QuietSteps) (gates : GateSteps) (made : MadeLaws) (follows : C
     checkpoint_is = ap (λ (x : Image). x.header.checkpoint) staged.4 ∙ ap (λ h. h.checkpoint) filed.numbers ∙ ap (λ o. o.checkpoint) s.own
 
     falls : i.header.parent < i.header.stands_for
-    falls  = grind arith
+    falls = grind arith
 
     fresh : IsFresh b.store i
     fresh = fresh_of b.store i image.order.serial serial_is stands_is falls m.fresh

@@ -47,7 +47,7 @@ module _ (quiet : QuietSteps) (gates : GateSteps) (needs : NeedsNoMore) (old new
       (quiet.cancelled old.base (history_of old) old.phases asked bodies b.store b.beliefs n has_none)
 
   parts : HasParts new old.base (Cancelled n ∷ history_of old) new.catalog false old.memory old.phases old.numbers.serial None old.merger
-  parts  = grind arith
+  parts = grind arith
 
   beside : LeavesMerge old.numbers.serial b.store old.dumper.running (slots_at old.phases bodies b.beliefs) old.numbers.serial (cancelled b.store) None (slots_at old.phases bodies b.beliefs)
   beside = record {

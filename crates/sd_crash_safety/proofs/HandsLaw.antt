@@ -232,7 +232,7 @@ module _ (making : MakingLaws) (old new : CoreView) (running : Running) (image n
   lanes_same = lanes_beside asked 0 None (omega arith)
 
   slot_was : IsSlotFor image.stage image.order m.pages phase (file_at bodies slot) (Some made.request) m.belief b.dump
-  slot_was  = grind (arith, body_still)
+  slot_was = grind (arith, body_still)
 
   calls_same : nplan.calls ≡ go.plan.calls
   calls_same = calls_of_done go.plan made (known_plan image.order image.pass image.stage go.plan go.awaited.was s.sound.ready) go.done
@@ -257,7 +257,7 @@ module _ (making : MakingLaws) (old new : CoreView) (running : Running) (image n
   phase_then = ap (slice_get phases_now) (sym on) ∙ ap (λ p. slice_get p call_slot) done_phases ∙ set_same old.phases call_slot phase (after phase made.request.id.call true) s.outcome.phase_is
 
   body_then : file_at bodies_now slot ≡ body_after (file_at bodies slot) made.request.id.call made.request.bytes
-  body_then  = grind (arith, slice_get_within, file_set)
+  body_then = grind (arith, slice_get_within, file_set)
 
   own_then : slice_get asked_now 0 ≡ Some None
   own_then = set_same asked 0 (Some made.request) None at

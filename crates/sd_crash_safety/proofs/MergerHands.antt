@@ -265,7 +265,7 @@ module _ (quiet : QuietSteps) (making : MakingLaws) (merges : MergeLaws) (files_
     phase_same = same_Some c.phase phase (sym c.phase_is ∙ ap (slice_get old.phases) (sym on) ∙ s.outcome.phase_is)
 
     slot_was : IsSlotFor (stage_in_slot made.stage) order c.pages phase (file_at bodies target) (Some call.request) c.belief None
-    slot_was  = grind arith
+    slot_was = grind arith
 
     calls_same : nplan.calls ≡ go.plan.calls
     calls_same = calls_of_done go.plan call (own_known made.stage made.entries made.taking made.read go.plan own s.sound.ready go.awaited.was) go.done
@@ -333,7 +333,7 @@ module _ (quiet : QuietSteps) (making : MakingLaws) (merges : MergeLaws) (files_
     whole_then = set_same old.phases slot phase (after phase call.request.id.call (is_done call.answer)) s.outcome.phase_is ∙ ap Some (looked call.request.id.call r.call phase phase_whole (is_done call.answer))
 
     body_still : file_at (bodies_then bodies call) slot ≡ file_at bodies slot
-    body_still  = grind (arith, slice_get_within, file_set)
+    body_still = grind (arith, slice_get_within, file_set)
 
     not_closing : closes_for_sure phase call.request.id.call ≡ false
     not_closing = ap (λ p. closes_for_sure p call.request.id.call) phase_whole
@@ -369,7 +369,7 @@ module _ (quiet : QuietSteps) (making : MakingLaws) (merges : MergeLaws) (files_
 
     -- the bytes that came back are those of the page
     file_is : file_at files slot ≡ gate ∷ file_at bodies slot
-    file_is  = grind arith
+    file_is = grind arith
 
     bytes_are : call.request.bytes ≡ r.bytes
     bytes_are = page_told in_file (file_at files slot) r.image r.place r.bytes call (subst (λ file. IsImage file r.image) (sym file_is) r.spelled) r.stored r.call r.whole (told.told go.done)
@@ -382,7 +382,7 @@ module _ (quiet : QuietSteps) (making : MakingLaws) (merges : MergeLaws) (files_
     ))
 
     none_left : nplan.calls ≡ []
-    none_left  = grind arith
+    none_left = grind arith
 
     passes : stage_then ≡ copy.Pass
     passes = ap (copy_after made.stage nplan) none_left
@@ -422,7 +422,7 @@ module _ (quiet : QuietSteps) (making : MakingLaws) (merges : MergeLaws) (files_
         ∙ ap Some (ap (λ d. after phase call.request.id.call d) go.done ∙ ap (λ x. after phase x true) write.call ∙ ap filled (sym same_phase) ∙ filled_was.fills)
 
     body_written_there : file_at (bodies_then bodies call) target ≡ body_after (file_at bodies target) call.request.id.call call.request.bytes
-    body_written_there  = grind (arith, slice_get_within, bodies_then, file_set)
+    body_written_there = grind (arith, slice_get_within, bodies_then, file_set)
 
     has_written : HasStore old.base (history_of old) (phases_then old call phase) (asked_then asked) (bodies_then bodies call) b.store b.dump b.beliefs
     has_written = has_handed old new call phase asked bodies files s.outcome at b quiet
@@ -458,7 +458,7 @@ module _ (quiet : QuietSteps) (making : MakingLaws) (merges : MergeLaws) (files_
     }
 
     over : stage_then ≡ copy.Pass
-    over  = grind arith
+    over = grind arith
 
     goes_on_written : Believes new (asked_then asked) (bodies_then bodies call) files
     unfolding written_handed

@@ -160,7 +160,7 @@ module _ (quiet : QuietSteps) (gates : GateSteps) (making : MakingLaws) (keeps :
   no_more = sym (calls_of_done s.opens.plan call (subst (IsReadyFor made.entries made.taking made.read) s.opens.was s.sound.ready).2.known s.opens.done) ∙ s.opens.last
 
   closing_was : ClosesBody order i s.opens.plan phase (file_at bodies target) (Some call.request) c.belief None
-  closing_was  = grind arith
+  closing_was = grind arith
 
   opened_then : IsOpenThen order i phase (file_at bodies target) call.request c.belief None
   opened_then = open_then order i s.opens.plan phase (file_at bodies target) call.request c.belief None closing_was no_more
@@ -174,7 +174,7 @@ module _ (quiet : QuietSteps) (gates : GateSteps) (making : MakingLaws) (keeps :
   kind_is = ap (λ h. h.kind) filed.numbers
 
   numbers : IsRepeated last running source i
-  numbers  = grind arith
+  numbers = grind arith
 
   -- ---- its slot
 
@@ -409,7 +409,7 @@ module _ (quiet : QuietSteps) (gates : GateSteps) (making : MakingLaws) (keeps :
     here = subst (λ n. SlotHasImage beliefs_now n j) m.slot its.2
 
     has : image_at beliefs_now one.slot ≡ Some j
-    has  = grind arith
+    has = grind arith
 
     at_it : (o : Opened) × (place_of places j.header.serial ≡ Some (Some o)) × IsToldAs o j × (o.slot ≡ one.slot)
     at_it = catalog_then.opened one.slot j here

@@ -358,7 +358,7 @@ module _ (quiet : QuietSteps) (gates : GateSteps) (making : MakingLaws) (closing
       ∙ set_same old.phases made.request.id.slot phase (after phase made.request.id.call true) o.phase_is
 
   pub handed_body : file_at bodies_now slot ≡ body_after (file_at bodies slot) made.request.id.call made.request.bytes
-  handed_body  = grind (arith, slice_get_within, file_set)
+  handed_body = grind (arith, slice_get_within, file_set)
 
   -- with the store and the beliefs as they are then
   module _ (store : Store) (later : List Belief) (there : slice_get later slot ≡ Some belief_now) (others : (k : ℕ) → k ≢ slot → slice_get later k ≡ slice_get b.beliefs k)

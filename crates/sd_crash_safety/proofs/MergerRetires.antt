@@ -196,7 +196,7 @@ module _ (quiet : QuietSteps) (gates : GateSteps) (making : MakingLaws) (closing
       ∙ set_same old.phases made.request.id.slot phase (after phase made.request.id.call true) s.outcome.phase_is
 
   body_there : file_at (bodies_then bodies made) slot ≡ body_after (file_at bodies slot) made.request.id.call made.request.bytes
-  body_there  = grind (arith, slice_get_within, bodies_then, file_set)
+  body_there = grind (arith, slice_get_within, bodies_then, file_set)
 
   believes_merge : (later : Option merger.Running) → new.merger ≡ later
       → IsMergeOn (phases_then old made phase) (asked_then asked) (bodies_then bodies made) last h.store h.later running later

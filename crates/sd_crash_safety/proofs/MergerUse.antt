@@ -53,7 +53,7 @@ module _ (follows : CatalogFollows) (making : MakingLaws) (base : Base) (history
   image_here k its = ap (image_at then) its ∙ ap (λ o. option_and_then image_in o) changed.there
 
   leaves : LeavesWork store running memory (slots_at phases bodies beliefs) last last store (slots_at phases bodies then)
-  leaves  = grind arith
+  leaves = grind arith
 
   pub use_then : IsInUseOn base history places grows memory phases asked_now bodies last store dump then running
   use_then = record {

@@ -284,7 +284,7 @@ module _ (old new : CoreView) (made : Made) (phase : Phase) (asked : List (Optio
     out = looks_out (length opener.told) (file_at files (length opener.told)) made.request opener.stage before.slot
 
     told_of : IsToldOf (file_at files (length opener.told)) made.request made
-    told_of  = grind arith
+    told_of = grind arith
 
     then_phases : handed_phases ≡ slice_set old.phases slot (after phase made.request.id.call true)
     then_phases = ap (λ done. slice_set old.phases slot (after phase made.request.id.call done)) t.done

@@ -156,7 +156,7 @@ module _ (quiet : QuietSteps) (gates : GateSteps) (file : FileLaws) (gives : Ste
   no_more = sym (calls_of_done s.opens.plan made (known_plan image.order image.pass image.stage s.opens.plan plan_is s.sound.ready) s.opens.done) ∙ s.opens.last
 
   closing_was : ClosesBody image.order i s.opens.plan phase (file_at bodies slot) (Some made.request) m.belief b.dump
-  closing_was  = grind (arith, body_still)
+  closing_was = grind (arith, body_still)
 
   opened_then : IsOpenThen image.order i phase (file_at bodies slot) made.request m.belief b.dump
   opened_then = open_then image.order i s.opens.plan phase (file_at bodies slot) made.request m.belief b.dump closing_was no_more
@@ -173,7 +173,7 @@ module _ (quiet : QuietSteps) (gates : GateSteps) (file : FileLaws) (gives : Ste
   parent_is = ap (λ h. h.parent) filed.numbers ∙ ap (λ o. o.parent) s.own
 
   falls : i.header.parent < i.header.stands_for
-  falls  = grind arith
+  falls = grind arith
 
   next_is : IsNext b.store i
   next_is = record {
@@ -385,7 +385,7 @@ module _ (quiet : QuietSteps) (gates : GateSteps) (file : FileLaws) (gives : Ste
         own_slot = ap (λ o. o.slot) s.own
 
         few : running.opened < length running.pre_dumps
-        few  = grind arith
+        few = grind arith
 
     pub pre_dump_lem : Believes new asked_now bodies_now files
     pre_dump_lem = believes_parts new old.base history new.catalog old.grows old.memory phases_now old.numbers.serial (Some (after_pre_dump running opened)) old.merger

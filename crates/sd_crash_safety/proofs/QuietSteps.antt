@@ -114,7 +114,7 @@ module _ (base : Base) (history : History) (phases : List Phase) (asked : List (
 
     own_may : MayBelieve (after o.phase made.request.id.call (is_done made.answer))
         (body_after (file_at bodies slot) made.request.id.call made.request.bytes) own.belief
-    own_may  = grind arith
+    own_may = grind arith
 
     -- a request on another slot is covered as before
     other_covered : (r : Asked) → r.id.slot ≢ slot → IsCovered phases bodies beliefs r → IsCovered next_phases next_bodies beliefs r

@@ -134,4 +134,4 @@ module _ (outside outside' : Outside) (events events' : List DiskEvent) (event :
   since_noted t c left = subst (λ o. LeftSince o (event ∷ events) t c) same (subst (λ es. LeftSince outside' es t c) noted left)
 
   pub time_noted : Elapses (length events) (length events') (LeftSince outside events) (LeftSince outside' events') (MayLeave outside' events')
-  time_noted  = grind arith
+  time_noted = grind arith

@@ -9,7 +9,7 @@ use Rattle.sd_disk.proofs.StepLemmas.{at_slot}
 
 module _ (slots : List SlotFile) (i : ℕ) (old new : SlotFile) (is_slot : i < length (map held slots)) (is : old ≡ slice_index_or slots i old) where
   pub file_read : file_at (map held slots) i ≡ held old
-  file_read  = grind (arith, length-map, get_or-map)
+  file_read = grind (arith, length-map, get_or-map)
 
   pub slot_changed : (change : List ℕ → List ℕ) → held new ≡ change (held old)
       → map held (slice_set slots i new) ≡ slice_set (map held slots) i (change (file_at (map held slots) i))

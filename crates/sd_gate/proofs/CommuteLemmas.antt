@@ -48,7 +48,7 @@ module _ (file first second : List ℕ) (i j : ℕ) (apart : (i + length first �
   other = file_after_write (file_after_write file j second) i first
 
   same_length : length one ≡ length other
-  same_length  = grind (arith, length_after)
+  same_length = grind (arith, length_after)
 
   -- a place that the first write sets lies outside the second
   in_first : (k : ℕ) → i ≤ k → k < i + length first → (k < j) ⊎ (j + length second ≤ k)

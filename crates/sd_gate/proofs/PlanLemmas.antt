@@ -193,7 +193,7 @@ module _ {D : Type 0} (g : Ghosts D) where
 
       found_is : found_after given.found outcome.answer (buffer_back outcome.request.id.call outcome.request.bytes) ≡ found
       unfolding found
-      found_is  = grind arith
+      found_is = grind arith
 
       plan_is : plan_after given outcome ≡ next
       unfolding next

@@ -52,7 +52,7 @@ filed law order source entries pages header tables numbers words own table count
     serial = (let a : 0 < order.source.stands_for = own.stands in let b : order.source.stands_for < order.serial = own.below in omega arith)
 
     complete : IsComplete (image_of header pages tables)
-    complete  = grind arith
+    complete = grind arith
 
 files : ((l : List Listed) → Lists (entries_listed l) l) → TextIsImage → (ticket : ℕ) (places : Places) (catalog : List Image) (source : Image) (pages : Pages) (old new : Copying) (request : Asked)
     → Steps ticket places old (step.TableCall request) new → IsSourceAt places catalog old.order.source.serial source → IsRestorable source → AreItsNumbers old.order

@@ -110,7 +110,7 @@ longer_space front last new at kind are ends here same_space runs end = record {
     was = gathered_last 0 (listed front) (listing_of last) old
 
     more : table_entries (listing_of new) ≡ table_entries (listing_of last) ++ (record { place = at; kind = kind }) ∷ []
-    more  = grind (arith, runs_entries)
+    more = grind (arith, runs_entries)
 
 -- another space begins
 more_spaces : (old new : List SpaceTable) (at : Place) (kind : RunKind) → AreGathered 0 (listed old) → EndBefore at (listed old)

@@ -41,7 +41,7 @@ module _ (m : Contents) (parent child : ℕ) (dead : is_alive m.spaces child ≡
   same_members k = grind (arith, total_within-insert, dead_inside, total-empty, bare_weight)
 
   pub more_pages : page_count (with_space m child copy).spaces ≡ page_count m.spaces + finmap.len (inside m.spaces parent)
-  more_pages  = grind (arith, total_within-insert, dead_inside, total-empty, len_total, same_many)
+  more_pages = grind (arith, total_within-insert, dead_inside, total-empty, len_total, same_many)
 
   from_bare : (o : Option PageState) (y : PageState) → option_map bare_page o ≡ Some y → (x : PageState) × (o ≡ Some x) × (y ≡ bare_page x)
   from_bare o y e = grind arith

@@ -74,7 +74,7 @@ module _ (m : Contents) (s p : ℕ) (x : PageState) (hole : page_at m s p ≡ No
   added_members k = (let a = total_within-put (share_of k) m.spaces s p x in let b : option_map_or (share_of k) (page_at m s p) 0 ≡ 0 = ap (λ o. option_map_or (share_of k) o 0) hole in omega (arith, a, b))
 
   added_nonzero : nonzero_pages (plain_of (put_page m s p x)) ≡ nonzero_pages (plain_of m) + frames_for (plain_page x)
-  added_nonzero  = grind (arith, total_within-put, plain_at, plain_put)
+  added_nonzero = grind (arith, total_within-put, plain_at, plain_put)
 
   added_at : (q r : ℕ) (y : PageState) → page_at (put_page m s p x) q r ≡ Some y → ((is_at s p q r ≡ true) × (x ≡ y)) ⊎ (page_at m q r ≡ Some y)
   added_at q r y h = grind (arith, cases_Bool, is_at, value_at-put)

@@ -71,7 +71,7 @@ module _ (old new : Pool) (tables : Nested Entry) (s p : ℕ) (size : new.size �
   view_put e = grind (arith, same_contents, same_nested, alive-map, alive-put, value_at-map, value_at-put, turned_in)
 
   pub view_remove : contents_of new (remove_at tables s p) ≡ remove_page (contents_of old tables) s p
-  view_remove  = grind (arith, same_contents, same_nested, alive-map, alive-remove, value_at-map, value_at-remove, turned_out)
+  view_remove = grind (arith, same_contents, same_nested, alive-map, alive-remove, value_at-map, value_at-remove, turned_out)
 
 pub same_pool : (pool : Pool) (tables : Nested Entry) (s p : ℕ) → SameOthers pool pool tables s p
 same_pool pool tables s p q r e a h = refl

@@ -1,15 +1,14 @@
 -- The clears of a space's pages as a history.
-use Rattle.std.proofs.Common.{◌≡◌, ◌≢◌, ◌⊎◌, ◌<◌, ◌≤◌, ℕ, Bool, true, false, cond, nat_lt, nat_eq, ◌&&◌, ◌||◌, List, [], ◌∷◌, map, Option, Some, None, IsSome, is_some, IfSome, refl, sym, ◌∙◌, ap, subst, arith, inl, inr}
+use Rattle.std.proofs.Common.{◌≡◌, ◌⊎◌, ◌<◌, ℕ, Bool, true, false, nat_lt, nat_eq, ◌&&◌, ◌||◌, List, [], ◌∷◌, map, Option, Some, None, is_some, IfSome, refl, sym, ◌∙◌, ap, subst, arith, inl, inr}
 use Rattle.std.specs.List.{AllByRecursion}
 use Rattle.std.specs.Option.{option_map}
-use Rattle.std.proofs.lemmas.Bool.{cases_Bool}
 use Rattle.std.proofs.lemmas.Bool.Decides.{nat_tests}
 use Rattle.sd_pagetable.specs.Page.{PageState}
 use Rattle.sd_pagetable.specs.Contents.{Contents, page_at}
-use Rattle.sd_pagetable.specs.Tracking.{MemoryEvent, Step, Cleared, Run}
+use Rattle.sd_pagetable.specs.Tracking.{Step, Cleared, Run}
 use Rattle.sd_pagetable.specs.Law.{IsClearedAt}
-use Rattle.sd_procfs.specs.Clears.{AreFalling, IsHistory, HasHistory, IsNextIn, lists_page}
-use Rattle.sd_procfs.proofs.ClearSteps.{ClearsBehind, is_behind, between, below_is, above_is, is_below, is_above}
+use Rattle.sd_procfs.specs.Clears.{AreFalling, IsNextIn, lists_page}
+use Rattle.sd_procfs.proofs.ClearSteps.{ClearsBehind, is_behind, below_is, is_below, is_above}
 
 -- the mapped pages behind the cursor were cleared, one after the other
 pub record HistoryBehind (cursor : Option ℕ) (space : ℕ) (old now : Contents) (pages : List ℕ) : Type 0 where

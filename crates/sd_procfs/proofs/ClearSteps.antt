@@ -1,15 +1,14 @@
 -- Clearing a space's pages, one after the other.
-use Rattle.std.proofs.Common.{◌≡◌, ◌≢◌, ◌⊎◌, ◌<◌, ◌≤◌, ◌-◌, ◌^◌, ℕ, Bool, true, false, nat_lt, nat_eq, ◌&&◌, List, [], ◌∷◌, Option, Some, None, IsSome, IfSome, refl, sym, ◌∙◌, ap, subst, arith, inl, inr}
-use Rattle.std.specs.List.{AllByRecursion}
+use Rattle.std.proofs.Common.{◌≡◌, ◌≢◌, ◌⊎◌, ◌<◌, ◌≤◌, ◌-◌, ◌^◌, ℕ, Bool, true, false, nat_lt, Option, Some, None, IsSome, IfSome, refl, sym, ◌∙◌, ap, arith, inl, inr}
 use Rattle.std.specs.Option.{option_map}
 use Rattle.std.proofs.lemmas.Bool.{cases_Bool}
 use Rattle.std.proofs.lemmas.Bool.Decides.{nat_tests}
 use Rattle.sd_pagetable.specs.Nested.{is_alive}
 use Rattle.sd_pagetable.specs.Page.{PageState, cleared_page}
 use Rattle.sd_pagetable.specs.Contents.{Contents, page_at}
-use Rattle.sd_pagetable.specs.Tracking.{MemoryEvent, Step, Cleared, Run, is_page}
+use Rattle.sd_pagetable.specs.Tracking.{Step, Cleared, is_page}
 use Rattle.sd_pagetable.specs.Law.{IsClearedAt, ClearLaw}
-use Rattle.sd_procfs.specs.Clears.{Clears, IsNextIn}
+use Rattle.sd_procfs.specs.Clears.{IsNextIn}
 
 -- whether a page was passed: those before the cursor, or all
 abbrev pub is_behind : Option ℕ → ℕ → Bool
@@ -33,7 +32,7 @@ never_below : (p n : ℕ) → n ≡ 0 → nat_lt p n ≡ true → ⊥
 never_below p n zero below = grind (arith, nat_tests)
 
 pub starts : (cursor : Option ℕ) (space : ℕ) (memory : Contents) → IsSome cursor → IfSome cursor (λ page. page ≡ 0) → ClearsBehind cursor space memory memory
-starts cursor space memory some h4 = grind arith
+starts cursor space memory some given = grind arith
 
 -- a test and clear, also of a page that isn't mapped
 pub tested : ClearLaw → (result : Option Bool) (space page : ℕ) (old new : Contents) → result ≡ option_map (λ (p : PageState). p.soft_dirty) (page_at old space page)

@@ -1,5 +1,5 @@
 -- Words that are written one after the other.
-use Rattle.std.proofs.Common.{◌≡◌, ◌+◌, ◌*◌, ◌≤◌, ℕ, List, [], ◌∷◌, ◌++◌, length, map, take, refl, sym, ◌∙◌, ap, arith, append-nil}
+use Rattle.std.proofs.Common.{◌≡◌, ◌+◌, ◌*◌, ◌≤◌, ℕ, List, [], ◌∷◌, ◌++◌, length, map, take, refl, ◌∙◌, ap, arith, append-nil}
 use Rattle.std.specs.List.{flat_map, range_with_len}
 use Rattle.std.specs.Int.{bytes_low_first}
 use Rattle.std.proofs.lemmas.Grind.{flat_map-append}
@@ -25,9 +25,4 @@ one_word_more memory space first count =
 pub written_more : (memory : Contents) (space first count : ℕ) (k : ℕ) (words bytes : List ℕ) → take (8 * count) words ≡ words_text memory space first count
     → 8 * count ≤ length words → bytes ≡ bytes_low_first 0 8 (word_at memory space (first + count))
     → take (8 * (count + 1)) (put_mid (8 * count) k words bytes) ≡ words_text memory space first (count + 1)
-written_more memory space first count k words bytes so_far room is =
-    let long : length bytes ≡ 8 = ap length is in
-    take-put_mid (8 * count) k words bytes (8 * (count + 1)) (omega (arith, long)) room
-    ∙ ap (λ front. front ++ bytes) so_far
-    ∙ ap (λ xs. words_text memory space first count ++ xs) is
-    ∙ sym (one_word_more memory space first count)
+written_more memory space first count k words bytes so_far room is = grind (arith, take-put_mid, one_word_more)

@@ -127,7 +127,7 @@ longer_table parent front last new at kind are ends here same_space same_areas r
     was = tables_last parent 0 (listed front) (listing_of last) old
 
     more : table_entries (listing_of new) ≡ table_entries (listing_of last) ++ (record { place = at; kind = kind }) ∷ []
-    more  = grind (arith, runs_entries)
+    more = grind (arith, runs_entries)
 
 -- another space begins
 pub more_tables : (parent : ℕ) (old new : List SpaceTable) (at : Place) (kind : RunKind) → AreTables parent 0 (listed old) → EndBefore at (listed old)

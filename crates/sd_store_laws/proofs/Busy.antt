@@ -34,13 +34,13 @@ module _ (bytes : List ℕ) where
   started = checkpoint_begun (found_store []) 0
 
   first_dump : IsNextDump started a
-  first_dump  = grind arith
+  first_dump = grind arith
 
   a_more : Adds [] a (a ∷ [])
   a_more j = (λ c. contains_cases a j [] c, λ e. elim e [ inl same ↦ subst (Contains (a ∷ [])) (sym same) (contains_front a []) | inr none ↦ absurd (contains_none j none) ])
 
   pub a_tip : IsTip (a ∷ []) a
-  a_tip  = grind arith
+  a_tip = grind arith
 
   empty_sound : IsSoundStore (found_store [])
   empty_sound = steps_keep_lem.opens [] (λ i j c e. absurd (contains_none i c)) (λ i c. absurd (contains_none i c))
@@ -56,10 +56,10 @@ module _ (bytes : List ℕ) where
 
   -- what is being opened
   pub twin : IsTwin (busy bytes).catalog (busy bytes).source m
-  twin  = grind (arith, alike_pages, restores, each_of_one)
+  twin = grind (arith, alike_pages, restores, each_of_one)
 
   pub second_dump : IsNextDump (busy bytes) d
-  second_dump  = grind arith
+  second_dump = grind arith
 
   -- the slots
   abbrev later : List Belief
@@ -111,7 +111,7 @@ module _ (bytes : List ℕ) where
   last = (a, a_tip, refl, page_memory bytes Dump 1 1 0 1 Data (bytes ∷ []) (a ∷ []) (holds_whole (a ∷ []) Dump 1 1 0 1 bytes))
 
   a_named : IsNamed (d ∷ a ∷ []) 1 a
-  a_named  = grind arith
+  a_named = grind arith
 
   pub next : ImagesShow (d ∷ a ∷ []) (Some (2, one_page_memory bytes))
   next = (

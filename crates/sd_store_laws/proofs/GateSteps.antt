@@ -27,7 +27,7 @@ less : (phase : Phase) (body : List ℕ) (belief weak : Belief) → MayBelieve p
 less phase body belief weak may weaker = record { strong = may.strong; is = may.is; weaker = λ file fits. weaker file (may.weaker file fits) }
 
 pub beliefs_weaken_lem : BeliefsWeaken
-beliefs_weaken_lem  = grind arith
+beliefs_weaken_lem = grind arith
 
 -- ---- one call
 

@@ -98,7 +98,7 @@ module _ (bytes other : List ℕ) where
   )
 
   a_named : IsNamed (a ∷ b ∷ []) 1 a
-  a_named  = grind arith
+  a_named = grind arith
 
   second_row : ImagesShow (a ∷ b ∷ []) (Some (2, one_page_memory bytes))
   second_row = (
@@ -116,7 +116,7 @@ module _ (bytes other : List ℕ) where
   three = a ∷ b ∷ m ∷ []
 
   m_named : IsNamed three 1 m
-  m_named  = grind arith
+  m_named = grind arith
 
   third_row : ImagesShow three (Some (2, one_page_memory other))
   third_row = (
@@ -205,13 +205,13 @@ module _ (bytes other : List ℕ) where
   found_differ i j c e = grind arith
 
   found_tip : IsTip (found bytes other) t
-  found_tip  = grind arith
+  found_tip = grind arith
 
   n_named : IsNamed (found bytes other) 5 n
-  n_named  = grind arith
+  n_named = grind arith
 
   n_named_later : IsNamed (d ∷ found bytes other) 5 n
-  n_named_later  = grind arith
+  n_named_later = grind arith
 
   changed : ImagesShow (d ∷ found bytes other) (Some (3, one_page_memory other))
   changed = (
@@ -239,7 +239,7 @@ module _ (bytes other : List ℕ) where
   ]
 
   w_named : IsNamed four 5 w
-  w_named  = grind arith
+  w_named = grind arith
 
   otherwise : ImagesShow four (Some (3, one_page_memory bytes))
   otherwise = (

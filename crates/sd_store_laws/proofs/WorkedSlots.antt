@@ -54,7 +54,7 @@ module _ (bytes : List ℕ) where
   first_alone x i e = grind arith
 
   first_slots : AreSlotsOf (in_round bytes) None at_first
-  first_slots  = grind arith
+  first_slots = grind arith
 
   other_serial : (i : Image) → i.header.serial ≢ 1 → (x : ℕ) (j : Image) → image_at at_first x ≡ Some j → j.header.serial ≢ i.header.serial
   other_serial i other x j e same = other (sym same ∙ ap (λ (k : Image). k.header.serial) (sym (first_alone x j e).1))
@@ -66,7 +66,7 @@ module _ (bytes : List ℕ) where
     p = pre_dump 2 1 2 other
 
     p_fresh : IsFresh (in_round bytes) p
-    p_fresh  = grind arith
+    p_fresh = grind arith
 
     p_slots : AreSlotsOf (in_round bytes) None (Kept a ∷ Opening p ∷ [])
     p_slots = slots_follow_calls_lem.opens (in_round bytes) None at_first 1 p first_slots refl (inl (refl, p_fresh)) (other_serial p (λ e. omega (arith, e)))
@@ -85,7 +85,7 @@ module _ (bytes : List ℕ) where
   -- ---- a dump in doubt
 
   d_next : IsNextDump (in_round bytes) d
-  d_next  = grind arith
+  d_next = grind arith
 
   d_slots : AreSlotsOf (in_round bytes) (Some d) (Kept a ∷ Opening d ∷ [])
   d_slots = slots_follow_calls_lem.opens (in_round bytes) (Some d) at_first 1 d (slots_follow_calls_lem.pends (in_round bytes) at_first d first_slots d_next) refl

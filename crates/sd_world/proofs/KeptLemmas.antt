@@ -158,7 +158,7 @@ commute law slot s a b pages =
 
     bodies : body_after (body_after s.body a.request.id.call a.request.bytes) b.request.id.call b.request.bytes
         ≡ body_after (body_after s.body b.request.id.call b.request.bytes) a.request.id.call a.request.bytes
-    bodies  = grind arith
+    bodies = grind arith
 
 -- the outcomes of these lanes on a slot write other pages than this one
 abbrev pub WriteOthers : Made → ℕ → List Kept → Type 0
