@@ -1,13 +1,21 @@
 -- What one more event in a record says of the files.
-use Rattle.std.proofs.Common.{◌≡◌, ℕ, ◌<◌, List, [], ◌∷◌, length, refl, sym, ◌∙◌, subst, arith}
+use Rattle.std.proofs.Common.{◌≡◌, ℕ, ◌<◌, List, [], ◌∷◌, length, refl, sym, ◌∙◌, subst}
+use Rattle.std.proofs.Math.ListN.{length-set}
 use Rattle.sd_disk.specs.Contents.{file_at, Torn, Cut, AtSlot}
 use Rattle.sd_disk.specs.Events.{Outside, DiskEvent, files_after_call, failures_in, files_after}
 use Rattle.sd_disk.specs.declared.call.Call as call
-use Rattle.sd_disk.specs.declared.call.Call.TheVariants.{Written, Cut as Cuts, WriteFailed, CutFailed}
+use Rattle.sd_disk.specs.declared.call.Call.TheVariants.{Measured, Read, Written, Cut as Cuts, Synced, Failed, WriteFailed, CutFailed}
 use Rattle.sd_disk.proofs.StepLemmas.{at_slot, torn_written, cut_taken, torn_by_write, torn_by_cut}
 
 length_after : (call : call.Call) (bytes left : List ℕ) (files : List (List ℕ)) → length (files_after_call call bytes left files) ≡ length files
-length_after call bytes left files = grind arith
+length_after (Measured slot len) bytes left files = refl
+length_after (Read slot at) bytes left files = refl
+length_after (Written slot at) bytes left files = length-set files slot _
+length_after (Cuts slot len) bytes left files = length-set files slot _
+length_after (Synced slot) bytes left files = refl
+length_after Failed bytes left files = refl
+length_after (WriteFailed slot at) bytes left files = length-set files slot _
+length_after (CutFailed slot len) bytes left files = length-set files slot _
 
 pub length_files : (outside : Outside) (events : List DiskEvent) → length (files_after outside events) ≡ length outside.found
 length_files outside [] = refl
