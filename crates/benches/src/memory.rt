@@ -74,11 +74,14 @@ const CASES: [(&str, Case); 13] = [
 const USAGE: &str =
     "usage: benches memory stores|random|loads|words|pages|fork|child|ranges|anew|protects|walk|sparse|sparse_walk";
 
-/// A memory whose only space has so many pages, from address 0 on.
-fn mapped(alloc: Global, pages: u64) -> Result<Memory, MemoryError> {
-    let mut memory = Memory::new(alloc, FRAMES)?;
-    memory.mmap(SpaceId::new(1), 0, pages.saturating_mul(4096), READ_WRITE)?;
-    Ok(memory)
+/// The one space that a memory begins with.
+fn first_space() -> SpaceId {
+    SpaceId::new(1)
+}
+
+/// Maps so many pages, from address 0 on.
+fn map(memory: &mut Memory, pages: u64) -> Result<(), MemoryError> {
+    memory.mmap(first_space(), 0, pages.saturating_mul(4096), READ_WRITE)
 }
 
 /// Stores so many times, over so many pages in turn.
@@ -91,34 +94,27 @@ fn store(memory: &mut Memory, space: SpaceId, count: u64, pages: u64) -> Result<
 }
 
 /// Many stores over few pages.
-fn stores(alloc: Global) -> Result<(), MemoryError> {
-    let mut memory = mapped(alloc, FEW_PAGES)?;
-    store(&mut memory, SpaceId::new(1), CALLS, FEW_PAGES)
+fn stores(memory: &mut Memory) -> Result<(), MemoryError> {
+    map(memory, FEW_PAGES)?;
+    store(memory, first_space(), CALLS, FEW_PAGES)
 }
 
 /// A store to each of many pages.
-fn filled(alloc: Global) -> Result<Memory, MemoryError> {
-    let mut memory = mapped(alloc, MANY_PAGES)?;
-    store(&mut memory, SpaceId::new(1), MANY_PAGES, MANY_PAGES)?;
-    Ok(memory)
+fn pages(memory: &mut Memory) -> Result<(), MemoryError> {
+    map(memory, MANY_PAGES)?;
+    store(memory, first_space(), MANY_PAGES, MANY_PAGES)
 }
 
-fn pages(alloc: Global) -> Result<(), MemoryError> {
-    filled(alloc)?;
-    Ok(())
-}
-
-/// A store to each of many pages, and then a fork.
-fn fork(alloc: Global) -> Result<(), MemoryError> {
-    filled(alloc)?.fork(SpaceId::new(1))?;
-    Ok(())
+/// A store to each of many pages, and then a fork. Returns the child.
+fn fork(memory: &mut Memory) -> Result<SpaceId, MemoryError> {
+    pages(memory)?;
+    memory.fork(first_space())
 }
 
 /// A store to each of many pages, a fork, and then a store to each page of the child.
-fn child(alloc: Global) -> Result<(), MemoryError> {
-    let mut memory = filled(alloc)?;
-    let child = memory.fork(SpaceId::new(1))?;
-    store(&mut memory, child, MANY_PAGES, MANY_PAGES)
+fn child(memory: &mut Memory) -> Result<(), MemoryError> {
+    let child = fork(memory)?;
+    store(memory, child, MANY_PAGES, MANY_PAGES)
 }
 
 /// The first address of one of all the pages, by chance.
@@ -130,82 +126,63 @@ fn by_chance(seed: &mut u64) -> u64 {
 }
 
 /// Stores to pages in random order.
-fn random_stores(alloc: Global) -> Result<(), MemoryError> {
-    let mut memory = mapped(alloc, ALL_PAGES)?;
+fn random_stores(memory: &mut Memory) -> Result<(), MemoryError> {
+    map(memory, ALL_PAGES)?;
     let mut seed = 1;
     for _ in 0..CALLS {
-        memory.store_now(
-            SpaceId::new(1),
-            by_chance(&mut seed),
-            &[1, 2, 3, 4, 5, 6, 7, 8],
-        )?;
+        let address = by_chance(&mut seed);
+        memory.store_now(first_space(), address, &[1, 2, 3, 4, 5, 6, 7, 8])?;
     }
     Ok(())
 }
 
 /// Loads from pages in random order, none of which has a frame.
-fn random_loads(alloc: Global) -> Result<(), MemoryError> {
-    let memory = mapped(alloc, ALL_PAGES)?;
+fn random_loads(memory: &mut Memory) -> Result<(), MemoryError> {
+    map(memory, ALL_PAGES)?;
     let mut seed = 1;
     let mut buffer = [0; 8];
     for _ in 0..CALLS {
-        memory.load(SpaceId::new(1), by_chance(&mut seed), &mut buffer)?;
+        memory.load(first_space(), by_chance(&mut seed), &mut buffer)?;
     }
     Ok(())
 }
 
 /// The words of pages in random order.
-fn random_words(alloc: Global) -> Result<(), MemoryError> {
-    let memory = mapped(alloc, ALL_PAGES)?;
+fn random_words(memory: &mut Memory) -> Result<(), MemoryError> {
+    map(memory, ALL_PAGES)?;
     let mut seed = 1;
     for _ in 0..CALLS {
         let number = by_chance(&mut seed) / 4096;
         if let Some(page) = PageNo::new(number) {
-            let _word = memory.word(SpaceId::new(1), page);
+            let _word = memory.word(first_space(), page);
         }
     }
     Ok(())
 }
 
 /// Maps all pages at once and unmaps them, some times.
-fn ranges(alloc: Global) -> Result<(), MemoryError> {
-    let mut memory = Memory::new(alloc, FRAMES)?;
+fn ranges(memory: &mut Memory) -> Result<(), MemoryError> {
     for _ in 0..TURNS {
-        memory.mmap(
-            SpaceId::new(1),
-            0,
-            ALL_PAGES.saturating_mul(4096),
-            READ_WRITE,
-        )?;
-        memory.munmap(SpaceId::new(1), 0, ALL_PAGES.saturating_mul(4096))?;
+        map(memory, ALL_PAGES)?;
+        memory.munmap(first_space(), 0, ALL_PAGES.saturating_mul(4096))?;
     }
     Ok(())
 }
 
 /// Maps all pages at once, and anew, some times.
-fn anew(alloc: Global) -> Result<(), MemoryError> {
-    let mut memory = Memory::new(alloc, FRAMES)?;
+fn anew(memory: &mut Memory) -> Result<(), MemoryError> {
     for _ in 0..TURNS {
-        memory.mmap(
-            SpaceId::new(1),
-            0,
-            ALL_PAGES.saturating_mul(4096),
-            READ_WRITE,
-        )?;
+        map(memory, ALL_PAGES)?;
     }
     Ok(())
 }
 
 /// Protects all pages at once, some times.
-fn protects(alloc: Global) -> Result<(), MemoryError> {
-    let mut memory = mapped(alloc, ALL_PAGES)?;
+fn protects(memory: &mut Memory) -> Result<(), MemoryError> {
+    map(memory, ALL_PAGES)?;
+    let bytes = ALL_PAGES.saturating_mul(4096);
     for _ in 0..TURNS {
-        memory.mprotect(
-            SpaceId::new(1),
-            0,
-            ALL_PAGES.saturating_mul(4096),
-            READ_WRITE,
-        )?;
+        memory.mprotect(first_space(), 0, bytes, READ_WRITE)?;
     }
     Ok(())
 }
@@ -226,9 +203,9 @@ fn walk_over(memory: &Memory) {
 }
 
 /// A walk over all pages in one range.
-fn walk(alloc: Global) -> Result<(), MemoryError> {
-    let memory = mapped(alloc, ALL_PAGES)?;
-    walk_over(&memory);
+fn walk(memory: &mut Memory) -> Result<(), MemoryError> {
+    map(memory, ALL_PAGES)?;
+    walk_over(memory);
     Ok(())
 }
 
@@ -240,53 +217,53 @@ fn map_lone(memory: &mut Memory, space: SpaceId) -> Result<(), MemoryError> {
     Ok(())
 }
 
-/// Spaces without a page.
-fn bare(alloc: Global) -> Result<Memory, MemoryError> {
-    let mut memory = Memory::new(alloc, FRAMES)?;
+/// Makes spaces without a page, beside the first.
+fn add_spaces(memory: &mut Memory) -> Result<(), MemoryError> {
     for _ in 1..LONE_SPACES {
-        memory.fork(SpaceId::new(1))?;
+        memory.fork(first_space())?;
     }
-    Ok(memory)
+    Ok(())
 }
 
 /// Spaces of lone pages.
-fn lone(alloc: Global) -> Result<Memory, MemoryError> {
-    let mut memory = bare(alloc)?;
+fn sparse(memory: &mut Memory) -> Result<(), MemoryError> {
+    add_spaces(memory)?;
     for number in 1..LONE_SPACES + 1 {
-        map_lone(&mut memory, SpaceId::new(number))?;
+        map_lone(memory, SpaceId::new(number))?;
     }
-    Ok(memory)
-}
-
-/// Lone pages alone.
-fn sparse(alloc: Global) -> Result<(), MemoryError> {
-    lone(alloc)?;
     Ok(())
 }
 
 /// A walk over lone pages, as many steps as over all pages.
-fn sparse_walk(alloc: Global) -> Result<(), MemoryError> {
-    walk_over(&lone(alloc)?);
+fn sparse_walk(memory: &mut Memory) -> Result<(), MemoryError> {
+    sparse(memory)?;
+    walk_over(memory);
     Ok(())
 }
 
-/// Makes the calls of a case.
-fn make(alloc: Global, case: Case) -> Result<(), MemoryError> {
+/// Makes the calls of a case on a memory without a page.
+fn act(memory: &mut Memory, case: Case) -> Result<(), MemoryError> {
     match case {
-        Case::Stores => stores(alloc),
-        Case::Random => random_stores(alloc),
-        Case::Loads => random_loads(alloc),
-        Case::Words => random_words(alloc),
-        Case::Pages => pages(alloc),
-        Case::Fork => fork(alloc),
-        Case::Child => child(alloc),
-        Case::Ranges => ranges(alloc),
-        Case::Anew => anew(alloc),
-        Case::Protects => protects(alloc),
-        Case::Walk => walk(alloc),
-        Case::Sparse => sparse(alloc),
-        Case::SparseWalk => sparse_walk(alloc),
+        Case::Stores => stores(memory),
+        Case::Random => random_stores(memory),
+        Case::Loads => random_loads(memory),
+        Case::Words => random_words(memory),
+        Case::Pages => pages(memory),
+        Case::Fork => fork(memory).map(|_child| ()),
+        Case::Child => child(memory),
+        Case::Ranges => ranges(memory),
+        Case::Anew => anew(memory),
+        Case::Protects => protects(memory),
+        Case::Walk => walk(memory),
+        Case::Sparse => sparse(memory),
+        Case::SparseWalk => sparse_walk(memory),
     }
+}
+
+/// Makes a memory, and the calls of a case on it.
+fn make(alloc: Global, case: Case) -> Result<(), MemoryError> {
+    let mut memory = Memory::new(alloc, FRAMES)?;
+    act(&mut memory, case)
 }
 
 /// Makes the calls that a word names, and tells how they ended.
