@@ -10,7 +10,7 @@ use std::fmt::Display;
 use std::{fmt, str};
 
 /// Whether causes are told.
-#[derive(Clone, Copy, Debug, PartialEq, Eq)]
+#[derive(Clone, Copy, PartialEq, Eq)]
 pub enum Causes {
     Told,
     Kept,

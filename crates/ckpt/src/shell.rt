@@ -22,7 +22,7 @@ const PROMPT: &str = "> ";
 
 /// Whether a shell asks for each request, and explains what is wrong with one: where both its input and its output are
 /// a terminal.
-#[derive(Clone, Copy, Debug, PartialEq, Eq)]
+#[derive(Clone, Copy, PartialEq, Eq)]
 pub enum Asking {
     Prompts,
     Silent,

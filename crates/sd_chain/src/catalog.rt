@@ -22,7 +22,7 @@ use std::marker::Model;
 mod tracing;
 
 /// The open images of a store, in order of serial, and the places that are held for serials to come.
-#[derive(Debug, Drop)]
+#[derive(Drop)]
 pub struct Catalog {
     alloc: Global,
     places: Places,

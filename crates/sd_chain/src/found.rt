@@ -1,5 +1,5 @@
 /// Where a page's bytes are.
-#[derive(Clone, Copy, Debug, PartialEq, Eq, Hash)]
+#[derive(Clone, Copy, PartialEq, Eq)]
 pub enum Found {
     /// Nowhere: they are zeros.
     Zero,

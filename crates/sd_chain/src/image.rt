@@ -16,7 +16,7 @@ use sd_image::{Header, Table};
 use std::marker::Model;
 
 /// An open image: its slot, and what its header and its table say.
-#[derive(Debug, Drop)]
+#[derive(Drop)]
 pub struct OpenImage {
     slot: usize,
     header: Header,

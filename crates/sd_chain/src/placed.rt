@@ -20,7 +20,7 @@ use std::marker::Model;
 
 /// A table that knows for each run how many data pages of its image stand before it, so that a page is found in a
 /// time that grows with the logarithm of the runs.
-#[derive(Debug, Drop)]
+#[derive(Drop)]
 pub struct PlacedTable {
     pub(crate) table: Table,
     pub(crate) places: Vec<Vec<u64>>,

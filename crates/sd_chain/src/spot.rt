@@ -1,5 +1,5 @@
 /// A place in a table: that of a space, and that of a run among the space's runs.
-#[derive(Clone, Copy, Debug, PartialEq, Eq, Hash)]
+#[derive(Clone, Copy, PartialEq, Eq)]
 pub(crate) struct Spot {
     pub(crate) space: usize,
     pub(crate) run: usize,

@@ -2,7 +2,7 @@ use crate::spot::Spot;
 use crate::way::Way;
 
 /// How a table has a page, and as many pages behind it as it has alike.
-#[derive(Clone, Copy, Debug, PartialEq, Eq, Hash)]
+#[derive(Clone, Copy, PartialEq, Eq)]
 pub(crate) struct Stretch {
     /// How it has the page. The places of data pages rise by one from page to page.
     pub(crate) way: Way,

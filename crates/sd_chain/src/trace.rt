@@ -4,7 +4,7 @@ ghost use Rattle.sd_chain.specs.Ways.{found_in};
 use crate::found::Found;
 
 /// What following a page from an image to its parents comes to.
-#[derive(Clone, Copy, Debug, PartialEq, Eq, Hash)]
+#[derive(Clone, Copy, PartialEq, Eq)]
 pub enum Trace {
     /// An image of the chain has the page there.
     Found(Found),

@@ -1,7 +1,7 @@
 use crate::trace::Trace;
 
 /// What following pages, one behind the other, to the parents comes to.
-#[derive(Clone, Copy, Debug, PartialEq, Eq, Hash)]
+#[derive(Clone, Copy, PartialEq, Eq)]
 pub struct TraceRun {
     /// What following the first page comes to. Where it is found among data, each page behind it lies 4,096 bytes
     /// behind the one before; where it is found as zeros, or its chain breaks, so do they, at the same slot.

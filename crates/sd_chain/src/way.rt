@@ -1,5 +1,5 @@
 /// How an image has a page.
-#[derive(Clone, Copy, Debug, PartialEq, Eq, Hash)]
+#[derive(Clone, Copy, PartialEq, Eq)]
 pub enum Way {
     /// Among its data pages: so many of them stand before it.
     Data { place: u64 },

@@ -8,7 +8,7 @@ use sd_command::Refusal;
 use sd_crash_safety::Standing;
 
 /// The slots of a checkpoint.
-#[derive(Debug, Drop)]
+#[derive(Drop)]
 pub(crate) struct Slots {
     pub(crate) pre_dumps: Vec<usize>,
     pub(crate) dump: usize,

@@ -58,7 +58,7 @@ pub(crate) fn begin_copy(
 }
 
 /// Why a step of a merge isn't made.
-#[derive(Clone, Copy, Debug, PartialEq, Eq, Hash)]
+#[derive(Clone, Copy, PartialEq, Eq)]
 pub(crate) enum StepFault {
     /// The catalog doesn't have the source's next page.
     Lost,

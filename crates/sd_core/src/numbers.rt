@@ -9,7 +9,7 @@ use sd_chain::Catalog;
 const NUMBER_LIMIT: u64 = 9_223_372_036_854_775_808;
 
 /// The numbers that were used.
-#[derive(Clone, Copy, Debug, PartialEq, Eq, Hash)]
+#[derive(Clone, Copy, PartialEq, Eq)]
 pub struct Numbers {
     /// The greatest checkpoint number that was begun in this run, or found at the last opening.
     pub checkpoint: u64,

@@ -2,7 +2,7 @@ use sd_command::Reply;
 use sd_gate::Request;
 
 /// What a worker's next step is.
-#[derive(Debug, Drop)]
+#[derive(Drop)]
 pub enum Taken {
     /// It was made, with this reply.
     Step(Reply),

@@ -1,5 +1,5 @@
 /// How a store stands.
-#[derive(Clone, Copy, Debug, PartialEq, Eq, Hash)]
+#[derive(Clone, Copy, PartialEq, Eq)]
 pub enum Standing {
     /// It wasn't opened yet.
     NotOpen,

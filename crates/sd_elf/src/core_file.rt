@@ -82,7 +82,7 @@ pub enum ReadError {
 }
 
 /// The memory that a core file says.
-#[derive(Debug, Drop)]
+#[derive(Drop)]
 pub struct Core {
     /// Its segments of memory, rising.
     pub segments: Vec<ProgramHeader>,

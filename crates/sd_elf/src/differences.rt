@@ -10,7 +10,7 @@ use std::alloc::{AllocError, Global};
 const STORE_LIMIT: usize = 64;
 
 /// A part of a page: from one byte up to another.
-#[derive(Clone, Copy, Debug, PartialEq, Eq)]
+#[derive(Clone, Copy, PartialEq, Eq)]
 pub struct Piece {
     pub from: usize,
     pub to: usize,

@@ -26,7 +26,7 @@ pub(crate) const EV_CURRENT: u32 = 1;
 const PN_XNUM: u16 = 0xffff;
 
 /// The file header, `Elf64_Ehdr`, behind its identification.
-#[derive(Clone, Copy, Debug, PartialEq, Eq)]
+#[derive(Clone, Copy, PartialEq, Eq)]
 pub struct FileHeader {
     pub e_type: u16,
     pub e_machine: u16,

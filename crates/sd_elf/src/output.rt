@@ -64,7 +64,7 @@ pub trait CoreFiles {
 
 /// A file that is written from its front to its end, with a hole for each run of zeros that is left out. No contract
 /// says what a real file holds.
-#[derive(Debug, Drop)]
+#[derive(Drop)]
 pub struct HoleFile {
     file: File,
     limit: FileLimit,

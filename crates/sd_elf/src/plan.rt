@@ -66,7 +66,7 @@ pub fn split_segments(
 }
 
 /// A run of pages.
-#[derive(Clone, Copy, Debug, PartialEq, Eq)]
+#[derive(Clone, Copy, PartialEq, Eq)]
 pub struct PageRun {
     /// The number of the first page.
     pub first: u64,

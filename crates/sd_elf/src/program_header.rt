@@ -22,7 +22,7 @@ pub(crate) const PF_W: u32 = 2;
 pub(crate) const PF_R: u32 = 4;
 
 /// A program header, `Elf64_Phdr`. Offsets, addresses and sizes are in bytes.
-#[derive(Clone, Copy, Debug, PartialEq, Eq)]
+#[derive(Clone, Copy, PartialEq, Eq)]
 pub struct ProgramHeader {
     pub p_type: u32,
     pub p_flags: u32,

@@ -15,7 +15,7 @@ const ADDRESS_LIMIT: u64 = 1 << 47;
 const KERNEL_START: u64 = 1 << 63;
 
 /// What the segments so far take of a space.
-#[derive(Clone, Copy, Debug, PartialEq, Eq)]
+#[derive(Clone, Copy, PartialEq, Eq)]
 pub struct Extent {
     /// Where the last ends.
     pub end: u64,

@@ -14,7 +14,7 @@ use std::io::{ErrorKind, Write};
 const REFUSED: u8 = 1;
 
 /// A writer that notes whether it refused anything: to write bytes, or to flush them.
-#[derive(Debug, Drop)]
+#[derive(Drop)]
 pub struct Output<W> {
     writer: W,
     refused: bool,

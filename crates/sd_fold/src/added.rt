@@ -1,7 +1,7 @@
 use sd_areas::{PageNo, SpaceId};
 
 /// What was added to a memory so that there is room.
-#[derive(Debug, Clone, Copy, PartialEq, Eq)]
+#[derive(Clone, Copy, PartialEq, Eq)]
 pub(crate) enum Added {
     /// A space without pages.
     Space(SpaceId),

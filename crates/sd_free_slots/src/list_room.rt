@@ -13,7 +13,7 @@ use std::marker::Model;
 
 /// The room for the list of the images that a merge closes. It is made when the merge begins, so that the list takes no
 /// memory when it is fixed.
-#[derive(Debug, Drop)]
+#[derive(Drop)]
 pub struct ListRoom {
     /// A mark for each slot.
     marks: Vec<bool>,

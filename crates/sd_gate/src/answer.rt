@@ -1,5 +1,5 @@
 /// How a device call ended.
-#[derive(Clone, Copy, Debug, PartialEq, Eq, Hash)]
+#[derive(Clone, Copy, PartialEq, Eq)]
 pub enum Answer {
     /// It was done.
     Done,

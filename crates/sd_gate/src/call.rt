@@ -1,5 +1,5 @@
 /// A device call on one slot. The bytes that it writes or fills stand beside it.
-#[derive(Clone, Copy, Debug, PartialEq, Eq, Hash)]
+#[derive(Clone, Copy, PartialEq, Eq)]
 pub enum Call {
     /// Asks for the length of the file.
     Len,

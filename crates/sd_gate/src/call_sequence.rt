@@ -7,7 +7,7 @@ use crate::order::Order;
 use sd_image::Header;
 
 /// The calls that are left, by the next of them.
-#[derive(Debug, Drop)]
+#[derive(Drop)]
 pub enum CallSequence {
     /// The gate is closed: a 0 over it, a sync, and the cut.
     Close,

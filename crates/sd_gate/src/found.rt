@@ -10,7 +10,7 @@ use sd_image::{GATE, HEADER_SIZE};
 
 /// What came back to a plan with the outcomes: of a page or a body its buffer, the first; of an inspection the length
 /// of the file, its first 4,096 bytes and its table, as far as the inspection came.
-#[derive(Debug, Drop)]
+#[derive(Drop)]
 pub struct Found {
     pub len: Option<usize>,
     pub first: Option<Vec<u8>>,

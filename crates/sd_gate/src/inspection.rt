@@ -16,7 +16,7 @@ use sd_image::{GATE, HEADER_SIZE, decode_header};
 use std::alloc::{AllocError, Global};
 
 /// A sync, the length, the header of a file that has one, and the table of an open image.
-#[derive(Debug, Drop)]
+#[derive(Drop)]
 pub struct Inspection {
     pub alloc: Global,
     pub stage: InspectionStage,

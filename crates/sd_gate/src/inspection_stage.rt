@@ -1,5 +1,5 @@
 /// How far the inspection of a slot has come.
-#[derive(Clone, Copy, Debug, PartialEq, Eq)]
+#[derive(Clone, Copy, PartialEq, Eq)]
 pub enum InspectionStage {
     /// The sync is next.
     Sync,

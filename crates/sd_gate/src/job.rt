@@ -13,7 +13,7 @@ use crate::order::Order;
 use std::alloc::AllocError;
 use std::mem;
 
-#[derive(Debug, Drop)]
+#[derive(Drop)]
 pub enum Job {
     Sequence(CallSequence),
     Inspection(Inspection),

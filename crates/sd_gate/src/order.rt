@@ -5,7 +5,7 @@ ghost use Rattle.sd_gate.specs.Calls.{call_of, bytes_of, buffer_back};
 use sd_image::Header;
 
 /// A device call with what it writes or fills.
-#[derive(Debug, Drop)]
+#[derive(Drop)]
 pub enum Order {
     Len,
     Read { at: usize, buffer: Vec<u8> },

@@ -10,7 +10,7 @@ use std::marker::Model;
 
 /// The request of a device call that was made, with the bytes that it wrote or the buffer that it filled, and how the
 /// call ended. `perform` alone makes one.
-#[derive(Debug, Drop)]
+#[derive(Drop)]
 pub struct Outcome {
     pub(crate) request: Request,
     pub(crate) answer: Answer,

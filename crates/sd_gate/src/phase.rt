@@ -7,7 +7,7 @@ use crate::slot_state::SlotState;
 
 /// How far a slot has come, by the calls that were made on it: what is read from it, and what a crash may leave.
 /// Its body is what stands behind the gate, the first byte of its file.
-#[derive(Clone, Copy, Debug, PartialEq, Eq, Hash)]
+#[derive(Clone, Copy, PartialEq, Eq)]
 pub enum Phase {
     /// Shorter than a header.
     Raw,

@@ -28,7 +28,7 @@ use std::marker::Model;
 use std::mem;
 
 /// Device calls on one slot, one after the other: each is asked for when the one before is done.
-#[derive(Debug, Drop)]
+#[derive(Drop)]
 pub struct Plan {
     slot: usize,
     job: Job,

@@ -11,7 +11,7 @@ use std::marker::Model;
 
 /// One device call of a worker, with the bytes that it writes or the buffer that it fills. It isn't copied:
 /// it is performed once, or never.
-#[derive(Debug, Drop)]
+#[derive(Drop)]
 pub struct Request {
     pub(crate) worker: Worker,
     pub(crate) ticket: u64,

@@ -2,7 +2,7 @@ use crate::call::Call;
 use crate::worker::Worker;
 
 /// What tells one request from every other.
-#[derive(Clone, Copy, Debug, PartialEq, Eq, Hash)]
+#[derive(Clone, Copy, PartialEq, Eq)]
 pub struct RequestId {
     pub worker: Worker,
     /// The number that the worker gave it.

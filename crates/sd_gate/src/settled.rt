@@ -1,5 +1,5 @@
 /// What an outcome was to a plan.
-#[derive(Clone, Copy, Debug, PartialEq, Eq, Hash)]
+#[derive(Clone, Copy, PartialEq, Eq)]
 pub enum Settled {
     /// It was done, and calls are left.
     More,

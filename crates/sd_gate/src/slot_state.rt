@@ -1,5 +1,5 @@
 /// What is known of a slot.
-#[derive(Clone, Copy, Debug, PartialEq, Eq, Hash)]
+#[derive(Clone, Copy, PartialEq, Eq)]
 pub enum SlotState {
     /// Its file is shorter than a header.
     Raw,

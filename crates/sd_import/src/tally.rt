@@ -3,7 +3,7 @@
 use std::fmt;
 
 /// How many pages an import gave a space, and how many of the space's pages are others than before.
-#[derive(Clone, Copy, Debug, PartialEq, Eq)]
+#[derive(Clone, Copy, PartialEq, Eq)]
 pub struct Tally {
     pub imported: u64,
     /// Those that were mapped, unmapped, or got other bytes or permissions.

@@ -10,7 +10,7 @@ use serde_json::{Value, json};
 use std::alloc::{AllocError, Global};
 
 /// How many pages, and how many of them are zeros without bytes in a file.
-#[derive(Clone, Copy, Debug, PartialEq, Eq)]
+#[derive(Clone, Copy, PartialEq, Eq)]
 struct Counts {
     pages: u64,
     zeros: u64,

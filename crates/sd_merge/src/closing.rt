@@ -9,7 +9,7 @@ use crate::retired::Retired;
 use sd_gate::{Call, Outcome, Plan, Settled, plan_left, settle};
 
 /// The images that a merge closes once its own is open.
-#[derive(Debug, Drop)]
+#[derive(Drop)]
 pub struct Closing {
     /// The serial of the merged image.
     pub(crate) serial: u64,

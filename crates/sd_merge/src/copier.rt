@@ -40,7 +40,7 @@ use std::mem;
 mod outcomes;
 
 /// A merged image that is made of its source, page by page.
-#[derive(Debug, Drop)]
+#[derive(Drop)]
 pub struct Copier {
     alloc: Global,
     order: CopyOrder,

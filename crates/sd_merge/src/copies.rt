@@ -14,7 +14,7 @@ use std::alloc::{AllocError, Global};
 use std::marker::Model;
 
 /// The pages of a source that were taken so far, each as data or as zeros.
-#[derive(Debug, Drop)]
+#[derive(Drop)]
 pub struct Copies {
     alloc: Global,
     spaces: Vec<SpaceTable>,

@@ -2,7 +2,7 @@ use crate::source::Source;
 use sd_gate::SlotState;
 
 /// What is fixed of a merged image before it is made.
-#[derive(Clone, Copy, Debug, PartialEq, Eq, Hash)]
+#[derive(Clone, Copy, PartialEq, Eq)]
 pub struct CopyOrder {
     pub source: Source,
     /// The slot that it is written to.

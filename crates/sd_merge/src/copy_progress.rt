@@ -1,7 +1,7 @@
 use sd_rounds::NewImage;
 
 /// What an outcome was to a merged image in the making.
-#[derive(Debug, Drop)]
+#[derive(Drop)]
 pub enum CopyProgress {
     /// It is of no request that is out. Nothing changed.
     Strange,

@@ -4,7 +4,7 @@ use crate::closing::Closing;
 use crate::copier::Copier;
 
 /// How far a merge is.
-#[derive(Debug, Drop)]
+#[derive(Drop)]
 pub enum Job {
     /// The next step begins the merged image.
     Due,

@@ -22,7 +22,7 @@ use sd_gate::Outcome;
 use std::alloc::Global;
 
 /// A merge that runs.
-#[derive(Debug, Drop)]
+#[derive(Drop)]
 pub struct Merge {
     pub(crate) source: Source,
     /// The slot that the merged image is written to.

@@ -2,7 +2,7 @@ use crate::retired::Retired;
 use sd_rounds::NewImage;
 
 /// What an outcome, or the list of images to close, was to a merger.
-#[derive(Debug, Drop)]
+#[derive(Drop)]
 pub enum MergeProgress {
     /// It is of no request that is out, or no list is awaited. Nothing changed.
     Strange,

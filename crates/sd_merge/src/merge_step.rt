@@ -1,7 +1,7 @@
 use sd_gate::Request;
 
 /// What a step of a merge came to.
-#[derive(Debug, Drop)]
+#[derive(Drop)]
 pub enum MergeStep {
     /// The next device call of a plan is asked for.
     Call(Request),

@@ -21,7 +21,7 @@ use std::alloc::Global;
 use std::marker::Model;
 
 /// Makes merges, one at a time: an image that repeats a source, and then the images close that nobody needs any more.
-#[derive(Debug, Drop)]
+#[derive(Drop)]
 pub struct Merger {
     alloc: Global,
     merge: Option<Merge>,

@@ -1,5 +1,5 @@
 /// An image that is closed once the merged one is open.
-#[derive(Clone, Copy, Debug, PartialEq, Eq, Hash)]
+#[derive(Clone, Copy, PartialEq, Eq)]
 pub struct Retired {
     pub serial: u64,
     pub slot: usize,

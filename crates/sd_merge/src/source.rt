@@ -10,7 +10,7 @@ use sd_image::{Run, SpaceTable};
 pub(crate) const PAGE_LIMIT: u64 = 65_536;
 
 /// What a merge knows of the image that it repeats.
-#[derive(Clone, Copy, Debug, PartialEq, Eq, Hash)]
+#[derive(Clone, Copy, PartialEq, Eq)]
 pub struct Source {
     pub serial: u64,
     pub stands_for: u64,

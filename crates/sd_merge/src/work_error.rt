@@ -1,7 +1,7 @@
 use std::alloc::AllocError;
 
 /// Why a step of a merger is refused. Nothing changed.
-#[derive(Clone, Copy, Debug, PartialEq, Eq, Hash)]
+#[derive(Clone, Copy, Debug, PartialEq, Eq)]
 pub enum WorkError {
     /// A request is out, or the list of the images to close is awaited. For a beginning, that a merge runs.
     Busy,

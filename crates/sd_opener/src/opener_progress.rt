@@ -1,5 +1,5 @@
 /// What an outcome was to the opener.
-#[derive(Clone, Copy, Debug, PartialEq, Eq, Hash)]
+#[derive(Clone, Copy, PartialEq, Eq)]
 pub enum OpenerProgress {
     /// It is of no request that is out. Nothing changed.
     Strange,

@@ -2,7 +2,7 @@ use sd_gate::Request;
 use sd_image::Reason;
 
 /// What a step of the opener was.
-#[derive(Debug, Drop)]
+#[derive(Drop)]
 pub enum OpenerStep {
     /// This device call is asked for.
     Call(Request),

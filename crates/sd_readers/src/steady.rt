@@ -22,7 +22,7 @@ use std::alloc::Global;
 use std::io::Write;
 
 /// A program that reads a store.
-#[derive(Clone, Copy, Debug, PartialEq, Eq)]
+#[derive(Clone, Copy, PartialEq, Eq)]
 pub enum Reader {
     Restore,
     List,

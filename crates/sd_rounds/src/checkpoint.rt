@@ -29,7 +29,7 @@ use std::alloc::{AllocError, Global};
 use std::mem;
 
 /// The images of a checkpoint: its pre-dumps, and then its dump.
-#[derive(Debug, Drop)]
+#[derive(Drop)]
 pub struct Checkpoint {
     pub(crate) number: u64,
     /// The slots of the pre-dumps.

@@ -1,5 +1,5 @@
 /// What copying a sector came to.
-#[derive(Clone, Copy, Debug, PartialEq, Eq, Hash)]
+#[derive(Clone, Copy, PartialEq, Eq)]
 pub enum Copied {
     /// The sector stands behind those before it.
     More,

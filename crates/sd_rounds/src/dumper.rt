@@ -27,7 +27,7 @@ use std::alloc::Global;
 use std::marker::Model;
 
 /// Makes checkpoints, one at a time: pre-dumps while the memory is in use, a freeze, and a dump.
-#[derive(Debug, Drop)]
+#[derive(Drop)]
 pub struct Dumper {
     alloc: Global,
     checkpoint: Option<Checkpoint>,

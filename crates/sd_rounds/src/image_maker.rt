@@ -39,7 +39,7 @@ mod closing;
 mod outcomes;
 
 /// An image that is written while its memory is in use.
-#[derive(Debug, Drop)]
+#[derive(Drop)]
 pub struct ImageMaker {
     alloc: Global,
     order: ImageOrder,

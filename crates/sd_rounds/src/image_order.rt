@@ -2,7 +2,7 @@ use sd_gate::SlotState;
 use sd_image::Kind;
 
 /// What is fixed of an image before it is made.
-#[derive(Clone, Copy, Debug, PartialEq, Eq, Hash)]
+#[derive(Clone, Copy, PartialEq, Eq)]
 pub struct ImageOrder {
     /// The slot that it is written to.
     pub slot: usize,

@@ -1,7 +1,7 @@
 use crate::new_image::NewImage;
 
 /// What an outcome was to an image in the making.
-#[derive(Debug, Drop)]
+#[derive(Drop)]
 pub enum ImageProgress {
     /// It is of no request that is out. Nothing changed.
     Strange,

@@ -3,7 +3,7 @@ use crate::visit::Visit;
 use sd_gate::Request;
 
 /// What a step of an image in the making came to.
-#[derive(Debug, Drop)]
+#[derive(Drop)]
 pub enum ImageStep {
     /// The next device call of a plan is asked for.
     Call(Request),

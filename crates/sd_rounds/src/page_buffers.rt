@@ -11,7 +11,7 @@ use std::marker::Model;
 const PAGES: usize = LANES + 1;
 
 /// Buffers of a page each, for those that are copied and written.
-#[derive(Debug, Drop)]
+#[derive(Drop)]
 pub struct PageBuffers {
     alloc: Global,
     spare: Vec<Vec<u8>>,

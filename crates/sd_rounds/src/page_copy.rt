@@ -14,7 +14,7 @@ use std::marker::Model;
 static ZEROS: [u8; PAGE_SIZE] = [0; PAGE_SIZE];
 
 /// What was copied of a page so far. Zeros that come first aren't written before another byte is copied.
-#[derive(Debug, Drop)]
+#[derive(Drop)]
 pub(crate) struct PageCopy {
     /// How many zeros come before the bytes of the buffer, which is empty where there are some.
     front: usize,

@@ -1,7 +1,7 @@
 use crate::new_image::NewImage;
 
 /// What an outcome was to a dumper.
-#[derive(Debug, Drop)]
+#[derive(Drop)]
 pub enum Progress {
     /// It is of no request that is out. Nothing changed.
     Strange,

@@ -34,7 +34,7 @@ use std::mem;
 const SOFT_DIRTY: u64 = 1 << 55;
 
 /// An image in the making: the entries so far, and the page that is being taken.
-#[derive(Debug, Drop)]
+#[derive(Drop)]
 pub struct Round {
     alloc: Global,
     takes_all: bool,

@@ -5,7 +5,7 @@ use sd_gate::Plan;
 use sd_image::Header;
 
 /// How far an image in the making is.
-#[derive(Debug, Drop)]
+#[derive(Drop)]
 pub enum Stage {
     /// Its slot is made one closed byte.
     Format(Plan),

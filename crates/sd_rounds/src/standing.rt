@@ -1,5 +1,5 @@
 /// How far the page is that a pass takes.
-#[derive(Clone, Copy, Debug, PartialEq, Eq, Hash)]
+#[derive(Clone, Copy, PartialEq, Eq)]
 pub enum Standing {
     /// No page is being taken: the next is to be visited.
     Free,

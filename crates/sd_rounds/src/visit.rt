@@ -1,7 +1,7 @@
 use sd_areas::{PageNo, SpaceId};
 
 /// A page that a pass tested and cleared, and whether it was soft-dirty.
-#[derive(Clone, Copy, Debug, PartialEq, Eq, Hash)]
+#[derive(Clone, Copy, PartialEq, Eq)]
 pub struct Visit {
     pub space: SpaceId,
     pub page: PageNo,

@@ -1,7 +1,7 @@
 use std::alloc::AllocError;
 
 /// Why a step of the dumper is refused. Nothing changed.
-#[derive(Clone, Copy, Debug, PartialEq, Eq, Hash)]
+#[derive(Clone, Copy, Debug, PartialEq, Eq)]
 pub enum WorkError {
     /// A request is out: its outcome is to be handed in first. For a beginning, that a checkpoint runs.
     Busy,

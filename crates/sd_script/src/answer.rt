@@ -1,7 +1,7 @@
 use sd_command::Reply;
 
 /// What a line of a script is answered.
-#[derive(Debug, Drop)]
+#[derive(Drop)]
 pub enum Answer {
     Reply(Reply),
     /// The words of pages, as `pagemap` has them.

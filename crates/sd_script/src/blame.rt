@@ -6,7 +6,7 @@ use std::alloc::{AllocError, Global};
 use std::{fmt, str};
 
 /// What is hard to see in a line.
-#[derive(Clone, Copy, Debug, PartialEq, Eq)]
+#[derive(Clone, Copy, PartialEq, Eq)]
 pub enum Blank {
     CarriageReturn,
     Tab,
@@ -29,7 +29,7 @@ impl fmt::Display for Blank {
 }
 
 /// What in a line doesn't fit, the field that is meant, and what is hard to see in the line.
-#[derive(Clone, Copy, Debug)]
+#[derive(Clone, Copy)]
 pub struct Blame<'a> {
     pub fault: LineFault,
     pub field: Option<&'a str>,

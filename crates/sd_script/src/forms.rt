@@ -5,14 +5,14 @@ use crate::line_fault::FieldKind;
 use std::fmt;
 
 /// A field of a line: its name, and what it has to be.
-#[derive(Clone, Copy, Debug, PartialEq, Eq)]
+#[derive(Clone, Copy, PartialEq, Eq)]
 pub struct Field {
     pub name: &'static str,
     pub kind: FieldKind,
 }
 
 /// The form of a line: its word, the fields behind it, and what it does.
-#[derive(Clone, Copy, Debug)]
+#[derive(Clone, Copy)]
 pub struct LineForm {
     pub word: &'static str,
     pub fields: &'static [Field],

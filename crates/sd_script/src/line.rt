@@ -14,7 +14,7 @@ use sd_gate::Worker;
 use std::alloc::Global;
 
 /// What a line asks for.
-#[derive(Debug, Drop)]
+#[derive(Drop)]
 pub enum Line {
     Command(Command),
     /// The words of so many pages, from the page of an address on.

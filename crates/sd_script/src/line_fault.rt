@@ -1,7 +1,7 @@
 use std::fmt;
 
 /// What a field of a line has to be.
-#[derive(Clone, Copy, Debug, PartialEq, Eq)]
+#[derive(Clone, Copy, PartialEq, Eq)]
 pub enum FieldKind {
     /// A number below 2^64, decimal or `0x` and hexadecimal.
     Number,
@@ -28,7 +28,7 @@ impl fmt::Display for FieldKind {
 }
 
 /// What in a line doesn't fit the language. Fields are counted from 1, the word of the request.
-#[derive(Clone, Copy, Debug, PartialEq, Eq)]
+#[derive(Clone, Copy, PartialEq, Eq)]
 pub enum LineFault {
     /// The bytes are no UTF-8.
     NoText,

@@ -13,7 +13,7 @@ use std::alloc::Global;
 use std::str;
 
 /// The requests of a script, in order.
-#[derive(Debug, Drop)]
+#[derive(Drop)]
 pub struct Script {
     pub lines: Vec<Line>,
 }

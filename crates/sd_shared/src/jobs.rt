@@ -4,7 +4,7 @@ ghost use Rattle.sd_shared.specs.Turns.{counted, job_number};
 use sd_gate::Worker;
 
 /// How many jobs of each worker were begun, modulo 2^64: a job's number among those of its worker.
-#[derive(Clone, Copy, Debug, PartialEq, Eq)]
+#[derive(Clone, Copy, PartialEq, Eq)]
 pub(crate) struct Jobs {
     pub(crate) dumper: u64,
     pub(crate) merger: u64,

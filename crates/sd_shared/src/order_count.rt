@@ -1,6 +1,5 @@
 /// How many orders a call has made: of a job, of a cancel, or of a trim. Each call that is to make one makes one alone:
 /// what it counts can't be dropped, and only `end` takes it, at one.
-#[derive(Debug)]
 pub(crate) struct OrderCount {
     made: u64,
 }

@@ -8,7 +8,7 @@ use crate::items::{ITEM_SIZE, SPACE_HEAD_SIZE, TABLE_HEAD_SIZE, behind_space, ru
 use sd_image::{u32_at, u64_at};
 
 /// How many pages an image lists: with bytes of its own, in its parent, and of zeros.
-#[derive(Clone, Copy, Debug, PartialEq, Eq)]
+#[derive(Clone, Copy, PartialEq, Eq)]
 pub struct PageCounts {
     pub data: u64,
     pub parent: u64,

@@ -5,7 +5,7 @@ ghost use Rattle.sd_show.specs.Slots.{state_by, state_word};
 use sd_image::{GATE, HEADER_SIZE};
 
 /// The state of a slot.
-#[derive(Clone, Copy, Debug, PartialEq, Eq)]
+#[derive(Clone, Copy, PartialEq, Eq)]
 pub enum State {
     /// Its file is empty, or begins with the gate byte 0.
     Raw,

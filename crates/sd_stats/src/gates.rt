@@ -7,7 +7,7 @@ use std::cell::RefCell;
 
 /// The gates of a folder's slots, as the calls that were seen left them. A slot of which no call was seen counts as
 /// free.
-#[derive(Debug, Drop)]
+#[derive(Drop)]
 pub struct Gates {
     open: RefCell<[bool; FOLDER_SLOTS]>,
 }

@@ -5,7 +5,7 @@ use sd_show::{PageCounts, count_pages};
 use std::time::Duration;
 
 /// An image that is being made in a slot.
-#[derive(Clone, Copy, Debug)]
+#[derive(Clone, Copy)]
 pub(crate) struct Making {
     /// When its first call was made, the number of that call, and how many calls had read pages before.
     pub(crate) begun: Duration,
@@ -119,7 +119,7 @@ impl Making {
 }
 
 /// What is seen of a slot.
-#[derive(Clone, Copy, Debug)]
+#[derive(Clone, Copy)]
 pub(crate) struct SeenSlot {
     /// Whether its gate was seen open.
     pub(crate) is_open: bool,

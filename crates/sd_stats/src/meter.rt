@@ -10,7 +10,7 @@ use std::mem;
 use std::time::Duration;
 
 /// The images of a checkpoint that is being made.
-#[derive(Clone, Copy, Debug)]
+#[derive(Clone, Copy)]
 struct Running {
     number: u64,
     begun: Duration,

@@ -3,7 +3,7 @@ use sd_show::PageCounts;
 use std::time::Duration;
 
 /// What one image took, from the first call on its slot to the last.
-#[derive(Clone, Copy, Debug)]
+#[derive(Clone, Copy)]
 pub struct ImageRecord {
     pub serial: u64,
     pub slot: usize,
@@ -19,7 +19,7 @@ pub struct ImageRecord {
 }
 
 /// What one checkpoint took, of the images that this run made of it.
-#[derive(Clone, Copy, Debug)]
+#[derive(Clone, Copy)]
 pub struct CheckpointRecord {
     /// Its number.
     pub number: u64,
@@ -41,7 +41,7 @@ pub struct CheckpointRecord {
 }
 
 /// What one merge took, from the first call on the slot of its image to the last image that it closed.
-#[derive(Clone, Copy, Debug)]
+#[derive(Clone, Copy)]
 pub struct MergeRecord {
     /// The merged image's serial.
     pub serial: u64,
@@ -55,7 +55,7 @@ pub struct MergeRecord {
 }
 
 /// What was done.
-#[derive(Clone, Copy, Debug)]
+#[derive(Clone, Copy)]
 pub enum Record {
     Image(ImageRecord),
     Checkpoint(CheckpointRecord),

@@ -13,7 +13,7 @@ use std::marker::Model;
 use std::mem;
 
 /// What is kept of a lane in which a request may be out.
-#[derive(Debug, Drop)]
+#[derive(Drop)]
 pub enum Kept {
     /// No device call is out in it.
     Nothing,
