@@ -1,4 +1,5 @@
-//! Tests of address spaces, memories and what `/proc` shows of them, by their public names alone.
+//! Tests of address spaces, memories and what `/proc` shows of them, and of commands, journals, receipts and folds, by
+//! their public names alone.
 #![tactic(auto)]
 
 #[cfg(test)]
@@ -6,11 +7,19 @@ mod areas;
 #[cfg(test)]
 mod bits;
 #[cfg(test)]
+mod byte_copies;
+#[cfg(test)]
+mod commands;
+#[cfg(test)]
 mod copies;
 #[cfg(test)]
 mod deeds;
 #[cfg(test)]
+mod folds;
+#[cfg(test)]
 mod growths;
+#[cfg(test)]
+mod journals;
 #[cfg(test)]
 mod line;
 #[cfg(test)]
@@ -20,8 +29,14 @@ mod memories;
 #[cfg(test)]
 mod procfs;
 #[cfg(test)]
+mod receipts;
+#[cfg(test)]
+mod replays;
+#[cfg(test)]
 mod support;
 #[cfg(test)]
 mod tables;
 #[cfg(test)]
 mod texts;
+#[cfg(test)]
+mod told;

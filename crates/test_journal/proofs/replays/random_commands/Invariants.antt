@@ -1,6 +1,0 @@
-use Rattle.test_journal.specs.Told.{TellsMemory}
-use Rattle.test_journal.proofs.replays.random_commands.Given as goal
-
--- the entries so far led to the memory
-abbrev pub invariant-loop : goal.invariant-loop
-invariant-loop g l = TellsMemory l.entries.items l.memory

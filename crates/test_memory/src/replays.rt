@@ -1,0 +1,130 @@
+//! Commands on a memory and the replay of their entries give one memory.
+ghost use Rattle.test_memory.specs.Told.{TellsMemory};
+
+use crate::told::{beginning, made, tell};
+use sd_areas::{PageNo, Prot, Snapshot, SnapshotPage, SpaceId};
+use sd_command::{Bytes, Command};
+use sd_pagetable::Memory;
+use std::alloc::Global;
+use std::test::Fail;
+
+const COMMANDS: usize = 400;
+
+const PROTS: [Prot; 2] = [
+    Prot {
+        read: true,
+        write: true,
+        execute: false,
+    },
+    Prot {
+        read: true,
+        write: false,
+        execute: false,
+    },
+];
+
+/// The next of a row of numbers that look random.
+fn next(draw: u64) -> u64 {
+    draw.wrapping_mul(6364136223846793005)
+        .wrapping_add(1442695040888963407)
+}
+
+/// A command on one of 3 spaces and 6 pages.
+fn command(alloc: Global, draw: u64) -> Result<Command, Fail> {
+    let space = SpaceId::new(1 + (draw >> 20) % 3);
+    let address = ((draw >> 24) % 6) * 4096;
+    let length = ((draw >> 28) % 3) * 4096;
+    let prot = PROTS[((draw >> 32) % 2) as usize];
+    let bytes = Bytes::new(vec![in alloc; ((draw >> 40) % 256) as u8, 7]?);
+    Ok(match (draw >> 50) % 9 {
+        0 | 1 => Command::Mmap {
+            space,
+            address,
+            length,
+            prot,
+        },
+        2 => Command::Munmap {
+            space,
+            address,
+            length,
+        },
+        3 => Command::Mprotect {
+            space,
+            address,
+            length,
+            prot,
+        },
+        4 => Command::Fork { space },
+        5 => Command::Exit { space },
+        6 => Command::TryStore {
+            space,
+            address: address + 4094,
+            bytes,
+        },
+        7 => Command::Fault { space, address },
+        _ => Command::Store {
+            space,
+            address: address + 100,
+            bytes,
+        },
+    })
+}
+
+/// Whether a page of the memory has these permissions and bytes.
+fn is_page(memory: &Memory, space: SpaceId, page: PageNo, found: &SnapshotPage) -> bool {
+    let Some(areas) = memory.areas(space) else {
+        return false;
+    };
+    let mut sector = [0; 512];
+    for at in 0..8 {
+        if !memory.read_sector(space, page, at, &mut sector)
+            || sector.as_slice() != &found.bytes[at * 512..at * 512 + 512]
+        {
+            return false;
+        }
+    }
+    areas.prot_of(page) == Some(found.prot)
+}
+
+/// How many pages the memory has.
+fn page_count(memory: &Memory) -> u32 {
+    let mut after = None;
+    for count in 0..65536 {
+        after = memory.next_page(after);
+        if after.is_none() {
+            return count;
+        }
+    }
+    65536
+}
+
+/// Whether the memory has exactly the pages of a snapshot.
+pub(crate) fn has_just(memory: &Memory, made: &Snapshot) -> bool {
+    let mut count: u32 = 0;
+    for (space, pages) in &made.spaces {
+        for (page, found) in pages {
+            if !is_page(memory, *space, *page, found) {
+                return false;
+            }
+            count = count.wrapping_add(1);
+        }
+    }
+    count == page_count(memory)
+}
+
+#[test]
+fn random_commands(rt: HostRuntime) -> Result<(), Fail> {
+    let alloc = rt.alloc();
+    let mut memory = beginning(alloc)?;
+    let mut entries = Vec::new(alloc);
+    let mut draw = 20261123;
+    for _ in 0..COMMANDS {
+        draw = next(draw);
+        let command = command(alloc, draw)?;
+        tell(alloc, &mut memory, &mut entries, command)?;
+    }
+    let made = made(alloc, &memory, &entries)?;
+    assert!(rt; page_count(&memory) > 0);
+    assert!(rt; has_just(&memory, &made));
+    Ok(())
+}
