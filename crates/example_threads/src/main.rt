@@ -17,7 +17,6 @@ use sd_journal::Receipt;
 use sd_restore::restore;
 use sd_shared::{Seat, Shared};
 use std::alloc::{AllocError, AllocGlobal, Global};
-use std::mem::forget;
 use std::sync::Wait;
 use std::thread;
 use std::thread::Threads;
@@ -116,16 +115,16 @@ fn check<D: Disk + Drop>(
     shared: Shared<D>,
     told: &Told,
 ) -> Result<()> {
-    ensure!(told.sum == TOTAL, "what was loaded adds up to {}", told.sum);
-    println!(rt;
-        "{ROWS} threads filled {ROWS} rows of {COLUMNS} numbers, and loaded each back: {TOTAL} in all"
-    )?;
     let saved = told.acks.len();
     let (core, mut disk) = match shared.close(&told.receipts, &told.acks) {
         Ok(parts) => parts,
         Err(fault) => bail!("the journal doesn't account for what was told: {fault:?}"),
     };
-    forget(core); // the program ends with it
+    core.discard();
+    ensure!(told.sum == TOTAL, "what was loaded adds up to {}", told.sum);
+    println!(rt;
+        "{ROWS} threads filled {ROWS} rows of {COLUMNS} numbers, and loaded each back: {TOTAL} in all"
+    )?;
     println!(rt;
         "the journal accounts for what each of them was told, and for {saved} checkpoints"
     )?;
@@ -146,7 +145,7 @@ fn fill_table<R: Threads + Wait + Sync + Print + AllocGlobal, D: Disk + Drop + S
     match work(rt, rt.alloc(), &shared, seats) {
         Ok(told) => check(rt, shared, &told),
         Err(error) => {
-            forget(shared); // the program ends with it
+            shared.discard();
             Err(error)
         }
     }

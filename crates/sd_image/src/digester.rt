@@ -13,7 +13,7 @@ use std::mem;
 
 /// Makes the digest of an image of version 2: the SHA-256 (FIPS 180-4) of its data pages in file order, its table, and
 /// bytes 1 to 63 of its header.
-#[derive(Debug, Drop)]
+#[derive(Drop)]
 pub struct Digester {
     /// None before the first bytes, so that digesters of nothing are all the same.
     hasher: Option<Sha256>,

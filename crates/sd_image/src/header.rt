@@ -3,7 +3,7 @@ ghost use Rattle.std.specs.Prelude.{◌≡◌};
 ghost use Rattle.sd_image.specs.Words.{kind_name, kind_number, version_number};
 
 /// The version of the format in which an image is written.
-#[derive(Clone, Copy, Debug, PartialEq, Eq, Hash)]
+#[derive(Clone, Copy, PartialEq, Eq)]
 pub enum Version {
     /// Without a digest. It is read, and no longer written.
     One,
@@ -24,7 +24,7 @@ impl Version {
 }
 
 /// What an image is for.
-#[derive(Clone, Copy, Debug, PartialEq, Eq, Hash)]
+#[derive(Clone, Copy, PartialEq, Eq)]
 pub enum Kind {
     /// Saved while its tasks ran; only ever restored through an image that names it.
     PreDump,
@@ -59,7 +59,7 @@ impl Kind {
 }
 
 /// The first 4,096 bytes of an open image.
-#[derive(Clone, Copy, Debug, PartialEq, Eq, Hash)]
+#[derive(Clone, Copy, PartialEq, Eq)]
 pub struct Header {
     pub version: Version,
     pub kind: Kind,

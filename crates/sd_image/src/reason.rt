@@ -3,7 +3,7 @@ use std::error::Error;
 use std::fmt;
 
 /// Why an open slot, or the store, is damaged. It is printed as its number.
-#[derive(Clone, Copy, Debug, PartialEq, Eq, Hash)]
+#[derive(Clone, Copy, Debug, PartialEq, Eq)]
 pub enum Reason {
     /// Bytes 1 to 7 are not the magic.
     Magic,

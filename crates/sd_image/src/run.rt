@@ -1,7 +1,7 @@
 use sd_areas::PageNo;
 
 /// Where an image has the bytes of a run of pages.
-#[derive(Clone, Copy, Debug, PartialEq, Eq, Hash)]
+#[derive(Clone, Copy, PartialEq, Eq)]
 pub enum RunKind {
     /// Among its data pages.
     Data,
@@ -12,7 +12,7 @@ pub enum RunKind {
 }
 
 /// A run of pages that an image has in one way: `count` of them, from `first` on.
-#[derive(Clone, Copy, Debug, PartialEq, Eq, Hash)]
+#[derive(Clone, Copy, PartialEq, Eq)]
 pub struct Run {
     pub first: PageNo,
     pub count: u64,

@@ -2,7 +2,7 @@ use crate::run::Run;
 use sd_areas::{Area, SpaceId};
 
 /// What an image says of one space.
-#[derive(Debug, Drop)]
+#[derive(Drop)]
 pub struct SpaceTable {
     pub space: SpaceId,
     pub areas: Vec<Area>,
@@ -10,7 +10,7 @@ pub struct SpaceTable {
 }
 
 /// The table of an image: its spaces, rising by number.
-#[derive(Debug, Drop)]
+#[derive(Drop)]
 pub struct Table {
     pub spaces: Vec<SpaceTable>,
 }

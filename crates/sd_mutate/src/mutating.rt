@@ -187,7 +187,8 @@ fn run_seats<R: Threads + Wait + Sync, D: Disk + Drop + Send>(
 }
 
 /// The disk of a core that is dropped.
-fn disk_alone<D>(_core: Core, disk: D) -> D {
+fn disk_alone<D>(core: Core, disk: D) -> D {
+    core.discard();
     disk
 }
 
@@ -200,9 +201,10 @@ fn close<D: Disk + Drop>(shared: Shared<D>, told: &Told) -> Option<D> {
 }
 
 /// Drops a shared core of which something was refused.
-fn refuse<D: Disk + Drop>(_shared: Shared<D>, why: Refusal) -> MutateFault
+fn refuse<D: Disk + Drop>(shared: Shared<D>, why: Refusal) -> MutateFault
     ensures { result ≡ MutateFault.Refused why }
 {
+    shared.discard();
     MutateFault::Refused(why)
 }
 

@@ -1,7 +1,7 @@
 use std::alloc::AllocError;
 
 /// Why a step wasn't made.
-#[derive(Clone, Copy, PartialEq, Eq)]
+#[derive(Clone, Copy, Debug, PartialEq, Eq)]
 pub enum OpenError {
     /// A request is out.
     Busy,

@@ -22,9 +22,10 @@ fn check_core(core: &Core, receipts: &[Receipt], acks: &[u64]) -> Result<(), Clo
 }
 
 /// Drops a core and its disk, which have a fault.
-fn refuse<D: Drop>(_core: Core, _disk: D, fault: CloseFault) -> CloseFault
+fn refuse<D: Drop>(core: Core, _disk: D, fault: CloseFault) -> CloseFault
     ensures { result ≡ fault }
 {
+    core.discard();
     fault
 }
 

@@ -137,4 +137,10 @@ impl<D: Disk + Drop> Shared<D> {
             acks,
         )
     }
+
+    /// Drops the core and the disk, of which nobody asks what it holds.
+    pub fn discard(self) {
+        let Shared { core, .. } = self;
+        core.into_inner().into_core().discard();
+    }
 }

@@ -159,7 +159,9 @@ impl<D: Disk> World<D> {
     pub fn close(self) -> D
         ensures { result ≡ self.disk }
     {
-        self.disk
+        let World { core, disk, .. } = self;
+        core.discard();
+        disk
     }
 
     /// The core and the disk, as they stand. What is kept of the workers is dropped.

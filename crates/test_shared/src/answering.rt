@@ -8,7 +8,6 @@ use sd_command::{Refusal, Reply};
 use sd_disk::{Disk, MemDisk, Observed, Observer};
 use sd_shared::{Seat, Shared};
 use std::alloc::Global;
-use std::mem::forget;
 use std::sync::Wait;
 use std::sync::atomic::{AtomicU64, Ordering};
 use std::test::Fail;
@@ -100,11 +99,11 @@ fn a_device_call_holds_no_command_up(rt: HostRuntime) -> Result<(), Fail> {
         return Err(Fail::from("not started"));
     };
     let Some(seat) = seats.first_mut() else {
-        forget(shared);
+        shared.discard();
         return Err(Fail::from("no seat"));
     };
     let stored = save_and_store(&rt, alloc, &shared, seat, &flags);
-    forget(shared);
+    shared.discard();
     assert_eq!(rt; stored, Ok(true));
     Ok(())
 }

@@ -1,5 +1,4 @@
-//! A shared core over a store of eight slots, what is done with it, and its closing. Only this file owns one. Cores
-//! aren't dropped: the process of a test ends with them, and a drop of one takes the prover minutes.
+//! A shared core over a store of eight slots, what is done with it, and its closing. Only this file owns one.
 use crate::beside::{Way, save_beside};
 use crate::cancelling::cancels_beside;
 use crate::case::Case;
@@ -20,7 +19,6 @@ use sd_restore::Fault;
 use sd_shared::{Seat, Shared};
 use sd_world::{OpenFault, audit};
 use std::alloc::{AllocError, Global};
-use std::mem::forget;
 use std::process::Abort;
 use std::rt::Files;
 use std::sync::Wait;
@@ -255,7 +253,7 @@ fn closes(rt: &impl Abort, alloc: Global, shared: Shared<Store>, told: &Told) ->
         Ok((core, mut disk)) => {
             assert_eq!(rt; told.fault, None);
             let audited = audits(rt, alloc, &core, &mut disk, &told.acks);
-            forget(core);
+            core.discard();
             audited
         }
         Err(fault) => {
@@ -274,7 +272,7 @@ fn run<R: Threads + Wait + Clock + Files + Alloc + Abort + Sync>(
     match work(rt, alloc, &shared, &mut seats, case) {
         Ok(told) => closes(rt, alloc, shared, &told),
         Err(fail) => {
-            forget(shared);
+            shared.discard();
             Err(fail)
         }
     }

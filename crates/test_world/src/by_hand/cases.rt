@@ -1,5 +1,4 @@
-//! Cores over stores, and what is done with them. Only this file owns them. Cores aren't dropped: the process of a test
-//! ends with them, and a drop of one takes the prover minutes.
+//! Cores over stores, and what is done with them. Only this file owns them.
 use crate::by_hand::driving::{Row, answers};
 use crate::by_hand::other_disk::knows_its_own;
 use crate::by_hand::outcomes::drops_the_outcome_of_another;
@@ -7,7 +6,6 @@ use crate::by_hand::start::{Store, empty, fresh};
 use sd_core::Core;
 use sd_disk::{Fused, MemDisk};
 use std::alloc::{AllocError, Global};
-use std::mem::forget;
 use std::process::Abort;
 
 /// What is done with a core over a store.
@@ -38,7 +36,7 @@ fn with_another(
 ) -> Result<(), AllocError> {
     let mut other = fresh(alloc)?;
     drops_the_outcome_of_another(rt, core, &mut other, disk);
-    forget(other);
+    other.discard();
     Ok(())
 }
 
@@ -93,7 +91,7 @@ fn with_a_core(
 ) -> Result<(), AllocError> {
     let mut core = fresh(alloc)?;
     let done = act(rt, alloc, &mut core, disk, case);
-    forget(core);
+    core.discard();
     done
 }
 
