@@ -1,7 +1,7 @@
--- One more slot of a disk after a crash.
-use Rattle.std.proofs.Common.{◌≡◌, ⊎_elim, ℕ, ◌+◌, ◌<◌, ◌≤◌, List, [], ◌∷◌, ◌++◌, length, map, take, slice_index, slice_index_or, sym, ap, ◌∙◌, subst, arith}
+-- One more slot of a disk that is new, or after a crash.
+use Rattle.std.proofs.Common.{◌≡◌, ⊎_elim, ℕ, ◌+◌, ◌<◌, ◌≤◌, List, [], ◌∷◌, ◌++◌, length, map, replicate, take, slice_index, slice_index_or, sym, ap, ◌∙◌, subst, arith}
 use Rattle.std.proofs.lemmas.Bool.{cases_lt}
-use Rattle.std.proofs.lemmas.List.{get_or_append_left, length-append, length-map, map-append, take_more, get_or-map, get_or_default, same_lists}
+use Rattle.std.proofs.lemmas.List.{get_or_append_left, length-append, length-map, map-append, replicate-append-replicate, take_more, get_or-map, get_or_default, same_lists}
 use Rattle.std.proofs.Math.Seq.{get_or-append_seam}
 use Rattle.sd_disk.specs.Contents.{file_at}
 use Rattle.sd_disk.specs.Outcomes.{at_rest}
@@ -38,6 +38,16 @@ module _ (slots : List SlotFile) (new : SlotFile) where
   pub rooms_pushed : (rooms : List ℕ) → map room_of slots ≡ take (length slots) rooms → length slots < length rooms
       → room_of new ≡ slice_index rooms (length slots) → map room_of (slots ++ new ∷ []) ≡ take (length slots + 1) rooms
   rooms_pushed rooms before more here = grind (arith, map-append, take_more)
+
+  -- one more that is like the others
+  pub alike_pushed : {X : Type 0} (f : SlotFile → X) (count : ℕ) (x : X) → map f slots ≡ replicate count x → f new ≡ x → map f (slots ++ new ∷ []) ≡ replicate (count + 1) x
+  alike_pushed f count x before here = map-append f slots (new ∷ []) ∙ ap (λ xs. xs ++ f new ∷ []) before
+      ∙ ap (λ y. replicate count x ++ y ∷ []) here ∙ replicate-append-replicate count 1 x
+
+  -- one more that is empty
+  pub empty_pushed : (all : List SlotFile) → all ≡ slots ++ new ∷ [] → held new ≡ [] → ShadowTracks new.shadow (at_rest []) → AreAtRest slots → AreAtRest all
+  empty_pushed all pushed empty tracks rest =
+      subst AreAtRest (sym pushed) (rest_pushed rest (subst (λ file. ShadowTracks new.shadow (at_rest file)) (sym empty) tracks))
 
 pub room_at : (slots : List SlotFile) (number : ℕ) (slot : SlotFile) → number < length slots → slot ≡ slice_index_or slots number slot
     → room_of slot ≡ slice_index (map room_of slots) number
