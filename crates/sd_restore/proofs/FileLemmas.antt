@@ -1,7 +1,7 @@
 -- The file of an open slot is the image that was read from it.
-use Rattle.std.proofs.Common.{◌≡◌, ◌≤◌, ◌+◌, ◌-◌, ◌*◌, ℕ, true, false, List, [], ◌∷◌, ◌++◌, map, drop, length, Ok, Err, refl, sym, ◌∙◌, ap, subst, arith, inl, inr}
-use Rattle.std.specs.Prelude.{slice_range, slice_index}
-use Rattle.std.proofs.lemmas.Bool.{le-leb}
+use Rattle.std.proofs.Common.{◌≡◌, ◌≢◌, ◌<◌, ◌≤◌, ◌+◌, ◌-◌, ◌*◌, ℕ, true, false, List, [], ◌∷◌, ◌++◌, map, drop, length, Ok, Err, refl, sym, ◌∙◌, ap, subst, arith, inl, inr}
+use Rattle.std.specs.Prelude.{◌==◌, nat_le, slice_range, slice_index}
+use Rattle.std.proofs.lemmas.Bool.{and_from, and_right, eq-eqb, le-leb, ne_eqb}
 use Rattle.sd_image.specs.Header.{header_text, IsHeader}
 use Rattle.sd_image.specs.Table.{listing_of, table_text, IsTable}
 use Rattle.sd_image.specs.Image.{Image, IsImage, OpenImages, is_open}
@@ -19,16 +19,31 @@ use Rattle.sd_restore.proofs.TakeLemmas.{taken_all}
 index_of_first : (file : List ℕ) → slice_index (slice_range file 0 4096) 0 ≡ slice_index file 0
 index_of_first file = grind arith
 
--- a file with such a header behind its gate is open
-pub has_header : (file : List ℕ) (h : Header) → slice_index (slice_range file 0 4096) 0 ≡ 165 → drop 1 (slice_range file 0 4096) ≡ header_text h
-    → IsHeader h (length file) → HasHeader file h
-has_header file h gate spelled is = grind (arith, le-leb, index_of_first)
+-- whether a file is open is told by its length and its first byte
+pub short_is_closed : (file : List ℕ) (len : ℕ) → len ≡ length file → len < 4096 → is_open file ≡ false
+short_is_closed file len long short = grind (arith, le-leb)
 
--- so is one whose first bytes were read, and this header in them
-pub read_header : (file : List ℕ) (h : Header) (bytes : List ℕ) (len : ℕ) → bytes ≡ slice_range file 0 4096 → len ≡ length file → slice_index bytes 0 ≡ 165
+pub gate_is_open : (file bytes : List ℕ) (len : ℕ) → len ≡ length file → 4096 ≤ len → bytes ≡ slice_range file 0 4096 → slice_index bytes 0 ≡ 165
+    → is_open file ≡ true
+gate_is_open file bytes len long enough are gate =
+    and_from (nat_le 4096 (length file)) (slice_index file 0 == 165) (le-leb 4096 (length file) (subst (λ n. 4096 ≤ n) long enough))
+    (eq-eqb (slice_index file 0) 165 (sym (ap (λ xs. slice_index xs 0) are ∙ index_of_first file) ∙ gate))
+
+pub gate_is_closed : (file bytes : List ℕ) → bytes ≡ slice_range file 0 4096 → slice_index bytes 0 ≢ 165 → is_open file ≡ false
+gate_is_closed file bytes are gate =
+    and_right (nat_le 4096 (length file)) (slice_index file 0 == 165)
+    (ne_eqb (slice_index file 0) 165 (subst (λ byte. byte ≢ 165) (ap (λ xs. slice_index xs 0) are ∙ index_of_first file) gate))
+
+-- an open file whose first bytes were read, and this header in them, begins with it
+pub has_header : (file : List ℕ) (h : Header) (bytes : List ℕ) (len : ℕ) → is_open file ≡ true → bytes ≡ slice_range file 0 4096 → len ≡ length file
     → (drop 1 bytes ≡ header_text h) × IsHeader h len → HasHeader file h
-read_header file h bytes len are long gate found =
-    has_header file h (subst (λ xs. slice_index xs 0 ≡ 165) are gate) (ap (drop 1) (sym are) ∙ found.0) (subst (IsHeader h) long found.1)
+has_header file h bytes len opens are long found =
+    record { opens = opens; spelled = ap (drop 1) (sym are) ∙ found.0; is = subst (IsHeader h) long found.1 }
+
+-- and where no header is read in them, it breaks a rule
+pub header_is_faulty : (file : List ℕ) (reason : Reason) (bytes : List ℕ) (len : ℕ) → is_open file ≡ true → bytes ≡ slice_range file 0 4096 → len ≡ length file
+    → header_in bytes len ≡ Err reason → IsFaulty file reason
+header_is_faulty file reason bytes len opens are long breaks = grind arith
 
 -- the table is all that stands behind the data pages
 pub table_is_rest : (file : List ℕ) (h : Header) → IsHeader h (length file) → table_bytes h file ≡ drop (4096 + 4096 * h.pages) file

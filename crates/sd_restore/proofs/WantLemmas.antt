@@ -1,22 +1,10 @@
 -- Where reading a store may want memory.
-use Rattle.std.proofs.Common.{◌≡◌, ℕ, true, List, [], drop, length, ◌∙◌, ap, arith}
-use Rattle.std.specs.Prelude.{slice_index, slice_range}
+use Rattle.std.proofs.Common.{◌≡◌, ℕ, true, List, [], ◌∙◌, ap, arith}
 use Rattle.std.proofs.lemmas.Option.{get_or_from_slice_get}
 use Rattle.sd_disk.specs.Contents.{file_at}
-use Rattle.sd_image.specs.declared.header.Header.{Header}
-use Rattle.sd_image.specs.Header.{header_text, IsHeader}
 use Rattle.sd_image.specs.Image.{Image, IsImage, is_open}
 use Rattle.sd_chain.specs.Catalog.{IsSoundCatalog, IsTip, Opened, Places}
 use Rattle.sd_chain.specs.Store.{IsCatalogOf, IsOpenedAs}
-use Rattle.sd_restore.specs.Wants.{WantsMemory}
-use Rattle.sd_restore.proofs.FileLemmas.{read_header}
-
--- a header was read in the first bytes of a slot's file
-pub header_wants : (before contents : List (List ℕ)) (slot : ℕ) (h : Header) (bytes : List ℕ) (len : ℕ) → contents ≡ before
-    → bytes ≡ slice_range (file_at contents slot) 0 4096 → len ≡ length (file_at before slot) → slice_index bytes 0 ≡ 165
-    → (drop 1 bytes ≡ header_text h) × IsHeader h len → WantsMemory (file_at before slot)
-header_wants before contents slot h bytes len same are long gate found =
-    (h, read_header (file_at before slot) h bytes len (are ∙ ap (λ files. slice_range (file_at files slot) 0 4096) same) long gate found)
 
 -- a file that is an image is open
 image_opens : (file : List ℕ) (image : Image) → IsImage file image → is_open file ≡ true

@@ -1,14 +1,14 @@
 //! Reading one slot: its gate, its header, its table and its digest.
-ghost use Rattle.std.specs.Prelude.{◌≡◌, ◌≢◌, ◌+◌, ◌*◌, ◌<◌, ◌≤◌, ◌^◌, List, ℕ, length, map, drop, Some, IfOk, IfSome};
-ghost use Rattle.std.specs.Prelude.{IfErr, IsErrOf, IsSome, slice_range};
+ghost use Rattle.std.specs.Prelude.{◌≡◌, ◌≢◌, ◌+◌, ◌*◌, ◌<◌, ◌≤◌, ◌^◌, ℕ, false, length, IfOk, IfSome, IfErr};
+ghost use Rattle.std.specs.Prelude.{IsErrOf, IsSome, MatchOption, is_some, slice_range};
 ghost use Rattle.sd_disk.specs.Contents.{file_at};
 ghost use Rattle.sd_disk.specs.Reads.{OnlyReads};
 ghost use Rattle.sd_disk.specs.Failures.{HasCause};
-ghost use Rattle.sd_image.specs.Header.{header_text, IsHeader};
-ghost use Rattle.sd_image.specs.Reading.{header_in};
-ghost use Rattle.sd_restore.specs.Calls.{calls_for};
+ghost use Rattle.sd_image.specs.Header.{IsHeader};
+ghost use Rattle.sd_image.specs.Image.{is_open};
+ghost use Rattle.sd_restore.specs.Calls.{calls_for, pages_digested};
 ghost use Rattle.sd_restore.specs.Faulty.{FaultNames, IsFaulty};
-ghost use Rattle.sd_restore.specs.Reading.{IsReading, IsSoundTable, table_bytes};
+ghost use Rattle.sd_restore.specs.Reading.{HasHeader, IsDecodedAs, IsReading, IsSoundTable, table_bytes};
 ghost use Rattle.sd_restore.specs.Wants.{WantsMemory};
 
 use crate::decoded::{Decoded, decode_slot};
@@ -19,33 +19,67 @@ use sd_disk::{DeviceError, Disk, file_len, read_file};
 use sd_image::{GATE, HEADER_SIZE, Header, decode_header};
 use std::alloc::Global;
 
-/// Reads the bytes before the data pages of a slot whose file has them.
-fn read_first<D: Disk>(disk: &mut D, slot: usize) -> Result<[u8; HEADER_SIZE], DeviceError>
+/// Reads the bytes before the data pages of a slot whose file has them, and gives the file's length where its gate is
+/// open.
+fn read_front<D: Disk>(
+    disk: &mut D,
+    slot: usize,
+    bytes: &mut [u8; HEADER_SIZE],
+) -> Result<Option<usize>, DeviceError>
     requires { slot < length (D.contents disk.old) }
-    ensures first { D.is_honest disk.new
-        → IfOk result (λ bytes. bytes ≡ slice_range (file_at (D.contents disk.old) slot) 0 4096) }
+    ensures opened { D.is_honest disk.new → IfOk result
+        (λ opened. is_open (file_at (D.contents disk.old) slot) ≡ is_some opened) }
+    ensures first { D.is_honest disk.new → IfOk result (λ opened. IfSome opened
+        (λ len. (len ≡ length (file_at (D.contents disk.old) slot))
+        × (bytes.new ≡ slice_range (file_at (D.contents disk.old) slot) 0 4096))) }
     ensures reads { OnlyReads D.Disk disk.old disk.new }
     ensures cause { HasCause (D.failed disk.old) (D.failed disk.new) result }
-    ensures counted { D.calls disk.new ≡ D.calls disk.old + 1 }
+    ensures calls { D.is_honest disk.new → D.calls disk.new
+        ≤ D.calls disk.old + calls_for (file_at (D.contents disk.old) slot) }
+    ensures few { D.calls disk.new ≤ D.calls disk.old + 2 }
 {
-    let mut bytes = [0; HEADER_SIZE];
-    read_file(disk, slot, 0, &mut bytes)?;
-    Ok(bytes)
+    let len = file_len(disk, slot)?;
+    if len < HEADER_SIZE {
+        return Ok(None);
+    }
+    read_file(disk, slot, 0, bytes)?;
+    if bytes[0] != GATE {
+        return Ok(None);
+    }
+    Ok(Some(len))
 }
 
-/// The header in the first bytes of a slot whose file has this length.
-fn header_of(slot: usize, bytes: &[u8], len: usize) -> Result<Header, Fault>
-    requires { length bytes.now ≡ 4096 }
-    ensures exact { IfOk result (λ header. header_in bytes.now len ≡ Ok header) }
-    ensures faulty { IfErr result
-        (FaultNames (λ s reason. (s ≡ slot) × (header_in bytes.now len ≡ Err reason))) }
-    ensures found { IfOk result
-        (λ header. (drop 1 bytes.now ≡ header_text header) × IsHeader header len) }
+/// Reads the header of a slot, or none where the slot is closed.
+fn read_header<D: Disk>(disk: &mut D, slot: usize) -> Result<Option<Header>, Fault>
+    requires { slot < length (D.contents disk.old) }
+    ensures header { D.is_honest disk.new → IfOk result (λ opened. MatchOption opened
+        (is_open (file_at (D.contents disk.old) slot) ≡ false)
+        (HasHeader (file_at (D.contents disk.old) slot))) }
+    ensures found { IfOk result (λ opened. IfSome opened
+        (λ header. (len : ℕ) × (len < 2 ^ 64) × IsHeader header len)) }
+    ensures faulty { D.is_honest disk.new
+        → IfErr result (FaultNames
+        (λ s reason. (s ≡ slot) × IsFaulty (file_at (D.contents disk.old) slot) reason)) }
+    ensures reads { OnlyReads D.Disk disk.old disk.new }
+    ensures device { IsErrOf result Fault.Device → D.failed disk.old < D.failed disk.new }
+    ensures stops { D.failed disk.old < D.failed disk.new → IsErrOf result Fault.Device }
+    ensures calls { D.is_honest disk.new → D.calls disk.new
+        ≤ D.calls disk.old + calls_for (file_at (D.contents disk.old) slot) }
+    // Of an open slot, the table's call and those of the digest are left.
+    ensures left { D.is_honest disk.new → IfOk result (λ opened. IfSome opened
+        (λ header. D.calls disk.new + 1 + pages_digested header.version header.pages
+        ≤ D.calls disk.old + calls_for (file_at (D.contents disk.old) slot))) }
     ensures empty { result ≢ Err Fault.EmptyChain }
-    ensures device { result ≢ Err Fault.Device }
     ensures memory { result ≢ Err Fault.OutOfMemory }
 {
-    decode_header(bytes, len as u64).map_err(|reason| Fault::Damaged { slot, reason })
+    let mut bytes = [0; HEADER_SIZE];
+    let Some(len) = read_front(disk, slot, &mut bytes)? else {
+        return Ok(None);
+    };
+    match decode_header(&bytes, len as u64) {
+        Ok(header) => Ok(Some(header)),
+        Err(reason) => Err(Fault::Damaged { slot, reason }),
+    }
 }
 
 /// Reads the bytes of the table of an image with this header.
@@ -73,6 +107,34 @@ fn read_table<D: Disk>(
     Ok(bytes)
 }
 
+/// Reads what stands behind the header of a slot: its table, and the data pages of version 2, for their digest.
+fn read_behind<D: Disk>(
+    alloc: Global,
+    disk: &mut D,
+    slot: usize,
+    header: Header,
+) -> Result<Decoded, Fault>
+    requires slot { slot < length (D.contents disk.old) }
+    requires fits { 4096 + 4096 * header.pages + header.table_len < 2 ^ 64 }
+    ensures decoded { D.is_honest disk.new → HasHeader (file_at (D.contents disk.old) slot) header
+        → IfOk result (IsDecodedAs (file_at (D.contents disk.old) slot)) }
+    ensures sound { (len : ℕ) → IsHeader header len → IfOk result IsSoundTable }
+    ensures faulty { D.is_honest disk.new → HasHeader (file_at (D.contents disk.old) slot) header
+        → IfErr result (FaultNames
+        (λ s reason. (s ≡ slot) × IsFaulty (file_at (D.contents disk.old) slot) reason)) }
+    ensures reads { OnlyReads D.Disk disk.old disk.new }
+    ensures device { IsErrOf result Fault.Device → D.failed disk.old < D.failed disk.new }
+    ensures stops { D.failed disk.old < D.failed disk.new → IsErrOf result Fault.Device }
+    ensures calls { D.calls disk.new
+        ≤ D.calls disk.old + 1 + pages_digested header.version header.pages }
+    ensures empty { result ≢ Err Fault.EmptyChain }
+{
+    let table = read_table(alloc, disk, slot, &header)?;
+    let decoded = decode_slot(alloc, slot, header, &table)?;
+    check_digest(alloc, disk, slot, &header, &table)?;
+    Ok(decoded)
+}
+
 /// Reads a slot: what it says of its image, whose digest it checks, or none where it is closed.
 pub fn read_slot<D: Disk>(
     alloc: Global,
@@ -98,17 +160,9 @@ pub fn read_slot<D: Disk>(
     ensures wanted { D.is_honest disk.new → result ≡ Err Fault.OutOfMemory
         → WantsMemory (file_at (D.contents disk.old) slot) }
 {
-    let len = file_len(disk, slot)?;
-    if len < HEADER_SIZE {
+    let Some(header) = read_header(disk, slot)? else {
         return Ok(None);
-    }
-    let bytes = read_first(disk, slot)?;
-    if bytes[0] != GATE {
-        return Ok(None);
-    }
-    let header = header_of(slot, &bytes, len)?;
-    let table = read_table(alloc, disk, slot, &header)?;
-    let decoded = decode_slot(alloc, slot, header, &table)?;
-    check_digest(alloc, disk, slot, &header, &table)?;
+    };
+    let decoded = read_behind(alloc, disk, slot, header)?;
     Ok(Some(decoded))
 }
