@@ -167,8 +167,30 @@ impl Core {
         }
     }
 
-    /// Drops a core. Whoever ends with one calls this, so that no other crate proves that drop.
-    pub fn discard(self) {}
+    /// Drops a core, part by part. Whoever ends with one calls this, so that no other crate proves that drop.
+    pub fn discard(self) {
+        let Core {
+            base,
+            memory,
+            journal,
+            phases,
+            catalog,
+            dumper,
+            merger,
+            room,
+            opener,
+            ..
+        } = self;
+        drop(base);
+        drop(memory);
+        drop(journal);
+        drop(phases);
+        drop(catalog);
+        drop(dumper);
+        drop(merger);
+        drop(room);
+        drop(opener);
+    }
 
     /// How many steps and outcomes a worker's job has before it, at most: 0 exactly while it is idle. It goes over the
     /// mapped pages one by one, and isn't for a step.
