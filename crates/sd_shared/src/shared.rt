@@ -138,7 +138,8 @@ impl<D: Disk + Drop> Shared<D> {
         )
     }
 
-    /// Drops the core and the disk, of which nobody asks what it holds.
+    /// Drops the core and the disk. What was acknowledged is on the disk; a checkpoint that runs is given up, as by a
+    /// crash. [`Shared::close`] gives both back instead, where the journal accounts for what was told.
     pub fn discard(self) {
         let Shared { core, .. } = self;
         core.into_inner().into_core().discard();
