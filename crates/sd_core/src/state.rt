@@ -167,8 +167,8 @@ impl Core {
         }
     }
 
-    /// Drops a core, part by part. No file changes. Whoever ends with one calls this, so that no other crate proves that
-    /// drop.
+    /// Drops a core, part by part. No file changes. Whoever ends with one calls this, so that no other crate proves
+    /// that drop.
     pub fn discard(self) {
         let Core {
             base,
