@@ -6,7 +6,8 @@ use sd_chain::Found;
 use sd_disk::Disk;
 use sd_image::SpaceTable;
 use sd_restore::{Fault, PlacedMemory, PlacedRun, place_newest, scan};
-use serde_json::{Value, json};
+use sd_show::numbers_object;
+use serde_json::{Value, put};
 use std::alloc::{AllocError, Global};
 
 /// How many pages, and how many of them are zeros without bytes in a file.
@@ -48,11 +49,15 @@ fn count_in(runs: &[PlacedRun], space: SpaceId) -> Counts {
 
 /// An area.
 fn area_json(alloc: Global, area: &Area) -> Result<Value, AllocError> {
-    json!(in alloc; {
-        "first": area.first.number(),
-        "count": area.count,
-        "permissions": area.prot.bits()
-    })
+    let shown = numbers_object(
+        alloc,
+        &[
+            ("first", area.first.number()),
+            ("count", area.count),
+            ("permissions", u64::from(area.prot.bits())),
+        ],
+    )?;
+    Ok(Value::Object(shown))
 }
 
 /// Areas, in their order.
@@ -66,14 +71,17 @@ fn areas_json(alloc: Global, areas: &[Area]) -> Result<Value, AllocError> {
 
 /// A space: its areas, and how many of these pages are its.
 fn space_json(alloc: Global, space: &SpaceTable, runs: &[PlacedRun]) -> Result<Value, AllocError> {
-    let areas = areas_json(alloc, &space.areas)?;
     let counts = count_in(runs, space.space);
-    json!(in alloc; {
-        "space": space.space.number(),
-        "areas": areas,
-        "pages": counts.pages,
-        "zeros": counts.zeros
-    })
+    let mut shown = numbers_object(
+        alloc,
+        &[
+            ("space", space.space.number()),
+            ("pages", counts.pages),
+            ("zeros", counts.zeros),
+        ],
+    )?;
+    put(&mut shown, alloc, "areas", areas_json(alloc, &space.areas)?)?;
+    Ok(Value::Object(shown))
 }
 
 /// The spaces of a memory, rising.
@@ -83,6 +91,21 @@ fn spaces_json(alloc: Global, placed: &PlacedMemory<'_>) -> Result<Value, AllocE
         shown.push(space_json(alloc, space, &placed.runs)?)?;
     }
     Ok(Value::from(shown))
+}
+
+/// A memory: its checkpoint, its spaces, and how many pages there are.
+fn memory_json(alloc: Global, placed: &PlacedMemory<'_>) -> Result<Value, AllocError> {
+    let counts = count_all(&placed.runs);
+    let mut shown = numbers_object(
+        alloc,
+        &[
+            ("checkpoint", placed.checkpoint),
+            ("pages", counts.pages),
+            ("zeros", counts.zeros),
+        ],
+    )?;
+    put(&mut shown, alloc, "spaces", spaces_json(alloc, placed)?)?;
+    Ok(Value::Object(shown))
 }
 
 /// A document of the memory that a store shows: its checkpoint, its spaces with their areas, and how many pages are
@@ -97,13 +120,5 @@ pub fn memory_document<D: Disk>(alloc: Global, disk: &mut D) -> Result<Value, Fa
 {
     let catalog = scan(alloc, disk)?;
     let placed = place_newest(alloc, &catalog)?;
-    let spaces = spaces_json(alloc, &placed)?;
-    let counts = count_all(&placed.runs);
-    let document = json!(in alloc; {
-        "checkpoint": placed.checkpoint,
-        "spaces": spaces,
-        "pages": counts.pages,
-        "zeros": counts.zeros
-    })?;
-    Ok(document)
+    Ok(memory_json(alloc, &placed)?)
 }

@@ -63,6 +63,29 @@ fn feed_behind<D: Disk>(
     Ok(())
 }
 
+/// The digest of a file of this length, whose first page is `front`, read through a buffer.
+fn hash_file<D: Disk>(
+    disk: &mut D,
+    slot: usize,
+    len: usize,
+    front: &[u8; HEADER_SIZE],
+    buffer: &mut [u8],
+) -> Result<[u8; 32], DeviceError>
+    requires slot { slot < length (D.contents disk.old) }
+    requires long { 4096 ≤ len }
+    requires room { length buffer.old ≡ 65536 }
+    ensures digest { D.is_honest disk.new → len ≡ length (file_at (D.contents disk.old) slot)
+        → front.now ≡ slice_range (file_at (D.contents disk.old) slot) 0 4096
+        → IfOk result (λ digest. digest ≡ digest_of_file (file_at (D.contents disk.old) slot)) }
+    ensures reads { OnlyReads D.Disk disk.old disk.new }
+    ensures cause { HasCause (D.failed disk.old) (D.failed disk.new) result }
+{
+    let mut hasher = Sha256::new();
+    feed_behind(disk, slot, len, buffer, &mut hasher)?;
+    hasher.update(&front[1..64]);
+    Ok(hasher.finalize())
+}
+
 /// The digest of a slot's file of this length: of all that stands behind its header, and of bytes 1 to 63. It holds 16
 /// pages at a time.
 ///
@@ -86,8 +109,5 @@ pub(crate) fn digest_of<D: Disk>(
     ensures stops { D.failed disk.old < D.failed disk.new → IsErrOf result stop.Device }
 {
     let mut buffer = vec![in alloc; 0u8; BYTES_AT_ONCE]?;
-    let mut hasher = Sha256::new();
-    feed_behind(disk, slot, len, &mut buffer, &mut hasher)?;
-    hasher.update(&front[1..64]);
-    Ok(hasher.finalize())
+    Ok(hash_file(disk, slot, len, front, &mut buffer)?)
 }

@@ -11,6 +11,7 @@ use crate::header_text::digest_word;
 use crate::items::{
     ITEM_SIZE, SPACE_HEAD_SIZE, TABLE_HEAD_SIZE, areas_in, behind_run, behind_space, runs_in,
 };
+use crate::numbers::numbers_object;
 use crate::opened::Opened;
 use crate::phrases::reason_phrase;
 use crate::seen::{Seen, read_slot};
@@ -18,7 +19,7 @@ use crate::state::state_word;
 use crate::stop::Stop;
 use sd_disk::Disk;
 use sd_image::{HEADER_SIZE, Reason, u16_at, u32_at, u64_at};
-use serde_json::{Value, json};
+use serde_json::{Map, Value, json, put};
 use std::alloc::{AllocError, Global};
 use std::io::Write;
 
@@ -33,26 +34,34 @@ fn fault_json(alloc: Global, fault: Option<Reason>) -> Result<Value, AllocError>
 /// The fields of a header.
 fn header_json(alloc: Global, front: &[u8; HEADER_SIZE]) -> Result<Value, AllocError> {
     let digest = hex::encode(alloc, &front[64..96])?;
-    json!(in alloc; {
-        "version": u16_at(front, 8),
-        "kind": u16_at(front, 10),
-        "serial": u64_at(front, 16),
-        "stands_for": u64_at(front, 24),
-        "parent": u64_at(front, 32),
-        "checkpoint": u64_at(front, 40),
-        "pages": u64_at(front, 48),
-        "table_len": u64_at(front, 56),
-        "digest": digest
-    })
+    let mut header = numbers_object(
+        alloc,
+        &[
+            ("version", u64::from(u16_at(front, 8))),
+            ("kind", u64::from(u16_at(front, 10))),
+            ("serial", u64_at(front, 16)),
+            ("stands_for", u64_at(front, 24)),
+            ("parent", u64_at(front, 32)),
+            ("checkpoint", u64_at(front, 40)),
+            ("pages", u64_at(front, 48)),
+            ("table_len", u64_at(front, 56)),
+        ],
+    )?;
+    put(&mut header, alloc, "digest", Value::String(digest))?;
+    Ok(Value::Object(header))
 }
 
 /// An area.
 fn area_json(alloc: Global, area: &[u8; ITEM_SIZE]) -> Result<Value, AllocError> {
-    json!(in alloc; {
-        "first": u64_at(area, 0),
-        "count": u64_at(area, 8),
-        "permissions": u32_at(area, 16)
-    })
+    let area = numbers_object(
+        alloc,
+        &[
+            ("first", u64_at(area, 0)),
+            ("count", u64_at(area, 8)),
+            ("permissions", u64::from(u32_at(area, 16))),
+        ],
+    )?;
+    Ok(Value::Object(area))
 }
 
 /// Areas, in their order.
@@ -68,12 +77,16 @@ fn areas_json(alloc: Global, areas: &[[u8; ITEM_SIZE]]) -> Result<Value, AllocEr
 fn run_json(alloc: Global, at: Option<u64>, run: &[u8; ITEM_SIZE]) -> Result<Value, AllocError> {
     let kind = u32_at(run, 16);
     let offset = if kind == 1 { at } else { None };
-    json!(in alloc; {
-        "first": u64_at(run, 0),
-        "count": u64_at(run, 8),
-        "kind": kind,
-        "offset": offset
-    })
+    let mut shown = numbers_object(
+        alloc,
+        &[
+            ("first", u64_at(run, 0)),
+            ("count", u64_at(run, 8)),
+            ("kind", u64::from(kind)),
+        ],
+    )?;
+    put(&mut shown, alloc, "offset", Value::from(offset))?;
+    Ok(Value::Object(shown))
 }
 
 /// Runs, in their order, and where the next data page stands behind them.
@@ -99,10 +112,13 @@ fn space_json(
 ) -> Result<(Value, Option<u64>), AllocError>
     requires { 16 ≤ length bytes.now }
 {
+    let number = u64::from(u32_at(bytes, 0));
+    let mut space = numbers_object(alloc, &[("space", number)])?;
     let areas = areas_json(alloc, areas_in(bytes))?;
+    put(&mut space, alloc, "areas", areas)?;
     let (runs, next) = runs_json(alloc, at, runs_in(bytes))?;
-    let space = json!(in alloc; {"space": u32_at(bytes, 0), "areas": areas, "runs": runs})?;
-    Ok((space, next))
+    put(&mut space, alloc, "runs", runs)?;
+    Ok((Value::Object(space), next))
 }
 
 /// So many spaces, as far as the bytes go.
@@ -129,19 +145,45 @@ fn table_json(alloc: Global, table: &[u8]) -> Result<Value, AllocError> {
     spaces_json(alloc, u32_at(table, 0), &table[TABLE_HEAD_SIZE..])
 }
 
+/// Puts that a slot is open, and what its digest is.
+fn put_words(
+    alloc: Global,
+    shown: &mut Map<String, Value>,
+    digest: &str,
+) -> Result<(), AllocError> {
+    let open = Value::try_from_str(alloc, "open")?;
+    put(shown, alloc, "state", open)?;
+    let digest = Value::try_from_str(alloc, digest)?;
+    put(shown, alloc, "digest", digest)
+}
+
 /// An open slot.
 fn opened_json(alloc: Global, slot: usize, opened: &Opened) -> Result<Value, AllocError> {
-    let fault = fault_json(alloc, opened.fault)?;
-    let header = header_json(alloc, &opened.front)?;
-    let spaces = table_json(alloc, &opened.table)?;
-    json!(in alloc; {
-        "slot": slot,
-        "state": "open",
-        "damaged": fault,
-        "header": header,
-        "digest": digest_word(&opened.front, &opened.digest),
-        "spaces": spaces
-    })
+    let mut shown = numbers_object(alloc, &[("slot", slot as u64)])?;
+    put(
+        &mut shown,
+        alloc,
+        "damaged",
+        fault_json(alloc, opened.fault)?,
+    )?;
+    put(
+        &mut shown,
+        alloc,
+        "header",
+        header_json(alloc, &opened.front)?,
+    )?;
+    put(
+        &mut shown,
+        alloc,
+        "spaces",
+        table_json(alloc, &opened.table)?,
+    )?;
+    put_words(
+        alloc,
+        &mut shown,
+        digest_word(&opened.front, &opened.digest),
+    )?;
+    Ok(Value::Object(shown))
 }
 
 /// A slot.

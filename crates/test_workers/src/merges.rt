@@ -6,4 +6,3 @@ mod facts;
 mod parts;
 mod rows;
 mod slots;
-mod stop;

@@ -1,7 +1,8 @@
 //! Why a test goes no further.
+use sd_chain::CatalogError;
+use sd_disk::DeviceError;
 use sd_pagetable::{AccessError, MemoryError};
 use sd_restore::Fault;
-use sd_rounds::WorkError;
 use std::alloc::{AllocError, AllocFailed};
 
 #[derive(Clone, Copy, Debug)]
@@ -12,15 +13,23 @@ pub(crate) enum Stop {
     Memory,
     /// The dumper refused.
     Dumper,
+    /// The merger refused.
+    Merger,
+    /// The catalog doesn't take an image.
+    Catalog,
+    /// A device call failed where none may.
+    Device,
     /// The disk isn't restored.
     Unrestored,
+    /// Nothing was saved yet.
+    NoTip,
     /// There is no such slot, space or page.
     Missing,
     /// An outcome that may not come here, or a freeze or an end that may not.
     Strange,
     /// What is left of a checkpoint doesn't fall.
     Left,
-    /// A checkpoint or a part of it doesn't end.
+    /// A checkpoint, a part of it or a merge doesn't end.
     NoEnd,
 }
 
@@ -51,12 +60,30 @@ impl From<AccessError> for Stop {
     }
 }
 
-impl From<WorkError> for Stop {
-    fn from(error: WorkError) -> Stop {
+impl From<sd_rounds::WorkError> for Stop {
+    fn from(error: sd_rounds::WorkError) -> Stop {
         match error {
-            WorkError::OutOfMemory => Stop::OutOfMemory,
-            WorkError::Busy | WorkError::Idle => Stop::Dumper,
+            sd_rounds::WorkError::OutOfMemory => Stop::OutOfMemory,
+            sd_rounds::WorkError::Busy | sd_rounds::WorkError::Idle => Stop::Dumper,
         }
+    }
+}
+
+impl From<sd_merge::WorkError> for Stop {
+    fn from(_error: sd_merge::WorkError) -> Stop {
+        Stop::Merger
+    }
+}
+
+impl From<CatalogError> for Stop {
+    fn from(_error: CatalogError) -> Stop {
+        Stop::Catalog
+    }
+}
+
+impl From<DeviceError> for Stop {
+    fn from(_error: DeviceError) -> Stop {
+        Stop::Device
     }
 }
 

@@ -6,6 +6,16 @@ use crate::limits::SECTOR_SIZE;
 use sd_areas::{PageNo, SPACE_LIMIT, SpaceId};
 use std::ops::Bound;
 
+/// Copies a sector of a page.
+fn copy_sector(page: &[u8], sector: usize, bytes: &mut [u8; SECTOR_SIZE])
+    requires whole { length page.now ≡ 4096 }
+    requires within { sector < 8 }
+    ensures { bytes.new ≡ slice_range page.now (512 * sector) (512 * sector + 512) }
+{
+    let start = SECTOR_SIZE * sector;
+    bytes.copy_from_slice(&page[start..start + SECTOR_SIZE]);
+}
+
 impl Memory {
     ghost use Rattle.std.specs.Option.{option_map};
     ghost use Rattle.sd_pagetable.specs.Page.{PageState};
@@ -49,8 +59,7 @@ impl Memory {
         let Some(found) = self.paging.bytes(space, page) else {
             return false;
         };
-        let start = SECTOR_SIZE * sector;
-        bytes.copy_from_slice(&found[start..start + SECTOR_SIZE]);
+        copy_sector(found, sector, bytes);
         true
     }
 

@@ -3,7 +3,7 @@
 use crate::merges::drive::Drive;
 use crate::merges::facts::{Fact, NOTHING, is_so, room_of};
 use crate::merges::parts::retire;
-use crate::merges::stop::Stop;
+use crate::stop::Stop;
 use sd_rounds::PageBuffers;
 use std::alloc::Global;
 use std::mem::forget;

@@ -2,7 +2,7 @@
 use crate::merges::parts::{
     Device, Watch, dump_step, merge_step, needless, retire, serials_of, source_of,
 };
-use crate::merges::stop::Stop;
+use crate::stop::Stop;
 use sd_areas::{Prot, SpaceId};
 use sd_chain::{Catalog, PlacedTable};
 use sd_disk::{Fused, MemDisk};

@@ -1,7 +1,7 @@
 //! What a drive shows.
 use crate::merges::drive::{Drive, FIRST, PAGE, SLOTS, SPACE};
 use crate::merges::parts::Device;
-use crate::merges::stop::Stop;
+use crate::stop::Stop;
 use sd_areas::{PageNo, Snapshot, SpaceId};
 use sd_chain::Catalog;
 use sd_disk::Disk;
@@ -99,7 +99,7 @@ fn images(catalog: &Catalog) -> Result<usize, AllocError> {
 /// How long the file of a slot is.
 fn len(disk: &mut Device, slot: usize) -> Result<usize, Stop> {
     if disk.slots() <= slot {
-        return Err(Stop::NoSlot);
+        return Err(Stop::Missing);
     }
     Ok(disk.len(slot)?)
 }

@@ -1,5 +1,5 @@
 //! A step of a dumper or of a merger, with its device call.
-use crate::merges::stop::Stop;
+use crate::stop::Stop;
 use sd_chain::Catalog;
 use sd_disk::{Disk, Fused, MemDisk};
 use sd_gate::{Outcome, Request, SlotState, perform};
@@ -44,7 +44,7 @@ impl Watch {
 /// Makes a device call.
 fn call(disk: &mut Device, request: Request) -> Result<Outcome, Stop> {
     if disk.slots() <= request.id().slot {
-        return Err(Stop::NoSlot);
+        return Err(Stop::Missing);
     }
     Ok(perform(disk, request))
 }

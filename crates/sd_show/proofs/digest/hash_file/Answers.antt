@@ -3,7 +3,7 @@ use Rattle.std.specs.Prelude.{slice_range}
 use Rattle.sha2.specs.Sha256.{sha256}
 use Rattle.sd_disk.specs.Contents.{file_at}
 use Rattle.sd_show.proofs.ByteLemmas.{front_of_front, range_to_end}
-use Rattle.sd_show.proofs.digest.digest_of.Goals as goal
+use Rattle.sd_show.proofs.digest.hash_file.Goals as goal
 
 pub returns-clause-digest : goal.returns-clause-digest
 returns-clause-digest g c = λ honest long front.
