@@ -112,5 +112,86 @@ lines_beside_a_run_are_whole() {
   same "the last checkpoint" "$("$ckpt" verify store | cut -d ' ' -f 1-3)" "ok checkpoint $count"
 }
 
+# Two moments of a store whose images have nothing in common: before is checkpoint 1 in slot 0, after is checkpoint 2 in
+# slot 2, and slots 0 and 1 are closed.
+make_moments() {
+  make_store before || return 1
+  cp -a before after
+  printf '%s\n' 'munmap 1 0x10000 4096' 'mmap 1 0x20000 0x3000 rw' 'store 1 0x21000 77' 'checkpoint 0' merge > script
+  "$ckpt" run after script > made || { cat made; return 1; }
+  cc -O2 -shared -fPIC -o swap.so "$here/swap_files.c" || return 1
+  printf '%s\n' '#!/bin/sh' 'for file in after/img-*; do cat "$file" > "store/${file#after/}"; done' > swap
+  chmod +x swap
+}
+
+# What a reader prints of a moment, with the files of an export.
+answer_of() {  # answer_of STORE WORD..; % among the words stands for the store
+  local store=$1
+  shift
+  rm -rf cores
+  "$ckpt" ${*/\%/$store} > shown
+  echo "status $?"
+  cat shown
+  [ ! -d cores ] || (cd cores && ls -A && cksum -- *)
+}
+
+# Who reads a store while it changes between two of its calls, and while a run has its lock, answers as of one of both
+# moments: it tries again, and mixes nothing.
+readers_try_again_and_mix_no_moments() {
+  command -v cc > found || { echo "no C compiler"; return 77; }
+  command -v flock > found || { echo "needs flock"; return 77; }
+  make_moments || return 1
+  export ASAN_OPTIONS=verify_asan_link_order=0
+  local words number count tried=0 step=7
+  [ -z "${CHECKED:-}" ] || step=61
+  rm -rf store && cp -a before store
+  exec 8< store
+  flock -n 8 || { echo "the lock isn't to be had"; return 1; }
+  for words in "restore %" "list %" "verify %" "restore --json %" "list --json %" "verify --json %" "show %" \
+    "show --json %" "export % cores"; do
+    answer_of before $words > before.text
+    answer_of after $words > after.text
+    number=1
+    count=1
+    while [ "$number" -le "$count" ]; do
+      (cd before && for file in img-*; do cat "$file" > "../store/$file"; done)
+      LD_PRELOAD=$PWD/swap.so SWAP_AT=$number SWAP="$PWD/swap" COUNTED=$PWD/count answer_of store $words > text 2> err
+      cmp -s text before.text || cmp -s text after.text \
+        || { echo "$words, swapped at call $number:"; cat text err; return 1; }
+      count=$(($(cat count)))
+      rm count
+      number=$((number + step))
+      tried=$((tried + 1))
+    done
+  done
+  exec 8<&-
+  [ "$tried" -gt 20 ] || { echo "$tried cases"; return 1; }
+}
+
+# A store that never comes to rest while a run has its lock is answered with a fault, and the run is named.
+readers_that_give_up_name_the_run() {
+  command -v flock > found || { echo "needs flock"; return 77; }
+  hello_store 2 || return 1
+  flip 5000
+  exec 8< store
+  flock -n 8 || { echo "the lock isn't to be had"; return 1; }
+  local words
+  for words in "restore store" "list store" "verify store" "restore --json store" "export store cores"; do
+    same "the status of $words" "$(ends "$ckpt" $words)" 1 || return 1
+    has "the fault of $words" "$(cat out)" damaged || return 1
+    has "its cause" "$(cat err)" "ckpt: store: a run is writing this store; try again when it has ended" || return 1
+  done
+  same "the status of an export into it" "$(ends "$ckpt" export --force store store)" 1 || return 1
+  exec 8<&-
+  make_store other || return 1
+  exec 8< other
+  flock -n 8 || { echo "the lock isn't to be had"; return 1; }
+  ends_with 1 "cannot write OUT" "ckpt: other: a run is writing this store; try again when it has ended" \
+    "$ckpt" export other other || return 1
+  exec 8<&-
+}
+
 try readers_beside_a_run_see_one_moment
 try lines_beside_a_run_are_whole
+try readers_try_again_and_mix_no_moments
+try readers_that_give_up_name_the_run

@@ -196,6 +196,24 @@ unfit_lines_are_explained() {
   done <<< "$unfit_lines"
 }
 
+# At most 80 bytes of a field or of a line are quoted, and no part of a letter.
+long_fields_and_lines_are_quoted_in_part() {
+  local long front
+  long=$(printf 'a%.0s' {1..500})
+  front=$(printf 'a%.0s' {1..80})
+  echo "work $long" > script
+  ends_with 2 "script line 1" "ckpt: script: line 1: field 2 has to be dumper, merger or opener, not \"$front\".." \
+    "$ckpt" run --check script || return 1
+  echo "work a$(printf 'é%.0s' {1..100})" > script
+  front=a$(printf 'é%.0s' {1..39})
+  ends_with 2 "script line 1" "ckpt: script: line 1: field 2 has to be dumper, merger or opener, not \"$front\".." \
+    "$ckpt" run --check script || return 1
+  echo "store 1 0x10000 $long" > script
+  ends_with 1 "reopened none
+refused 1 EINVAL" "script line 1: store 1 0x10000 $(printf 'a%.0s' {1..64})..: refused 1 EINVAL" \
+    "$ckpt" run --strict store script
+}
+
 try damage_is_told_in_words
 try broken_chains_are_told
 try few_slots_are_told
@@ -207,3 +225,4 @@ try folders_that_are_not_opened_are_told
 try folders_without_files_are_told
 try mistakes_are_told
 try unfit_lines_are_explained
+try long_fields_and_lines_are_quoted_in_part

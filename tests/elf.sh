@@ -168,6 +168,34 @@ export_that_cannot_write_leaves_no_file() {
   done
 }
 
+# Where the second of two files can't have its name, the first isn't replaced.
+export_replaces_all_or_nothing() {
+  make_spaces || return 1
+  mkdir -p cores/space-2.core
+  echo older > cores/space-1.core
+  ends_with 1 "cannot write OUT" "ckpt: cores: space-2.core is a folder" "$ckpt" export store cores --force || return 1
+  same "the folder" "$(ls -A cores)" "space-1.core
+space-2.core" || return 1
+  same "the first file" "$(cat cores/space-1.core)" older
+}
+
+# The calls of an export on its files: s a sync of a file, d one of the folder, r a name that is given.
+calls_of_an_export() {
+  awk -v folder="<$(pwd)/cores>" '
+    /^fsync|^fdatasync/ { printf index($0, ".core.part>") ? "s" : index($0, folder) ? "d" : "" }
+    /^rename/ { printf "r" }' calls-of-run
+}
+
+# Both files are on the device before the first has its name, and so are the names at the end.
+files_of_an_export_are_synced_before_they_have_their_names() {
+  command -v strace > found || { echo "needs strace"; return 77; }
+  strace -o calls-of-run true 2> err || { echo "strace can't run here"; return 77; }
+  make_spaces || return 1
+  mkdir cores
+  strace -y -o calls-of-run -e trace=fsync,fdatasync,rename,renameat,renameat2 "$ckpt" export store cores || return 1
+  same "the calls" "$(calls_of_an_export)" ssrrd
+}
+
 # An import whose first line can't be printed saves nothing.
 import_that_is_not_printed_saves_nothing() {
   has_full_device || return
@@ -224,6 +252,49 @@ acked 2" "" "$ckpt" import store before/space-1.core --space 3 --rounds 2 || ret
   kept=$("$ckpt" restore store)
   ends_with 1 "refused 3 no-such-space" "" "$ckpt" import store before/space-1.core --space 9 || return 1
   same "what is restored" "$("$ckpt" restore store)" "$kept"
+}
+
+# The rounds of an import are pre-dumps of its checkpoint.
+import_makes_rounds() {
+  one_area_core 7 > core
+  ends_with 0 "imported 2 changed 2
+acked 1" "" "$ckpt" import store core --rounds 2 || return 1
+  same "the images" "$("$ckpt" list store | cut -d ' ' -f 3,10,11)" "pre-dump checkpoint 1
+pre-dump checkpoint 1
+dump checkpoint 1" || return 1
+  ends_with 0 "imported 2 changed 0
+acked 2" "" "$ckpt" import store core || return 1
+  same "the images of both" "$("$ckpt" verify store)" "ok checkpoint 2 images 4"
+}
+
+# A core without a segment that is loaded would empty the space.
+a_core_without_memory_is_refused() {
+  one_area_core 1 > core
+  put_byte core 120 4
+  is_refused core "not a core" "no memory in it: it has no segment that is loaded" || return 1
+  make_store store || return 1
+  local before
+  before=$(sums store)
+  ends_with 1 "not a core" "ckpt: core: no memory in it: it has no segment that is loaded" "$ckpt" import store core \
+    || return 1
+  same "the store" "$(sums store)" "$before"
+}
+
+# A space is made as the child of the one with the fewest pages, here of an empty one: a child of the other would have
+# too many.
+a_space_is_made_from_the_one_with_the_fewest_pages() {
+  [ -z "${CHECKED:-}" ] || { echo "a build with checks is too slow"; return 77; }
+  printf '%s\n' 'fork 1' 'mmap 1 0x1000000 0x9c40000 rw' 'checkpoint 0' > script
+  "$ckpt" run store script > made || return 1
+  one_area_core 1 > core
+  ends_with 0 "imported 2 changed 2
+acked 2" "" "$ckpt" import store core --space 3 || return 1
+  same "the spaces" "$("$ckpt" restore store | grep -v '^bytes')" "checkpoint 2
+space 1
+area 0x1000000 0xac40000 rw-
+space 2
+space 3
+area 0x10000 0x12000 rw-"
 }
 
 second_import_changes_what_differs() {
@@ -414,11 +485,16 @@ try export_ends_as_restore_does
 try export_into_a_file_is_refused
 try export_stops_at_the_limit_of_files
 try export_that_cannot_write_leaves_no_file
+try export_replaces_all_or_nothing
+try files_of_an_export_are_synced_before_they_have_their_names
 try import_that_is_not_printed_saves_nothing
 try import_that_is_not_acknowledged_may_be_saved
 try exports_into_one_folder_exclude_each_other
 try import_changes_one_space
 try import_makes_the_least_free_space
+try import_makes_rounds
+try a_core_without_memory_is_refused
+try a_space_is_made_from_the_one_with_the_fewest_pages
 try second_import_changes_what_differs
 try second_import_of_many_areas_changes_nothing
 try cores_by_chance_go_in_and_out

@@ -25,6 +25,17 @@ documents_have_what_the_lines_have() {
   done
 }
 
+# The newest dump isn't the last image: a pre-dump of a checkpoint that was given up is behind it.
+the_tip_is_not_the_last_image() {
+  printf '%s\n' 'mmap 1 0x10000 4096 rw' 'store 1 0x10000 61' 'checkpoint 0' 'store 1 0x10000 62' 'begin 1' \
+    'step dumper 36' cancel > script
+  "$ckpt" run store script > answers || { cat answers; return 1; }
+  same "the lines" "$("$ckpt" list store | cut -d ' ' -f 1-5)" "slot 000 dump serial 1
+slot 001 pre-dump serial 2
+tip 1" || return 1
+  agree
+}
+
 # Of five pages two have bytes, one of them in the parent; of the pages of zeros one is in the parent too.
 pages_and_zeros_are_counted() {
   make_image store/img-000 "2 1 1 1 0 1" 1 7 "1 0, 1 0 2, 16 1 1 0, 17 1 3 0"
@@ -122,6 +133,7 @@ documents_beside_a_run() {
 }
 
 try documents_have_what_the_lines_have
+try the_tip_is_not_the_last_image
 try pages_and_zeros_are_counted
 try documents_of_a_store_without_a_checkpoint
 try faults_are_documents

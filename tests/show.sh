@@ -289,6 +289,24 @@ assert slots[0]['header']['kind'] == 7 and slots[0]['spaces'][0]['space'] == 1" 
   python_finds "assert slots[0]['digest'] == 'none' and slots[0]['header']['digest'] == 64 * '0'"
 }
 
+# A digest that isn't that of the file is wrong in a document too, and the slots behind a damaged one follow.
+wrong_digests_are_shown_as_json() {
+  make_store store || return 1
+  cp store/img-000 store/img-001
+  flip 5000
+  same "the status" "$(ends "$ckpt" show store --json)" 1 || return 1
+  python_finds "
+assert len(slots) == 64
+assert slots[0]['digest'] == 'wrong' and slots[0]['damaged']['reason'] == 17, slots[0]
+assert slots[1]['digest'] == 'right' and slots[1]['damaged'] is None, slots[1]
+assert slots[2:] == [{'slot': n, 'state': 'raw'} for n in range(2, 64)]" || return 1
+  change 1=0
+  same "the status of a damaged header" "$(ends "$ckpt" show store --json)" 1 || return 1
+  python_finds "
+assert len(slots) == 64 and slots[0]['damaged']['reason'] == 1
+assert slots[1]['digest'] == 'right' and slots[1]['damaged'] is None, slots[1]"
+}
+
 # Text and JSON have the same numbers of each slot.
 text_and_json_agree() {
   "$ckpt" run store "$here/printing/three_spaces.ckpt" > answers || { cat answers; return 1; }
@@ -369,6 +387,7 @@ try cut_tables_are_shown
 try great_counts_are_shown
 try a_store_is_shown_as_json
 try damaged_slots_are_shown_as_json
+try wrong_digests_are_shown_as_json
 try text_and_json_agree
 try show_into_a_closed_descriptor
 try show_into_a_full_device

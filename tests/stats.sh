@@ -39,6 +39,18 @@ counts_of_jobs_beside_each_other() {
   counts_agree script
 }
 
+# A slot that a dumper formats while the merger closes its images is none of those that the merge closes.
+slots_of_a_dumper_are_not_closed_by_a_merge() {
+  printf '%s\n' 'mmap 1 0x10000 0x4000 rw' 'store 1 0x10000 01' 'checkpoint 2' > first
+  printf '%s\n' 'store 1 0x10000 02' 'checkpoint 0' begin-merge 'begin 0' 'step merger 44' 'step dumper 6' \
+    'finish merger' 'finish dumper' > script
+  "$ckpt" run store first > made || return 1
+  "$ckpt" run --stats counts store script > out || return 1
+  same "the last answers" "$(tail -n 2 out)" "merged 5
+acked 3" || return 1
+  same "the merge" "$(sed -nE '/"of":"merge"/s/.*"calls":([0-9]+),"closed":([0-9]+),.*/\1 \2/p' counts)" "16 2"
+}
+
 counts_may_be_the_standard_error() {
   local image checkpoint
   image='{"bytes":8264,"calls":9,"checkpoint":1,"data":1,"in_parent":0,"kind":"dump","of":"image","pages":1,'
@@ -152,6 +164,36 @@ slots_by_another_name_are_no_files_of_counts() {
   same "the store" "$(sums store)" "$before"
 }
 
+# The file to which the answers go, and the script, are no files of counts: both would be lost.
+answers_and_scripts_are_no_files_of_counts() {
+  make_store store || return 1
+  local before told="the standard output goes there: name another"
+  before=$(sums store)
+  ln -s out link
+  ends_with 1 "cannot write FILE" "ckpt: out: $told" "$ckpt" run --stats out store script || return 1
+  ends_with 1 "cannot write FILE" "ckpt: ./link: $told" "$ckpt" run --stats ./link store script || return 1
+  cp script kept
+  told="the script that is to be run, which isn't written over: name another"
+  ends_with 1 "cannot write FILE" "ckpt: script: $told" "$ckpt" run --stats script store script || return 1
+  cmp script kept || return 1
+  same "the store" "$(sums store)" "$before" || return 1
+  same "the status of nothing" "$("$ckpt" run --stats /dev/null store script > /dev/null; echo $?)" 0
+}
+
+# Counts that can't be written end a run with status 1, whatever else it ends with.
+counts_that_are_lost_have_their_status() {
+  has_full_device || return
+  echo 'begin 9' > script
+  same "the status" "$(ends "$ckpt" run --restore store script)" 3 || return 1
+  printf '%s\n' 'mmap 1 0x10000 4096 rw' 'begin 1' 'step dumper 45' > script
+  same "the status of a pre-dump" "$(ends "$ckpt" run --restore --stats counts other script)" 3 || return 1
+  has "the record" "$(cat counts)" '"of":"image"' || return 1
+  rm -rf other
+  same "the status of lost counts" "$(ends "$ckpt" run --restore --stats /dev/full other script)" 1 || return 1
+  has "the last line" "$(tail -n 1 out)" "empty chain" || return 1
+  has "the cause" "$(cat err)" "ckpt: the counts: No space left on device"
+}
+
 # Other files in the folder of a store, and images of another store's folder that isn't made, are what they were.
 files_beside_slots_may_have_counts() {
   make_store store || return 1
@@ -199,6 +241,7 @@ counts_into_a_full_device() {
 try counts_are_those_of_the_images
 try images_of_a_merge_are_counted
 try counts_of_jobs_beside_each_other
+try slots_of_a_dumper_are_not_closed_by_a_merge
 try counts_may_be_the_standard_error
 try failed_calls_make_no_record
 try summary_is_a_table
@@ -206,6 +249,8 @@ try counts_that_cannot_be_written
 try counts_of_a_refused_run_stay
 try slots_are_no_files_of_counts
 try slots_by_another_name_are_no_files_of_counts
+try answers_and_scripts_are_no_files_of_counts
+try counts_that_are_lost_have_their_status
 try files_beside_slots_may_have_counts
 try records_that_find_no_room_are_told
 try counts_into_a_full_device

@@ -5,7 +5,7 @@ use crate::course::line_of_request;
 use crate::strict::Failure;
 use clap::ArgMatches;
 use sd_disk::DirDisk;
-use sd_script::{blame_line, print_answer};
+use sd_script::{QuotedLine, blame_line, print_answer};
 use std::fmt::Display;
 use std::{fmt, str};
 
@@ -90,7 +90,7 @@ pub fn tell_failure(
         return;
     };
     let line = str::from_utf8(line_of(bytes, number).unwrap_or(b"")).unwrap_or("");
-    let _ = eprintln!(rt; "script line {number}: {line}: {answer}");
+    let _ = eprintln!(rt; "script line {number}: {}: {answer}", QuotedLine(line));
 }
 
 /// A line of a script, without its end. They are counted from 1.

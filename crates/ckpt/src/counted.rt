@@ -201,7 +201,7 @@ pub fn run_job<J: Job + Drop, W: Write, S: Watch + Drop>(
     }
 }
 
-/// The exit status of a run whose counts were told, or not all of them, and why not.
+/// The exit status of a run whose counts were reported; and 1 where not all of them were, with why.
 fn told_counts(rt: &HostRuntime, causes: Causes, status: u8, untold: Untold) -> u8 {
     let Untold { fault, left_out } = untold;
     if let Some(error) = &fault {
@@ -211,7 +211,7 @@ fn told_counts(rt: &HostRuntime, causes: Causes, status: u8, untold: Untold) -> 
         tell(rt, causes, COUNTS, &LeftOut(left_out));
     }
     if fault.is_some() || left_out > 0 {
-        status.max(FAILED)
+        FAILED
     } else {
         status
     }

@@ -2,13 +2,13 @@
 
 use crate::cause::{Advised, Causes, tell, tell_device};
 use crate::folders::open_store;
-use crate::reading::tell_beside;
-use crate::slots::{is_slot_file, slot_error};
-use crate::verbose::{is_watched, logger_for, seen_by, unseen};
+use crate::reading::{BESIDE, PAUSES, may_change, tell_beside};
+use crate::slots::{is_same_file, is_slot_file, slot_error};
+use crate::verbose::{Seen, is_watched, logger_for, seen_by, unseen};
 use clap::ArgMatches;
 use sd_areas::SpaceId;
 use sd_command::Refusal;
-use sd_disk::{Disk, FileLimit, lock_folder, make_folders};
+use sd_disk::{DirDisk, Disk, FileLimit, is_being_written, lock_folder, make_folders};
 use sd_elf::{CoreFiles, HoleFile, WriteError, write_shown};
 use sd_exit::{Output, Stop, exit};
 use sd_image::SpaceTable;
@@ -18,7 +18,9 @@ use std::alloc::{AllocError, Global};
 use std::fs::File;
 use std::io::Write;
 use std::rt::Files;
-use std::{fs, io};
+use std::sync::Wait;
+use std::time::{Clock, Duration};
+use std::{fmt, fs, io, thread};
 
 /// What is told of a folder of core files that is none.
 const IS_NO_FOLDER: &str = "; OUT is the folder of the core files";
@@ -46,6 +48,8 @@ struct Export<'a, R> {
     lock: Option<File>,
     /// The spaces whose files were begun.
     begun: Vec<SpaceId>,
+    /// How many of these files have their names.
+    named: usize,
 }
 
 /// The name of the core file of a space, within a folder.
@@ -69,13 +73,46 @@ fn is_there(alloc: Global, space: SpaceId) -> Result<io::Error, AllocError> {
     Ok(io::Error::new(io::ErrorKind::AlreadyExists, &words))
 }
 
+/// The error of a folder that stands where a core file is to stand.
+fn is_folder(alloc: Global, space: SpaceId) -> Result<io::Error, AllocError> {
+    let number = space.number();
+    let words = format!(in alloc; "space-{number}.core is a folder")?;
+    Ok(io::Error::new(io::ErrorKind::IsADirectory, &words))
+}
+
 /// Makes an empty file, in place of one that an export left that was cut off.
 fn make_part(rt: &impl Files<File = File>, part: &str) -> io::Result<File> {
     let _ = fs::remove_file(rt, part);
     File::create_new(rt, part)
 }
 
+/// How many files of an export that failed have their names, of how many.
+#[derive(Clone, Copy)]
+struct Left {
+    named: usize,
+    of: usize,
+}
+
+impl fmt::Display for Left {
+    fn fmt<W: fmt::Write>(&self, f: &mut fmt::Formatter<W>) -> fmt::Result {
+        let Left { named, of } = self;
+        write!(
+            f,
+            "{named} of {of} files are of this export, the others are as they were"
+        )
+    }
+}
+
 impl<R: Files<File = File>> Export<'_, R> {
+    /// Who has the lock of the folder, where it is taken: a run, where the folder is the store's.
+    fn has_lock(&self) -> &'static str {
+        if is_same_file(self.rt, self.folder, self.store) {
+            BESIDE
+        } else {
+            IS_LOCKED
+        }
+    }
+
     fn is_wanted(&self, space: SpaceId) -> bool {
         match self.wanted {
             Some(number) => space.number() == number,
@@ -83,12 +120,14 @@ impl<R: Files<File = File>> Export<'_, R> {
         }
     }
 
-    /// Refuses a file that is there, but where it may be replaced, and one of a slot of the store, to which a link in
-    /// its folder may lead.
+    /// Refuses a file that is there, but where it may be replaced, a folder, which never is, and a file of a slot of
+    /// the store, to which a link in its folder may lead.
     fn check_free(&self, space: SpaceId) -> io::Result<()> {
         let name = core_name(self.alloc, self.folder, space)?;
-        if !self.replaces && fs::symlink_metadata(self.rt, &name).is_ok() {
-            return Err(is_there(self.alloc, space)?);
+        match fs::symlink_metadata(self.rt, &name) {
+            Ok(_) if !self.replaces => return Err(is_there(self.alloc, space)?),
+            Ok(found) if found.is_dir() => return Err(is_folder(self.alloc, space)?),
+            _ => {}
         }
         self.check_no_slot(&name)?;
         self.check_no_slot(&part_name(self.alloc, self.folder, space)?)
@@ -104,14 +143,39 @@ impl<R: Files<File = File>> Export<'_, R> {
         }
     }
 
-    /// Gives the files their names, and waits until these are on the device.
-    fn rename_all(&self) -> io::Result<()> {
+    /// Refuses, before any file has its name, what would keep one of them from it.
+    fn check_all(&self) -> io::Result<()> {
         for space in &self.begun {
-            let part = part_name(self.alloc, self.folder, *space)?;
-            let name = core_name(self.alloc, self.folder, *space)?;
-            fs::rename(self.rt, &part, &name)?;
+            self.check_free(*space)?;
         }
-        File::open(self.rt, self.folder)?.sync_all()
+        Ok(())
+    }
+
+    /// Gives the file of a space its name.
+    fn name(&self, space: SpaceId) -> io::Result<()> {
+        let part = part_name(self.alloc, self.folder, space)?;
+        let name = core_name(self.alloc, self.folder, space)?;
+        fs::rename(self.rt, &part, &name)
+    }
+
+    /// Gives the files their names, once all are whole and nothing is seen that would keep one from it, and waits until
+    /// the names are on the device.
+    fn name_all(&mut self) -> io::Result<()> {
+        self.check_all()?;
+        let folder = File::open(self.rt, self.folder)?;
+        for number in 0..self.begun.len() {
+            self.name(self.begun[number])?;
+            self.named = number.saturating_add(1);
+        }
+        folder.sync_all()
+    }
+
+    /// Takes away what was written, and forgets it: the next try begins anew.
+    fn begin_anew(&mut self) {
+        self.remove_all();
+        self.begun.clear();
+        self.lock = None;
+        self.lacks = false;
     }
 
     /// Takes away what was written.
@@ -140,7 +204,7 @@ impl<R: Files<File = File>> CoreFiles for Export<'_, R> {
             return Err(io::Error::from(io::ErrorKind::NotFound));
         }
         make_folders(self.rt, self.folder)?;
-        self.lock = Some(lock_folder(self.rt, self.folder, IS_LOCKED)?);
+        self.lock = Some(lock_folder(self.rt, self.folder, self.has_lock())?);
         for space in spaces {
             if self.is_wanted(space.space) {
                 self.check_free(space.space)?;
@@ -173,8 +237,54 @@ fn write_files<D: Disk, R: Files<File = File>>(
     if fronts(export.alloc, disk)? != before {
         return Err(WriteError::Fault(Fault::Device));
     }
-    export.rename_all()?;
+    export.name_all()?;
     Ok(())
+}
+
+/// A store that was exported, and how that ended.
+type Exported = (DirDisk, Result<(), WriteError>);
+
+/// The fault of the store with which an export ended, if it did.
+fn fault_of(ended: &Result<(), WriteError>) -> Option<Fault> {
+    match ended {
+        Err(WriteError::Fault(fault)) => Some(*fault),
+        _ => None,
+    }
+}
+
+/// Writes the files of a store once. Where that fails, those that were begun are taken away.
+fn export_once(
+    rt: &HostRuntime,
+    seen: Seen<'_>,
+    causes: Causes,
+    export: &mut Export<'_, HostRuntime>,
+) -> Result<Exported, Stop> {
+    let disk = open_store(rt, causes, export.store)?;
+    let mut disk = seen.disk("export", disk);
+    let ended = write_files(&mut disk, export);
+    if ended.is_err() {
+        export.remove_all();
+    }
+    Ok((unseen(disk), ended))
+}
+
+/// Writes the files of a store that a run is writing: again where that came between.
+fn export_beside<R: Clock + Wait>(
+    rt: &HostRuntime,
+    clock: &R,
+    seen: Seen<'_>,
+    causes: Causes,
+    export: &mut Export<'_, HostRuntime>,
+) -> Result<Exported, Stop> {
+    for pause in PAUSES {
+        let (disk, ended) = export_once(rt, seen, causes, export)?;
+        if !may_change(fault_of(&ended)) {
+            return Ok((disk, ended));
+        }
+        export.begin_anew();
+        thread::sleep(clock, Duration::from_millis(pause));
+    }
+    export_once(rt, seen, causes, export)
 }
 
 /// How the program ends, and a line of why no file was made where the store isn't at fault.
@@ -195,6 +305,13 @@ fn ended_with<R: Eprint, W: Write>(
             };
             let cause = &error;
             tell(export.rt, causes, export.folder, &Advised { cause, advice });
+            if export.named > 0 {
+                let left = Left {
+                    named: export.named,
+                    of: export.begun.len(),
+                };
+                tell(export.rt, causes, export.folder, &left);
+            }
             out.write_all(b"cannot write OUT\n")?;
             Err(Stop::Refused)
         }
@@ -202,22 +319,20 @@ fn ended_with<R: Eprint, W: Write>(
 }
 
 /// `ckpt export`: it only reads the store.
-pub fn export_program<W: Write>(
+pub fn export_program<R: Clock + Wait, W: Write>(
     rt: &HostRuntime,
+    clock: &R,
     causes: Causes,
     words: &ArgMatches<'_>,
     out: &mut Output<W>,
 ) -> Result<u8, Stop> {
     let store = words.get_str("DIR").unwrap_or("");
-    let folder = words.get_str("OUT").unwrap_or("");
-    let disk = open_store(rt, causes, store)?;
     let log = logger_for(rt, words);
     let seen = seen_by(rt, &log, words, is_watched(rt, causes));
-    let mut disk = seen.disk("export", disk);
     let mut export = Export {
         rt,
         alloc: rt.alloc(),
-        folder,
+        folder: words.get_str("OUT").unwrap_or(""),
         store,
         limit: FileLimit::of_process(rt),
         wanted: words.get_one::<u64>("space"),
@@ -225,14 +340,26 @@ pub fn export_program<W: Write>(
         replaces: words.get_flag("force"),
         lock: None,
         begun: Vec::new(rt.alloc()),
+        named: 0,
     };
-    let ended = write_files(&mut disk, &mut export);
-    if ended.is_err() {
-        export.remove_all();
-    }
-    tell_device(rt, causes, store, &unseen(disk));
-    if matches!(ended, Err(WriteError::Fault(_))) {
-        tell_beside(rt, causes, store);
+    let is_beside = is_being_written(rt, store);
+    let (disk, ended) = if is_beside {
+        export_beside(rt, clock, seen, causes, &mut export)?
+    } else {
+        export_once(rt, seen, causes, &mut export)?
+    };
+    tell_device(rt, causes, store, &disk);
+    if may_change(fault_of(&ended)) {
+        tell_export_beside(rt, causes, store, is_beside);
     }
     Ok(exit(&ended_with(&export, causes, ended, out), out))
+}
+
+/// Reports that a run may have disturbed an export, where one was writing the store as it began, or is now.
+fn tell_export_beside(rt: &HostRuntime, causes: Causes, store: &str, is_beside: bool) {
+    if is_beside {
+        tell(rt, causes, store, &BESIDE);
+    } else {
+        tell_beside(rt, causes, store);
+    }
 }

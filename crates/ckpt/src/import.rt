@@ -117,6 +117,9 @@ fn core_ended_with<W: Write>(
     stopped(printed)
 }
 
+/// What is reported of a core without a segment of memory.
+const NO_MEMORY: &str = "no memory in it: it has no segment that is loaded";
+
 /// What is told of a core that is to be read from a pipe.
 const IS_PIPE: &str = "a pipe, of which no place can be read twice: write the core into a file";
 
@@ -156,6 +159,10 @@ pub fn import_program<R: Clock + Wait, W: Write>(
         Ok(source) => source,
         Err(error) => return Err(core_ended_with(rt, causes, name, error, out)),
     };
+    if source.core.segments.is_empty() {
+        tell(rt, causes, name, &NO_MEMORY);
+        return Err(stopped(out.write_all(b"not a core\n")));
+    }
     let disk = make_store(rt, clock, causes, folder)?;
     let log = logger_for(rt, words);
     let seen = seen_by(rt, &log, words, is_watched(rt, causes));

@@ -258,8 +258,8 @@ fn run_matches<R: Clock + Threads + Wait + Sync, W: Write>(
         Work::Merge => merge_program(rt, threads, words, course, out),
         Work::Mutate => mutate_program(rt, threads, words, out),
         Work::Read(reader) => reader_program(rt, threads, reader, words, out),
-        Work::Show => show::show_program(rt, causes_asked(words), words, out),
-        Work::Export => export::export_program(rt, causes_asked(words), words, out),
+        Work::Show => show::show_program(rt, threads, causes_asked(words), words, out),
+        Work::Export => export::export_program(rt, threads, causes_asked(words), words, out),
         Work::Import => import::import_program(rt, threads, causes_asked(words), words, out),
     }
 }

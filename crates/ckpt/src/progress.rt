@@ -177,6 +177,8 @@ impl<'a, R: Clock, W: Write> Watch for ProgressLine<'a, R, W> {
         }
     }
 
+    fn steps(&mut self, _core: &Core, _worker: Worker) {}
+
     fn has_ended(&mut self) {
         if self.is_shown {
             let _ = write!(self.out, "{CLEAR}");

@@ -37,6 +37,14 @@ fn are_one(first: &Metadata, second: &Metadata) -> bool {
     first.dev() == second.dev() && first.ino() == second.ino()
 }
 
+/// Whether two paths lead to one file, or to one folder.
+pub fn is_same_file(rt: &impl Files, first: &str, second: &str) -> bool {
+    match (fs::metadata(rt, first), fs::metadata(rt, second)) {
+        (Ok(first), Ok(second)) => are_one(&first, &second),
+        _ => false,
+    }
+}
+
 /// Whether a file that is there is that of a slot in a folder, also where it was found by another name.
 ///
 /// # Errors

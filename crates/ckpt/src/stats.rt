@@ -1,7 +1,8 @@
 //! `ckpt run --stats` and `--summary`: what each image, checkpoint and merge took.
 
 use crate::cause::{Advised, Causes, tell};
-use crate::slots::open_beside_slots;
+use crate::scripts::STANDARD_INPUT;
+use crate::slots::{is_same_file, open_beside_slots};
 use crate::verbose::{Logger, Seen, log_end, log_job, log_left_out, log_record};
 use clap::ArgMatches;
 use sd_core::Core;
@@ -13,8 +14,9 @@ use sd_stats::{Meter, Record, print_record, print_table};
 use std::cell::RefCell;
 use std::fs::File;
 use std::io::Write;
+use std::rt::Files;
 use std::time::Clock;
-use std::{fmt, io};
+use std::{fmt, fs, io};
 
 /// The name of the standard error, as a file of counts.
 const STANDARD_ERROR: &str = "-";
@@ -37,12 +39,42 @@ pub struct Counts {
     summary: bool,
 }
 
+/// The file to which the standard output goes, by the name that the system has for it.
+const OUTPUT_FILE: &str = "/proc/self/fd/1";
+
+/// What is reported of a file of counts to which the answers go too.
+const IS_OUTPUT: &str = "the standard output goes there: name another";
+
+/// What is reported of a file of counts that is the script.
+const IS_SCRIPT: &str = "the script that is to be run, which isn't written over: name another";
+
+/// Whether a path leads to a regular file.
+fn is_regular(rt: &impl Files, path: &str) -> bool {
+    fs::metadata(rt, path).is_ok_and(|found| found.is_file())
+}
+
+/// Opens the file of counts.
+///
+/// # Errors
+///
+/// Those of [`open_beside_slots`]; `InvalidInput` where the script or the answers stand in that file, whose bytes stay.
+fn open_counts(rt: &HostRuntime, folder: &str, script: &str, name: &str) -> io::Result<File> {
+    if is_regular(rt, name) && is_same_file(rt, name, OUTPUT_FILE) {
+        return Err(io::Error::new(io::ErrorKind::InvalidInput, IS_OUTPUT));
+    }
+    if script != STANDARD_INPUT && is_same_file(rt, name, script) {
+        return Err(io::Error::new(io::ErrorKind::InvalidInput, IS_SCRIPT));
+    }
+    open_beside_slots(rt, folder, name)
+}
+
 /// Where the lines go. A file that can't be made is told, and so is one of a slot of the store. What stands in it stays
 /// until the run begins.
 fn lines_to<W: Write>(
     rt: &HostRuntime,
     causes: Causes,
     folder: &str,
+    script: &str,
     name: Option<&str>,
     out: &mut Output<W>,
 ) -> Result<Lines, Stop> {
@@ -52,7 +84,7 @@ fn lines_to<W: Write>(
     if name == STANDARD_ERROR {
         return Ok(Lines::StandardError);
     }
-    match open_beside_slots(rt, folder, name) {
+    match open_counts(rt, folder, script, name) {
         Ok(file) => Ok(Lines::File(file)),
         Err(error) => {
             let advice = match error.kind() {
@@ -90,7 +122,8 @@ pub fn counts_asked<W: Write>(
     out: &mut Output<W>,
 ) -> Result<Option<Counts>, Stop> {
     let folder = words.get_str("DIR").unwrap_or("");
-    let lines = lines_to(rt, causes, folder, words.get_str("stats"), out)?;
+    let script = words.get_str("SCRIPT").unwrap_or("");
+    let lines = lines_to(rt, causes, folder, script, words.get_str("stats"), out)?;
     let summary = words.get_flag("summary");
     if matches!(lines, Lines::Nowhere) && !summary && !seen.is_asked() {
         return Ok(None);
@@ -149,11 +182,12 @@ impl<'a, S: Watch + Drop> Counting<'a, S> {
         }
     }
 
-    /// Has the meter see a moment of the run.
-    fn see(&mut self, core: &Core) {
+    /// Has the meter see a moment of the run, from which on a worker goes on.
+    fn see(&mut self, core: &Core, worker: Worker) {
         let Ok(mut meter) = self.meter.try_borrow_mut() else {
             return;
         };
+        meter.see_worker(worker);
         if let Ok(now) = self.rt.monotonic() {
             meter.see_frozen(core.is_frozen(), now);
         }
@@ -256,7 +290,12 @@ impl<S: Watch + Drop> Watch for Counting<'_, S> {
             log_job(self.log, worker);
         }
         self.worker = Some(worker);
-        self.see(core);
+        self.see(core, worker);
+    }
+
+    fn steps(&mut self, core: &Core, worker: Worker) {
+        self.beside.steps(core, worker);
+        self.see(core, worker);
     }
 
     fn has_ended(&mut self) {

@@ -1,7 +1,8 @@
 //! What a program prints to.
 ghost use Rattle.std.specs.Prelude.{◌≡◌, ◌≤◌, ℕ, true, false, [], None, Some, length, take, if◌then◌else◌, IfOk};
-ghost use Rattle.std.specs.Prelude.{IfSome, IsOk};
+ghost use Rattle.std.specs.Prelude.{IfSome, IfErr, IsOk, IsSome};
 ghost use Rattle.std.specs.Prelude.{OnOk, OnErr};
+ghost use Rattle.std.specs.Option.{option_copied};
 ghost use Rattle.std.specs.Io.KnownBytes.{Appends, Keeps};
 ghost use Rattle.sd_exit.specs.Texts.{PrintsBeginning};
 
@@ -26,6 +27,7 @@ impl<W: Write> Output<W> {
     pub fn new(writer: W) -> Output<W>
         ensures writer { result.writer ≡ writer }
         ensures none { result.refused ≡ false }
+        ensures error { result.error ≡ None }
         ensures fault { result.fault ≡ None }
     {
         Output {
@@ -52,7 +54,9 @@ impl<W: Write> Output<W> {
     }
 
     /// What the writer answered where it first refused something. None where it refused nothing.
-    pub fn error(&self) -> Option<&io::Error> {
+    pub fn error(&self) -> Option<&io::Error>
+        ensures { option_copied result ≡ self.now.error }
+    {
         self.error.as_ref()
     }
 
@@ -76,6 +80,8 @@ impl<W: Write> Output<W> {
     fn keep(&mut self, error: io::Error)
         ensures writer { self.new.writer ≡ self.old.writer }
         ensures refused { self.new.refused ≡ true }
+        ensures error { self.old.error ≡ None → self.new.error ≡ Some error }
+        ensures first { IsSome self.old.error → self.new.error ≡ self.old.error }
         ensures fault { self.new.fault ≡ self.old.fault }
     {
         self.refused = true;
@@ -90,6 +96,9 @@ impl<W: Write> Output<W> {
         ensures writer { self.new.writer ≡ self.old.writer }
         ensures ok { OnOk result (self.new.refused ≡ self.old.refused) }
         ensures refused { OnErr result (self.new.refused ≡ true) }
+        ensures error { IfErr ended (λ error. self.old.error ≡ None → self.new.error ≡ Some error) }
+        ensures kept { OnOk result (self.new.error ≡ self.old.error) }
+        ensures first { IsSome self.old.error → self.new.error ≡ self.old.error }
         ensures fault { self.new.fault ≡ self.old.fault }
     {
         match ended {
@@ -109,6 +118,9 @@ impl<W: Write> Output<W> {
         ensures begins { PrintsBeginning (W.contents self.old.writer) (W.contents self.new.writer) bytes.now }
         ensures ok { OnOk result (self.new.refused ≡ self.old.refused) }
         ensures refused { OnErr result (self.new.refused ≡ true) }
+        // The first error is kept.
+        ensures kept { OnOk result (self.new.error ≡ self.old.error) }
+        ensures first { IsSome self.old.error → self.new.error ≡ self.old.error }
         ensures fault { self.new.fault ≡ self.old.fault }
     {
         let ended = write_from(&mut self.writer, bytes);
@@ -121,6 +133,9 @@ impl<W: Write> Output<W> {
             (Appends (W.contents self.old.writer) (W.contents self.new.writer))) }
         ensures ok { OnOk result (self.new.refused ≡ self.old.refused) }
         ensures refused { OnErr result (self.new.refused ≡ true) }
+        // The first error is kept.
+        ensures kept { OnOk result (self.new.error ≡ self.old.error) }
+        ensures first { IsSome self.old.error → self.new.error ≡ self.old.error }
         ensures fault { self.new.fault ≡ self.old.fault }
     {
         let ended = self.writer.write_fmt(text);
@@ -132,6 +147,9 @@ impl<W: Write> Output<W> {
         ensures bytes { Keeps (W.contents self.old.writer) (W.contents self.new.writer) }
         ensures ok { OnOk result (self.new.refused ≡ self.old.refused) }
         ensures refused { OnErr result (self.new.refused ≡ true) }
+        // The first error is kept.
+        ensures kept { OnOk result (self.new.error ≡ self.old.error) }
+        ensures first { IsSome self.old.error → self.new.error ≡ self.old.error }
         ensures fault { self.new.fault ≡ self.old.fault }
     {
         let ended = self.writer.flush();
@@ -144,6 +162,7 @@ impl<W: Write> Output<W> {
         ensures bytes { Keeps (W.contents self.old.writer) (W.contents self.new.writer) }
         ensures refused { self.old.refused ≡ true → self.new.refused ≡ true }
         ensures status { result ≡ (if self.new.refused then 1 else wanted) }
+        ensures first { IsSome self.old.error → self.new.error ≡ self.old.error }
         ensures fault { self.new.fault ≡ self.old.fault }
     {
         let _ = self.flush();
@@ -151,7 +170,8 @@ impl<W: Write> Output<W> {
     }
 }
 
-/// Writes the bytes, in as many calls as the writer wants.
+/// Writes the bytes, in as many calls as the writer needs. It fails only where a call failed, and wasn't interrupted,
+/// or took nothing.
 fn write_from<W: Write>(writer: &mut W, bytes: &[u8]) -> io::Result<()>
     ensures bytes { OnOk result (Appends (W.contents writer.old) (W.contents writer.new) bytes.now) }
     ensures begins { PrintsBeginning (W.contents writer.old) (W.contents writer.new) bytes.now }

@@ -64,28 +64,46 @@ pub fn ask<D: Disk>(
     Ok(())
 }
 
-/// The least space that is alive, and the least number that is free.
-fn first_alive(memory: &Memory) -> (Option<SpaceId>, u64) {
-    let mut alive = None;
+/// How many pages a space has, where it is alive.
+fn pages_of(memory: &Memory, space: SpaceId) -> Option<u64> {
+    let mut pages = 0u64;
+    for area in memory.areas(space)?.areas() {
+        pages = pages.saturating_add(area.count);
+    }
+    Some(pages)
+}
+
+/// A space that is alive, with the number of its pages.
+#[derive(Clone, Copy)]
+struct Alive {
+    space: SpaceId,
+    pages: u64,
+}
+
+/// The space that is alive and has the fewest pages, the least of them, and the least number that is free.
+fn fewest_pages(memory: &Memory) -> (Option<Alive>, u64) {
+    let mut fewest: Option<Alive> = None;
     let mut free = 0;
     for number in 1..SPACE_LIMIT + 1 {
         let space = SpaceId::new(number);
-        if memory.areas(space).is_none() {
-            if free == 0 {
-                free = number;
+        match pages_of(memory, space) {
+            None if free == 0 => free = number,
+            None => {}
+            Some(pages) => {
+                if fewest.is_none_or(|other| pages < other.pages) {
+                    fewest = Some(Alive { space, pages });
+                }
             }
-        } else if alive.is_none() {
-            alive = Some(space);
         }
     }
-    (alive, free)
+    (fewest, free)
 }
 
-/// The parent of a space that is to be made: one that is alive, where that space has the least number that is free.
-/// Else it is that space itself, whose fork is refused.
+/// The parent of a space that is to be made: that with the fewest pages, an empty one where there is one, if that space
+/// has the least number that is free. Else it is that space itself, whose fork is refused.
 fn parent_of(memory: &Memory, space: SpaceId) -> SpaceId {
-    match first_alive(memory) {
-        (Some(parent), free) if free == space.number() => parent,
+    match fewest_pages(memory) {
+        (Some(parent), free) if free == space.number() => parent.space,
         _ => space,
     }
 }

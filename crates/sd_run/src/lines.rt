@@ -39,6 +39,18 @@ fn apply<D: Disk>(world: &mut World<D>, command: Command) -> Reply
     world.apply(SCRIPT_SEAT, command)
 }
 
+/// Shows a watch whose events a line makes, where it makes those of a worker.
+fn show_worker<D: Disk, S: Watch>(world: &World<D>, line: &Line, watch: &mut S) {
+    match line {
+        Line::Work(worker)
+        | Line::Perform(worker)
+        | Line::PerformAt { worker, .. }
+        | Line::Step { worker, .. }
+        | Line::Finish(worker) => watch.steps(world.core(), *worker),
+        _ => {}
+    }
+}
+
 /// Makes the events of a line, and returns what the last of them is answered. A line that asks for words makes none.
 fn answer<D: Disk, S: Watch>(
     alloc: Global,
@@ -49,6 +61,7 @@ fn answer<D: Disk, S: Watch>(
     ensures answered { AnswersLine D.Disk line world.old result world.new }
     ensures goes_on { GoesOn D.Disk world.old world.new }
 {
+    show_worker(world, &line, watch);
     let reply = match line {
         Line::Command(command) => apply(world, command),
         Line::Begin(rounds) => world.make(Event::Begin(rounds)),

@@ -36,11 +36,55 @@ pub struct Blame<'a> {
     pub blank: Option<Blank>,
 }
 
+/// How many bytes of a field or of a line are quoted at most.
+const QUOTED: usize = 80;
+
+/// The beginning of a text that is quoted: at most 80 bytes.
+fn front_of(text: &str) -> &str {
+    let mut end = QUOTED.min(text.len());
+    for _ in 0..QUOTED {
+        if let Some(front) = text.get(..end) {
+            return front;
+        }
+        end = end.saturating_sub(1);
+    }
+    ""
+}
+
+/// A field of a line, quoted as far as its first 80 bytes go.
+#[derive(Clone, Copy)]
+struct QuotedField<'a>(&'a str);
+
+impl fmt::Display for QuotedField<'_> {
+    fn fmt<W: fmt::Write>(&self, f: &mut fmt::Formatter<W>) -> fmt::Result {
+        let QuotedField(field) = self;
+        let front = front_of(field);
+        write!(f, "{front:?}{}", rest_of(field, front))
+    }
+}
+
+/// A line, quoted as far as its first 80 bytes go.
+#[derive(Clone, Copy)]
+pub struct QuotedLine<'a>(pub &'a str);
+
+impl fmt::Display for QuotedLine<'_> {
+    fn fmt<W: fmt::Write>(&self, f: &mut fmt::Formatter<W>) -> fmt::Result {
+        let QuotedLine(line) = self;
+        let front = front_of(line);
+        write!(f, "{front}{}", rest_of(line, front))
+    }
+}
+
+/// What stands for the rest of a text whose beginning is quoted.
+fn rest_of(text: &str, front: &str) -> &'static str {
+    if front.len() < text.len() { ".." } else { "" }
+}
+
 impl fmt::Display for Blame<'_> {
     fn fmt<W: fmt::Write>(&self, f: &mut fmt::Formatter<W>) -> fmt::Result {
         write!(f, "{}", self.fault)?;
         if let Some(field) = self.field {
-            write!(f, ", not {field:?}")?;
+            write!(f, ", not {}", QuotedField(field))?;
         }
         if let Some(blank) = self.blank {
             write!(f, "; {blank}")?;

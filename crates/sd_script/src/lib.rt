@@ -15,7 +15,7 @@ mod script_error;
 mod unfit;
 
 pub use answer::Answer;
-pub use blame::{Blame, Blank, blame_line};
+pub use blame::{Blame, Blank, QuotedLine, blame_line};
 pub use forms::{Field, LINE_FORMS, LineForm, form_of};
 pub use line::Line;
 pub use line_fault::{FieldKind, LineFault};

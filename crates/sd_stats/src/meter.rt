@@ -3,6 +3,7 @@ ghost use Rattle.std.specs.Prelude.{◌≡◌, ◌⊎◌, ◌∷◌, ◌++◌, �
 
 use crate::making::{Making, SeenSlot};
 use crate::record::{CheckpointRecord, ImageRecord, MergeRecord, Record};
+use sd_gate::Worker;
 use sd_image::{GATE, HEADER_SIZE, Header, Kind};
 use sd_show::PageCounts;
 use std::alloc::{AllocError, Global};
@@ -30,6 +31,8 @@ pub struct Meter {
     reads: u64,
     slots: Vec<SeenSlot>,
     running: Option<Running>,
+    /// Whose calls are made, where that was seen.
+    worker: Option<Worker>,
     /// Since when the memory was seen frozen.
     frozen: Option<Duration>,
     /// A merge whose image is there, while images are closed behind it.
@@ -67,6 +70,7 @@ impl Meter {
             reads: 0,
             slots: vec![in alloc; unseen; slots]?,
             running: None,
+            worker: None,
             frozen: None,
             merge: None,
             merge_begun: Duration::ZERO,
@@ -89,6 +93,15 @@ impl Meter {
         ensures { result ≡ self.now.left_out }
     {
         self.left_out
+    }
+
+    /// Takes in whose calls are made from now on.
+    pub fn see_worker(&mut self, worker: Worker)
+        ensures worker { self.new.worker ≡ Some worker }
+        ensures calls { self.new.calls ≡ self.old.calls }
+        ensures records { self.new.done.items ≡ self.old.done.items }
+    {
+        self.worker = Some(worker);
     }
 
     /// Takes in whether the memory is frozen.
@@ -174,13 +187,13 @@ impl Meter {
         self.count_closing(now);
     }
 
-    /// A slot was closed: an image begins to be made there, or one isn't needed behind a merge.
+    /// A slot was closed: an image begins to be made there, or the merger closes one that isn't needed any more.
     fn close(&mut self, slot: usize, now: Duration)
         ensures { self.new.calls ≡ self.old.calls }
     {
         let mut making = Making::new(now, self.calls, self.reads);
         making.format();
-        let merges = self.merge.is_some();
+        let merges = self.merge.is_some() && self.worker == Some(Worker::Merger);
         let Some(seen) = self.slots.get_mut(slot) else {
             return;
         };

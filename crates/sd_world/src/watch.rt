@@ -6,6 +6,9 @@ pub trait Watch {
     /// A worker's job goes on.
     fn goes_on(&mut self, core: &Core, worker: Worker);
 
+    /// A worker's next events are made, one by one.
+    fn steps(&mut self, core: &Core, worker: Worker);
+
     /// The job has ended, or was refused.
     fn has_ended(&mut self);
 }
@@ -16,6 +19,8 @@ pub struct Unwatched;
 
 impl Watch for Unwatched {
     fn goes_on(&mut self, _core: &Core, _worker: Worker) {}
+
+    fn steps(&mut self, _core: &Core, _worker: Worker) {}
 
     fn has_ended(&mut self) {}
 }

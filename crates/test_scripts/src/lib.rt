@@ -17,3 +17,5 @@ mod runs;
 mod small;
 #[cfg(test)]
 mod trims;
+#[cfg(test)]
+mod writers;
