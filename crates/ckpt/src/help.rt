@@ -19,11 +19,11 @@ hexadecimal; empty lines and those that begin with # are skipped:
 pub const RUN_TAIL: &str = "
 Status: 0 at the end of the script, also where requests were refused, but with --strict; 1
 where the store, its device, memory or the printing failed (damaged SSS WHY, device,
-out-of-memory, cannot open DIR, cannot read SCRIPT), or the file of --stats can't be made
-or is a slot's (cannot write FILE: nothing is run), or not all of it can be written, and
-with --strict at the first request that is refused or answered segv; 2 where a line of
-SCRIPT doesn't fit the language (script line N: nothing is run) or the command line doesn't;
-with --restore, 3 where the store shows no checkpoint afterwards.
+out-of-memory, cannot open DIR, cannot read SCRIPT), or the file of --stats can't be made, or
+is a slot's, SCRIPT or that of the answers (cannot write FILE: nothing is run), or not all of
+it can be written, and with --strict at the first request that is refused or answered segv; 2
+where a line of SCRIPT doesn't fit the language (script line N: nothing is run) or the command
+line doesn't; with --restore, 3 where the store shows no checkpoint afterwards.
 
 Only one of run, shell, merge, mutate and import can have a store open at a time.";
 
@@ -123,7 +123,7 @@ Writes for each space that the store shows a file OUT/space-N.core: an ELF core 
 x86-64 with one segment an area, and holes for pages of zeros. It has memory alone: no
 registers, no threads. A file gets its name when all are whole and on the device; one that
 is there is replaced only with --force. A file of an older export whose space the store no
-longer shows stays, also with --force.
+longer shows stays, also with --force. Beside a run it tries again for a second, as restore does.
 
 Status: 0 where the files were written; 3 where the store shows no checkpoint (empty chain);
 1 where the store, its device, memory or the files failed (damaged SSS WHY, device,
@@ -137,13 +137,14 @@ pub const IMPORT: &str = "Example:
 Compares the segments of CORE with what the store shows, maps, unmaps, protects and stores
 what differs, prints imported PAGES changed PAGES, makes a checkpoint, and prints acked N.
 The other spaces stay as they are. A space that isn't alive is made where it has the least
-number that is free. Segments of the kernel's addresses are left out; what a segment doesn't
+number that is free, as a child of the space with the fewest pages, which has to fit beside all others.
+Segments of the kernel's addresses are left out; what a segment doesn't
 have in the file is zeros. Each piece of up to 64 bytes that differs is one command, so a
 core of which more than some 64 MiB differ can't be imported at once (refused 7
 journal-full).
 
-Status: 0 where the checkpoint was acknowledged; 1 where CORE isn't read (not a core, core
-too large, cannot read CORE), another program changed it meanwhile (core changed), a request
+Status: 0 where the checkpoint was acknowledged; 1 where CORE isn't read or has no memory (not a
+core, core too large, cannot read CORE), another program changed it meanwhile (core changed), a request
 was refused (refused N NAME), or the store, its device, memory or the printing failed
 (damaged SSS WHY, device, out-of-memory, cannot open DIR); 2 for a fault of the command
 line. With status 1 nothing is saved, but where the device failed at the checkpoint's last
