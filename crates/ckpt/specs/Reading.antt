@@ -1,8 +1,8 @@
 -- What came of reading the store in a folder, also behind a run.
-use Rattle.std.specs.Prelude.{◌≡◌, ℕ, Bool, true, List, Option, Result, Ok, OnOk}
+use Rattle.std.specs.Prelude.{◌≡◌, ℕ, Bool, true, List, Option, Result, Ok, IfErr, OnOk}
 use Rattle.sd_disk.specs.declared.dir_disk.DirDisk.{DirDisk}
 use Rattle.sd_disk.specs.declared.disk.Disk.{Ghosts}
-use Rattle.sd_disk.specs.Folder.{IsFolderHonest, folder_files}
+use Rattle.sd_disk.specs.Folder.{IsFolderHonest, folder_failures, folder_files}
 use Rattle.sd_disk.specs.Reads.{OnlyReads}
 use Rattle.sd_exit.specs.declared.stop.Stop.{Stop}
 use Rattle.sd_exit.specs.Ending.{Exits, OnWriter, end_status, end_text}
@@ -10,20 +10,23 @@ use Rattle.sd_readers.specs.declared.steady.Reader.{Reader}
 use Rattle.sd_readers.specs.declared.steady.Reader.TheVariants.{Restore}
 use Rattle.sd_readers.specs.Reading.{ReaderEnds}
 use Rattle.sd_script.specs.declared.line.Line.{Line}
+use Rattle.sd_run.specs.Ending.{IsWhyRun}
 use Rattle.sd_run.specs.Promise.{PromiseAnyway}
 use Rattle.sd_run.specs.Whole.{IsWholeRun}
 
 -- a program read the store in a folder, and exits with this status: what its files are then is what was read
 abbrev pub ReadsFolder : Reader → DirDisk × ℕ → Option (List ℕ) → Option (List ℕ) → Bool → Type 0
 ReadsFolder reader read before after refused =
-    ReaderEnds reader (IsFolderHonest read.0) (folder_files read.0) before after refused read.1
+    ReaderEnds reader (IsFolderHonest read.0) (folder_files read.0) 0 (folder_failures read.0) before after refused
+    read.1
 
 -- what comes behind the answers of a run: where it came to its end, the memory that the store then shows, if that was
 -- asked for; and else why it was stopped, if it was
 abbrev pub Then : {D : Type 0} → Ghosts D → Bool → Result Unit Stop → D → D → Option (List ℕ) → Option (List ℕ) → Bool
     → ℕ → Type 0
 Then g true (Ok _) ran new answered after refused status =
-    OnlyReads g ran new × ReaderEnds Restore (g.is_honest new) (g.contents ran) answered after refused status
+    OnlyReads g ran new
+    × ReaderEnds Restore (g.is_honest new) (g.contents ran) (g.failed ran) (g.failed new) answered after refused status
 Then g _ ended ran new answered after refused status =
     (new ≡ ran) × Exits answered after refused (end_text ended) (end_status ended) status
 
@@ -35,5 +38,6 @@ pub record RunsScript {D : Type 0} (g : Ghosts D) (restores : Bool) (lines : Lis
   pub answered : Option (List ℕ)
   pub whole : OnOk ended (IsWholeRun g lines old ran before answered)
   pub so_far : g.is_honest ran → PromiseAnyway g lines old ran before answered
+  pub why : g.is_honest ran → IfErr ended (IsWhyRun (λ _. ⊥) (g.contents old) (g.failed old) (g.failed ran))
   pub writer : OnWriter ended (refused ≡ true)
   pub behind : Then g restores ended ran new answered after refused status

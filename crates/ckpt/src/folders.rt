@@ -1,4 +1,6 @@
 //! The folder of a store, opened to be read or written.
+ghost use Rattle.std.specs.Prelude.{◌≡◌, IfOk};
+ghost use Rattle.sd_disk.specs.Folder.{folder_failures};
 
 use crate::cause::{Advised, Causes, tell};
 use sd_disk::{DirDisk, FileFault, Folder, OpenError};
@@ -46,7 +48,10 @@ pub fn open_store(
     rt: &(impl Files<File = File> + Eprint + AllocGlobal),
     causes: Causes,
     folder: &str,
-) -> Result<DirDisk, Stop> {
+) -> Result<DirDisk, Stop>
+    // No call failed yet.
+    ensures { IfOk result (λ disk. folder_failures disk ≡ 0) }
+{
     let opened = Folder::open(rt, folder, false);
     disk_over(rt, causes, folder, opened, IS_MISSING)
 }
@@ -73,7 +78,9 @@ fn disk_over(
     folder: &str,
     opened: Result<Folder, OpenError>,
     missing: &'static str,
-) -> Result<DirDisk, Stop> {
+) -> Result<DirDisk, Stop>
+    ensures { IfOk result (λ disk. folder_failures disk ≡ 0) }
+{
     match opened {
         Ok(files) => Ok(DirDisk::new(files)),
         Err(OpenError::OutOfMemory) => Err(Stop::Fault(Fault::OutOfMemory)),

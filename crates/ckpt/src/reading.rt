@@ -1,7 +1,7 @@
 //! Programs that read a store, also while a run writes it.
 ghost use Rattle.std.specs.Prelude.{◌≡◌, false, [], Some, IfOk};
 ghost use Rattle.sd_disk.specs.Reads.{OnlyReads};
-ghost use Rattle.sd_disk.specs.Folder.{IsFolderHonest, folder_files};
+ghost use Rattle.sd_disk.specs.Folder.{IsFolderHonest, folder_failures, folder_files};
 ghost use Rattle.sd_readers.specs.Reading.{ReaderEnds};
 ghost use Rattle.ckpt.specs.Reading.{ReadsFolder};
 
@@ -49,7 +49,7 @@ fn read_to<D: Disk, W: Write>(
     out: &mut Output<W>,
 ) -> u8
     ensures answers { ReaderEnds reader (D.is_honest disk.new) (D.contents disk.old)
-        (W.contents out.old.writer) (W.contents out.new.writer) out.new.refused result }
+        (D.failed disk.old) (D.failed disk.new) (W.contents out.old.writer) (W.contents out.new.writer) out.new.refused result }
     ensures reads { OnlyReads D.Disk disk.old disk.new }
 {
     match reader {
@@ -68,7 +68,7 @@ fn try_to_read(
     folder: &str,
 ) -> Result<Tried, Stop>
     ensures { IfOk result (λ tried. ReaderEnds reader (IsFolderHonest tried.disk) (folder_files tried.disk)
-        (Some []) (Some tried.text.items) false tried.status) }
+        0 (folder_failures tried.disk) (Some []) (Some tried.text.items) false tried.status) }
 {
     let mut disk = open_store(rt, causes, folder)?;
     let mut out = Output::new(Vec::new(rt.alloc()));
@@ -95,7 +95,7 @@ fn try_often<R: Clock + Wait>(
     folder: &str,
 ) -> Result<Tried, Stop>
     ensures { IfOk result (λ tried. ReaderEnds reader (IsFolderHonest tried.disk) (folder_files tried.disk)
-        (Some []) (Some tried.text.items) false tried.status) }
+        0 (folder_failures tried.disk) (Some []) (Some tried.text.items) false tried.status) }
 {
     for pause in PAUSES {
         let tried = try_to_read(rt, causes, reader, folder)?;

@@ -1,11 +1,11 @@
 -- What a program's exit status says.
-use Rattle.std.proofs.Common.{◌≡◌, ◌≢◌, ℕ, Bool, false, true, append-nil, List, [], Option, Some, Result, Ok, Err, OnOk, IfErr, sym, ◌∙◌, ap, subst, inl, inr, arith, length}
+use Rattle.std.proofs.Common.{◌≡◌, ◌≢◌, ◌<◌, ◌≤◌, refl, ℕ, Bool, false, true, append-nil, List, [], Option, Some, Result, Ok, Err, OnOk, IfErr, sym, ◌∙◌, ap, subst, inl, inr, arith, length}
 use Rattle.std.specs.Prelude.{filter}
 use Rattle.std.proofs.KnownBytes.{Appends-trans, Keeps-refl}
 use Rattle.sd_image.specs.Image.{is_open}
 use Rattle.sd_restore.specs.Faulty.{FaultNames}
 use Rattle.sd_restore.specs.declared.fault.Fault.{Fault}
-use Rattle.sd_restore.specs.declared.fault.Fault.TheVariants.{EmptyChain}
+use Rattle.sd_restore.specs.declared.fault.Fault.TheVariants.{EmptyChain, Damaged, Device, OutOfMemory}
 use Rattle.sd_exit.specs.declared.stop.Stop.{Stop}
 use Rattle.sd_exit.specs.declared.stop.Stop.TheVariants as stop
 use Rattle.sd_exit.specs.Ending.{Exits, end_status, end_text}
@@ -16,7 +16,8 @@ use Rattle.sd_readers.specs.declared.steady.Reader.{Reader}
 use Rattle.sd_readers.specs.declared.steady.Reader.TheVariants as reader
 use Rattle.sd_readers.specs.Printed.{Prints}
 use Rattle.sd_readers.specs.Texts.{memory_text, verdict_text}
-use Rattle.sd_readers.specs.Ending.{EndsWithOne, IsOutsideStore, StandsAlone}
+use Rattle.sd_readers.specs.Ending.{EndsWithOne, IsBreak, IsOutsideStore, StandsAlone}
+use Rattle.sd_readers.specs.Reading.{IsWhy}
 
 pub on_ok : {A B : Type 0} {P : Type 0} (result : Result A B) → P → OnOk result P
 on_ok (Ok value) p = p
@@ -64,16 +65,35 @@ prints_then_nothing reader.Verify contents before a b none is = record {
   printed = then_nothing before a b (verdict_text is.shown (length (filter is_open contents))) is.printed none;
 }
 
--- a fault of the device or of the memory says nothing against the store
-pub outside : (fault : Fault) → FaultNames (λ _ _. ⊥) fault → fault ≢ EmptyChain → IsOutsideStore (stop.Fault fault)
-outside fault named some = grind arith
+-- a fault of the device or of the memory breaks printing off
+pub breaks : (failed now : ℕ) (fault : Fault) → FaultNames (λ _ _. ⊥) fault → fault ≢ EmptyChain → (fault ≡ Device → failed < now) → IsBreak failed now (stop.Fault fault)
+breaks failed now EmptyChain named some why = absurd (some refl)
+breaks failed now (Damaged slot reason) named some why = absurd named
+breaks failed now Device named some why = why refl
+breaks failed now OutOfMemory named some why = tt
+
+-- it says nothing against the store
+pub outside : (failed now : ℕ) (why : Stop) → IsBreak failed now why → IsOutsideStore why
+outside failed now why is = grind arith
+
+-- it broke off what lasted longer
+pub breaks_longer : (failed a b now : ℕ) (why : Stop) → failed ≤ a → b ≤ now → IsBreak a b why → IsBreak failed now why
+breaks_longer failed a b now why before behind is = grind arith
+
+-- and is why the program was stopped
+pub why_of_break : (by : Reader) (contents : List (List ℕ)) (failed now : ℕ) (why : Stop) → IsBreak failed now why → IsWhy by contents failed now why
+why_of_break by contents failed now why is = grind arith
+
+pub why_longer : (by : Reader) (contents : List (List ℕ)) (failed a b now : ℕ) (why : Stop) → failed ≤ a → b ≤ now → IsWhy by contents a b why → IsWhy by contents failed now why
+why_longer by contents failed a b now why before behind is = grind arith
 
 -- a stop that says nothing against the store may come behind lines
 pub not_alone : (before after : Option (List ℕ)) (why : Stop) → IsOutsideStore why → StandsAlone before after why
 not_alone before after why is = λ yes. absurd (let f : true ≡ false = sym yes ∙ is in cc)
 
-pub none_alone : (before after : Option (List ℕ)) (result : Result Unit Stop) → IfErr result IsOutsideStore → IfErr result (StandsAlone before after)
-none_alone before after result is = grind arith
+pub none_alone : (failed now : ℕ) (before after : Option (List ℕ)) (result : Result Unit Stop) → IfErr result (IsBreak failed now) → IfErr result (StandsAlone before after)
+none_alone failed now before after (Ok value) is = tt
+none_alone failed now before after (Err why) is = not_alone before after why (outside failed now why is)
 
 -- where nothing was printed, any stop stands alone
 pub stands_alone : (same : Option (List ℕ)) (why : Stop) → StandsAlone same same why
@@ -106,7 +126,3 @@ prints_moved reader.Verify contents before after text is printed = record {
   shows = is.shows;
   printed = moved before after text (verdict_text is.shown (length (filter is_open contents))) is.printed printed;
 }
-
--- a program that ends with status 1 found no empty chain
-pub never_empty : {A : Type 0} (ended : Result Unit Stop) → EndsWithOne ended → ended ≡ Err (stop.Fault EmptyChain) → A
-never_empty ended one is = absurd (let f : 3 ≡ 1 = subst (λ (r : Result Unit Stop). EndsWithOne r) is one in omega (arith, f))

@@ -1,10 +1,10 @@
 -- How the printing of a store ends.
-use Rattle.std.specs.Prelude.{◌≡◌, ℕ, Bool, true, false, List, Option, Some, Result, Err, IfErr}
+use Rattle.std.specs.Prelude.{◌≡◌, ℕ, ◌<◌, Bool, true, false, List, Option, Some, Result, Err, IfErr}
 use Rattle.std.specs.Io.KnownBytes.{Keeps}
 use Rattle.sd_areas.specs.PlainMemory.{PlainMemory}
 use Rattle.sd_image.specs.Image.{Image}
 use Rattle.sd_image.specs.Shows.{IsStore, Shows}
-use Rattle.sd_restore.specs.declared.fault.Fault.TheVariants.{EmptyChain, Damaged}
+use Rattle.sd_restore.specs.declared.fault.Fault.TheVariants.{EmptyChain, Damaged, Device, OutOfMemory}
 use Rattle.sd_exit.specs.declared.stop.Stop.{Stop}
 use Rattle.sd_exit.specs.declared.stop.Stop.TheVariants as stop
 use Rattle.sd_exit.specs.Ending.{status_of}
@@ -22,6 +22,14 @@ StandsAlone before after why = is_of_store why ≡ true → Keeps before after
 -- a stop that says nothing against the store: of its device, of the memory or of the writer
 abbrev pub IsOutsideStore : Stop → Type 0
 IsOutsideStore why = is_of_store why ≡ false
+
+-- Why printing was broken off: a call of the device failed, which had failed so often before and so often now; memory
+-- was refused; or the writer failed.
+abbrev pub IsBreak : ℕ → ℕ → Stop → Type 0
+IsBreak failed now (stop.Fault Device) = failed < now
+IsBreak failed now (stop.Fault OutOfMemory) = Unit {0}
+IsBreak failed now (stop.Writer _) = Unit {0}
+IsBreak failed now _ = ⊥
 
 -- nothing more can be printed
 abbrev pub writer_failed : Result Unit Stop → Bool

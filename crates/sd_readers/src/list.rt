@@ -6,7 +6,7 @@ ghost use Rattle.sd_exit.specs.Ending.{OnFault, OnWriter};
 ghost use Rattle.sd_readers.specs.declared.steady.Reader.TheVariants as reader;
 ghost use Rattle.sd_readers.specs.Ending.{EndsWithOne, IsReadable, StandsAlone};
 ghost use Rattle.sd_readers.specs.Printed.{PrintsImages};
-ghost use Rattle.sd_readers.specs.Reading.{ReaderEnds};
+ghost use Rattle.sd_readers.specs.Reading.{IsWhy, ReaderEnds};
 
 use crate::listing::list_text;
 use crate::steady::{Reader, print_steady};
@@ -29,7 +29,7 @@ pub fn list_to<D: Disk, W: Write>(alloc: Global, disk: &mut D, out: &mut Output<
     ensures whole { result ≢ 1 → out.new.refused ≡ false }
     // However it ends: the text or a beginning of it, the last line, and the status that comes with it.
     ensures answers { ReaderEnds reader.List (D.is_honest disk.new) (D.contents disk.old)
-        (W.contents out.old.writer) (W.contents out.new.writer) out.new.refused result }
+        (D.failed disk.old) (D.failed disk.new) (W.contents out.old.writer) (W.contents out.new.writer) out.new.refused result }
     ensures reads { OnlyReads D.Disk disk.old disk.new }
 {
     let ended = print_steady(alloc, Reader::List, disk, out);
@@ -51,6 +51,9 @@ pub(crate) fn print_list<D: Disk, W: Write>(
     // What is wrong with the store is told alone.
     ensures alone { IfErr result (StandsAlone (W.contents out.old.writer) (W.contents out.new.writer)) }
     ensures stopped { EndsWithOne result }
+    // What stopped it is what it names.
+    ensures why { D.is_honest disk.new → IfErr result
+        (IsWhy reader.List (D.contents disk.old) (D.failed disk.old) (D.failed disk.new)) }
     ensures writer { OnWriter result (out.new.refused ≡ true) }
     ensures reads { OnlyReads D.Disk disk.old disk.new }
 {

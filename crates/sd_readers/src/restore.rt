@@ -13,9 +13,9 @@ ghost use Rattle.sd_exit.specs.declared.stop.Stop.TheVariants as stop;
 ghost use Rattle.sd_exit.specs.Ending.{OnFault, OnWriter};
 ghost use Rattle.sd_exit.specs.Texts.{PrintsBeginning, fault_line};
 ghost use Rattle.sd_readers.specs.declared.steady.Reader.TheVariants as reader;
-ghost use Rattle.sd_readers.specs.Ending.{IsOutsideStore, ShowsMemory, StandsAlone};
+ghost use Rattle.sd_readers.specs.Ending.{IsBreak, ShowsMemory, StandsAlone};
 ghost use Rattle.sd_readers.specs.Printed.{BeginsToPrint, PrintsMemory};
-ghost use Rattle.sd_readers.specs.Reading.{ReaderEnds};
+ghost use Rattle.sd_readers.specs.Reading.{IsWhy, ReaderEnds};
 ghost use Rattle.sd_areas.specs.PlainMemory.{PlainMemory};
 ghost use Rattle.sd_readers.specs.Texts.{memory_text, pages_text, part_of_run, placed_lines, placed_memory_text};
 ghost use Rattle.sd_readers.specs.Texts.{placed_space_text, placed_text};
@@ -56,7 +56,7 @@ pub fn restore_to<D: Disk, W: Write>(alloc: Global, disk: &mut D, out: &mut Outp
     ensures whole { result ≢ 1 → out.new.refused ≡ false }
     // However it ends: the text or a beginning of it, the last line, and the status that comes with it.
     ensures answers { ReaderEnds reader.Restore (D.is_honest disk.new) (D.contents disk.old)
-        (W.contents out.old.writer) (W.contents out.new.writer) out.new.refused result }
+        (D.failed disk.old) (D.failed disk.new) (W.contents out.old.writer) (W.contents out.new.writer) out.new.refused result }
     ensures reads { OnlyReads D.Disk disk.old disk.new }
 {
     shown_once();
@@ -79,8 +79,9 @@ pub(crate) fn print_restored<D: Disk, W: Write>(
         (BeginsToPrint reader.Restore (D.contents disk.old) (W.contents out.old.writer) (W.contents out.new.writer)) }
     // Nothing is written where nothing was saved, or the store is damaged.
     ensures alone { IfErr result (StandsAlone (W.contents out.old.writer) (W.contents out.new.writer)) }
-    ensures empty { D.is_honest disk.new → result ≡ Err (stop.Fault fault.EmptyChain)
-        → Shows (D.contents disk.old) None }
+    // What stopped it is what it names.
+    ensures why { D.is_honest disk.new → IfErr result
+        (IsWhy reader.Restore (D.contents disk.old) (D.failed disk.old) (D.failed disk.new)) }
     ensures writer { OnWriter result (out.new.refused ≡ true) }
     ensures reads { OnlyReads D.Disk disk.old disk.new }
 {
@@ -109,8 +110,7 @@ fn print_placed<D: Disk, W: Write>(
         (placed_memory_text (D.contents disk.old) placed.now.checkpoint
         (map listing_of placed.now.spaces.now) (placed_pages placed.now.runs.items))) }
     ensures reads { OnlyReads D.Disk disk.old disk.new }
-    ensures empty { result ≢ Err (stop.Fault fault.EmptyChain) }
-    ensures outside { IfErr result IsOutsideStore }
+    ensures breaks { IfErr result (IsBreak (D.failed disk.old) (D.failed disk.new)) }
     ensures writer { OnWriter result (out.new.refused ≡ true) }
 {
     writeln!(out, "checkpoint {}", placed.checkpoint)?;
@@ -141,8 +141,7 @@ fn print_space<D: Disk, W: Write>(
         (PrintsBeginning (W.contents out.old.writer) (W.contents out.new.writer)
         (placed_space_text (D.contents disk.old) (placed_pages runs.now) (listing_of space.now))) }
     ensures reads { OnlyReads D.Disk disk.old disk.new }
-    ensures empty { result ≢ Err (stop.Fault fault.EmptyChain) }
-    ensures outside { IfErr result IsOutsideStore }
+    ensures breaks { IfErr result (IsBreak (D.failed disk.old) (D.failed disk.new)) }
     ensures writer { OnWriter result (out.new.refused ≡ true) }
 {
     writeln!(out, "space {}", space.space.number())?;
@@ -168,8 +167,7 @@ fn print_pages<D: Disk, W: Write>(
         (PrintsBeginning (W.contents out.old.writer) (W.contents out.new.writer)
         (placed_lines (D.contents disk.old) space (placed_pages runs.now))) }
     ensures reads { OnlyReads D.Disk disk.old disk.new }
-    ensures empty { result ≢ Err (stop.Fault fault.EmptyChain) }
-    ensures outside { IfErr result IsOutsideStore }
+    ensures breaks { IfErr result (IsBreak (D.failed disk.old) (D.failed disk.new)) }
     ensures writer { OnWriter result (out.new.refused ≡ true) }
 {
     for run in runs {
@@ -196,8 +194,7 @@ fn print_in_space<D: Disk, W: Write>(
         (PrintsBeginning (W.contents out.old.writer) (W.contents out.new.writer)
         (placed_lines (D.contents disk.old) space (pages_in run.now))) }
     ensures reads { OnlyReads D.Disk disk.old disk.new }
-    ensures empty { result ≢ Err (stop.Fault fault.EmptyChain) }
-    ensures outside { IfErr result IsOutsideStore }
+    ensures breaks { IfErr result (IsBreak (D.failed disk.old) (D.failed disk.new)) }
     ensures writer { OnWriter result (out.new.refused ≡ true) }
 {
     if run.space != space {
@@ -226,8 +223,7 @@ fn print_run<D: Disk, W: Write>(
         (PrintsBeginning (W.contents out.old.writer) (W.contents out.new.writer)
         (flat_map (placed_text (D.contents disk.old)) (pages_in run.now))) }
     ensures reads { OnlyReads D.Disk disk.old disk.new }
-    ensures empty { result ≢ Err (stop.Fault fault.EmptyChain) }
-    ensures outside { IfErr result IsOutsideStore }
+    ensures breaks { IfErr result (IsBreak (D.failed disk.old) (D.failed disk.new)) }
     ensures writer { OnWriter result (out.new.refused ≡ true) }
 {
     let room = (buffer.len() / PAGE_SIZE) as u64;
@@ -268,8 +264,7 @@ fn print_some<D: Disk, W: Write>(
         (PrintsBeginning (W.contents out.old.writer) (W.contents out.new.writer)
         (part_of_run (D.contents disk.old) run.now behind count)) }
     ensures reads { OnlyReads D.Disk disk.old disk.new }
-    ensures empty { result ≢ Err (stop.Fault fault.EmptyChain) }
-    ensures outside { IfErr result IsOutsideStore }
+    ensures breaks { IfErr result (IsBreak (D.failed disk.old) (D.failed disk.new)) }
     ensures writer { OnWriter result (out.new.refused ≡ true) }
 {
     read_placed_pages(disk, run.place(behind), buffer)?;

@@ -42,8 +42,8 @@ fn print_by<D: Disk, W: Write>(
     disk: &mut D,
     out: &mut Output<W>,
 ) -> Result<(), Stop>
-    ensures store { ReadsStore reader (D.is_honest disk.new) (D.contents disk.old) result
-        (W.contents out.old.writer) (W.contents out.new.writer) }
+    ensures store { ReadsStore reader (D.is_honest disk.new) (D.contents disk.old)
+        (D.failed disk.old) (D.failed disk.new) result (W.contents out.old.writer) (W.contents out.new.writer) }
     ensures readable { D.is_honest disk.new → reader ≡ List → OnOk result (IsReadable (D.contents disk.old)) }
     ensures stopped { reader ≢ Restore → EndsWithOne result }
     ensures writer { OnWriter result (out.new.refused ≡ true) }
@@ -107,8 +107,8 @@ pub(crate) fn print_steady<D: Disk, W: Write>(
     out: &mut Output<W>,
 ) -> Result<(), Stop>
     // At its end the whole text of what the store shows is written, and before it a beginning.
-    ensures store { ReadsStore reader (D.is_honest disk.new) (D.contents disk.old) result
-        (W.contents out.old.writer) (W.contents out.new.writer) }
+    ensures store { ReadsStore reader (D.is_honest disk.new) (D.contents disk.old)
+        (D.failed disk.old) (D.failed disk.new) result (W.contents out.old.writer) (W.contents out.new.writer) }
     ensures readable { D.is_honest disk.new → reader ≡ List → OnOk result (IsReadable (D.contents disk.old)) }
     ensures stopped { reader ≢ Restore → EndsWithOne result }
     ensures writer { OnWriter result (out.new.refused ≡ true) }

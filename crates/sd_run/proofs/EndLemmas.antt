@@ -12,34 +12,42 @@ use Rattle.sd_script.specs.declared.script.Script.{Script}
 use Rattle.sd_script.specs.Script.{IfUnfit}
 use Rattle.sd_world.specs.declared.open_fault.OpenFault.{OpenFault}
 use Rattle.sd_world.specs.declared.open_fault.OpenFault.TheVariants as opening
-use Rattle.sd_world.specs.Opens.{IsFaultOf}
-use Rattle.sd_run.specs.Ending.{IsEndOfMerge, IsUnprinted, script_fault_line, unfit, unopened}
+use Rattle.sd_world.specs.Opens.{HasNoFrame, IsFaultOf}
+use Rattle.sd_run.specs.Ending.{IsEndOfMerge, IsUnprinted, IsWhyRun, script_fault_line, unfit, unopened}
 
-module _ (contents : List (List ℕ)) (before now : ℕ) where
-  -- an end that says nothing against the store is no fault of it
-  no_fault : (P : Stop → Type 0) → ((slot : ℕ) (reason : Reason) → P (stop.Fault (fault.Damaged slot reason)) → ⊥) → (P (stop.Fault fault.Device) → ⊥)
-      → (ended : Result Unit Stop) (why : OpenFault) → IfErr ended P → ended ≡ Err (unopened why) → IsFaultOf contents before now why
-  no_fault P damaged device ended why stops is = grind arith
+module _ (blames : ℕ → Type 0) (contents : List (List ℕ)) (failed now : ℕ) where
+  -- a store that isn't opened is told by its fault
+  pub unopened_why : (met : OpenFault) (stopped : Stop) → stopped ≡ unopened met → IsFaultOf contents failed now met
+      → (met ≡ opening.NoFrame → HasNoFrame contents 65536) → IsWhyRun blames contents failed now stopped
+  unopened_why met stopped by is few = subst (IsWhyRun blames contents failed now) (sym by) (of met is few)
+    where
+      of : (met : OpenFault) → IsFaultOf contents failed now met → (met ≡ opening.NoFrame → HasNoFrame contents 65536)
+          → IsWhyRun blames contents failed now (unopened met)
+      of opening.NoFrame is few = few refl
+      of (opening.Damaged slot reason) is few = is
+      of opening.Device is few = is
+      of opening.OutOfMemory is few = tt
 
-  pub unprinted_is_no_fault : (ended : Result Unit Stop) (why : OpenFault) → IfErr ended IsUnprinted → ended ≡ Err (unopened why) → IsFaultOf contents before now why
-  unprinted_is_no_fault = no_fault IsUnprinted (λ slot reason is. is) (λ is. is)
+  -- an answer that isn't printed is
+  pub unprinted_why : (ended : Result Unit Stop) → IfErr ended IsUnprinted → IfErr ended (IsWhyRun blames contents failed now)
+  unprinted_why ended stops = grind arith
 
-  pub merged_is_no_fault : (ended : Result Unit Stop) (why : OpenFault) → IfErr ended IsEndOfMerge → ended ≡ Err (unopened why) → IsFaultOf contents before now why
-  merged_is_no_fault = no_fault IsEndOfMerge (λ slot reason is. is) (λ is. is)
+  -- and a merge that isn't refused
+  pub merged_why : (ended : Result Unit Stop) → ended ≢ Err stop.Refused → IfErr ended IsEndOfMerge → IfErr ended (IsWhyRun blames contents failed now)
+  merged_why ended other stops = grind arith
 
-  same_damage : (a b : ℕ) (c d : Reason) → stop.Fault (fault.Damaged a c) ≡ stop.Fault (fault.Damaged b d) → opening.Damaged a c ≡ opening.Damaged b d
-  same_damage a b c d e = cc
+  -- a script that can't be taken names its line
+  pub unfit_why : (told : ScriptError) (stopped : Stop) → stopped ≡ unfit told → IfUnfit {T = Script} (Err told) blames → IsWhyRun blames contents failed now stopped
+  unfit_why told stopped by is = subst (IsWhyRun blames contents failed now) (sym by) (of told is)
+    where
+      of : (told : ScriptError) → IfUnfit {T = Script} (Err told) blames → IsWhyRun blames contents failed now (unfit told)
+      of (error.Line n) is = is
+      of error.OutOfMemory is = tt
 
-  -- the fault that is told is that of the opening
-  told_fault : (met why : OpenFault) → unopened met ≡ unopened why → IsFaultOf contents before now met → IsFaultOf contents before now why
-  told_fault met why is holds = grind arith
-
-  same_stop : (a b : Stop) (first second : Result Unit Stop) → first ≡ Err a → second ≡ Err b → first ≡ second → a ≡ b
-  same_stop a b first second one two same = cc
-
-  pub opening_is_told : (met why : OpenFault) (stopped : Stop) (ended : Result Unit Stop) → stopped ≡ unopened met → ended ≡ Err stopped → ended ≡ Err (unopened why)
-      → IsFaultOf contents before now met → IsFaultOf contents before now why
-  opening_is_told met why stopped ended by is told = told_fault met why (sym by ∙ same_stop stopped (unopened why) ended ended is told refl)
+-- who blames no line blames none that is blamed otherwise
+pub why_run : (blames : ℕ → Type 0) (contents : List (List ℕ)) (failed now : ℕ) (ended : Result Unit Stop) → IfErr ended (IsWhyRun (λ _. ⊥) contents failed now)
+    → IfErr ended (IsWhyRun blames contents failed now)
+why_run blames contents failed now ended is = grind arith
 
 -- ---- statuses
 

@@ -1,5 +1,5 @@
 -- The merge of a store's newest chain, as a run of its own.
-use Rattle.std.specs.Prelude.{◌≡◌, ℕ, Bool, true, false, List, Option, Result, Err, OnOk}
+use Rattle.std.specs.Prelude.{◌≡◌, ◌≢◌, ℕ, Bool, true, false, List, Option, Result, Err, IfErr, OnOk}
 use Rattle.std.specs.Io.KnownBytes.{Appends}
 use Rattle.sd_command.specs.declared.reply.Reply.{Reply}
 use Rattle.sd_command.specs.declared.reply.Reply.TheVariants as reply
@@ -12,9 +12,7 @@ use Rattle.sd_gate.specs.declared.worker.Worker.TheVariants.{Merger, Opener}
 use Rattle.sd_script.specs.Texts.{reply_line}
 use Rattle.sd_world.specs.declared.event.Event.TheVariants.{Merge, Reopen}
 use Rattle.sd_world.specs.View.{WorldView}
-use Rattle.sd_world.specs.declared.open_fault.OpenFault.{OpenFault}
-use Rattle.sd_world.specs.Opens.{IsFaultOf}
-use Rattle.sd_run.specs.Ending.{unopened}
+use Rattle.sd_run.specs.Ending.{IsWhyRun}
 use Rattle.sd_world.specs.Jobs.{IsJob}
 use Rattle.sd_run.specs.Whole.{IsRun}
 
@@ -73,8 +71,8 @@ pub record MergesToExit {D : Type 0} (g : Ghosts D) (old new : D) (before after 
   pub printed : Option (List ℕ)
   pub merged : OnOk ended (IsWholeMerge g old new before printed)
   pub told : ended ≡ Err stop.Refused → IsRefusedMerge g old new before printed
-  -- where the store isn't opened, its fault is told
-  pub fault : (fault : OpenFault) → ended ≡ Err (unopened fault) → g.is_honest new
-      → IsFaultOf (g.contents old) (g.failed old) (g.failed new) fault
+  -- where it isn't refused, what stopped it is what is told
+  pub why : g.is_honest new → ended ≢ Err stop.Refused
+      → IfErr ended (IsWhyRun (λ _. ⊥) (g.contents old) (g.failed old) (g.failed new))
   pub writer : OnWriter ended (refused ≡ true)
   pub exits : Exits printed after refused (end_text ended) (end_status ended) status

@@ -1,5 +1,5 @@
 -- What is promised of the run of a script: of its lines, their answers, what is printed, and the disk alone.
-use Rattle.std.specs.Prelude.{◌≡◌, ◌⊎◌, ℕ, Bool, true, List, [], ◌∷◌, ◌++◌, Option, Some, None, Result, IfOk}
+use Rattle.std.specs.Prelude.{◌≡◌, ◌⊎◌, ℕ, Bool, true, List, [], ◌∷◌, ◌++◌, Option, Some, None, Result, IfErr, IfOk}
 use Rattle.std.specs.List.{AllByRecursion, flat_map}
 use Rattle.std.specs.Io.KnownBytes.{Appends}
 use Rattle.sd_command.specs.declared.reply.Reply.{Reply}
@@ -20,10 +20,12 @@ use Rattle.sd_script.specs.Texts.{answer_line}
 use Rattle.sd_world.specs.declared.event.Event.{Event}
 use Rattle.sd_world.specs.declared.event.Event.TheVariants.{Command, Begin, Work, Perform, PerformAt, Merge, Cancel}
 use Rattle.sd_world.specs.declared.event.Event.TheVariants.{Reopen, Trim}
+use Rattle.sd_world.specs.Opens.{bare_memory}
 use Rattle.sd_world.specs.Points.{StandsAt}
 use Rattle.sd_world.specs.Promise.{Goes, Point}
 use Rattle.sd_world.specs.View.{WorldView}
 use Rattle.sd_world.specs.Jobs.{is_end}
+use Rattle.sd_run.specs.Ending.{IsWhyRun}
 use Rattle.sd_run.specs.Lines.{IsReplyOf, script_seat}
 use Rattle.sd_run.specs.Whole.{AreTold}
 
@@ -109,13 +111,15 @@ pub record RunsLine {D E : Type 0} (g : Ghosts D) (asked : Line) (first : Point 
 -- ---- from the disk that was opened to the one that is left
 
 -- The run starts: the disk was only read, the journal is empty, and no checkpoint was begun. What was read shows what
--- the run starts from, or nothing saved, and so does whatever a crash may leave.
+-- the run starts from, or nothing saved, and so does whatever a crash may leave. Where nothing was saved it starts from
+-- space 1 alone, without areas.
 pub record Starts {D : Type 0} (g : Ghosts D) (old : D) (first : Point D) : Type 0 where
   pub reads : OnlyReads g old first.disk
   pub entries : first.entries ≡ []
   pub begun : first.begun ≡ None
   pub shows : Shows (g.contents old) (shown_base first.base.number first.base.memory)
   pub everywhere : Within (g.may_leave first.disk) (λ c. Shows c (shown_base first.base.number first.base.memory))
+  pub bare : first.base.number ≡ None → first.base.memory ≡ bare_memory
 
 -- All lines were answered, and their answers printed behind what was.
 pub record Promise {D : Type 0} (g : Ghosts D) (lines : List Line) (old new : D)
@@ -151,10 +155,11 @@ PromiseAnyway g lines old new before now =
 
 -- The same up to the exit: behind what was printed stands why the run was stopped, if it was, and the status is the one
 -- that comes with that.
-pub record PromiseToExit {D : Type 0} (g : Ghosts D) (lines : List Line) (old new : D) (before after : Option (List ℕ))
-    (refused : Bool) (status : ℕ) : Type 0 where
+pub record PromiseToExit {D : Type 0} (g : Ghosts D) (blames : ℕ → Type 0) (lines : List Line) (old new : D)
+    (before after : Option (List ℕ)) (refused : Bool) (status : ℕ) : Type 0 where
   pub ended : Result Unit Stop
   pub printed : Option (List ℕ)
   pub so_far : PromiseAnyway g lines old new before printed
+  pub why : IfErr ended (IsWhyRun blames (g.contents old) (g.failed old) (g.failed new))
   pub writer : OnWriter ended (refused ≡ true)
   pub exits : Exits printed after refused (end_text ended) (end_status ended) status

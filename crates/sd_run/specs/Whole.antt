@@ -13,6 +13,7 @@ use Rattle.sd_core.specs.Starts.{shown_base}
 use Rattle.sd_script.specs.declared.answer.Answer.{Answer}
 use Rattle.sd_script.specs.declared.line.Line.{Line}
 use Rattle.sd_script.specs.Texts.{answer_line}
+use Rattle.sd_world.specs.Opens.{bare_memory}
 use Rattle.sd_world.specs.View.{WorldView}
 use Rattle.sd_world.specs.Goes.{GoesOn}
 use Rattle.sd_run.specs.Lines.{AnswersLines}
@@ -67,6 +68,8 @@ pub record RunIsOpened {D : Type 0} (g : Ghosts D) (old : D) (opened : WorldView
       → Shows (g.contents old) (shown_base opened.core.base.number opened.core.base.memory)
   pub everywhere : g.is_honest opened.disk
       → Within (g.may_leave opened.disk) (λ c. Shows c (shown_base opened.core.base.number opened.core.base.memory))
+  -- where nothing was saved it starts from space 1 alone, without areas
+  pub bare : opened.core.base.number ≡ None → opened.core.base.memory ≡ bare_memory
   -- as many frames as pages can be mapped
   pub frames : opened.core.memory.pool ≡ 65536
 

@@ -1,11 +1,10 @@
 //! The merge of a store's newest chain into one image, from one disk to another.
-ghost use Rattle.std.specs.Prelude.{◌≡◌, ◌≤◌, ℕ, true, false, Err, IfErr, OnOk};
+ghost use Rattle.std.specs.Prelude.{◌≡◌, ◌≢◌, ◌≤◌, ℕ, true, false, Err, IfErr, OnOk};
 ghost use Rattle.std.specs.Io.KnownBytes.{Appends};
 ghost use Rattle.sd_command.specs.declared.reply.Reply.TheVariants.{Merged};
 ghost use Rattle.sd_exit.specs.Ending.{OnWriter, status_of};
 ghost use Rattle.sd_script.specs.Texts.{reply_line};
-ghost use Rattle.sd_world.specs.Opens.{IsFaultOf};
-ghost use Rattle.sd_run.specs.Ending.{IsEndOfMerge, unopened};
+ghost use Rattle.sd_run.specs.Ending.{IsEndOfMerge, IsWhyRun};
 ghost use Rattle.sd_world.specs.Goes.{GoesOn};
 ghost use Rattle.sd_run.specs.Merging.{IsLeftByMerge, IsRefusedMerge, IsWholeMerge, MergesTip, MergesToExit, is_merged};
 
@@ -17,7 +16,7 @@ use sd_disk::Disk;
 use sd_exit::{Output, Stop, exit};
 use sd_gate::Worker;
 use sd_script::Answer;
-use sd_world::{Event, OpenError, OpenFault, Watch, World};
+use sd_world::{Event, OpenError, Watch, World};
 use std::alloc::Global;
 use std::io::Write;
 
@@ -63,9 +62,9 @@ fn merge_store<D: Disk, W: Write, S: Watch>(
     ensures refused { result.1 ≡ Err Stop.Refused → IsRefusedMerge D.Disk disk result.0
         (W.contents out.old.writer) (W.contents out.new.writer) }
     ensures left { IsLeftByMerge D.Disk disk result.0 }
-    // Where the store isn't opened, its fault is told.
-    ensures fault { (fault : OpenFault) → result.1 ≡ Err (unopened fault) → D.is_honest result.0
-        → IsFaultOf (D.contents disk) (D.failed disk) (D.failed result.0) fault }
+    // Where it isn't refused, what stopped it is what it names.
+    ensures why { D.is_honest result.0 → result.1 ≢ Err Stop.Refused → IfErr result.1
+        (IsWhyRun (λ _. ⊥) (D.contents disk) (D.failed disk) (D.failed result.0)) }
     ensures stopped { IfErr result.1 (λ why. status_of why ≡ 1) }
     ensures writer { OnWriter result.1 (out.new.refused ≡ true) }
 {

@@ -1,11 +1,10 @@
 //! Whole runs of a script, from one disk to another.
-ghost use Rattle.std.specs.Prelude.{◌≡◌, ◌≢◌, ◌∷◌, ℕ, Some, true, Err, IsSome, OnOk};
+ghost use Rattle.std.specs.Prelude.{◌≡◌, ◌≢◌, ◌∷◌, ℕ, Some, true, IfErr, IsSome, OnOk};
 ghost use Rattle.std.specs.Io.KnownBytes.{Appends};
 ghost use Rattle.sd_exit.specs.Ending.{OnWriter};
 ghost use Rattle.sd_script.specs.Script.{first_unfit_line, requests_of};
 ghost use Rattle.sd_script.specs.declared.line.Line.TheVariants as asked;
-ghost use Rattle.sd_world.specs.Opens.{IsFaultOf};
-ghost use Rattle.sd_run.specs.Ending.{script_fault_line, unopened};
+ghost use Rattle.sd_run.specs.Ending.{IsWhyRun, script_fault_line};
 ghost use Rattle.sd_run.specs.Promise.{Promise, PromiseAnyway, PromiseToExit};
 ghost use Rattle.sd_run.specs.Whole.{IsLeftByRun, IsWholeRun};
 
@@ -16,7 +15,7 @@ use sd_disk::Disk;
 use sd_exit::{Output, Stop, exit};
 use sd_restore::Fault;
 use sd_script::Script;
-use sd_world::{OpenError, OpenFault, Unwatched, Watch, World};
+use sd_world::{OpenError, Unwatched, Watch, World};
 use std::alloc::Global;
 use std::io::Write;
 
@@ -51,8 +50,8 @@ pub fn run_script<D: Disk, W: Write>(
         → Promise D.Disk (asked.Reopen ∷ requests_of script.now) disk result.0
         (W.contents out.old.writer) (W.contents out.new.writer) }
     ensures so_far { D.is_honest result.0
-        → PromiseToExit D.Disk (asked.Reopen ∷ requests_of script.now) disk result.0
-        (W.contents out.old.writer) (W.contents out.new.writer) out.new.refused result.1 }
+        → PromiseToExit D.Disk (λ number. first_unfit_line script.now ≡ Some number)
+        (asked.Reopen ∷ requests_of script.now) disk result.0 (W.contents out.old.writer) (W.contents out.new.writer) out.new.refused result.1 }
 {
     match Script::parse(alloc, script) {
         Ok(script) => {
@@ -85,9 +84,9 @@ pub fn run_lines<D: Disk, W: Write, S: Watch>(
         (W.contents out.old.writer) (W.contents out.new.writer)) }
     ensures so_far { D.is_honest result.0 → PromiseAnyway D.Disk (asked.Reopen ∷ script.lines.items)
         disk result.0 (W.contents out.old.writer) (W.contents out.new.writer) }
-    // Where the store isn't opened, its fault is told.
-    ensures fault { (fault : OpenFault) → result.1 ≡ Err (unopened fault) → D.is_honest result.0
-        → IsFaultOf (D.contents disk) (D.failed disk) (D.failed result.0) fault }
+    // What stopped it is what it names.
+    ensures why { D.is_honest result.0 → IfErr result.1
+        (IsWhyRun (λ _. ⊥) (D.contents disk) (D.failed disk) (D.failed result.0)) }
     ensures writer { OnWriter result.1 (out.new.refused ≡ true) }
 {
     let mut buffer = match Vec::with_capacity(alloc, LINE_BYTES) {

@@ -45,7 +45,7 @@ module _ (old new gone : History) where
   adds_work : (worker : Worker) (core : CoreView) (base : Base) (begun : Option ℕ) (answer : Reply)
       → ((n : ℕ) → running_number core.dumper.running ≡ Some n → begun ≡ Some n)
       → ((n : ℕ) → new ≡ Freeze n ∷ old → at_freeze base (old ++ gone) n ≡ None)
-      → AddsByWork worker core answer old new → AddsByReply answer base begun (old ++ gone) (new ++ gone)
+      → AddsByWork worker core answer old new → AddsByReply worker answer base begun (old ++ gone) (new ++ gone)
   adds_work worker core base begun answer last fresh adds = grind arith
 
   journaled : (seat : ℕ) (command : Command) (answer : Reply) → IsJournaled answer → new ≡ Applied seat command answer ∷ old

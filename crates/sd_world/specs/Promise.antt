@@ -8,6 +8,8 @@ use Rattle.sd_command.specs.declared.reply.Reply.TheVariants as reply
 use Rattle.sd_disk.specs.Crash.{Within}
 use Rattle.sd_disk.specs.Spans.{LeavesOnly}
 use Rattle.sd_disk.specs.declared.disk.Disk.{Ghosts}
+use Rattle.sd_gate.specs.declared.worker.Worker.{Worker}
+use Rattle.sd_gate.specs.declared.worker.Worker.TheVariants.{Dumper, Opener}
 use Rattle.sd_journal.specs.declared.entry.Entry.TheVariants.{Applied, Freeze, Acked, Cancelled, Reopened}
 use Rattle.sd_image.specs.Shows.{Shows}
 use Rattle.sd_journal.specs.History.{Base, History, at_freeze}
@@ -39,13 +41,13 @@ pub record Freezes (base : Base) (begun : Option ℕ) (old new : History) : Type
   pub fresh : at_freeze base old number ≡ None
   pub entry : new ≡ Freeze number ∷ old
 
--- A worker's step, or an outcome that it hands in, adds what its reply tells. One that only worked may have frozen the
--- memory.
-abbrev pub AddsByReply : Reply → Base → Option ℕ → History → History → Type 0
-AddsByReply (reply.Acked n) base begun old new = new ≡ Acked n ∷ old
-AddsByReply (reply.Reopened m) base begun old new = new ≡ Reopened m ∷ old
-AddsByReply reply.Worked base begun old new = (new ≡ old) ⊎ Freezes base begun old new
-AddsByReply _ base begun old new = new ≡ old
+-- A worker's step, or an outcome that it hands in, adds what its reply tells: the dumper's an acknowledgement, the
+-- opener's a reopening. One of the dumper that only worked may have frozen the memory.
+abbrev pub AddsByReply : Worker → Reply → Base → Option ℕ → History → History → Type 0
+AddsByReply worker (reply.Acked n) base begun old new = (worker ≡ Dumper) × (new ≡ Acked n ∷ old)
+AddsByReply worker (reply.Reopened m) base begun old new = (worker ≡ Opener) × (new ≡ Reopened m ∷ old)
+AddsByReply worker reply.Worked base begun old new = (new ≡ old) ⊎ ((worker ≡ Dumper) × Freezes base begun old new)
+AddsByReply worker _ base begun old new = new ≡ old
 
 -- the order to cancel adds the number that it answers; where it is refused it adds nothing
 abbrev pub AddsCancelled : Reply → History → History → Type 0
@@ -55,9 +57,9 @@ AddsCancelled _ old new = new ≡ old
 -- other orders and device calls add nothing; here a trim takes nothing away
 abbrev pub AddsEntry : Event → Reply → Base → Option ℕ → History → History → Type 0
 AddsEntry (CommandEvent seat command) answer base begun old new = AddsCommand seat command answer old new
-AddsEntry (Work worker) answer base begun old new = AddsByReply answer base begun old new
-AddsEntry (TakeUp worker) answer base begun old new = AddsByReply answer base begun old new
-AddsEntry (HandInAt worker place) answer base begun old new = AddsByReply answer base begun old new
+AddsEntry (Work worker) answer base begun old new = AddsByReply worker answer base begun old new
+AddsEntry (TakeUp worker) answer base begun old new = AddsByReply worker answer base begun old new
+AddsEntry (HandInAt worker place) answer base begun old new = AddsByReply worker answer base begun old new
 AddsEntry Cancel answer base begun old new = AddsCancelled answer old new
 AddsEntry _ answer base begun old new = new ≡ old
 

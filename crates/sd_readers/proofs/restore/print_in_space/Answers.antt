@@ -1,4 +1,4 @@
-use Rattle.std.proofs.Common.{nat_eq, true, false, sym, ◌∙◌, subst}
+use Rattle.std.proofs.Common.{nat_eq, sym, ◌∙◌, subst}
 use Rattle.std.specs.Io.KnownBytes.{Appends}
 use Rattle.std.proofs.KnownBytes.{Appends-nil}
 use Rattle.std.proofs.lemmas.Bool.{not-false, not-true}

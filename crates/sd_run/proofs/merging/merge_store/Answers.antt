@@ -1,10 +1,10 @@
-use Rattle.std.proofs.Common.{◌≡◌, ◌∙◌, ℕ, Err, ap, refl, subst}
+use Rattle.std.proofs.Common.{◌≡◌, ◌∙◌, ℕ, ap, subst}
 use Rattle.std.specs.Io.KnownBytes.{Appends}
 use Rattle.sd_command.specs.declared.reply.Reply.TheVariants.{Merged}
 use Rattle.sd_script.specs.Texts.{reply_line}
 use Rattle.sd_run.specs.Merging.{IsLeftByMerge, IsMergeRun, IsWholeMerge, PrintsMerge}
 use Rattle.sd_exit.specs.Ending.{status_of}
-use Rattle.sd_run.proofs.EndLemmas.{ends_with_one, merged_is_no_fault, opening_is_told, unopened_is_one}
+use Rattle.sd_run.proofs.EndLemmas.{ends_with_one, merged_why, unopened_is_one, unopened_why}
 use Rattle.sd_run.proofs.LineLemmas.{then_on_ok}
 use Rattle.sd_run.proofs.merging.merge_store.Goals as goal
 
@@ -23,6 +23,7 @@ returns-in-Ok-clause-merged g c =
           idle = c.in-Ok.ensures.idle;
           shows = c.in-Ok.ensures.shows;
           everywhere = c.in-Ok.ensures.everywhere;
+          bare = c.in-Ok.ensures.bare;
           frames = c.in-Ok.ensures.frames;
         };
         goes_on = c.merge_tip-reply.ensures.goes_on;
@@ -52,6 +53,7 @@ returns-in-Ok-clause-refused g c refused =
               idle = c.in-Ok.ensures.idle;
               shows = c.in-Ok.ensures.shows;
               everywhere = c.in-Ok.ensures.everywhere;
+              bare = c.in-Ok.ensures.bare;
               frames = c.in-Ok.ensures.frames;
             };
             goes_on = c.merge_tip-reply.ensures.goes_on;
@@ -77,6 +79,7 @@ returns-in-Ok-clause-left g c = IsLeftByMerge.run c.merge_tip-reply.result (reco
       idle = c.in-Ok.ensures.idle;
       shows = c.in-Ok.ensures.shows;
       everywhere = c.in-Ok.ensures.everywhere;
+      bare = c.in-Ok.ensures.bare;
       frames = c.in-Ok.ensures.frames;
     };
     goes_on = c.merge_tip-reply.ensures.goes_on;
@@ -88,15 +91,15 @@ returns-in-Ok-clause-left g c = IsLeftByMerge.run c.merge_tip-reply.result (reco
   merges = c.merge_tip-reply.ensures.merges;
 })
 
-pub returns-in-Ok-clause-fault : goal.returns-in-Ok-clause-fault
-returns-in-Ok-clause-fault g c = λ why is honest.
-    merged_is_no_fault (g.D.Disk.contents c.args.disk) (g.D.Disk.failed c.args.disk) (g.D.Disk.failed c.close.result) c.told-ended.result why c.told-ended.ensures.stops is
+pub returns-in-Ok-clause-why : goal.returns-in-Ok-clause-why
+returns-in-Ok-clause-why g c = λ honest other.
+    merged_why (λ _. ⊥) (g.D.Disk.contents c.args.disk) (g.D.Disk.failed c.args.disk) (g.D.Disk.failed c.close.result) c.told-ended.result other c.told-ended.ensures.stops
 
-pub returns-in-Err-clause-fault : goal.returns-in-Err-clause-fault
-returns-in-Err-clause-fault g c = λ why is honest.
+pub returns-in-Err-clause-why : goal.returns-in-Err-clause-why
+returns-in-Err-clause-why g c = λ honest other.
     let met = c.in-Err.field-0 in
-    opening_is_told (g.D.Disk.contents c.args.disk) (g.D.Disk.failed c.args.disk) (g.D.Disk.failed met.disk) met.fault why c.unopened.result (Err c.unopened.result) c.unopened.ensures refl is
-    (c.in-Err.ensures.fault honest)
+    unopened_why (λ _. ⊥) (g.D.Disk.contents c.args.disk) (g.D.Disk.failed c.args.disk) (g.D.Disk.failed met.disk) met.fault c.unopened.result c.unopened.ensures
+    (c.in-Err.ensures.fault honest) (c.in-Err.ensures.no_frame honest)
 
 pub returns-in-Ok-clause-stopped : goal.returns-in-Ok-clause-stopped
 returns-in-Ok-clause-stopped g c = ends_with_one c.told-ended.result c.told-ended.ensures.stops

@@ -23,7 +23,7 @@ returns-clause-exits g c =
       printed = g.W.Write.contents ran.new.out.writer;
       merged = ran.ensures.merged;
       told = ran.ensures.refused;
-      fault = ran.ensures.fault;
+      why = ran.ensures.why;
       writer = on_writer ran.result.1 c.exit.ensures.kept ran.ensures.writer;
       exits = c.exit.ensures.exits;
     }

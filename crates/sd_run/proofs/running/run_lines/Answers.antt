@@ -1,12 +1,10 @@
 -- What is left of the disk, and what was printed.
-use Rattle.std.proofs.Common.{◌∷◌, Err, inl, inr, refl}
+use Rattle.std.proofs.Common.{◌∷◌, inl, inr, refl}
 use Rattle.sd_disk.specs.Reads.{nothing_read}
-use Rattle.sd_exit.specs.declared.stop.Stop.TheVariants as stop
-use Rattle.sd_restore.specs.declared.fault.Fault.TheVariants as fault
 use Rattle.sd_script.specs.declared.line.Line.TheVariants as asked
 use Rattle.sd_run.specs.Promise.{Promise}
 use Rattle.sd_run.specs.Whole.{IsLeftByRun, IsPartOfRun, IsWholeRun, PrintsLines}
-use Rattle.sd_run.proofs.EndLemmas.{opening_is_told, unprinted_is_no_fault}
+use Rattle.sd_run.proofs.EndLemmas.{unopened_why, unprinted_why}
 use Rattle.sd_run.proofs.LineLemmas.{then_on_ok}
 use Rattle.sd_run.proofs.PromiseLemmas.{promise_of, promise_so_far}
 use Rattle.sd_run.proofs.running.run_lines.Goals as goal
@@ -30,6 +28,7 @@ returns-in-Ok-open-clause-whole g c =
           idle = c.in-Ok-open.ensures.idle;
           shows = c.in-Ok-open.ensures.shows;
           everywhere = c.in-Ok-open.ensures.everywhere;
+          bare = c.in-Ok-open.ensures.bare;
           frames = c.in-Ok-open.ensures.frames;
         };
         goes_on = ended.ensures.goes_on;
@@ -53,6 +52,7 @@ returns-in-Ok-open-clause-left g c = IsLeftByRun.run (record {
       idle = c.in-Ok-open.ensures.idle;
       shows = c.in-Ok-open.ensures.shows;
       everywhere = c.in-Ok-open.ensures.everywhere;
+      bare = c.in-Ok-open.ensures.bare;
       frames = c.in-Ok-open.ensures.frames;
     };
     goes_on = c.answer_all-ended.ensures.goes_on;
@@ -86,6 +86,7 @@ returns-in-Ok-open-clause-so_far g c = λ honest.
           idle = c.in-Ok-open.ensures.idle;
           shows = c.in-Ok-open.ensures.shows;
           everywhere = c.in-Ok-open.ensures.everywhere;
+          bare = c.in-Ok-open.ensures.bare;
           frames = c.in-Ok-open.ensures.frames;
         };
         goes_on = c.answer_all-ended.ensures.goes_on;
@@ -108,16 +109,15 @@ returns-in-Err-clause-so_far g c = λ honest. inl (nothing_read g.D.Disk c.args.
 pub returns-in-Err-open-clause-so_far : goal.returns-in-Err-open-clause-so_far
 returns-in-Err-open-clause-so_far g c = λ honest. inl (c.in-Err-open.ensures.refused, refl)
 
-pub returns-in-Ok-open-clause-fault : goal.returns-in-Ok-open-clause-fault
-returns-in-Ok-open-clause-fault g c = λ why is honest.
-    unprinted_is_no_fault (g.D.Disk.contents c.args.disk) (g.D.Disk.failed c.args.disk) (g.D.Disk.failed c.close.result) c.answer_all-ended.result why c.answer_all-ended.ensures.stops is
+pub returns-in-Ok-open-clause-why : goal.returns-in-Ok-open-clause-why
+returns-in-Ok-open-clause-why g c = λ honest.
+    unprinted_why (λ _. ⊥) (g.D.Disk.contents c.args.disk) (g.D.Disk.failed c.args.disk) (g.D.Disk.failed c.close.result) c.answer_all-ended.result c.answer_all-ended.ensures.stops
 
-pub returns-in-Err-clause-fault : goal.returns-in-Err-clause-fault
-returns-in-Err-clause-fault g c = λ why is honest.
-    unprinted_is_no_fault (g.D.Disk.contents c.args.disk) (g.D.Disk.failed c.args.disk) (g.D.Disk.failed c.args.disk) (Err (stop.Fault fault.OutOfMemory)) why (record {}) is
+pub returns-in-Err-clause-why : goal.returns-in-Err-clause-why
+returns-in-Err-clause-why g c = λ honest. tt
 
-pub returns-in-Err-open-clause-fault : goal.returns-in-Err-open-clause-fault
-returns-in-Err-open-clause-fault g c = λ why is honest.
+pub returns-in-Err-open-clause-why : goal.returns-in-Err-open-clause-why
+returns-in-Err-open-clause-why g c = λ honest.
     let met = c.in-Err-open.field-0 in
-    opening_is_told (g.D.Disk.contents c.args.disk) (g.D.Disk.failed c.args.disk) (g.D.Disk.failed met.disk) met.fault why c.unopened.result (Err c.unopened.result) c.unopened.ensures refl is
-    (c.in-Err-open.ensures.fault honest)
+    unopened_why (λ _. ⊥) (g.D.Disk.contents c.args.disk) (g.D.Disk.failed c.args.disk) (g.D.Disk.failed met.disk) met.fault c.unopened.result c.unopened.ensures
+    (c.in-Err-open.ensures.fault honest) (c.in-Err-open.ensures.no_frame honest)

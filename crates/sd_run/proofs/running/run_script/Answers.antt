@@ -1,5 +1,5 @@
 -- With status 0 the run came to its end.
-use Rattle.std.proofs.Common.{◌≡◌, ◌∷◌, true, List, Err, inl, refl, sym, subst}
+use Rattle.std.proofs.Common.{◌≡◌, ◌∷◌, true, List, Some, Err, inl, refl, sym, subst}
 use Rattle.sd_disk.specs.Reads.{nothing_read}
 use Rattle.sd_script.specs.Script.{first_unfit_line}
 use Rattle.sd_script.specs.declared.line.Line.{Line}
@@ -9,7 +9,7 @@ use Rattle.sd_exit.specs.Ending.{Exits, OnWriter, end_status, end_text}
 use Rattle.sd_exit.proofs.EndingLemmas.{on_writer, printed_at_its_end}
 use Rattle.sd_run.specs.Promise.{Promise, PromiseToExit}
 use Rattle.sd_run.specs.Whole.{IsWholeRun}
-use Rattle.sd_run.proofs.EndLemmas.{blamed_line, never_writer, unfit_is_seen}
+use Rattle.sd_run.proofs.EndLemmas.{blamed_line, never_writer, unfit_is_seen, unfit_why, why_run}
 use Rattle.sd_run.proofs.LineLemmas.{promised_still, run_still}
 use Rattle.sd_run.proofs.running.run_script.Goals as goal
 
@@ -38,10 +38,11 @@ returns-in-Ok-clause-so_far g c = λ honest.
     let ran = c.run_lines-disk in
     let from = g.W.Write.contents c.args.out.now.writer in
     let to = g.W.Write.contents c.exit.new.out.writer in
-    subst (λ asks. PromiseToExit g.D.Disk (asked.Reopen ∷ asks) c.args.disk ran.result.0 from to c.exit.new.out.refused c.exit.result) c.in-Ok.ensures.requests (record {
+    subst (λ asks. PromiseToExit g.D.Disk (λ number. first_unfit_line c.args.script.now ≡ Some number) (asked.Reopen ∷ asks) c.args.disk ran.result.0 from to c.exit.new.out.refused c.exit.result) c.in-Ok.ensures.requests (record {
       ended = ran.result.1;
       printed = g.W.Write.contents ran.new.out.writer;
       so_far = ran.ensures.so_far honest;
+      why = why_run (λ number. first_unfit_line c.args.script.now ≡ Some number) (g.D.Disk.contents c.args.disk) (g.D.Disk.failed c.args.disk) (g.D.Disk.failed ran.result.0) ran.result.1 (ran.ensures.why honest);
       writer = on_writer ran.result.1 c.exit.ensures.kept ran.ensures.writer;
       exits = c.exit.ensures.exits;
     })
@@ -71,6 +72,7 @@ returns-in-Err-clause-so_far g c = λ honest.
       ended = Err c.unfit.result;
       printed = from;
       so_far = inl (nothing_read g.D.Disk c.args.disk, refl);
+      why = unfit_why (λ number. first_unfit_line c.args.script.now ≡ Some number) (g.D.Disk.contents c.args.disk) (g.D.Disk.failed c.args.disk) (g.D.Disk.failed c.args.disk) c.in-Err.error c.unfit.result c.unfit.ensures c.in-Err.ensures.unfit;
       writer = subst (λ (why : Stop). OnWriter (Err why) (done.new.out.refused ≡ true)) (sym c.unfit.ensures) (never_writer (done.new.out.refused ≡ true) c.in-Err.error);
       exits = done.ensures.exits;
     }
