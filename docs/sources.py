@@ -7,7 +7,7 @@ from typing import NamedTuple
 sys.dont_write_bytecode = True
 TOP = Path(__file__).resolve().parent.parent
 CRATES = TOP / "crates"
-CLAUSE = re.compile(r"\s*(?://[^\n]*\n\s*)*(ensures|requires)\s*(\w*)\s*\{")
+CLAUSE = re.compile(r"\s*(?://[^\n]*\n\s*)*(ensures|requires|ghost)(\*?)\s*(\w*):?\s*\{")
 
 
 class Function(NamedTuple):
@@ -19,12 +19,15 @@ class Function(NamedTuple):
         return line_at(self.source, self.place)
 
     def clauses(self):
-        """The text of each clause by its name, with the line at which it stands; `-` for one without a name."""
+        """Each clause by its name, `-` for one without a name: its text, the line at which it stands, and its kind."""
         clauses = {}
-        place = re.compile(r"\n\s*(?:ensures|requires|//|\{)").search(self.source, self.place).start()
+        place = re.compile(r"\n\s*(?:ensures|requires|ghost|//|\{)").search(self.source, self.place).start()
         while clause := CLAUSE.match(self.source, place):
             end = end_of_braces(self.source, clause.end())
-            clauses[clause[2] or "-"] = (self.source[clause.end():end - 1], line_at(self.source, clause.start(1)))
+            name = clause[3] or "-"
+            while name in clauses:
+                name += "-"
+            clauses[name] = (self.source[clause.end():end - 1], line_at(self.source, clause.start(1)), clause[1])
             place = end
         return clauses
 

@@ -2,7 +2,7 @@
 # sources.
 
 sources=$(cd "$here/.." && pwd)
-headline=(sd_run run_lines promise so_far + sd_world restore_left restored)
+headline=(sd_run run_lines promise so_far + sd_world restore_left restored + sd_disk DirDisk for Disk)
 
 # Each definition that is quoted stands in the file that its block names, word for word.
 promise_quotes_the_definitions() {
@@ -21,7 +21,7 @@ sys.exit(1 if wrong or len(quotes) < 20 else 0)
 PYTHON
 }
 
-# The number of definitions behind the clauses is the one that the page tells, and at most 150.
+# The number of definitions that have to be believed is the one that the page has, and at most 190.
 promise_is_small() {
   needs_python || return
   local told count
@@ -29,7 +29,7 @@ promise_is_small() {
   "$sources/docs/believe" "${headline[@]}" > counted || return 1
   same "the count" "$(sed -E 's/^([0-9]+ definitions), ([0-9]+ lines).*/\1 of \2/' counted)" "$told" || return 1
   count=${told%% *}
-  [ "$count" -le 150 ] || { echo "$count definitions"; return 1; }
+  [ "$count" -le 190 ] || { echo "$count definitions"; return 1; }
   [ "$(wc -l < "$sources/docs/PROMISE.md")" -le 300 ] || { echo "the page is too long"; return 1; }
 }
 
@@ -45,6 +45,14 @@ what_is_believed_is_listed() {
   while read -r row; do
     grep -qxF "$row" "$sources/docs/BELIEVED.md" || { printf 'docs/BELIEVED.md lacks\n%s\n' "$row"; return 1; }
   done < rows
+}
+
+# Whoever hides a definition from the count is found out.
+hidden_definitions_are_counted() {
+  needs_python || return
+  local told
+  told=$(python3 "$sources/tests/cheat_believe.py") || { echo "$told"; return 1; }
+  same "the ways that were tried" "$(grep -c '^ok ' <<< "$told")" 12
 }
 
 # Each link of the README and of docs/CLAUSES.md leads to the line of its function or clause.
@@ -68,5 +76,6 @@ each_promise_names_wrong_bodies() {
 try promise_quotes_the_definitions
 try promise_is_small
 try what_is_believed_is_listed
+try hidden_definitions_are_counted
 try links_lead_to_clauses
 try each_promise_names_wrong_bodies
