@@ -19,6 +19,7 @@ use sd_image::{Header, one_image};
 use std::alloc::{AllocError, Global};
 use std::marker::Model;
 
+mod checkpoints;
 mod tracing;
 
 /// The open images of a store, in order of serial, and the places that are held for serials to come.
