@@ -113,12 +113,15 @@ lines_beside_a_run_are_whole() {
 }
 
 # Two moments of a store whose images have nothing in common: before is checkpoint 1 in slot 0, after is checkpoint 2 in
-# slot 2, and slots 0 and 1 are closed.
+# slot 60. So a reader that goes over the slots while one becomes the other meets both images, or none.
 make_moments() {
   make_store before || return 1
   cp -a before after
   printf '%s\n' 'munmap 1 0x10000 4096' 'mmap 1 0x20000 0x3000 rw' 'store 1 0x21000 77' 'checkpoint 0' merge > script
   "$ckpt" run after script > made || { cat made; return 1; }
+  same "the images of it" "$("$ckpt" list after | cut -d ' ' -f 1-3)" "slot 000 merged
+tip 3" || return 1
+  mv after/img-000 after/img-060 && : > after/img-000
   cc -O2 -shared -fPIC -o swap.so "$here/swap_files.c" || return 1
   printf '%s\n' '#!/bin/sh' 'for file in after/img-*; do cat "$file" > "store/${file#after/}"; done' > swap
   chmod +x swap
@@ -143,7 +146,7 @@ readers_try_again_and_mix_no_moments() {
   make_moments || return 1
   export ASAN_OPTIONS=verify_asan_link_order=0
   local words number count tried=0 step=7
-  [ -z "${CHECKED:-}" ] || step=61
+  [ -z "${CHECKED:-}" ] || step=41
   rm -rf store && cp -a before store
   exec 8< store
   flock -n 8 || { echo "the lock isn't to be had"; return 1; }

@@ -352,13 +352,13 @@ show_into_a_full_device() {
 }
 
 # A file call that fails ends the lines of the slots before with `device`, or keeps the folder closed; a document isn't
-# printed then, but `device` alone.
+# printed then, but `device` alone. The first five calls hold descriptors, and look whether a run is writing the store.
 a_failing_device_ends_the_lines() {
   calls_can_fail || return
   make_store store || return 1
   cp store/img-000 store/img-063
-  reader_tells_of_failures 4 device show store || return 1
-  reader_tells_of_failures 4 device show store --json
+  reader_tells_of_failures 6 device show store || return 1
+  reader_tells_of_failures 6 device show store --json
 }
 
 # The first three calls hold the descriptors of a program.

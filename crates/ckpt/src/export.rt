@@ -1,8 +1,8 @@
 //! `ckpt export`: the memory that a store shows, as ELF core files.
 
+use crate::beside::{BESIDE, may_change, read_until_steady, tell_beside};
 use crate::cause::{Advised, Causes, tell, tell_device};
 use crate::folders::open_store;
-use crate::reading::{BESIDE, PAUSES, may_change, tell_beside};
 use crate::slots::{is_same_file, is_slot_file, slot_error};
 use crate::verbose::{Seen, is_watched, logger_for, seen_by, unseen};
 use clap::ArgMatches;
@@ -19,8 +19,8 @@ use std::fs::File;
 use std::io::Write;
 use std::rt::Files;
 use std::sync::Wait;
-use std::time::{Clock, Duration};
-use std::{fmt, fs, io, thread};
+use std::time::Clock;
+use std::{fmt, fs, io};
 
 /// What is told of a folder of core files that is none.
 const IS_NO_FOLDER: &str = "; OUT is the folder of the core files";
@@ -170,9 +170,8 @@ impl<R: Files<File = File>> Export<'_, R> {
         folder.sync_all()
     }
 
-    /// Takes away what was written, and forgets it: the next try begins anew.
+    /// Forgets what was tried before.
     fn begin_anew(&mut self) {
-        self.remove_all();
         self.begun.clear();
         self.lock = None;
         self.lacks = false;
@@ -252,13 +251,15 @@ fn fault_of(ended: &Result<(), WriteError>) -> Option<Fault> {
     }
 }
 
-/// Writes the files of a store once. Where that fails, those that were begun are taken away.
+/// Writes the files of a store once, as if nothing was tried before. Where that fails, those that were begun are taken
+/// away.
 fn export_once(
     rt: &HostRuntime,
     seen: Seen<'_>,
     causes: Causes,
     export: &mut Export<'_, HostRuntime>,
 ) -> Result<Exported, Stop> {
+    export.begin_anew();
     let disk = open_store(rt, causes, export.store)?;
     let mut disk = seen.disk("export", disk);
     let ended = write_files(&mut disk, export);
@@ -266,25 +267,6 @@ fn export_once(
         export.remove_all();
     }
     Ok((unseen(disk), ended))
-}
-
-/// Writes the files of a store that a run is writing: again where that came between.
-fn export_beside<R: Clock + Wait>(
-    rt: &HostRuntime,
-    clock: &R,
-    seen: Seen<'_>,
-    causes: Causes,
-    export: &mut Export<'_, HostRuntime>,
-) -> Result<Exported, Stop> {
-    for pause in PAUSES {
-        let (disk, ended) = export_once(rt, seen, causes, export)?;
-        if !may_change(fault_of(&ended)) {
-            return Ok((disk, ended));
-        }
-        export.begin_anew();
-        thread::sleep(clock, Duration::from_millis(pause));
-    }
-    export_once(rt, seen, causes, export)
 }
 
 /// How the program ends, and a line of why no file was made where the store isn't at fault.
@@ -344,7 +326,11 @@ pub fn export_program<R: Clock + Wait, W: Write>(
     };
     let is_beside = is_being_written(rt, store);
     let (disk, ended) = if is_beside {
-        export_beside(rt, clock, seen, causes, &mut export)?
+        read_until_steady(
+            clock,
+            || export_once(rt, seen, causes, &mut export),
+            |(_, ended)| may_change(fault_of(ended)),
+        )?
     } else {
         export_once(rt, seen, causes, &mut export)?
     };

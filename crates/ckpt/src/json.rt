@@ -1,8 +1,9 @@
 //! `--json` of the programs that read a store: one document on one line.
 
+use crate::beside::{BESIDE, may_change, read_until_steady, tell_beside};
 use crate::cause::{Causes, tell, tell_device};
 use crate::folders::open_store;
-use crate::reading::{BESIDE, PAUSES, deed_of, may_change, tell_beside};
+use crate::reading::deed_of;
 use crate::verbose::{Seen, unseen};
 use sd_disk::{DirDisk, is_being_written};
 use sd_exit::{Output, Stop, exit, exit_told};
@@ -13,8 +14,7 @@ use serde_json::Value;
 use std::alloc::Global;
 use std::io::Write;
 use std::sync::Wait;
-use std::thread;
-use std::time::{Clock, Duration};
+use std::time::Clock;
 
 /// Why there is no document of what was read.
 fn fault_of(read: &Result<Value, Fault>) -> Option<Fault> {
@@ -58,15 +58,11 @@ impl DocumentAsked<'_, '_> {
         rt: &HostRuntime,
         clock: &R,
     ) -> Result<Result<Value, Fault>, Stop> {
-        let (_, mut read) = self.read_once(rt)?;
-        for pause in PAUSES {
-            if !may_change(fault_of(&read)) {
-                return Ok(read);
-            }
-            thread::sleep(clock, Duration::from_millis(pause));
-            let (_, again) = self.read_once(rt)?;
-            read = again;
-        }
+        let (_, read) = read_until_steady(
+            clock,
+            || self.read_once(rt),
+            |(_, read)| may_change(fault_of(read)),
+        )?;
         if may_change(fault_of(&read)) {
             tell(rt, self.causes, self.folder, &BESIDE);
         }

@@ -38,6 +38,7 @@ use std::time::Clock;
 use verbose::{is_watched, logger_for, seen_by};
 
 mod arguments;
+mod beside;
 mod cause;
 mod command_line;
 mod counted;

@@ -6,6 +6,7 @@ ghost use Rattle.sd_readers.specs.Reading.{ReaderEnds};
 ghost use Rattle.ckpt.specs.Reading.{ReadsFolder};
 
 use crate::FAILED;
+use crate::beside::{BESIDE, PAUSES, may_change, read_until_steady, tell_beside};
 use crate::cause::{Causes, tell, tell_device};
 use crate::folders::open_store;
 use crate::verbose::{Seen, unseen};
@@ -23,24 +24,6 @@ use std::time::{Clock, Duration};
 
 /// The disk that was read at last, and the exit status.
 pub type Reading = (DirDisk, u8);
-
-/// How long a reader waits before each further try, in milliseconds, while a run writes the store.
-pub const PAUSES: [u64; 9] = [1, 2, 5, 10, 20, 50, 100, 200, 400];
-
-/// Whether another try may answer otherwise while a run writes the store.
-pub fn may_change(fault: Option<Fault>) -> bool {
-    matches!(fault, Some(Fault::Device | Fault::Damaged { .. }))
-}
-
-/// Tells of an answer that a run may have disturbed, where one is writing the store.
-pub fn tell_beside(rt: &(impl Files<File = File> + Eprint), causes: Causes, folder: &str) {
-    if is_being_written(rt, folder) {
-        tell(rt, causes, folder, &BESIDE);
-    }
-}
-
-/// What is told of such an answer.
-pub const BESIDE: &str = "a run is writing this store; try again when it has ended";
 
 /// Tells of a fault that is told at last, where the run that writes the store may have made it.
 fn tell_disturbed(rt: &impl Eprint, causes: Causes, folder: &str, fault: Fault) {
@@ -238,6 +221,22 @@ fn read_seen_alone<W: Write>(
     Ok(status)
 }
 
+/// A store that was read, the exit status, and what was printed of it.
+type Held = (Reading, Output<Vec<u8>>);
+
+/// Reads a store once, has seen what is done, and holds back what is printed.
+fn read_seen_held(
+    rt: &HostRuntime,
+    seen: Seen<'_>,
+    causes: Causes,
+    reader: Reader,
+    folder: &str,
+) -> Result<Held, Stop> {
+    let mut held = Output::new(Vec::new(rt.alloc()));
+    let reading = read_seen_once(rt, seen, causes, reader, folder, &mut held)?;
+    Ok((reading, held))
+}
+
 /// Reads a store beside a run, and has seen what is done: again where the run may have come between. What is printed is
 /// whole, or why there is nothing.
 fn read_seen_beside<R: Clock + Wait, W: Write>(
@@ -249,17 +248,11 @@ fn read_seen_beside<R: Clock + Wait, W: Write>(
     folder: &str,
     out: &mut Output<W>,
 ) -> Result<u8, Stop> {
-    let mut held = Output::new(Vec::new(rt.alloc()));
-    let (_, mut status) = read_seen_once(rt, seen, causes, reader, folder, &mut held)?;
-    for pause in PAUSES {
-        if !may_change(held.fault()) {
-            break;
-        }
-        thread::sleep(clock, Duration::from_millis(pause));
-        held = Output::new(Vec::new(rt.alloc()));
-        let (_, again) = read_seen_once(rt, seen, causes, reader, folder, &mut held)?;
-        status = again;
-    }
+    let ((_, status), held) = read_until_steady(
+        clock,
+        || read_seen_held(rt, seen, causes, reader, folder),
+        |(_, held)| may_change(held.fault()),
+    )?;
     if held.is_refused() {
         return Err(Stop::Fault(Fault::OutOfMemory));
     }

@@ -1,7 +1,7 @@
 //! `ckpt show`: what stands in the image files of a store.
+use crate::beside::{BESIDE, read_until_steady, tell_beside};
 use crate::cause::{Causes, tell, tell_device};
 use crate::folders::open_store;
-use crate::reading::{BESIDE, PAUSES, tell_beside};
 use crate::verbose::{Seen, is_watched, logger_for, seen_by, unseen};
 use clap::ArgMatches;
 use sd_disk::{DirDisk, Disk, is_being_written};
@@ -12,8 +12,7 @@ use sd_show::{Stop as ShowStop, show_slot, show_slot_json, show_slots, show_slot
 use std::alloc::Global;
 use std::io::{IsTerminal, Write};
 use std::sync::Wait;
-use std::thread;
-use std::time::{Clock, Duration};
+use std::time::Clock;
 
 /// Shows one slot of a store, or all of them, and returns whether any is damaged. A slot that the store doesn't have
 /// isn't there to be damaged.
@@ -106,18 +105,6 @@ impl ShowAsked<'_, '_> {
         Ok((unseen(disk), shown, text))
     }
 
-    /// Shows slots of a store that a run is writing: again where that came between.
-    fn try_often<R: Clock + Wait>(self, rt: &HostRuntime, clock: &R) -> Result<Shown, Stop> {
-        for pause in PAUSES {
-            let (disk, shown, text) = self.show_held(rt)?;
-            if !matches!(shown, Err(ShowStop::Device)) {
-                return Ok((disk, shown, text));
-            }
-            thread::sleep(clock, Duration::from_millis(pause));
-        }
-        self.show_held(rt)
-    }
-
     /// Shows slots of a store that a run is writing. What is printed is of one moment.
     fn show_beside<R: Clock + Wait, W: Write>(
         self,
@@ -125,7 +112,11 @@ impl ShowAsked<'_, '_> {
         clock: &R,
         out: &mut Output<W>,
     ) -> Result<Result<bool, ShowStop>, Stop> {
-        let (disk, shown, text) = self.try_often(rt, clock)?;
+        let (disk, shown, text) = read_until_steady(
+            clock,
+            || self.show_held(rt),
+            |(_, shown, _)| matches!(shown, Err(ShowStop::Device)),
+        )?;
         tell_device(rt, self.causes, self.folder, &disk);
         match &shown {
             Ok(_) => out.write_all(&text)?,
