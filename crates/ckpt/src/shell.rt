@@ -16,6 +16,7 @@ use sd_run::{FRAMES, Watch, run_line, unopened};
 use sd_script::{Answer, Line, Script, ScriptError};
 use sd_stats::{Gated, Gates};
 use sd_world::{OpenError, World};
+use std::cell::Cell;
 use std::io;
 use std::io::{Read, Write};
 
@@ -44,6 +45,8 @@ pub struct Asked<'r, 'f, 'g> {
     pub folder: &'f str,
     pub gates: &'g Gates,
     pub asking: Asking,
+    /// The worker whose device call failed, until the store is opened again.
+    pub failed: &'g Cell<Option<Worker>>,
 }
 
 impl Asked<'_, '_, '_> {
@@ -191,13 +194,19 @@ fn answer_request<D: Disk, W: Write, S: Watch>(
 ) -> Result<(), Stop> {
     let wanted = wanted_slots(&request);
     let rounds = rounds_of(&request);
-    if matches!(request, Line::Reopen) && world.core().is_down() {
-        hand_in_all(asked, world, watch)?;
+    let worker = worker_of(&request);
+    if let (Line::Reopen, Some(failed)) = (&request, asked.failed.get()) {
+        hand_in_all(asked, world, failed, watch)?;
     }
     let given = run_line(asked.rt.alloc(), world, request, out, watch)?;
     asked.tell_answer(wanted, &given);
-    if let (Some(rounds), Answer::Reply(Reply::Refused(Refusal::Einval))) = (rounds, &given) {
-        tell_rounds(asked, rounds);
+    match (&given, rounds) {
+        (Answer::Reply(Reply::Refused(Refusal::Device)), _) => asked.failed.set(worker),
+        (Answer::Reply(Reply::Reopened(_)), _) => asked.failed.set(None),
+        (Answer::Reply(Reply::Refused(Refusal::Einval)), Some(rounds)) => tell_rounds(
+            asked, rounds,
+        ),
+        _ => {}
     }
     Ok(())
 }
@@ -210,26 +219,48 @@ fn rounds_of(request: &Line) -> Option<u64> {
     }
 }
 
-/// The workers whose device calls may be out.
-const WORKERS: [Worker; 3] = [Worker::Dumper, Worker::Merger, Worker::Opener];
+/// The worker whose device calls a request may make.
+fn worker_of(request: &Line) -> Option<Worker> {
+    match request {
+        Line::Checkpoint(_) => Some(Worker::Dumper),
+        Line::Merge => Some(Worker::Merger),
+        Line::Reopen => Some(Worker::Opener),
+        Line::Work(worker) | Line::Perform(worker) | Line::Finish(worker) => Some(*worker),
+        Line::PerformAt { worker, .. } | Line::Step { worker, .. } => Some(*worker),
+        _ => None,
+    }
+}
 
 /// How many device calls of a worker are out at most, and one more.
 const CALLS: usize = 12;
 
-/// Has each worker go on until it has nothing to do, by requests `finish` whose answers nobody sees.
+/// Has each worker hand in what its device calls brought, the one whose call failed first: then the store is down, and
+/// no other goes on. It is done by requests `finish`, whose answers nobody sees.
 fn hand_in_all<D: Disk, S: Watch>(
     asked: Asked<'_, '_, '_>,
     world: &mut World<D>,
+    failed: Worker,
+    watch: &mut S,
+) -> Result<(), Stop> {
+    for worker in [failed, Worker::Dumper, Worker::Merger, Worker::Opener] {
+        hand_in(asked, world, worker, watch)?;
+    }
+    Ok(())
+}
+
+/// Has a worker go on until it is idle.
+fn hand_in<D: Disk, S: Watch>(
+    asked: Asked<'_, '_, '_>,
+    world: &mut World<D>,
+    worker: Worker,
     watch: &mut S,
 ) -> Result<(), Stop> {
     let alloc = asked.rt.alloc();
     let mut unseen = Output::new(Vec::new(alloc));
-    for worker in WORKERS {
-        for _ in 0..CALLS {
-            let given = run_line(alloc, world, Line::Finish(worker), &mut unseen, watch)?;
-            if let Answer::Reply(Reply::Refused(Refusal::Idle)) = given {
-                break;
-            }
+    for _ in 0..CALLS {
+        let given = run_line(alloc, world, Line::Finish(worker), &mut unseen, watch)?;
+        if let Answer::Reply(Reply::Refused(Refusal::Idle)) = given {
+            break;
         }
     }
     Ok(())
