@@ -3,7 +3,7 @@
      ONLY      the name of the calls that are counted, or a path whose opening is; else all of them are
      COUNTED   a file to which the count is written at each call, since a program may end by _exit
      FAILED    the number of the call that fails
-     NAMED     a file to which the name of that call is written, or the path that it opens
+     NAMED     a file to which the name of that call is written, or the path that it opens, looks at or syncs
      HOW       how it fails: `unmade` (EIO, and nothing is done), `made` (done, and then EIO), `full` (ENOSPC, and all
                later calls that make or change a file too), `interrupted` (EINTR once, and nothing is done), `short` (a
                read or a write of half the bytes), `other` (a read whose first byte is another one: somebody else
@@ -26,7 +26,8 @@ static const char *const ways[] = {"unmade", "made", "full", "interrupted", "sho
 static const char *only;
 static unsigned long calls, failed;
 static enum how how;
-static int counted = -1;
+static int counted = -1, synced = -1;
+static const char *looked_at = "";
 
 static int (*next_open)(const char *, int, ...);
 static int (*next_statx)(int, const char *, int, unsigned, struct statx *);
@@ -54,12 +55,27 @@ __attribute__((constructor)) static void begin(void) {
     counted = next_open(file, O_WRONLY | O_CREAT | O_CLOEXEC, 0666);
 }
 
+/* The path of the file that is synced, as the system tells it. */
+static const char *path_synced(void) {
+  static char path[4096];
+  char link[32];
+  ssize_t length;
+  snprintf(link, sizeof link, "/proc/self/fd/%d", synced);
+  length = readlink(link, path, sizeof path - 1);
+  path[length < 0 ? 0 : length] = 0;
+  return path;
+}
+
 /* Writes the name of the call that fails. */
 static void tell(const char *name) {
   const char *file = getenv("NAMED");
   int named = file ? next_open(file, O_WRONLY | O_CREAT | O_TRUNC | O_CLOEXEC, 0666) : -1;
   if (named < 0)
     return;
+  if (strcmp(name, "fsync") == 0)
+    name = path_synced();
+  if (strcmp(name, "statx") == 0)
+    name = looked_at;
   next_pwrite(named, name, strlen(name), 0);
   close(named);
 }
@@ -119,12 +135,16 @@ int open(const char *path, int flags, ...) {
 }
 
 int statx(int folder, const char *restrict path, int flags, unsigned mask, struct statx *restrict found) {
+  looked_at = path;
   FAIL_OR("statx", 0, next_statx(folder, path, flags, mask, found));
 }
 
 int ftruncate(int file, off_t length) { FAIL_OR("ftruncate", 1, next_ftruncate(file, length)); }
 
-int fsync(int file) { FAIL_OR("fsync", 1, next_fsync(file)); }
+int fsync(int file) {
+  synced = file;
+  FAIL_OR("fsync", 1, next_fsync(file));
+}
 
 int fdatasync(int file) { FAIL_OR("fdatasync", 1, next_fdatasync(file)); }
 

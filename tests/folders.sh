@@ -42,6 +42,78 @@ folders_of_an_export_are_synced_into_their_parents() {
   are_synced_into_their_parents y1 y1/y2
 }
 
+# Whether each of these folders is synced before a file of a slot is made or written.
+are_synced_first() {  # are_synced_first FOLDER..
+  local folder
+  for folder in "$@"; do
+    awk -v folder="<$folder>)" '
+      /img-[0-9]+/ && (/O_CREAT/ || /^pwrite64/ || /^ftruncate/) { exit }
+      /^fsync/ && index($0, folder) { found = 1; exit }
+      END { exit !found }' calls-of-run || { echo "$folder isn't synced first"; return 1; }
+  done
+}
+
+# A folder that is there may have been made by a run that was killed before it synced its name. So each folder above a
+# store is synced before its first file is made: of a path, of the folder in which the program runs, and of the folder
+# to which a link leads.
+folders_above_a_store_are_synced_first() {
+  local here
+  here=$(pwd -P)
+  mkdir -p k1 dot above/target
+  ln -s above/target link
+  echo 'checkpoint 0' > script
+  trace run k1/k2/store script || return
+  are_synced_first "$here/k1/k2" "$here/k1" "$here" "$(dirname "$here")" / || return 1
+  trace run link script || return
+  are_synced_first "$here/above" "$here" / || return 1
+  cd dot || return 1
+  trace run . ../script || return
+  are_synced_first "$here" "$(dirname "$here")" / || return 1
+  trace run . ../script || return
+  are_synced_first "$here" "$(dirname "$here")" /
+}
+
+# Runs a command as a user who isn't root.
+as_a_user() {  # as_a_user COMMAND..
+  if [ "$(id -u)" = 0 ]; then
+    setpriv --reuid 65534 --regid 65534 --clear-groups "$@"
+  else
+    "$@"
+  fi
+}
+
+# A store that is there needs nothing of the folder in which it stands, whose names a user may not read. The name of a
+# store that is made is synced there, or the store isn't opened.
+stores_need_nothing_of_their_parent() {
+  command -v setpriv > /dev/null || { echo "needs setpriv"; return 77; }
+  room=$(mktemp -d) || return 1
+  trap 'chmod -R u+rwx "$room"; rm -rf "$room"' EXIT
+  chmod 777 "$room"
+  cd "$room" || return 1
+  cp "$ckpt" program && chmod 755 program || return 1
+  as_a_user mkdir parent || { echo "needs another user"; return 77; }
+  printf 'mmap 1 0x10000 4096 rw\nstore 1 0x10000 61\ncheckpoint 0\n' > script
+  as_a_user ./program run parent/store script > out || { cat out; return 1; }
+  as_a_user chmod 311 parent
+  as_a_user ls parent > ls 2>&1 && { echo "the parent can be read"; return 77; }
+  same "run" "$(as_a_user ./program run parent/store script | tail -n 1)" "acked 2" || return 1
+  same "shell" "$(as_a_user ./program shell parent/store < script | tail -n 1)" "acked 3" || return 1
+  same "merge" "$(as_a_user ./program merge parent/store)" "merged 4" || return 1
+  ends_with 1 "cannot open DIR" "ckpt: parent/new: Permission denied (os error 13)" \
+    as_a_user ./program run parent/new script
+}
+
+# So is it where folders can't be synced: the first call that syncs is that of the folder in which the store stands.
+parents_may_be_unable_to_sync() {
+  calls_can_fail || return
+  make_store old || return 1
+  same "the status where the name is there" \
+    "$(ends env ONLY=fsync FAILED=1 HOW=unmade LD_PRELOAD=./fail.so "$ckpt" run old script)" 0 || return 1
+  same "the last answer" "$(tail -n 1 out)" "acked 2" || return 1
+  ends_with 1 "cannot open DIR" "ckpt: new: Input/output error (os error 5)" \
+    env ONLY=fsync FAILED=1 HOW=unmade LD_PRELOAD=./fail.so "$ckpt" run new script
+}
+
 # The names of the files are on the device before the store is said to be opened.
 files_are_synced_before_the_store_is_opened() {
   echo 'checkpoint 0' > script
@@ -141,6 +213,9 @@ scripts_may_come_through_a_pipe() {
 try new_folder_stands_in_its_parent
 try folders_are_synced_into_their_parents
 try folders_of_an_export_are_synced_into_their_parents
+try folders_above_a_store_are_synced_first
+try stores_need_nothing_of_their_parent
+try parents_may_be_unable_to_sync
 try files_are_synced_before_the_store_is_opened
 try calls_on_a_slot_have_their_order
 try slots_that_share_a_file_are_not_written

@@ -12,3 +12,4 @@ pub mod Stores
 pub mod Growth
 pub mod Agreement
 pub mod NextPages
+pub mod CheckpointLemmas

@@ -274,7 +274,7 @@ distinct_files (file ∷ files) all (inr a) apart =
     differ (j ∷ others) never =
         (ne_eqb a.0.header.serial j.header.serial (never j (contains_front j others)), differ others (λ k c. never k (contains_later j k others c)))
 
-store_of : OneImage → (contents : List (List ℕ)) (places : Places) → AreInOrder places → IsCatalogOf contents places → (all : List Image) × IsTied contents all places × IsStore contents all
+pub store_of : OneImage → (contents : List (List ℕ)) (places : Places) → AreInOrder places → IsCatalogOf contents places → (all : List Image) × IsTied contents all places × IsStore contents all
 store_of one contents places order catalog =
     let all = opened contents (λ slot file there opens. let s = entry slot file there opens in (s.1, s.2)) in
     let tied : IsTied contents all.0 places = record { one = one; order = order; catalog = catalog; slots = all.1 } in

@@ -7,3 +7,4 @@ pub mod Store
 pub mod Laws
 pub mod Tells
 pub mod Passes
+pub mod Checkpoints

@@ -13,12 +13,13 @@ use crate::choice::{Places, greatest_checkpoint, greatest_serial, images_of, nam
 use crate::error::CatalogError;
 use crate::image::OpenImage;
 use crate::placed::PlacedTable;
-use crate::putting::put_place;
+use crate::putting::{put_image, put_place};
 use indexmap::IndexMap;
 use sd_image::{Header, one_image};
 use std::alloc::{AllocError, Global};
 use std::marker::Model;
 
+mod checkpoints;
 mod tracing;
 
 /// The open images of a store, in order of serial, and the places that are held for serials to come.
@@ -114,11 +115,8 @@ impl Catalog {
         ensures err { OnErr result (self.new ≡ self.old) }
     {
         let serial = header.serial;
-        if self.image(serial).is_some() {
-            return Err(CatalogError::DoubleSerial);
-        }
         let image = OpenImage::new(slot, header, table);
-        put_place(&mut self.places, serial, Some(image))?;
+        put_image(&mut self.places, serial, image)?;
         Ok(())
     }
 

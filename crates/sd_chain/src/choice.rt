@@ -12,7 +12,7 @@ use std::alloc::{AllocError, Global};
 pub(crate) type Places = IndexMap<u64, Option<OpenImage>>;
 
 /// Whether the image alone, or with what it names, is restored.
-fn is_restored(image: &OpenImage) -> bool
+pub(crate) fn is_restored(image: &OpenImage) -> bool
     ensures { IsTrue result ↔ IsDumpOrMerged image.now }
 {
     match image.header().kind {

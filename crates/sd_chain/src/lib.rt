@@ -3,6 +3,7 @@
 
 mod catalog;
 mod chain;
+mod checkpoints;
 mod choice;
 mod error;
 mod found;

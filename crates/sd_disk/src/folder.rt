@@ -35,8 +35,9 @@ impl Folder {
     ghost use Rattle.sd_disk.specs.Folder.{folder_slots};
 
     /// Opens the files. With `make` they may be written: the folder, its parents and the files that are missing are
-    /// made, and another folder that may be written is refused meanwhile. Without it the files are opened for reading
-    /// alone, nothing is made, and the folder has to be there.
+    /// made and their names synced, and another folder that may be written is refused meanwhile. The folders above one
+    /// that is there are synced too, as far as they can be: nobody knows whether the run that made one lived to do so.
+    /// Without `make` the files are opened for reading alone, nothing is made, and the folder has to be there.
     ///
     /// # Errors
     ///
@@ -51,7 +52,7 @@ impl Folder {
     ) -> Result<Folder, OpenError>
         ensures { IfOk result (λ folder. folder_slots folder ≡ FOLDER_SLOTS) }
     {
-        let lock = prepare(rt, path, make).map_err(of_folder)?;
+        let lock = prepare(rt, path, make)?;
         let mut images = open_present(rt, path, make)?;
         if make {
             are_own(rt.alloc(), &images)?;

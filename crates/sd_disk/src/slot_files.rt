@@ -23,22 +23,52 @@ fn of_slot(slot: usize, error: io::Error) -> OpenError {
     OpenError::Folder(FileFault::of_slot(slot, error))
 }
 
-/// Makes the folder and locks it, or sees that it is there.
+/// How many folders above a store are looked at: a path has no room for more.
+const ANCESTORS: usize = 4_096 / 3;
+
+/// Makes the folder and locks it, or sees that it is there. One that may be written has its name on the device, and the
+/// names of the folders above it, as far as they can be synced.
 pub(crate) fn prepare(
-    rt: &impl Files<File = File>,
+    rt: &(impl Files<File = File> + AllocGlobal),
     folder: &str,
     make: bool,
-) -> io::Result<Option<File>> {
+) -> Result<Option<File>, OpenError> {
     if make {
-        make_folders(rt, folder)?;
-        sync_folder(rt, parent_of(folder))?;
-        return lock_folder(rt, folder, STORE_IS_OPEN).map(Some);
+        make_folders(rt, folder).map_err(of_folder)?;
+        sync_ancestors(rt, folder)?;
+        let lock = lock_folder(rt, folder, STORE_IS_OPEN);
+        return lock.map(Some).map_err(of_folder);
     }
-    if look(rt, folder)?.is_dir() {
-        Ok(None)
-    } else {
-        Err(io::ErrorKind::NotADirectory.into())
+    match look(rt, folder) {
+        Ok(found) if found.is_dir() => Ok(None),
+        Ok(_) => Err(of_folder(io::ErrorKind::NotADirectory.into())),
+        Err(error) => Err(of_folder(error)),
     }
+}
+
+/// Syncs each folder above a folder, from the one in which it stands to the root: another run may have made one of them,
+/// and been killed before its name was on the device. One that can't be opened or synced is passed over.
+fn sync_ancestors(
+    rt: &(impl Files<File = File> + AllocGlobal),
+    folder: &str,
+) -> Result<(), OpenError> {
+    let mut path = String::from_str(rt.alloc(), folder)?;
+    let mut below = None;
+    for _ in 0..ANCESTORS {
+        path.push_str("/..")?;
+        let here = id_at(rt, path.as_str());
+        if here.is_none() || here == below {
+            break;
+        }
+        let _ = sync_folder(rt, path.as_str());
+        below = here;
+    }
+    Ok(())
+}
+
+/// Which file a path leads to, if it can be looked at.
+fn id_at(rt: &impl Files, path: &str) -> Option<FileId> {
+    look(rt, path).ok().map(|found| FileId::of(&found))
 }
 
 /// What the system tells of a path, behind symbolic links.
@@ -191,6 +221,15 @@ struct FileId {
     number: u64,
 }
 
+impl FileId {
+    fn of(found: &Metadata) -> FileId {
+        FileId {
+            device: found.dev(),
+            number: found.ino(),
+        }
+    }
+}
+
 /// Sees that each file is its slot's alone: it has no other name, and is no other slot's.
 pub(crate) fn are_own(alloc: Global, images: &[Option<File>]) -> Result<(), OpenError> {
     let mut seen = Vec::with_capacity(alloc, FOLDER_SLOTS)?;
@@ -206,10 +245,7 @@ pub(crate) fn are_own(alloc: Global, images: &[Option<File>]) -> Result<(), Open
 /// Which file it is, where it has one name and isn't among others.
 fn own_id(file: &File, others: &[FileId]) -> io::Result<FileId> {
     let found = uninterrupted(|| file.metadata())?;
-    let id = FileId {
-        device: found.dev(),
-        number: found.ino(),
-    };
+    let id = FileId::of(&found);
     if found.nlink() > 1 || others.contains(&id) {
         return Err(io::Error::new(
             io::ErrorKind::InvalidData,

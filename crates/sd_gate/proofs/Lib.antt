@@ -5,7 +5,6 @@ mod LawLemmas
 mod LeftLemmas
 mod PhaseLemmas
 mod SlotsLemmas
-mod PlanLemmas
 pub mod TakeLemmas
 mod LookLemmas
 mod CommuteLemmas

@@ -1,19 +1,14 @@
--- What the calls of a plan that writes do to its slot, one after the other, and what a crash leaves meanwhile.
+-- The calls of a plan that writes, from the phase of its slot to the last, and what a crash leaves meanwhile.
 use Rattle.std.specs.Prelude.{◌≡◌, ℕ, true, false, List, [], ◌∷◌}
-use Rattle.sd_disk.specs.Contents.{file_at, AtSlot}
-use Rattle.sd_disk.specs.Crash.{Outcomes, Follows}
 use Rattle.sd_image.specs.declared.header.Header.{Header}
 use Rattle.sd_image.specs.Header.{header_text}
-use Rattle.sd_gate.specs.declared.answer.Answer.TheVariants.{Done}
 use Rattle.sd_gate.specs.declared.call.Call.{Call}
 use Rattle.sd_gate.specs.declared.call.Call.TheVariants.{Len, Read, Write, WriteHeader, Close, Open, Cut, Sync}
 use Rattle.sd_gate.specs.declared.phase.Phase.{Phase}
 use Rattle.sd_gate.specs.declared.phase.Phase.TheVariants.{Bare, Whole, Writing}
-use Rattle.sd_gate.specs.Calls.{buffer_back, contents_after}
 use Rattle.sd_gate.specs.Fits.{PhaseLeaves}
 use Rattle.sd_gate.specs.Laws.{IsClosedOrWhole}
 use Rattle.sd_gate.specs.Phases.{after, body_after, filled, is_ready, may_close, may_write, state_of}
-use Rattle.sd_gate.specs.Plans.{Back, found_after}
 use Rattle.sd_gate.specs.Sequences.{Calls, body_calls, closing_calls, format_calls, table_place}
 
 -- a call that asks for nothing
@@ -31,16 +26,6 @@ IsChange Sync = Unit {0}
 abbrev pub AreChanges : Calls → Type 0
 AreChanges [] = Unit {0}
 AreChanges ((call, bytes) ∷ calls) = IsChange call × AreChanges calls
-
--- the contents once these calls are done on a slot
-abbrev pub contents_done : Calls → ℕ → List (List ℕ) → List (List ℕ)
-contents_done [] slot contents = contents
-contents_done ((call, bytes) ∷ calls) slot contents = contents_done calls slot (contents_after call bytes slot contents)
-
--- what has come back once they are done
-abbrev pub back_after : Calls → Back → Back
-back_after [] found = found
-back_after ((call, bytes) ∷ calls) found = back_after calls (found_after found Done (buffer_back call bytes))
 
 -- of a slot in this phase a crash leaves no image, or this one
 abbrev pub LeavesAtMost : List ℕ → Phase → List ℕ → Type 0
@@ -72,19 +57,3 @@ pub record PlansTake : Type 0 where
   pub close_body : (phase : Phase) (body : List ℕ) (header : Header) (table : List ℕ) → may_write phase ≡ true
       → filled phase ≡ Writing
       → Takes (body_closed body header table) phase body (body_calls header table) Whole (body_closed body header table)
-
--- every other slot is as it was
-abbrev pub ChangesAlone : ℕ → List (List ℕ) → List (List ℕ) → Type 0
-ChangesAlone slot = AtSlot slot (λ old new. Unit {0})
-
--- each new outcome of a crash is an old one, but for one slot
-abbrev pub FollowsAt : ℕ → Outcomes → Outcomes → Type 0
-FollowsAt slot = Follows (ChangesAlone slot)
-
--- what a crash leaves while an image is written into a slot: what it left before, but for the slot, which holds no
--- image or that one, whose bytes behind the gate these are
-pub record IsLeftByPlan (slot : ℕ) (image : List ℕ) (before : Outcomes) (c : List (List ℕ)) : Type 0 where
-  pub was : List (List ℕ)
-  pub outcome : before was
-  pub alone : ChangesAlone slot was c
-  pub holds : IsClosedOrWhole image (file_at c slot)

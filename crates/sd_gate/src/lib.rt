@@ -16,7 +16,6 @@ mod order;
 mod outcome;
 mod phase;
 mod plan;
-mod plan_run;
 mod plan_use;
 mod request;
 mod request_id;
@@ -36,7 +35,6 @@ pub use laws::{
 pub use outcome::Outcome;
 pub use phase::Phase;
 pub use plan::Plan;
-pub use plan_run::run_plan;
 pub use plan_use::{ask, next_request, plan_left, settle};
 pub use request::Request;
 pub use request_id::RequestId;

@@ -63,7 +63,10 @@ two_calls file len a b long enough is =
     two_more a b (calls_for file) is
     (calls_of_long (length file) (digest_calls (header_in (slice_range file 0 4096) (length file))) (is_open file) (subst (λ n. 4096 ≤ n) long enough))
 
--- the pages that were placed are those of the newest image
-pub pages_within : (contents : List (List ℕ)) (places : Places) (serial : ℕ) (tip : Bor Opened) (pages : List PlacedPage) (count : ℕ) → FindsTip contents (Some tip)
-    → ArePlaced places serial (mapped_pages tip.now.spaces) pages → HasPagesWithin contents count → length pages ≤ count
-pages_within contents places serial tip pages count finds placed within = grind (arith, length-map)
+-- as many pages were placed as are mapped
+pub as_many : (places : Places) (i : Opened) (pages : List PlacedPage) → ArePlaced places i.header.serial (mapped_pages i.spaces) pages → length pages ≡ length (mapped_pages i.spaces)
+as_many places i pages placed = grind (arith, length-map)
+
+-- the mapped pages of the newest image
+pub tip_within : (contents : List (List ℕ)) (tip : Bor Opened) (count : ℕ) → FindsTip contents (Some tip) → HasPagesWithin contents count → length (mapped_pages tip.now.spaces) ≤ count
+tip_within contents tip count finds within = grind arith

@@ -26,13 +26,13 @@ use Rattle.sd_restore.specs.Mapped.{Mapped, mapped_with, area_mapped, space_mapp
 use Rattle.sd_restore.specs.Placed.{IsLaidOut, PlacedPage, mapped_of, placed_memory, placed_page, placed_entries, with_spaces, ArePlaced}
 use Rattle.sd_restore.proofs.FitsLemmas.{get_prots, in_space, same_prot}
 use Rattle.sd_restore.proofs.MappedLemmas.{space_of}
-use Rattle.std.specs.Borrow.{Bor}
 use Rattle.std.proofs.Math.Bool.{or-true}
 use Rattle.std.proofs.Math.Facts.{and_yes}
 use Rattle.sd_image.proofs.Members.{contains_cases}
 use Rattle.sd_chain.specs.Catalog.{Opened, Places}
-use Rattle.sd_chain.specs.Store.{IsCatalogOf, FindsTip}
-use Rattle.sd_restore.proofs.ShowLemmas.{is_memory}
+use Rattle.sd_chain.specs.Store.{IsCatalogOf}
+use Rattle.sd_restore.specs.At.{IsAmong}
+use Rattle.sd_restore.proofs.ShowLemmas.{stands_for}
 use Rattle.sd_restore.proofs.MemoryLemmas.{After, empty_bare, pages_are, spaces_bare}
 
 -- ---- lists that rise
@@ -338,11 +338,10 @@ module _ (areas_law : AreasLaw) (one_list : OneListLaw) (contents : List (List �
       (λ q. find_changed seen (finmap.entries memory) q ∙ ap (option_map seen) (sym (get-entries memory q))
       ∙ as_seen q (finmap.get memory q) refl (is.alive q ∙ ap (list_any (λ (s : Listed). nat_eq s.space q)) same) (find_space said spaces q))
 
--- that of the newest image
-pub laid_tip : AreasLaw → OneListLaw → (contents : List (List ℕ)) (places : Places) (tip : Bor Opened) (pages : List PlacedPage) → IsCatalogOf contents places → FindsTip contents (Some tip)
-    → ArePlaced places tip.now.header.serial (mapped_pages tip.now.spaces) pages → IsLaidOut contents tip.now.spaces pages (placed_memory contents tip.now.spaces pages)
-laid_tip areas_law one_list contents places tip pages catalog finds placed =
-    let image = finds.newest in
-    laid_out areas_law one_list contents finds.images image.0 image.0.header tip.now.spaces pages
-    (subst (AreSpaces image.0.header 0) image.1.spaces image.1.spelled.table.each) image.1.spaces placed.are
-    (is_memory contents finds.images places tip.now image.0 pages catalog finds.store.slots image.2.member image.1.spelled.table image.1.header image.1.spaces placed)
+-- that of an image of a catalog
+pub laid_image : AreasLaw → OneListLaw → (contents : List (List ℕ)) (places : Places) (i : Opened) (pages : List PlacedPage) (all : List Image) (image : Image) → IsCatalogOf contents places
+    → IsAmong contents all i image → ArePlaced places i.header.serial (mapped_pages i.spaces) pages → IsLaidOut contents i.spaces pages (placed_memory contents i.spaces pages)
+laid_image areas_law one_list contents places i pages all image catalog among placed =
+    laid_out areas_law one_list contents all image image.header i.spaces pages
+    (subst (AreSpaces image.header 0) among.opened.spaces among.opened.spelled.table.each) among.opened.spaces placed.are
+    (stands_for contents places i pages catalog placed all image among)

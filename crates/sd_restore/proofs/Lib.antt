@@ -12,3 +12,4 @@ mod CallLemmas
 mod FitsLemmas
 mod WantLemmas
 mod LaidLemmas
+mod AtLemmas

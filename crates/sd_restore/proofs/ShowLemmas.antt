@@ -18,8 +18,9 @@ use Rattle.sd_image.specs.Shows.{Holds, IsMemory, Shows, page_in}
 use Rattle.sd_image.specs.Shows as image_shows
 use Rattle.sd_image.specs.Table.{Listed, IsTable, AreSpaces}
 use Rattle.sd_image.proofs.Members.{contains_map, from_map}
-use Rattle.sd_chain.specs.Catalog.{Opened, Places, place_of, images, IsTip}
+use Rattle.sd_chain.specs.Catalog.{Opened, Places, place_of, images}
 use Rattle.sd_chain.specs.Store.{IsCatalogOf, FindsTip, bytes_at}
+use Rattle.sd_restore.specs.At.{IsAmong, StandsFor}
 use Rattle.sd_restore.specs.Mapped.{Mapped, mapped_pages}
 use Rattle.sd_restore.specs.Placed.{PlacedPage, mapped_of, IsPlaced, ArePlaced, IsInSlots, MeetsBreak, with_spaces, placed_memory}
 use Rattle.sd_chain.proofs.Ways.{space_once}
@@ -36,10 +37,10 @@ same_tip : (places : Places) (tip i : Opened) → place_of places tip.header.ser
 same_tip places tip i own there = let both : Some (Some i) ≡ Some (Some tip) = sym there ∙ own in cc
 
 pub pages_in_slots : (count : ℕ) (places : Places) (tip : Opened) (pages : List PlacedPage) → All (λ (i : Opened). i.slot < count) (images places)
-    → place_of places tip.header.serial ≡ Some (Some tip) → IsTip places tip → PlacedOf places tip pages → All (λ (p : PlacedPage). IsInSlots count p.there) pages
-pages_in_slots count places tip pages slots own newest placed =
+    → place_of places tip.header.serial ≡ Some (Some tip) → Contains (images places) tip → PlacedOf places tip pages → All (λ (p : PlacedPage). IsInSlots count p.there) pages
+pages_in_slots count places tip pages slots own member placed =
     placed_in_slots count places tip.header.serial (mapped_pages tip.spaces) pages slots
-    (λ i there. subst (Contains (images places)) (sym (same_tip places tip i own there)) newest.member) placed
+    (λ i there. subst (Contains (images places)) (sym (same_tip places tip i own there)) member) placed
 
 -- a page that was placed is in a space of the image, with its permissions
 placed_page : (h : Header) (places : Places) (tip : Opened) (pages : List PlacedPage) (p : PlacedPage) → AreSpaces h 0 tip.spaces → PlacedOf places tip pages → Contains pages p
@@ -125,9 +126,31 @@ is_memory contents all places tip image pages catalog slots member table header 
 
 -- ---- what contents show
 
+-- an image stands for the memory of its pages
+pub stands_for : (contents : List (List ℕ)) (places : Places) (i : Opened) (pages : List PlacedPage) → IsCatalogOf contents places → PlacedOf places i pages
+    → StandsFor contents i (placed_memory contents i.spaces pages)
+stands_for contents places i pages catalog placed all image among =
+    is_memory contents all places i image pages catalog among.slots among.member among.opened.spelled.table among.opened.header among.opened.spaces placed
+
+-- they show the memory for which their newest image stands
+pub tip_shows : (contents : List (List ℕ)) (tip : Bor Opened) (memory : PlainMemory) → FindsTip contents (Some tip) → StandsFor contents tip.now memory
+    → Shows contents (Some (tip.now.header.checkpoint, memory))
+tip_shows contents tip memory finds stands =
+    let image = finds.newest in
+    record {
+      images = finds.images;
+      store = finds.store;
+      newest = (
+        image.0,
+        image.2,
+        ap (λ (h : Header). h.checkpoint) image.1.header,
+        stands finds.images image.0 (record { slots = finds.store.slots; member = image.2.member; opened = image.1 }),
+      );
+    }
+
 pub shows_tip : (contents : List (List ℕ)) (places : Places) (tip : Bor Opened) (pages : List PlacedPage) → IsCatalogOf contents places → FindsTip contents (Some tip)
     → PlacedOf places tip.now pages → Shows contents (Some (tip.now.header.checkpoint, placed_memory contents tip.now.spaces pages))
-shows_tip contents places tip pages catalog finds placed = grind (arith, is_memory)
+shows_tip contents places tip pages catalog finds placed = tip_shows contents tip _ finds (stands_for contents places tip.now pages catalog placed)
 
 pub shows_none : (contents : List (List ℕ)) → FindsTip contents None → Shows contents None
 shows_none contents finds = record { images = finds.images; store = finds.store; newest = finds.newest }
@@ -153,6 +176,31 @@ checkpoint_shown one_store tip_once contents (Some tip) (Some moment) finds show
 
 -- ---- a chain that breaks
 
+-- an image of contents whose chain breaks stands for no memory
+pub stands_for_none : (contents : List (List ℕ)) (places : Places) (i : Opened) (slot : ℕ) (reason : Reason) (all : List Image) (image : Image) (memory : PlainMemory) → IsCatalogOf contents places
+    → MeetsBreak places i.header.serial (mapped_pages i.spaces) slot reason → IsAmong contents all i image → IsMemory all image memory → ⊥
+stands_for_none contents places i slot reason all image memory catalog met among is =
+    let s = from_mapped image.header i.spaces met.first.page (subst (AreSpaces image.header 0) among.opened.spaces among.opened.spelled.table.each) listed in
+    found s.0 s.2 s.3 (page_in memory s.0.space met.first.page.page)
+    (is.pages s.0 (subst (λ xs. Contains xs s.0) (sym among.opened.spaces) s.1) met.first.page.page)
+  where
+    clash : (prot : Prot) → None ≡ Some prot → ⊥
+    clash prot e = absurd cc
+
+    listed : Contains (mapped_pages i.spaces) met.first.page
+    listed = subst (λ ms. Contains ms met.first.page) (sym met.first.are) (behind met.first.before)
+      where
+        behind : (before : List Mapped) → Contains (before ++ met.first.page ∷ met.first.after) met.first.page
+        behind [] = (0, omega arith, refl)
+        behind (m ∷ before) = let rest = behind before in (suc rest.0, omega (arith, rest.1), rest.2)
+
+    found : (s : Listed) → met.first.page.space ≡ s.space → prot_in s.areas met.first.page.page ≡ Some met.first.page.prot → (o : Option Page)
+        → MatchOption o (prot_in s.areas met.first.page.page ≡ None) (λ page. (prot_in s.areas met.first.page.page ≡ Some page.prot) × Holds all s.space met.first.page.page page.bytes image) → ⊥
+    found s space prot None none = clash met.first.page.prot (sym none ∙ prot)
+    found s space prot (Some page) has =
+        (met.unheld contents all catalog among.slots image among.member (ap (λ (h : Header). h.serial) among.opened.header) page.bytes).0
+        (subst (λ n. Holds all n met.first.page.page page.bytes image) (sym space) has.1)
+
 -- contents that show something have none
 pub no_break : OneStore → TipOnce → (contents : List (List ℕ)) (places : Places) (tip : Bor Opened) (slot : ℕ) (reason : Reason) (shown : Option (ℕ × PlainMemory)) → IsCatalogOf contents places → FindsTip contents (Some tip)
     → MeetsBreak places tip.now.header.serial (mapped_pages tip.now.spaces) slot reason → Shows contents shown → ⊥
@@ -164,32 +212,11 @@ no_break one_store tip_once contents places tip slot reason shown catalog finds 
     same : {shown : Option (ℕ × PlainMemory)} (shows : Shows contents shown) → finds.images ≡ shows.images
     same shows = one_store contents finds.images shows.images finds.store.slots shows.store.slots
 
-    clash : (prot : Prot) → None ≡ Some prot → ⊥
-    clash prot e = absurd cc
-
-    listed : Contains (mapped_pages tip.now.spaces) met.first.page
-    listed = subst (λ ms. Contains ms met.first.page) (sym met.first.are) (behind met.first.before)
-      where
-        behind : (before : List Mapped) → Contains (before ++ met.first.page ∷ met.first.after) met.first.page
-        behind [] = (0, omega arith, refl)
-        behind (m ∷ before) = let rest = behind before in (suc rest.0, omega (arith, rest.1), rest.2)
-
-    held : (all : List Image) → OpenImages contents all → (memory : PlainMemory) → Contains all image → IsMemory all image memory → ⊥
-    held all slots memory member is =
-        let s = from_mapped image.header tip.now.spaces met.first.page (subst (AreSpaces image.header 0) finds.newest.1.spaces finds.newest.1.spelled.table.each) listed in
-        found all slots member s.0 s.2 s.3 (page_in memory s.0.space met.first.page.page)
-        (is.pages s.0 (subst (λ xs. Contains xs s.0) (sym finds.newest.1.spaces) s.1) met.first.page.page)
-      where
-        found : (all : List Image) → OpenImages contents all → Contains all image → (s : Listed) → met.first.page.space ≡ s.space → prot_in s.areas met.first.page.page ≡ Some met.first.page.prot → (o : Option Page)
-            → MatchOption o (prot_in s.areas met.first.page.page ≡ None) (λ page. (prot_in s.areas met.first.page.page ≡ Some page.prot) × Holds all s.space met.first.page.page page.bytes image) → ⊥
-        found all slots member s space prot None none = clash met.first.page.prot (sym none ∙ prot)
-        found all slots member s space prot (Some page) has =
-            (met.unheld contents all catalog slots image member (ap (λ (h : Header). h.serial) finds.newest.1.header) page.bytes).0
-            (subst (λ n. Holds all n met.first.page.page page.bytes image) (sym space) has.1)
-
     by : (shown : Option (ℕ × PlainMemory)) → Shows contents shown → ⊥
     by None shows = shows.newest image (subst (λ all. Contains all image) (same shows) finds.newest.2.member) finds.newest.2.restorable
     by (Some moment) shows =
         let tip_there : image_shows.IsTip shows.images image = subst (λ all. image_shows.IsTip all image) (same shows) finds.newest.2 in
         let is : shows.newest.0 ≡ image = tip_once contents shows.images shows.newest.0 image shows.store shows.newest.1 tip_there in
-        held shows.images shows.store.slots moment.1 tip_there.member (subst (λ i. IsMemory shows.images i moment.1) is shows.newest.3)
+        stands_for_none contents places tip.now slot reason shows.images image moment.1 catalog met
+        (record { slots = shows.store.slots; member = tip_there.member; opened = finds.newest.1 })
+        (subst (λ i. IsMemory shows.images i moment.1) is shows.newest.3)

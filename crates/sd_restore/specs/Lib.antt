@@ -7,3 +7,4 @@ pub mod Placed
 pub mod Calls
 pub mod Fits
 pub mod Wants
+pub mod At

@@ -3,7 +3,7 @@ ghost use Rattle.std.specs.Prelude.{◌≡◌, ◌≢◌, ◌+◌, ◌<◌, ◌�
 ghost use Rattle.std.specs.Prelude.{Contains, flat_map};
 ghost use Rattle.sd_areas.specs.Areas.{AreMaximal, area_pages};
 ghost use Rattle.sd_image.specs.Table.{listing_of};
-ghost use Rattle.sd_chain.specs.Catalog.{place_of, IsTip};
+ghost use Rattle.sd_chain.specs.Catalog.{IsDumpOrMerged, images, place_of};
 ghost use Rattle.sd_chain.specs.Chains.{AreBelowLimit, IsChainOf, found_on};
 ghost use Rattle.sd_chain.specs.Ways.{AreImages, BreaksBySerial, IsAbsent};
 ghost use Rattle.sd_restore.specs.Mapped.{Mapped, area_mapped, space_mapped, mapped_pages};
@@ -154,24 +154,25 @@ fn place_space(
 pub fn place_pages(
     alloc: Global,
     catalog: &Catalog,
-    tip: &OpenImage,
+    image: &OpenImage,
 ) -> Result<Vec<PlacedRun>, Fault>
     requires images { AreImages catalog.now }
-    requires own { place_of catalog.now tip.now.header.serial ≡ Some (Some tip.now) }
-    requires newest { IsTip catalog.now tip.now }
+    requires own { place_of catalog.now image.now.header.serial ≡ Some (Some image.now) }
+    requires member { Contains (images catalog.now) image.now }
+    requires restored { IsDumpOrMerged image.now }
     ensures placed { IfOk result
-        (λ runs. ArePlaced catalog.now tip.now.header.serial
-        (mapped_pages tip.now.spaces) (placed_pages runs.items)) }
+        (λ runs. ArePlaced catalog.now image.now.header.serial
+        (mapped_pages image.now.spaces) (placed_pages runs.items)) }
     ensures within { IfOk result (λ runs. All IsWithin runs.items) }
     ensures broken { IfErr result
-        (FaultNames (MeetsBreak catalog.now tip.now.header.serial (mapped_pages tip.now.spaces))) }
+        (FaultNames (MeetsBreak catalog.now image.now.header.serial (mapped_pages image.now.spaces))) }
     ensures empty { result ≢ Err Fault.EmptyChain }
     ensures device { result ≢ Err Fault.Device }
 {
     let mut runs = Vec::new(alloc);
-    let serial = tip.header().serial;
+    let serial = image.header().serial;
     let mut chain = catalog.chain(serial)?;
-    for space in &tip.table().spaces {
+    for space in &image.table().spaces {
         place_space(catalog, &mut chain, serial, space, &mut runs)?;
     }
     Ok(runs)

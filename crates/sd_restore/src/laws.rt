@@ -1,4 +1,5 @@
 //! What is so of each memory that a store shows, and of each image's digest.
+ghost use Rattle.sd_restore.specs.At.{ShownIsAt};
 ghost use Rattle.sd_restore.specs.Digested.{ClosedIsRightlyDigested, ImageIsRightlyDigested, StoreIsRightlyDigested};
 ghost use Rattle.sd_restore.specs.Fits.{ShownIsWithinLimits};
 
@@ -36,3 +37,8 @@ pub fn store_is_rightly_digested()
     good_file_has_no_reason();
     good_header_has_no_reason();
 }
+
+/// What contents show is what they have at that checkpoint: the newest is one of those to which a store goes back.
+pub fn shown_is_at()
+    ensures { ShownIsAt }
+{}

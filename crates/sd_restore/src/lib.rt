@@ -1,7 +1,9 @@
 //! Reading any store: its open images, and what is wrong with it.
 #![tactic(auto)]
 
+mod at;
 mod chain;
+mod chosen;
 mod decoded;
 mod digests;
 mod fault;
@@ -16,10 +18,11 @@ mod slot_reader;
 mod slots;
 mod verifying;
 
+pub use at::{place_at, restore_at, restore_at_from};
 pub use decoded::{Decoded, decode_slot};
 pub use fault::Fault;
 pub use laws::{
-    closed_is_rightly_digested, image_is_rightly_digested, shown_is_within_limits,
+    closed_is_rightly_digested, image_is_rightly_digested, shown_is_at, shown_is_within_limits,
     store_is_rightly_digested,
 };
 pub use placed_run::PlacedRun;

@@ -13,10 +13,10 @@ ghost use Rattle.sd_chain.specs.Ways.{AreImages};
 ghost use Rattle.sd_restore.specs.Faulty.{FaultNames, IsBrokenChain};
 ghost use Rattle.sd_restore.specs.Placed.{IsInSlots, IsLaidOut, IsWithin, placed_memory, placed_pages};
 
-use crate::chain::place_pages;
+use crate::chosen::place_image;
 use crate::fault::Fault;
 use crate::placed_run::PlacedRun;
-use sd_areas::{PAGE_SIZE, areas_law, one_list_law};
+use sd_areas::PAGE_SIZE;
 use sd_chain::{Catalog, Found};
 use sd_disk::{Disk, read_file};
 use sd_image::{SpaceTable, tip_once};
@@ -65,19 +65,12 @@ pub fn place_newest<'a>(alloc: Global, catalog: &'a Catalog) -> Result<PlacedMem
     // An empty chain takes no memory.
     ensures wanted { result ≡ Err Fault.OutOfMemory → (tip : Opened) × IsTip catalog.now tip }
 {
-    areas_law();
-    one_list_law();
     tip_once();
     catalog.sound();
     let Some(tip) = catalog.tip() else {
         return Err(Fault::EmptyChain);
     };
-    let runs = place_pages(alloc, catalog, tip)?;
-    Ok(PlacedMemory {
-        checkpoint: tip.header().checkpoint,
-        spaces: tip.table().spaces.as_slice(),
-        runs,
-    })
+    place_image(alloc, catalog, tip)
 }
 
 /// Reads the bytes of a page that lies there.

@@ -13,9 +13,8 @@ ghost use Rattle.sd_chain.specs.Ways.{AreImages};
 ghost use Rattle.sd_restore.specs.Calls.{HasPagesWithin, scan_calls};
 ghost use Rattle.sd_restore.specs.Faulty.{FaultNames, IsDamage, IsBrokenChain};
 
-use crate::chain::place_pages;
+use crate::chosen::restore_image;
 use crate::fault::Fault;
-use crate::pages::{living_spaces, read_pages};
 use crate::slots::scan;
 use sd_areas::Snapshot;
 use sd_chain::Catalog;
@@ -69,10 +68,7 @@ pub fn restore_from<D: Disk>(
     let Some(tip) = catalog.tip() else {
         return Err(Fault::EmptyChain);
     };
-    let runs = place_pages(alloc, catalog, tip)?;
-    let mut snapshot = living_spaces(alloc, tip)?;
-    read_pages(alloc, disk, &runs, &mut snapshot)?;
-    Ok(snapshot)
+    restore_image(alloc, disk, catalog, tip)
 }
 
 /// The memory that a store shows: that of its newest dump or merged image. It only reads: the header and the table of

@@ -13,5 +13,5 @@ abbrev pub invariant-loop-space : goal.invariant-loop-space
 invariant-loop-space l = record {
   chain : IsChainOf l.catalog l.serial l.chain;
   runs : All IsWithin l.runs.items;
-  pages : ArePlaced l.catalog l.tip.header.serial ([] ++ flat_map (λ (s : SpaceTable). space_mapped (listing_of s)) (take l.space-index l.space-items)) (placed_pages l.runs.items);
+  pages : ArePlaced l.catalog l.image.header.serial ([] ++ flat_map (λ (s : SpaceTable). space_mapped (listing_of s)) (take l.space-index l.space-items)) (placed_pages l.runs.items);
 }

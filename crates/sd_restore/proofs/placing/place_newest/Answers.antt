@@ -1,53 +1,38 @@
-use Rattle.std.proofs.Common.{◌≡◌, ◌∙◌, List, Some, ap, map, sym, subst, get_or}
-use Rattle.std.proofs.lemmas.List.Elements.{All-contains, All-contains_itself}
-use Rattle.std.specs.Prelude.{Contains}
-use Rattle.sd_image.specs.declared.table.SpaceTable.{SpaceTable}
+use Rattle.std.proofs.Common.{◌≡◌, ℕ, List, Some, ap, map, sym, subst}
 use Rattle.sd_image.specs.Shows.{Shows}
-use Rattle.sd_image.specs.Table.{IsTable, listing_of}
-use Rattle.sd_image.proofs.Members.{contains_map}
-use Rattle.sd_chain.specs.Catalog.{Opened, images}
+use Rattle.sd_image.specs.Table.{listing_of}
 use Rattle.sd_chain.specs.Store.{FindsTip}
-use Rattle.sd_restore.specs.Placed.{IsLaidOut, placed_memory, placed_pages}
-use Rattle.sd_restore.proofs.LaidLemmas.{laid_tip}
-use Rattle.sd_restore.proofs.RunLemmas.{runs_in_slots}
-use Rattle.sd_restore.proofs.MappedLemmas.{space_of}
-use Rattle.sd_restore.proofs.ShowLemmas.{pages_in_slots, shows_tip}
+use Rattle.sd_restore.specs.At.{StandsFor}
+use Rattle.sd_restore.specs.Faulty.{IsBrokenChain}
+use Rattle.sd_restore.specs.Mapped.{mapped_pages}
+use Rattle.sd_restore.specs.Placed.{MeetsBreak, placed_memory, placed_pages}
+use Rattle.sd_restore.specs.declared.placing.PlacedMemory.{PlacedMemory}
+use Rattle.sd_restore.proofs.AtLemmas.{broken_tip, err_more, ok_both, tip_among}
+use Rattle.sd_restore.proofs.ShowLemmas.{tip_shows}
 use Rattle.sd_restore.proofs.placing.place_newest.Goals as goal
 
 pub returns-clause-shown : goal.returns-clause-shown
 returns-clause-shown c = λ contents catalog.
     let tip = c.in-Some.tip.now in
-    let pages = placed_pages c.in_ok-runs.runs.items in
     let finds : FindsTip contents (Some c.in-Some.tip) = subst (FindsTip contents) c.in-Some.is (c.tip.ensures.store contents catalog) in
-    let spaces : map listing_of c.as_slice.result.now ≡ tip.spaces = ap (map listing_of) c.as_slice.ensures.value ∙ c.table.ensures in
-    subst (λ h. Shows contents (Some (h.checkpoint, placed_memory contents (map listing_of c.as_slice.result.now) pages))) (sym c.header.ensures)
-    (subst (λ listed. Shows contents (Some (tip.header.checkpoint, placed_memory contents listed pages))) (sym spaces)
-    (shows_tip contents c.args.catalog.now c.in-Some.tip pages catalog finds c.in_ok-runs.ensures.placed))
-
-pub returns-clause-slots : goal.returns-clause-slots
-returns-clause-slots c = λ count slots.
-    let runs = c.in_ok-runs.runs.items in
-    runs_in_slots count runs c.in_ok-runs.ensures.within
-    (pages_in_slots count c.args.catalog.now c.in-Some.tip.now (placed_pages runs) slots c.in-Some.ensures.own c.in-Some.ensures.newest c.in_ok-runs.ensures.placed)
-
-pub returns-clause-areas : goal.returns-clause-areas
-returns-clause-areas c = λ k d less.
-    let tip = c.in-Some.tip.now in
-    let items : List SpaceTable = c.as_slice.result.now in
-    let table = All-contains (λ (i : Opened). IsTable i.header i.spaces) (images c.args.catalog.now) tip c.requires.images.tables c.in-Some.ensures.newest.member in
-    let space = get_or items k d in
-    let here : Contains items space = All-contains_itself items k d less in
-    let spaces : map listing_of items ≡ tip.spaces = ap (map listing_of) c.as_slice.ensures.value ∙ c.table.ensures in
-    (space_of tip.header 0 tip.spaces (listing_of space) table.each (subst (λ xs. Contains xs (listing_of space)) spaces (contains_map listing_of items space here))).1.areas
-
-pub returns-in_err-runs-clause-wanted : goal.returns-in_err-runs-clause-wanted
-returns-in_err-runs-clause-wanted c = λ _. (c.in-Some.tip.now, c.in-Some.ensures.newest)
+    ok_both (λ placed. placed.checkpoint ≡ tip.header.checkpoint)
+    (λ placed. StandsFor contents tip (placed_memory contents (map listing_of placed.spaces.now) (placed_pages placed.runs.items)))
+    (λ placed. Shows contents (Some (placed.checkpoint, placed_memory contents (map listing_of placed.spaces.now) (placed_pages placed.runs.items)))) c.place_image.result
+    (λ placed number stands. subst (λ n. Shows contents (Some (n, placed_memory contents (map listing_of placed.spaces.now) (placed_pages placed.runs.items)))) (sym number) (tip_shows contents c.in-Some.tip _ finds stands))
+    c.place_image.ensures.checkpoint (c.place_image.ensures.memory contents catalog)
 
 pub returns-clause-laid : goal.returns-clause-laid
 returns-clause-laid c = λ contents catalog.
-    let tip = c.in-Some.tip.now in
-    let pages = placed_pages c.in_ok-runs.runs.items in
     let finds : FindsTip contents (Some c.in-Some.tip) = subst (FindsTip contents) c.in-Some.is (c.tip.ensures.store contents catalog) in
-    let spaces : map listing_of c.as_slice.result.now ≡ tip.spaces = ap (map listing_of) c.as_slice.ensures.value ∙ c.table.ensures in
-    subst (λ listed. IsLaidOut contents listed pages (placed_memory contents listed pages)) (sym spaces)
-    (laid_tip c.areas_law.ensures c.one_list_law.ensures contents c.args.catalog.now c.in-Some.tip pages catalog finds c.in_ok-runs.ensures.placed)
+    c.place_image.ensures.laid contents finds.images finds.newest.0 catalog (tip_among contents c.in-Some.tip finds)
+
+pub returns-clause-broken : goal.returns-clause-broken
+returns-clause-broken c = λ contents catalog.
+    let tip = c.in-Some.tip.now in
+    let finds : FindsTip contents (Some c.in-Some.tip) = subst (FindsTip contents) c.in-Some.is (c.tip.ensures.store contents catalog) in
+    err_more (MeetsBreak c.args.catalog.now tip.header.serial (mapped_pages tip.spaces)) (IsBrokenChain contents) c.place_image.result
+    (λ slot reason met. broken_tip contents c.args.catalog.now c.in-Some.tip slot reason c.sound.ensures catalog finds c.in-Some.ensures.newest met)
+    c.place_image.ensures.broken
+
+pub returns-clause-wanted : goal.returns-clause-wanted
+returns-clause-wanted c = λ _. (c.in-Some.tip.now, c.in-Some.ensures.newest)
