@@ -75,7 +75,8 @@ const UNFIT: u8 = 2;
 /// Prints the memory that a store shows, and gives the store back with the exit status.
 fn restore_over<D: Disk, W: Write>(alloc: Global, disk: D, out: &mut Output<W>) -> (D, u8)
     ensures answers { ReaderEnds reader.Restore (D.is_honest result.0) (D.contents disk)
-        (D.failed disk) (D.failed result.0) (W.contents out.old.writer) (W.contents out.new.writer) out.new.refused result.1 }
+        (D.failed disk) (D.failed result.0) (W.contents out.old.writer)
+            (W.contents out.new.writer) out.new.refused result.1 }
     ensures reads { OnlyReads D.Disk disk result.0 }
 {
     let mut disk = disk;

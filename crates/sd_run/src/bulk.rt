@@ -65,7 +65,8 @@ pub fn put_bytes<D: Disk>(
 }
 
 /// Loads so many bytes by loads of at most 64 bytes, each within one page, in rising order, up to the first that is
-/// refused, and adds them to a list. None where all were loaded. `place.address` and `length` are at most 2^64 together.
+/// refused, and adds them to a list. None where all were loaded. `place.address` and `length` are at most 2^64
+/// together.
 ///
 /// # Errors
 ///
