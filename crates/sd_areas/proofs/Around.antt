@@ -1,5 +1,5 @@
 -- The areas that meet or touch a run of pages, by their places in the list.
-use Rattle.std.proofs.Common.{◌≡◌, ◌⊎◌, ℕ, zero, suc, ◌+◌, ◌-◌, ◌<◌, ◌≤◌, Bool, true, false, cond, List, [], ◌∷◌, ◌++◌, length, take, drop, get_or, Option, Some, None, Result, Ok, Err, OnOk, IfErr, refl, sym, ap, subst, ◌∙◌, arith}
+use Rattle.std.proofs.Common.{◌≡◌, ◌⊎◌, ◌↔◌, ℕ, zero, suc, ◌+◌, ◌-◌, ◌<◌, ◌≤◌, Bool, true, false, cond, List, [], ◌∷◌, ◌++◌, length, take, drop, get_or, Option, Some, None, Result, Ok, Err, OnOk, IfErr, refl, sym, ap, subst, ◌∙◌, arith}
 use Rattle.std.specs.Prelude.{nat_lt, slice_range}
 use Rattle.std.specs.List.{splice, AllWithin, position}
 use Rattle.std.specs.List.Sorted.{IsPartitionedBy, IsPartitionPoint}
@@ -10,7 +10,7 @@ use Rattle.std.proofs.lemmas.List.Quantifiers.{position-Some}
 use Rattle.sd_areas.specs.declared.area.Area.{Area}
 use Rattle.sd_areas.specs.Pages.{is_within, pages_from}
 use Rattle.sd_areas.specs.Areas.{PageMap, prot_in, AreMaximal, page_map_of}
-use Rattle.sd_areas.specs.Calls.{has_hole, set_pages, remove_pages, within_areas, RefusesAsDue}
+use Rattle.sd_areas.specs.Calls.{AllHave, has_hole, set_pages, remove_pages, within_areas, RefusesAsDue}
 use Rattle.sd_areas.specs.declared.errno.Errno.{Errno}
 use Rattle.sd_areas.specs.declared.errno.Errno.TheVariants.{Enomem}
 use Rattle.sd_areas.specs.declared.errno.AreaError.{AreaError}
@@ -20,6 +20,8 @@ use Rattle.sd_areas.specs.Runs.{last_after, HasRun, HasGap}
 use Rattle.sd_areas.proofs.Find.{later_begins, starts_rise}
 use Rattle.sd_areas.proofs.Joined.{EndsBelow, BeginsAbove, AreAround, middle_is, replaced_are, replaced_same, in_middle}
 use Rattle.sd_areas.proofs.PagesOf.{get-pages_of}
+use Rattle.sd_areas.proofs.Maximal.{inside_parts}
+use Rattle.sd_areas.specs.declared.prot.Prot.{Prot}
 
 -- ---- the two searches
 -- whether an area ends before a page
@@ -112,16 +114,41 @@ same_holes one other first zero h = refl
 same_holes one other first (suc count) h =
     rw (h first (omega arith) (omega arith), same_holes one other (suc first) count (λ page l g. h page (omega arith) (omega arith))) refl
 
+-- a page of the run is as those areas show it
+shown_around : (xs : List Area) (from to first count : ℕ) → AreMaximal None xs → from ≤ to → to ≤ length xs
+    → AllWithin (λ (x : Area). x.first + x.count < first) xs 0 from → AllWithin (λ (x : Area). first + count < x.first) xs to (length xs)
+    → (page : ℕ) → first ≤ page → page < first + count → finmap.get (page_map_of (slice_range xs from to)) page ≡ finmap.get (page_map_of xs) page
+shown_around xs from to first count m l h below above page low high =
+    let parts = around xs from to first count m l h below above in
+    get-pages_of (slice_range xs from to) page
+    ∙ sym (in_middle (take from xs) (slice_range xs from to) (drop to xs) first count page parts low high)
+    ∙ ap (λ (ys : List Area). prot_in ys page) (around_is xs from to l)
+    ∙ sym (get-pages_of xs page)
+
+pub all_around : (xs : List Area) (from to first count : ℕ) (found : Option Prot) → AreMaximal None xs → from ≤ to → to ≤ length xs
+    → AllWithin (λ (x : Area). x.first + x.count < first) xs 0 from → AllWithin (λ (x : Area). first + count < x.first) xs to (length xs)
+    → AllHave (page_map_of (slice_range xs from to)) first count found ↔ AllHave (page_map_of xs) first count found
+all_around xs from to first count found m l h below above =
+    let same = shown_around xs from to first count m l h below above in (
+      (λ all page e. let parts = inside_parts first count page e in sym (same page parts.0 parts.1) ∙ all page e),
+      (λ all page e. let parts = inside_parts first count page e in same page parts.0 parts.1 ∙ all page e),
+    )
+
+-- the same of what the code saw of the areas
+pub all_around_at : (xs seen part : List Area) (from to first count : ℕ) (found : Option Prot) → seen ≡ xs → part ≡ xs → AreMaximal None xs → from ≤ to → to ≤ length seen
+    → AllWithin (λ (x : Area). x.first + x.count < first) seen 0 from → AllWithin (λ (x : Area). first + count < x.first) seen to (length seen)
+    → AllHave (page_map_of (slice_range part from to)) first count found ↔ AllHave (page_map_of xs) first count found
+all_around_at xs seen part from to first count found e f m l h below above =
+    let below' = subst (λ (ys : List Area). AllWithin (λ (x : Area). x.first + x.count < first) ys 0 from) e below in
+    let above' = subst (λ (ys : List Area). AllWithin (λ (x : Area). first + count < x.first) ys to (length ys)) e above in
+    subst (λ (ys : List Area). AllHave (page_map_of (slice_range ys from to)) first count found ↔ AllHave (page_map_of xs) first count found) (sym f)
+    (all_around xs from to first count found m l (subst (λ (ys : List Area). to ≤ length ys) e h) below' above')
+
 pub hole_around : (xs : List Area) (from to first count : ℕ) → AreMaximal None xs → from ≤ to → to ≤ length xs
     → AllWithin (λ (x : Area). x.first + x.count < first) xs 0 from → AllWithin (λ (x : Area). first + count < x.first) xs to (length xs)
     → has_hole (page_map_of (slice_range xs from to)) first count ≡ has_hole (page_map_of xs) first count
 hole_around xs from to first count m l h below above =
-    let parts = around xs from to first count m l h below above in
-    same_holes (page_map_of (slice_range xs from to)) (page_map_of xs) first count (λ page low high.
-    get-pages_of (slice_range xs from to) page
-    ∙ sym (in_middle (take from xs) (slice_range xs from to) (drop to xs) first count page parts low high)
-    ∙ ap (λ (ys : List Area). prot_in ys page) (around_is xs from to l)
-    ∙ sym (get-pages_of xs page))
+    same_holes (page_map_of (slice_range xs from to)) (page_map_of xs) first count (shown_around xs from to first count m l h below above)
 
 pub hole_around_at : (xs seen part : List Area) (from to first count : ℕ) → seen ≡ xs → part ≡ xs → AreMaximal None xs → from ≤ to → to ≤ length seen
     → AllWithin (λ (x : Area). x.first + x.count < first) seen 0 from → AllWithin (λ (x : Area). first + count < x.first) seen to (length seen)
@@ -148,13 +175,21 @@ run_fits old new placed area run e few = grind (arith, run_is, within_ok)
 pub gap_fits : (old new placed : List Area) (first count : ℕ) → HasGap old placed first count → new ≡ placed → length new ≤ 1024 → within_areas (remove_pages (page_map_of old) first count) ≡ Ok (page_map_of new)
 gap_fits old new placed first count gap e few = grind (arith, gap_is, within_ok)
 
--- without areas nothing is unmapped
-bare_gap : (page : ℕ) (b : Bool) → prot_in [] page ≡ cond b None (prot_in [] page)
-bare_gap page b = grind arith
+-- nothing changes where each page of the run is so already
+as_before : (b : Bool) (o found : Option Prot) → (b ≡ true → o ≡ found) → o ≡ cond b found o
+as_before b o found h = grind arith
 
-pub bare_fits : (areas : List Area) (first count : ℕ) → length areas ≡ 0 → within_areas (remove_pages (page_map_of areas) first count) ≡ Ok (page_map_of areas)
-bare_fits [] first count e = gap_fits [] [] [] first count (record { maximal = tt; same = λ page. bare_gap page (is_within first count page) }) refl (omega arith)
-bare_fits (area ∷ areas) first count e = absurd (omega (arith, e))
+pub same_run_fits : (areas : List Area) (area : Area) → AreMaximal None areas → length areas ≤ 1024 → AllHave (page_map_of areas) area.first area.count (Some area.prot)
+    → within_areas (set_pages (page_map_of areas) area.first area.count area.prot) ≡ Ok (page_map_of areas)
+same_run_fits areas area m few all =
+    run_fits areas areas areas area
+    (record { maximal = m; same = λ page. as_before (is_within area.first area.count page) _ _ (λ e. sym (get-pages_of areas page) ∙ all page e) }) refl few
+
+pub same_gap_fits : (areas : List Area) (first count : ℕ) → AreMaximal None areas → length areas ≤ 1024 → AllHave (page_map_of areas) first count None
+    → within_areas (remove_pages (page_map_of areas) first count) ≡ Ok (page_map_of areas)
+same_gap_fits areas first count m few all =
+    gap_fits areas areas areas first count
+    (record { maximal = m; same = λ page. as_before (is_within first count page) _ _ (λ e. sym (get-pages_of areas page) ∙ all page e) }) refl few
 
 refused_by : (r : Result PageMap Errno) (e : AreaError) (long : Type 0) → (long → r ≡ Err Enomem) → (e ≡ OutOfMemory) ⊎ ((e ≡ Refused Enomem) × long) → RefusesAsDue r e
 refused_by r e long full given = grind arith

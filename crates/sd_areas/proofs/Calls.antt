@@ -1,10 +1,9 @@
 -- What a call gives, from the areas that it made.
-use Rattle.std.proofs.Common.{◌≡◌, ℕ, ◌<◌, ◌≤◌, Bool, true, false, not, cond, ◌==◌, List, [], length, Option, Some, None, refl, sym, ap, subst, ◌∙◌, ◌%◌, arith}
+use Rattle.std.proofs.Common.{◌≡◌, ℕ, ◌<◌, ◌≤◌, Bool, true, false, not, cond, ◌==◌, List, length, Option, Some, None, refl, sym, ap, subst, ◌∙◌, ◌%◌, arith}
 use Rattle.std.specs.Prelude.{nat_lt, IsSome, Ok, Err, Result, IfSome, IfOk, IfErr, is_some}
 use Rattle.std.specs.Cmp.{nat_cmp_total}
-use Rattle.std.specs.Ordering.{nat_cmp}
 use Rattle.std.specs.FinMap as finmap
-use Rattle.std.specs.FinMap.{get-empty, get-from_entries, get-entries, nat_cmp-IsAntisymmetric, get-retain_keys}
+use Rattle.std.specs.FinMap.{get-from_entries, get-entries, nat_cmp-IsAntisymmetric, get-retain_keys}
 use Rattle.std.proofs.lemmas.Bool.{eq-eqb, ne_eqb, cond-true, cond-false, cases_lt, lt-ltb, le-ltb, not_from_true, not_from_false}
 use Rattle.sd_areas.specs.declared.area.Area.{Area}
 use Rattle.sd_areas.specs.declared.prot.Prot.{Prot}
@@ -18,7 +17,6 @@ use Rattle.sd_areas.specs.declared.errno.Errno.{Errno}
 use Rattle.sd_areas.specs.declared.page_range.PageRange.{PageRange}
 use Rattle.sd_areas.proofs.PagesOf.{find-run, get-pages_of, pages_of_areas, same_pages}
 use Rattle.sd_areas.proofs.Entries.{areas_of_is}
-use Rattle.sd_areas.proofs.Unique.{one_list}
 use Rattle.sd_areas.proofs.Put.{none_outside}
 
 pub get-set_pages : (pages : PageMap) (first count : ℕ) (prot : Prot) (page : ℕ) → finmap.get (set_pages pages first count prot) page ≡ cond (is_within first count page) (Some prot) (finmap.get pages page)
@@ -83,12 +81,6 @@ shown_areas areas shown pages e v m =
 
 pub shown_value : (areas shown : List Area) (pages : PageMap) → shown ≡ areas → page_map_of areas ≡ pages → AreMaximal None areas → shown ≡ areas_of pages
 shown_value areas shown pages e v m = e ∙ sym (ap areas_of (sym v) ∙ areas_of_pages_of areas m)
-
--- areas that show no page are none
-pub shows_none : (areas : List Area) (pages : PageMap) → page_map_of areas ≡ pages → AreMaximal None areas → pages ≡ finmap.empty → areas ≡ []
-shows_none areas pages v m e =
-    one_list pages areas [] (subst (λ (p : PageMap). AreAreasOf p areas) v (pages_of_areas areas m))
-    (record { maximal = tt; same = λ page. sym (ap (λ (p : PageMap). finmap.get p page) e ∙ get-empty nat_cmp page) })
 
 -- ---- `munmap`
 pub unmapped_invalid : (pages : PageMap) (address bytes : ℕ) → is_invalid address bytes ≡ true → unmap_result pages address bytes ≡ Err Einval

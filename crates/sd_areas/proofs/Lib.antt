@@ -8,6 +8,7 @@ pub mod Put
 pub mod Calls
 pub mod Find
 pub mod Holes
+pub mod Alike
 pub mod PageLaws
 pub mod Memory
 pub mod PageRuns

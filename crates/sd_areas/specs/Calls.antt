@@ -1,6 +1,6 @@
 -- What the calls of POSIX.1-2017 on an address space do: the space afterwards, or why they are refused.
 use Rattle.std.specs.Prelude.{◌≡◌, ℕ, ◌%◌, Bool, not, ◌==◌, nat_lt, if◌then◌else◌, ◌++◌, map, length, Result, Ok, Err}
-use Rattle.std.specs.Prelude.{is_some}
+use Rattle.std.specs.Prelude.{is_some, IsTrue, Option}
 use Rattle.std.specs.List.{list_any}
 use Rattle.std.specs.FinMap as finmap
 use Rattle.sd_areas.specs.declared.prot.Prot.{Prot}
@@ -19,6 +19,10 @@ set_pages pages first count prot =
 -- no page of the run is there, and every other page is as before
 unfoldable pub remove_pages : PageMap → ℕ → ℕ → PageMap
 remove_pages pages first count = finmap.retain_keys pages (λ page. not (is_within first count page))
+
+-- each page of the run has these permissions, or isn't mapped where they are none
+abbrev pub AllHave : PageMap → ℕ → ℕ → Option Prot → Type 0
+AllHave pages first count found = (page : ℕ) → IsTrue (is_within first count page) → finmap.get pages page ≡ found
 
 -- a space may have 1,024 areas
 unfoldable pub within_areas : PageMap → Result PageMap Errno

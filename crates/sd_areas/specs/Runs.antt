@@ -1,7 +1,8 @@
 -- Lists of areas, as a call builds them from the front.
-use Rattle.std.specs.Prelude.{◌≡◌, Bool, ◌==◌, ℕ, ◌+◌, ◌≤◌, ◌<◌, List, [], ◌∷◌, ◌&&◌, nat_le, nat_lt, if◌then◌else◌}
+use Rattle.std.specs.Prelude.{◌≡◌, Bool, ◌==◌, ℕ, ◌+◌, ◌-◌, ◌≤◌, ◌<◌, List, [], ◌∷◌, ◌&&◌, nat_le, nat_lt, if◌then◌else◌}
 use Rattle.std.specs.Prelude.{Option, Some, None, min, max, IsSome}
 use Rattle.sd_areas.specs.declared.area.Area.{Area}
+use Rattle.sd_areas.specs.declared.prot.Prot.{Prot}
 use Rattle.sd_areas.specs.Pages.{is_within}
 use Rattle.sd_areas.specs.Prot.{prot_bits}
 use Rattle.sd_areas.specs.Areas.{AreMaximal, prot_in}
@@ -23,6 +24,15 @@ end_of_all areas = area_end (last_after None areas)
 -- an area begins where the other ends, with its permissions
 abbrev pub is_area_continued : Area → Area → Bool
 is_area_continued last area = (last.first + last.count == area.first) && (prot_bits last.prot == prot_bits area.prot)
+
+-- an area has a page of a run, which ends before another page
+abbrev pub is_met : ℕ → ℕ → Area → Bool
+is_met begin end area = nat_lt area.first end && nat_lt (begin - area.first) area.count
+
+-- an area has each page of a run, which ends before another page, with these permissions
+abbrev pub is_covering : ℕ → ℕ → Prot → Area → Bool
+is_covering begin end prot area = nat_le area.first begin && nat_le (end - area.first) area.count
+    && (prot_bits area.prot == prot_bits prot)
 
 -- one more area was put behind the others
 pub record IsExtended (old new : List Area) (area : Area) : Type 0 where

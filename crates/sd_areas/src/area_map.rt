@@ -1,4 +1,4 @@
-ghost use Rattle.std.specs.Prelude.{◌≡◌, ◌≢◌, ◌==◌, ◌%◌, ◌≤◌, [], IsTrue, IsFalse, length, None, Ok, Err, IfOk, IfErr};
+ghost use Rattle.std.specs.Prelude.{◌≡◌, ◌≢◌, ◌==◌, ◌%◌, ◌≤◌, [], IsTrue, IsFalse, length, None, Some, Ok, Err, IfOk, IfErr};
 ghost use Rattle.std.specs.Prelude.{OnOk, OnErr};
 ghost use Rattle.std.specs.FinMap as finmap;
 ghost use Rattle.sd_areas.specs.Pages.{is_invalid, is_outside, page_of, pages_for};
@@ -47,7 +47,7 @@ impl Model for AreaMap {
 impl AreaMap {
     ghost use Rattle.sd_areas.specs.Areas.{AreAreasOf, AreMaximal, areas_of, page_map_of};
     ghost use Rattle.sd_areas.specs.Calls.{map_result, unmap_result, protect_result, within_areas, has_hole};
-    ghost use Rattle.sd_areas.specs.Calls.{RefusesAsDue};
+    ghost use Rattle.sd_areas.specs.Calls.{RefusesAsDue, AllHave};
     ghost use Rattle.sd_areas.specs.Memory.{snapshot_prots};
     ghost use Rattle.sd_areas.specs.declared.errno.AreaError.TheVariants.{Refused, OutOfMemory};
     ghost use Rattle.sd_areas.specs.declared.errno.Errno.TheVariants.{Einval, Enomem};
@@ -106,13 +106,16 @@ impl AreaMap {
     ///
     /// EINVAL for a length of 0 or an address that is no multiple of 4,096.
     /// ENOMEM for a range that ends past 2^47, and where the space would have over 1,024 areas.
-    /// Out of memory where the list of areas can't grow. An error changes nothing.
+    /// Out of memory where the list of areas can't grow, which is only where a page of the range doesn't have these
+    /// permissions yet. An error changes nothing.
     pub fn map(&mut self, address: u64, bytes: u64, prot: Prot) -> Result<(), AreaError>
         ensures ok { OnOk result (map_result self.old address bytes prot ≡ Ok self.new) }
         ensures refused { IfErr result (RefusesAsDue (map_result self.old address bytes prot)) }
         ensures invalid { IsTrue (is_invalid address bytes) → result ≡ Err (Refused Einval) }
         ensures outside { IsFalse (is_invalid address bytes) → IsTrue (is_outside address bytes)
             → result ≡ Err (Refused Enomem) }
+        ensures same { IsFalse (is_invalid address bytes) → IsFalse (is_outside address bytes)
+            → AllHave self.old (page_of address) (pages_for bytes) (Some prot) → result ≡ Ok tt }
         ensures err { OnErr result (self.new ≡ self.old) }
     {
         let range = PageRange::for_map(address, bytes)?;
@@ -127,8 +130,8 @@ impl AreaMap {
     /// EINVAL for a length of 0, an address that is no multiple of 4,096, or a range that ends
     /// past 2^47.
     /// ENOMEM where the space would have over 1,024 areas, since the range lies within one.
-    /// Out of memory where the list of areas can't grow, which is only where a page is mapped. An error changes
-    /// nothing.
+    /// Out of memory where the list of areas can't grow, which is only where a page of the range is mapped. An error
+    /// changes nothing.
     pub fn unmap(&mut self, address: u64, bytes: u64) -> Result<(), AreaError>
         ensures ok { OnOk result (unmap_result self.old address bytes ≡ Ok self.new) }
         ensures refused { IfErr result (RefusesAsDue (unmap_result self.old address bytes)) }
@@ -136,7 +139,7 @@ impl AreaMap {
         ensures outside { IsFalse (is_invalid address bytes) → IsTrue (is_outside address bytes)
             → result ≡ Err (Refused Einval) }
         ensures bare { IsFalse (is_invalid address bytes) → IsFalse (is_outside address bytes)
-            → self.old ≡ finmap.empty → result ≡ Ok tt }
+            → AllHave self.old (page_of address) (pages_for bytes) None → result ≡ Ok tt }
         ensures err { OnErr result (self.new ≡ self.old) }
     {
         let range = PageRange::for_unmap(address, bytes)?;
@@ -151,7 +154,8 @@ impl AreaMap {
     /// EINVAL for an address that is no multiple of 4,096.
     /// ENOMEM for a range that ends past 2^47, where a page of it isn't mapped, and where the space
     /// would have over 1,024 areas.
-    /// Out of memory where the list of areas can't grow. An error changes nothing.
+    /// Out of memory where the list of areas can't grow, which is only where a page of the range doesn't have these
+    /// permissions yet. An error changes nothing.
     pub fn protect(&mut self, address: u64, bytes: u64, prot: Prot) -> Result<(), AreaError>
         ensures ok { OnOk result (protect_result self.old address bytes prot ≡ Ok self.new) }
         ensures refused { IfErr result (RefusesAsDue (protect_result self.old address bytes prot)) }
@@ -162,6 +166,8 @@ impl AreaMap {
         ensures hole { IsFalse (is_invalid address bytes) → IsFalse (is_outside address bytes)
             → IsTrue (has_hole self.old (page_of address) (pages_for bytes))
             → result ≡ Err (Refused Enomem) }
+        ensures same { IsFalse (is_invalid address bytes) → IsFalse (is_outside address bytes)
+            → AllHave self.old (page_of address) (pages_for bytes) (Some prot) → result ≡ Ok tt }
         ensures err { OnErr result (self.new ≡ self.old) }
     {
         if !is_page_start(address) {

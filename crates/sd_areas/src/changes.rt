@@ -1,10 +1,10 @@
 //! Changes of a list of areas in place. A change reads and replaces the areas that meet a run of
 //! pages or touch it; the areas behind them move as a whole.
-ghost use Rattle.std.specs.Prelude.{◌≡◌, ◌≢◌, ◌⊎◌, ◌+◌, ◌<◌, ◌≤◌, ◌^◌, [], nat_lt, length, Ok, OnOk, OnErr, IfErr};
-ghost use Rattle.std.specs.Prelude.{None};
+ghost use Rattle.std.specs.Prelude.{◌≡◌, ◌⊎◌, ◌+◌, ◌<◌, ◌≤◌, ◌^◌, nat_lt, length, Ok, OnOk, OnErr, IfErr};
+ghost use Rattle.std.specs.Prelude.{None, Some};
 ghost use Rattle.std.specs.List.{splice, AllWithin, position};
 ghost use Rattle.sd_areas.specs.Areas.{AreMaximal, page_map_of};
-ghost use Rattle.sd_areas.specs.Calls.{set_pages, remove_pages, within_areas, RefusesAsDue};
+ghost use Rattle.sd_areas.specs.Calls.{set_pages, remove_pages, within_areas, RefusesAsDue, AllHave};
 ghost use Rattle.sd_areas.specs.declared.errno.AreaError.TheVariants.{Refused, OutOfMemory};
 ghost use Rattle.sd_areas.specs.declared.errno.Errno.TheVariants.{Enomem};
 
@@ -12,7 +12,7 @@ use crate::area::Area;
 use crate::errno::{AreaError, Errno};
 use crate::limits::AREA_LIMIT;
 use crate::page_range::PageRange;
-use crate::runs::{with_area, without_pages};
+use crate::runs::{has_area, meets_area, with_area, without_pages};
 use std::alloc::Global;
 
 /// Whether an area ends before a page, with a page between them.
@@ -89,8 +89,8 @@ fn replace(
 ///
 /// # Errors
 ///
-/// ENOMEM where the areas would be over 1,024. Out of memory where the list can't grow.
-/// An error changes nothing.
+/// ENOMEM where the areas would be over 1,024. Out of memory where the list can't grow. Both come only where a page of
+/// the area doesn't have its permissions yet. An error changes nothing.
 pub(crate) fn set_between(
     alloc: Global,
     areas: &mut Vec<Area>,
@@ -115,8 +115,13 @@ pub(crate) fn set_between(
         ≡ Ok (page_map_of areas.new.items)) }
     ensures refused { IfErr result (RefusesAsDue
         (within_areas (set_pages (page_map_of areas.old.items) area.first area.count area.prot))) }
+    ensures some { OnErr result
+        (AllHave (page_map_of areas.old.items) area.first area.count (Some area.prot) → ⊥) }
     ensures err { OnErr result (areas.new.items ≡ areas.old.items) }
 {
+    if has_area(&areas[from..to], &area) {
+        return Ok(());
+    }
     let pieces = with_area(alloc, &areas[from..to], area)?;
     replace(areas, from, to, pieces)
 }
@@ -125,8 +130,8 @@ pub(crate) fn set_between(
 ///
 /// # Errors
 ///
-/// ENOMEM where the areas would be over 1,024. Out of memory where the list can't grow.
-/// An error changes nothing.
+/// ENOMEM where the areas would be over 1,024. Out of memory where the list can't grow. Both come only where a page of
+/// the area doesn't have its permissions yet. An error changes nothing.
 pub(crate) fn set_run(alloc: Global, areas: &mut Vec<Area>, area: Area) -> Result<(), AreaError>
     requires maximal { AreMaximal None areas.old.items }
     requires few { length areas.old.items ≤ 1024 }
@@ -139,6 +144,8 @@ pub(crate) fn set_run(alloc: Global, areas: &mut Vec<Area>, area: Area) -> Resul
         ≡ Ok (page_map_of areas.new.items)) }
     ensures refused { IfErr result (RefusesAsDue
         (within_areas (set_pages (page_map_of areas.old.items) area.first area.count area.prot))) }
+    ensures some { OnErr result
+        (AllHave (page_map_of areas.old.items) area.first area.count (Some area.prot) → ⊥) }
     ensures err { OnErr result (areas.new.items ≡ areas.old.items) }
 {
     let range = PageRange {
@@ -153,8 +160,8 @@ pub(crate) fn set_run(alloc: Global, areas: &mut Vec<Area>, area: Area) -> Resul
 ///
 /// # Errors
 ///
-/// ENOMEM where the areas would be over 1,024. Out of memory where the list can't grow, which is only where there is an
-/// area. An error changes nothing.
+/// ENOMEM where the areas would be over 1,024. Out of memory where the list can't grow, which is only where a page of
+/// the run is mapped. An error changes nothing.
 pub(crate) fn remove_run(
     alloc: Global,
     areas: &mut Vec<Area>,
@@ -162,6 +169,7 @@ pub(crate) fn remove_run(
 ) -> Result<(), AreaError>
     requires maximal { AreMaximal None areas.old.items }
     requires few { length areas.old.items ≤ 1024 }
+    requires pages { 0 < range.count }
     requires within { range.first + range.count ≤ 2 ^ 35 }
     ensures maximal { OnOk result (AreMaximal None areas.new.items) }
     ensures few { OnOk result (length areas.new.items ≤ 1024) }
@@ -170,13 +178,14 @@ pub(crate) fn remove_run(
         ≡ Ok (page_map_of areas.new.items)) }
     ensures refused { IfErr result (RefusesAsDue
         (within_areas (remove_pages (page_map_of areas.old.items) range.first range.count))) }
-    ensures some { OnErr result (areas.old.items ≢ []) }
+    ensures some { OnErr result
+        (AllHave (page_map_of areas.old.items) range.first range.count None → ⊥) }
     ensures err { OnErr result (areas.new.items ≡ areas.old.items) }
 {
-    if areas.is_empty() {
+    let (from, to) = neighbours(areas, &range);
+    if !meets_area(&areas[from..to], &range) {
         return Ok(());
     }
-    let (from, to) = neighbours(areas, &range);
     let pieces = without_pages(alloc, &areas[from..to], range)?;
     replace(areas, from, to, pieces)
 }

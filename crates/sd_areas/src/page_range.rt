@@ -54,6 +54,7 @@ impl PageRange {
         ensures invalid { IsTrue (is_invalid address bytes) → result ≡ Err Einval }
         ensures outside { IsFalse (is_invalid address bytes) → IsTrue (is_outside address bytes)
             → result ≡ Err Enomem }
+        ensures inside { IsFalse (is_invalid address bytes) → IsFalse (is_outside address bytes) → IsOk result }
     {
         if !is_range(address, bytes) {
             return Err(Errno::Einval);
@@ -68,6 +69,9 @@ impl PageRange {
     /// EINVAL for a length of 0, an address that is no multiple of 4,096, or a range that ends
     /// past 2^47.
     pub(crate) fn for_unmap(address: u64, bytes: u64) -> Result<Self, Errno>
+        ensures first { IfOk result (λ range. range.first ≡ page_of address) }
+        ensures count { IfOk result (λ range. range.count ≡ pages_for bytes) }
+        ensures pages { IfOk result (λ range. 0 < range.count) }
         ensures within { IfOk result (λ range. range.first + range.count ≤ 2 ^ 35) }
         ensures ok { IfOk result (λ range. (pages : PageMap)
             → unmap_result pages address bytes

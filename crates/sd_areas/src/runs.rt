@@ -1,11 +1,12 @@
 //! Lists of areas that rise and are maximal, built from the front.
 ghost use Rattle.std.specs.Prelude.{◌≡◌, if◌then◌else◌, ℕ, ◌+◌, ◌<◌, ◌≤◌, ◌^◌, OnOk, IfOk, Some, None, MatchOption};
-ghost use Rattle.std.specs.Prelude.{min, max};
+ghost use Rattle.std.specs.Prelude.{min, max, IsTrue, IsFalse, ◌↔◌};
+ghost use Rattle.std.specs.List.{list_any};
 ghost use Rattle.sd_areas.specs.Areas.{AreMaximal, prot_in, page_map_of};
 ghost use Rattle.sd_areas.specs.Pages.{is_within};
-ghost use Rattle.sd_areas.specs.Calls.{has_hole};
+ghost use Rattle.sd_areas.specs.Calls.{has_hole, AllHave};
 ghost use Rattle.sd_areas.specs.Runs.{is_area_continued, end_of_all, IsExtended, IsPart, HasPart, HasParts, HasRun};
-ghost use Rattle.sd_areas.specs.Runs.{HasGap};
+ghost use Rattle.sd_areas.specs.Runs.{HasGap, is_met, is_covering};
 
 use crate::area::Area;
 use crate::limits::PAGE_NUMBER_LIMIT;
@@ -180,6 +181,60 @@ pub(crate) fn meets_hole(areas: &[Area], range: &PageRange) -> bool
         next = reach(area, next);
     }
     next < range.first.number() + range.count
+}
+
+/// Whether an area has a page of a run, which ends before another page.
+fn meets(area: &Area, begin: u64, end: u64) -> bool
+    ensures { result ≡ is_met begin end area.now }
+{
+    area.first.number() < end && begin.saturating_sub(area.first.number()) < area.count
+}
+
+/// Whether one of the areas has a page of a run, which ends before another page.
+fn any_meets(areas: &[Area], begin: u64, end: u64) -> bool
+    ensures { result ≡ list_any (is_met begin end) areas.now }
+{
+    areas.iter().any(|area| meets(area, begin, end))
+}
+
+/// Whether a page of the run is mapped.
+pub(crate) fn meets_area(areas: &[Area], range: &PageRange) -> bool
+    requires maximal { AreMaximal None areas.now }
+    requires pages { 0 < range.now.count }
+    requires within { range.now.first + range.now.count ≤ 2 ^ 35 }
+    ensures { IsFalse result ↔ AllHave (page_map_of areas.now) range.now.first range.now.count None }
+{
+    let begin = range.first.number();
+    any_meets(areas, begin, begin + range.count)
+}
+
+/// Whether an area has each page of a run, which ends before another page, with these permissions.
+fn covers(area: &Area, begin: u64, end: u64, prot: Prot) -> bool
+    requires { begin ≤ end }
+    ensures { result ≡ is_covering begin end prot area.now }
+{
+    let first = area.first.number();
+    first <= begin && end - first <= area.count && area.prot.bits() == prot.bits()
+}
+
+/// Whether one of the areas has each page of a run, which ends before another page, with these permissions.
+fn any_covers(areas: &[Area], begin: u64, end: u64, prot: Prot) -> bool
+    requires { begin ≤ end }
+    ensures { result ≡ list_any (is_covering begin end prot) areas.now }
+{
+    areas.iter().any(|area| covers(area, begin, end, prot))
+}
+
+/// Whether each page of an area has its permissions already.
+pub(crate) fn has_area(areas: &[Area], area: &Area) -> bool
+    requires maximal { AreMaximal None areas.now }
+    requires pages { 0 < area.now.count }
+    requires within { area.now.first + area.now.count ≤ 2 ^ 35 }
+    ensures { IsTrue result
+        ↔ AllHave (page_map_of areas.now) area.now.first area.now.count (Some area.now.prot) }
+{
+    let begin = area.first.number();
+    any_covers(areas, begin, begin + area.count, area.prot)
 }
 
 /// Puts one page behind the areas.

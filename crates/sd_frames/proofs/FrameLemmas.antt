@@ -5,8 +5,9 @@ use Rattle.std.proofs.lemmas.Bool.{cases_Bool, cases_eq, cases_lt, or_cases, or_
 use Rattle.std.specs.List.{slice_get}
 use Rattle.std.specs.Option.{option_and_then, option_map_or, IfSome}
 use Rattle.std.proofs.lemmas.Option.{slice_get_past}
+use Rattle.std.proofs.lemmas.List.{length-map}
 use Rattle.sd_frames.specs.Bytes.{zeros}
-use Rattle.sd_frames.specs.Frames.{Cell, Pool, cell_at, count_at, cell_bytes, SetsCell, IsExhausted, HasFree}
+use Rattle.sd_frames.specs.Frames.{Cell, Pool, cell_at, count_at, cell_bytes, SetsCell, IsExhausted, HasFree, HasFreePlace}
 use Rattle.sd_frames.specs.declared.frame_cell.FrameCell.{FrameCell}
 use Rattle.sd_frames.specs.declared.frame_cell.FrameCell.TheVariants.{Used, Free}
 use Rattle.sd_frames.specs.FrameCells.{cell_of, cells_of, is_among, AreLinked, IsFreeList}
@@ -175,18 +176,25 @@ has_room size slots l = (length slots, l, past_none slots (length slots) (omega 
 pub has_first : (size : ℕ) (slots : List FrameCell) (k : ℕ) → length slots ≤ size → IsFreeList slots (Some k) → HasFree (record { size = size; cells = cells_of slots })
 has_first size slots k l h = let f = first_free slots k h in (k, (let g = got_within slots k (Free f.0) f.1 in omega arith), free_none slots k f.0 f.1)
 
+not_some : (o : Option Cell) → o ≡ None → IsSome o → ⊥
+not_some None e s = (let f : false ≡ true = s in cc)
+not_some (Some c) e s = cc
+
+-- without a chain none of the places is free
+none_at : (slots : List FrameCell) (k : ℕ) → IsFreeList slots None → k < length slots → get_or (cells_of slots) k None ≡ None → ⊥
+none_at slots k h l e =
+    let s : IsSome (option_and_then cell_of (slice_get slots k)) = in_use (slice_get slots k) (there_within slots k l) (λ n g. none_free slots k n h g) in
+    not_some _ (sym (at_cell slots k) ∙ e) s
+
+pub no_free_place : (size : ℕ) (slots : List FrameCell) → IsFreeList slots None → HasFreePlace (record { size = size; cells = cells_of slots }) → ⊥
+no_free_place size slots h f = none_at slots f.0 h (omega (arith, length-map slots cell_of, f.1)) f.2
+
 -- where none of the places is free but a frame is, there are places left
 pub room_left : (size : ℕ) (slots : List FrameCell) → IsFreeList slots None → HasFree (record { size = size; cells = cells_of slots }) → length slots < size
 room_left size slots h f = elim (cases_lt f.0 (length slots)) [
-  | inl l ↦ absurd (let s : IsSome (option_and_then cell_of (slice_get slots f.0)) = in_use (slice_get slots f.0) (there_within slots f.0 l) (λ n g. none_free slots f.0 n h g) in
-      let e : option_and_then cell_of (slice_get slots f.0) ≡ None = sym (at_cell slots f.0) ∙ f.2 in
-      not_some _ e s)
+  | inl l ↦ absurd (none_at slots f.0 h l f.2)
   | inr g ↦ (let l = f.1 in omega arith)
 ]
-  where
-    not_some : (o : Option Cell) → o ≡ None → IsSome o → ⊥
-    not_some None e s = (let f : false ≡ true = s in cc)
-    not_some (Some c) e s = cc
 
 -- ---- what the calls on frames need
 abbrev pub frames_of : ℕ → List FrameCell → Pool

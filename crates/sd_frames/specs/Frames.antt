@@ -56,3 +56,7 @@ IsExhausted pool = (number : ℕ) → number < pool.size → IsSome (cell_at poo
 -- some frame of the pool is free
 abbrev pub HasFree : Pool → Type 0
 HasFree pool = (number : ℕ) × (number < pool.size) × (cell_at pool number ≡ None)
+
+-- a place was made that is free
+abbrev pub HasFreePlace : Pool → Type 0
+HasFreePlace pool = (number : ℕ) × (number < length pool.cells) × (cell_at pool number ≡ None)

@@ -1,10 +1,10 @@
 //! Counted frames with copy on write, from a pool.
 ghost use Rattle.std.specs.Prelude.{◌≡◌, ◌+◌, ◌-◌, ◌<◌, ◌≤◌, ◌^◌, ◌==◌, length, [], Some, None, IsTrue, IsFalse};
-ghost use Rattle.std.specs.Prelude.{IsSome, OnErr, IfOk, if◌then◌else◌};
+ghost use Rattle.std.specs.Prelude.{IsSome, IsOk, OnErr, IfOk, if◌then◌else◌};
 ghost use Rattle.std.specs.Option.{ForSome};
 ghost use Rattle.sd_frames.specs.Bytes.{stored_at, zeros};
 ghost use Rattle.sd_frames.specs.Frames.{Cell, cell_at, count_at, cell_bytes, SetsCell, IsExhausted, HasFree};
-ghost use Rattle.sd_frames.specs.Frames.{HasWholeFrames, frame_bytes};
+ghost use Rattle.sd_frames.specs.Frames.{HasWholeFrames, HasFreePlace, frame_bytes};
 
 use crate::frame::Frame;
 use crate::frame_cell::{FrameCell, next_free};
@@ -223,13 +223,15 @@ impl Frames {
     ///
     /// # Errors
     ///
-    /// Out of memory where the list of places can't grow: nothing changes.
+    /// Out of memory where the list of places can't grow, which is only where each place that was made is in use:
+    /// nothing changes.
     pub fn place(&mut self, frame: Frame) -> Result<u32, AllocError>
         requires free { HasFree self.old }
         requires whole { length frame.bytes ≡ 4096 }
         ensures free { IfOk result
             (λ number. (number < self.old.size) × (cell_at self.old number ≡ None)) }
         ensures ok { IfOk result (λ number. SetsCell self.old self.new number (Some frame)) }
+        ensures made { HasFreePlace self.old → IsOk result }
         ensures err { OnErr result (self.new ≡ self.old) }
     {
         match self.free {

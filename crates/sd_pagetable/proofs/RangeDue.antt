@@ -6,12 +6,11 @@ use Rattle.std.specs.Ordering.{nat_cmp}
 use Rattle.std.specs.BTreeMap.{BTreeMap, get}
 use Rattle.std.specs.Option.{option_map, option_or}
 use Rattle.std.specs.FinMap as finmap
-use Rattle.std.specs.FinMap.{get-empty}
 use Rattle.sd_areas.specs.declared.prot.Prot.{Prot}
 use Rattle.sd_areas.specs.declared.errno.Errno.{Errno}
 use Rattle.sd_areas.specs.declared.errno.Errno.TheVariants.{Einval, Enomem}
 use Rattle.sd_areas.specs.Areas.{PageMap}
-use Rattle.sd_areas.specs.Calls.{map_result, unmap_result, protect_result}
+use Rattle.sd_areas.specs.Calls.{AllHave, map_result, unmap_result, protect_result}
 use Rattle.sd_areas.specs.Pages.{is_within, is_invalid, is_outside, page_of, pages_for}
 use Rattle.sd_pagetable.specs.declared.access_error.AccessError.{AccessError}
 use Rattle.sd_pagetable.specs.declared.access_error.AccessError.TheVariants.{Refused}
@@ -60,11 +59,6 @@ pub mapped_fits : (c : Contents) (s address bytes : ℕ) (prot : Prot)
     → page_count (with_space c s (set_within (inside c.spaces s) (page_of address) (pages_for bytes) (fresh_page prot))).spaces ≤ 65536
     → page_count (after_mmap (plain_of c) s address bytes prot) ≤ 65536
 mapped_fits c s address bytes prot few = subst (λ n. n ≤ 65536) (sym (mapped_pages c s address bytes prot)) few
-
--- a space without pages has none in its areas
-pub prots_none : (c : Contents) (s : ℕ) → inside c.spaces s ≡ finmap.empty → prots_of (inside c.spaces s) ≡ finmap.empty
-prots_none c s none = same_table _ _ (λ q. get-map_values (λ (page : PageState). page.prot) (inside c.spaces s) q ∙ ap (λ (t : Table PageState). option_map (λ (page : PageState). page.prot) (finmap.get t q)) none
-    ∙ ap (option_map (λ (page : PageState). page.prot)) (get-empty nat_cmp q) ∙ sym (get-empty nat_cmp q))
 
 -- an accepted call is due nothing
 pub nothing_due : (c : Contents) (s : ℕ) (answer : Result PageMap Errno) (own : PageMap) → is_alive c.spaces s ≡ true → answer ≡ Ok own → in_space c.spaces s (area_due answer) ≡ None
@@ -164,11 +158,21 @@ filled_back old mid new s first reached x own alive are filled cleared =
     same : inside new.spaces s ≡ inside old.spaces s
     same = same_table _ _ at
 
-filled_some : (o : Option PageState) (x : PageState) → IsSome (option_or o (Some x))
-filled_some o x = grind arith
-
 in_the_run : (first end q : ℕ) → first ≤ q → q < end → is_within first (end - first) q ≡ true
 in_the_run first end q from below = grind (arith, nat_tests)
+
+-- a page that isn't mapped doesn't have the permissions
+no_prot : (o : Option PageState) (prot : Prot) → o ≡ None → option_map (λ (page : PageState). page.prot) o ≡ Some prot → ⊥
+no_prot None prot e f = cc
+no_prot (Some page) prot e f = cc
+
+pub hole_lacks : (c : Contents) (s first end q : ℕ) (own : PageMap) (prot : Prot) → own ≡ prots_of (inside c.spaces s) → first ≤ q → q < end → page_at c s q ≡ None → AllHave own first (end - first) (Some prot) → ⊥
+hole_lacks c s first end q own prot are from below hole all =
+    no_prot (finmap.get (inside c.spaces s) q) prot hole
+    (sym (ap (λ m. finmap.get m q) are ∙ get-map_values (λ (page : PageState). page.prot) (inside c.spaces s) q) ∙ all q (in_the_run first end q from below))
+
+filled_some : (o : Option PageState) (x : PageState) → IsSome (option_or o (Some x))
+filled_some o x = grind arith
 
 pub filled_there : (old mid : Contents) (s first end q : ℕ) (x : PageState) → mid ≡ with_space old s (fill_within (inside old.spaces s) first (end - first) x) → first ≤ q → q < end → IsSome (page_at mid s q)
 filled_there old mid s first end q x filled from below = grind (arith, at_table, get-fill_within, in_the_run, filled_some)

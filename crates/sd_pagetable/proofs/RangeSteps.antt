@@ -28,7 +28,7 @@ alive_with c s t = alive-insert c.spaces s t s ∙ ap (λ b. b || is_alive c.spa
 pub none_filled : (c : Contents) (s first : ℕ) (x : PageState) → is_alive c.spaces s ≡ true → c ≡ with_space c s (fill_within (inside c.spaces s) first (first - first) x)
 none_filled c s first x alive = sym (ap (with_space c s) (fill_none (inside c.spaces s) first x) ∙ with_itself c s alive)
 
-unfilled : (old now : Contents) (s first k : ℕ) (x : PageState) → now ≡ with_space old s (fill_within (inside old.spaces s) first (k - first) x) → page_at now s k ≡ page_at old s k
+pub unfilled : (old now : Contents) (s first k : ℕ) (x : PageState) → now ≡ with_space old s (fill_within (inside old.spaces s) first (k - first) x) → page_at now s k ≡ page_at old s k
 unfilled old now s first k x done = ap (λ c. page_at c s k) done ∙ at_table old s k _ ∙ fill_outside (inside old.spaces s) first k x
 
 -- whether a page is a hole

@@ -48,7 +48,7 @@ impl Memory {
     ghost use Rattle.std.specs.FinMap as finmap;
     ghost use Rattle.std.specs.Option.{option_map};
     ghost use Rattle.sd_areas.specs.Pages.{page_of, pages_for};
-    ghost use Rattle.sd_areas.specs.Calls.{has_hole};
+    ghost use Rattle.sd_areas.specs.Calls.{has_hole, AllHave};
     ghost use Rattle.sd_areas.specs.Memory.{memory_of};
     ghost use Rattle.sd_pagetable.specs.Nested.{inside, is_alive};
     ghost use Rattle.sd_pagetable.specs.Contents.{page_count, plain_of, AreWhole, IsSound};
@@ -120,8 +120,8 @@ impl Memory {
     ///
     /// In this order: no-such-space; EINVAL for a length of 0 or an address that is no multiple of
     /// 4,096; ENOMEM for a range that ends past 2^47, and where there would be over 1,024 areas in
-    /// the space or over 65,536 pages. Out of memory where a growth was refused, and only behind all of these but the
-    /// number of areas. An error changes nothing.
+    /// the space or over 65,536 pages. Out of memory where a growth was refused, only after all of these but the
+    /// number of areas, and only where a page of the range doesn't have these permissions yet. An error changes nothing.
     pub fn mmap(
         &mut self,
         space: SpaceId,
@@ -134,6 +134,9 @@ impl Memory {
             → IsRangeIn (is_alive self.old.spaces space ≡ true) address bytes }
         ensures fits { result ≡ Err OutOfMemory
             → page_count (after_mmap (plain_of self.old) space address bytes prot) ≤ 65536 }
+        ensures changes { result ≡ Err OutOfMemory
+            → AllHave (prots_in (inside (plain_of self.old) space)) (page_of address) (pages_for bytes) (Some prot)
+            → ⊥ }
         ensures step { OnOk result
             (Step self.old (Mapped space (page_of address) (pages_for bytes) prot) self.new) }
         ensures memory { OnOk result
@@ -157,13 +160,14 @@ impl Memory {
     ///
     /// In this order: no-such-space; EINVAL for a length of 0, an address that is no multiple of
     /// 4,096, or a range that ends past 2^47; ENOMEM where there would be over 1,024 areas in the
-    /// space. Out of memory where a growth was refused, and only in a space that has pages, behind all of these but the
-    /// number of areas. An error changes nothing.
+    /// space. Out of memory where a growth was refused, only after all of these but the number of areas, and only where
+    /// a page of the range is mapped. An error changes nothing.
     pub fn munmap(&mut self, space: SpaceId, address: u64, bytes: u64) -> Result<(), MemoryError>
         ensures due { Answers (munmap_due (plain_of self.old) space address bytes) result }
         ensures tested { result ≡ Err OutOfMemory
             → IsRangeIn (is_alive self.old.spaces space ≡ true) address bytes }
-        ensures some { result ≡ Err OutOfMemory → inside self.old.spaces space ≢ finmap.empty }
+        ensures some { result ≡ Err OutOfMemory
+            → AllHave (prots_in (inside (plain_of self.old) space)) (page_of address) (pages_for bytes) None → ⊥ }
         ensures step { OnOk result
             (Step self.old (Unmapped space (page_of address) (pages_for bytes)) self.new) }
         ensures memory { OnOk result
@@ -181,8 +185,8 @@ impl Memory {
     ///
     /// In this order: no-such-space; EINVAL for an address that is no multiple of 4,096; ENOMEM for
     /// a range that ends past 2^47, where a page of it isn't mapped, and where there would be over
-    /// 1,024 areas in the space. Out of memory where a growth was refused, and only behind all of these but the number
-    /// of areas. An error changes nothing.
+    /// 1,024 areas in the space. Out of memory where a growth was refused, only after all of these but the number of
+    /// areas, and only where a page of the range doesn't have these permissions yet. An error changes nothing.
     pub fn mprotect(
         &mut self,
         space: SpaceId,
@@ -195,6 +199,9 @@ impl Memory {
             → IsRangeIn (is_alive self.old.spaces space ≡ true) address bytes }
         ensures whole { result ≡ Err OutOfMemory
             → has_hole (prots_in (inside (plain_of self.old) space)) (page_of address) (pages_for bytes) ≡ false }
+        ensures changes { result ≡ Err OutOfMemory
+            → AllHave (prots_in (inside (plain_of self.old) space)) (page_of address) (pages_for bytes) (Some prot)
+            → ⊥ }
         ensures step { OnOk result
             (Step self.old (Protected space (page_of address) (pages_for bytes) prot) self.new) }
         ensures memory { OnOk result

@@ -8,7 +8,7 @@ ghost use Rattle.std.specs.Prelude.{is_some, count_by, None, Some, Ok, Err, IsSo
 ghost use Rattle.std.specs.Ordering.{nat_cmp};
 ghost use Rattle.std.specs.BTreeMap.{get};
 ghost use Rattle.std.specs.FinMap as finmap;
-ghost use Rattle.sd_areas.specs.Calls.{map_result, unmap_result, protect_result, has_hole};
+ghost use Rattle.sd_areas.specs.Calls.{map_result, unmap_result, protect_result, has_hole, AllHave};
 ghost use Rattle.sd_areas.specs.Areas.{PageMap};
 ghost use Rattle.sd_areas.specs.Pages.{page_of, pages_for, pages_from, is_invalid, is_outside};
 ghost use Rattle.sd_pagetable.specs.declared.access_error.AccessError.TheVariants.{Refused};
@@ -77,7 +77,7 @@ fn unmap_areas(
     ensures tested { result ≡ Err OutOfMemory
         → IsRangeIn (IsSome (get nat_cmp areas.old space)) address bytes }
     ensures some { result ≡ Err OutOfMemory → (contents : Contents) → HasAreas areas.old contents
-        → inside contents.spaces space ≢ finmap.empty }
+        → AllHave (prots_of (inside contents.spaces space)) (page_of address) (pages_for bytes) None → ⊥ }
     ensures err { OnErr result (HasSame areas.old areas.new) }
 {
     let Some(own) = areas.get_mut(&space) else {
@@ -107,6 +107,8 @@ fn protect_areas(
         → IsRangeIn (IsSome (get nat_cmp areas.old space)) address bytes }
     ensures whole { result ≡ Err OutOfMemory → (contents : Contents) → HasAreas areas.old contents
         → has_hole (prots_of (inside contents.spaces space)) (page_of address) (pages_for bytes) ≡ false }
+    ensures changes { result ≡ Err OutOfMemory → (contents : Contents) → HasAreas areas.old contents
+        → AllHave (prots_of (inside contents.spaces space)) (page_of address) (pages_for bytes) (Some prot) → ⊥ }
     ensures err { OnErr result (HasSame areas.old areas.new) }
 {
     let Some(own) = areas.get_mut(&space) else {
@@ -165,6 +167,8 @@ fn fill_holes(
         (set_within (inside paging.old.spaces space) first (end - first)
         (fresh_page prot))).spaces ≤ 65536 }
     ensures errors { IfErr result (λ e. (e ≡ OutOfMemory) ⊎ (e ≡ DeniedError (Refused Enomem))) }
+    ensures hole { result ≡ Err OutOfMemory
+        → AllHave own.now first (end - first) (Some prot) → ⊥ }
     ensures err { OnErr result (paging.new ≡ paging.old) }
 {
     if !has_room(paging, space, first, end) {
@@ -207,6 +211,8 @@ fn map_in(
         (with_space paging.old space
         (set_within (inside paging.old.spaces space) (page_of address) (pages_for bytes)
         (fresh_page prot))).spaces ≤ 65536 }
+    ensures changes { result ≡ Err OutOfMemory
+        → AllHave own.old (page_of address) (pages_for bytes) (Some prot) → ⊥ }
     ensures err { OnErr result ((own.new ≡ own.old) × (paging.new ≡ paging.old)) }
 {
     let range = PageRange::for_map(address, bytes).map_err(AreaError::Refused)?;
@@ -235,7 +241,8 @@ pub(crate) fn munmap(
     ensures due { Answers (munmap_due (plain_of paging.old) space address bytes) result }
     ensures tested { result ≡ Err OutOfMemory
         → IsRangeIn (is_alive paging.old.spaces space ≡ true) address bytes }
-    ensures some { result ≡ Err OutOfMemory → inside paging.old.spaces space ≢ finmap.empty }
+    ensures some { result ≡ Err OutOfMemory
+        → AllHave (prots_in (inside (plain_of paging.old) space)) (page_of address) (pages_for bytes) None → ⊥ }
     ensures step { OnOk result
         (Step paging.old (Unmapped space (page_of address) (pages_for bytes)) paging.new) }
     ensures memory { OnOk result
@@ -296,6 +303,9 @@ fn protect_some(
         → IsRangeIn (is_alive paging.old.spaces space ≡ true) address bytes }
     ensures whole { result ≡ Err OutOfMemory
         → has_hole (prots_in (inside (plain_of paging.old) space)) (page_of address) (pages_for bytes) ≡ false }
+    ensures changes { result ≡ Err OutOfMemory
+        → AllHave (prots_in (inside (plain_of paging.old) space)) (page_of address) (pages_for bytes) (Some prot)
+        → ⊥ }
     ensures step { OnOk result
         (Step paging.old (Protected space (page_of address) (pages_for bytes) prot) paging.new) }
     ensures memory { OnOk result
@@ -324,6 +334,9 @@ pub(crate) fn mprotect(
         → IsRangeIn (is_alive paging.old.spaces space ≡ true) address bytes }
     ensures whole { result ≡ Err OutOfMemory
         → has_hole (prots_in (inside (plain_of paging.old) space)) (page_of address) (pages_for bytes) ≡ false }
+    ensures changes { result ≡ Err OutOfMemory
+        → AllHave (prots_in (inside (plain_of paging.old) space)) (page_of address) (pages_for bytes) (Some prot)
+        → ⊥ }
     ensures step { OnOk result
         (Step paging.old (Protected space (page_of address) (pages_for bytes) prot) paging.new) }
     ensures memory { OnOk result
@@ -352,6 +365,9 @@ pub(crate) fn mmap(
         → IsRangeIn (is_alive paging.old.spaces space ≡ true) address bytes }
     ensures fits { result ≡ Err OutOfMemory
         → page_count (after_mmap (plain_of paging.old) space address bytes prot) ≤ 65536 }
+    ensures changes { result ≡ Err OutOfMemory
+        → AllHave (prots_in (inside (plain_of paging.old) space)) (page_of address) (pages_for bytes) (Some prot)
+        → ⊥ }
     ensures step { OnOk result
         (Step paging.old (Mapped space (page_of address) (pages_for bytes) prot) paging.new) }
     ensures memory { OnOk result

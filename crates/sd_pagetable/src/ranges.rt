@@ -77,7 +77,7 @@ pub(crate) fn holes(paging: &Paging, space: SpaceId, first: u64, end: u64) -> u6
 ///
 /// # Errors
 ///
-/// Out of memory where the table can't grow: nothing changes.
+/// Out of memory where the table can't grow, which is only where the first page isn't mapped: nothing changes.
 fn fill_next(
     paging: &mut Paging,
     space: SpaceId,
@@ -96,6 +96,7 @@ fn fill_next(
     ensures value { IfOk result (λ to. paging.new
         ≡ with_space paging.old space
         (fill_within (inside paging.old.spaces space) first (to - first) (fresh_page prot))) }
+    ensures hole { OnErr result (page_at paging.old space first ≡ None) }
     ensures err { OnErr result (paging.new ≡ paging.old) }
 {
     let mapped = next_mapped(paging, space, first, end);
@@ -119,6 +120,7 @@ pub(crate) fn fill(paging: &mut Paging, space: SpaceId, first: u64, end: u64, pr
     ensures filled { paging.new
         ≡ with_space paging.old space
         (fill_within (inside paging.old.spaces space) first (result - first) (fresh_page prot)) }
+    ensures hole { result < end → page_at paging.old space result ≡ None }
 {
     let mut reached = first;
     while reached < end {

@@ -30,7 +30,6 @@ fn is_read(rt: &impl Abort, memory: &Memory, page: PageNo) {
     let mut sector = [7; 512];
     assert!(rt; memory.read_sector(space, page, 0, &mut sector));
     assert_eq!(rt; (sector[0], sector[1]), (0x61, 0));
-    assert_eq!(rt; memory.sector(space, page, 0), Some(&sector[..]));
     assert_eq!(rt;
         memory.framed_sector(space, page, 0),
         Some(Some(&sector[..]))

@@ -63,22 +63,6 @@ impl Memory {
         true
     }
 
-    /// One of a page's eight sectors of 512 bytes, 0 to 7, where the page is mapped.
-    pub fn sector(&self, space: SpaceId, page: PageNo, sector: usize) -> Option<&[u8]>
-        requires { sector < 8 }
-        ensures mapped { is_some result ≡ is_some (page_at self.now space page) }
-        ensures whole { IfSome (page_at self.now space page)
-            (λ (found : PageState). length found.bytes ≡ 4096) }
-        ensures bytes { IfSome result (λ bytes. IfSome (page_at self.now space page) (λ (found : PageState).
-            bytes.now ≡ slice_range found.bytes (512 * sector) (512 * sector + 512))) }
-        ensures length { IfSome result (λ bytes. length bytes.now ≡ 512) }
-    {
-        self.paging.whole();
-        let found = self.paging.bytes(space, page)?;
-        let start = SECTOR_SIZE * sector;
-        Some(&found[start..start + SECTOR_SIZE])
-    }
-
     /// One of a page's eight sectors of 512 bytes, 0 to 7, where the page is mapped: none inside where the page has no
     /// frame, so that the sector is zeros and needn't be looked at.
     pub fn framed_sector(

@@ -1,4 +1,4 @@
-use Rattle.std.proofs.Common.{◌≡◌, true, false, sym, ap, ◌∙◌, arith}
+use Rattle.std.proofs.Common.{◌≡◌, false, sym, ap, ◌∙◌, arith}
 use Rattle.sd_pagetable.specs.Nested.{is_alive}
 use Rattle.sd_pagetable.proofs.ForkCalls.{has_sixteen, is_free, one_alive_more}
 use Rattle.sd_pagetable.proofs.fork_calls.free_number.Goals as goal

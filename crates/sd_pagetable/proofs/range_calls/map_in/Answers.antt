@@ -29,7 +29,12 @@ pub unfill-requires-clause-alive : goal.unfill-requires-clause-alive
 unfill-requires-clause-alive c = ap (λ (m : Contents). is_alive m.spaces c.args.space) c.in_ok-fill_holes.ensures.ok ∙ alive_with c.args.paging.now c.args.space _
 
 pub returns-in-Err-clause-err : goal.returns-in-Err-clause-err
-returns-in-Err-clause-err c = grind (arith, filled_back)
+returns-in-Err-clause-err c =
+    let same : c.map.new.self ≡ c.args.own.now = c.in-Err.ensures.err in (
+      same,
+      filled_back c.args.paging.now c.fill_holes.new.paging c.unfill.new.paging c.args.space c.number-first.result (c.number-first.result + c.in_ok-range.range.count) (fresh_page c.args.prot)
+          c.map.new.self c.requires.alive (same ∙ c.requires.areas) c.in_ok-fill_holes.ensures.ok c.unfill.ensures,
+    )
 
 pub renew-requires-clause-alive : goal.renew-requires-clause-alive
 renew-requires-clause-alive c = ap (λ (m : Contents). is_alive m.spaces c.args.space) c.in_ok-fill_holes.ensures.ok ∙ alive_with c.args.paging.now c.args.space _

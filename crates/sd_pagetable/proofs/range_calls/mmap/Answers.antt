@@ -1,5 +1,6 @@
-use Rattle.std.proofs.Common.{◌≡◌, ap, is_some, sym, subst, ◌∙◌, ◌≤◌, Option, Ok, IfErr, arith}
-use Rattle.sd_areas.specs.Calls.{map_result}
+use Rattle.std.proofs.Common.{◌≡◌, Some, ap, is_some, sym, subst, ◌∙◌, ◌≤◌, Option, Ok, IfErr, arith}
+use Rattle.sd_areas.specs.Areas.{PageMap}
+use Rattle.sd_areas.specs.Calls.{AllHave, map_result}
 use Rattle.sd_areas.specs.Pages.{page_of, pages_for}
 use Rattle.sd_pagetable.specs.Nested.{inside, set_within}
 use Rattle.sd_pagetable.specs.Page.{fresh_page}
@@ -9,7 +10,7 @@ use Rattle.sd_pagetable.specs.RangeCalls.{Refuses}
 use Rattle.sd_pagetable.specs.Kept.{HasAreas, prots_of}
 use Rattle.sd_pagetable.specs.Tracking.{with_space}
 use Rattle.std.proofs.lemmas.Result.{on_ok_weaker}
-use Rattle.sd_pagetable.proofs.PlainRanges.{areas_with, plain_mapped}
+use Rattle.sd_pagetable.proofs.PlainRanges.{areas_with, plain_mapped, prots_seen}
 use Rattle.sd_pagetable.proofs.RangeDue.{mmap_seen, mapped_fits, own_mapped}
 use Rattle.sd_pagetable.proofs.AreaCalls.{areas_put, areas_same, areas_found, areas_absent, still_kept, dead_due, nothing_over, on_both, by_result, answers_by, mmap_due_is}
 use Rattle.sd_pagetable.proofs.range_calls.mmap.Goals as goal
@@ -52,3 +53,9 @@ returns-clause-memory c = on_ok_weaker c.map_in.result (λ done. ap plain_of don
 
 pub returns-clause-fits : goal.returns-clause-fits
 returns-clause-fits c = λ out. mapped_fits c.args.paging.now c.args.space c.args.address c.args.bytes c.args.prot (c.map_in.ensures.fits out)
+
+pub returns-clause-changes : goal.returns-clause-changes
+returns-clause-changes c = λ out all.
+    let found = areas_found c.args.areas.now c.args.paging.now c.args.space c.in-Some.own.now c.requires.kept c.in-Some.ensures.value in
+    c.map_in.ensures.changes out
+    (subst (λ (pages : PageMap). AllHave pages (page_of c.args.address) (pages_for c.args.bytes) (Some c.args.prot)) (prots_seen c.args.paging.now c.args.space ∙ sym found.1) all)

@@ -1,10 +1,12 @@
-use Rattle.std.proofs.Common.{rules, ◌≡◌, sym, ap, subst, ◌∙◌, arith}
+use Rattle.std.proofs.Common.{rules, None, ◌≡◌, sym, ap, subst, ◌∙◌, arith}
+use Rattle.sd_areas.specs.Areas.{PageMap}
+use Rattle.sd_areas.specs.Calls.{AllHave}
 use Rattle.sd_areas.specs.Pages.{page_of, pages_for}
 use Rattle.sd_pagetable.specs.Nested.{inside, remove_within}
 use Rattle.sd_pagetable.specs.Contents.{plain_of}
 use Rattle.sd_pagetable.specs.Kept.{HasAreas, prots_of}
 use Rattle.sd_pagetable.specs.Tracking.{with_space}
-use Rattle.sd_pagetable.proofs.PlainRanges.{areas_with, plain_unmapped}
+use Rattle.sd_pagetable.proofs.PlainRanges.{areas_with, plain_unmapped, prots_seen}
 use Rattle.sd_pagetable.proofs.RangeDue.{munmap_seen, nothing_due, unmapped_within, own_unmapped}
 use Rattle.sd_pagetable.proofs.AreaCalls.{still_kept}
 use Rattle.sd_pagetable.proofs.range_calls.munmap.Goals as goal
@@ -40,4 +42,5 @@ returns-clause-memory c =
     ap plain_of done ∙ plain_unmapped c.args.paging.now c.args.space c.args.address c.args.bytes
 
 pub returns-in_err-unmap_areas-clause-some : goal.returns-in_err-unmap_areas-clause-some
-returns-in_err-unmap_areas-clause-some c = λ out. c.unmap_areas.ensures.some (search rules) c.args.paging.now c.requires.kept
+returns-in_err-unmap_areas-clause-some c = λ out all. c.unmap_areas.ensures.some (search rules) c.args.paging.now c.requires.kept
+    (subst (λ (pages : PageMap). AllHave pages (page_of c.args.address) (pages_for c.args.bytes) None) (prots_seen c.args.paging.now c.args.space) all)

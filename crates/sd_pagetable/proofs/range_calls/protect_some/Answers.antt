@@ -1,4 +1,6 @@
-use Rattle.std.proofs.Common.{sym, ap, subst, ◌∙◌, arith}
+use Rattle.std.proofs.Common.{rules, Some, sym, ap, subst, ◌∙◌, arith}
+use Rattle.sd_areas.specs.Areas.{PageMap}
+use Rattle.sd_areas.specs.Calls.{AllHave}
 use Rattle.sd_areas.specs.Pages.{page_of, pages_for}
 use Rattle.sd_pagetable.specs.Nested.{inside}
 use Rattle.sd_pagetable.specs.Contents.{plain_of}
@@ -37,3 +39,7 @@ returns-clause-memory c = ap plain_of c.protect_range.ensures ∙ plain_protecte
 
 pub returns-in_err-protect_areas-clause-whole : goal.returns-in_err-protect_areas-clause-whole
 returns-in_err-protect_areas-clause-whole c = grind (arith, prots_seen)
+
+pub returns-in_err-protect_areas-clause-changes : goal.returns-in_err-protect_areas-clause-changes
+returns-in_err-protect_areas-clause-changes c = λ out all. c.protect_areas.ensures.changes (search rules) c.args.paging.now c.requires.kept
+    (subst (λ (pages : PageMap). AllHave pages (page_of c.args.address) (pages_for c.args.bytes) (Some c.args.prot)) (prots_seen c.args.paging.now c.args.space) all)

@@ -1,6 +1,5 @@
 use Rattle.std.proofs.Common.{ap, sym, is_some, arith}
 use Rattle.sd_areas.proofs.Memory.{on_err}
-use Rattle.sd_pagetable.proofs.RangeDue.{prots_none}
 use Rattle.sd_pagetable.proofs.AreaCalls.{areas_put, areas_same, areas_found}
 use Rattle.sd_pagetable.proofs.range_calls.unmap_areas.Goals as goal
 
@@ -16,4 +15,4 @@ returns-clause-ok c = λ contents kept.
     (c.unmap.new.self, found.0, rw (← found.1) c.in_ok-unmap.ensures.ok, areas_put c.args.areas.now (c.get_mut.follows.lender c.unmap.new.self) c.args.space c.unmap.new.self holds.0)
 
 pub returns-in_err-unmap-clause-some : goal.returns-in_err-unmap-clause-some
-returns-in_err-unmap-clause-some c = grind (arith, areas_found, prots_none)
+returns-in_err-unmap-clause-some c = grind (arith, areas_found)

@@ -2,7 +2,7 @@ use Rattle.std.proofs.Common.{◌∙◌, ap, arith}
 use Rattle.sd_pagetable.specs.Nested.{is_alive}
 use Rattle.sd_pagetable.specs.Page.{fresh_page}
 use Rattle.sd_pagetable.specs.Contents.{Contents}
-use Rattle.sd_pagetable.proofs.RangeSteps.{alive_with, none_filled}
+use Rattle.sd_pagetable.proofs.RangeSteps.{alive_with, none_filled, unfilled}
 use Rattle.sd_pagetable.proofs.RunSteps.{room_for, filled_to}
 use Rattle.sd_pagetable.proofs.ranges.fill.Goals as goal
 
@@ -27,3 +27,6 @@ loop-reached-preserved c =
       fills = filled_to c.args.paging.now c.loop-reached.paging c.fill_next.new.paging c.args.space c.args.first c.loop-reached.reached c.in-Ok.next c.args.end (fresh_page c.args.prot)
           was.begun (omega arith) c.in-Ok.ensures.end alive was.fills c.in-Ok.ensures.value;
     }
+
+pub returns-in_default-clause-hole : goal.returns-in_default-clause-hole
+returns-in_default-clause-hole c = grind (arith, unfilled)

@@ -4,6 +4,7 @@ use Rattle.sd_areas.specs.Areas.{page_map_of}
 use Rattle.sd_areas.specs.Calls.{protect_result, within_areas, set_pages, has_hole}
 use Rattle.sd_areas.proofs.Calls.{protected_invalid, protected_nothing, protected_outside, protected_hole, set_by_range, hole_test}
 use Rattle.sd_areas.proofs.Around.{middle_maximal, hole_around_at}
+use Rattle.sd_areas.proofs.Alike.{all_no_hole}
 use Rattle.sd_areas.proofs.area_map.AreaMap.protect.Goals as goal
 
 pub returns-then-not-is_page_start-clause-refused : goal.returns-then-not-is_page_start-clause-refused
@@ -20,6 +21,9 @@ meets_hole-requires-clause-maximal c = grind (arith, middle_maximal)
 
 pub returns-then-meets_hole-clause-refused : goal.returns-then-meets_hole-clause-refused
 returns-then-meets_hole-clause-refused c = grind (arith, protected_hole, hole_test, hole_around_at)
+
+pub returns-then-meets_hole-clause-same : goal.returns-then-meets_hole-clause-same
+returns-then-meets_hole-clause-same c = λ valid inside all. absurd (all_no_hole c.args.self.now _ _ c.args.prot (grind (arith, hole_test, hole_around_at)) all)
 
 full : (c : goal.After-set_between) → has_hole c.args.self.now (page_of c.args.address) (pages_for c.args.bytes) ≡ false
 full c = hole_test _ _ _ _ _ _ false c.self.view_is c.in-Some.ensures.first c.in-Some.ensures.count (c.if-meets_hole.ensures

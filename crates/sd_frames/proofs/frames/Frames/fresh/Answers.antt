@@ -1,4 +1,4 @@
-use Rattle.std.proofs.Common.{◌≡◌, ap, ◌∙◌, subst, Some, sym}
+use Rattle.std.proofs.Common.{ap, ◌∙◌, subst, Some}
 use Rattle.std.proofs.lemmas.Result.{IfOk-weaker}
 use Rattle.sd_frames.specs.Frames.{Cell, SetsCell}
 use Rattle.sd_frames.proofs.frames.Frames.fresh.Goals as goal

@@ -1,10 +1,10 @@
 use Rattle.std.proofs.Common.{◌≡◌, ◌<◌, ℕ, List, Option, Some, None, set, sym, ap, subst, ◌∙◌, arith, length-set, length-append}
 use Rattle.std.specs.List.{slice_get}
-use Rattle.sd_frames.specs.Frames.{Pool, cell_at, SetsCell, HasFree, HasWholeFrames}
+use Rattle.sd_frames.specs.Frames.{Pool, cell_at, SetsCell, HasFree, HasFreePlace, HasWholeFrames}
 use Rattle.sd_frames.specs.declared.frame_cell.FrameCell.{FrameCell}
 use Rattle.sd_frames.specs.declared.frame_cell.FrameCell.TheVariants.{Used, Free}
 use Rattle.sd_frames.specs.FrameCells.{IsFreeList}
-use Rattle.sd_frames.proofs.FrameLemmas.{frames_of, taken, pushed, first_free, got_within, free_none, room_left, sets_cell, past_none}
+use Rattle.sd_frames.proofs.FrameLemmas.{frames_of, taken, pushed, first_free, got_within, free_none, room_left, no_free_place, sets_cell, past_none}
 use Rattle.sd_frames.proofs.WholeLemmas.{whole_set, whole_pushed}
 use Rattle.sd_frames.proofs.frames.Frames.place.Goals as goal
 
@@ -60,3 +60,7 @@ returns-in_ok-push-in-None-clause-free c =
     let e = c.len-number.ensures in
     subst (λ (p : Pool). (c.len-number.result < p.size) × (cell_at p c.len-number.result ≡ None)) c.self.view_is
     ((omega arith), past_none c.self.inside.slots.items c.len-number.result (omega arith))
+
+pub returns-in_err-push-in-None-clause-made : goal.returns-in_err-push-in-None-clause-made
+returns-in_err-push-in-None-clause-made c = λ made. absurd (no_free_place c.self.inside.pool c.self.inside.slots.items
+    (subst (λ (p : Option ℕ). IsFreeList c.self.inside.slots.items p) c.in-None.is c.self.invariant.1) (subst HasFreePlace (sym c.self.view_is) made))

@@ -1,7 +1,6 @@
-use Rattle.std.proofs.Common.{◌≡◌, ℕ, ap, ◌∙◌, sym, Some}
+use Rattle.std.proofs.Common.{ℕ, ap, ◌∙◌, sym, Some}
 use Rattle.std.proofs.lemmas.List.{length-replicate}
 use Rattle.std.specs.Option.{option_map}
-use Rattle.sd_tables.specs.declared.entry.Entry.{Entry}
 use Rattle.sd_pagetable.specs.Page.{PageState, zeros}
 use Rattle.sd_pagetable.specs.Contents.{Contents, page_at}
 use Rattle.sd_frames.specs.Frames.{frame_bytes}

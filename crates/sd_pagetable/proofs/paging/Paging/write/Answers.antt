@@ -1,11 +1,9 @@
-use Rattle.std.proofs.Common.{◌≡◌, ℕ, ap, ◌∙◌, sym, subst, Option, Some, None, true, List}
+use Rattle.std.proofs.Common.{◌≡◌, ℕ, ap, ◌∙◌, sym, subst, Option, Some, None, List}
 use Rattle.std.specs.Option.{IfSome}
-use Rattle.sd_tables.specs.declared.entry.Entry.{Entry}
-use Rattle.sd_pagetable.specs.Nested.{Nested, value_at}
 use Rattle.sd_pagetable.specs.Page.{PageState, stored_page}
 use Rattle.sd_pagetable.specs.Contents.{Contents, page_at, put_page}
 use Rattle.sd_pagetable.specs.Access.{stored_at}
-use Rattle.sd_frames.specs.Frames.{Pool, frame_bytes}
+use Rattle.sd_frames.specs.Frames.{frame_bytes}
 use Rattle.sd_pagetable.specs.View.{page_of_entry, contents_of}
 use Rattle.sd_pagetable.proofs.ViewLemmas.{entry_there, entry_seen, alone_in}
 use Rattle.sd_pagetable.proofs.KeptLemmas.{frame_used, kept_written}

@@ -1,4 +1,4 @@
-use Rattle.std.proofs.Common.{◌≡◌, ap, ◌∙◌, sym, subst, refl, false}
+use Rattle.std.proofs.Common.{◌≡◌, ap, ◌∙◌, subst, refl, false}
 use Rattle.std.specs.Option.{IfSome}
 use Rattle.sd_tables.specs.declared.entry.Entry.{Entry}
 use Rattle.sd_pagetable.specs.Page.{PageState}
