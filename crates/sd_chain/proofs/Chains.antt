@@ -1,5 +1,5 @@
 -- The chain of an image as a list: built one image at a time, and followed by pages that lie alike.
-use Rattle.std.proofs.Common.{◌≡◌, ◌<◌, ◌≤◌, ◌+◌, ◌-◌, ◌*◌, ◌^◌, ℕ, zero, suc, min, List, [], ◌∷◌, ◌++◌, map, length, Contains, Option, Some, None, refl, sym, ◌∙◌, ap, subst, inl, inr, Bor, arith}
+use Rattle.std.proofs.Common.{◌≡◌, ◌<◌, ◌≤◌, ◌+◌, ◌*◌, ◌^◌, ℕ, zero, suc, min, List, [], ◌∷◌, ◌++◌, map, length, Contains, Option, Some, None, refl, sym, ◌∙◌, ap, subst, inl, inr, Bor, arith}
 use Rattle.std.specs.Prelude.{◌↔◌, IfSome, get_or}
 use Rattle.std.specs.Option.{option_map}
 use Rattle.std.specs.List.{slice_get}

@@ -7,7 +7,6 @@ use Rattle.sd_image.specs.declared.header.Header.{Header}
 use Rattle.sd_image.specs.declared.header.Kind.TheVariants.{PreDump}
 use Rattle.sd_image.specs.Image.{Image}
 use Rattle.sd_image.specs.Laws.{OneImage}
-use Rattle.sd_image.specs.Shows.{IsRestorable}
 use Rattle.sd_chain.specs.Catalog.{Opened, Places, AreInOrder, images, place_of, IsDumpOrMerged}
 use Rattle.sd_chain.specs.Store.{IsCatalogOf, IsOpenedAs}
 use Rattle.sd_chain.specs.Checkpoints.{HasCheckpoint, IsOfCheckpointAmong, IsCheckpointChoice, IsOfCheckpoint, LackCheckpoint, FindsCheckpoint}

@@ -10,6 +10,8 @@ use Rattle.sd_image.specs.Shows.{Shows}
 use Rattle.sd_image.specs.Table.{Listed}
 use Rattle.sd_restore.specs.Fits.{prots_in}
 use Rattle.sd_restore.specs.Placed.{IsLaidOut, PlacedPage, SpaceEntry, placed_entries, placed_memory, placed_page}
+use Rattle.sd_elf.specs.At.{TakesCoresAt}
+use Rattle.sd_restore.specs.At.{ShowsAt}
 use Rattle.sd_elf.specs.Files.{CoreOfSpace, TakesCores, TakesFiles, cores_of, placed_cores}
 use Rattle.sd_elf.specs.Texts.{front_text, placed_core}
 
@@ -68,4 +70,14 @@ takes_cores wanted contents checkpoint spaces pages before after shows laid take
   memory = placed_memory contents spaces pages;
   shows = shows;
   taken = subst (TakesFiles before after) (cores_laid wanted contents checkpoint spaces pages (placed_memory contents spaces pages) laid) taken;
+}
+
+pub takes_cores_at : (wanted : ℕ → Bool) (contents : List (List ℕ)) (number checkpoint : ℕ) (spaces : List Listed) (pages : List PlacedPage) (before after : Taken) → checkpoint ≡ number
+    → ShowsAt contents number (placed_memory contents spaces pages) → IsLaidOut contents spaces pages (placed_memory contents spaces pages)
+    → TakesFiles before after (placed_cores wanted contents checkpoint pages spaces) → TakesCoresAt contents number wanted before after
+takes_cores_at wanted contents number checkpoint spaces pages before after is shows laid taken = record {
+  memory = placed_memory contents spaces pages;
+  shows = shows;
+  taken = subst (λ n. TakesFiles before after (cores_of wanted (n, placed_memory contents spaces pages))) is
+      (subst (TakesFiles before after) (cores_laid wanted contents checkpoint spaces pages (placed_memory contents spaces pages) laid) taken);
 }

@@ -4,3 +4,4 @@ pub mod Cores
 pub mod Pieces
 pub mod Texts
 pub mod Files
+pub mod At

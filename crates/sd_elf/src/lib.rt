@@ -23,5 +23,5 @@ pub use output::{CoreFiles, CoreOutput, HoleFile};
 pub use plan::{PageRun, areas_of, is_there, may_split_too_far, pages_outside, split_segments};
 pub use program_header::{PROGRAM_HEADER_SIZE, ProgramHeader, decode_program_header};
 pub use segments::{Extent, check_segments, is_memory};
-pub use write_core::write_shown;
+pub use write_core::{write_shown, write_shown_at};
 pub use write_error::WriteError;

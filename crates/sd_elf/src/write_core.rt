@@ -6,6 +6,7 @@ ghost use Rattle.sd_disk.specs.Reads.{OnlyReads};
 ghost use Rattle.sd_image.specs.declared.table.SpaceTable.{SpaceTable};
 ghost use Rattle.sd_image.specs.Table.{listing_of};
 ghost use Rattle.sd_restore.specs.Placed.{IsInSlots, IsWithin, placed_pages};
+ghost use Rattle.sd_elf.specs.At.{TakesCoresAt};
 ghost use Rattle.sd_elf.specs.Files.{TakesCores, TakesFiles, placed_cores};
 ghost use Rattle.sd_elf.specs.Texts.{placed_core};
 
@@ -16,7 +17,7 @@ use crate::write_error::WriteError;
 use sd_areas::AREA_LIMIT;
 use sd_disk::Disk;
 use sd_image::SpaceTable;
-use sd_restore::{PlacedMemory, page_buffer, place_newest, scan};
+use sd_restore::{PlacedMemory, page_buffer, place_at, place_newest, scan};
 use std::alloc::Global;
 use std::io;
 
@@ -126,4 +127,28 @@ pub fn write_shown<D: Disk, S: CoreFiles>(
     let placed = place_newest(alloc, &catalog)?;
     write_placed(alloc, disk, &placed, files)?;
     Ok(placed.checkpoint)
+}
+
+/// Writes the core files of the memory of a store at a checkpoint, whether it is the newest or not, behind all checks of
+/// a restore. It holds a few pages at a time.
+///
+/// # Errors
+///
+/// `Fault` where a restore of the store at the checkpoint ends with it: `EmptyChain` where the store has no image of the
+/// checkpoint. `File` where a file can't be written.
+pub fn write_shown_at<D: Disk, S: CoreFiles>(
+    alloc: Global,
+    disk: &mut D,
+    number: u64,
+    files: &mut S,
+) -> Result<(), WriteError>
+    // The store has a memory at the checkpoint, and the files that were taken are the core files of its spaces, of those
+    // that are wanted.
+    ensures cores { D.is_honest disk.new → OnOk result
+        (TakesCoresAt (D.contents disk.old) number (S.wanted files.old) (S.taken files.old) (S.taken files.new)) }
+    ensures reads { OnlyReads D.Disk disk.old disk.new }
+{
+    let catalog = scan(alloc, disk)?;
+    let placed = place_at(alloc, &catalog, number)?;
+    write_placed(alloc, disk, &placed, files)
 }

@@ -8,3 +8,4 @@ pub mod BreakLemmas
 pub mod SteadyLemmas
 mod AnswerLemmas
 mod HeldLemmas
+mod AtLemmas

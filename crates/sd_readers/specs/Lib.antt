@@ -5,3 +5,4 @@ pub mod Texts
 pub mod Printed
 pub mod Digits
 pub mod Reading
+pub mod At

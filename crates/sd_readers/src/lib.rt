@@ -1,6 +1,7 @@
 //! What a store has, printed: its memory, its images, and whether it can be restored.
 #![tactic(auto)]
 
+mod at;
 mod held;
 mod list;
 mod listing;
@@ -9,6 +10,7 @@ mod restore;
 mod steady;
 mod verify;
 
+pub use at::{ReaderAt, print_at};
 pub use held::print_held;
 pub use list::list_to;
 pub use restore::restore_to;

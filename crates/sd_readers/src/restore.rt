@@ -91,7 +91,7 @@ pub(crate) fn print_restored<D: Disk, W: Write>(
     print_placed(alloc, disk, &placed, out)
 }
 
-fn print_placed<D: Disk, W: Write>(
+pub(crate) fn print_placed<D: Disk, W: Write>(
     alloc: Global,
     disk: &mut D,
     placed: &PlacedMemory<'_>,

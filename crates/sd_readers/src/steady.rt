@@ -127,7 +127,7 @@ pub(crate) fn print_steady<D: Disk, W: Write>(
 }
 
 /// Whether nothing more can be printed.
-fn writer_failed(ended: &Result<(), Stop>) -> bool
+pub(crate) fn writer_failed(ended: &Result<(), Stop>) -> bool
     ensures { result ≡ writer_failed ended.now }
 {
     matches!(ended, Err(Stop::Writer(_)))

@@ -1,4 +1,4 @@
-use Rattle.std.proofs.Common.{◌∙◌, ◌++◌, ◌∷◌, [], refl, sym, subst, ap, arith}
+use Rattle.std.proofs.Common.{◌++◌, ◌∷◌, [], refl, sym, subst, ap, arith}
 use Rattle.std.proofs.lemmas.Bool.{false≢true}
 use Rattle.sd_image.specs.declared.header.Header.{Header}
 use Rattle.sd_chain.specs.Checkpoints.{IsCheckpointChoice}
