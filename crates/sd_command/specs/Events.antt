@@ -2,7 +2,7 @@
 use Rattle.std.specs.Prelude.{◌≡◌, ◌≢◌, ◌↔◌, ◌≤◌, ◌%◌, ℕ, true, false, length, Option, Some, None, IfSome}
 use Rattle.std.specs.FinMap as finmap
 use Rattle.sd_areas.specs.Pages.{page_of, pages_for}
-use Rattle.sd_areas.specs.Calls.{has_hole}
+use Rattle.sd_areas.specs.Calls.{has_hole, AllHave}
 use Rattle.sd_pagetable.specs.Contents.{Contents, page_at, page_count, plain_of}
 use Rattle.sd_pagetable.specs.Due.{access_due, fault_due, fork_due, frame_due, needs_frame, prots_in, store_due}
 use Rattle.sd_pagetable.specs.Effects.{after_mmap}
@@ -53,17 +53,20 @@ Chooses memory (command.Store space address bytes) answer =
 Chooses memory _ answer = Unit {0}
 
 -- Where a command takes memory, and so may find none: behind all that is tested before. An exit and a try of a store
--- take none; a load takes it for the bytes that it returns; a fault and a store for a frame that the page needs; the
--- areas of a space without pages don't grow.
+-- take none; a load takes it for the bytes that it returns; a fault and a store for a frame that the page needs; an
+-- `mmap` and an `mprotect` where some page doesn't have the permissions yet, a `munmap` where some page is mapped.
 abbrev pub TakesMemory : Contents → Command → Type 0
 TakesMemory memory (command.Mmap space address bytes prot) =
     IsRangeIn (is_alive memory.spaces space ≡ true) address bytes
     × (page_count (after_mmap (plain_of memory) space address bytes prot) ≤ 65536)
+    × (AllHave (prots_in (inside (plain_of memory) space)) (page_of address) (pages_for bytes) (Some prot) → ⊥)
 TakesMemory memory (command.Munmap space address bytes) =
-    IsRangeIn (is_alive memory.spaces space ≡ true) address bytes × (inside memory.spaces space ≢ finmap.empty)
+    IsRangeIn (is_alive memory.spaces space ≡ true) address bytes
+    × (AllHave (prots_in (inside (plain_of memory) space)) (page_of address) (pages_for bytes) None → ⊥)
 TakesMemory memory (command.Mprotect space address bytes prot) =
     IsRangeIn (is_alive memory.spaces space ≡ true) address bytes
     × (has_hole (prots_in (inside (plain_of memory) space)) (page_of address) (pages_for bytes) ≡ false)
+    × (AllHave (prots_in (inside (plain_of memory) space)) (page_of address) (pages_for bytes) (Some prot) → ⊥)
 TakesMemory memory (command.Fork space) = fork_due (plain_of memory) space ≡ None
 TakesMemory memory (command.Exit space) = ⊥
 TakesMemory memory (command.Load space address count) = access_due (plain_of memory) space address count Read ≡ None

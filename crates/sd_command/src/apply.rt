@@ -24,8 +24,8 @@ const TOO_MANY: usize = 65;
 /// # Errors
 ///
 /// Out of memory where a growth was refused: nothing changes. An exit and a try of a store take no memory, and the
-/// other commands only behind what needs none: a load that is refused takes none, nor a fault or a store of a page that
-/// is alone in its frame.
+/// other commands only after what needs none: a load that is refused takes none, nor a fault or a store of a page that
+/// is alone in its frame, nor a call over a range whose pages are all so already.
 pub fn apply_to(alloc: Global, memory: &mut Memory, command: &Command) -> Result<Reply, AllocError>
     // The reply is legal in the plain memory, and what that leaves open is as the frames and writable bits have it.
     ensures legal { IfOk result (IsLegalReply (plain_of memory.old) false command.now) }
