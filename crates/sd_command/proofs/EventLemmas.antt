@@ -1,11 +1,9 @@
 -- The event of a command and its reply, and the command's effect.
-use Rattle.std.proofs.Common.{◌≡◌, refl, arith}
+use Rattle.std.proofs.Common.{◌≡◌, arith}
 use Rattle.sd_areas.specs.PlainMemory.{PlainMemory}
 use Rattle.sd_pagetable.specs.EventEffects.{after_event}
 use Rattle.sd_command.specs.declared.command.Command.{Command}
-use Rattle.sd_command.specs.declared.command.Command.TheVariants.{Mmap, Munmap, Mprotect, Fork, Exit, TryStore, Fault, Store}
 use Rattle.sd_command.specs.declared.reply.Reply.{Reply}
-use Rattle.sd_command.specs.declared.reply.Reply.TheVariants.{Done, Child}
 use Rattle.sd_command.specs.Events.{event_of}
 use Rattle.sd_command.specs.Replies.{effect}
 

@@ -1,6 +1,5 @@
 -- The page table's event of a command and its reply, and what the frames and the writable bits decide of the reply.
 use Rattle.std.specs.Prelude.{◌≡◌, ◌≢◌, ◌↔◌, ◌≤◌, ◌%◌, ℕ, true, false, length, Option, Some, None, IfSome}
-use Rattle.std.specs.FinMap as finmap
 use Rattle.sd_areas.specs.Pages.{page_of, pages_for}
 use Rattle.sd_areas.specs.Calls.{has_hole, AllHave}
 use Rattle.sd_pagetable.specs.Contents.{Contents, page_at, page_count, plain_of}
