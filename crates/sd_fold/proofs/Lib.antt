@@ -1,5 +1,6 @@
 pub mod AddedLemmas
 pub mod CopyLemmas
+pub mod EffectiveLemmas
 pub mod LegalLemmas
 pub mod OverLemmas
 pub mod OverlayLemmas

@@ -1,2 +1,3 @@
 pub mod Overlay
 pub mod Room
+pub mod Effective

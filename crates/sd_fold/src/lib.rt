@@ -4,6 +4,7 @@
 mod added;
 mod changes;
 mod copying;
+mod effective;
 mod effects;
 mod folding;
 mod overlay;
