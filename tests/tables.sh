@@ -218,7 +218,7 @@ sparse_tables_are_read_front_by_front() {
   make_sparse 1 first && sparse_is_told 13
 }
 
-# Runs of pages of zeros through three fronts, or in a build with checks through one. The next front has an item of zeros.
+# Runs of pages of zeros through three fronts, or in a build with checks through one. The next one has an item of zeros.
 sparse_tables_may_go_on_for_fronts() {
   needs_python || return
   local runs=400000

@@ -1,5 +1,5 @@
-ghost use Rattle.std.specs.Prelude.{◌≡◌, ◌≢◌, ◌==◌, ◌%◌, ◌≤◌, [], IsTrue, IsFalse, length, None, Some, Ok, Err, IfOk, IfErr};
-ghost use Rattle.std.specs.Prelude.{OnOk, OnErr};
+ghost use Rattle.std.specs.Prelude.{◌≡◌, ◌≢◌, ◌==◌, ◌%◌, ◌≤◌, [], IsTrue, IsFalse, length, None, Some, Ok, Err};
+ghost use Rattle.std.specs.Prelude.{IfOk, IfErr, OnOk, OnErr};
 ghost use Rattle.std.specs.FinMap as finmap;
 ghost use Rattle.sd_areas.specs.Pages.{is_invalid, is_outside, page_of, pages_for};
 

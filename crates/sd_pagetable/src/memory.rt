@@ -121,7 +121,8 @@ impl Memory {
     /// In this order: no-such-space; EINVAL for a length of 0 or an address that is no multiple of
     /// 4,096; ENOMEM for a range that ends past 2^47, and where there would be over 1,024 areas in
     /// the space or over 65,536 pages. Out of memory where a growth was refused, only after all of these but the
-    /// number of areas, and only where a page of the range doesn't have these permissions yet. An error changes nothing.
+    /// number of areas, and only where a page of the range doesn't have these permissions yet. An error changes
+    /// nothing.
     pub fn mmap(
         &mut self,
         space: SpaceId,

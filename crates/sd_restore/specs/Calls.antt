@@ -1,5 +1,6 @@
 -- How many calls of the device a store is read with.
-use Rattle.std.specs.Prelude.{ℕ, ◌+◌, ◌≤◌, nat_le, nat_lt, if◌then◌else◌, List, Result, Ok, Err, length, slice_range, sum_by}
+use Rattle.std.specs.Prelude.{ℕ, ◌+◌, ◌≤◌, nat_le, nat_lt, if◌then◌else◌, List, Result, Ok, Err, length, slice_range}
+use Rattle.std.specs.Prelude.{sum_by}
 use Rattle.sd_image.specs.declared.header.Header.{Header}
 use Rattle.sd_image.specs.declared.header.Version.{Version}
 use Rattle.sd_image.specs.declared.header.Version.TheVariants.{One, Two}
