@@ -1,5 +1,6 @@
 -- Bytes in bulk: stores side by side.
-use Rattle.std.specs.Prelude.{◌≡◌, ◌≢◌, ◌≤◌, ◌+◌, ◌^◌, ◌%◌, ℕ, List, [], ◌∷◌, ◌++◌, length, map, Option, Some, None, Result, Ok, Err}
+use Rattle.std.specs.Prelude.{◌≡◌, ◌≢◌, ◌≤◌, ◌+◌, ◌^◌, ◌%◌, ℕ, List, [], ◌∷◌, ◌++◌, length, map, Option, Some, None}
+use Rattle.std.specs.Prelude.{Result, Ok, Err}
 use Rattle.std.specs.List.{concat}
 use Rattle.sd_command.specs.declared.command.Command.TheVariants as command
 use Rattle.sd_command.specs.declared.reply.Reply.{Reply}
@@ -34,12 +35,14 @@ dones pieces = map (λ piece. answer.Reply reply.Done) pieces
 
 -- The first pieces of bytes were stored, each of which was done. Where all were, nothing is left; else the store of
 -- the next one was answered something else, at the address that is told.
-pub data Puts {E : Type 0} (Answers : List Line → List Answer → Type 0) (space address : ℕ) (bytes : List ℕ) : Result (Option Halt) E → Type 0 where
+pub data Puts {E : Type 0} (Answers : List Line → List Answer → Type 0) (space address : ℕ) (bytes : List ℕ) : Result
+    (Option Halt) E → Type 0 where
   stored : (pieces : List (List ℕ)) → bytes ≡ concat pieces → Answers (stores_of space address pieces) (dones pieces)
       → Puts Answers space address bytes (Ok None)
   stopped : (halt : Halt) (pieces : List (List ℕ)) (piece rest : List ℕ) → bytes ≡ concat pieces ++ (piece ++ rest)
       → halt.address ≡ behind_all address pieces → halt.reply ≢ reply.Done
-      → Answers (stores_of space address pieces ++ store_of space halt.address piece ∷ []) (dones pieces ++ answer.Reply halt.reply ∷ [])
+      → Answers (stores_of space address pieces ++ store_of space halt.address piece ∷ [])
+      (dones pieces ++ answer.Reply halt.reply ∷ [])
       → Puts Answers space address bytes (Ok (Some halt))
   no_room : (why : E) (pieces : List (List ℕ)) (rest : List ℕ) → bytes ≡ concat pieces ++ rest
       → Answers (stores_of space address pieces) (dones pieces) → Puts Answers space address bytes (Err why)
