@@ -12,6 +12,7 @@ moment, it goes on from the last of these, or from the one that was being writte
 import sys
 from pathlib import Path
 
+sys.dont_write_bytecode = True
 sys.path.insert(0, str(Path(__file__).resolve().parent.parent / "clients" / "python"))
 import devontsira  # noqa: E402
 

@@ -2,7 +2,8 @@
 
 python_client() {
   needs_python || return
-  CKPT=$ckpt python3 -W error -m unittest discover -s "$here/../clients/python/tests" > out 2>&1 || { cat out; return 1; }
+  CKPT=$ckpt python3 -B -W error -m unittest discover -s "$here/../clients/python/tests" > out 2>&1 \
+    || { cat out; return 1; }
   has "the tests" "$(cat out)" "OK"
 }
 
@@ -10,7 +11,8 @@ python_client() {
 python_client_is_typed() {
   needs_python || return
   python3 -m mypy --version > out 2>&1 || { echo "needs mypy"; return 77; }
-  python3 -m mypy --strict --cache-dir=/dev/null "$here/../clients/python/devontsira" > out 2>&1 || { cat out; return 1; }
+  python3 -m mypy --strict --cache-dir=/dev/null "$here/../clients/python/devontsira" > out 2>&1 \
+    || { cat out; return 1; }
 }
 
 # Each program of Python here fits the oldest version that the client is for.

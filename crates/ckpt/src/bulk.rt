@@ -95,14 +95,6 @@ pub fn parse_bulk(alloc: Global, line: &[u8]) -> Result<Option<BulkLine>, AllocE
     }))
 }
 
-impl Bulk {
-    /// How many of its bytes have addresses below 2^64. Where that are not all, the first store or load is refused.
-    pub fn length_below_end(self) -> u64 {
-        let behind_first = u64::MAX - self.place.address;
-        self.length.min(behind_first.saturating_add(1))
-    }
-}
-
 /// The line of the language that a line of a shell is explained by: a `load` in place of a `put` or a `get`.
 pub fn explained_by(alloc: Global, line: &[u8]) -> Result<Vec<u8>, AllocError> {
     match split_word(line) {

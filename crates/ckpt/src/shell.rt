@@ -283,22 +283,15 @@ fn answer_bulk<D: Disk, I: Read, W: Write>(
         return Ok(());
     }
     let alloc = asked.rt.alloc();
-    let used = bulk.length_below_end() as usize;
     if bulk.way == Way::Get {
-        return answer_get(alloc, world, bulk.place, used, out);
+        return answer_get(alloc, world, bulk.place, length, out);
     }
     let bytes = wait_for_bytes(asked, requests, length, out)?;
     if bytes.len() < length {
         writeln!(out, "cut-off {}", bytes.len())?;
         return Ok(());
     }
-    answer_put(
-        alloc,
-        world,
-        bulk.place,
-        bytes.get(..used).unwrap_or(&[]),
-        out,
-    )
+    answer_put(alloc, world, bulk.place, bytes, out)
 }
 
 /// Takes so many bytes of the input, once they came; fewer where it ends before.

@@ -1,3 +1,4 @@
+mod BulkLemmas
 mod EndLemmas
 mod LineLemmas
 mod MergingLemmas

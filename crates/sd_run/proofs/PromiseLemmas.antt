@@ -165,7 +165,7 @@ module _ {D : Type 0} (g : Ghosts D) (follow : PointsFollow g) where
       line_honest l first answered.0 a answered.1 (lines_honest answered.0 last lines answers answered.2 honest)
   lines_honest first last _ _ answered honest = absurd answered
 
-  lines_reach : (first last : WorldView D) (lines : List Line) (answers : List Answer) → AnswersLines g first lines answers last → g.is_honest last.disk
+  pub lines_reach : (first last : WorldView D) (lines : List Line) (answers : List Answer) → AnswersLines g first lines answers last → g.is_honest last.disk
       → Reaches first last (λ from to. GoesByLines g from lines answers to)
   lines_reach first last [] [] answered honest from stands = (from, subst (λ (w : WorldView D). StandsAt w from) (sym answered) stands, refl)
   lines_reach first last (l ∷ lines) (a ∷ answers) answered honest from stands =

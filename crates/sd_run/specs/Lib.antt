@@ -1,3 +1,4 @@
+pub mod Bulk
 pub mod Ending
 pub mod Lines
 pub mod Merging

@@ -1,0 +1,88 @@
+-- Stores side by side, and one more.
+use Rattle.std.proofs.Common.{◌≡◌, ◌+◌, ◌^◌, ◌%◌, ◌∙◌, ℕ, List, [], ◌∷◌, ◌++◌, length, map, refl, sym, ap, append_assoc, append-nil, Option, Some, None, Result, Ok, Err, subst, arith}
+use Rattle.std.specs.List.{concat}
+use Rattle.std.specs.Result.{IsErr}
+use Rattle.sd_run.specs.Bulk.{Puts, behind, behind_all, dones, store_of, stores_of}
+use Rattle.sd_run.specs.declared.bulk.Halt.{Halt}
+use Rattle.sd_script.specs.declared.line.Line.{Line}
+use Rattle.sd_script.specs.declared.answer.Answer.{Answer}
+use Rattle.sd_script.specs.declared.answer.Answer.TheVariants as answer
+use Rattle.sd_command.specs.declared.reply.Reply.TheVariants as reply
+use Rattle.sd_command.specs.declared.reply.Reply.{Reply}
+use Rattle.sd_disk.specs.declared.disk.Disk.{Ghosts}
+use Rattle.sd_world.specs.View.{WorldView}
+use Rattle.sd_run.specs.Lines.{AnswersLine, AnswersLines}
+use Rattle.sd_world.specs.Points.{PointsFollow, StandsAt}
+use Rattle.sd_world.specs.Promise.{Point}
+use Rattle.sd_run.specs.Promise.{GoesByLines}
+use Rattle.sd_run.proofs.LineLemmas.{answers_more}
+use Rattle.sd_run.proofs.PromiseLemmas.{lines_reach}
+
+pub stores_more : (space address : ℕ) (pieces : List (List ℕ)) (piece : List ℕ)
+    → stores_of space address (pieces ++ piece ∷ []) ≡ stores_of space address pieces ++ store_of space (behind_all address pieces) piece ∷ []
+stores_more space address [] piece = refl
+stores_more space address (p ∷ ps) piece = ap (λ rest. store_of space address p ∷ rest) (stores_more space (behind address p) ps piece)
+
+pub behind_more : (address : ℕ) (pieces : List (List ℕ)) (piece : List ℕ)
+    → behind_all address (pieces ++ piece ∷ []) ≡ behind (behind_all address pieces) piece
+behind_more address [] piece = refl
+behind_more address (p ∷ ps) piece = behind_more (behind address p) ps piece
+
+pub dones_more : (pieces : List (List ℕ)) (piece : List ℕ) → dones (pieces ++ piece ∷ []) ≡ dones pieces ++ answer.Reply reply.Done ∷ []
+dones_more [] piece = refl
+dones_more (p ∷ ps) piece = ap (λ rest. answer.Reply reply.Done ∷ rest) (dones_more ps piece)
+
+pub concat_more : (pieces : List (List ℕ)) (piece : List ℕ) → concat pieces ++ piece ≡ concat (pieces ++ piece ∷ [])
+concat_more [] piece = sym (append-nil piece)
+concat_more (p ∷ ps) piece = append_assoc p (concat ps) piece ∙ ap (λ behind. p ++ behind) (concat_more ps piece)
+
+pub parts_more : (bytes rest others : List ℕ) (pieces : List (List ℕ)) (piece : List ℕ) → bytes ≡ concat pieces ++ rest → rest ≡ piece ++ others
+    → bytes ≡ concat (pieces ++ piece ∷ []) ++ others
+parts_more bytes rest others pieces piece is split =
+    is ∙ ap (λ x. concat pieces ++ x) split ∙ sym (append_assoc (concat pieces) piece others) ∙ ap (λ front. front ++ others) (concat_more pieces piece)
+
+pub no_room_for : {E : Type 0} (Answers : List Line → List Answer → Type 0) (space address : ℕ) (bytes : List ℕ) (result : Result (Option Halt) E)
+    → IsErr result → (pieces : List (List ℕ)) (rest : List ℕ) → bytes ≡ concat pieces ++ rest → Answers (stores_of space address pieces) (dones pieces)
+    → Puts Answers space address bytes result
+no_room_for Answers space address bytes (Err why) is pieces rest parts answered = Puts.no_room why pieces rest parts answered
+no_room_for Answers space address bytes (Ok ended) is pieces rest parts answered = grind arith
+
+module _ {D : Type 0} (g : Ghosts D) where
+  -- one store more, with its answer
+  pub store_more : (first mid last : WorldView D) (space start address : ℕ) (pieces : List (List ℕ)) (piece bytes : List ℕ) (given : Reply)
+      → AnswersLines g first (stores_of space start pieces) (dones pieces) mid → AnswersLine g (store_of space address bytes) mid (answer.Reply given) last
+      → bytes ≡ piece
+      → AnswersLines g first (stores_of space start pieces ++ store_of space address piece ∷ []) (dones pieces ++ answer.Reply given ∷ []) last
+  store_more first mid last space start address pieces piece bytes given answered one is =
+      answers_more g first mid last (stores_of space start pieces) (dones pieces) (store_of space address piece) (answer.Reply given) answered
+      (subst (λ b. AnswersLine g (store_of space address b) mid (answer.Reply given) last) is one)
+
+  -- one that was done
+  pub done_more : (first mid last : WorldView D) (space start address : ℕ) (pieces : List (List ℕ)) (piece bytes : List ℕ) (given : Reply)
+      → AnswersLines g first (stores_of space start pieces) (dones pieces) mid → AnswersLine g (store_of space address bytes) mid (answer.Reply given) last
+      → bytes ≡ piece → address ≡ behind_all start pieces → given ≡ reply.Done
+      → AnswersLines g first (stores_of space start (pieces ++ piece ∷ [])) (dones (pieces ++ piece ∷ [])) last
+  done_more first mid last space start address pieces piece bytes given answered one is there done =
+      subst (λ lines. AnswersLines g first lines (dones (pieces ++ piece ∷ [])) last) (sym (stores_more space start pieces piece))
+      (subst (λ answers. AnswersLines g first (stores_of space start pieces ++ store_of space (behind_all start pieces) piece ∷ []) answers last)
+      (sym (dones_more pieces piece))
+      (subst (λ r. AnswersLines g first (stores_of space start pieces ++ store_of space (behind_all start pieces) piece ∷ []) (dones pieces ++ answer.Reply r ∷ []) last) done
+      (subst (λ a. AnswersLines g first (stores_of space start pieces ++ store_of space a piece ∷ []) (dones pieces ++ answer.Reply given ∷ []) last) there
+      (store_more first mid last space start address pieces piece bytes given answered one is))))
+
+-- from the worlds of these stores to points at which they stand
+module _ {D : Type 0} (g : Ghosts D) (follow : PointsFollow g) where
+  pub puts_reach : {E : Type 0} (first last : WorldView D) (space address : ℕ) (bytes : List ℕ) (result : Result (Option Halt) E)
+      → Puts (λ lines answers. AnswersLines g first lines answers last) space address bytes result → g.is_honest last.disk
+      → (from : Point D) → StandsAt first from
+      → (to : Point D) × StandsAt last to × Puts (λ lines answers. GoesByLines g from lines answers to) space address bytes result
+  puts_reach first last space address bytes (Ok None) (Puts.stored pieces parts answered) honest from stands =
+      let all = lines_reach g follow first last (stores_of space address pieces) (dones pieces) answered honest from stands in
+      (all.0, all.1, Puts.stored pieces parts all.2)
+  puts_reach first last space address bytes (Ok (Some halt)) (Puts.stopped same pieces piece rest parts there other answered) honest from stands =
+      let all = lines_reach g follow first last (stores_of space address pieces ++ store_of space halt.address piece ∷ [])
+      (dones pieces ++ answer.Reply halt.reply ∷ []) answered honest from stands in
+      (all.0, all.1, Puts.stopped halt pieces piece rest parts there other all.2)
+  puts_reach first last space address bytes (Err why) (Puts.no_room same pieces rest parts answered) honest from stands =
+      let all = lines_reach g follow first last (stores_of space address pieces) (dones pieces) answered honest from stands in
+      (all.0, all.1, Puts.no_room why pieces rest parts all.2)
