@@ -12,8 +12,9 @@ use crate::restore::print_placed;
 use crate::steady::{fronts, writer_failed};
 use sd_disk::Disk;
 use sd_exit::{Output, Stop};
-use sd_restore::{Fault, place_at, scan};
+use sd_restore::{Fault, Report, place_at, scan};
 use std::alloc::Global;
+use std::io;
 use std::io::Write;
 
 /// A program that reads one checkpoint of a store.
@@ -122,5 +123,17 @@ pub fn print_at<D: Disk, W: Write>(
         ended
     } else {
         Err(Stop::Fault(Fault::Device))
+    }
+}
+
+/// Prints the line of `verify` for a store in order.
+///
+/// # Errors
+///
+/// What the writer refuses.
+pub fn print_verdict<W: Write>(report: Report, out: &mut Output<W>) -> io::Result<()> {
+    match report.checkpoint {
+        Some(checkpoint) => writeln!(out, "ok checkpoint {checkpoint} images {}", report.images),
+        None => writeln!(out, "ok empty"),
     }
 }
