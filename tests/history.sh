@@ -1,9 +1,10 @@
 # Going back in time: a checkpoint that isn't the newest is restored, exported and verified, and `history` prints which
 # there are. What an older checkpoint has is taken from a copy of the store in which the later images are closed.
 
-# A store of four checkpoints in one page, of which the second has a second page.
+# A store of four checkpoints: a page that each but the last changes, one that the first alone has as data, and one that
+# the second alone maps.
 make_past() {  # make_past DIR
-  printf '%s\n' 'mmap 1 0x10000 4096 rw' 'store 1 0x10000 61' 'checkpoint 0' \
+  printf '%s\n' 'mmap 1 0x10000 4096 rw' 'store 1 0x10000 61' 'mmap 1 0x30000 4096 rw' 'store 1 0x30000 64' 'checkpoint 0' \
     'mmap 1 0x20000 4096 r' 'store 1 0x10000 62' 'checkpoint 0' \
     'munmap 1 0x20000 4096' 'store 1 0x10020 63' 'checkpoint 0' 'checkpoint 0' > script
   "$ckpt" run "$1" script > made || { cat made; return 1; }
@@ -73,21 +74,33 @@ history_has_what_can_be_restored() {
   "$ckpt" history store > past || return 1
   same "the numbers" "$(cut -d' ' -f2 past | tr '\n' ' ')" "4 3 2 1 " || return 1
   same "the newest" "$(grep -c newest past)" 1 || return 1
-  has "the newest line" "$(head -n 1 past)" "checkpoint 4 slot $(slot_of store 4) serial 4 images 4 pages 1 own " || return 1
-  has "the second" "$(sed -n 3p past)" " images 2 pages 2 " || return 1
+  has "the newest line" "$(head -n 1 past)" "checkpoint 4 slot $(slot_of store 4) serial 4 images 4 pages 2 own " || return 1
+  has "the second" "$(sed -n 3p past)" " images 2 pages 3 " || return 1
   "$ckpt" merge store > merged || return 1
   same "behind a merge" "$("$ckpt" history store | cut -d' ' -f1,2)" "checkpoint 4" || return 1
   mkdir empty
   same "an empty store" "$("$ckpt" history empty 2> err)" ""
 }
 
-# A checkpoint whose chain is broken isn't there, and what only it had needed isn't needed.
+# A checkpoint whose own image is closed isn't there, and none is that needs a page of a closed one.
 history_leaves_out_what_is_broken() {
   make_past store || return 1
-  printf '\0' > "store/img-$(slot_of store 2)"
+  cp -r store cut
+  printf '\0' > "cut/img-$(slot_of store 2)"
+  "$ckpt" history cut > past || return 1
+  same "the numbers without an image" "$(numbers_in past)" "1 " || return 1
+  same "what verify finds of it" "$(restorable cut)" "1 " || return 1
+  ends_with 3 "no checkpoint 2" "ckpt: cut: it has the checkpoints 1" "$ckpt" restore --checkpoint 2 cut || return 1
+  printf '\0' > "store/img-$(slot_of store 1)"
   "$ckpt" history store > past || return 1
-  same "the numbers" "$(sed -n 's/^checkpoint \([0-9]*\) .*/\1/p' past | tr '\n' ' ')" "$(restorable store)" || return 1
-  ends_with 1 "$("$ckpt" verify store 2> err)" "$(cat err)" "$ckpt" verify store
+  same "the numbers behind a broken chain" "$(numbers_in past)" "" || return 1
+  same "what verify finds there" "$(restorable store)" "" || return 1
+  same "what isn't needed" "$(grep -c '^unneeded slot ... dump serial' past)" 3
+}
+
+# The numbers of the checkpoints that a history has.
+numbers_in() {  # numbers_in FILE
+  sed -n 's/^checkpoint \([0-9]*\) .*/\1/p' "$1" | tr '\n' ' '
 }
 
 # The numbers of the checkpoints at which `verify` finds a memory, newest first.
