@@ -60,10 +60,10 @@ def page_bytes(chance):
 
 
 def segments(chance):
-    """Some segments, rising: flags, address, size in memory, bytes in the file."""
+    """One segment or more, rising: flags, address, size in memory, bytes in the file."""
     address = chance.randrange(1, 1 << 20) * PAGE
     found = []
-    for _ in range(chance.randrange(0, 7)):
+    for _ in range(chance.randrange(1, 8)):
         if chance.randrange(2):
             address += chance.randrange(1, 40) * PAGE
         count = chance.randrange(1, 5)

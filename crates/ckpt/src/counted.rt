@@ -14,7 +14,7 @@ use sd_run::{Watch, merge_to};
 use sd_script::Script;
 use sd_stats::{Gated, Metered, Metering};
 use std::alloc::Global;
-use std::io::{Input, Write};
+use std::io::Write;
 
 /// What a program does over a store, with a watch over its jobs.
 pub trait Job {
@@ -89,7 +89,7 @@ impl Job for ShellJob<'_, '_, '_> {
         out: &mut Output<W>,
         watch: &mut S,
     ) -> (D, u8) {
-        let (disk, ended) = run_shell(self.asked, disk, rt.reader(), out, watch);
+        let (disk, ended) = run_shell(self.asked, disk, rt.stdin(), out, watch);
         (disk, exit(&ended, out))
     }
 }

@@ -30,10 +30,17 @@ Only one of run, shell, merge, mutate and import can have a store open at a time
 pub const SHELL: &str = "Example:
   printf 'mmap 1 0x10000 4096 rw\\ncheckpoint 0\\n' | ckpt shell store
 
-Answers the lines of the standard input, which are those of a script, one by one: each answer is
-written before the next line is read. A line that doesn't fit the language is answered with
-script line N and changes nothing. It ends with the input, or with the line quit. Where input and
-output are a terminal it asks for each line, and tells what is wrong with one.
+Answers the lines of the standard input, which are those of a script, one by one; all answers are
+written before it waits for more. A line that doesn't fit the language is answered with script
+line N and changes nothing; what is wrong with it is told on standard error. It ends with the
+input, or with the line quit. Where input and output are a terminal it asks for each line, and
+help lists the requests. Beside the lines of scripts it takes
+
+  put SPACE ADDRESS LENGTH   and LENGTH raw bytes behind the line, 1 to 1,048,576: stores them
+  get SPACE ADDRESS LENGTH   answers bytes LENGTH, a newline and the raw bytes
+
+as stores and loads of at most 64 bytes; the first that is refused ends it, and its address
+stands in the answer. Behind a device call that failed, reopen opens the store again.
 
 Status: 0 at the end of the input, also where requests were refused; 1 where the store, its
 device, memory, the input or the printing failed (damaged SSS WHY, device, out-of-memory,

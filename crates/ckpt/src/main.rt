@@ -28,6 +28,7 @@ use sd_script::Script;
 use shell::{Asked, Asking};
 use stats::{counts_asked, counts_seen};
 use std::alloc::Global;
+use std::cell::Cell;
 use std::fs::File;
 use std::io;
 use std::io::{BufWriter, Input, IsTerminal, Lock, Write};
@@ -40,11 +41,13 @@ use verbose::{is_watched, logger_for, seen_by};
 
 mod arguments;
 mod beside;
+mod bulk;
 mod cause;
 mod command_line;
 mod counted;
 mod course;
 mod ends;
+mod explained;
 mod export;
 mod folders;
 mod help;
@@ -55,6 +58,7 @@ mod mutating;
 mod past;
 mod progress;
 mod reading;
+mod requests;
 mod scripts;
 mod shell;
 mod show;
@@ -183,11 +187,13 @@ fn shell_program<R: Clock + Wait, W: Write>(
     course: &Course<'_>,
     out: &mut Output<W>,
 ) -> Result<u8, Stop> {
+    let failed = Cell::new(None);
     let asked = Asked {
         rt,
         causes: causes_asked(words),
         folder: words.get_str("DIR").unwrap_or(""),
         gates: course.gates(),
+        failed: &failed,
         asking: asking_of(rt.stdin().is_terminal() && rt.stdout().is_terminal()),
     };
     do_seen(rt, threads, words, course, ShellJob { asked }, out)

@@ -1,21 +1,30 @@
-//! `ckpt shell`: requests from the standard input, one by one, each answered before the next one is read.
+//! `ckpt shell`: requests from the standard input, one by one. What is answered is printed before the shell waits for
+//! more of its input.
 
+use crate::bulk::{Bulk, BulkLine, MOST_BYTES, Way, answer_get, answer_put, parse_bulk};
 use crate::cause::Causes;
 use crate::ends::{FewSlots, tell_few_slots, wanted_slots};
+use crate::explained::{print_requests, refuse_line, tell_rounds};
+use crate::requests::{Brought, Requests};
 use crate::scripts::{STANDARD_INPUT, unread};
 use sd_command::{Refusal, Reply};
 use sd_disk::Disk;
 use sd_exit::{Output, Stop};
+use sd_gate::Worker;
 use sd_restore::Fault;
 use sd_run::{FRAMES, Watch, run_line, unopened};
-use sd_script::{Answer, Line, Script, ScriptError, blame_line};
+use sd_script::{Answer, Line, Script, ScriptError};
 use sd_stats::{Gated, Gates};
 use sd_world::{OpenError, World};
+use std::cell::Cell;
 use std::io;
-use std::io::{BufRead, Write};
+use std::io::{Read, Write};
 
 /// The line that ends a shell before its input does.
 const QUIT: &[u8] = b"quit";
+
+/// The line that lists the requests, on a terminal.
+const HELP: &[u8] = b"help";
 
 /// What stands before each request, on a terminal.
 const PROMPT: &str = "> ";
@@ -36,6 +45,8 @@ pub struct Asked<'r, 'f, 'g> {
     pub folder: &'f str,
     pub gates: &'g Gates,
     pub asking: Asking,
+    /// The worker whose device call failed, until the store is opened again.
+    pub failed: &'g Cell<Option<Worker>>,
 }
 
 impl Asked<'_, '_, '_> {
@@ -48,11 +59,11 @@ impl Asked<'_, '_, '_> {
     }
 }
 
-/// Runs requests over a store: it is opened, and opened again, whose reply is printed; then each line of the input is
-/// answered, and its answer flushed, up to the end of the input or the line `quit`. A line that doesn't fit the
-/// language is answered with `script line N` and changes nothing. Returns the disk, and why the shell ended early, if
-/// it did.
-pub fn run_shell<D: Disk, I: BufRead + Drop, W: Write, S: Watch>(
+/// Runs requests over a store: it is opened, and opened again, whose reply is printed; then the lines of the input are
+/// answered, up to its end or the line `quit`. A line that doesn't fit is answered with `script line N` and changes
+/// nothing. An acknowledged checkpoint, a merge and a reopening are printed at once, and all answers before the shell
+/// waits for its input. Returns the disk, and why the shell ended early, if it did.
+pub fn run_shell<D: Disk, I: Read + Drop, W: Write, S: Watch>(
     asked: Asked<'_, '_, '_>,
     disk: D,
     input: I,
@@ -62,7 +73,8 @@ pub fn run_shell<D: Disk, I: BufRead + Drop, W: Write, S: Watch>(
     let gated = Gated::new(asked.gates, disk);
     match World::open(asked.rt.alloc(), gated, FRAMES) {
         Ok(mut world) => {
-            let ended = answer_all(asked, &mut world, input, out, watch);
+            let mut requests = Requests::new(asked.rt.alloc(), input);
+            let ended = answer_all(asked, &mut world, &mut requests, out, watch);
             let (_, disk) = world.close().into_parts();
             (disk, ended)
         }
@@ -74,34 +86,84 @@ pub fn run_shell<D: Disk, I: BufRead + Drop, W: Write, S: Watch>(
 }
 
 /// Opens the store again, and answers the lines of the input.
-fn answer_all<D: Disk, I: BufRead + Drop, W: Write, S: Watch>(
+fn answer_all<D: Disk, I: Read, W: Write, S: Watch>(
     asked: Asked<'_, '_, '_>,
     world: &mut World<D>,
-    input: I,
+    requests: &mut Requests<I>,
     out: &mut Output<W>,
     watch: &mut S,
 ) -> Result<(), Stop> {
     run_line(asked.rt.alloc(), world, Line::Reopen, out, watch)?;
     prompt(asked.asking, out)?;
-    let mut number = 0usize;
-    for line in input.split(asked.rt.alloc(), b'\n') {
-        let line = match line {
-            Ok(line) => line,
-            Err(error) => return Err(unread(asked.rt, asked.causes, STANDARD_INPUT, &error)),
+    for number in 1..usize::MAX {
+        let Some(length) = wait_for_line(asked, requests, out)? else {
+            return end_prompt(asked.asking, out);
         };
-        if line.as_slice() == QUIT {
+        let line = requests.take_line(length);
+        if line == QUIT {
             return Ok(());
         }
-        number = number.saturating_add(1);
-        answer(asked, world, &line, number, out, watch)?;
+        if let Some(bulk) = answer(asked, world, line, number, out, watch)? {
+            answer_bulk(asked, world, bulk, requests, out)?;
+        }
         prompt(asked.asking, out)?;
     }
-    end_prompt(asked.asking, out)?;
     Ok(())
 }
 
-/// Answers the request of a line, if it has one.
+/// How long the next line is, once all of it came; none at the end of the input.
+fn wait_for_line<I: Read, W: Write>(
+    asked: Asked<'_, '_, '_>,
+    requests: &mut Requests<I>,
+    out: &mut Output<W>,
+) -> Result<Option<usize>, Stop> {
+    for _ in 0..u64::MAX {
+        if let Some(length) = requests.line_length() {
+            return Ok(Some(length));
+        }
+        if wait(asked, requests, out)? == Brought::End {
+            return Ok(requests.line_length());
+        }
+    }
+    Ok(None)
+}
+
+/// Prints what is held of the answers, and waits for more of the input.
+fn wait<I: Read, W: Write>(
+    asked: Asked<'_, '_, '_>,
+    requests: &mut Requests<I>,
+    out: &mut Output<W>,
+) -> Result<Brought, Stop> {
+    out.flush()?;
+    match requests.wait() {
+        Ok(brought) => Ok(brought),
+        Err(error) => Err(unread(asked.rt, asked.causes, STANDARD_INPUT, &error)),
+    }
+}
+
+/// Answers the request of a line, if it has one. One for bytes in bulk is returned.
 fn answer<D: Disk, W: Write, S: Watch>(
+    asked: Asked<'_, '_, '_>,
+    world: &mut World<D>,
+    line: &[u8],
+    number: usize,
+    out: &mut Output<W>,
+    watch: &mut S,
+) -> Result<Option<Bulk>, Stop> {
+    if line == HELP && asked.asking == Asking::Prompts {
+        print_requests(out)?;
+        return Ok(None);
+    }
+    match parse_bulk(asked.rt.alloc(), line)? {
+        Some(BulkLine::Fits(bulk)) => return Ok(Some(bulk)),
+        Some(BulkLine::Unfit) => refuse_line(asked, line, number, out)?,
+        None => answer_line(asked, world, line, number, out, watch)?,
+    }
+    Ok(None)
+}
+
+/// Answers the request of a line of the language, if it has one.
+fn answer_line<D: Disk, W: Write, S: Watch>(
     asked: Asked<'_, '_, '_>,
     world: &mut World<D>,
     line: &[u8],
@@ -112,29 +174,162 @@ fn answer<D: Disk, W: Write, S: Watch>(
     match Script::parse(asked.rt.alloc(), line) {
         Ok(script) => {
             for request in script.lines {
-                let wanted = wanted_slots(&request);
-                let given = run_line(asked.rt.alloc(), world, request, out, watch)?;
-                asked.tell_answer(wanted, &given);
+                answer_request(asked, world, request, out, watch)?;
             }
             Ok(())
         }
-        Err(ScriptError::Line(_)) => refuse(asked, line, number, out),
+        Err(ScriptError::Line(_)) => refuse_line(asked, line, number, out),
         Err(ScriptError::OutOfMemory) => Err(Stop::Fault(Fault::OutOfMemory)),
     }
 }
 
-/// Tells that a line doesn't fit the language, and on a terminal what is wrong with it.
-fn refuse<W: Write>(
+/// Answers a request of the language. Before a store is opened again whose device failed, the outcomes of the device
+/// calls that are out are handed in.
+fn answer_request<D: Disk, W: Write, S: Watch>(
     asked: Asked<'_, '_, '_>,
-    line: &[u8],
-    number: usize,
+    world: &mut World<D>,
+    request: Line,
+    out: &mut Output<W>,
+    watch: &mut S,
+) -> Result<(), Stop> {
+    let wanted = wanted_slots(&request);
+    let rounds = rounds_of(&request);
+    let worker = worker_of(&request);
+    if let (Line::Reopen, Some(failed)) = (&request, asked.failed.get()) {
+        hand_in_all(asked, world, failed, watch)?;
+    }
+    let given = run_line(asked.rt.alloc(), world, request, out, watch)?;
+    asked.tell_answer(wanted, &given);
+    match (&given, rounds) {
+        (Answer::Reply(Reply::Refused(Refusal::Device)), _) => asked.failed.set(worker),
+        (Answer::Reply(Reply::Reopened(_)), _) => asked.failed.set(None),
+        (Answer::Reply(Reply::Refused(Refusal::Einval)), Some(rounds)) => tell_rounds(
+            asked, rounds,
+        ),
+        _ => {}
+    }
+    Ok(())
+}
+
+/// How many rounds a request asks for, if it begins a checkpoint.
+fn rounds_of(request: &Line) -> Option<u64> {
+    match request {
+        Line::Begin(rounds) | Line::Checkpoint(rounds) => Some(*rounds),
+        _ => None,
+    }
+}
+
+/// The worker whose device calls a request may make.
+fn worker_of(request: &Line) -> Option<Worker> {
+    match request {
+        Line::Checkpoint(_) => Some(Worker::Dumper),
+        Line::Merge => Some(Worker::Merger),
+        Line::Reopen => Some(Worker::Opener),
+        Line::Work(worker) | Line::Perform(worker) | Line::Finish(worker) => Some(*worker),
+        Line::PerformAt { worker, .. } | Line::Step { worker, .. } => Some(*worker),
+        _ => None,
+    }
+}
+
+/// How many device calls of a worker are out at most, and one more.
+const CALLS: usize = 12;
+
+/// Has each worker hand in what its device calls brought, the one whose call failed first: then the store is down, and
+/// no other goes on. It is done by requests `finish`, whose answers nobody sees.
+fn hand_in_all<D: Disk, S: Watch>(
+    asked: Asked<'_, '_, '_>,
+    world: &mut World<D>,
+    failed: Worker,
+    watch: &mut S,
+) -> Result<(), Stop> {
+    for worker in [failed, Worker::Dumper, Worker::Merger, Worker::Opener] {
+        hand_in(asked, world, worker, watch)?;
+    }
+    Ok(())
+}
+
+/// Has a worker go on until it is idle.
+fn hand_in<D: Disk, S: Watch>(
+    asked: Asked<'_, '_, '_>,
+    world: &mut World<D>,
+    worker: Worker,
+    watch: &mut S,
+) -> Result<(), Stop> {
+    let alloc = asked.rt.alloc();
+    let mut unseen = Output::new(Vec::new(alloc));
+    for _ in 0..CALLS {
+        let given = run_line(alloc, world, Line::Finish(worker), &mut unseen, watch)?;
+        if let Answer::Reply(Reply::Refused(Refusal::Idle)) = given {
+            break;
+        }
+    }
+    Ok(())
+}
+
+/// Answers a request for bytes in bulk. Those of a `put` that isn't carried out are read, and dropped.
+fn answer_bulk<D: Disk, I: Read, W: Write>(
+    asked: Asked<'_, '_, '_>,
+    world: &mut World<D>,
+    bulk: Bulk,
+    requests: &mut Requests<I>,
     out: &mut Output<W>,
 ) -> Result<(), Stop> {
-    match (asked.asking, blame_line(asked.rt.alloc(), line)) {
-        (Asking::Prompts, Ok(blame)) => writeln!(out, "script line {number}: {blame}")?,
-        _ => writeln!(out, "script line {number}")?,
+    let length = bulk.length.min(usize::MAX as u64) as usize;
+    if length > MOST_BYTES {
+        if bulk.way == Way::Put {
+            drop_bytes(asked, requests, length, out)?;
+        }
+        writeln!(out, "too-long {MOST_BYTES}")?;
+        return Ok(());
     }
-    out.flush()?;
+    let alloc = asked.rt.alloc();
+    let used = bulk.length_below_end() as usize;
+    if bulk.way == Way::Get {
+        return answer_get(alloc, world, bulk.place, used, out);
+    }
+    let bytes = wait_for_bytes(asked, requests, length, out)?;
+    if bytes.len() < length {
+        writeln!(out, "cut-off {}", bytes.len())?;
+        return Ok(());
+    }
+    answer_put(
+        alloc,
+        world,
+        bulk.place,
+        bytes.get(..used).unwrap_or(&[]),
+        out,
+    )
+}
+
+/// Takes so many bytes of the input, once they came; fewer where it ends before.
+fn wait_for_bytes<'a, I: Read, W: Write>(
+    asked: Asked<'_, '_, '_>,
+    requests: &'a mut Requests<I>,
+    length: usize,
+    out: &mut Output<W>,
+) -> Result<&'a [u8], Stop> {
+    for _ in 0..u64::MAX {
+        if requests.waiting() >= length || wait(asked, requests, out)? == Brought::End {
+            break;
+        }
+    }
+    Ok(requests.take(length))
+}
+
+/// Reads so many bytes of the input, and drops them.
+fn drop_bytes<I: Read, W: Write>(
+    asked: Asked<'_, '_, '_>,
+    requests: &mut Requests<I>,
+    length: usize,
+    out: &mut Output<W>,
+) -> Result<(), Stop> {
+    let mut left = length;
+    for _ in 0..u64::MAX {
+        left = left.saturating_sub(requests.take(left).len());
+        if left == 0 || wait(asked, requests, out)? == Brought::End {
+            break;
+        }
+    }
     Ok(())
 }
 
@@ -148,9 +343,9 @@ fn prompt<W: Write>(asking: Asking, out: &mut Output<W>) -> io::Result<()> {
 }
 
 /// Ends the line of a prompt behind which the input ended.
-fn end_prompt<W: Write>(asking: Asking, out: &mut Output<W>) -> io::Result<()> {
-    match asking {
-        Asking::Silent => Ok(()),
-        Asking::Prompts => out.write_all(b"\n"),
+fn end_prompt<W: Write>(asking: Asking, out: &mut Output<W>) -> Result<(), Stop> {
+    if asking == Asking::Prompts {
+        out.write_all(b"\n")?;
     }
+    Ok(())
 }

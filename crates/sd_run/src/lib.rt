@@ -1,6 +1,7 @@
 //! Running a script over a store: a world, driven by the lines of the script.
 #![tactic(auto)]
 
+mod bulk;
 mod ending;
 mod lines;
 mod merging;
@@ -8,6 +9,7 @@ mod page_words;
 mod printing;
 mod running;
 
+pub use bulk::{Halt, Place, get_bytes, put_bytes};
 pub use ending::{unfit, unopened};
 pub use lines::run_line;
 pub use merging::merge_to;

@@ -32,7 +32,7 @@ use std::io::Write;
 const SCRIPT_SEAT: usize = 0;
 
 /// Makes the event of a command.
-fn apply<D: Disk>(world: &mut World<D>, command: Command) -> Reply
+pub(crate) fn apply<D: Disk>(world: &mut World<D>, command: Command) -> Reply
     ensures step { IsStep D.Disk (CommandEvent 0 command) world.old result world.new }
     ensures goes_on { GoesOn D.Disk world.old world.new }
 {
@@ -140,9 +140,10 @@ fn flush_acked<W: Write>(given: &Answer, out: &mut Output<W>) -> Result<(), Stop
     Ok(())
 }
 
-/// Answers one request of a run, and prints and flushes its answer, for a caller that has them one by one; returns the
-/// answer. The world is opened over [`FRAMES`](crate::FRAMES) frames, and its first request is `Line::Reopen`, as in
-/// `run_lines`.
+/// Answers one request of a run, and prints its answer, for a caller that has them one by one; returns the answer. An
+/// acknowledged checkpoint, a merge and a reopening are flushed; another answer may wait in the writer's buffer, so
+/// flush before you wait for the next request. The world is opened over [`FRAMES`](crate::FRAMES) frames, and its first
+/// request is `Line::Reopen`, as in `run_lines`.
 ///
 /// # Errors
 ///
@@ -165,8 +166,21 @@ pub fn run_line<D: Disk, W: Write, S: Watch>(
     world.points_follow();
     let told = answer(alloc, world, line, watch);
     print_line(&told, &mut Vec::new(alloc), out)?;
-    out.flush()?;
+    flush_settled(&told, out)?;
     Ok(told)
+}
+
+/// Flushes behind an answer that tells what the store shows: an acknowledged checkpoint, a merge, a reopening.
+#[tactic(auto, using(crate::proofs::LineLemmas::stays))]
+fn flush_settled<W: Write>(given: &Answer, out: &mut Output<W>) -> Result<(), Stop>
+    ensures bytes { Keeps (W.contents out.old.writer) (W.contents out.new.writer) }
+    ensures stops { IfErr result IsUnprinted }
+    ensures writer { OnWriter result (out.new.refused ≡ true) }
+{
+    if let Answer::Reply(Reply::Acked(_) | Reply::Merged(_) | Reply::Reopened(_)) = given {
+        out.flush()?;
+    }
+    Ok(())
 }
 
 /// Answers one line after the other, and prints each answer.
