@@ -124,9 +124,10 @@ keeps_what_was_acknowledged() {
 run_does_without() {
   local called
   called=$(cat called)
+  [ "$called" != / ] || return 0
   case $called in
     /proc/self/limits | store/..*) ;;
-    *) case $PWD/ in "${called%/}"/*) ;; *) return 1 ;; esac ;;
+    *) case $PWD/ in "$called"/*) ;; *) return 1 ;; esac ;;
   esac
 }
 

@@ -186,6 +186,51 @@ a_table_at_the_limit_is_taken() {
   table_shows dump 512 "1 0,16 1024 1024$areas$runs" 18
 }
 
+# Makes a file of 1 GiB that is a table but for its header, as that says: these first bytes, and zeros that take no
+# room on the disk.
+make_sparse() {  # make_sparse KIND FIRST-BYTES
+  rm -rf store
+  mkdir store
+  { header 2 "$1" 1 1 0 1 0 $((1073741824 - 4096)); cat "$2"; } > store/img-000
+  truncate -s 1G store/img-000
+}
+
+# Every program that reads names the reason, in seconds, and with 300 MB of memory: the table is read front by front. A
+# build with checks takes memory of its own, so only the answers of two are looked at.
+sparse_is_told() {  # sparse_is_told REASON
+  local program programs=("verify store" "run --quiet store script")
+  [ -n "${CHECKED:-}" ] || programs+=("list store" "restore store" "export store cores")
+  for program in "${programs[@]}"; do
+    same "the status of $program" \
+      "$([ -n "${CHECKED:-}" ] || ulimit -v 300000; ends timeout 60 "$ckpt" $program)" 1 || return 1
+    same "$program" "$(cat out)" "damaged 000 $1" || return 1
+  done
+}
+
+# A table that is long by its header alone.
+sparse_tables_are_read_front_by_front() {
+  echo 'checkpoint 0' > script
+  table "0 0" > first
+  make_sparse 2 first && sparse_is_told 16 || return 1
+  table "1 0" > first
+  make_sparse 2 first && sparse_is_told 11 || return 1
+  table "1 0,1 0 40000000,0 1 3 0" > first
+  make_sparse 1 first && sparse_is_told 13
+}
+
+# Runs of pages of zeros through three fronts, or in a build with checks through one. The next one has an item of zeros.
+sparse_tables_may_go_on_for_fronts() {
+  needs_python || return
+  local runs=400000
+  [ -z "${CHECKED:-}" ] || runs=90000
+  echo 'checkpoint 0' > script
+  { table "1 0,1 0 40000000"; python3 -c '
+import struct, sys
+for i in range(int(sys.argv[1])):
+    sys.stdout.buffer.write(struct.pack("<QQII", 2 * i, 1, 3, 0))' "$runs"; } > first
+  make_sparse 1 first && sparse_is_told 13
+}
+
 try table_heads
 try space_heads
 try second_space_heads
@@ -200,3 +245,5 @@ try ends_of_tables
 try too_many_pages
 try the_first_item_at_fault_is_named
 try a_table_at_the_limit_is_taken
+try sparse_tables_are_read_front_by_front
+try sparse_tables_may_go_on_for_fronts

@@ -46,8 +46,8 @@ pub(crate) fn prepare(
     }
 }
 
-/// Syncs each folder above a folder, from the one in which it stands to the root: another run may have made one of them,
-/// and been killed before its name was on the device. One that can't be opened or synced is passed over.
+/// Syncs each folder above a folder, from the one in which it stands to the root: another run may have made one, and
+/// been killed before its name was on the device. One that can't be opened or synced is passed over.
 fn sync_ancestors(
     rt: &(impl Files<File = File> + AllocGlobal),
     folder: &str,

@@ -11,7 +11,6 @@ use Rattle.sd_image.specs.declared.reason.Reason.{Reason}
 use Rattle.sd_image.specs.declared.reason.Reason.TheVariants as reason
 use Rattle.sd_image.specs.declared.run.Run.{Run}
 use Rattle.sd_image.specs.declared.run.RunKind.{RunKind}
-use Rattle.sd_image.specs.declared.run.RunKind.TheVariants.{Zero}
 use Rattle.sd_image.specs.Words.{run_kind_number, number_bytes, zero_bytes}
 use Rattle.sd_image.specs.Table.{area_text, run_text, is_run_after}
 use Rattle.sd_image.specs.Reading.{◌>>=◌, number_at, item_at, item_value, prot_of_number, area_of, area_holds, area_from, area_at, run_kind_of, run_of, run_holds, run_from, run_at}

@@ -24,3 +24,4 @@ pub mod FirstImage
 pub mod FileLaws
 pub mod LeastReason
 pub mod FirstFaultLaws
+pub mod FrontLaws

@@ -1,5 +1,5 @@
 -- What a digester was fed.
-use Rattle.std.specs.Prelude.{◌≡◌, ℕ, List, [], Option, None, Some, MatchOption}
+use Rattle.std.specs.Prelude.{◌≡◌, ℕ, List, [], None, MatchOption}
 use Rattle.sha2.specs.Hashers.{Holds256}
 use Rattle.sd_image.specs.declared.digester.Digester.{Digester}
 

@@ -10,3 +10,4 @@ pub mod Shows
 pub mod Laws
 pub mod ReasonLaws
 pub mod FirstFault
+pub mod Fronts

@@ -1,13 +1,14 @@
 -- The file of an open slot is the image that was read from it.
-use Rattle.std.proofs.Common.{◌≡◌, ◌≢◌, ◌<◌, ◌≤◌, ◌+◌, ◌-◌, ◌*◌, ℕ, true, false, List, [], ◌∷◌, ◌++◌, map, drop, length, Ok, Err, refl, sym, ◌∙◌, ap, subst, arith, inl, inr}
+use Rattle.std.proofs.Common.{◌≡◌, ◌≢◌, ◌<◌, ◌≤◌, ◌+◌, ◌-◌, ◌*◌, ℕ, true, false, List, [], ◌∷◌, ◌++◌, map, take, drop, length, Some, Ok, Err, refl, sym, ◌∙◌, ap, subst, arith, inl, inr}
 use Rattle.std.specs.Prelude.{◌==◌, nat_le, slice_range, slice_index}
 use Rattle.std.proofs.lemmas.Bool.{and_from, and_right, eq-eqb, le-leb, ne_eqb}
 use Rattle.sd_image.specs.Header.{header_text, IsHeader}
 use Rattle.sd_image.specs.Table.{listing_of, table_text, IsTable}
 use Rattle.sd_image.specs.Image.{Image, IsImage, OpenImages, is_open}
-use Rattle.std.proofs.lemmas.List.{length-drop, length-take-le}
+use Rattle.std.proofs.lemmas.List.{length-drop, length-take-le, take-append-drop}
 use Rattle.sd_image.specs.declared.header.Header.{Header}
 use Rattle.sd_image.specs.declared.reason.Reason.{Reason}
+use Rattle.sd_image.specs.Fronts.{FrontDecides, front_fault}
 use Rattle.sd_image.specs.Laws.{FileIsImage}
 use Rattle.sd_image.specs.Reading.{header_in, table_in}
 use Rattle.sd_image.specs.ReasonLaws.{GoodHeaderHasNoReason}
@@ -57,6 +58,10 @@ is_decoded law file decoded has spelled table digest =
     let image = law file decoded.header (map listing_of decoded.table.spaces.items) has.opens has.spelled has.is (sym (table_is_rest file decoded.header has.is) ∙ spelled) table digest in
     record { opens = has.opens; image = image.0; spelled = image.1; header = image.2; spaces = image.3 }
 
+-- less than a table leaves something of it
+rest_is_left : (file : List ℕ) (h : Header) (len : ℕ) → IsHeader h (length file) → len < h.table_len → 0 < length (drop len (drop (4096 + 4096 * h.pages) file))
+rest_is_left file h len is short = let fills = is.fills in grind (arith, length-drop)
+
 -- its header is read in it
 pub header_read : GoodHeaderHasNoReason → (file : List ℕ) (h : Header) → HasHeader file h → header_in (slice_range file 0 4096) (length file) ≡ Ok h
 header_read law file h has =
@@ -67,6 +72,18 @@ header_read law file h has =
 pub table_is_faulty : GoodHeaderHasNoReason → (file : List ℕ) (h : Header) (reason : Reason) → HasHeader file h → table_in h (table_bytes h file) ≡ Err reason
     → IsFaulty file reason
 table_is_faulty law file h reason has breaks = grind (arith, header_read, table_is_rest)
+
+-- so where a rule breaks in a front of it
+pub front_is_faulty : GoodHeaderHasNoReason → (file : List ℕ) (h : Header) (front : List ℕ) (len : ℕ) (reason : Reason) → HasHeader file h → len < h.table_len
+    → front ≡ slice_range file (4096 + 4096 * h.pages) (4096 + 4096 * h.pages + len) → FrontDecides h front → front_fault (table_in h front) ≡ Some reason
+    → IsFaulty file reason
+front_is_faulty law file h front len reason has short is decides fault =
+    let table : List ℕ = drop (4096 + 4096 * h.pages) file in
+    let rest : List ℕ = drop len table in
+    let here : front ≡ take len table = is ∙ ap (λ n. take n table) (omega arith) in
+    let whole : table_bytes h file ≡ front ++ rest = table_is_rest file h has.is ∙ sym (take-append-drop len table) ∙ ap (λ xs. xs ++ rest) (sym here) in
+    let some : 0 < length rest = rest_is_left file h len has.is short in
+    table_is_faulty law file h reason has (ap (table_in h) whole ∙ decides rest reason some fault)
 
 -- Images of open slots, one slot more.
 

@@ -1,5 +1,5 @@
 -- How many calls of the device a store is read with.
-use Rattle.std.specs.Prelude.{ℕ, ◌+◌, ◌≤◌, nat_lt, if◌then◌else◌, List, Result, Ok, Err, length, slice_range, sum_by}
+use Rattle.std.specs.Prelude.{ℕ, ◌+◌, ◌≤◌, nat_le, nat_lt, if◌then◌else◌, List, Result, Ok, Err, length, slice_range, sum_by}
 use Rattle.sd_image.specs.declared.header.Header.{Header}
 use Rattle.sd_image.specs.declared.header.Version.{Version}
 use Rattle.sd_image.specs.declared.header.Version.TheVariants.{One, Two}
@@ -14,16 +14,20 @@ abbrev pub pages_digested : Version → ℕ → ℕ
 pages_digested One pages = 0
 pages_digested Two pages = pages
 
-abbrev pub digest_calls : Result Header Reason → ℕ
-digest_calls (Ok h) = pages_digested h.version h.pages
-digest_calls (Err reason) = 0
+-- of a table of so many bytes, the fronts that are read before all of it: none, unless it is longer than any of a dump
+unfoldable pub fronts_read : ℕ → ℕ
+fronts_read table_len = if nat_le table_len 2097152 then 0 else 42
 
--- a slot: its length; its first bytes, where the file is as long as a header; where the slot is open, its table, and in
--- version 2 its data pages
+abbrev pub calls_behind : Result Header Reason → ℕ
+calls_behind (Ok h) = fronts_read h.table_len + pages_digested h.version h.pages
+calls_behind (Err reason) = 0
+
+-- a slot: its length; its first bytes, where the file is as long as a header; where the slot is open, its table, behind
+-- the fronts of a long one, and in version 2 its data pages
 abbrev pub calls_for : List ℕ → ℕ
 calls_for file =
     if nat_lt (length file) 4096 then 1
-    else (if is_open file then 3 + digest_calls (header_in (slice_range file 0 4096) (length file)) else 2)
+    else (if is_open file then 3 + calls_behind (header_in (slice_range file 0 4096) (length file)) else 2)
 
 -- all slots
 abbrev pub scan_calls : List (List ℕ) → ℕ

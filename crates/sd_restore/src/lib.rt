@@ -7,6 +7,7 @@ mod chosen;
 mod decoded;
 mod digests;
 mod fault;
+mod fronts;
 mod laws;
 mod pages;
 mod placed_run;
@@ -26,7 +27,7 @@ pub use laws::{
     store_is_rightly_digested,
 };
 pub use placed_run::PlacedRun;
-pub use placing::{PlacedMemory, page_buffer, place_newest, read_placed, read_placed_pages};
+pub use placing::{PlacedMemory, page_buffer, place_newest, read_placed_pages};
 pub use report::Report;
 pub use restoring::{restore, restore_from};
 pub use scanned::Scanned;

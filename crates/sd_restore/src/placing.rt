@@ -73,33 +73,6 @@ pub fn place_newest<'a>(alloc: Global, catalog: &'a Catalog) -> Result<PlacedMem
     place_image(alloc, catalog, tip)
 }
 
-/// Reads the bytes of a page that lies there.
-///
-/// # Errors
-///
-/// `Device` where the disk failed: the bytes may be anything.
-pub fn read_placed<D: Disk>(
-    disk: &mut D,
-    there: Found,
-    bytes: &mut [u8; PAGE_SIZE],
-) -> Result<(), Fault>
-    requires { IsInSlots (length (D.contents disk.old)) there }
-    ensures bytes { D.is_honest disk.new
-        → OnOk result (bytes.new ≡ bytes_at (D.contents disk.old) there) }
-    ensures unnamed { IfErr result (FaultNames (λ _ _. ⊥)) }
-    ensures reads { OnlyReads D.Disk disk.old disk.new }
-    ensures device { IsErrOf result Fault.Device → D.failed disk.old < D.failed disk.new }
-    ensures empty { result ≢ Err Fault.EmptyChain }
-{
-    match there {
-        Found::Data { slot, offset } => {
-            read_file(disk, slot, offset as usize, bytes.as_mut_slice())?;
-        }
-        Found::Zero => *bytes = [0; PAGE_SIZE],
-    }
-    Ok(())
-}
-
 /// Reads the bytes of pages from one that lies there on: of as many as the buffer has room for. It makes one call.
 ///
 /// # Errors

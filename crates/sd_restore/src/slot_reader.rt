@@ -6,7 +6,7 @@ ghost use Rattle.sd_disk.specs.Reads.{OnlyReads};
 ghost use Rattle.sd_disk.specs.Failures.{HasCause};
 ghost use Rattle.sd_image.specs.Header.{IsHeader};
 ghost use Rattle.sd_image.specs.Image.{is_open};
-ghost use Rattle.sd_restore.specs.Calls.{calls_for, pages_digested};
+ghost use Rattle.sd_restore.specs.Calls.{calls_for, fronts_read, pages_digested};
 ghost use Rattle.sd_restore.specs.Faulty.{FaultNames, IsFaulty};
 ghost use Rattle.sd_restore.specs.Reading.{HasHeader, IsDecodedAs, IsReading, IsSoundTable, table_bytes};
 ghost use Rattle.sd_restore.specs.Wants.{WantsMemory};
@@ -14,7 +14,7 @@ ghost use Rattle.sd_restore.specs.Wants.{WantsMemory};
 use crate::decoded::{Decoded, decode_slot};
 use crate::digests::check_digest;
 use crate::fault::Fault;
-use sd_areas::PAGE_SIZE;
+use crate::fronts::read_table;
 use sd_disk::{DeviceError, Disk, file_len, read_file};
 use sd_image::{GATE, HEADER_SIZE, Header, decode_header};
 use std::alloc::Global;
@@ -65,9 +65,10 @@ fn read_header<D: Disk>(disk: &mut D, slot: usize) -> Result<Option<Header>, Fau
     ensures stops { D.failed disk.old < D.failed disk.new → IsErrOf result Fault.Device }
     ensures calls { D.is_honest disk.new → D.calls disk.new
         ≤ D.calls disk.old + calls_for (file_at (D.contents disk.old) slot) }
-    // Of an open slot, the table's call and those of the digest are left.
+    // Of an open slot, the calls for the table and those of the digest are left.
     ensures left { D.is_honest disk.new → IfOk result (λ opened. IfSome opened
-        (λ header. D.calls disk.new + 1 + pages_digested header.version header.pages
+        (λ header. D.calls disk.new + 1
+        + (fronts_read header.table_len + pages_digested header.version header.pages)
         ≤ D.calls disk.old + calls_for (file_at (D.contents disk.old) slot))) }
     ensures empty { result ≢ Err Fault.EmptyChain }
     ensures memory { result ≢ Err Fault.OutOfMemory }
@@ -80,31 +81,6 @@ fn read_header<D: Disk>(disk: &mut D, slot: usize) -> Result<Option<Header>, Fau
         Ok(header) => Ok(Some(header)),
         Err(reason) => Err(Fault::Damaged { slot, reason }),
     }
-}
-
-/// Reads the bytes of the table of an image with this header.
-fn read_table<D: Disk>(
-    alloc: Global,
-    disk: &mut D,
-    slot: usize,
-    header: &Header,
-) -> Result<Vec<u8>, Fault>
-    requires slot { slot < length (D.contents disk.old) }
-    requires fits { 4096 + 4096 * header.now.pages + header.now.table_len < 2 ^ 64 }
-    ensures bytes { D.is_honest disk.new
-        → IfOk result (λ bytes. bytes.items
-        ≡ table_bytes header.now (file_at (D.contents disk.old) slot)) }
-    ensures unnamed { IfErr result (FaultNames (λ _ _. ⊥)) }
-    ensures reads { OnlyReads D.Disk disk.old disk.new }
-    ensures device { IsErrOf result Fault.Device → D.failed disk.old < D.failed disk.new }
-    ensures stops { D.failed disk.old < D.failed disk.new → IsErrOf result Fault.Device }
-    ensures calls { D.calls disk.new ≤ D.calls disk.old + 1 }
-    ensures empty { result ≢ Err Fault.EmptyChain }
-{
-    let mut bytes = vec![in alloc; 0u8; header.table_len as usize]?;
-    let place = HEADER_SIZE + PAGE_SIZE * header.pages as usize;
-    read_file(disk, slot, place, &mut bytes)?;
-    Ok(bytes)
 }
 
 /// Reads what stands behind the header of a slot: its table, and the data pages of version 2, for their digest.
@@ -125,8 +101,8 @@ fn read_behind<D: Disk>(
     ensures reads { OnlyReads D.Disk disk.old disk.new }
     ensures device { IsErrOf result Fault.Device → D.failed disk.old < D.failed disk.new }
     ensures stops { D.failed disk.old < D.failed disk.new → IsErrOf result Fault.Device }
-    ensures calls { D.calls disk.new
-        ≤ D.calls disk.old + 1 + pages_digested header.version header.pages }
+    ensures calls { D.calls disk.new ≤ D.calls disk.old + 1
+        + (fronts_read header.table_len + pages_digested header.version header.pages) }
     ensures empty { result ≢ Err Fault.EmptyChain }
 {
     let table = read_table(alloc, disk, slot, &header)?;

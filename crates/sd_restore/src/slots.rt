@@ -107,7 +107,7 @@ pub fn scan_store<D: Disk>(alloc: Global, disk: &mut D) -> Result<Scanned, Fault
 }
 
 /// The catalog of a store: exactly its open images. It only reads: the header and the table of each open slot once, and
-/// each data page of an image of version 2, for its digest.
+/// each data page of an image of version 2, for its digest. Of a table of over 2 MiB it reads fronts before.
 ///
 /// # Errors
 ///

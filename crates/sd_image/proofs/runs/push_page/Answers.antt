@@ -1,4 +1,4 @@
-use Rattle.std.proofs.Common.{◌≡◌, ◌+◌, ◌<◌, ◌≤◌, ◌^◌, ◌++◌, ◌∷◌, [], true, false, sym, ◌∙◌, ap, subst, arith}
+use Rattle.std.proofs.Common.{◌≡◌, ◌<◌, ◌≤◌, ◌^◌, ◌++◌, ◌∷◌, [], false, sym, ◌∙◌, ap, subst, arith}
 use Rattle.sd_image.specs.Runs.{is_continued, end_of, AreRunsOf}
 use Rattle.std.proofs.lemmas.List.{nil_from_length}
 use Rattle.sd_image.proofs.GrownRuns.{ends_at, end_of-snoc, longer_runs, more_runs, begins_first, begins_behind_last}
