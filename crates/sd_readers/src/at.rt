@@ -1,5 +1,5 @@
 //! `ckpt restore` and `ckpt verify` of one checkpoint, whether it is the newest or not.
-ghost use Rattle.std.specs.Prelude.{◌≡◌, true, Err, IfErr, OnOk};
+ghost use Rattle.std.specs.Prelude.{◌≡◌, true, Err, IfErr, OnErr, OnOk};
 ghost use Rattle.sd_disk.specs.Reads.{OnlyReads};
 ghost use Rattle.sd_restore.specs.declared.fault.Fault.TheVariants as fault;
 ghost use Rattle.sd_restore.specs.At.{LacksAt};
@@ -63,8 +63,11 @@ fn print_report_at<D: Disk, W: Write>(
 {
     let catalog = scan(alloc, disk)?;
     place_at(alloc, &catalog, number)?;
-    let images = catalog.list()?.len();
-    writeln!(out, "ok checkpoint {number} images {images}")?;
+    let report = Report {
+        checkpoint: Some(number),
+        images: catalog.list()?.len(),
+    };
+    print_verdict(report, out)?;
     Ok(())
 }
 
@@ -131,7 +134,9 @@ pub fn print_at<D: Disk, W: Write>(
 /// # Errors
 ///
 /// What the writer refuses.
-pub fn print_verdict<W: Write>(report: Report, out: &mut Output<W>) -> io::Result<()> {
+pub fn print_verdict<W: Write>(report: Report, out: &mut Output<W>) -> io::Result<()>
+    ensures refused { OnErr result (out.new.refused ≡ true) }
+{
     match report.checkpoint {
         Some(checkpoint) => writeln!(out, "ok checkpoint {checkpoint} images {}", report.images),
         None => writeln!(out, "ok empty"),
