@@ -3,15 +3,17 @@
 _ckpt() {
   local word=${COMP_WORDS[COMP_CWORD]} program=${COMP_WORDS[1]} options=
   if [ "$COMP_CWORD" -eq 1 ]; then
-    mapfile -t COMPREPLY < <(compgen -W "run shell merge mutate restore list verify show export import help --help --version" -- "$word")
+    mapfile -t COMPREPLY < <(compgen -W "run shell merge mutate restore list verify history show export import help --help --version" -- "$word")
     return
   fi
   case $program in
     run) options="--restore --strict --stats --summary --check --quiet --verbose --help" ;;
-    show | restore | list | verify) options="--json --quiet --verbose --help" ;;
-    export) options="--force --space --quiet --verbose --help" ;;
+    show | list | history) options="--json --quiet --verbose --help" ;;
+    restore) options="--checkpoint --json --quiet --verbose --help" ;;
+    verify) options="--checkpoint --at-least --json --quiet --verbose --help" ;;
+    export) options="--checkpoint --force --space --quiet --verbose --help" ;;
     import) options="--rounds --space --quiet --verbose --help" ;;
-    help) options="run shell merge mutate restore list verify show export import" ;;
+    help) options="run shell merge mutate restore list verify history show export import" ;;
     *) options="--quiet --verbose --help" ;;
   esac
   if [ "${COMP_WORDS[COMP_CWORD - 1]}" = --stats ]; then

@@ -8,7 +8,7 @@ find_programs() {
 
 # The options of a program, as its help has them.
 options_of() {  # options_of PROGRAM
-  "$ckpt" "$1" --help | grep -oE '^ +(-., )?--[a-z]+' | grep -oE -- '--[a-z]+' | sort -u
+  "$ckpt" "$1" --help | grep -oE '^ +(-., )?--[a-z-]+' | grep -oE -- '--[a-z-]+' | sort -u
 }
 
 manual_is_shown_without_a_warning() {
@@ -49,7 +49,7 @@ completion_offers_programs_options_and_folders() {
   for program in $(cat programs); do
     has "the programs" " $(offered "") " " $program " || return 1
   done
-  for program in run shell merge mutate restore list verify show export import; do
+  for program in run shell merge mutate restore list verify history show export import; do
     same "the options of $program" "$(offered "$program" -- | tr ' ' '\n' | sort)" "$(options_of "$program")" \
       || return 1
   done

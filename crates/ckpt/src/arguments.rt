@@ -182,3 +182,28 @@ pub const ROUNDS: Item = Item {
     help: "How many rounds the checkpoint has before its freeze, 0 to 8; without it none",
     ..WORD
 };
+
+/// The checkpoint that is read, in place of the newest.
+pub const CHECKPOINT: Item = Item {
+    name: "checkpoint",
+    form: Form::Value("N"),
+    numbers: Some(Numbers {
+        least: 1,
+        most: u64::MAX,
+    }),
+    help: "The checkpoint to go back to; without it the newest. history has those that are there",
+    ..WORD
+};
+
+/// The same, of a program whose document is of the newest checkpoint alone.
+pub const CHECKPOINT_AS_TEXT: Item = Item {
+    conflicts: &["json"],
+    ..CHECKPOINT
+};
+
+pub const AT_LEAST: Item = Item {
+    name: "at-least",
+    conflicts: &["json", "checkpoint"],
+    help: "Ends with status 1 where the newest checkpoint is below N, or there is none",
+    ..CHECKPOINT
+};

@@ -1,11 +1,12 @@
 //! The words that the program is called with: each program's arguments as tables, and the command line that they make.
 
 use crate::arguments::{
-    CHECK, CORE, DIR, DIR_TO_RUN, FORCE, Form, Item, JSON, Numbers, ONE_SPACE, OUT, QUIET,
-    RESTORES, ROUNDS, SCRIPT, SLOT, SPACE, STATS, STRICT, SUMMARY, THREADS, VERBOSE,
+    AT_LEAST, CHECK, CHECKPOINT, CHECKPOINT_AS_TEXT, CORE, DIR, DIR_TO_RUN, FORCE, Form, Item,
+    JSON, Numbers, ONE_SPACE, OUT, QUIET, RESTORES, ROUNDS, SCRIPT, SLOT, SPACE, STATS, STRICT,
+    SUMMARY, THREADS, VERBOSE,
 };
 use crate::help::{
-    EXPORT, IMPORT, LIMITS, LIST, MERGE, MUTATE, RESTORE, RUN_HEAD, RUN_TAIL, SHELL, SHOW, VERIFY,
+    EXPORT, HISTORY, IMPORT, LIMITS, LIST, MERGE, MUTATE, RESTORE, RUN_HEAD, RUN_TAIL, SHELL, SHOW, VERIFY,
 };
 use clap::builder::ValueParser;
 use clap::{Arg, ArgAction, ArgMatches, Command};
@@ -26,6 +27,7 @@ pub enum Work {
     Merge,
     Mutate,
     Read(Reader),
+    History,
     Show,
     Export,
     Import,
@@ -43,7 +45,7 @@ struct Program {
 }
 
 /// The programs, in the order of the help.
-const PROGRAMS: [Program; 10] = [
+const PROGRAMS: [Program; 11] = [
     Program {
         name: "run",
         work: Work::Run,
@@ -77,8 +79,8 @@ const PROGRAMS: [Program; 10] = [
     Program {
         name: "restore",
         work: Work::Read(Reader::Restore),
-        about: "Prints the memory that the store in a folder shows",
-        items: &[DIR, JSON, QUIET, VERBOSE],
+        about: "Prints the memory that the store in a folder shows, or had at an older checkpoint",
+        items: &[DIR, CHECKPOINT_AS_TEXT, JSON, QUIET, VERBOSE],
         behind: Some(RESTORE),
     },
     Program {
@@ -92,8 +94,15 @@ const PROGRAMS: [Program; 10] = [
         name: "verify",
         work: Work::Read(Reader::Verify),
         about: "Checks that the store in a folder can be restored",
-        items: &[DIR, JSON, QUIET, VERBOSE],
+        items: &[DIR, CHECKPOINT_AS_TEXT, AT_LEAST, JSON, QUIET, VERBOSE],
         behind: Some(VERIFY),
+    },
+    Program {
+        name: "history",
+        work: Work::History,
+        about: "Prints the checkpoints to which the store in a folder goes back",
+        items: &[DIR, JSON, QUIET, VERBOSE],
+        behind: Some(HISTORY),
     },
     Program {
         name: "show",
@@ -106,7 +115,7 @@ const PROGRAMS: [Program; 10] = [
         name: "export",
         work: Work::Export,
         about: "Writes the memory that the store in a folder shows as ELF core files",
-        items: &[DIR, OUT, ONE_SPACE, FORCE, QUIET, VERBOSE],
+        items: &[DIR, OUT, CHECKPOINT, ONE_SPACE, FORCE, QUIET, VERBOSE],
         behind: Some(EXPORT),
     },
     Program {

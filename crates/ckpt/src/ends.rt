@@ -178,7 +178,7 @@ const NOTHING_TO_MERGE: &str = "it shows no checkpoint, so there is nothing to m
 
 /// Whether a program has `--json`. Its document tells of a fault what a cause would.
 fn has_document(work: Work) -> bool {
-    matches!(work, Work::Read(_) | Work::Show)
+    matches!(work, Work::Read(_) | Work::History | Work::Show)
 }
 
 /// Tells what stands behind the end of a program: behind its exit status, and the fault that its last line told.
@@ -198,7 +198,7 @@ pub fn tell_end(
         tell_damage(rt, causes, folder, told);
     }
     let is_empty = told == Some(Fault::EmptyChain) && work != Work::Run;
-    let lists = matches!(work, Work::Read(Reader::List | Reader::Verify));
+    let lists = matches!(work, Work::Read(Reader::List | Reader::Verify) | Work::History);
     if is_empty || lists && status == 0 {
         tell_empty(rt, causes, folder, is_empty && !is_document);
     }

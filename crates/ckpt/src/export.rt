@@ -3,13 +3,14 @@
 use crate::beside::{BESIDE, may_change, read_until_steady, tell_beside};
 use crate::cause::{Advised, Causes, tell, tell_device};
 use crate::folders::open_store;
+use crate::past::{tell_numbers, told_not_there};
 use crate::slots::{is_same_file, is_slot_file, slot_error};
 use crate::verbose::{Seen, is_watched, logger_for, seen_by, unseen};
 use clap::ArgMatches;
 use sd_areas::SpaceId;
 use sd_command::Refusal;
 use sd_disk::{DirDisk, Disk, FileLimit, is_being_written, lock_folder, make_folders};
-use sd_elf::{CoreFiles, HoleFile, WriteError, write_shown};
+use sd_elf::{CoreFiles, HoleFile, WriteError, write_shown, write_shown_at};
 use sd_exit::{Output, Stop, exit};
 use sd_image::SpaceTable;
 use sd_readers::fronts;
@@ -38,6 +39,8 @@ struct Export<'a, R> {
     store: &'a str,
     /// How long a file may be written.
     limit: FileLimit,
+    /// The checkpoint that is asked for, in place of the newest.
+    checkpoint: Option<u64>,
     /// The one space that is asked for.
     wanted: Option<u64>,
     /// Whether the store doesn't show it.
@@ -232,7 +235,12 @@ fn write_files<D: Disk, R: Files<File = File>>(
     export: &mut Export<'_, R>,
 ) -> Result<(), WriteError> {
     let before = fronts(export.alloc, disk)?;
-    write_shown(export.alloc, disk, export)?;
+    match export.checkpoint {
+        Some(number) => write_shown_at(export.alloc, disk, number, export)?,
+        None => {
+            write_shown(export.alloc, disk, export)?;
+        }
+    }
     if fronts(export.alloc, disk)? != before {
         return Err(WriteError::Fault(Fault::Device));
     }
@@ -317,6 +325,7 @@ pub fn export_program<R: Clock + Wait, W: Write>(
         folder: words.get_str("OUT").unwrap_or(""),
         store,
         limit: FileLimit::of_process(rt),
+        checkpoint: words.get_one::<u64>("checkpoint"),
         wanted: words.get_one::<u64>("space"),
         lacks: false,
         replaces: words.get_flag("force"),
@@ -337,6 +346,12 @@ pub fn export_program<R: Clock + Wait, W: Write>(
     tell_device(rt, causes, store, &disk);
     if may_change(fault_of(&ended)) {
         tell_export_beside(rt, causes, store, is_beside);
+    }
+    if let (Some(number), Some(Fault::EmptyChain)) = (export.checkpoint, fault_of(&ended)) {
+        let mut disk = disk;
+        let status = told_not_there(number, out);
+        tell_numbers(rt, causes, store, &mut disk);
+        return Ok(status);
     }
     Ok(exit(&ended_with(&export, causes, ended, out), out))
 }

@@ -54,9 +54,11 @@ pub const RESTORE: &str = "Example:
 
 Prints checkpoint N; for each space a line space N, its areas as area FIRST END PROT, and
 bytes ADDRESS HEX for each 32 bytes that aren't all zeros. With --json the document has no bytes,
-but the number of pages, and of those that are zeros.
+but the number of pages, and of those that are zeros. With --checkpoint N it is the memory at
+that checkpoint, where the store still has it; history prints which it has.
 
-Status: 0 where a memory was printed; 3 where the store shows no checkpoint (empty chain);
+Status: 0 where a memory was printed; 3 where the store shows no checkpoint (empty chain), or has
+no image of checkpoint N (no checkpoint N);
 1 where the store, its device, memory or the printing failed (damaged SSS WHY, device,
 out-of-memory, cannot open DIR); 2 for a fault of the command line.";
 
@@ -74,11 +76,27 @@ pub const VERIFY: &str = "Example:
   ckpt verify store
 
 Makes all checks of a restore, the digest of each image among them. Prints ok checkpoint N images K,
-with the number of open images, or ok empty where the store shows no checkpoint.
+with the number of open images, or ok empty where the store shows no checkpoint. An image whose gate
+byte was lost reads as closed, and an older checkpoint is then the newest: --at-least N tells.
 
-Status: 0 where it printed ok; 1 where the store can't be restored, or the device, memory or
+Status: 0 where it printed ok; 3 where the store has no image of checkpoint N (no checkpoint N);
+1 where the newest checkpoint is below that of --at-least; 1 where the store can't be restored, or the device, memory or
 the printing failed (damaged SSS WHY, device, out-of-memory, cannot open DIR); 2 for a fault
 of the command line.";
+
+pub const HISTORY: &str = "Example:
+  ckpt history store
+  ckpt restore --checkpoint 3 store
+
+Prints for each checkpoint that can be restored, newest first, checkpoint N slot SSS serial N
+images N pages N own N: the slot and the serial of its image, how many images it needs, its mapped
+pages, and the bytes of the files that no other checkpoint needs; and newest behind the one that
+restore prints. Then it prints for each image that none of them needs, rising by serial,
+unneeded slot SSS KIND serial N checkpoint N. A checkpoint lives until a merge closes its images, or a
+later one takes their slots after the store was opened again.
+
+Status: 0; 1 where an open slot is no image, or the device, memory or the printing failed
+(damaged SSS WHY, device, out-of-memory, cannot open DIR); 2 for a fault of the command line.";
 
 pub const SHOW: &str = "Example:
   ckpt show store
@@ -132,7 +150,8 @@ registers, no threads. A file gets its name when all are whole and on the device
 is there is replaced only with --force. A file of an older export whose space the store no
 longer shows stays, also with --force. Beside a run it tries again for a second, as restore does.
 
-Status: 0 where the files were written; 3 where the store shows no checkpoint (empty chain);
+Status: 0 where the files were written; 3 where the store shows no checkpoint (empty chain), or has
+no image of checkpoint N (no checkpoint N);
 1 where the store, its device, memory or the files failed (damaged SSS WHY, device,
 out-of-memory, cannot open DIR, cannot write OUT), or the store doesn't show space N
 (refused 3 no-such-space); 2 for a fault of the command line.";

@@ -16,6 +16,7 @@ use course::{Course, Noted};
 use ends::{tell_end, tell_merge};
 use folders::make_store;
 use mutating::mutate_program;
+use past::{PastAsked, history_asked, past_asked, past_program};
 use progress::ProgressLine;
 use reading::{read_seen, read_store};
 use scripts::{parse_script, read_script};
@@ -54,6 +55,7 @@ mod import;
 mod json;
 mod logging;
 mod mutating;
+mod past;
 mod progress;
 mod reading;
 mod requests;
@@ -233,6 +235,15 @@ fn reader_program<R: Clock + Wait, W: Write>(
     let causes = causes_asked(words);
     let log = logger_for(rt, words);
     let seen = seen_by(rt, &log, words, is_watched(rt, causes));
+    if let Some(past) = past_asked(reader, words) {
+        let asked = PastAsked {
+            seen,
+            causes,
+            past,
+            folder,
+        };
+        return past_program(rt, threads, asked, out);
+    }
     if words.get_flag("json") {
         let asked = json::DocumentAsked {
             seen,
@@ -247,6 +258,24 @@ fn reader_program<R: Clock + Wait, W: Write>(
     }
     let (_, status) = read_store(rt, threads, causes, reader, folder, out)?;
     Ok(status)
+}
+
+/// `ckpt history`.
+fn history_program<R: Clock + Wait, W: Write>(
+    rt: &HostRuntime,
+    threads: &R,
+    words: &ArgMatches<'_>,
+    out: &mut Output<W>,
+) -> Result<u8, Stop> {
+    let causes = causes_asked(words);
+    let log = logger_for(rt, words);
+    let asked = PastAsked {
+        seen: seen_by(rt, &log, words, is_watched(rt, causes)),
+        causes,
+        past: history_asked(words),
+        folder: words.get_str("DIR").unwrap_or(""),
+    };
+    past_program(rt, threads, asked, out)
 }
 
 /// Runs the program that the words ask for, and returns the exit status.
@@ -266,6 +295,7 @@ fn run_matches<R: Clock + Threads + Wait + Sync, W: Write>(
         Work::Merge => merge_program(rt, threads, words, course, out),
         Work::Mutate => mutate_program(rt, threads, words, out),
         Work::Read(reader) => reader_program(rt, threads, reader, words, out),
+        Work::History => history_program(rt, threads, words, out),
         Work::Show => show::show_program(rt, threads, causes_asked(words), words, out),
         Work::Export => export::export_program(rt, threads, causes_asked(words), words, out),
         Work::Import => import::import_program(rt, threads, causes_asked(words), words, out),

@@ -4,7 +4,7 @@ ghost use Rattle.sd_chain.specs.Store.{IsCatalogOf};
 ghost use Rattle.sd_chain.specs.Ways.{AreImages};
 ghost use Rattle.sd_history.specs.Restorable.{AreRestorable};
 
-use crate::restorable::restorable;
+use crate::going_back::restorable;
 use sd_chain::{Catalog, OpenImage};
 use sd_image::{Header, Kind, SpaceTable};
 use sd_restore::Fault;
@@ -182,7 +182,7 @@ fn spare_of(
 /// # Errors
 ///
 /// `OutOfMemory` alone.
-pub fn history(alloc: Global, catalog: &Catalog) -> Result<History, Fault>
+pub fn history_of(alloc: Global, catalog: &Catalog) -> Result<History, Fault>
     requires { AreImages catalog.now }
     // Where it is the catalog of contents, these are exactly the checkpoints at which they have a memory.
     ensures exact { (contents : List (List ℕ)) → IsCatalogOf contents catalog.now

@@ -1,6 +1,6 @@
 //! The history of a store as text.
 
-use crate::history::{History, Past};
+use crate::history::{History, Past, Spare};
 use std::alloc::{AllocError, Global};
 use std::fmt::Write;
 
@@ -40,5 +40,58 @@ pub fn history_text(alloc: Global, history: &History) -> Result<String, AllocErr
             spare.checkpoint,
         )?;
     }
+    Ok(text)
+}
+
+/// A checkpoint as a JSON object.
+fn push_past_json(text: &mut String, past: &Past, is_newest: bool) -> Result<(), AllocError> {
+    write!(
+        text,
+        "{{\"checkpoint\":{},\"slot\":{},\"serial\":{},\"images\":{},\"pages\":{},\"own_bytes\":{},",
+        past.number,
+        past.slot,
+        past.serial,
+        past.images,
+        past.pages,
+        past.own_bytes,
+    )?;
+    write!(text, "\"newest\":{is_newest}}}")
+}
+
+/// An image as a JSON object.
+fn push_spare_json(text: &mut String, spare: &Spare) -> Result<(), AllocError> {
+    write!(
+        text,
+        "{{\"slot\":{},\"kind\":\"{}\",\"serial\":{},\"checkpoint\":{}}}",
+        spare.slot,
+        spare.kind.name(),
+        spare.serial,
+        spare.checkpoint,
+    )
+}
+
+/// What divides an item of a list from the one before it.
+fn comma(place: usize) -> &'static str {
+    if place == 0 { "" } else { "," }
+}
+
+/// The history of a store as one JSON document on a line: its checkpoints, and the images that none of them needs.
+///
+/// # Errors
+///
+/// Out of memory where the text can't grow.
+pub fn history_json(alloc: Global, history: &History) -> Result<String, AllocError> {
+    let mut text = String::new(alloc);
+    text.push_str("{\"checkpoints\":[")?;
+    for (place, past) in history.past.iter().enumerate() {
+        text.push_str(comma(place))?;
+        push_past_json(&mut text, past, history.newest == Some(past.number))?;
+    }
+    text.push_str("],\"unneeded\":[")?;
+    for (place, spare) in history.spare.iter().enumerate() {
+        text.push_str(comma(place))?;
+        push_spare_json(&mut text, spare)?;
+    }
+    text.push_str("]}\n")?;
     Ok(text)
 }

@@ -1,5 +1,5 @@
 //! `ckpt restore` and `ckpt verify` of one checkpoint, whether it is the newest or not.
-ghost use Rattle.std.specs.Prelude.{◌≡◌, true, Err, IfErr, OnOk};
+ghost use Rattle.std.specs.Prelude.{◌≡◌, true, Err, IfErr, OnErr, OnOk};
 ghost use Rattle.sd_disk.specs.Reads.{OnlyReads};
 ghost use Rattle.sd_restore.specs.declared.fault.Fault.TheVariants as fault;
 ghost use Rattle.sd_restore.specs.At.{LacksAt};
@@ -12,8 +12,9 @@ use crate::restore::print_placed;
 use crate::steady::{fronts, writer_failed};
 use sd_disk::Disk;
 use sd_exit::{Output, Stop};
-use sd_restore::{Fault, place_at, scan};
+use sd_restore::{Fault, Report, place_at, scan};
 use std::alloc::Global;
+use std::io;
 use std::io::Write;
 
 /// A program that reads one checkpoint of a store.
@@ -62,8 +63,11 @@ fn print_report_at<D: Disk, W: Write>(
 {
     let catalog = scan(alloc, disk)?;
     place_at(alloc, &catalog, number)?;
-    let images = catalog.list()?.len();
-    writeln!(out, "ok checkpoint {number} images {images}")?;
+    let report = Report {
+        checkpoint: Some(number),
+        images: catalog.list()?.len(),
+    };
+    print_verdict(report, out)?;
     Ok(())
 }
 
@@ -122,5 +126,19 @@ pub fn print_at<D: Disk, W: Write>(
         ended
     } else {
         Err(Stop::Fault(Fault::Device))
+    }
+}
+
+/// Prints the line of `verify` for a store in order.
+///
+/// # Errors
+///
+/// What the writer refuses.
+pub fn print_verdict<W: Write>(report: Report, out: &mut Output<W>) -> io::Result<()>
+    ensures refused { OnErr result (out.new.refused ≡ true) }
+{
+    match report.checkpoint {
+        Some(checkpoint) => writeln!(out, "ok checkpoint {checkpoint} images {}", report.images),
+        None => writeln!(out, "ok empty"),
     }
 }

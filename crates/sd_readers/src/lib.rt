@@ -10,7 +10,7 @@ mod restore;
 mod steady;
 mod verify;
 
-pub use at::{ReaderAt, print_at};
+pub use at::{ReaderAt, print_at, print_verdict};
 pub use held::print_held;
 pub use list::list_to;
 pub use restore::restore_to;

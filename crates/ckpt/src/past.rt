@@ -1,0 +1,275 @@
+//! A store's older checkpoints: `ckpt history`, `ckpt restore` and `ckpt verify` of one, and `verify --at-least`.
+
+use crate::beside::{BESIDE, may_change, read_until_steady, tell_beside};
+use crate::cause::{Causes, tell, tell_device};
+use crate::folders::open_store;
+use crate::verbose::{Seen, unseen};
+use clap::ArgMatches;
+use sd_disk::{DirDisk, Disk, is_being_written};
+use sd_exit::{Output, Stop, exit};
+use sd_history::{history_json, history_of, history_text, restorable};
+use sd_readers::{Reader, ReaderAt, fronts, print_at, print_verdict};
+use sd_restore::{Fault, scan, verify};
+use std::alloc::{AllocError, Global};
+use std::fmt::Write as _;
+use std::io::Write;
+use std::sync::Wait;
+use std::time::Clock;
+
+/// The exit status where a store has no image of the checkpoint that is asked for.
+const NOT_THERE: u8 = 3;
+
+/// What is asked of a store's past.
+#[derive(Clone, Copy)]
+pub enum Past {
+    /// The memory at a checkpoint.
+    Restore(u64),
+    /// Whether a checkpoint can be restored.
+    Verify(u64),
+    /// Whether the newest checkpoint has this number or a greater one.
+    AtLeast(u64),
+    /// Which checkpoints can be restored, as lines.
+    History,
+    /// The same as one JSON document.
+    HistoryDocument,
+}
+
+impl Past {
+    /// What is done with the store.
+    fn deed(self) -> &'static str {
+        match self {
+            Past::Restore(_) => "restore",
+            Past::Verify(_) | Past::AtLeast(_) => "verify",
+            Past::History | Past::HistoryDocument => "history",
+        }
+    }
+
+    /// The one checkpoint that is asked for.
+    fn number(self) -> Option<u64> {
+        match self {
+            Past::Restore(number) | Past::Verify(number) => Some(number),
+            _ => None,
+        }
+    }
+}
+
+/// What the words ask of the past of a store, where they ask more than that of the newest checkpoint.
+pub fn past_asked(reader: Reader, words: &ArgMatches<'_>) -> Option<Past> {
+    match reader {
+        Reader::Restore => words.get_one::<u64>("checkpoint").map(Past::Restore),
+        Reader::Verify => match words.get_one::<u64>("at-least") {
+            Some(least) => Some(Past::AtLeast(least)),
+            None => words.get_one::<u64>("checkpoint").map(Past::Verify),
+        },
+        Reader::List => None,
+    }
+}
+
+/// What `ckpt history` is asked.
+pub fn history_asked(words: &ArgMatches<'_>) -> Past {
+    if words.get_flag("json") {
+        Past::HistoryDocument
+    } else {
+        Past::History
+    }
+}
+
+/// Prints the history of a store, of one moment.
+fn print_history<D: Disk, W: Write>(
+    alloc: Global,
+    disk: &mut D,
+    is_document: bool,
+    out: &mut Output<W>,
+) -> Result<(), Stop> {
+    let before = fronts(alloc, disk)?;
+    let catalog = scan(alloc, disk)?;
+    let history = history_of(alloc, &catalog)?;
+    if fronts(alloc, disk)? != before {
+        return Err(Stop::Fault(Fault::Device));
+    }
+    let text = if is_document {
+        history_json(alloc, &history)?
+    } else {
+        history_text(alloc, &history)?
+    };
+    out.write_all(text.as_bytes())?;
+    Ok(())
+}
+
+/// Prints what `verify` prints. It is refused where the newest checkpoint is below a number, or there is none.
+fn print_at_least<D: Disk, W: Write>(
+    alloc: Global,
+    disk: &mut D,
+    least: u64,
+    out: &mut Output<W>,
+) -> Result<(), Stop> {
+    let before = fronts(alloc, disk)?;
+    let report = verify(alloc, disk)?;
+    if fronts(alloc, disk)? != before {
+        return Err(Stop::Fault(Fault::Device));
+    }
+    print_verdict(report, out)?;
+    match report.checkpoint {
+        Some(newest) if newest >= least => Ok(()),
+        _ => Err(Stop::Refused),
+    }
+}
+
+/// Prints what is asked of the past of a store.
+fn print_past<D: Disk, W: Write>(
+    alloc: Global,
+    past: Past,
+    disk: &mut D,
+    out: &mut Output<W>,
+) -> Result<(), Stop> {
+    match past {
+        Past::Restore(number) => print_at(alloc, ReaderAt::Restore, disk, number, out),
+        Past::Verify(number) => print_at(alloc, ReaderAt::Verify, disk, number, out),
+        Past::AtLeast(least) => print_at_least(alloc, disk, least, out),
+        Past::History => print_history(alloc, disk, false, out),
+        Past::HistoryDocument => print_history(alloc, disk, true, out),
+    }
+}
+
+/// Which numbers the checkpoints have that can be restored, in words.
+fn numbers_text(alloc: Global, numbers: &[u64]) -> Result<String, AllocError> {
+    let mut text = String::new(alloc);
+    for number in numbers {
+        text.push_str(if text.is_empty() { "" } else { ", " })?;
+        write!(text, "{number}")?;
+    }
+    Ok(text)
+}
+
+/// Reports which checkpoints can be restored, where a store has not the one that was asked for.
+pub fn tell_numbers<D: Disk>(rt: &HostRuntime, causes: Causes, folder: &str, disk: &mut D) {
+    let Ok(catalog) = scan(rt.alloc(), disk) else {
+        return;
+    };
+    let Ok(numbers) = restorable(rt.alloc(), &catalog) else {
+        return;
+    };
+    let Ok(text) = numbers_text(rt.alloc(), &numbers) else {
+        return;
+    };
+    if text.is_empty() {
+        tell(rt, causes, folder, &NONE_THERE);
+    } else {
+        tell(rt, causes, folder, &format_args!("it has the checkpoints {text}"));
+    }
+}
+
+/// What is told of a store without a checkpoint that can be restored.
+const NONE_THERE: &str = "it has no checkpoint that can be restored";
+
+/// Prints that a store has no image of a checkpoint, and returns the exit status.
+pub fn told_not_there<W: Write>(number: u64, out: &mut Output<W>) -> u8 {
+    let _ = writeln!(out, "no checkpoint {number}");
+    out.finish(NOT_THERE)
+}
+
+/// A store that was read, and how that ended.
+type Read = (DirDisk, Result<(), Stop>);
+
+/// The fault of the store with which a reading ended, if it did.
+fn fault_of(ended: &Result<(), Stop>) -> Option<Fault> {
+    match ended {
+        Err(Stop::Fault(fault)) => Some(*fault),
+        _ => None,
+    }
+}
+
+/// What is asked, of which store, and what is to be seen of it.
+#[derive(Clone, Copy)]
+pub struct PastAsked<'s, 'f> {
+    pub seen: Seen<'s>,
+    pub causes: Causes,
+    pub past: Past,
+    pub folder: &'f str,
+}
+
+impl PastAsked<'_, '_> {
+    /// Reads the store once. The outer error is a folder that isn't opened.
+    fn read_once<W: Write>(self, rt: &HostRuntime, out: &mut Output<W>) -> Result<Read, Stop> {
+        let disk = open_store(rt, self.causes, self.folder)?;
+        let mut disk = self.seen.disk(self.past.deed(), disk);
+        let ended = print_past(rt.alloc(), self.past, &mut disk, out);
+        Ok((unseen(disk), ended))
+    }
+
+    /// Reads the store once, and holds back what is printed.
+    fn read_held(self, rt: &HostRuntime) -> Result<(Read, Output<Vec<u8>>), Stop> {
+        let mut held = Output::new(Vec::new(rt.alloc()));
+        let read = self.read_once(rt, &mut held)?;
+        Ok((read, held))
+    }
+
+    /// Reads a store that a run is writing: again where that came between. What is printed is whole, or why there is
+    /// nothing.
+    fn read_beside<R: Clock + Wait, W: Write>(
+        self,
+        rt: &HostRuntime,
+        clock: &R,
+        out: &mut Output<W>,
+    ) -> Result<u8, Stop> {
+        let ((disk, ended), held) = read_until_steady(
+            clock,
+            || self.read_held(rt),
+            |((_, ended), _)| may_change(fault_of(ended)),
+        )?;
+        if held.is_refused() {
+            return Err(Stop::Fault(Fault::OutOfMemory));
+        }
+        if may_change(fault_of(&ended)) {
+            tell(rt, self.causes, self.folder, &BESIDE);
+        } else {
+            out.write_all(&held.into_writer())?;
+        }
+        Ok(self.end(rt, disk, ended, out))
+    }
+
+    /// Reads a store that no run is writing.
+    fn read_alone<W: Write>(self, rt: &HostRuntime, out: &mut Output<W>) -> Result<u8, Stop> {
+        let (disk, ended) = self.read_once(rt, out)?;
+        tell_device(rt, self.causes, self.folder, &disk);
+        if may_change(fault_of(&ended)) {
+            tell_beside(rt, self.causes, self.folder);
+        }
+        Ok(self.end(rt, disk, ended, out))
+    }
+
+    /// Prints why the reading ended early, if it did, and returns the exit status.
+    fn end<W: Write>(
+        self,
+        rt: &HostRuntime,
+        disk: DirDisk,
+        ended: Result<(), Stop>,
+        out: &mut Output<W>,
+    ) -> u8 {
+        if let (Some(number), Some(Fault::EmptyChain)) = (self.past.number(), fault_of(&ended)) {
+            let mut disk = disk;
+            let status = told_not_there(number, out);
+            tell_numbers(rt, self.causes, self.folder, &mut disk);
+            return status;
+        }
+        if let (Past::AtLeast(least), Err(Stop::Refused)) = (self.past, &ended) {
+            let short = format_args!("its newest checkpoint isn't {least} or a later one");
+            tell(rt, self.causes, self.folder, &short);
+        }
+        exit(&ended, out)
+    }
+}
+
+/// The programs of a store's past.
+pub fn past_program<R: Clock + Wait, W: Write>(
+    rt: &HostRuntime,
+    clock: &R,
+    asked: PastAsked<'_, '_>,
+    out: &mut Output<W>,
+) -> Result<u8, Stop> {
+    if is_being_written(rt, asked.folder) {
+        asked.read_beside(rt, clock, out)
+    } else {
+        asked.read_alone(rt, out)
+    }
+}
