@@ -134,6 +134,31 @@ a_newest_checkpoint_that_is_lost() {
   same "its line" "$(cat out)" "ok empty"
 }
 
+# One read of checkpoint 3 beside a run: it is whole, or isn't there yet, or there is a fault alone, with its cause.
+read_third_beside() {
+  "$ckpt" restore --checkpoint 3 store > shown 2> err
+  case $(head -n 1 shown) in
+    "checkpoint 3")
+      same "checkpoint 3" "$(cat shown)" "$(numbered_memory 3)" || return 1
+      reads=$((reads + 1))
+      ;;
+    "no checkpoint 3" | "cannot open DIR") ;;
+    *)
+      same "the lines of a fault" "$(wc -l < shown)" 1 || return 1
+      has "its cause" "$(cat err)" "a run is writing this store"
+      ;;
+  esac
+}
+
+an_older_checkpoint_beside_a_run_is_of_one_moment() {
+  local number
+  echo 'mmap 1 0x10000 8192 rw' > script
+  for number in $(seq 50); do
+    printf 'store 1 0x10000 %02x\nstore 1 0x11000 %02x\ncheckpoint 0\n' "$number" "$number"
+  done >> script
+  beside_runs read_third_beside
+}
+
 try an_older_checkpoint_is_restored
 try an_older_checkpoint_is_exported
 try a_checkpoint_that_is_not_there
@@ -142,3 +167,4 @@ try history_has_what_can_be_restored
 try history_leaves_out_what_is_broken
 try history_as_a_document
 try a_newest_checkpoint_that_is_lost
+try an_older_checkpoint_beside_a_run_is_of_one_moment
