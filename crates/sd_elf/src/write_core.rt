@@ -129,21 +129,21 @@ pub fn write_shown<D: Disk, S: CoreFiles>(
     Ok(placed.checkpoint)
 }
 
-/// Writes the core files of the memory of a store at a checkpoint, whether it is the newest or not, behind all checks of
-/// a restore. It holds a few pages at a time.
+/// Writes the core files of the memory of a store at a checkpoint, whether it is the newest or not, behind all checks
+/// of a restore. It holds a few pages at a time.
 ///
 /// # Errors
 ///
-/// `Fault` where a restore of the store at the checkpoint ends with it: `EmptyChain` where the store has no image of the
-/// checkpoint. `File` where a file can't be written.
+/// `Fault` where a restore of the store at the checkpoint ends with it: `EmptyChain` where the store has no image of
+/// the checkpoint. `File` where a file can't be written.
 pub fn write_shown_at<D: Disk, S: CoreFiles>(
     alloc: Global,
     disk: &mut D,
     number: u64,
     files: &mut S,
 ) -> Result<(), WriteError>
-    // The store has a memory at the checkpoint, and the files that were taken are the core files of its spaces, of those
-    // that are wanted.
+    // The store has a memory at the checkpoint, and the files that were taken are the core files of its spaces, of
+    // those that are wanted.
     ensures cores { D.is_honest disk.new → OnOk result
         (TakesCoresAt (D.contents disk.old) number (S.wanted files.old) (S.taken files.old) (S.taken files.new)) }
     ensures reads { OnlyReads D.Disk disk.old disk.new }
