@@ -4,7 +4,8 @@
 # A store of four checkpoints: a page that each but the last changes, one that the first alone has as data, and one that
 # the second alone maps.
 make_past() {  # make_past DIR
-  printf '%s\n' 'mmap 1 0x10000 4096 rw' 'store 1 0x10000 61' 'mmap 1 0x30000 4096 rw' 'store 1 0x30000 64' 'checkpoint 0' \
+  printf '%s\n' 'mmap 1 0x10000 4096 rw' 'store 1 0x10000 61' \
+    'mmap 1 0x30000 4096 rw' 'store 1 0x30000 64' 'checkpoint 0' \
     'mmap 1 0x20000 4096 r' 'store 1 0x10000 62' 'checkpoint 0' \
     'munmap 1 0x20000 4096' 'store 1 0x10020 63' 'checkpoint 0' 'checkpoint 0' > script
   "$ckpt" run "$1" script > made || { cat made; return 1; }
@@ -74,7 +75,8 @@ history_has_what_can_be_restored() {
   "$ckpt" history store > past || return 1
   same "the numbers" "$(cut -d' ' -f2 past | tr '\n' ' ')" "4 3 2 1 " || return 1
   same "the newest" "$(grep -c newest past)" 1 || return 1
-  has "the newest line" "$(head -n 1 past)" "checkpoint 4 slot $(slot_of store 4) serial 4 images 4 pages 2 own " || return 1
+  has "the newest line" "$(head -n 1 past)" \
+    "checkpoint 4 slot $(slot_of store 4) serial 4 images 4 pages 2 own " || return 1
   has "the second" "$(sed -n 3p past)" " images 2 pages 3 " || return 1
   "$ckpt" merge store > merged || return 1
   same "behind a merge" "$("$ckpt" history store | cut -d' ' -f1,2)" "checkpoint 4" || return 1
@@ -117,8 +119,12 @@ history_as_a_document() {
   "$ckpt" history --json store > document || return 1
   python3 -c 'import json, sys
 found = json.load(open("document"))
-print(" ".join(str(c["checkpoint"]) for c in found["checkpoints"]), found["checkpoints"][0]["newest"], found["unneeded"])' > read
-  same "the document" "$(cat read)" "4 3 2 1 True []"
+past = found["checkpoints"]
+print(" ".join(str(c["checkpoint"]) for c in past), past[0]["newest"], found["unneeded"])' > read
+  same "the document" "$(cat read)" "4 3 2 1 True []" || return 1
+  truncate -s 5000 "store/img-$(slot_of store 4)"
+  same "the status of a damaged store" "$(ends "$ckpt" history --json store)" 1 || return 1
+  same "its document" "$(cat out)" "$("$ckpt" verify --json store 2> err)"
 }
 
 # A gate byte that was lost makes an older checkpoint the newest: `verify` alone can't tell.
@@ -134,6 +140,31 @@ a_newest_checkpoint_that_is_lost() {
   same "its line" "$(cat out)" "ok empty"
 }
 
+# One read of checkpoint 3 beside a run: it is whole, or isn't there yet, or there is a fault alone, with its cause.
+read_third_beside() {
+  "$ckpt" restore --checkpoint 3 store > shown 2> err
+  case $(head -n 1 shown) in
+    "checkpoint 3")
+      same "checkpoint 3" "$(cat shown)" "$(numbered_memory 3)" || return 1
+      reads=$((reads + 1))
+      ;;
+    "no checkpoint 3" | "cannot open DIR") ;;
+    *)
+      same "the lines of a fault" "$(wc -l < shown)" 1 || return 1
+      has "its cause" "$(cat err)" "a run is writing this store"
+      ;;
+  esac
+}
+
+an_older_checkpoint_beside_a_run_is_of_one_moment() {
+  local number
+  echo 'mmap 1 0x10000 8192 rw' > script
+  for number in $(seq 50); do
+    printf 'store 1 0x10000 %02x\nstore 1 0x11000 %02x\ncheckpoint 0\n' "$number" "$number"
+  done >> script
+  beside_runs read_third_beside
+}
+
 try an_older_checkpoint_is_restored
 try an_older_checkpoint_is_exported
 try a_checkpoint_that_is_not_there
@@ -142,3 +173,4 @@ try history_has_what_can_be_restored
 try history_leaves_out_what_is_broken
 try history_as_a_document
 try a_newest_checkpoint_that_is_lost
+try an_older_checkpoint_beside_a_run_is_of_one_moment

@@ -6,7 +6,8 @@ use crate::arguments::{
     SUMMARY, THREADS, VERBOSE,
 };
 use crate::help::{
-    EXPORT, HISTORY, IMPORT, LIMITS, LIST, MERGE, MUTATE, RESTORE, RUN_HEAD, RUN_TAIL, SHELL, SHOW, VERIFY,
+    EXPORT, HISTORY, IMPORT, LIMITS, LIST, MERGE, MUTATE, RESTORE, RUN_HEAD, RUN_TAIL, SHELL, SHOW,
+    VERIFY,
 };
 use clap::builder::ValueParser;
 use clap::{Arg, ArgAction, ArgMatches, Command};

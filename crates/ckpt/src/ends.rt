@@ -198,7 +198,10 @@ pub fn tell_end(
         tell_damage(rt, causes, folder, told);
     }
     let is_empty = told == Some(Fault::EmptyChain) && work != Work::Run;
-    let lists = matches!(work, Work::Read(Reader::List | Reader::Verify) | Work::History);
+    let lists = matches!(
+        work,
+        Work::Read(Reader::List | Reader::Verify) | Work::History
+    );
     if is_empty || lists && status == 0 {
         tell_empty(rt, causes, folder, is_empty && !is_document);
     }

@@ -80,7 +80,7 @@ fn print_value<W: Write>(alloc: Global, document: &Value, out: &mut Output<W>) -
 }
 
 /// Prints the document of a fault, and returns the exit status that the fault's line has.
-fn print_fault<W: Write>(alloc: Global, fault: Fault, out: &mut Output<W>) -> Result<u8, Stop> {
+pub fn print_fault<W: Write>(alloc: Global, fault: Fault, out: &mut Output<W>) -> Result<u8, Stop> {
     let Ok(document) = fault_document(alloc, &fault) else {
         return Err(Stop::Fault(Fault::OutOfMemory));
     };

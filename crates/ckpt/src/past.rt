@@ -3,6 +3,7 @@
 use crate::beside::{BESIDE, may_change, read_until_steady, tell_beside};
 use crate::cause::{Causes, tell, tell_device};
 use crate::folders::open_store;
+use crate::json::print_fault;
 use crate::verbose::{Seen, unseen};
 use clap::ArgMatches;
 use sd_disk::{DirDisk, Disk, is_being_written};
@@ -155,7 +156,12 @@ pub fn tell_numbers<D: Disk>(rt: &HostRuntime, causes: Causes, folder: &str, dis
     if text.is_empty() {
         tell(rt, causes, folder, &NONE_THERE);
     } else {
-        tell(rt, causes, folder, &format_args!("it has the checkpoints {text}"));
+        tell(
+            rt,
+            causes,
+            folder,
+            &format_args!("it has the checkpoints {text}"),
+        );
     }
 }
 
@@ -225,7 +231,7 @@ impl PastAsked<'_, '_> {
         } else {
             out.write_all(&held.into_writer())?;
         }
-        Ok(self.end(rt, disk, ended, out))
+        self.end(rt, disk, ended, out)
     }
 
     /// Reads a store that no run is writing.
@@ -235,7 +241,7 @@ impl PastAsked<'_, '_> {
         if may_change(fault_of(&ended)) {
             tell_beside(rt, self.causes, self.folder);
         }
-        Ok(self.end(rt, disk, ended, out))
+        self.end(rt, disk, ended, out)
     }
 
     /// Prints why the reading ended early, if it did, and returns the exit status.
@@ -245,18 +251,21 @@ impl PastAsked<'_, '_> {
         disk: DirDisk,
         ended: Result<(), Stop>,
         out: &mut Output<W>,
-    ) -> u8 {
+    ) -> Result<u8, Stop> {
+        if let (Past::HistoryDocument, Some(fault)) = (self.past, fault_of(&ended)) {
+            return print_fault(rt.alloc(), fault, out);
+        }
         if let (Some(number), Some(Fault::EmptyChain)) = (self.past.number(), fault_of(&ended)) {
             let mut disk = disk;
             let status = told_not_there(number, out);
             tell_numbers(rt, self.causes, self.folder, &mut disk);
-            return status;
+            return Ok(status);
         }
         if let (Past::AtLeast(least), Err(Stop::Refused)) = (self.past, &ended) {
             let short = format_args!("its newest checkpoint isn't {least} or a later one");
             tell(rt, self.causes, self.folder, &short);
         }
-        exit(&ended, out)
+        Ok(exit(&ended, out))
     }
 }
 

@@ -9,12 +9,7 @@ fn push_past(text: &mut String, past: &Past, is_newest: bool) -> Result<(), Allo
     write!(
         text,
         "checkpoint {} slot {:03} serial {} images {} pages {} own {}",
-        past.number,
-        past.slot,
-        past.serial,
-        past.images,
-        past.pages,
-        past.own_bytes,
+        past.number, past.slot, past.serial, past.images, past.pages, past.own_bytes,
     )?;
     text.push_str(if is_newest { " newest\n" } else { "\n" })
 }
@@ -48,12 +43,7 @@ fn push_past_json(text: &mut String, past: &Past, is_newest: bool) -> Result<(),
     write!(
         text,
         "{{\"checkpoint\":{},\"slot\":{},\"serial\":{},\"images\":{},\"pages\":{},\"own_bytes\":{},",
-        past.number,
-        past.slot,
-        past.serial,
-        past.images,
-        past.pages,
-        past.own_bytes,
+        past.number, past.slot, past.serial, past.images, past.pages, past.own_bytes,
     )?;
     write!(text, "\"newest\":{is_newest}}}")
 }
