@@ -78,7 +78,7 @@ const UNFIT: u8 = 2;
 fn restore_over<D: Disk, W: Write>(alloc: Global, disk: D, out: &mut Output<W>) -> (D, u8)
     ensures answers { ReaderEnds reader.Restore (D.is_honest result.0) (D.contents disk)
         (D.failed disk) (D.failed result.0) (W.contents out.old.writer)
-            (W.contents out.new.writer) out.new.refused result.1 }
+        (W.contents out.new.writer) out.new.refused result.1 }
     ensures reads { OnlyReads D.Disk disk result.0 }
 {
     let mut disk = disk;

@@ -50,7 +50,7 @@ fn read_to<D: Disk, W: Write>(
 ) -> u8
     ensures answers { ReaderEnds reader (D.is_honest disk.new) (D.contents disk.old)
         (D.failed disk.old) (D.failed disk.new) (W.contents out.old.writer)
-            (W.contents out.new.writer) out.new.refused result }
+        (W.contents out.new.writer) out.new.refused result }
     ensures reads { OnlyReads D.Disk disk.old disk.new }
 {
     match reader {

@@ -57,7 +57,7 @@ pub fn restore_to<D: Disk, W: Write>(alloc: Global, disk: &mut D, out: &mut Outp
     // However it ends: the text or a beginning of it, the last line, and the status that comes with it.
     ensures answers { ReaderEnds reader.Restore (D.is_honest disk.new) (D.contents disk.old)
         (D.failed disk.old) (D.failed disk.new) (W.contents out.old.writer)
-            (W.contents out.new.writer) out.new.refused result }
+        (W.contents out.new.writer) out.new.refused result }
     ensures reads { OnlyReads D.Disk disk.old disk.new }
 {
     shown_once();

@@ -29,7 +29,7 @@ pub fn verify_to<D: Disk, W: Write>(alloc: Global, disk: &mut D, out: &mut Outpu
     // However it ends: the text or a beginning of it, the last line, and the status that comes with it.
     ensures answers { ReaderEnds reader.Verify (D.is_honest disk.new) (D.contents disk.old)
         (D.failed disk.old) (D.failed disk.new) (W.contents out.old.writer)
-            (W.contents out.new.writer) out.new.refused result }
+        (W.contents out.new.writer) out.new.refused result }
     ensures reads { OnlyReads D.Disk disk.old disk.new }
 {
     let ended = print_steady(alloc, Reader::Verify, disk, out);

@@ -52,7 +52,7 @@ pub fn run_script<D: Disk, W: Write>(
     ensures so_far { D.is_honest result.0
         → PromiseToExit D.Disk (λ number. first_unfit_line script.now ≡ Some number)
         (asked.Reopen ∷ requests_of script.now) disk result.0 (W.contents out.old.writer)
-            (W.contents out.new.writer) out.new.refused result.1 }
+        (W.contents out.new.writer) out.new.refused result.1 }
 {
     match Script::parse(alloc, script) {
         Ok(script) => {
