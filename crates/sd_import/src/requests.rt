@@ -64,47 +64,50 @@ pub fn ask<D: Disk>(
     Ok(())
 }
 
-/// How many pages a space has, where it is alive.
-fn pages_of(memory: &Memory, space: SpaceId) -> Option<u64> {
+/// How many pages a space has; more than any has, where it isn't alive.
+fn pages_of(memory: &Memory, space: SpaceId) -> u64 {
+    let Some(map) = memory.areas(space) else {
+        return u64::MAX;
+    };
     let mut pages = 0u64;
-    for area in memory.areas(space)?.areas() {
+    for area in map.areas() {
         pages = pages.saturating_add(area.count);
     }
-    Some(pages)
+    pages
 }
 
-/// A space that is alive, with the number of its pages.
-#[derive(Clone, Copy)]
-struct Alive {
-    space: SpaceId,
-    pages: u64,
-}
-
-/// The space that is alive and has the fewest pages, the least of them, and the least number that is free.
-fn fewest_pages(memory: &Memory) -> (Option<Alive>, u64) {
-    let mut fewest: Option<Alive> = None;
-    let mut free = 0;
+/// The least number of a space that is free, or 0.
+fn first_free(memory: &Memory) -> u64 {
     for number in 1..SPACE_LIMIT + 1 {
-        let space = SpaceId::new(number);
-        match pages_of(memory, space) {
-            None if free == 0 => free = number,
-            None => {}
-            Some(pages) => {
-                if fewest.is_none_or(|other| pages < other.pages) {
-                    fewest = Some(Alive { space, pages });
-                }
-            }
+        if memory.areas(SpaceId::new(number)).is_none() {
+            return number;
         }
     }
-    (fewest, free)
+    0
+}
+
+/// The space that is alive and has the fewest pages, the least of them.
+fn fewest_pages(memory: &Memory) -> SpaceId {
+    let mut fewest = u64::MAX;
+    let mut parent = SpaceId::new(1);
+    for number in 1..SPACE_LIMIT + 1 {
+        let space = SpaceId::new(number);
+        let pages = pages_of(memory, space);
+        if pages < fewest {
+            fewest = pages;
+            parent = space;
+        }
+    }
+    parent
 }
 
 /// The parent of a space that is to be made: that with the fewest pages, an empty one where there is one, if that space
 /// has the least number that is free. Else it is that space itself, whose fork is refused.
 fn parent_of(memory: &Memory, space: SpaceId) -> SpaceId {
-    match fewest_pages(memory) {
-        (Some(parent), free) if free == space.number() => parent.space,
-        _ => space,
+    if first_free(memory) == space.number() {
+        fewest_pages(memory)
+    } else {
+        space
     }
 }
 
