@@ -113,7 +113,7 @@ page_has_the_language() {
 # The man page has each form with what it does.
 manual_has_the_language() {
   local form first rest
-  sed 's/\\-/-/g' "$here/../docs/ckpt.1" | sed -n '/^.SH REQUESTS/,/^.SH EXIT/p' | sed '1,/^.TP/d' \
+  sed 's/\\-/-/g' "$here/../docs/ckpt.1" | sed -n '/^.SH REQUESTS$/,/^.SH REQUESTS OF A SHELL/p' | sed '1,/^.TP/d' \
     | grep -vE '^\.(TP|SH)' > page
   "$ckpt" run --help | sed -n '/^hexadecimal; empty lines/,/^Status/p' \
     | sed -nE 's/^  (.{36})(.)(.*)/\1|\2|\3/p' > forms
