@@ -309,11 +309,11 @@ fn ended_with<R: Eprint, W: Write>(
 }
 
 /// `ckpt export`: it only reads the store.
-pub fn export_program<R: Clock + Wait, W: Write>(
-    rt: &HostRuntime,
+pub fn export_program<'a, R: Clock + Wait, W: Write>(
+    rt: &'a HostRuntime,
     clock: &R,
     causes: Causes,
-    words: &ArgMatches<'_>,
+    words: &'a ArgMatches<'_>,
     out: &mut Output<W>,
 ) -> Result<u8, Stop> {
     let store = words.get_str("DIR").unwrap_or("");
