@@ -1,6 +1,6 @@
 //! `ckpt export`: the memory that a store shows, as ELF core files.
 
-use crate::beside::{BESIDE, may_change, read_until_steady, tell_beside};
+use crate::beside::{BESIDE, PAUSES, may_change, tell_beside};
 use crate::cause::{Advised, Causes, tell, tell_device};
 use crate::folders::open_store;
 use crate::past::{tell_numbers, told_not_there};
@@ -20,8 +20,8 @@ use std::fs::File;
 use std::io::Write;
 use std::rt::Files;
 use std::sync::Wait;
-use std::time::Clock;
-use std::{fmt, fs, io};
+use std::time::{Clock, Duration};
+use std::{fmt, fs, io, thread};
 
 /// What is told of a folder of core files that is none.
 const IS_NO_FOLDER: &str = "; OUT is the folder of the core files";
@@ -277,6 +277,24 @@ fn export_once(
     Ok((unseen(disk), ended))
 }
 
+/// Writes the files of a store that a run is writing: again where that came between.
+fn export_beside<R: Clock + Wait>(
+    rt: &HostRuntime,
+    clock: &R,
+    seen: Seen<'_>,
+    causes: Causes,
+    export: &mut Export<'_, HostRuntime>,
+) -> Result<Exported, Stop> {
+    for pause in PAUSES {
+        let (disk, ended) = export_once(rt, seen, causes, export)?;
+        if !may_change(fault_of(&ended)) {
+            return Ok((disk, ended));
+        }
+        thread::sleep(clock, Duration::from_millis(pause));
+    }
+    export_once(rt, seen, causes, export)
+}
+
 /// How the program ends, and a line of why no file was made where the store isn't at fault.
 fn ended_with<R: Eprint, W: Write>(
     export: &Export<'_, R>,
@@ -309,20 +327,21 @@ fn ended_with<R: Eprint, W: Write>(
 }
 
 /// `ckpt export`: it only reads the store.
-pub fn export_program<'a, R: Clock + Wait, W: Write>(
-    rt: &'a HostRuntime,
+pub fn export_program<R: Clock + Wait, W: Write>(
+    rt: &HostRuntime,
     clock: &R,
     causes: Causes,
-    words: &'a ArgMatches<'_>,
+    words: &ArgMatches<'_>,
     out: &mut Output<W>,
 ) -> Result<u8, Stop> {
     let store = words.get_str("DIR").unwrap_or("");
+    let folder = words.get_str("OUT").unwrap_or("");
     let log = logger_for(rt, words);
     let seen = seen_by(rt, &log, words, is_watched(rt, causes));
     let mut export = Export {
         rt,
         alloc: rt.alloc(),
-        folder: words.get_str("OUT").unwrap_or(""),
+        folder,
         store,
         limit: FileLimit::of_process(rt),
         checkpoint: words.get_one::<u64>("checkpoint"),
@@ -335,11 +354,7 @@ pub fn export_program<'a, R: Clock + Wait, W: Write>(
     };
     let is_beside = is_being_written(rt, store);
     let (disk, ended) = if is_beside {
-        read_until_steady(
-            clock,
-            || export_once(rt, seen, causes, &mut export),
-            |(_, ended)| may_change(fault_of(ended)),
-        )?
+        export_beside(rt, clock, seen, causes, &mut export)?
     } else {
         export_once(rt, seen, causes, &mut export)?
     };
