@@ -1,10 +1,15 @@
 -- What a disk over files holds, by its record of calls.
 use Rattle.std.specs.Prelude.{ℕ, List, length}
-use Rattle.sd_disk.specs.Events.{DiskEvent, files_after, failures_in, AreAnswers}
+use Rattle.sd_disk.specs.Events.{DiskEvent, Outside, files_after, failures_in, AreAnswers}
 use Rattle.sd_disk.specs.Outcomes.{MayLeave}
 use Rattle.sd_disk.specs.Moments.{LeftSince}
 use Rattle.sd_disk.specs.declared.dir_disk.DirDisk.{DirDisk}
 use Rattle.sd_disk.specs.declared.folder.Folder.{Folder}
+use Rattle.sd_disk.specs.declared.found.Found.{Found}
+
+-- what a program finds in the files of a folder, and what a failed call will leave of them
+abbrev pub outside_of : Found → Outside
+outside_of found = found.log.log.trace.outside
 
 -- how many files it has
 abbrev pub folder_slots : Folder → ℕ

@@ -6,6 +6,7 @@ use crate::disk::Disk;
 use crate::error::DeviceError;
 use crate::file_fault::FileFault;
 use crate::folder::{self, FOLDER_SLOTS, Folder, FolderLog};
+use crate::found::Found;
 
 /// A disk over the slots' files in a folder. A file that is missing has length 0, and a write to it fails.
 ///
@@ -20,7 +21,7 @@ pub struct DirDisk {
 }
 
 impl DirDisk {
-    ghost use Rattle.sd_disk.specs.Folder.{folder_files, folder_failures};
+    ghost use Rattle.sd_disk.specs.Folder.{folder_files, folder_failures, outside_of};
 
     /// The disk of an open folder: slot N is its file `img-NNN`, and a slot without a file has length 0. Each call of
     /// `Disk` is one call of the system on that file. Behind a failed one, `fault` tells what the system answered. What
@@ -37,6 +38,15 @@ impl DirDisk {
             folder,
             log: FolderLog::new(),
         }
+    }
+
+    /// The same, with what is found there as a value that a caller hands down.
+    pub fn over(folder: Folder, found: Found) -> DirDisk
+        ensures found { folder_files result ≡ (outside_of found).found }
+        ensures failed { folder_failures result ≡ 0 }
+    {
+        let log = found.into_log();
+        DirDisk { folder, log }
     }
 
     /// What the system answered to the last call that failed, if one did.

@@ -4,7 +4,10 @@
 mod ending;
 mod output;
 mod stop;
+mod taken;
+mod trace;
 
 pub use ending::{exit, exit_told};
 pub use output::Output;
 pub use stop::Stop;
+pub use taken::Taken;

@@ -11,6 +11,7 @@ pub mod MarkedLemmas
 pub mod MovedLemmas
 pub mod PlainLemmas
 pub mod TakenLemmas
+pub mod TellLemmas
 pub mod TrimLemmas
 pub mod TrimmedMarks
 pub mod VisitedLemmas

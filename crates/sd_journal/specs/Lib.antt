@@ -1,4 +1,6 @@
 pub mod Allowed
+pub mod Tell
+pub mod TellLaws
 pub mod History
 pub mod Kept
 pub mod KeptInside

@@ -1,5 +1,6 @@
 //! Laws of journals, each the contract of a function that does nothing.
 ghost use Rattle.sd_journal.specs.Laws.{JournalLaws};
+ghost use Rattle.sd_journal.specs.TellLaws.{TellLaws};
 ghost use Rattle.sd_journal.specs.TrackedLaws.{TrackedLaws, DueLaws};
 ghost use Rattle.sd_journal.specs.Trimming.{MarkedTrimLaws, TrimLaws};
 ghost use Rattle.sd_journal.specs.Worked.{WorkedJournals};
@@ -10,6 +11,11 @@ use sd_pagetable::{clear_law, effect_law, page_law, plain_law};
 /// What each entry of a legal journal makes of what it allows to be shown.
 pub fn journal_laws()
     ensures { JournalLaws }
+{}
+
+/// What a journal tells is what its entries say of the last and the pending checkpoint.
+pub fn tell_laws()
+    ensures { TellLaws }
 {}
 
 /// A memory stays tracked by its marked journal, with one item more of each kind.

@@ -15,7 +15,7 @@ pub use close_fault::CloseFault;
 pub use entry::Entry;
 pub use journal::{ENTRY_LIMIT, Journal};
 pub use laws::{
-    due_laws, journal_laws, marked_trim_laws, tracked_laws, trim_laws, worked_journals,
+    due_laws, journal_laws, marked_trim_laws, tell_laws, tracked_laws, trim_laws, worked_journals,
 };
 pub use mark::Mark;
 pub use origin::Origin;
