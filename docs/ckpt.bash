@@ -3,23 +3,26 @@
 _ckpt() {
   local word=${COMP_WORDS[COMP_CWORD]} program=${COMP_WORDS[1]} options=
   if [ "$COMP_CWORD" -eq 1 ]; then
-    mapfile -t COMPREPLY < <(compgen -W "run shell merge mutate restore list verify history show export import help --help --version" -- "$word")
+    mapfile -t COMPREPLY < <(compgen -W "run shell merge mutate restore list verify history diff show export import help --help --version" -- "$word")
     return
   fi
   case $program in
     run) options="--restore --strict --stats --summary --check --quiet --verbose --help" ;;
-    show | list | history) options="--json --quiet --verbose --help" ;;
+    show | list | history | diff) options="--json --quiet --verbose --help" ;;
     restore) options="--checkpoint --json --quiet --verbose --help" ;;
     verify) options="--checkpoint --at-least --json --quiet --verbose --help" ;;
-    export) options="--checkpoint --force --space --quiet --verbose --help" ;;
-    import) options="--rounds --space --quiet --verbose --help" ;;
-    help) options="run shell merge mutate restore list verify history show export import" ;;
+    export) options="--checkpoint --force --notes --space --quiet --verbose --help" ;;
+    import) options="--rounds --space --stats --summary --quiet --verbose --help" ;;
+    merge) options="--stats --summary --quiet --verbose --help" ;;
+    help) options="run shell merge mutate restore list verify history diff show export import" ;;
     *) options="--quiet --verbose --help" ;;
   esac
-  if [ "${COMP_WORDS[COMP_CWORD - 1]}" = --stats ]; then
-    mapfile -t COMPREPLY < <(compgen -f -- "$word")
-    return
-  fi
+  case ${COMP_WORDS[COMP_CWORD - 1]} in
+    --stats | --notes)
+      mapfile -t COMPREPLY < <(compgen -f -- "$word")
+      return
+      ;;
+  esac
   case $word in
     -*) mapfile -t COMPREPLY < <(compgen -W "$options" -- "$word") ;;
     *)

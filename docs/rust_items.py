@@ -61,6 +61,20 @@ def ghosts_in(text):
     return "\n".join(re.findall(r"^\s*ghost (?!use)[^;]*;", text, re.M | re.S))
 
 
+def laws_in(text):
+    """The ghost members of a trait that are laws, by name: what stands after the last arrow of their type is a fact, of
+    other members or of numbers. What an impl gives for one is a proof, which nobody has to believe."""
+    types = {name: kind.split("→")[-1].strip() for name, kind in
+             re.findall(r"^\s*ghost (\w+): \{(.*?)\};", text, re.M | re.S)}
+    facts = {name for name, last in types.items() if last == "Type 0"}
+    return {name for name, last in types.items() if last.split()[0] in facts or re.search(r" [≡≤<] ", last)}
+
+
+def without(text, names):
+    """The words of an impl without these ghost members."""
+    return re.sub(rf"^\s*ghost (?:{'|'.join(sorted(names)) or '(?!)'}) = [^;]*;", "", text, flags=re.M | re.S)
+
+
 def clauses_in(text):
     """The words of a trait that the prover goes by: its ghost members and the clauses of its functions."""
     places = re.finditer(r"^\s*(?:ensures|requires)\*?\s*\w*\s*\{", text, re.M)

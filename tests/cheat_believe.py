@@ -10,17 +10,16 @@ import tempfile
 from pathlib import Path
 
 TOP = Path(__file__).resolve().parent.parent
-HEADLINE = "sd_run run_lines promise so_far + sd_world restore_left restored".split()
-SHOWN = "crates/sd_crash_safety/specs/Shown.antt"
-ALLOWED = "crates/sd_journal/specs/Allowed.antt"
-IMPORT = "use Rattle.sd_journal.specs.Allowed.{Shown, IsAllowed}"
-USED = "IsAllowed base history shown"
-# A definition that one file of these reaches, by one line.
-STEP = "crates/sd_world/specs/Promise.antt"
+HEADLINE = "sd_run run_lines promise so_far + sd_readers restore_to restored + sd_disk DirDisk for Disk".split()
+SHOWN = STEP = "crates/sd_world/specs/Promise.antt"
+ALLOWED = "crates/sd_journal/specs/Tell.antt"
+IMPORT = "use Rattle.sd_journal.specs.Tell.{MayShow, Told, tell}"
+USED = "MayShow told shown"
+# A definition that STEP reaches by one line.
 SPAN_IMPORT = "use Rattle.sd_disk.specs.Spans.{LeavesOnly}"
 SPAN_USED = "LeavesOnly g old.disk new.disk"
-DEFINED = """abbrev pub IsAllowed : Base → History → Shown → Type 0
-IsAllowed base history shown = IsLastPair base history shown ⊎ IsPendingPair base history shown
+DEFINED = """abbrev pub MayShow : Told → Shown → Type 0
+MayShow told shown = (shown ≡ told.last) ⊎ ((told.pending ≢ None) × (shown ≡ told.pending))
 """
 
 
@@ -70,23 +69,22 @@ def a_ghost_value_of_the_function(folder):
 
 def a_file_of_proofs(folder):
     (folder / "crates/sd_journal/proofs/Hidden.antt").write_text(
-        "use Rattle.sd_journal.specs.Allowed.{Shown, IsLastPair, IsPendingPair}\n"
-        "use Rattle.sd_journal.specs.History.{Base, History}\n" + DEFINED)
+        "use Rattle.sd_journal.specs.Allowed.{Shown}\n"
+        "use Rattle.sd_journal.specs.Tell.{Told}\n" + DEFINED)
     edit(folder, ALLOWED, (DEFINED, ""))
-    edit(folder, SHOWN, (IMPORT, "use Rattle.sd_journal.specs.Allowed.{Shown}\n"
-         "use Rattle.sd_journal.proofs.Hidden.{IsAllowed}"))
+    edit(folder, SHOWN, (IMPORT, "use Rattle.sd_journal.specs.Tell.{Told, tell}\n"
+         "use Rattle.sd_journal.proofs.Hidden.{MayShow}"))
 
 
-def an_operator_in_three_parts(folder):
-    edit(folder, ALLOWED, (DEFINED, DEFINED.replace("pub IsAllowed :", "pub in◌after◌allows◌ :")
-         .replace("IsAllowed base history shown =", "in base after history allows shown =")))
-    edit(folder, SHOWN, (IMPORT, IMPORT.replace("IsAllowed", "in◌after◌allows◌")),
-         (USED, "in base after history allows shown"))
+def an_operator_in_two_parts(folder):
+    edit(folder, ALLOWED, (DEFINED, DEFINED.replace("pub MayShow :", "pub in◌may_show◌ :")
+         .replace("MayShow told shown =", "in told may_show shown =")))
+    edit(folder, SHOWN, (IMPORT, IMPORT.replace("MayShow", "in◌may_show◌")), (USED, "in told may_show shown"))
 
 
 def a_name_of_signs(folder):
-    edit(folder, ALLOWED, (DEFINED, DEFINED.replace("IsAllowed", "⊑?")))
-    edit(folder, SHOWN, (IMPORT, IMPORT.replace("IsAllowed", "⊑?")), (USED, USED.replace("IsAllowed", "⊑?")))
+    edit(folder, ALLOWED, (DEFINED, DEFINED.replace("MayShow", "⊑?")))
+    edit(folder, SHOWN, (IMPORT, IMPORT.replace("MayShow", "⊑?")), (USED, USED.replace("MayShow", "⊑?")))
 
 
 def a_module_of_another_name(folder):
@@ -124,9 +122,13 @@ def a_clause_of_the_trait(folder):
     return 1
 
 
-CHEATS = [a_premise_of_the_function, a_ghost_value_of_the_function, a_file_of_proofs, an_operator_in_three_parts,
+def a_value_as_a_law(folder):
+    edit(folder, "crates/sd_disk/src/disk.rt", ("    ghost is_honest: { Self → Type 0 };", "    ghost is_honest: { (disk : Self) → Type 0 };"))
+
+
+CHEATS = [a_premise_of_the_function, a_ghost_value_of_the_function, a_file_of_proofs, an_operator_in_two_parts,
           a_name_of_signs, a_module_of_another_name, a_whole_name, a_module_that_is_passed_on, an_import_of_two_lines,
-          an_import_of_a_whole_module, a_parameter_of_a_module, a_clause_of_the_trait]
+          an_import_of_a_whole_module, a_parameter_of_a_module, a_clause_of_the_trait, a_value_as_a_law]
 
 
 def main():

@@ -4,6 +4,7 @@
 core_files.py make SEED FILE    makes a core by chance: areas, holes, permissions, sizes in the file, places of pages
 core_files.py same FILE FILE    ends with 0 where two cores say the same memory
 core_files.py pages FILE        prints how many pages of memory a core has
+core_files.py notes FILE        prints the bytes of its notes, each segment's up to a multiple of 4, in hexadecimal
 core_files.py trial CKPT COUNT  imports so many cores by chance, 40 into each store, exports each, and compares
 core_files.py edit FILE PLACE BYTES NUMBER    puts a number into a file, little endian"""
 import random
@@ -41,6 +42,13 @@ def memory(name):
         for at in range(0, in_memory, PAGE):
             pages[(address + at) // PAGE] = (flags & 7, held[at:at + PAGE])
     return pages
+
+
+def notes(name):
+    """The bytes of the notes."""
+    data = open(name, "rb").read()
+    parts = [data[offset:offset + in_file] for kind, _, offset, _, in_file, _ in headers(data) if kind == 4]
+    return b"".join(part + bytes(-len(part) % 4) for part in parts)
 
 
 def page_bytes(chance):
@@ -125,6 +133,8 @@ def main(words):
         trial(words[1], int(words[2]))
     elif words[0] == "pages":
         print(len(memory(words[1])))
+    elif words[0] == "notes":
+        print(notes(words[1]).hex(), end="")
     elif words[0] == "edit":
         with open(words[1], "r+b") as file:
             file.seek(int(words[2], 0))

@@ -93,6 +93,44 @@ gdb_reads_an_export() {
   has "the bytes" "$(cat told)" '0x20ffe:	0x01	0x02'
 }
 
+# The notes of a core stand in an export before that of its checkpoint, and its memory stays the same.
+export_copies_the_notes_of_a_core() {
+  needs_python || return
+  cores make 5 core
+  make_spaces || return 1
+  "$ckpt" export store plain || return 1
+  ends_with 0 "" "ckpt: cores: the threads and the mapped files are those of core" \
+    "$ckpt" export store cores --notes core || return 1
+  local number
+  for number in 1 2; do
+    cores same "cores/space-$number.core" "plain/space-$number.core" || return 1
+    same "the notes of space $number" "$(cores notes "cores/space-$number.core")" \
+      "$(cores notes core)$(cores notes "plain/space-$number.core" | tail -c 80)" || return 1
+  done
+  ends_with 0 "imported 3 changed 3
+acked 1" "" "$ckpt" import other cores/space-1.core
+}
+
+# Files whose notes aren't copied: no core, one without notes, with notes past its end, or with too many of them.
+cores_without_notes_are_told() {
+  needs_python || return
+  make_spaces || return 1
+  has_no_notes() {  # has_no_notes CORE LINE CAUSE
+    ends_with 1 "$2" "ckpt: $1: $3" "$ckpt" export store cores --notes "$1" || return 1
+    [ ! -e cores ] || { echo "a folder was made"; return 1; }
+  }
+  has_no_notes script "not a core" "e_ident isn't that of a little-endian ELF64 file" || return 1
+  has_no_notes missing "cannot read CORE" "No such file or directory (os error 2)" || return 1
+  echo '0x10000 4' | flat_core > core
+  has_no_notes core "not a core" "it has no notes" || return 1
+  one_area_core 1 > core
+  cores edit core 96 8 0x10000
+  has_no_notes core "not a core" "its notes end behind the file" || return 1
+  truncate -s 20M core
+  cores edit core 96 8 0x1000001
+  has_no_notes core "core too large" "it has over 16 MiB of notes"
+}
+
 export_replaces_nothing_without_force() {
   needs_python || return
   make_spaces || return 1
@@ -252,6 +290,89 @@ acked 2" "" "$ckpt" import store before/space-1.core --space 3 --rounds 2 || ret
   kept=$("$ckpt" restore store)
   ends_with 1 "refused 3 no-such-space" "" "$ckpt" import store before/space-1.core --space 9 || return 1
   same "what is restored" "$("$ckpt" restore store)" "$kept"
+}
+
+# Three cores of one memory of 64 pages: the second differs in a byte, the third in another and in a page that is gone.
+make_three_cores() {
+  local page number
+  { echo 'mmap 1 0x10000 0x40000 rw'
+    for ((page = 0; page < 64; page++)); do printf 'store 1 0x%x %02x\n' $((0x10000 + 4096 * page)) $((page + 1)); done
+    printf '%s\n' 'checkpoint 0' 'store 1 0x20000 aa' 'checkpoint 0' 'store 1 0x21000 bb' 'munmap 1 0x4f000 4096' \
+      'checkpoint 0'; } > script
+  "$ckpt" run made script > answers || { cat answers; return 1; }
+  for number in 1 2 3; do
+    "$ckpt" export made cores --checkpoint "$number" --force || return 1
+    mv cores/space-1.core "core-$number"
+  done
+}
+
+# Cores that are imported in one run make a checkpoint each: the first image is whole, and each other one has as data
+# only what changed.
+cores_of_one_run_cost_what_changed() {
+  needs_python || return
+  local number size
+  make_three_cores || return 1
+  ends_with 0 "imported 64 changed 64
+acked 1
+imported 64 changed 1
+acked 2
+imported 63 changed 2
+acked 3" "" "$ckpt" import store core-1 core-2 core-3 || return 1
+  same "the images" "$("$ckpt" verify store)" "ok checkpoint 3 images 3" || return 1
+  [ "$(stat -c %s store/img-000)" -gt $((64 * 4096)) ] || { echo "the first image isn't whole"; return 1; }
+  for number in 1 2; do
+    size=$(stat -c %s "store/img-00$number")
+    [ "$size" -lt $((4 * 4096)) ] || { echo "image $number has $size bytes"; return 1; }
+  done
+  for number in 1 2 3; do
+    "$ckpt" export store cores --checkpoint "$number" --force || return 1
+    cores same "core-$number" cores/space-1.core || return 1
+  done
+}
+
+# Where one of the files is no core, nothing runs.
+cores_are_looked_at_before_the_first_is_imported() {
+  one_area_core 7 > core
+  echo text > text
+  ends_with 1 "not a core" "ckpt: text: the file is shorter than an ELF header" "$ckpt" import store core text core \
+    || return 1
+  ends_with 1 "cannot read CORE" "ckpt: none: No such file or directory (os error 2)" "$ckpt" import store core none \
+    || return 1
+  [ ! -e store ] || { echo "a store was made"; return 1; }
+}
+
+# An import ends where a checkpoint finds too few free slots; the checkpoints before it stay.
+cores_for_which_no_slot_is_free() {
+  one_area_core 7 > core
+  local number cores=()
+  for ((number = 0; number < 64; number++)); do cores+=(core); done
+  same "the status" "$(ends "$ckpt" import store "${cores[@]}")" 1 || return 1
+  same "the last lines" "$(tail -n 3 out)" "acked 63
+imported 2 changed 0
+refused 12 no-slot" || return 1
+  same "its cause" "$(cat err)" \
+    "ckpt: store: no-slot: free slots: 1, wanted: 2; a merge frees those of the images that it takes in" || return 1
+  same "the store" "$("$ckpt" verify store)" "ok checkpoint 63 images 63"
+}
+
+# The counts of an import are those of its images.
+imports_are_counted() {
+  make_three_cores || return 1
+  ends_with 0 "$("$ckpt" import plain core-1 core-2 core-3)" "" \
+    "$ckpt" import store --stats counts core-1 core-2 core-3 || return 1
+  same "the records" "$(sed -nE 's/.*"data":([0-9]+),.*"of":"([a-z]+)".*/\2 \1/p' counts)" "image 64
+checkpoint 64
+image 1
+checkpoint 1
+image 1
+checkpoint 1" || return 1
+  same "the status" "$(ends "$ckpt" import other core-1 core-2 --summary)" 0 || return 1
+  same "the table" "$(grep -cE '^( .* dump |checkpoint [12]: )' err)" 4 || return 1
+  cp core-1 kept
+  ends_with 1 "cannot write FILE" \
+    "ckpt: core-1: a core that is to be imported, which isn't written over: name another" \
+    "$ckpt" import store core-2 core-1 --stats core-1 || return 1
+  cmp core-1 kept
 }
 
 # The rounds of an import are pre-dumps of its checkpoint.
@@ -480,6 +601,8 @@ try exports_each_space
 try zeros_of_an_export_are_holes
 try readelf_reads_an_export
 try gdb_reads_an_export
+try export_copies_the_notes_of_a_core
+try cores_without_notes_are_told
 try export_replaces_nothing_without_force
 try export_ends_as_restore_does
 try export_into_a_file_is_refused
@@ -492,6 +615,10 @@ try import_that_is_not_acknowledged_may_be_saved
 try exports_into_one_folder_exclude_each_other
 try import_changes_one_space
 try import_makes_the_least_free_space
+try cores_of_one_run_cost_what_changed
+try cores_are_looked_at_before_the_first_is_imported
+try cores_for_which_no_slot_is_free
+try imports_are_counted
 try import_makes_rounds
 try a_core_without_memory_is_refused
 try a_space_is_made_from_the_one_with_the_fewest_pages
@@ -536,9 +663,12 @@ real_process_goes_in_and_out() {
 acked 1
 few pages changed
 acked 2
+the second image has no more than these
 each byte of each segment is the same
 gdb reads "entry 0"
-gdb reads "changed"'
+gdb reads "changed"
+gdb shows wait_for_line (round=0) at checkpoint 1
+gdb shows main () at checkpoint 1'
 }
 
 try real_process_goes_in_and_out

@@ -73,6 +73,26 @@ faults_are_documents() {
   grep -q '"reason":18' restore.json
 }
 
+# Documents of a checkpoint that isn't the newest, and of one that isn't there.
+documents_of_a_checkpoint() {
+  printf '%s\n' 'mmap 1 0x10000 8192 rw' 'store 1 0x10000 61' 'checkpoint 0' 'mmap 1 0x20000 4096 r' 'checkpoint 0' > script
+  "$ckpt" run store script > answers || { cat answers; return 1; }
+  local area='{"count":2,"first":16,"permissions":3}'
+  ends_with 0 \
+    '{"checkpoint":1,"pages":2,"spaces":[{"areas":['"$area"'],"pages":2,"space":1,"zeros":1}],"zeros":1}' "" \
+    "$ckpt" restore store --json --checkpoint 1 || return 1
+  same "the newest" "$("$ckpt" restore store --json --checkpoint 2)" "$("$ckpt" restore store --json)" || return 1
+  ends_with 0 '{"checkpoint":1,"images":2}' "" "$ckpt" verify store --json --checkpoint 1 || return 1
+  local program
+  for program in restore verify; do
+    ends_with 3 '{"checkpoint":7,"fault":"no checkpoint"}' "ckpt: store: it has the checkpoints 2, 1" \
+      "$ckpt" "$program" store --json --checkpoint 7 || return 1
+  done
+  flip 5000
+  same "the status" "$(ends "$ckpt" verify store --json --checkpoint 1)" 1 || return 1
+  has "the fault" "$(cat out)" '"fault":"damaged","reason":17,"slot":0,' || return 1
+}
+
 # A file call that fails is told by a document, or without --json behind the lines; or the folder isn't opened. The
 # first five calls hold descriptors, and look whether a run is writing the store.
 a_failing_device_is_told() {
@@ -137,6 +157,7 @@ try the_tip_is_not_the_last_image
 try pages_and_zeros_are_counted
 try documents_of_a_store_without_a_checkpoint
 try faults_are_documents
+try documents_of_a_checkpoint
 try a_failing_device_is_told
 try a_refused_growth_is_told
 try documents_beside_a_run

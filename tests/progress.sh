@@ -49,6 +49,16 @@ a_merge_that_takes_long_is_shown() {
   is_shown 'merge: [0-9]+ %, [0-9]+ s left'
 }
 
+# So is the checkpoint of an import.
+an_import_that_takes_long_is_shown() {
+  slow_writes || return
+  of_pages 100 > script
+  "$ckpt" run made script > out || { cat out; return 1; }
+  "$ckpt" export made cores || return 1
+  on_terminal "$ckpt" import store cores/space-1.core > shown || { cat shown; return 1; }
+  is_shown 'checkpoint: [0-9]+ %, [0-9]+ s left, [0-9]+ of 100 pages written into this image, frozen'
+}
+
 # A script whose requests take long is shown by its lines, where its answers don't go to a terminal.
 a_script_that_takes_long_is_shown() {
   slow_writes || return
@@ -62,4 +72,5 @@ a_script_that_takes_long_is_shown() {
 
 try a_job_that_takes_long_is_shown
 try a_merge_that_takes_long_is_shown
+try an_import_that_takes_long_is_shown
 try a_script_that_takes_long_is_shown

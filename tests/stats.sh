@@ -29,6 +29,17 @@ images_of_a_merge_are_counted() {
   same "its calls" "$(sed -nE 's/.*"calls":([0-9]+).*/\1/p' merge)" 21
 }
 
+# The program that merges counts its merge, as a run does.
+a_program_that_merges_counts() {
+  printf '%s\n' 'mmap 1 0x10000 0x4000 rw' 'store 1 0x10000 01' 'checkpoint 1' 'store 1 0x11000 02' 'checkpoint 0' > script
+  "$ckpt" run store script > answers || return 1
+  same "the status" "$(ends "$ckpt" merge store --stats counts --summary)" 0 || return 1
+  same "the output" "$(cat out)" "merged 4" || return 1
+  has "the merge" "$(cat counts)" '"closed":3,"of":"merge","read":2,' || return 1
+  has "the table" "$(cat err)" "merge 4: 2 images read, 3 closed, " || return 1
+  ends_with 1 "cannot write FILE" "ckpt: store/img-000: $slot_error" "$ckpt" merge store --stats store/img-000
+}
+
 # A merge beside a checkpoint, event by event, and a checkpoint that is given up.
 counts_of_jobs_beside_each_other() {
   { echo 'mmap 1 0x10000 0x20000 rw'
@@ -240,6 +251,7 @@ counts_into_a_full_device() {
 
 try counts_are_those_of_the_images
 try images_of_a_merge_are_counted
+try a_program_that_merges_counts
 try counts_of_jobs_beside_each_other
 try slots_of_a_dumper_are_not_closed_by_a_merge
 try counts_may_be_the_standard_error

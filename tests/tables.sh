@@ -231,6 +231,19 @@ for i in range(int(sys.argv[1])):
   make_sparse 1 first && sparse_is_told 13
 }
 
+# `show` prints no more of such a table than its first 2 MiB, here 87,380 areas, and takes 300 MB of memory too, also for
+# its document. It reads the whole file for the digest.
+sparse_tables_are_shown_front_by_front() {
+  [ -z "${CHECKED:-}" ] || { echo "a build with checks is too slow"; return 77; }
+  table "1 0,1 40000000 0" > first
+  make_sparse 2 first || return 1
+  same "the status" "$(ulimit -v 300000; ends timeout 60 "$ckpt" show store)" 1 || return 1
+  same "the fault" "$(sed -n 2p out)" "damaged 12 an area is wrong, or there are too many" || return 1
+  same "the areas" "$(grep -c '^area 0x0 0x0 ---$' out)" 87380 || return 1
+  same "the status of its document" "$(ulimit -v 300000; ends timeout 60 "$ckpt" show store --json)" 1 || return 1
+  same "its areas" "$(grep -o '"count":0' out | wc -l)" 87380
+}
+
 try table_heads
 try space_heads
 try second_space_heads
@@ -247,3 +260,4 @@ try the_first_item_at_fault_is_named
 try a_table_at_the_limit_is_taken
 try sparse_tables_are_read_front_by_front
 try sparse_tables_may_go_on_for_fronts
+try sparse_tables_are_shown_front_by_front

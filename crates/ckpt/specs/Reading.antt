@@ -5,7 +5,7 @@ use Rattle.sd_disk.specs.declared.disk.Disk.{Ghosts}
 use Rattle.sd_disk.specs.Folder.{IsFolderHonest, folder_failures, folder_files}
 use Rattle.sd_disk.specs.Reads.{OnlyReads}
 use Rattle.sd_exit.specs.declared.stop.Stop.{Stop}
-use Rattle.sd_exit.specs.Ending.{Exits, OnWriter, end_status, end_text}
+use Rattle.sd_exit.specs.Ending.{ExitsAs, OnWriter}
 use Rattle.sd_readers.specs.declared.steady.Reader.{Reader}
 use Rattle.sd_readers.specs.declared.steady.Reader.TheVariants.{Restore}
 use Rattle.sd_readers.specs.Reading.{ReaderEnds}
@@ -28,7 +28,7 @@ Then g true (Ok _) ran new answered after refused status =
     OnlyReads g ran new
     × ReaderEnds Restore (g.is_honest new) (g.contents ran) (g.failed ran) (g.failed new) answered after refused status
 Then g _ ended ran new answered after refused status =
-    (new ≡ ran) × Exits answered after refused (end_text ended) (end_status ended) status
+    (new ≡ ran) × ExitsAs ended answered after refused status
 
 -- A script was run, with `--restore` or without, to the exit.
 pub record RunsScript {D : Type 0} (g : Ghosts D) (restores : Bool) (lines : List Line) (old new : D)

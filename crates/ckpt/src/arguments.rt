@@ -5,6 +5,8 @@
 pub enum Form {
     /// A word that has to be there.
     Word,
+    /// Words, of which one has to be there.
+    Words,
     /// A word that may be left out.
     Optional,
     /// A word that has to be there unless this option is.
@@ -160,9 +162,20 @@ pub const FORCE: Item = Item {
     ..FLAG
 };
 
-pub const CORE: Item = Item {
+/// The core whose notes an export has.
+pub const NOTES: Item = Item {
+    name: "notes",
+    form: Form::Value("CORE"),
+    help: "Copies the notes of a core file: its registers, mapped files and the program's name, for a backtrace in gdb",
+    ..WORD
+};
+
+/// The core files, one or more.
+pub const CORES: Item = Item {
     name: "CORE",
-    help: "An ELF core file of a process of x86-64, as gcore, the kernel or export writes it",
+    form: Form::Words,
+    help: "An ELF core file of a process of x86-64, as gcore, the kernel or export writes it;
+        several make a checkpoint each",
     ..WORD
 };
 
@@ -179,7 +192,7 @@ pub const ROUNDS: Item = Item {
     name: "rounds",
     form: Form::Value("R"),
     numbers: Some(Numbers { least: 0, most: 8 }),
-    help: "How many rounds the checkpoint has before its freeze, 0 to 8; without it none",
+    help: "How many rounds a checkpoint has before its freeze, 0 to 8; without it none",
     ..WORD
 };
 
@@ -195,15 +208,23 @@ pub const CHECKPOINT: Item = Item {
     ..WORD
 };
 
-/// The same, of a program whose document is of the newest checkpoint alone.
-pub const CHECKPOINT_AS_TEXT: Item = Item {
-    conflicts: &["json"],
-    ..CHECKPOINT
-};
-
 pub const AT_LEAST: Item = Item {
     name: "at-least",
     conflicts: &["json", "checkpoint"],
     help: "Ends with status 1 where the newest checkpoint is below N, or there is none",
     ..CHECKPOINT
+};
+
+/// The checkpoint that another is compared with.
+pub const OLD: Item = Item {
+    name: "OLD",
+    form: Form::Word,
+    help: "The checkpoint from which the changes begin. history has those that are there",
+    ..CHECKPOINT
+};
+
+pub const NEW: Item = Item {
+    name: "NEW",
+    help: "The checkpoint to which they lead",
+    ..OLD
 };

@@ -1,13 +1,13 @@
 //! The words that the program is called with: each program's arguments as tables, and the command line that they make.
 
 use crate::arguments::{
-    AT_LEAST, CHECK, CHECKPOINT, CHECKPOINT_AS_TEXT, CORE, DIR, DIR_TO_RUN, FORCE, Form, Item,
-    JSON, Numbers, ONE_SPACE, OUT, QUIET, RESTORES, ROUNDS, SCRIPT, SLOT, SPACE, STATS, STRICT,
+    AT_LEAST, CHECK, CHECKPOINT, CORES, DIR, DIR_TO_RUN, FORCE, Form, Item, JSON, NEW, NOTES,
+    Numbers, OLD, ONE_SPACE, OUT, QUIET, RESTORES, ROUNDS, SCRIPT, SLOT, SPACE, STATS, STRICT,
     SUMMARY, THREADS, VERBOSE,
 };
 use crate::help::{
-    EXPORT, HISTORY, IMPORT, LIMITS, LIST, MERGE, MUTATE, RESTORE, RUN_HEAD, RUN_TAIL, SHELL, SHOW,
-    VERIFY,
+    DIFF, EXPORT, HISTORY, IMPORT, LIMITS, LIST, MERGE, MUTATE, RESTORE, RUN_HEAD, RUN_TAIL, SHELL,
+    SHOW, VERIFY,
 };
 use clap::builder::ValueParser;
 use clap::{Arg, ArgAction, ArgMatches, Command};
@@ -18,7 +18,7 @@ use std::fmt::Write;
 
 /// What `--version` prints: the version of the program, the images that it writes and reads, and the kit it is proved
 /// with.
-const VERSION: &str = "1.6.0, writes images of version 2 and reads 1 and 2, rattle-kit-13f";
+const VERSION: &str = "1.7.0, writes images of version 2 and reads 1 and 2, rattle-kit-13f";
 
 /// What one of the programs does.
 #[derive(Clone, Copy, PartialEq, Eq)]
@@ -29,6 +29,7 @@ pub enum Work {
     Mutate,
     Read(Reader),
     History,
+    Diff,
     Show,
     Export,
     Import,
@@ -46,7 +47,7 @@ struct Program {
 }
 
 /// The programs, in the order of the help.
-const PROGRAMS: [Program; 11] = [
+const PROGRAMS: [Program; 12] = [
     Program {
         name: "run",
         work: Work::Run,
@@ -67,7 +68,7 @@ const PROGRAMS: [Program; 11] = [
         name: "merge",
         work: Work::Merge,
         about: "Merges the chain of the newest checkpoint in a folder's store into one image",
-        items: &[DIR, QUIET, VERBOSE],
+        items: &[DIR, STATS, SUMMARY, QUIET, VERBOSE],
         behind: Some(MERGE),
     },
     Program {
@@ -81,7 +82,7 @@ const PROGRAMS: [Program; 11] = [
         name: "restore",
         work: Work::Read(Reader::Restore),
         about: "Prints the memory that the store in a folder shows, or had at an older checkpoint",
-        items: &[DIR, CHECKPOINT_AS_TEXT, JSON, QUIET, VERBOSE],
+        items: &[DIR, CHECKPOINT, JSON, QUIET, VERBOSE],
         behind: Some(RESTORE),
     },
     Program {
@@ -95,7 +96,7 @@ const PROGRAMS: [Program; 11] = [
         name: "verify",
         work: Work::Read(Reader::Verify),
         about: "Checks that the store in a folder can be restored",
-        items: &[DIR, CHECKPOINT_AS_TEXT, AT_LEAST, JSON, QUIET, VERBOSE],
+        items: &[DIR, CHECKPOINT, AT_LEAST, JSON, QUIET, VERBOSE],
         behind: Some(VERIFY),
     },
     Program {
@@ -104,6 +105,13 @@ const PROGRAMS: [Program; 11] = [
         about: "Prints the checkpoints to which the store in a folder goes back",
         items: &[DIR, JSON, QUIET, VERBOSE],
         behind: Some(HISTORY),
+    },
+    Program {
+        name: "diff",
+        work: Work::Diff,
+        about: "Prints what differs between two checkpoints of the store in a folder",
+        items: &[DIR, OLD, NEW, JSON, QUIET, VERBOSE],
+        behind: Some(DIFF),
     },
     Program {
         name: "show",
@@ -116,14 +124,16 @@ const PROGRAMS: [Program; 11] = [
         name: "export",
         work: Work::Export,
         about: "Writes the memory that the store in a folder shows as ELF core files",
-        items: &[DIR, OUT, CHECKPOINT, ONE_SPACE, FORCE, QUIET, VERBOSE],
+        items: &[
+            DIR, OUT, CHECKPOINT, ONE_SPACE, NOTES, FORCE, QUIET, VERBOSE,
+        ],
         behind: Some(EXPORT),
     },
     Program {
         name: "import",
         work: Work::Import,
-        about: "Makes the memory of an ELF core file the memory of a space, and a checkpoint of it",
-        items: &[DIR, CORE, SPACE, ROUNDS, QUIET, VERBOSE],
+        about: "Makes the memory of ELF core files that of a space, one after the other, and a checkpoint of each",
+        items: &[DIR, CORES, SPACE, ROUNDS, STATS, SUMMARY, QUIET, VERBOSE],
         behind: Some(IMPORT),
     },
 ];
@@ -133,6 +143,7 @@ fn formed<'a>(alloc: Global, item: &Item) -> Result<Arg<'a>, AllocError> {
     let arg = Arg::new(alloc, item.name).help(item.help);
     match item.form {
         Form::Word => Ok(arg.required(true)),
+        Form::Words => Ok(arg.required(true).num_args(1..).action(ArgAction::Append)),
         Form::Optional => Ok(arg),
         Form::Unless(other) => arg.required_unless_present(other),
         Form::Flag => Ok(arg.long(item.name).action(ArgAction::SetTrue)),

@@ -1,20 +1,25 @@
-//! Scripts, shells and merges as the words ask for them, also with what is to be seen of them.
+//! Scripts, shells, merges and imports as the words ask for them, also with what is to be seen of them.
 
-use crate::cause::{Causes, tell, tell_failure};
+use crate::cause::{Causes, causes_asked, tell, tell_device, tell_failure};
 use crate::course::Course;
 use crate::ends::tell_few_at;
+use crate::folders::make_store;
+use crate::progress::ProgressLine;
 use crate::shell::{Asked, run_shell};
-use crate::stats::{Counting, Counts, LeftOut, Untold, meter_for};
+use crate::stats::{Counting, Counts, Inputs, LeftOut, Untold, counts_asked, meter_for};
 use crate::strict::run_strictly;
-use crate::verbose::{Seen, unseen};
+use crate::verbose::{Seen, is_watched, logger_for, seen_by, unseen};
 use crate::{FAILED, restore_over, run_over};
-use sd_disk::{DirDisk, Disk};
+use clap::ArgMatches;
+use sd_disk::{DirDisk, Disk, Found};
 use sd_exit::{Output, Stop, exit};
 use sd_run::{Watch, merge_to};
 use sd_script::Script;
 use sd_stats::{Gated, Metered, Metering};
 use std::alloc::Global;
-use std::io::Write;
+use std::io::{Lock, Write};
+use std::sync::Wait;
+use std::time::Clock;
 
 /// What a program does over a store, with a watch over its jobs.
 pub trait Job {
@@ -184,7 +189,7 @@ fn run_counted<J: Job + Drop, W: Write, S: Watch + Drop>(
 
 /// Does a job over a store, and returns the store with the exit status. Where counts are asked for, what its images,
 /// checkpoints and merges took is told.
-pub fn run_job<J: Job + Drop, W: Write, S: Watch + Drop>(
+fn run_job<J: Job + Drop, W: Write, S: Watch + Drop>(
     rt: &HostRuntime,
     seen: Seen<'_>,
     causes: Causes,
@@ -199,6 +204,33 @@ pub fn run_job<J: Job + Drop, W: Write, S: Watch + Drop>(
         Some(counts) => run_counted(rt, seen, causes, counts, disk, job, out, watch),
         None => job.run(rt, disk, out, &mut watch),
     }
+}
+
+/// Does a job over the store that the words name, whose missing files are made. What is to be seen of it is shown, and
+/// what its images, checkpoints and merges took is told where the words ask for it.
+pub fn do_seen<R: Clock + Wait, J: Job + Drop, W: Write>(
+    rt: &HostRuntime,
+    clock: &R,
+    words: &ArgMatches<'_>,
+    course: &Course<'_>,
+    inputs: Inputs<'_>,
+    job: J,
+    found: &Found,
+    out: &mut Output<W>,
+) -> Result<u8, Stop> {
+    let folder = words.get_str("DIR").unwrap_or("");
+    let causes = causes_asked(words);
+    let log = logger_for(rt, words);
+    let seen = seen_by(rt, &log, words, is_watched(rt, causes));
+    let counts = counts_asked(rt, causes, words, seen, inputs, out)?;
+    let disk = make_store(rt, clock, causes, folder, found)?;
+    if let Some(counts) = &counts {
+        counts.begin();
+    }
+    let watch = ProgressLine::new(rt, course, rt.stderr().lock(), seen.shows);
+    let (disk, status) = run_job(rt, seen, causes, counts, disk, job, out, watch);
+    tell_device(rt, causes, folder, &disk);
+    Ok(status)
 }
 
 /// The exit status of a run whose counts were reported; and 1 where not all of them were, with why.

@@ -178,7 +178,10 @@ const NOTHING_TO_MERGE: &str = "it shows no checkpoint, so there is nothing to m
 
 /// Whether a program has `--json`. Its document tells of a fault what a cause would.
 fn has_document(work: Work) -> bool {
-    matches!(work, Work::Read(_) | Work::History | Work::Show)
+    matches!(
+        work,
+        Work::Read(_) | Work::History | Work::Diff | Work::Show
+    )
 }
 
 /// Tells what stands behind the end of a program: behind its exit status, and the fault that its last line told.

@@ -1,27 +1,29 @@
 //! `ckpt export`: the memory that a store shows, as ELF core files.
 
 use crate::beside::{BESIDE, PAUSES, may_change, tell_beside};
-use crate::cause::{Advised, Causes, tell, tell_device};
+use crate::cause::{Advised, Causes, causes_asked, tell, tell_device};
+use crate::cores::threads_asked;
 use crate::folders::open_store;
-use crate::past::{tell_numbers, told_not_there};
+use crate::parts::{Left, core_name, is_folder, is_there, make_part, part_name};
+use crate::queries::{tell_numbers, told_not_there};
 use crate::slots::{is_same_file, is_slot_file, slot_error};
 use crate::verbose::{Seen, is_watched, logger_for, seen_by, unseen};
 use clap::ArgMatches;
 use sd_areas::SpaceId;
 use sd_command::Refusal;
-use sd_disk::{DirDisk, Disk, FileLimit, is_being_written, lock_folder, make_folders};
+use sd_disk::{DirDisk, Disk, FileLimit, Found, is_being_written, lock_folder, make_folders};
 use sd_elf::{CoreFiles, HoleFile, WriteError, write_shown, write_shown_at};
 use sd_exit::{Output, Stop, exit};
 use sd_image::SpaceTable;
 use sd_readers::fronts;
 use sd_restore::Fault;
-use std::alloc::{AllocError, Global};
+use std::alloc::Global;
 use std::fs::File;
 use std::io::Write;
 use std::rt::Files;
 use std::sync::Wait;
 use std::time::{Clock, Duration};
-use std::{fmt, fs, io, thread};
+use std::{fs, io, thread};
 
 /// What is told of a folder of core files that is none.
 const IS_NO_FOLDER: &str = "; OUT is the folder of the core files";
@@ -31,12 +33,12 @@ const IS_LOCKED: &str = "another export writes into this folder; try again when 
 
 /// The core files in a folder. Each is written under another name until all are whole.
 #[derive(Drop)]
-struct Export<'a, R> {
-    rt: &'a R,
+struct Export<'r, 'w, R> {
+    rt: &'r R,
     alloc: Global,
-    folder: &'a str,
+    folder: &'w str,
     /// The folder of the store, whose files aren't replaced.
-    store: &'a str,
+    store: &'w str,
     /// How long a file may be written.
     limit: FileLimit,
     /// The checkpoint that is asked for, in place of the newest.
@@ -55,58 +57,7 @@ struct Export<'a, R> {
     named: usize,
 }
 
-/// The name of the core file of a space, within a folder.
-fn core_name(alloc: Global, folder: &str, space: SpaceId) -> Result<String, AllocError> {
-    let number = space.number();
-    format!(in alloc; "{folder}/space-{number}.core")
-}
-
-/// The name of that file while it is being written.
-fn part_name(alloc: Global, folder: &str, space: SpaceId) -> Result<String, AllocError> {
-    let number = space.number();
-    format!(in alloc; "{folder}/.space-{number}.core.part")
-}
-
-/// The error of a core file that is there already.
-fn is_there(alloc: Global, space: SpaceId) -> Result<io::Error, AllocError> {
-    let number = space.number();
-    let words = format!(in alloc;
-        "space-{number}.core is there already; with --force it is replaced"
-    )?;
-    Ok(io::Error::new(io::ErrorKind::AlreadyExists, &words))
-}
-
-/// The error of a folder that stands where a core file is to stand.
-fn is_folder(alloc: Global, space: SpaceId) -> Result<io::Error, AllocError> {
-    let number = space.number();
-    let words = format!(in alloc; "space-{number}.core is a folder")?;
-    Ok(io::Error::new(io::ErrorKind::IsADirectory, &words))
-}
-
-/// Makes an empty file, in place of one that an export left that was cut off.
-fn make_part(rt: &impl Files<File = File>, part: &str) -> io::Result<File> {
-    let _ = fs::remove_file(rt, part);
-    File::create_new(rt, part)
-}
-
-/// How many files of an export that failed have their names, of how many.
-#[derive(Clone, Copy)]
-struct Left {
-    named: usize,
-    of: usize,
-}
-
-impl fmt::Display for Left {
-    fn fmt<W: fmt::Write>(&self, f: &mut fmt::Formatter<W>) -> fmt::Result {
-        let Left { named, of } = self;
-        write!(
-            f,
-            "{named} of {of} files are of this export, the others are as they were"
-        )
-    }
-}
-
-impl<R: Files<File = File>> Export<'_, R> {
+impl<R: Files<File = File>> Export<'_, '_, R> {
     /// Who has the lock of the folder, where it is taken: a run, where the folder is the store's.
     fn has_lock(&self) -> &'static str {
         if is_same_file(self.rt, self.folder, self.store) {
@@ -191,7 +142,7 @@ impl<R: Files<File = File>> Export<'_, R> {
 }
 
 /// No contract says what the files of a folder hold.
-impl<R: Files<File = File>> CoreFiles for Export<'_, R> {
+impl<R: Files<File = File>> CoreFiles for Export<'_, '_, R> {
     ghost use Rattle.std.specs.Prelude.{None, true};
 
     type Output = HoleFile;
@@ -229,16 +180,17 @@ impl<R: Files<File = File>> CoreFiles for Export<'_, R> {
     }
 }
 
-/// Writes the files of a store whose images stay the same meanwhile.
+/// Writes the files of a store whose images stay the same meanwhile, with these notes of threads.
 fn write_files<D: Disk, R: Files<File = File>>(
     disk: &mut D,
-    export: &mut Export<'_, R>,
+    threads: &[u8],
+    export: &mut Export<'_, '_, R>,
 ) -> Result<(), WriteError> {
     let before = fronts(export.alloc, disk)?;
     match export.checkpoint {
-        Some(number) => write_shown_at(export.alloc, disk, number, export)?,
+        Some(number) => write_shown_at(export.alloc, disk, number, threads, export)?,
         None => {
-            write_shown(export.alloc, disk, export)?;
+            write_shown(export.alloc, disk, threads, export)?;
         }
     }
     if fronts(export.alloc, disk)? != before {
@@ -265,12 +217,14 @@ fn export_once(
     rt: &HostRuntime,
     seen: Seen<'_>,
     causes: Causes,
-    export: &mut Export<'_, HostRuntime>,
+    threads: &[u8],
+    found: &Found,
+    export: &mut Export<'_, '_, HostRuntime>,
 ) -> Result<Exported, Stop> {
     export.begin_anew();
-    let disk = open_store(rt, causes, export.store)?;
+    let disk = open_store(rt, causes, export.store, found)?;
     let mut disk = seen.disk("export", disk);
-    let ended = write_files(&mut disk, export);
+    let ended = write_files(&mut disk, threads, export);
     if ended.is_err() {
         export.remove_all();
     }
@@ -283,21 +237,23 @@ fn export_beside<R: Clock + Wait>(
     clock: &R,
     seen: Seen<'_>,
     causes: Causes,
-    export: &mut Export<'_, HostRuntime>,
+    threads: &[u8],
+    found: &Found,
+    export: &mut Export<'_, '_, HostRuntime>,
 ) -> Result<Exported, Stop> {
     for pause in PAUSES {
-        let (disk, ended) = export_once(rt, seen, causes, export)?;
+        let (disk, ended) = export_once(rt, seen, causes, threads, found, export)?;
         if !may_change(fault_of(&ended)) {
             return Ok((disk, ended));
         }
         thread::sleep(clock, Duration::from_millis(pause));
     }
-    export_once(rt, seen, causes, export)
+    export_once(rt, seen, causes, threads, found, export)
 }
 
 /// How the program ends, and a line of why no file was made where the store isn't at fault.
 fn ended_with<R: Eprint, W: Write>(
-    export: &Export<'_, R>,
+    export: &Export<'_, '_, R>,
     causes: Causes,
     ended: Result<(), WriteError>,
     out: &mut Output<W>,
@@ -326,23 +282,16 @@ fn ended_with<R: Eprint, W: Write>(
     }
 }
 
-/// `ckpt export`: it only reads the store.
-pub fn export_program<R: Clock + Wait, W: Write>(
-    rt: &HostRuntime,
-    clock: &R,
-    causes: Causes,
-    words: &ArgMatches<'_>,
-    out: &mut Output<W>,
-) -> Result<u8, Stop> {
-    let store = words.get_str("DIR").unwrap_or("");
-    let folder = words.get_str("OUT").unwrap_or("");
-    let log = logger_for(rt, words);
-    let seen = seen_by(rt, &log, words, is_watched(rt, causes));
-    let mut export = Export {
+/// The export that the words ask for, of which no file is begun.
+fn export_asked<'r, 'w>(
+    rt: &'r HostRuntime,
+    words: &ArgMatches<'w>,
+) -> Export<'r, 'w, HostRuntime> {
+    Export {
         rt,
         alloc: rt.alloc(),
-        folder,
-        store,
+        folder: words.get_str("OUT").unwrap_or(""),
+        store: words.get_str("DIR").unwrap_or(""),
         limit: FileLimit::of_process(rt),
         checkpoint: words.get_one::<u64>("checkpoint"),
         wanted: words.get_one::<u64>("space"),
@@ -351,12 +300,28 @@ pub fn export_program<R: Clock + Wait, W: Write>(
         lock: None,
         begun: Vec::new(rt.alloc()),
         named: 0,
-    };
+    }
+}
+
+/// `ckpt export`: it only reads the store.
+pub fn export_program<R: Clock + Wait, W: Write>(
+    rt: &HostRuntime,
+    clock: &R,
+    words: &ArgMatches<'_>,
+    found: &Found,
+    out: &mut Output<W>,
+) -> Result<u8, Stop> {
+    let causes = causes_asked(words);
+    let threads = threads_asked(rt, causes, words, out)?;
+    let log = logger_for(rt, words);
+    let seen = seen_by(rt, &log, words, is_watched(rt, causes));
+    let mut export = export_asked(rt, words);
+    let store = export.store;
     let is_beside = is_being_written(rt, store);
     let (disk, ended) = if is_beside {
-        export_beside(rt, clock, seen, causes, &mut export)?
+        export_beside(rt, clock, seen, causes, &threads, found, &mut export)?
     } else {
-        export_once(rt, seen, causes, &mut export)?
+        export_once(rt, seen, causes, &threads, found, &mut export)?
     };
     tell_device(rt, causes, store, &disk);
     if may_change(fault_of(&ended)) {
@@ -367,6 +332,10 @@ pub fn export_program<R: Clock + Wait, W: Write>(
         let status = told_not_there(number, out);
         tell_numbers(rt, causes, store, &mut disk);
         return Ok(status);
+    }
+    if let (Ok(()), Some(name)) = (&ended, words.get_str("notes")) {
+        let taken = format_args!("the threads and the mapped files are those of {name}");
+        tell(rt, causes, export.folder, &taken);
     }
     Ok(exit(&ended_with(&export, causes, ended, out), out))
 }

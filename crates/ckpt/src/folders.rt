@@ -1,9 +1,9 @@
 //! The folder of a store, opened to be read or written.
 ghost use Rattle.std.specs.Prelude.{◌≡◌, IfOk};
-ghost use Rattle.sd_disk.specs.Folder.{folder_failures};
+ghost use Rattle.sd_disk.specs.Folder.{folder_failures, folder_files, outside_of};
 
 use crate::cause::{Advised, Causes, tell};
-use sd_disk::{DirDisk, FileFault, Folder, OpenError};
+use sd_disk::{DirDisk, FileFault, Folder, Found, OpenError};
 use sd_exit::Stop;
 use sd_restore::Fault;
 use std::fs::File;
@@ -39,8 +39,14 @@ pub fn make_store<R: Clock + Wait>(
     clock: &R,
     causes: Causes,
     folder: &str,
-) -> Result<DirDisk, Stop> {
-    disk_over(rt, causes, folder, open_folder(rt, clock, folder), "")
+    found: &Found,
+) -> Result<DirDisk, Stop>
+    // Its files are what is found.
+    ensures files { IfOk result (λ disk. folder_files disk ≡ (outside_of found.now).found) }
+    ensures fresh { IfOk result (λ disk. folder_failures disk ≡ 0) }
+{
+    let opened = open_folder(rt, clock, folder);
+    disk_over(rt, causes, folder, opened, "", found)
 }
 
 /// Opens the store in a folder to read it.
@@ -48,12 +54,15 @@ pub fn open_store(
     rt: &(impl Files<File = File> + Eprint + AllocGlobal),
     causes: Causes,
     folder: &str,
+    found: &Found,
 ) -> Result<DirDisk, Stop>
+    // Its files are what is found.
+    ensures files { IfOk result (λ disk. folder_files disk ≡ (outside_of found.now).found) }
     // No call failed yet.
-    ensures { IfOk result (λ disk. folder_failures disk ≡ 0) }
+    ensures fresh { IfOk result (λ disk. folder_failures disk ≡ 0) }
 {
     let opened = Folder::open(rt, folder, false);
-    disk_over(rt, causes, folder, opened, IS_MISSING)
+    disk_over(rt, causes, folder, opened, IS_MISSING, found)
 }
 
 /// What is told of a folder that is missing, where none is made.
@@ -78,11 +87,13 @@ fn disk_over(
     folder: &str,
     opened: Result<Folder, OpenError>,
     missing: &'static str,
+    found: &Found,
 ) -> Result<DirDisk, Stop>
-    ensures { IfOk result (λ disk. folder_failures disk ≡ 0) }
+    ensures files { IfOk result (λ disk. folder_files disk ≡ (outside_of found.now).found) }
+    ensures fresh { IfOk result (λ disk. folder_failures disk ≡ 0) }
 {
     match opened {
-        Ok(files) => Ok(DirDisk::new(files)),
+        Ok(files) => Ok(DirDisk::over(files, found.again())),
         Err(OpenError::OutOfMemory) => Err(Stop::Fault(Fault::OutOfMemory)),
         Err(OpenError::Folder(fault)) => {
             let advice = advice_for(&fault, missing);

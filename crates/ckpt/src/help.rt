@@ -55,7 +55,7 @@ pub const RESTORE: &str = "Example:
 Prints checkpoint N; for each space a line space N, its areas as area FIRST END PROT, and
 bytes ADDRESS HEX for each 32 bytes that aren't all zeros. With --json the document has no bytes,
 but the number of pages, and of those that are zeros. With --checkpoint N it is the memory at
-that checkpoint, where the store still has it; history prints which it has.
+that checkpoint, where the store still has it, also with --json; history prints which it has.
 
 Status: 0 where a memory was printed; 3 where the store shows no checkpoint (empty chain), or has
 no image of checkpoint N (no checkpoint N);
@@ -98,6 +98,20 @@ later one takes their slots after the store was opened again.
 Status: 0; 1 where an open slot is no image, or the device, memory or the printing failed
 (damaged SSS WHY, device, out-of-memory, cannot open DIR); 2 for a fault of the command line.";
 
+pub const DIFF: &str = "Example:
+  ckpt diff store 1 2
+
+Prints, rising by space and address, a line for each run of pages that differ alike between the
+memories at checkpoints OLD and NEW: + SPACE FIRST-END PROT pages that are mapped in NEW alone, -
+SPACE FIRST-END PROT in OLD alone, ~ SPACE FIRST-END PROT PROT in both with other permissions, and
+* SPACE FIRST-END PAGES in both with other bytes. END is the address behind the last page. Then it
+prints came N went N protected N written N, with numbers of pages. Pages that both checkpoints take
+from one place of one image aren't read, but for the digest of that image.
+
+Status: 0 where it printed that, also where nothing differs; 3 where the store has no image of one
+of them (no checkpoint N); 1 where the store, its device, memory or the printing failed (damaged
+SSS WHY, device, out-of-memory, cannot open DIR); 2 for a fault of the command line.";
+
 pub const SHOW: &str = "Example:
   ckpt show store
   ckpt show store 3 --json
@@ -106,7 +120,8 @@ Prints what stands in the image files. For each slot a line slot SSS raw, slot S
 SSS open; of an open one damaged WHY and a reason in words where the file is no image, the
 fields of its header, whether its digest is right or wrong (none: it has version 1), and for each
 space a line space N, its areas as area FIRST END PROT, and its runs as run KIND first PAGE pages N,
-with offset N where they are of data. What is damaged is printed as far as it can be read.
+with offset N where they are of data. What is damaged is printed as far as it can be read, of
+its table the first 2 MiB.
 
 Status: 0 where no slot is damaged; 1 where one is, or the device, memory or the printing failed
 (device, out-of-memory, cannot open DIR); 2 for a fault of the command line.";
@@ -120,7 +135,7 @@ same, also if it is cut off. An empty store answers refused 14 idle.
 
 Status: 0 where the chain was merged; 1 where the merge was refused, or the store, its
 device, memory or the printing failed (damaged SSS WHY, device, out-of-memory, cannot open
-DIR); 2 for a fault of the command line.
+DIR), or the file of --stats can't be written (cannot write FILE); 2 for a fault of the command line.
 
 Only one of run, shell, merge, mutate and import can have a store open at a time.";
 
@@ -143,25 +158,34 @@ Only one of run, shell, merge, mutate and import can have a store open at a time
 pub const EXPORT: &str = "Example:
   ckpt export store cores
   gdb -batch -ex 'x/s 0x10000' -c cores/space-1.core
+  ckpt export --notes core.4711 --checkpoint 1 store cores
+  gdb -batch -ex backtrace program cores/space-1.core
 
 Writes for each space that the store shows a file OUT/space-N.core: an ELF core file of
 x86-64 with one segment an area, and holes for pages of zeros. It has memory alone: no
-registers, no threads. A file gets its name when all are whole and on the device; one that
+registers, no threads. With --notes CORE it has the notes of that core, and so its registers,
+mapped files and the program's name;
+    they fit the checkpoint that was imported from it. A file gets its name when all are whole and on the device;
+    one that
 is there is replaced only with --force. A file of an older export whose space the store no
 longer shows stays, also with --force. Beside a run it tries again for a second, as restore does.
 
 Status: 0 where the files were written; 3 where the store shows no checkpoint (empty chain), or has
 no image of checkpoint N (no checkpoint N);
 1 where the store, its device, memory or the files failed (damaged SSS WHY, device,
-out-of-memory, cannot open DIR, cannot write OUT), or the store doesn't show space N
-(refused 3 no-such-space); 2 for a fault of the command line.";
+out-of-memory, cannot open DIR, cannot write OUT), or the core of --notes isn't read (not a core,
+core too large, cannot read CORE), or the store doesn't show space N (refused 3 no-such-space);
+2 for a fault of the command line.";
 
 pub const IMPORT: &str = "Example:
   gcore -o core 4711
   ckpt import store core.4711
+  ckpt import store monday.core tuesday.core
 
-Compares the segments of CORE with what the store shows, maps, unmaps, protects and stores
-what differs, prints imported PAGES changed PAGES, makes a checkpoint, and prints acked N.
+Opens all cores, and imports one after the other. Of each it compares
+the segments with what the space has, maps, unmaps, protects and stores what differs, prints
+imported PAGES changed PAGES, makes a checkpoint, and prints acked N. The first image of a run is
+whole; each later one has as data only what changed since the core before.
 The other spaces stay as they are. A space that isn't alive is made where it has the least
 number that is free, as a child of the space with the fewest pages, which has to fit beside all others.
 Segments of the kernel's addresses are left out; what a segment doesn't
@@ -169,11 +193,12 @@ have in the file is zeros. Each piece of up to 64 bytes that differs is one comm
 core of which more than some 64 MiB differ can't be imported at once (refused 7
 journal-full).
 
-Status: 0 where the checkpoint was acknowledged; 1 where CORE isn't read or has no memory (not a
-core, core too large, cannot read CORE), another program changed it meanwhile (core changed), a request
+Status: 0 where each checkpoint was acknowledged; 1 where a CORE isn't read or has no memory (not a
+core, core too large, cannot read CORE), another program changed it meanwhile (core changed), the file of
+--stats can't be written (cannot write FILE), a request
 was refused (refused N NAME), or the store, its device, memory or the printing failed
 (damaged SSS WHY, device, out-of-memory, cannot open DIR); 2 for a fault of the command
-line. With status 1 nothing is saved, but where the device failed at the checkpoint's last
-step or acked N wasn't printed: verify tells then.
+line. With status 1 nothing is saved of that core and of those after it, but where the device
+failed at the checkpoint's last step or acked N wasn't printed: verify tells then.
 
 Only one of run, shell, merge, mutate and import can have a store open at a time.";

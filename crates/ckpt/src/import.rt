@@ -1,36 +1,137 @@
-//! `ckpt import`: the memory of an ELF core file as the memory of a space, and a checkpoint of it.
+//! `ckpt import`: the memory of ELF core files as the memory of a space, one after the other, and a checkpoint of each.
 
-use crate::cause::{Causes, tell, tell_device};
-use crate::folders::make_store;
-use crate::verbose::{is_watched, logger_for, seen_by, unseen};
+use crate::cause::{Causes, causes_asked, tell};
+use crate::cores::{Source, open_cores, stopped, unread};
+use crate::counted::{Job, do_seen};
+use crate::course::{Course, FewAt};
+use crate::ends::{FewSlots, tell_few_slots};
+use crate::stats::Inputs;
 use clap::ArgMatches;
 use sd_areas::SpaceId;
 use sd_command::Reply;
-use sd_disk::Disk;
-use sd_elf::{Core, ReadError, read_core};
+use sd_disk::{Disk, Found};
 use sd_exit::{Output, Stop, exit};
+use sd_gate::Worker;
 use sd_import::{ImportError, Tally, import_core};
 use sd_restore::Fault;
-use sd_run::{FRAMES, unopened};
+use sd_run::{FRAMES, Watch, unopened};
 use sd_script::{Answer, print_answer};
-use sd_world::{OpenError, World};
-use std::fs::File;
+use sd_stats::Gated;
+use sd_world::{Event, OpenError, World};
+use std::alloc::Global;
+use std::io;
 use std::io::Write;
-use std::os::unix::fs::FileTypeExt;
 use std::sync::Wait;
 use std::time::Clock;
-use std::{fs, io};
 
-/// What is asked of an import.
-#[derive(Drop)]
+/// What is told of a core file that another program changed while it was imported.
+const CHANGED: &str = "it was changed while it was imported; nothing of it is saved";
+
+/// What is told of a file of counts that is a core.
+const IS_CORE: &str = "a core that is to be imported, which isn't written over: name another";
+
+/// Which space gets the memory of the cores, and how many rounds each checkpoint has.
+#[derive(Clone, Copy)]
 struct Order {
+    causes: Causes,
     space: SpaceId,
     rounds: u64,
 }
 
-/// Prints a reply that ends an import, and how the program ends behind it.
-fn replied<W: Write>(reply: Reply, out: &mut Output<W>) -> Stop {
-    stopped(print_answer(&Answer::Reply(reply), out))
+/// An import of core files, one after the other.
+#[derive(Clone, Copy)]
+struct ImportJob<'a, 's> {
+    course: &'a Course<'a>,
+    order: Order,
+    sources: &'s [Source<'s>],
+}
+
+impl Job for ImportJob<'_, '_> {
+    fn run<D: Disk, W: Write, S: Watch>(
+        self,
+        rt: &HostRuntime,
+        disk: D,
+        out: &mut Output<W>,
+        watch: &mut S,
+    ) -> (D, u8) {
+        import_gated(rt, self.course, self.order, self.sources, disk, out, watch)
+    }
+}
+
+/// Imports the cores into a store of which it is known how many slots are free, and returns it with the exit status.
+fn import_gated<D: Disk, W: Write, S: Watch>(
+    rt: &HostRuntime,
+    course: &Course<'_>,
+    order: Order,
+    sources: &[Source<'_>],
+    disk: D,
+    out: &mut Output<W>,
+    watch: &mut S,
+) -> (D, u8) {
+    let gated = Gated::new(course.gates(), disk);
+    let (gated, status) = import_over(rt, order, sources, gated, out, watch);
+    let (_, disk) = gated.into_parts();
+    (disk, status)
+}
+
+/// Imports the cores into a store, and returns it with the exit status.
+fn import_over<D: Disk, W: Write, S: Watch>(
+    rt: &HostRuntime,
+    order: Order,
+    sources: &[Source<'_>],
+    disk: D,
+    out: &mut Output<W>,
+    watch: &mut S,
+) -> (D, u8) {
+    match World::open(rt.alloc(), disk, FRAMES) {
+        Ok(mut world) => {
+            let ended = import_all(rt, order, sources, &mut world, out, watch);
+            (world.close(), exit(&ended, out))
+        }
+        Err(OpenError { fault, disk }) => (disk, exit(&Err(unopened(fault)), out)),
+    }
+}
+
+/// Opens the store of a world again, and imports the cores, up to the first that isn't saved. Between two the journal
+/// is trimmed, so each has all of its room.
+fn import_all<D: Disk, W: Write, S: Watch>(
+    rt: &HostRuntime,
+    order: Order,
+    sources: &[Source<'_>],
+    world: &mut World<D>,
+    out: &mut Output<W>,
+    watch: &mut S,
+) -> Result<(), Stop> {
+    let reopened = world.do_job(Event::Reopen, Worker::Opener, watch);
+    if !matches!(&reopened, Reply::Reopened(_)) {
+        return Err(refused(rt.alloc(), reopened, out));
+    }
+    for source in sources {
+        import_one(rt, order, source, world, out, watch)?;
+        let _ = world.make(Event::Trim);
+    }
+    Ok(())
+}
+
+/// Gives the space the memory of a core, and makes a checkpoint.
+fn import_one<D: Disk, W: Write, S: Watch>(
+    rt: &HostRuntime,
+    order: Order,
+    source: &Source<'_>,
+    world: &mut World<D>,
+    out: &mut Output<W>,
+    watch: &mut S,
+) -> Result<(), Stop> {
+    match import_core(rt.alloc(), world, &source.file, &source.core, order.space) {
+        Ok(tally) => print_tally(&tally, out)?,
+        Err(error) => return Err(ended_with(rt, order.causes, source.name, error, out)),
+    }
+    let answer = world.do_job(Event::Begin(order.rounds), Worker::Dumper, watch);
+    if !matches!(&answer, Reply::Acked(_)) {
+        return Err(refused(rt.alloc(), answer, out));
+    }
+    print_reply(rt.alloc(), answer, out)?;
+    Ok(out.flush()?)
 }
 
 /// Prints what was imported, also where the output is held back, before the checkpoint is made.
@@ -39,39 +140,35 @@ fn print_tally<W: Write>(tally: &Tally, out: &mut Output<W>) -> io::Result<()> {
     out.flush()
 }
 
-/// Gives a space the memory of a core, and makes a checkpoint.
-fn import_into<D: Disk, W: Write>(
-    rt: &(impl Eprint + AllocGlobal),
-    causes: Causes,
-    world: &mut World<D>,
-    source: &Source<'_>,
-    order: &Order,
-    out: &mut Output<W>,
-) -> Result<(), Stop> {
-    if let Err(why) = world.reopen_now() {
-        return Err(replied(Reply::Refused(why), out));
+/// Prints a reply as one line, in one piece.
+fn print_reply<W: Write>(alloc: Global, reply: Reply, out: &mut Output<W>) -> Result<(), Stop> {
+    let mut line = Vec::new(alloc);
+    if print_answer(&Answer::Reply(reply), &mut line).is_err() {
+        return Err(Stop::Fault(Fault::OutOfMemory));
     }
-    match import_core(rt.alloc(), world, &source.file, &source.core, order.space) {
-        Ok(tally) => print_tally(&tally, out)?,
-        Err(error) => return Err(ended_with(rt, causes, source.name, error, out)),
-    }
-    match world.checkpoint(order.rounds) {
-        Ok(number) => Ok(print_answer(&Answer::Reply(Reply::Acked(number)), out)?),
-        Err(why) => Err(replied(Reply::Refused(why), out)),
+    out.write_all(&line)?;
+    Ok(())
+}
+
+/// Prints a reply that ends an import, and returns how the program ends.
+fn refused<W: Write>(alloc: Global, reply: Reply, out: &mut Output<W>) -> Stop {
+    match print_reply(alloc, reply, out) {
+        Ok(()) => Stop::Refused,
+        Err(stop) => stop,
     }
 }
 
 /// Prints why an import ended early, and tells its cause.
 fn ended_with<W: Write>(
-    rt: &impl Eprint,
+    rt: &(impl Eprint + AllocGlobal),
     causes: Causes,
     name: &str,
     error: ImportError,
     out: &mut Output<W>,
 ) -> Stop {
     match error {
-        ImportError::Core(error) => core_ended_with(rt, causes, name, error, out),
-        ImportError::Answer(reply) => replied(reply, out),
+        ImportError::Core(error) => unread(rt, causes, name, error, out),
+        ImportError::Answer(reply) => refused(rt.alloc(), reply, out),
         ImportError::Changed => {
             tell(rt, causes, name, &CHANGED);
             stopped(out.write_all(b"core changed\n"))
@@ -80,102 +177,38 @@ fn ended_with<W: Write>(
     }
 }
 
-/// What is told of a core file that another program changed while it was imported.
-const CHANGED: &str = "it was changed while it was imported; nothing is saved";
-
-/// How a program ends behind its last line.
-fn stopped(printed: io::Result<()>) -> Stop {
-    match printed {
-        Ok(()) => Stop::Refused,
-        Err(error) => Stop::Writer(error),
-    }
-}
-
-/// Prints why a core isn't read, and tells its cause.
-fn core_ended_with<W: Write>(
-    rt: &impl Eprint,
-    causes: Causes,
-    name: &str,
-    error: ReadError,
-    out: &mut Output<W>,
-) -> Stop {
-    let printed = match error {
-        ReadError::Fault(fault) if fault.is_too_large() => {
-            tell(rt, causes, name, &fault);
-            out.write_all(b"core too large\n")
-        }
-        ReadError::Fault(fault) => {
-            tell(rt, causes, name, &fault);
-            out.write_all(b"not a core\n")
-        }
-        ReadError::File(error) => {
-            tell(rt, causes, name, &error);
-            out.write_all(b"cannot read CORE\n")
-        }
-        ReadError::OutOfMemory => return Stop::Fault(Fault::OutOfMemory),
-    };
-    stopped(printed)
-}
-
-/// What is reported of a core without a segment of memory.
-const NO_MEMORY: &str = "no memory in it: it has no segment that is loaded";
-
-/// What is told of a core that is to be read from a pipe.
-const IS_PIPE: &str = "a pipe, of which no place can be read twice: write the core into a file";
-
-/// A core file whose headers were read.
-#[derive(Drop)]
-struct Source<'a> {
-    name: &'a str,
-    file: File,
-    core: Core,
-}
-
-/// Opens a core file, and reads its headers. A pipe isn't opened: it would be waited for, and is read at no place.
-fn open_core<'a>(rt: &HostRuntime, name: &'a str) -> Result<Source<'a>, ReadError> {
-    if fs::metadata(rt, name)?.file_type().is_fifo() {
-        return Err(io::Error::new(io::ErrorKind::Unsupported, IS_PIPE).into());
-    }
-    let file = File::open(rt, name)?;
-    let core = read_core(rt.alloc(), &file)?;
-    Ok(Source { name, file, core })
-}
-
-/// `ckpt import`: files that are missing are made. What is no core makes none.
+/// `ckpt import`: files that are missing are made. All cores are opened before; where one is none, no file is made.
 pub fn import_program<R: Clock + Wait, W: Write>(
     rt: &HostRuntime,
     clock: &R,
-    causes: Causes,
     words: &ArgMatches<'_>,
+    course: &Course<'_>,
+    found: &Found,
     out: &mut Output<W>,
 ) -> Result<u8, Stop> {
-    let folder = words.get_str("DIR").unwrap_or("");
-    let name = words.get_str("CORE").unwrap_or("");
+    let causes = causes_asked(words);
+    let names = words.get_strs("CORE").unwrap_or(&[]);
+    let sources = open_cores(rt, causes, names, out)?;
+    let rounds = words.get_one::<u64>("rounds").unwrap_or(0);
     let order = Order {
+        causes,
         space: SpaceId::new(words.get_one::<u64>("space").unwrap_or(1)),
-        rounds: words.get_one::<u64>("rounds").unwrap_or(0),
+        rounds,
     };
-    let source = match open_core(rt, name) {
-        Ok(source) => source,
-        Err(error) => return Err(core_ended_with(rt, causes, name, error, out)),
+    let job = ImportJob {
+        course,
+        order,
+        sources: &sources,
     };
-    if source.core.segments.is_empty() {
-        tell(rt, causes, name, &NO_MEMORY);
-        return Err(stopped(out.write_all(b"not a core\n")));
+    let inputs = Inputs {
+        paths: names,
+        cause: IS_CORE,
+    };
+    let status = do_seen(rt, clock, words, course, inputs, job, found, out)?;
+    if let Some(FewAt { free, .. }) = course.few() {
+        let folder = words.get_str("DIR").unwrap_or("");
+        let wanted = rounds.saturating_add(2);
+        tell_few_slots(rt, causes, folder, FewSlots { free, wanted });
     }
-    let disk = make_store(rt, clock, causes, folder)?;
-    let log = logger_for(rt, words);
-    let seen = seen_by(rt, &log, words, is_watched(rt, causes));
-    let disk = seen.disk("opening", disk);
-    match World::open(rt.alloc(), disk, FRAMES) {
-        Ok(mut world) => {
-            let ended = import_into(rt, causes, &mut world, &source, &order, out);
-            tell_device(rt, causes, folder, &unseen(world.close()));
-            Ok(exit(&ended, out))
-        }
-        Err(OpenError { fault, disk }) => {
-            tell_device(rt, causes, folder, &unseen(disk));
-            Err(unopened(fault))
-        }
-    }
+    Ok(status)
 }

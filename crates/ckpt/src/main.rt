@@ -8,32 +8,29 @@ ghost use Rattle.sd_readers.specs.declared.steady.Reader.TheVariants as reader;
 ghost use Rattle.sd_readers.specs.Reading.{ReaderEnds};
 ghost use Rattle.ckpt.specs.Reading.{RunsScript};
 
-use cause::{Causes, causes_asked, tell, tell_device};
+use called::{NOTHING, hold_descriptors, print_words_fault, words_of};
+use cause::{Causes, causes_asked, tell};
 use clap::ArgMatches;
 use command_line::{Work, asked_of};
-use counted::{Job, MergeJob, RunAsked, ScriptJob, ShellJob, run_job};
+use counted::{MergeJob, RunAsked, ScriptJob, ShellJob, do_seen};
 use course::{Course, Noted};
 use ends::{tell_end, tell_merge};
-use folders::make_store;
 use mutating::mutate_program;
-use past::{PastAsked, history_asked, past_asked, past_program};
-use progress::ProgressLine;
+use queries::{QueryAsked, history_asked, query_asked, query_program};
 use reading::{read_seen, read_store};
-use scripts::{parse_script, read_script};
-use sd_disk::Disk;
-use sd_exit::{Output, Stop, exit};
+use scripts::{parse_script, read_script, script_inputs};
+use sd_disk::{Disk, Found};
+use sd_exit::{Output, Stop, Taken, exit};
 use sd_readers::{Reader, restore_to};
 use sd_run::{Watch, run_lines};
 use sd_script::Script;
 use shell::{Asked, Asking};
-use stats::{counts_asked, counts_seen};
+use stats::Inputs;
 use std::alloc::Global;
 use std::cell::Cell;
-use std::fs::File;
 use std::io;
-use std::io::{BufWriter, Input, IsTerminal, Lock, Write};
+use std::io::{BufWriter, Input, IsTerminal, Write};
 use std::process::ExitCode;
-use std::rt::{Env, Files};
 use std::sync::Wait;
 use std::thread::Threads;
 use std::time::Clock;
@@ -42,10 +39,13 @@ use verbose::{is_watched, logger_for, seen_by};
 mod arguments;
 mod beside;
 mod bulk;
+mod called;
 mod cause;
 mod command_line;
+mod cores;
 mod counted;
 mod course;
+mod diff;
 mod ends;
 mod explained;
 mod export;
@@ -55,8 +55,9 @@ mod import;
 mod json;
 mod logging;
 mod mutating;
-mod past;
+mod parts;
 mod progress;
+mod queries;
 mod reading;
 mod requests;
 mod scripts;
@@ -70,9 +71,6 @@ mod verbose;
 
 /// The exit status of a program that was refused or stopped.
 const FAILED: u8 = 1;
-
-/// The exit status where the command line doesn't fit.
-const UNFIT: u8 = 2;
 
 /// Prints the memory that a store shows, and gives the store back with the exit status.
 fn restore_over<D: Disk, W: Write>(alloc: Global, disk: D, out: &mut Output<W>) -> (D, u8)
@@ -127,57 +125,35 @@ fn run_program<R: Clock + Wait, W: Write>(
     threads: &R,
     words: &ArgMatches<'_>,
     course: &Course<'_>,
+    found: &Found,
     out: &mut Output<W>,
 ) -> Result<u8, Stop> {
-    let folder = words.get_str("DIR").unwrap_or("");
     let causes = causes_asked(words);
     if let Some(name) = words.get_str("check") {
         return check_program(rt, causes, name, out);
     }
-    let name = words.get_str("SCRIPT").unwrap_or("");
-    let bytes = read_script(rt, causes, name)?;
-    let script = parse_script(rt, causes, name, &bytes)?;
-    let log = logger_for(rt, words);
-    let seen = seen_by(rt, &log, words, is_watched(rt, causes));
-    let counts = counts_asked(rt, causes, words, seen, out)?;
-    let disk = make_store(rt, threads, causes, folder)?;
-    if let Some(counts) = &counts {
-        counts.begin();
-    }
-    course.begin(bytes, seen.shows && !rt.stdout().is_terminal());
-    let watch = ProgressLine::new(rt, course, rt.stderr().lock(), seen.shows);
+    let names = [words.get_str("SCRIPT").unwrap_or("")];
+    let bytes = read_script(rt, causes, names[0])?;
+    let script = parse_script(rt, causes, names[0], &bytes)?;
+    course.begin(bytes, is_watched(rt, causes) && !rt.stdout().is_terminal());
     let asked = RunAsked {
-        folder,
+        folder: words.get_str("DIR").unwrap_or(""),
         course,
         restores: words.get_flag("restore"),
         strict: words.get_flag("strict"),
         causes,
     };
     let job = ScriptJob { asked, script };
-    let (disk, status) = run_job(rt, seen, causes, counts, disk, job, out, watch);
-    tell_device(rt, causes, folder, &disk);
-    Ok(status)
-}
-
-/// Does a job over the store that the words name, whose missing files are made. What is to be seen of it is shown.
-fn do_seen<R: Clock + Wait, J: Job + Drop, W: Write>(
-    rt: &HostRuntime,
-    threads: &R,
-    words: &ArgMatches<'_>,
-    course: &Course<'_>,
-    job: J,
-    out: &mut Output<W>,
-) -> Result<u8, Stop> {
-    let folder = words.get_str("DIR").unwrap_or("");
-    let causes = causes_asked(words);
-    let disk = make_store(rt, threads, causes, folder)?;
-    let log = logger_for(rt, words);
-    let seen = seen_by(rt, &log, words, is_watched(rt, causes));
-    let watch = ProgressLine::new(rt, course, rt.stderr().lock(), seen.shows);
-    let counts = counts_seen(seen);
-    let (disk, status) = run_job(rt, seen, causes, counts, disk, job, out, watch);
-    tell_device(rt, causes, folder, &disk);
-    Ok(status)
+    do_seen(
+        rt,
+        threads,
+        words,
+        course,
+        script_inputs(&names),
+        job,
+        found,
+        out,
+    )
 }
 
 /// `ckpt shell`.
@@ -186,6 +162,7 @@ fn shell_program<R: Clock + Wait, W: Write>(
     threads: &R,
     words: &ArgMatches<'_>,
     course: &Course<'_>,
+    found: &Found,
     out: &mut Output<W>,
 ) -> Result<u8, Stop> {
     let failed = Cell::new(None);
@@ -197,7 +174,16 @@ fn shell_program<R: Clock + Wait, W: Write>(
         failed: &failed,
         asking: asking_of(rt.stdin().is_terminal() && rt.stdout().is_terminal()),
     };
-    do_seen(rt, threads, words, course, ShellJob { asked }, out)
+    do_seen(
+        rt,
+        threads,
+        words,
+        course,
+        Inputs::NONE,
+        ShellJob { asked },
+        found,
+        out,
+    )
 }
 
 /// Whether a shell asks for its requests: where its input and its output are a terminal.
@@ -215,9 +201,19 @@ fn merge_program<R: Clock + Wait, W: Write>(
     threads: &R,
     words: &ArgMatches<'_>,
     course: &Course<'_>,
+    found: &Found,
     out: &mut Output<W>,
 ) -> Result<u8, Stop> {
-    let status = do_seen(rt, threads, words, course, MergeJob { course }, out)?;
+    let status = do_seen(
+        rt,
+        threads,
+        words,
+        course,
+        Inputs::NONE,
+        MergeJob { course },
+        found,
+        out,
+    )?;
     let folder = words.get_str("DIR").unwrap_or("");
     tell_merge(rt, causes_asked(words), folder, course);
     Ok(status)
@@ -229,34 +225,27 @@ fn reader_program<R: Clock + Wait, W: Write>(
     threads: &R,
     reader: Reader,
     words: &ArgMatches<'_>,
+    found: &Found,
     out: &mut Output<W>,
 ) -> Result<u8, Stop> {
     let folder = words.get_str("DIR").unwrap_or("");
     let causes = causes_asked(words);
     let log = logger_for(rt, words);
     let seen = seen_by(rt, &log, words, is_watched(rt, causes));
-    if let Some(past) = past_asked(reader, words) {
-        let asked = PastAsked {
+    if let Some(query) = query_asked(reader, words) {
+        let asked = QueryAsked {
             seen,
             causes,
-            past,
+            query,
             folder,
+            found,
         };
-        return past_program(rt, threads, asked, out);
-    }
-    if words.get_flag("json") {
-        let asked = json::DocumentAsked {
-            seen,
-            causes,
-            reader,
-            folder,
-        };
-        return json::json_program(rt, threads, asked, out);
+        return query_program(rt, threads, asked, out);
     }
     if seen.is_asked() {
-        return read_seen(rt, threads, seen, causes, reader, folder, out);
+        return read_seen(rt, threads, seen, causes, reader, folder, found, out);
     }
-    let (_, status) = read_store(rt, threads, causes, reader, folder, out)?;
+    let (_, status) = read_store(rt, threads, causes, reader, folder, found, out)?;
     Ok(status)
 }
 
@@ -265,17 +254,19 @@ fn history_program<R: Clock + Wait, W: Write>(
     rt: &HostRuntime,
     threads: &R,
     words: &ArgMatches<'_>,
+    found: &Found,
     out: &mut Output<W>,
 ) -> Result<u8, Stop> {
     let causes = causes_asked(words);
     let log = logger_for(rt, words);
-    let asked = PastAsked {
+    let asked = QueryAsked {
         seen: seen_by(rt, &log, words, is_watched(rt, causes)),
         causes,
-        past: history_asked(words),
+        query: history_asked(words),
         folder: words.get_str("DIR").unwrap_or(""),
+        found,
     };
-    past_program(rt, threads, asked, out)
+    query_program(rt, threads, asked, out)
 }
 
 /// Runs the program that the words ask for, and returns the exit status.
@@ -284,21 +275,23 @@ fn run_matches<R: Clock + Threads + Wait + Sync, W: Write>(
     threads: &R,
     matches: &ArgMatches<'_>,
     course: &Course<'_>,
+    found: &Found,
     out: &mut Output<W>,
 ) -> Result<u8, Stop> {
     let Some((work, words)) = asked_of(matches) else {
         return Ok(exit(&Ok(()), out));
     };
     match work {
-        Work::Run => run_program(rt, threads, words, course, out),
-        Work::Shell => shell_program(rt, threads, words, course, out),
-        Work::Merge => merge_program(rt, threads, words, course, out),
-        Work::Mutate => mutate_program(rt, threads, words, out),
-        Work::Read(reader) => reader_program(rt, threads, reader, words, out),
-        Work::History => history_program(rt, threads, words, out),
-        Work::Show => show::show_program(rt, threads, causes_asked(words), words, out),
-        Work::Export => export::export_program(rt, threads, causes_asked(words), words, out),
-        Work::Import => import::import_program(rt, threads, causes_asked(words), words, out),
+        Work::Run => run_program(rt, threads, words, course, found, out),
+        Work::Shell => shell_program(rt, threads, words, course, found, out),
+        Work::Merge => merge_program(rt, threads, words, course, found, out),
+        Work::Mutate => mutate_program(rt, threads, words, found, out),
+        Work::Read(reader) => reader_program(rt, threads, reader, words, found, out),
+        Work::History => history_program(rt, threads, words, found, out),
+        Work::Diff => diff::diff_program(rt, threads, words, found, out),
+        Work::Show => show::show_program(rt, threads, causes_asked(words), words, found, out),
+        Work::Export => export::export_program(rt, threads, words, found, out),
+        Work::Import => import::import_program(rt, threads, words, course, found, out),
     }
 }
 
@@ -309,12 +302,13 @@ fn run_words<R: Clock + Threads + Wait + Sync, W: Write>(
     threads: &R,
     words: &[String],
     course: &Course<'_>,
+    found: &Found,
     out: &mut Output<W>,
 ) -> Result<(Causes, u8), clap::Error> {
     let run_help = command_line::run_help(rt.alloc())?;
     let command = command_line::command(rt.alloc(), &run_help)?;
     let matches = command.try_get_matches_from(words)?;
-    let status = match run_matches(rt, threads, &matches, course, out) {
+    let status = match run_matches(rt, threads, &matches, course, found, out) {
         Ok(status) => status,
         Err(stop) => exit(&Err(stop), out),
     };
@@ -343,11 +337,12 @@ fn run_command<R: Clock + Threads + Wait + Sync>(
     rt: &HostRuntime,
     threads: &R,
     words: &[String],
+    found: &Found,
 ) -> io::Result<u8> {
     let course = Course::new(rt);
-    let writer = BufWriter::new(rt.alloc(), io::writer(rt))?;
+    let writer = BufWriter::new(rt.alloc(), Taken::new(io::writer(rt)))?;
     let mut out = Output::new(Noted::new(&course, writer));
-    match run_words(rt, threads, words, &course, &mut out) {
+    match run_words(rt, threads, words, &course, found, &mut out) {
         Ok((causes, status)) => {
             tell_refusal(rt, causes, out.error());
             Ok(status)
@@ -356,50 +351,8 @@ fn run_command<R: Clock + Threads + Wait + Sync>(
     }
 }
 
-/// Prints what is wrong with the words, or the help, and returns the status. That of wrong words stays where they can't
-/// be printed.
-fn print_words_fault(rt: &(impl Print + Eprint), error: &clap::Error) -> io::Result<u8> {
-    match error.print(rt) {
-        Err(unprinted) if !error.use_stderr() => Err(unprinted),
-        _ => Ok(error.exit_code() as u8),
-    }
-}
-
-/// Holds three descriptors of nothing. Those of 0 to 2 that the caller closed are among them, so no file of a store
-/// becomes the standard output.
-fn hold_descriptors(rt: &impl Files<File = File>) -> io::Result<(File, File, File)> {
-    let first = File::open(rt, NOTHING)?;
-    let second = File::open(rt, NOTHING)?;
-    let third = File::open(rt, NOTHING)?;
-    Ok((first, second, third))
-}
-
-/// The device of nothing.
-const NOTHING: &str = "/dev/null";
-
-/// What a fault of the words is told of.
-const COMMAND_LINE: &str = "the command line";
-
-/// The words that the program was called with, or the status where they can't be taken.
-fn words_of(rt: &(impl Env + Eprint + AllocGlobal)) -> Result<Vec<String>, u8> {
-    let words = match std::env::args(rt) {
-        Ok(words) => words.collect(rt.alloc()).map_err(io::Error::from),
-        Err(error) => Err(error),
-    };
-    words.map_err(|error| match error.kind() {
-        io::ErrorKind::InvalidData => {
-            tell(rt, Causes::Told, COMMAND_LINE, &"a word of it isn't UTF-8");
-            UNFIT
-        }
-        _ => {
-            tell(rt, Causes::Told, COMMAND_LINE, &error);
-            FAILED
-        }
-    })
-}
-
 /// The exit status.
-fn status_of<R: Clock + Threads + Wait + Sync>(rt: &HostRuntime, threads: &R) -> u8 {
+fn status_of<R: Clock + Threads + Wait + Sync>(rt: &HostRuntime, threads: &R, found: &Found) -> u8 {
     let held = hold_descriptors(rt);
     if let Err(error) = &held {
         tell(rt, Causes::Told, NOTHING, error);
@@ -409,7 +362,7 @@ fn status_of<R: Clock + Threads + Wait + Sync>(rt: &HostRuntime, threads: &R) ->
         Ok(words) => words,
         Err(status) => return status,
     };
-    match run_command(rt, threads, &words) {
+    match run_command(rt, threads, &words, found) {
         Ok(status) => status,
         Err(error) => {
             tell_refusal(rt, Causes::Told, Some(&error));
@@ -419,5 +372,7 @@ fn status_of<R: Clock + Threads + Wait + Sync>(rt: &HostRuntime, threads: &R) ->
 }
 
 fn main(rt: HostRuntime) -> ExitCode {
-    ExitCode::from(status_of(&rt, &rt))
+    // What is promised of `status_of` is so of whatever the files hold. A value is named here, which no code can see.
+    let found = Found::any();
+    ExitCode::from(status_of(&rt, &rt, &found))
 }

@@ -5,6 +5,7 @@ use crate::folders::make_store;
 use crate::verbose::logger_for;
 use clap::ArgMatches;
 use log::info;
+use sd_disk::Found;
 use sd_exit::{Output, Stop, exit};
 use sd_mutate::{MutateFault, Tally, mutate};
 use sd_run::unopened;
@@ -41,12 +42,13 @@ pub fn mutate_program<R: Clock + Threads + Wait + Sync, W: Write>(
     rt: &HostRuntime,
     threads: &R,
     words: &ArgMatches<'_>,
+    found: &Found,
     out: &mut Output<W>,
 ) -> Result<u8, Stop> {
     let folder = words.get_str("DIR").unwrap_or("");
     let causes = causes_asked(words);
     let count = words.get_one::<usize>("THREADS").unwrap_or(1);
-    let disk = make_store(rt, threads, causes, folder)?;
+    let disk = make_store(rt, threads, causes, folder, found)?;
     let log = logger_for(rt, words);
     info!(log; target: "ckpt", "{count} threads begin");
     let (disk, ended) = mutate(threads, rt.alloc(), disk, count);

@@ -1,7 +1,7 @@
 //! Programs that read a store, also while a run writes it.
 ghost use Rattle.std.specs.Prelude.{◌≡◌, false, [], Some, IfOk};
 ghost use Rattle.sd_disk.specs.Reads.{OnlyReads};
-ghost use Rattle.sd_disk.specs.Folder.{IsFolderHonest, folder_failures, folder_files};
+ghost use Rattle.sd_disk.specs.Folder.{IsFolderHonest, folder_failures, folder_files, outside_of};
 ghost use Rattle.sd_readers.specs.Reading.{ReaderEnds};
 ghost use Rattle.ckpt.specs.Reading.{ReadsFolder};
 
@@ -10,7 +10,7 @@ use crate::beside::{BESIDE, PAUSES, may_change, read_until_steady, tell_beside};
 use crate::cause::{Causes, tell, tell_device};
 use crate::folders::open_store;
 use crate::verbose::{Seen, unseen};
-use sd_disk::{DirDisk, Disk, is_being_written};
+use sd_disk::{DirDisk, Disk, Found, is_being_written};
 use sd_exit::{Output, Stop};
 use sd_readers::{Reader, list_to, print_held, restore_to, verify_to};
 use sd_restore::Fault;
@@ -67,11 +67,13 @@ fn try_to_read(
     causes: Causes,
     reader: Reader,
     folder: &str,
+    found: &Found,
 ) -> Result<Tried, Stop>
-    ensures { IfOk result (λ tried. ReaderEnds reader (IsFolderHonest tried.disk) (folder_files tried.disk)
+    ensures files { IfOk result (λ tried. folder_files tried.disk ≡ (outside_of found.now).found) }
+    ensures answers { IfOk result (λ tried. ReaderEnds reader (IsFolderHonest tried.disk) (folder_files tried.disk)
         0 (folder_failures tried.disk) (Some []) (Some tried.text.items) false tried.status) }
 {
-    let mut disk = open_store(rt, causes, folder)?;
+    let mut disk = open_store(rt, causes, folder, found)?;
     let mut out = Output::new(Vec::new(rt.alloc()));
     let status = read_to(rt.alloc(), reader, &mut disk, &mut out);
     if out.is_refused() {
@@ -94,18 +96,20 @@ fn try_often<R: Clock + Wait>(
     causes: Causes,
     reader: Reader,
     folder: &str,
+    found: &Found,
 ) -> Result<Tried, Stop>
-    ensures { IfOk result (λ tried. ReaderEnds reader (IsFolderHonest tried.disk) (folder_files tried.disk)
+    ensures files { IfOk result (λ tried. folder_files tried.disk ≡ (outside_of found.now).found) }
+    ensures answers { IfOk result (λ tried. ReaderEnds reader (IsFolderHonest tried.disk) (folder_files tried.disk)
         0 (folder_failures tried.disk) (Some []) (Some tried.text.items) false tried.status) }
 {
     for pause in PAUSES {
-        let tried = try_to_read(rt, causes, reader, folder)?;
+        let tried = try_to_read(rt, causes, reader, folder, found)?;
         if !may_change(tried.fault) {
             return Ok(tried);
         }
         thread::sleep(clock, Duration::from_millis(pause));
     }
-    try_to_read(rt, causes, reader, folder)
+    try_to_read(rt, causes, reader, folder, found)
 }
 
 /// Reads a store while a run writes it. What is printed is whole, or why there is nothing.
@@ -115,12 +119,14 @@ fn read_beside<R: Clock + Wait, W: Write>(
     causes: Causes,
     reader: Reader,
     folder: &str,
+    found: &Found,
     out: &mut Output<W>,
 ) -> Result<Reading, Stop>
-    ensures { IfOk result (λ read. ReadsFolder reader read
+    ensures files { IfOk result (λ read. folder_files read.0 ≡ (outside_of found.now).found) }
+    ensures answers { IfOk result (λ read. ReadsFolder reader read
         (W.contents out.old.writer) (W.contents out.new.writer) out.new.refused) }
 {
-    let tried = try_often(rt, clock, causes, reader, folder)?;
+    let tried = try_often(rt, clock, causes, reader, folder, found)?;
     if let (FAILED, Some(fault)) = (tried.status, tried.fault) {
         tell_disturbed(rt, causes, folder, fault);
         return Err(Stop::Fault(fault));
@@ -142,12 +148,14 @@ fn read_alone<W: Write>(
     causes: Causes,
     reader: Reader,
     folder: &str,
+    found: &Found,
     out: &mut Output<W>,
 ) -> Result<Reading, Stop>
-    ensures { IfOk result (λ read. ReadsFolder reader read
+    ensures files { IfOk result (λ read. folder_files read.0 ≡ (outside_of found.now).found) }
+    ensures answers { IfOk result (λ read. ReadsFolder reader read
         (W.contents out.old.writer) (W.contents out.new.writer) out.new.refused) }
 {
-    let mut disk = open_store(rt, causes, folder)?;
+    let mut disk = open_store(rt, causes, folder, found)?;
     let status = read_to(rt.alloc(), reader, &mut disk, out);
     tell_device(rt, causes, folder, &disk);
     if may_change(out.fault()) {
@@ -168,16 +176,18 @@ pub fn read_store<R: Clock + Wait, W: Write>(
     causes: Causes,
     reader: Reader,
     folder: &str,
+    found: &Found,
     out: &mut Output<W>,
 ) -> Result<Reading, Stop>
+    ensures files { IfOk result (λ read. folder_files read.0 ≡ (outside_of found.now).found) }
     // The whole text of what the store shows is written, or a beginning of it, with the last line and the exit status.
-    ensures { IfOk result (λ read. ReadsFolder reader read
+    ensures answers { IfOk result (λ read. ReadsFolder reader read
         (W.contents out.old.writer) (W.contents out.new.writer) out.new.refused) }
 {
     if is_being_written(rt, folder) {
-        read_beside(rt, clock, causes, reader, folder, out)
+        read_beside(rt, clock, causes, reader, folder, found, out)
     } else {
-        read_alone(rt, causes, reader, folder, out)
+        read_alone(rt, causes, reader, folder, found, out)
     }
 }
 
@@ -197,9 +207,10 @@ fn read_seen_once<W: Write>(
     causes: Causes,
     reader: Reader,
     folder: &str,
+    found: &Found,
     out: &mut Output<W>,
 ) -> Result<Reading, Stop> {
-    let disk = open_store(rt, causes, folder)?;
+    let disk = open_store(rt, causes, folder, found)?;
     let mut disk = seen.disk(deed_of(reader), disk);
     let status = read_to(rt.alloc(), reader, &mut disk, out);
     Ok((unseen(disk), status))
@@ -212,9 +223,10 @@ fn read_seen_alone<W: Write>(
     causes: Causes,
     reader: Reader,
     folder: &str,
+    found: &Found,
     out: &mut Output<W>,
 ) -> Result<u8, Stop> {
-    let (disk, status) = read_seen_once(rt, seen, causes, reader, folder, out)?;
+    let (disk, status) = read_seen_once(rt, seen, causes, reader, folder, found, out)?;
     tell_device(rt, causes, folder, &disk);
     if may_change(out.fault()) {
         tell_beside(rt, causes, folder);
@@ -232,9 +244,10 @@ fn read_seen_held(
     causes: Causes,
     reader: Reader,
     folder: &str,
+    found: &Found,
 ) -> Result<Held, Stop> {
     let mut held = Output::new(Vec::new(rt.alloc()));
-    let reading = read_seen_once(rt, seen, causes, reader, folder, &mut held)?;
+    let reading = read_seen_once(rt, seen, causes, reader, folder, found, &mut held)?;
     Ok((reading, held))
 }
 
@@ -247,11 +260,12 @@ fn read_seen_beside<R: Clock + Wait, W: Write>(
     causes: Causes,
     reader: Reader,
     folder: &str,
+    found: &Found,
     out: &mut Output<W>,
 ) -> Result<u8, Stop> {
     let ((_, status), held) = read_until_steady(
         clock,
-        || read_seen_held(rt, seen, causes, reader, folder),
+        || read_seen_held(rt, seen, causes, reader, folder, found),
         |(_, held)| may_change(held.fault()),
     )?;
     if held.is_refused() {
@@ -273,11 +287,12 @@ pub fn read_seen<R: Clock + Wait, W: Write>(
     causes: Causes,
     reader: Reader,
     folder: &str,
+    found: &Found,
     out: &mut Output<W>,
 ) -> Result<u8, Stop> {
     if is_being_written(rt, folder) {
-        read_seen_beside(rt, clock, seen, causes, reader, folder, out)
+        read_seen_beside(rt, clock, seen, causes, reader, folder, found, out)
     } else {
-        read_seen_alone(rt, seen, causes, reader, folder, out)
+        read_seen_alone(rt, seen, causes, reader, folder, found, out)
     }
 }

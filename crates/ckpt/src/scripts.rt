@@ -1,6 +1,7 @@
 //! Scripts, from a file or from the standard input.
 
 use crate::cause::{Advised, Causes, tell, tell_line};
+use crate::stats::Inputs;
 use sd_exit::Stop;
 use sd_restore::Fault;
 use sd_run::unfit;
@@ -42,6 +43,18 @@ pub fn unread(rt: &impl Eprint, causes: Causes, script: &str, error: &io::Error)
 
 /// What is told of a script that is a folder.
 const IS_FOLDER: &str = "; SCRIPT is a file, and stands behind DIR";
+
+/// What is told of a file of counts that is the script.
+const IS_SCRIPT: &str = "the script that is to be run, which isn't written over: name another";
+
+/// The script as the one input of a run. The standard input is no file of its own.
+pub fn script_inputs<'a>(names: &'a [&'a str; 1]) -> Inputs<'a> {
+    let is_file = names[0] != STANDARD_INPUT;
+    Inputs {
+        paths: if is_file { names.as_slice() } else { &[] },
+        cause: IS_SCRIPT,
+    }
+}
 
 /// Parses a script.
 pub fn parse_script(

@@ -4,7 +4,7 @@ use crate::cause::{Causes, tell, tell_device};
 use crate::folders::open_store;
 use crate::verbose::{Seen, is_watched, logger_for, seen_by, unseen};
 use clap::ArgMatches;
-use sd_disk::{DirDisk, Disk, is_being_written};
+use sd_disk::{DirDisk, Disk, Found, is_being_written};
 use sd_exit::{Output, Stop, exit};
 use sd_readers::fronts;
 use sd_restore::Fault;
@@ -49,6 +49,7 @@ struct ShowAsked<'s, 'f> {
     seen: Seen<'s>,
     causes: Causes,
     folder: &'f str,
+    found: &'f Found,
     slot: Option<usize>,
     as_json: bool,
 }
@@ -86,7 +87,7 @@ impl ShowAsked<'_, '_> {
         rt: &HostRuntime,
         out: &mut Output<W>,
     ) -> Result<Result<bool, ShowStop>, Stop> {
-        let disk = open_store(rt, self.causes, self.folder)?;
+        let disk = open_store(rt, self.causes, self.folder, self.found)?;
         let mut disk = self.seen.disk("show", disk);
         let shown = show_in(rt.alloc(), &mut disk, self.slot, self.as_json, out);
         tell_device(rt, self.causes, self.folder, &unseen(disk));
@@ -98,7 +99,7 @@ impl ShowAsked<'_, '_> {
 
     /// Shows slots of a store once, and holds the text back.
     fn show_held(self, rt: &HostRuntime) -> Result<Shown, Stop> {
-        let disk = open_store(rt, self.causes, self.folder)?;
+        let disk = open_store(rt, self.causes, self.folder, self.found)?;
         let mut disk = self.seen.disk("show", disk);
         let mut text = Vec::new(rt.alloc());
         let shown = show_steady(rt.alloc(), &mut disk, self, &mut text);
@@ -133,6 +134,7 @@ pub fn show_program<R: Clock + Wait, W: Write>(
     clock: &R,
     causes: Causes,
     words: &ArgMatches<'_>,
+    found: &Found,
     out: &mut Output<W>,
 ) -> Result<u8, Stop> {
     let folder = words.get_str("DIR").unwrap_or("");
@@ -142,6 +144,7 @@ pub fn show_program<R: Clock + Wait, W: Write>(
         seen: seen_by(rt, &log, words, shows),
         causes,
         folder,
+        found,
         slot: words.get_one::<usize>("SLOT"),
         as_json: words.get_flag("json"),
     };

@@ -1,7 +1,6 @@
-//! `ckpt run --stats` and `--summary`: what each image, checkpoint and merge took.
+//! `--stats` and `--summary`: what each image, checkpoint and merge took.
 
 use crate::cause::{Advised, Causes, tell};
-use crate::scripts::STANDARD_INPUT;
 use crate::slots::{is_same_file, open_beside_slots};
 use crate::verbose::{Logger, Seen, log_end, log_job, log_left_out, log_record};
 use clap::ArgMatches;
@@ -45,8 +44,26 @@ const OUTPUT_FILE: &str = "/proc/self/fd/1";
 /// What is reported of a file of counts to which the answers go too.
 const IS_OUTPUT: &str = "the standard output goes there: name another";
 
-/// What is reported of a file of counts that is the script.
-const IS_SCRIPT: &str = "the script that is to be run, which isn't written over: name another";
+/// The files that a program reads beside its store. None of them is written as a file of counts.
+#[derive(Clone, Copy)]
+pub struct Inputs<'a> {
+    pub paths: &'a [&'a str],
+    /// What is told of a file of counts that is one of them.
+    pub cause: &'a str,
+}
+
+impl Inputs<'_> {
+    /// Those of a program that reads its store alone.
+    pub const NONE: Inputs<'static> = Inputs {
+        paths: &[],
+        cause: "",
+    };
+
+    /// Whether a path leads to one of them.
+    fn has(self, rt: &impl Files, path: &str) -> bool {
+        self.paths.iter().any(|input| is_same_file(rt, path, input))
+    }
+}
 
 /// Whether a path leads to a regular file.
 fn is_regular(rt: &impl Files, path: &str) -> bool {
@@ -57,13 +74,13 @@ fn is_regular(rt: &impl Files, path: &str) -> bool {
 ///
 /// # Errors
 ///
-/// Those of [`open_beside_slots`]; `InvalidInput` where the script or the answers stand in that file, whose bytes stay.
-fn open_counts(rt: &HostRuntime, folder: &str, script: &str, name: &str) -> io::Result<File> {
+/// Those of [`open_beside_slots`]; `InvalidInput` where an input or the answers stand in that file, whose bytes stay.
+fn open_counts(rt: &HostRuntime, folder: &str, inputs: Inputs<'_>, name: &str) -> io::Result<File> {
     if is_regular(rt, name) && is_same_file(rt, name, OUTPUT_FILE) {
         return Err(io::Error::new(io::ErrorKind::InvalidInput, IS_OUTPUT));
     }
-    if script != STANDARD_INPUT && is_same_file(rt, name, script) {
-        return Err(io::Error::new(io::ErrorKind::InvalidInput, IS_SCRIPT));
+    if inputs.has(rt, name) {
+        return Err(io::Error::new(io::ErrorKind::InvalidInput, inputs.cause));
     }
     open_beside_slots(rt, folder, name)
 }
@@ -74,7 +91,7 @@ fn lines_to<W: Write>(
     rt: &HostRuntime,
     causes: Causes,
     folder: &str,
-    script: &str,
+    inputs: Inputs<'_>,
     name: Option<&str>,
     out: &mut Output<W>,
 ) -> Result<Lines, Stop> {
@@ -84,7 +101,7 @@ fn lines_to<W: Write>(
     if name == STANDARD_ERROR {
         return Ok(Lines::StandardError);
     }
-    match open_counts(rt, folder, script, name) {
+    match open_counts(rt, folder, inputs, name) {
         Ok(file) => Ok(Lines::File(file)),
         Err(error) => {
             let advice = match error.kind() {
@@ -119,24 +136,16 @@ pub fn counts_asked<W: Write>(
     causes: Causes,
     words: &ArgMatches<'_>,
     seen: Seen<'_>,
+    inputs: Inputs<'_>,
     out: &mut Output<W>,
 ) -> Result<Option<Counts>, Stop> {
     let folder = words.get_str("DIR").unwrap_or("");
-    let script = words.get_str("SCRIPT").unwrap_or("");
-    let lines = lines_to(rt, causes, folder, script, words.get_str("stats"), out)?;
+    let lines = lines_to(rt, causes, folder, inputs, words.get_str("stats"), out)?;
     let summary = words.get_flag("summary");
     if matches!(lines, Lines::Nowhere) && !summary && !seen.is_asked() {
         return Ok(None);
     }
     Ok(Some(Counts { lines, summary }))
-}
-
-/// The records of a program that has no options for them, if they are to be seen.
-pub fn counts_seen(seen: Seen<'_>) -> Option<Counts> {
-    seen.is_asked().then_some(Counts {
-        lines: Lines::Nowhere,
-        summary: false,
-    })
 }
 
 /// A meter for a store of so many slots.

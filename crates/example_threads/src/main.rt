@@ -12,7 +12,7 @@ use anyhow::{Error, Result, anyhow, bail, ensure};
 use row::Row;
 use saving::{save, save_beside};
 use sd_command::Refusal;
-use sd_disk::{DirDisk, Disk, Folder, MemDisk};
+use sd_disk::{DirDisk, Disk, Folder, Found, MemDisk};
 use sd_journal::Receipt;
 use sd_restore::restore;
 use sd_shared::{Seat, Shared};
@@ -152,14 +152,15 @@ fn fill_table<R: Threads + Wait + Sync + Print + AllocGlobal, D: Disk + Drop + S
 }
 
 /// The store in a folder, which is made where it is missing.
-fn folder_disk(rt: &HostRuntime, folder: &str) -> Result<DirDisk> {
-    Ok(DirDisk::new(Folder::open(rt, folder, true)?))
+fn folder_disk(rt: &HostRuntime, folder: &str, found: Found) -> Result<DirDisk> {
+    Ok(DirDisk::over(Folder::open(rt, folder, true)?, found))
 }
 
 fn main(rt: HostRuntime) -> Result<()> {
     let words: Vec<String> = std::env::args(&rt)?.collect(rt.alloc())?;
+    let found = Found::any(); // for the proof alone: whatever the files hold
     match words.get(1) {
-        Some(folder) => fill_table(&rt, folder_disk(&rt, folder)?),
+        Some(folder) => fill_table(&rt, folder_disk(&rt, folder, found)?),
         None => fill_table(&rt, MemDisk::new(rt.alloc(), 16, 100_000, 10_000)?),
     }
 }

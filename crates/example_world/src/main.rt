@@ -8,7 +8,7 @@ mod ledger;
 use anyhow::{Error, Result, anyhow, bail};
 use ledger::{open_ledger, transfer};
 use sd_command::Refusal;
-use sd_disk::{DirDisk, Disk, Folder, MemDisk};
+use sd_disk::{DirDisk, Disk, Folder, Found, MemDisk};
 use sd_world::{Event, World};
 
 /// Opens the store of a ledger and makes transfers until it has had so many. Each hundredth is saved.
@@ -42,15 +42,16 @@ fn refused(why: Refusal) -> Error {
 }
 
 /// The store in a folder.
-fn folder_disk(rt: &HostRuntime, folder: &str) -> Result<DirDisk> {
-    Ok(DirDisk::new(Folder::open(rt, folder, true)?))
+fn folder_disk(rt: &HostRuntime, folder: &str, found: Found) -> Result<DirDisk> {
+    Ok(DirDisk::over(Folder::open(rt, folder, true)?, found))
 }
 
 fn main(rt: HostRuntime) -> Result<()> {
     let words: Vec<String> = std::env::args(&rt)?.collect(rt.alloc())?;
+    let found = Found::any(); // for the proof alone: whatever the files hold
     match (words.get(1), words.get(2)) {
         (Some(folder), Some(count)) => {
-            keep_ledger(&rt, folder_disk(&rt, folder)?, count.parse::<u64>()?)
+            keep_ledger(&rt, folder_disk(&rt, folder, found)?, count.parse::<u64>()?)
         }
         (Some(_), None) => bail!("usage: example_world [DIR COUNT]"),
         _ => keep_ledger(&rt, MemDisk::new(rt.alloc(), 16, 100_000, 10_000)?, 1250),

@@ -53,7 +53,7 @@ never_refused (Some held) (Err e) h = λ segments is. core_unrefused held segmen
 
 -- ---- the fault of a segment
 
-table_headers : (held table : List ℕ) (t : IsHeaderTable held table) → program_headers_in (length table / 56) table ≡ headers_of held t.header
+pub table_headers : (held table : List ℕ) (t : IsHeaderTable held table) → program_headers_in (length table / 56) table ≡ headers_of held t.header
 table_headers held table t = grind arith
 
 segment_error : (held table : List ℕ) (size : ℕ) (headers : List ProgramHeader) (f : CoreFault) → size ≡ length held → IsHeaderTable held table → headers ≡ program_headers_in (length table / 56) table → BreaksAtSegment size headers f → HasCoreFault held f

@@ -36,12 +36,12 @@ of_map : {X Y Z : Type 0} (f : Y → List Z) (g : X → Y) (xs : List X) → fla
 of_map f g [] = refl
 of_map f g (x ∷ xs) = ap (λ zs. f (g x) ++ zs) (of_map f g xs)
 
-module _ (wanted : ℕ → Bool) (contents : List (List ℕ)) (checkpoint : ℕ) (spaces : List Listed) (pages : List PlacedPage) (memory : PlainMemory) (laid : IsLaidOut contents spaces pages memory) where
+module _ (threads : List ℕ) (wanted : ℕ → Bool) (contents : List (List ℕ)) (checkpoint : ℕ) (spaces : List Listed) (pages : List PlacedPage) (memory : PlainMemory) (laid : IsLaidOut contents spaces pages memory) where
   abbrev page_bytes : ℕ × Page → List ℕ
   page_bytes e = e.1.bytes
 
   abbrev entry_core : SpaceEntry → CoreOfSpace
-  entry_core e = (e.0, front_text checkpoint e.0 e.1.0 ++ flat_map page_bytes e.1.1)
+  entry_core e = (e.0, front_text threads checkpoint e.0 e.1.0 ++ flat_map page_bytes e.1.1)
 
   abbrev said : Listed → SpaceEntry
   said s = (s.space, (s.areas, placed_entries contents s.space pages))
@@ -50,34 +50,34 @@ module _ (wanted : ℕ → Bool) (contents : List (List ℕ)) (checkpoint : ℕ)
   seen e = (e.0, (areas_of (prots_in e.1), finmap.entries e.1))
 
   abbrev placed : Listed → CoreOfSpace
-  placed s = (s.space, placed_core contents checkpoint pages s)
+  placed s = (s.space, placed_core threads contents checkpoint pages s)
 
   of_space : (s : Listed) → entry_core (said s) ≡ placed s
-  of_space s = ap {B = CoreOfSpace} (λ (bytes : List ℕ). (s.space, front_text checkpoint s.space s.areas ++ bytes))
+  of_space s = ap {B = CoreOfSpace} (λ (bytes : List ℕ). (s.space, front_text threads checkpoint s.space s.areas ++ bytes))
       (of_map page_bytes (λ (p : PlacedPage). (p.page, placed_page contents p)) (filter (λ (p : PlacedPage). p.space == s.space) pages))
 
-  pub cores_laid : placed_cores wanted contents checkpoint pages spaces ≡ cores_of wanted (checkpoint, memory)
+  pub cores_laid : placed_cores threads wanted contents checkpoint pages spaces ≡ cores_of threads wanted (checkpoint, memory)
   cores_laid =
       sym (kept_map (λ (e : SpaceEntry). wanted e.0) entry_core said spaces
       ∙ same_map (λ s. entry_core (said s)) placed (filter (λ (s : Listed). wanted s.space) spaces) of_space)
       ∙ ap (λ es. map entry_core (filter (λ (e : SpaceEntry). wanted e.0) es)) (sym laid)
       ∙ kept_map (λ (e : SpaceEntry). wanted e.0) entry_core seen (finmap.entries memory)
 
-pub takes_cores : (wanted : ℕ → Bool) (contents : List (List ℕ)) (checkpoint : ℕ) (spaces : List Listed) (pages : List PlacedPage) (before after : Taken)
+pub takes_cores : (threads : List ℕ) (wanted : ℕ → Bool) (contents : List (List ℕ)) (checkpoint : ℕ) (spaces : List Listed) (pages : List PlacedPage) (before after : Taken)
     → Shows contents (Some (checkpoint, placed_memory contents spaces pages)) → IsLaidOut contents spaces pages (placed_memory contents spaces pages)
-    → TakesFiles before after (placed_cores wanted contents checkpoint pages spaces) → TakesCores contents wanted before after checkpoint
-takes_cores wanted contents checkpoint spaces pages before after shows laid taken = record {
+    → TakesFiles before after (placed_cores threads wanted contents checkpoint pages spaces) → TakesCores contents threads wanted before after checkpoint
+takes_cores threads wanted contents checkpoint spaces pages before after shows laid taken = record {
   memory = placed_memory contents spaces pages;
   shows = shows;
-  taken = subst (TakesFiles before after) (cores_laid wanted contents checkpoint spaces pages (placed_memory contents spaces pages) laid) taken;
+  taken = subst (TakesFiles before after) (cores_laid threads wanted contents checkpoint spaces pages (placed_memory contents spaces pages) laid) taken;
 }
 
-pub takes_cores_at : (wanted : ℕ → Bool) (contents : List (List ℕ)) (number checkpoint : ℕ) (spaces : List Listed) (pages : List PlacedPage) (before after : Taken) → checkpoint ≡ number
+pub takes_cores_at : (threads : List ℕ) (wanted : ℕ → Bool) (contents : List (List ℕ)) (number checkpoint : ℕ) (spaces : List Listed) (pages : List PlacedPage) (before after : Taken) → checkpoint ≡ number
     → ShowsAt contents number (placed_memory contents spaces pages) → IsLaidOut contents spaces pages (placed_memory contents spaces pages)
-    → TakesFiles before after (placed_cores wanted contents checkpoint pages spaces) → TakesCoresAt contents number wanted before after
-takes_cores_at wanted contents number checkpoint spaces pages before after is shows laid taken = record {
+    → TakesFiles before after (placed_cores threads wanted contents checkpoint pages spaces) → TakesCoresAt contents number threads wanted before after
+takes_cores_at threads wanted contents number checkpoint spaces pages before after is shows laid taken = record {
   memory = placed_memory contents spaces pages;
   shows = shows;
-  taken = subst (λ n. TakesFiles before after (cores_of wanted (n, placed_memory contents spaces pages))) is
-      (subst (TakesFiles before after) (cores_laid wanted contents checkpoint spaces pages (placed_memory contents spaces pages) laid) taken);
+  taken = subst (λ n. TakesFiles before after (cores_of threads wanted (n, placed_memory contents spaces pages))) is
+      (subst (TakesFiles before after) (cores_laid threads wanted contents checkpoint spaces pages (placed_memory contents spaces pages) laid) taken);
 }

@@ -11,16 +11,17 @@ use Rattle.sd_elf.specs.Texts.{core_of, placed_core}
 abbrev pub CoreOfSpace : Type 0
 CoreOfSpace = ℕ × List ℕ
 
--- the core files of the spaces of a checkpoint's memory that are wanted, rising
-abbrev pub cores_of : (ℕ → Bool) → ℕ × PlainMemory → List CoreOfSpace
-cores_of wanted moment =
-    map {B = CoreOfSpace} (λ (e : ℕ × Space). (e.0, core_of moment.0 e.0 e.1))
+-- the core files of the spaces of a checkpoint's memory that are wanted, rising, each with these notes of threads
+abbrev pub cores_of : List ℕ → (ℕ → Bool) → ℕ × PlainMemory → List CoreOfSpace
+cores_of threads wanted moment =
+    map {B = CoreOfSpace} (λ (e : ℕ × Space). (e.0, core_of threads moment.0 e.0 e.1))
     (filter (λ (e : ℕ × Space). wanted e.0) (finmap.entries moment.1))
 
 -- the same of pages that lie in the slots of a store
-abbrev pub placed_cores : (ℕ → Bool) → List (List ℕ) → ℕ → List PlacedPage → List Listed → List CoreOfSpace
-placed_cores wanted contents checkpoint pages spaces =
-    map {B = CoreOfSpace} (λ (s : Listed). (s.space, placed_core contents checkpoint pages s))
+abbrev pub placed_cores :
+    List ℕ → (ℕ → Bool) → List (List ℕ) → ℕ → List PlacedPage → List Listed → List CoreOfSpace
+placed_cores threads wanted contents checkpoint pages spaces =
+    map {B = CoreOfSpace} (λ (s : Listed). (s.space, placed_core threads contents checkpoint pages s))
     (filter (λ (s : Listed). wanted s.space) spaces)
 
 -- these files were taken behind others; nothing is claimed where those aren't known
@@ -29,9 +30,9 @@ TakesFiles None after files = Unit {0}
 TakesFiles (Some before) after files = after ≡ Some (before ++ files)
 
 -- the checkpoint that the contents show, and its memory, whose core files were taken
-pub record TakesCores (contents : List (List ℕ)) (wanted : ℕ → Bool) (before after : Option (List CoreOfSpace))
-    (checkpoint : ℕ)
+pub record TakesCores (contents : List (List ℕ)) (threads : List ℕ) (wanted : ℕ → Bool)
+    (before after : Option (List CoreOfSpace)) (checkpoint : ℕ)
     : Type 0 where
   pub memory : PlainMemory
   pub shows : Shows contents (Some (checkpoint, memory))
-  pub taken : TakesFiles before after (cores_of wanted (checkpoint, memory))
+  pub taken : TakesFiles before after (cores_of threads wanted (checkpoint, memory))

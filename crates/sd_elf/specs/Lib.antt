@@ -5,3 +5,4 @@ pub mod Pieces
 pub mod Texts
 pub mod Files
 pub mod At
+pub mod Notes

@@ -48,9 +48,13 @@ program_header_text s = place_text s ++ size_text s
 abbrev pub notes_place : ℕ → ℕ
 notes_place areas = 64 + 56 * (areas + 1)
 
--- where its pages stand: at the first multiple of 4,096 behind the 396 bytes of the notes
-abbrev pub pages_place : ℕ → ℕ
-pages_place areas = (notes_place areas + 396 + 4095) / 4096 * 4096
+-- how many bytes its notes have: those of its threads, and the 40 of a checkpoint
+abbrev pub notes_size : List ℕ → ℕ
+notes_size threads = length threads + 40
+
+-- where its pages stand: at the first multiple of 4,096 behind so many bytes of notes
+abbrev pub pages_place : ℕ → ℕ → ℕ
+pages_place size areas = (notes_place areas + size + 4095) / 4096 * 4096
 
 -- ET_CORE, EM_X86_64, EV_CURRENT
 abbrev pub core_header : ℕ → FileHeader
@@ -70,15 +74,15 @@ core_header areas = record {
   e_shstrndx = 0;
 }
 
--- PT_NOTE, PF_R
-abbrev pub note_header : ℕ → ProgramHeader
-note_header areas = record {
+-- PT_NOTE of so many bytes, PF_R
+abbrev pub note_header : ℕ → ℕ → ProgramHeader
+note_header size areas = record {
   p_type = 4;
   p_flags = 4;
   p_offset = notes_place areas;
   p_vaddr = 0;
   p_paddr = 0;
-  p_filesz = 396;
+  p_filesz = size;
   p_memsz = 0;
   p_align = 4;
 }
@@ -120,16 +124,17 @@ own_note checkpoint space = number_bytes 4 11 ++ number_bytes 4 16 ++ number_byt
 abbrev pub padded : ℕ → List ℕ → List ℕ
 padded n bytes = bytes ++ zero_bytes (n - length bytes)
 
--- what stands before the pages
-unfoldable pub front_text : ℕ → ℕ → List Area → List ℕ
-front_text checkpoint space areas = padded (pages_place (length areas)) (
-    file_header_text (core_header (length areas)) ++ program_header_text (note_header (length areas))
+-- what stands before the pages: the headers, the notes of threads, and that of the checkpoint
+unfoldable pub front_text : List ℕ → ℕ → ℕ → List Area → List ℕ
+front_text threads checkpoint space areas = padded (pages_place (notes_size threads) (length areas)) (
+    file_header_text (core_header (length areas))
+    ++ program_header_text (note_header (notes_size threads) (length areas))
     ++ flat_map program_header_text
-    (area_headers (pages_place (length areas)) areas) ++ state_note ++ own_note checkpoint space)
+    (area_headers (pages_place (notes_size threads) (length areas)) areas) ++ threads ++ own_note checkpoint space)
 
--- the core file of a space of a checkpoint: its pages rise behind the front
-abbrev pub core_of : ℕ → ℕ → Space → List ℕ
-core_of checkpoint number space = front_text checkpoint number (areas_of (prots_in space))
+-- the core file of a space of a checkpoint, with these notes of threads: its pages rise behind the front
+abbrev pub core_of : List ℕ → ℕ → ℕ → Space → List ℕ
+core_of threads checkpoint number space = front_text threads checkpoint number (areas_of (prots_in space))
     ++ flat_map (λ (entry : ℕ × Page). entry.1.bytes) (finmap.entries space)
 
 -- The same of pages that lie in the slots of a store.
@@ -142,8 +147,9 @@ abbrev pub space_bytes : List (List ℕ) → ℕ → List PlacedPage → List �
 space_bytes contents space pages =
     flat_map (placed_bytes contents) (filter (λ (p : PlacedPage). p.space == space) pages)
 
-abbrev pub placed_core : List (List ℕ) → ℕ → List PlacedPage → Listed → List ℕ
-placed_core contents checkpoint pages s = front_text checkpoint s.space s.areas ++ space_bytes contents s.space pages
+abbrev pub placed_core : List ℕ → List (List ℕ) → ℕ → List PlacedPage → Listed → List ℕ
+placed_core threads contents checkpoint pages s =
+    front_text threads checkpoint s.space s.areas ++ space_bytes contents s.space pages
 
 -- so many pages of a run from one on
 abbrev pub run_part_bytes : List (List ℕ) → PlacedRun → ℕ → ℕ → List ℕ

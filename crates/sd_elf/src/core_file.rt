@@ -91,7 +91,7 @@ pub struct Core {
 }
 
 /// The program headers that stand one behind the other in these bytes.
-fn program_headers(alloc: Global, bytes: &[u8]) -> Result<Vec<ProgramHeader>, AllocError>
+pub(crate) fn program_headers(alloc: Global, bytes: &[u8]) -> Result<Vec<ProgramHeader>, AllocError>
     ensures { IfOk result (λ headers.
         headers.items ≡ program_headers_in (length bytes.now / 56) bytes.now) }
 {
@@ -120,7 +120,11 @@ fn memory_segments(
 }
 
 /// Reads the bytes of the program headers of a core.
-fn read_table<F: CoreFile>(alloc: Global, file: &F, size: u64) -> Result<Vec<u8>, ReadError>
+pub(crate) fn read_table<F: CoreFile>(
+    alloc: Global,
+    file: &F,
+    size: u64,
+) -> Result<Vec<u8>, ReadError>
     ensures found { IfSome (F.bytes file.now) (λ held. size ≡ length held
         → IfOk result (λ table. IsHeaderTable held table.items)) }
     ensures fault { IfSome (F.bytes file.now) (λ held. size ≡ length held

@@ -5,7 +5,8 @@ ghost use Rattle.std.specs.List.{flat_map};
 ghost use Rattle.sd_areas.specs.Areas.{AreMaximal};
 ghost use Rattle.sd_image.specs.Words.{zero_bytes};
 ghost use Rattle.sd_elf.specs.Texts.{area_header, area_headers, core_header, counts_text, file_header_text, front_text};
-ghost use Rattle.sd_elf.specs.Texts.{file_kind_text, note_header, notes_place, own_note, padded, pages_place};
+ghost use Rattle.sd_elf.specs.Texts.{file_kind_text, note_header, notes_place, notes_size, own_note, padded};
+ghost use Rattle.sd_elf.specs.Texts.{pages_place};
 ghost use Rattle.sd_elf.specs.Texts.{place_text};
 ghost use Rattle.sd_elf.specs.Texts.{places_text, program_header_text, prot_flags, size_text, state_note};
 
@@ -35,8 +36,8 @@ const OWN_NAME: [u8; 12] = *b"DEVONTSIRA\0\0";
 /// How many bytes a checkpoint's note has: its number, and the space's.
 const OWN_SIZE: usize = 16;
 
-/// How many bytes the notes have.
-const NOTES_SIZE: usize = NOTE_HEAD + 8 + PRSTATUS_SIZE + NOTE_HEAD + 12 + OWN_SIZE;
+/// How many bytes that note has with its name.
+const OWN_NOTE_SIZE: usize = NOTE_HEAD + 12 + OWN_SIZE;
 
 /// Where the notes of a file with so many areas stand.
 fn notes_place(areas: usize) -> u64
@@ -46,12 +47,22 @@ fn notes_place(areas: usize) -> u64
     FILE_HEADER_SIZE as u64 + PROGRAM_HEADER_SIZE as u64 * (areas as u64 + 1)
 }
 
-/// Where its pages stand: at the first multiple of a page's size behind the notes.
-fn pages_place(areas: usize) -> u64
-    requires { areas ≤ 1024 }
-    ensures { result ≡ pages_place areas }
+/// How many bytes the notes of a file have, with these of threads.
+fn notes_size(threads: &[u8]) -> u64
+    requires { length threads.now ≤ 2 ^ 24 }
+    ensures exact { result ≡ notes_size threads.now }
+    ensures few { result ≤ 2 ^ 24 + 40 }
 {
-    let end = notes_place(areas) + NOTES_SIZE as u64;
+    (threads.len() + OWN_NOTE_SIZE) as u64
+}
+
+/// Where its pages stand: at the first multiple of a page's size behind so many bytes of notes.
+fn pages_place(size: u64, areas: usize) -> u64
+    requires size { size ≤ 2 ^ 24 + 40 }
+    requires areas { areas ≤ 1024 }
+    ensures { result ≡ pages_place size areas }
+{
+    let end = notes_place(areas) + size;
     (end + PAGE_BYTES - 1) / PAGE_BYTES * PAGE_BYTES
 }
 
@@ -87,10 +98,10 @@ fn file_header(areas: usize) -> FileHeader
     }
 }
 
-/// The program header of the notes.
-fn note_header(areas: usize) -> ProgramHeader
+/// The program header of so many bytes of notes.
+fn note_header(size: u64, areas: usize) -> ProgramHeader
     requires { areas ≤ 1024 }
-    ensures { result ≡ note_header areas }
+    ensures { result ≡ note_header size areas }
 {
     ProgramHeader {
         p_type: PT_NOTE,
@@ -98,7 +109,7 @@ fn note_header(areas: usize) -> ProgramHeader
         p_offset: notes_place(areas),
         p_vaddr: 0,
         p_paddr: 0,
-        p_filesz: NOTES_SIZE as u64,
+        p_filesz: size,
         p_memsz: 0,
         p_align: 4,
     }
@@ -197,7 +208,7 @@ fn put_program_header(out: &mut Vec<u8>, header: &ProgramHeader) -> Result<(), A
 /// Writes the program headers of areas whose pages stand one behind the other, from a place on.
 fn put_area_headers(out: &mut Vec<u8>, areas: &[Area], place: u64) -> Result<(), AllocError>
     requires areas { AreMaximal None areas.now }
-    requires place { place ≤ 2 ^ 20 }
+    requires place { place ≤ 2 ^ 25 }
     ensures { OnOk result
         (out.new.items ≡ out.old.items ++ flat_map program_header_text (area_headers place areas.now)) }
 {
@@ -219,6 +230,23 @@ fn put_state_note(out: &mut Vec<u8>) -> Result<(), AllocError>
     put_u32(out, NT_PRSTATUS)?;
     out.extend_from_slice(&CORE_NAME)?;
     push_zeros(out, PRSTATUS_SIZE)
+}
+
+/// The note of a thread whose state is zeros, for the core of a memory of which no thread is known.
+pub fn idle_thread(alloc: Global) -> Result<Vec<u8>, AllocError>
+    ensures { IfOk result (λ threads. threads.items ≡ state_note) }
+{
+    let mut threads = Vec::new(alloc);
+    put_state_note(&mut threads)?;
+    Ok(threads)
+}
+
+/// Writes the notes of threads.
+fn put_threads(out: &mut Vec<u8>, threads: &[u8]) -> Result<(), AllocError>
+    ensures { OnOk result (out.new.items ≡ out.old.items ++ threads.now) }
+{
+    out.extend_from_slice(threads)?;
+    Ok(())
 }
 
 /// Writes the note of a checkpoint and a space.
@@ -246,29 +274,32 @@ pub(crate) fn push_zeros(out: &mut Vec<u8>, count: usize) -> Result<(), AllocErr
 }
 
 /// Writes zeros up to a length.
-fn pad_to(out: &mut Vec<u8>, length: usize) -> Result<(), AllocError>
+pub(crate) fn pad_to(out: &mut Vec<u8>, length: usize) -> Result<(), AllocError>
     ensures { OnOk result (out.new.items ≡ padded length out.old.items) }
 {
     push_zeros(out, length.saturating_sub(out.len()))
 }
 
-/// What stands before the pages of the core of a space with these areas.
+/// What stands before the pages of the core of a space with these areas, and these notes of threads.
 pub(crate) fn front_of(
     alloc: Global,
     checkpoint: u64,
     space: SpaceId,
     areas: &[Area],
+    threads: &[u8],
 ) -> Result<Vec<u8>, AllocError>
     requires areas { AreMaximal None areas.now }
     requires few { length areas.now ≤ 1024 }
-    ensures { IfOk result (λ front. front.items ≡ front_text checkpoint space areas.now) }
+    requires short { length threads.now ≤ 2 ^ 24 }
+    ensures { IfOk result (λ front. front.items ≡ front_text threads.now checkpoint space areas.now) }
 {
-    let place = pages_place(areas.len());
+    let size = notes_size(threads);
+    let place = pages_place(size, areas.len());
     let mut out = Vec::new(alloc);
     put_file_header(&mut out, &file_header(areas.len()))?;
-    put_program_header(&mut out, &note_header(areas.len()))?;
+    put_program_header(&mut out, &note_header(size, areas.len()))?;
     put_area_headers(&mut out, areas, place)?;
-    put_state_note(&mut out)?;
+    put_threads(&mut out, threads)?;
     put_own_note(&mut out, checkpoint, space)?;
     pad_to(&mut out, place as usize)?;
     Ok(out)

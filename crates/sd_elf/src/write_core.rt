@@ -21,6 +21,9 @@ use sd_restore::{PlacedMemory, page_buffer, place_at, place_newest, scan};
 use std::alloc::Global;
 use std::io;
 
+/// How many bytes the notes of threads may have, at most.
+pub const THREAD_NOTES_LIMIT: usize = 1 << 24;
+
 /// How many pages are read at once.
 const BUFFER_PAGES: usize = 16;
 
@@ -28,13 +31,14 @@ const BUFFER_PAGES: usize = 16;
 ///
 /// # Errors
 ///
-/// `Fault` where the device failed or memory was refused, and `File` where the output was, or the space has over 1,024
-/// areas, as none has that a store shows.
+/// `Fault` where the device failed or memory was refused, and `File` where the output was, the notes are too long, or
+/// the space has over 1,024 areas, as none has that a store shows.
 pub(crate) fn write_core<D: Disk, O: CoreOutput>(
     alloc: Global,
     disk: &mut D,
     placed: &PlacedMemory<'_>,
     space: &SpaceTable,
+    threads: &[u8],
     out: &mut O,
 ) -> Result<(), WriteError>
     requires slots { All
@@ -43,14 +47,14 @@ pub(crate) fn write_core<D: Disk, O: CoreOutput>(
     requires areas { AreMaximal None space.now.areas.items }
     ensures text { D.is_honest disk.new → OnOk result
         (Appends (O.contents out.old) (O.contents out.new)
-        (placed_core (D.contents disk.old) placed.now.checkpoint
+        (placed_core threads.now (D.contents disk.old) placed.now.checkpoint
         (placed_pages placed.now.runs.items) (listing_of space.now))) }
     ensures reads { OnlyReads D.Disk disk.old disk.new }
 {
-    if space.areas.len() > AREA_LIMIT {
+    if space.areas.len() > AREA_LIMIT || threads.len() > THREAD_NOTES_LIMIT {
         return Err(WriteError::File(io::ErrorKind::InvalidInput.into()));
     }
-    let front = front_of(alloc, placed.checkpoint, space.space, &space.areas)?;
+    let front = front_of(alloc, placed.checkpoint, space.space, &space.areas, threads)?;
     out.put(&front)?;
     let mut buffer = page_buffer(alloc, BUFFER_PAGES)?;
     put_pages(disk, space.space, &placed.runs, &mut buffer, out)
@@ -62,6 +66,7 @@ fn write_wanted<D: Disk, S: CoreFiles>(
     disk: &mut D,
     placed: &PlacedMemory<'_>,
     space: &SpaceTable,
+    threads: &[u8],
     files: &mut S,
 ) -> Result<(), WriteError>
     requires slots { All
@@ -69,7 +74,7 @@ fn write_wanted<D: Disk, S: CoreFiles>(
     requires within { All IsWithin placed.now.runs.items }
     requires areas { AreMaximal None space.now.areas.items }
     ensures taken { D.is_honest disk.new → OnOk result (TakesFiles (S.taken files.old) (S.taken files.new)
-        (placed_cores (S.wanted files.old) (D.contents disk.old) placed.now.checkpoint
+        (placed_cores threads.now (S.wanted files.old) (D.contents disk.old) placed.now.checkpoint
         (placed_pages placed.now.runs.items) (listing_of space.now ∷ []))) }
     ensures same { OnOk result (S.wanted files.new ≡ S.wanted files.old) }
     ensures reads { OnlyReads D.Disk disk.old disk.new }
@@ -77,7 +82,7 @@ fn write_wanted<D: Disk, S: CoreFiles>(
     let Some(mut file) = files.begin(space.space)? else {
         return Ok(());
     };
-    write_core(alloc, disk, placed, space, &mut file)?;
+    write_core(alloc, disk, placed, space, threads, &mut file)?;
     files.finish(space.space, file)?;
     Ok(())
 }
@@ -87,6 +92,7 @@ fn write_placed<D: Disk, S: CoreFiles>(
     alloc: Global,
     disk: &mut D,
     placed: &PlacedMemory<'_>,
+    threads: &[u8],
     files: &mut S,
 ) -> Result<(), WriteError>
     requires slots { All
@@ -95,37 +101,41 @@ fn write_placed<D: Disk, S: CoreFiles>(
     requires areas { All
         (λ (s : SpaceTable). AreMaximal None s.areas.items) placed.now.spaces.now }
     ensures taken { D.is_honest disk.new → OnOk result (TakesFiles (S.taken files.old) (S.taken files.new)
-        (placed_cores (S.wanted files.old) (D.contents disk.old) placed.now.checkpoint
+        (placed_cores threads.now (S.wanted files.old) (D.contents disk.old) placed.now.checkpoint
         (placed_pages placed.now.runs.items) (map listing_of placed.now.spaces.now))) }
     ensures reads { OnlyReads D.Disk disk.old disk.new }
 {
     files.check(placed.spaces)?;
     for space in placed.spaces {
-        write_wanted(alloc, disk, placed, space, files)?;
+        write_wanted(alloc, disk, placed, space, threads, files)?;
     }
     Ok(())
 }
 
 /// Writes the core files of the memory that a store shows, behind all checks of a restore, and returns the number of
-/// its checkpoint. It holds a few pages at a time.
+/// its checkpoint. It holds a few pages at a time. Each file has these notes of threads, at most
+/// [`THREAD_NOTES_LIMIT`] bytes: those of another core ([`read_notes`](crate::read_notes)), or those of a thread whose
+/// state is zeros ([`idle_thread`](crate::idle_thread)).
 ///
 /// # Errors
 ///
-/// `Fault` where a restore of the store ends with it, and `File` where a file can't be written.
+/// `Fault` where a restore of the store ends with it, and `File` where a file can't be written, or the notes are too
+/// long.
 pub fn write_shown<D: Disk, S: CoreFiles>(
     alloc: Global,
     disk: &mut D,
+    threads: &[u8],
     files: &mut S,
 ) -> Result<u64, WriteError>
     // The store shows a memory, of the checkpoint with this number, and the files that were taken are the core files of
     // its spaces, of those that are wanted.
     ensures cores { D.is_honest disk.new → IfOk result
-        (TakesCores (D.contents disk.old) (S.wanted files.old) (S.taken files.old) (S.taken files.new)) }
+        (TakesCores (D.contents disk.old) threads.now (S.wanted files.old) (S.taken files.old) (S.taken files.new)) }
     ensures reads { OnlyReads D.Disk disk.old disk.new }
 {
     let catalog = scan(alloc, disk)?;
     let placed = place_newest(alloc, &catalog)?;
-    write_placed(alloc, disk, &placed, files)?;
+    write_placed(alloc, disk, &placed, threads, files)?;
     Ok(placed.checkpoint)
 }
 
@@ -135,20 +145,22 @@ pub fn write_shown<D: Disk, S: CoreFiles>(
 /// # Errors
 ///
 /// `Fault` where a restore of the store at the checkpoint ends with it: `EmptyChain` where the store has no image of
-/// the checkpoint. `File` where a file can't be written.
+/// the checkpoint. `File` where a file can't be written, or the notes are too long.
 pub fn write_shown_at<D: Disk, S: CoreFiles>(
     alloc: Global,
     disk: &mut D,
     number: u64,
+    threads: &[u8],
     files: &mut S,
 ) -> Result<(), WriteError>
     // The store has a memory at the checkpoint, and the files that were taken are the core files of its spaces, of
     // those that are wanted.
     ensures cores { D.is_honest disk.new → OnOk result
-        (TakesCoresAt (D.contents disk.old) number (S.wanted files.old) (S.taken files.old) (S.taken files.new)) }
+        (TakesCoresAt (D.contents disk.old) number threads.now (S.wanted files.old) (S.taken files.old)
+        (S.taken files.new)) }
     ensures reads { OnlyReads D.Disk disk.old disk.new }
 {
     let catalog = scan(alloc, disk)?;
     let placed = place_at(alloc, &catalog, number)?;
-    write_placed(alloc, disk, &placed, files)
+    write_placed(alloc, disk, &placed, threads, files)
 }

@@ -55,6 +55,10 @@ abbrev pub Exits : Option (List ℕ) → Option (List ℕ) → Bool → List ℕ
 Exits before after refused text wanted status =
     ((refused ≡ false) × Appends before after text × (status ≡ wanted)) ⊎ ((refused ≡ true) × (status ≡ 1))
 
+-- how it exits after it ended so: with the last line and the status of that
+abbrev pub ExitsAs : Result Unit Stop → Option (List ℕ) → Option (List ℕ) → Bool → ℕ → Type 0
+ExitsAs ended before after refused status = Exits before after refused (end_text ended) (end_status ended) status
+
 -- what is so where nothing more can be printed
 abbrev pub OnWriter : Result Unit Stop → Type 0 → Type 0
 OnWriter (Err (stop.Writer _)) P = P

@@ -7,8 +7,8 @@ use Rattle.sd_journal.specs.declared.entry.Entry.{Entry}
 use Rattle.sd_journal.specs.declared.entry.Entry.TheVariants.{Applied, Freeze, Acked, Cancelled, Reopened}
 use Rattle.sd_journal.specs.Allowed.{Shown}
 
--- the memory as it stands; the last checkpoint, which was acknowledged or found; and the one that is being written, each
--- with the memory at its freeze
+-- the memory as it stands; the last checkpoint, which was acknowledged or found; and the one that is being written,
+-- each with the memory at its freeze
 pub record Told : Type 0 where
   pub memory : PlainMemory
   pub last : Shown

@@ -19,3 +19,8 @@ pub fn fault_document(alloc: Global, fault: &Fault) -> Result<Value, AllocError>
         Fault::OutOfMemory => json!(in alloc; {"fault": "out-of-memory"}),
     }
 }
+
+/// A document of a store without an image of the checkpoint with this number.
+pub fn lacks_document(alloc: Global, number: u64) -> Result<Value, AllocError> {
+    json!(in alloc; {"checkpoint": number, "fault": "no checkpoint"})
+}

@@ -8,8 +8,8 @@ mod memory;
 mod moment;
 mod verdict;
 
-pub use fault::fault_document;
+pub use fault::{fault_document, lacks_document};
 pub use images::images_document;
-pub use memory::memory_document;
-pub use moment::steady_document;
-pub use verdict::verdict_document;
+pub use memory::{memory_document, memory_document_at};
+pub use moment::{Document, steady_document};
+pub use verdict::{verdict_document, verdict_document_at};

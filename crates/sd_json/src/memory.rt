@@ -5,7 +5,7 @@ use sd_areas::{Area, SpaceId};
 use sd_chain::Found;
 use sd_disk::Disk;
 use sd_image::SpaceTable;
-use sd_restore::{Fault, PlacedMemory, PlacedRun, place_newest, scan};
+use sd_restore::{Fault, PlacedMemory, PlacedRun, place_at, place_newest, scan};
 use sd_show::numbers_object;
 use serde_json::{Value, put};
 use std::alloc::{AllocError, Global};
@@ -120,5 +120,18 @@ pub fn memory_document<D: Disk>(alloc: Global, disk: &mut D) -> Result<Value, Fa
 {
     let catalog = scan(alloc, disk)?;
     let placed = place_newest(alloc, &catalog)?;
+    Ok(memory_json(alloc, &placed)?)
+}
+
+/// The same document of the memory that a store has at a checkpoint, whether it is the newest or not.
+///
+/// # Errors
+///
+/// Those of `restore_at`: `EmptyChain` where the store has no image of the checkpoint.
+pub fn memory_document_at<D: Disk>(alloc: Global, disk: &mut D, number: u64) -> Result<Value, Fault>
+    ensures reads { OnlyReads D.Disk disk.old disk.new }
+{
+    let catalog = scan(alloc, disk)?;
+    let placed = place_at(alloc, &catalog, number)?;
     Ok(memory_json(alloc, &placed)?)
 }

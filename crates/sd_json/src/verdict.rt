@@ -2,9 +2,14 @@
 ghost use Rattle.sd_disk.specs.Reads.{OnlyReads};
 
 use sd_disk::Disk;
-use sd_restore::{Fault, verify};
+use sd_restore::{Fault, Report, place_at, scan, verify};
 use serde_json::{Value, json};
-use std::alloc::Global;
+use std::alloc::{AllocError, Global};
+
+/// A report: its checkpoint, or null, and how many images are open.
+fn report_json(alloc: Global, report: Report) -> Result<Value, AllocError> {
+    json!(in alloc; {"checkpoint": report.checkpoint, "images": report.images})
+}
 
 /// A document of the checkpoint that a store shows, or null, and of how many images it has.
 ///
@@ -15,6 +20,26 @@ pub fn verdict_document<D: Disk>(alloc: Global, disk: &mut D) -> Result<Value, F
     ensures reads { OnlyReads D.Disk disk.old disk.new }
 {
     let report = verify(alloc, disk)?;
-    let document = json!(in alloc; {"checkpoint": report.checkpoint, "images": report.images})?;
-    Ok(document)
+    Ok(report_json(alloc, report)?)
+}
+
+/// The same document of a checkpoint that can be restored, whether it is the newest or not.
+///
+/// # Errors
+///
+/// Those of `restore_at`: `EmptyChain` where the store has no image of the checkpoint.
+pub fn verdict_document_at<D: Disk>(
+    alloc: Global,
+    disk: &mut D,
+    number: u64,
+) -> Result<Value, Fault>
+    ensures reads { OnlyReads D.Disk disk.old disk.new }
+{
+    let catalog = scan(alloc, disk)?;
+    place_at(alloc, &catalog, number)?;
+    let report = Report {
+        checkpoint: Some(number),
+        images: catalog.list()?.len(),
+    };
+    Ok(report_json(alloc, report)?)
 }

@@ -9,3 +9,4 @@ pub mod SteadyLemmas
 mod AnswerLemmas
 mod HeldLemmas
 mod AtLemmas
+pub mod RestoredLemmas

@@ -23,6 +23,11 @@ StandsAlone before after why = is_of_store why ≡ true → Keeps before after
 abbrev pub IsOutsideStore : Stop → Type 0
 IsOutsideStore why = is_of_store why ≡ false
 
+-- a stop that names no slot
+abbrev pub NamesNoSlot : Stop → Type 0
+NamesNoSlot (stop.Fault (Damaged slot reason)) = ⊥
+NamesNoSlot _ = Unit {0}
+
 -- Why printing was broken off: a call of the device failed, which had failed so often before and so often now; memory
 -- was refused; or the writer failed.
 abbrev pub IsBreak : ℕ → ℕ → Stop → Type 0

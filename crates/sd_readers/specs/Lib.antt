@@ -6,3 +6,4 @@ pub mod Printed
 pub mod Digits
 pub mod Reading
 pub mod At
+pub mod Restored

@@ -6,7 +6,7 @@ use Rattle.sd_restore.specs.declared.fault.Fault.TheVariants.{EmptyChain, Damage
 use Rattle.sd_restore.specs.Faulty.{IsBrokenChain, IsDamage}
 use Rattle.sd_exit.specs.declared.stop.Stop.{Stop}
 use Rattle.sd_exit.specs.declared.stop.Stop.TheVariants as stop
-use Rattle.sd_exit.specs.Ending.{Exits, OnFault, OnWriter, end_status, end_text}
+use Rattle.sd_exit.specs.Ending.{ExitsAs, OnFault, OnWriter}
 use Rattle.sd_readers.specs.declared.steady.Reader.{Reader}
 use Rattle.sd_readers.specs.declared.steady.Reader.TheVariants as reader
 use Rattle.sd_readers.specs.Ending.{IsBreak, StandsAlone}
@@ -43,4 +43,4 @@ pub record ReaderEnds (by : Reader) (IsHonest : Type 0) (contents : List (List �
   pub printed : Option (List ℕ)
   pub reads : ReadsStore by IsHonest contents failed now ended before printed
   pub writer : OnWriter ended (refused ≡ true)
-  pub exits : Exits printed after refused (end_text ended) (end_status ended) status
+  pub exits : ExitsAs ended printed after refused status

@@ -1,6 +1,6 @@
 //! `ckpt restore`: printing the memory that a store shows.
 ghost use Rattle.std.specs.Prelude.{◌≡◌, ◌≢◌, ◌<◌, ◌≤◌, ◌^◌, ◌+◌, ◌*◌, ◌/◌, ℕ, true, false, None, Some, Err, All};
-ghost use Rattle.std.specs.Prelude.{length, map, flat_map, IfErr, IfOk, OnErr, OnOk};
+ghost use Rattle.std.specs.Prelude.{length, map, flat_map, Option, IfErr, IfOk, OnErr, OnOk};
 ghost use Rattle.std.specs.Io.KnownBytes.{Appends};
 ghost use Rattle.sd_areas.specs.Areas.{AreMaximal};
 ghost use Rattle.sd_disk.specs.Reads.{OnlyReads};
@@ -13,9 +13,10 @@ ghost use Rattle.sd_exit.specs.declared.stop.Stop.TheVariants as stop;
 ghost use Rattle.sd_exit.specs.Ending.{OnFault, OnWriter};
 ghost use Rattle.sd_exit.specs.Texts.{PrintsBeginning, fault_line};
 ghost use Rattle.sd_readers.specs.declared.steady.Reader.TheVariants as reader;
-ghost use Rattle.sd_readers.specs.Ending.{IsBreak, ShowsMemory, StandsAlone};
+ghost use Rattle.sd_readers.specs.Ending.{IsBreak, NamesNoSlot, ShowsMemory, StandsAlone};
 ghost use Rattle.sd_readers.specs.Printed.{BeginsToPrint, PrintsMemory};
 ghost use Rattle.sd_readers.specs.Reading.{IsWhy, ReaderEnds};
+ghost use Rattle.sd_readers.specs.Restored.{IsRestored};
 ghost use Rattle.sd_areas.specs.PlainMemory.{PlainMemory};
 ghost use Rattle.sd_readers.specs.Texts.{memory_text, pages_text, part_of_run, placed_lines, placed_memory_text};
 ghost use Rattle.sd_readers.specs.Texts.{placed_space_text, placed_text};
@@ -54,6 +55,10 @@ pub fn restore_to<D: Disk, W: Write>(alloc: Global, disk: &mut D, out: &mut Outp
         → Appends (W.contents out.old.writer) (W.contents out.new.writer) (fault_line fault.EmptyChain) }
     // Nothing was refused, but where the status is 1.
     ensures whole { result ≢ 1 → out.new.refused ≡ false }
+    // What the store shows is what is restored.
+    ensures restored { (shown : Option (ℕ × PlainMemory)) → D.is_honest disk.new → Shows (D.contents disk.old) shown
+        → IsRestored shown (D.failed disk.old) (D.failed disk.new) (W.contents out.old.writer)
+        (W.contents out.new.writer) out.new.refused result }
     // However it ends: the text or a beginning of it, the last line, and the status that comes with it.
     ensures answers { ReaderEnds reader.Restore (D.is_honest disk.new) (D.contents disk.old)
         (D.failed disk.old) (D.failed disk.new) (W.contents out.old.writer)
@@ -83,6 +88,9 @@ pub(crate) fn print_restored<D: Disk, W: Write>(
     // What stopped it is what it names.
     ensures why { D.is_honest disk.new → IfErr result
         (IsWhy reader.Restore (D.contents disk.old) (D.failed disk.old) (D.failed disk.new)) }
+    // A store that shows something is never called damaged.
+    ensures good { D.is_honest disk.new → (shown : Option (ℕ × PlainMemory)) → Shows (D.contents disk.old) shown
+        → IfErr result NamesNoSlot }
     ensures writer { OnWriter result (out.new.refused ≡ true) }
     ensures reads { OnlyReads D.Disk disk.old disk.new }
 {

@@ -1,13 +1,16 @@
 //! What a program that reads a store prints, by the program's name; and answers that are of one moment of the store.
-ghost use Rattle.std.specs.Prelude.{◌≡◌, ◌≢◌, ◌<◌, true, length, map, slice_range, IfErr, IfOk, IsErrOf, OnOk};
+ghost use Rattle.std.specs.Prelude.{◌≡◌, ◌≢◌, ◌<◌, ℕ, true, length, map, slice_range, Option, IfErr, IfOk, IsErrOf};
+ghost use Rattle.std.specs.Prelude.{OnOk};
+ghost use Rattle.sd_areas.specs.PlainMemory.{PlainMemory};
 ghost use Rattle.sd_disk.specs.Contents.{file_at};
 ghost use Rattle.sd_disk.specs.Failures.{HasCause};
 ghost use Rattle.sd_disk.specs.Reads.{OnlyReads};
+ghost use Rattle.sd_image.specs.Shows.{Shows};
 ghost use Rattle.sd_restore.specs.declared.fault.Fault.TheVariants as fault;
 ghost use Rattle.sd_restore.specs.Faulty.{FaultNames};
 ghost use Rattle.sd_exit.specs.Ending.{OnWriter};
 ghost use Rattle.sd_readers.specs.declared.steady.Reader.TheVariants.{Restore, List};
-ghost use Rattle.sd_readers.specs.Ending.{EndsWithOne, IsReadable, writer_failed};
+ghost use Rattle.sd_readers.specs.Ending.{EndsWithOne, IsReadable, NamesNoSlot, writer_failed};
 ghost use Rattle.sd_readers.specs.Fronts.{front};
 ghost use Rattle.sd_readers.specs.Reading.{ReadsStore};
 
@@ -45,6 +48,8 @@ fn print_by<D: Disk, W: Write>(
     ensures store { ReadsStore reader (D.is_honest disk.new) (D.contents disk.old)
         (D.failed disk.old) (D.failed disk.new) result (W.contents out.old.writer) (W.contents out.new.writer) }
     ensures readable { D.is_honest disk.new → reader ≡ List → OnOk result (IsReadable (D.contents disk.old)) }
+    ensures good { D.is_honest disk.new → reader ≡ Restore → (shown : Option (ℕ × PlainMemory))
+        → Shows (D.contents disk.old) shown → IfErr result NamesNoSlot }
     ensures stopped { reader ≢ Restore → EndsWithOne result }
     ensures writer { OnWriter result (out.new.refused ≡ true) }
     ensures reads { OnlyReads D.Disk disk.old disk.new }
@@ -110,6 +115,8 @@ pub(crate) fn print_steady<D: Disk, W: Write>(
     ensures store { ReadsStore reader (D.is_honest disk.new) (D.contents disk.old)
         (D.failed disk.old) (D.failed disk.new) result (W.contents out.old.writer) (W.contents out.new.writer) }
     ensures readable { D.is_honest disk.new → reader ≡ List → OnOk result (IsReadable (D.contents disk.old)) }
+    ensures good { D.is_honest disk.new → reader ≡ Restore → (shown : Option (ℕ × PlainMemory))
+        → Shows (D.contents disk.old) shown → IfErr result NamesNoSlot }
     ensures stopped { reader ≢ Restore → EndsWithOne result }
     ensures writer { OnWriter result (out.new.refused ≡ true) }
     ensures reads { OnlyReads D.Disk disk.old disk.new }

@@ -1,7 +1,8 @@
 //! The memory that a store shows, before its pages are read.
 ghost use Rattle.std.specs.Prelude.{◌≡◌, ◌≢◌, ◌+◌, ◌*◌, ◌<◌, ◌≤◌, ℕ, List, Some, None, All, length, map, slice_range};
-ghost use Rattle.std.specs.Prelude.{IfOk, IfErr, OnOk, IsErrOf};
+ghost use Rattle.std.specs.Prelude.{Option, IfOk, IfErr, OnOk, IsErrOf};
 ghost use Rattle.sd_areas.specs.Areas.{AreMaximal};
+ghost use Rattle.sd_areas.specs.PlainMemory.{PlainMemory};
 ghost use Rattle.sd_disk.specs.Reads.{OnlyReads};
 ghost use Rattle.sd_image.specs.declared.table.SpaceTable.{SpaceTable};
 ghost use Rattle.sd_image.specs.Shows.{Shows};
@@ -19,7 +20,7 @@ use crate::placed_run::PlacedRun;
 use sd_areas::PAGE_SIZE;
 use sd_chain::{Catalog, Found};
 use sd_disk::{Disk, read_file};
-use sd_image::{SpaceTable, tip_once};
+use sd_image::{SpaceTable, one_store, tip_once};
 use std::alloc::{AllocError, Global};
 
 /// A memory whose pages stand in the slots of a store.
@@ -56,6 +57,9 @@ pub fn place_newest<'a>(alloc: Global, catalog: &'a Catalog) -> Result<PlacedMem
         → IsErrOf result Fault.EmptyChain → Shows contents None }
     ensures broken { (contents : List (List ℕ)) → IsCatalogOf contents catalog.now
         → IfErr result (FaultNames (IsBrokenChain contents)) }
+    // Contents that show something are never called damaged.
+    ensures good { (contents : List (List ℕ)) (shown : Option (ℕ × PlainMemory)) → IsCatalogOf contents catalog.now
+        → Shows contents shown → IfErr result (FaultNames (λ _ _. ⊥)) }
     ensures slots { (count : ℕ) → All (λ i. i.slot < count) (images catalog.now)
         → IfOk result (λ placed. All (λ r. IsInSlots count r.there) placed.runs.items) }
     ensures within { IfOk result (λ placed. All IsWithin placed.runs.items) }
@@ -65,6 +69,7 @@ pub fn place_newest<'a>(alloc: Global, catalog: &'a Catalog) -> Result<PlacedMem
     // An empty chain takes no memory.
     ensures wanted { result ≡ Err Fault.OutOfMemory → (tip : Opened) × IsTip catalog.now tip }
 {
+    one_store();
     tip_once();
     catalog.sound();
     let Some(tip) = catalog.tip() else {

@@ -16,7 +16,7 @@ use Rattle.sd_exit.specs.declared.stop.Stop.{Stop}
 use Rattle.sd_exit.specs.Texts.{PrintsBeginning}
 use Rattle.sd_run.specs.Lines.{AnswersLine, AnswersLines}
 use Rattle.sd_run.specs.Merging.{IsWholeMerge}
-use Rattle.sd_run.specs.Promise.{Promise}
+use Rattle.sd_run.specs.Promise.{Promise, PromiseSoFar}
 use Rattle.sd_run.specs.Whole.{AreTold, BreaksOff, IsWholeRun, PrintsLines, TellsSome}
 
 module _ {D : Type 0} (g : Ghosts D) where
@@ -125,16 +125,32 @@ module _ {D : Type 0} (g : Ghosts D) (lines : List Line) (old new : D) (before a
     };
   }
 
-  pub promised_still : Promise g lines old new before a → Promise g lines old new before b
-  promised_still is = record {
-    first = is.first;
-    last = is.last;
-    starts = is.starts;
-    answers = is.answers;
-    goes = is.goes;
-    ends = is.ends;
-    printed = then_nothing before a b (flat_map answer_line is.answers) is.printed none;
+  so_far_still : (run : PromiseSoFar g lines old new before a) → PromiseSoFar g lines old new before b
+  so_far_still run = record {
+    first = run.first;
+    last = run.last;
+    reads = run.reads;
+    entries = run.entries;
+    begun = run.begun;
+    shows = run.shows;
+    everywhere = run.everywhere;
+    done = run.done;
+    rest = run.rest;
+    parts = run.parts;
+    told = run.told;
+    broken = run.broken;
+    one = run.one;
+    goes = run.goes;
+    ends = run.ends;
+    front = run.front;
+    back = run.back;
+    line = run.line;
+    printed = then_nothing before a b (flat_map answer_line run.told ++ run.front) run.printed none;
   }
+
+  pub promised_still : Promise g lines old new before a → Promise g lines old new before b
+  unfolding so_far_still
+  promised_still is = (so_far_still is.0, is.1, is.2)
 
 module _ {D : Type 0} (g : Ghosts D) (old new : D) (before a b : Option (List ℕ)) (none : Appends a b []) where
   pub merge_still : IsWholeMerge g old new before a → IsWholeMerge g old new before b

@@ -1,27 +1,45 @@
 -- What is promised of the run of a script, from how its world goes on.
-use Rattle.std.proofs.Common.{◌≡◌, ℕ, true, List, [], ◌∷◌, ◌++◌, Option, Some, None, Result, IfOk, refl, sym, ◌∙◌, ap, subst, arith}
+use Rattle.std.proofs.Common.{◌≡◌, ◌≤◌, ℕ, true, List, [], ◌∷◌, ◌++◌, length, Option, Some, None, Result, IfOk, refl, sym, ◌∙◌, ap, subst, inl, inr, append-nil, arith}
+use Rattle.std.specs.Io.KnownBytes.{Appends}
+use Rattle.std.specs.List.{AllByRecursion, flat_map}
+use Rattle.std.specs.Prelude.{◌⊎◌}
 use Rattle.sd_command.specs.declared.reply.Reply.{Reply}
 use Rattle.sd_disk.specs.declared.disk.Disk.{Ghosts}
 use Rattle.sd_gate.specs.declared.worker.Worker.{Worker}
 use Rattle.sd_gate.specs.declared.worker.Worker.TheVariants.{Dumper, Merger, Opener}
-use Rattle.sd_journal.specs.Legal.{IsLegal}
-use Rattle.sd_journal.specs.Marked.{Marked, entries_of}
-use Rattle.sd_crash_safety.specs.Calls.{running_number}
 use Rattle.sd_script.specs.declared.answer.Answer.{Answer}
 use Rattle.sd_script.specs.declared.answer.Answer.TheVariants as answer
 use Rattle.sd_script.specs.declared.line.Line.{Line}
 use Rattle.sd_script.specs.declared.line.Line.TheVariants as line
+use Rattle.sd_script.specs.Texts.{answer_line}
 use Rattle.sd_world.specs.declared.event.Event.{Event}
 use Rattle.sd_world.specs.declared.event.Event.TheVariants.{Command, Begin, Work, Perform, PerformAt, Merge, Cancel, Reopen, Trim}
-use Rattle.sd_world.specs.Points.{Folds, PointsFollow, StandsAt}
+use Rattle.sd_world.specs.Points.{PointsFollow, StandsAt, first_point}
 use Rattle.sd_world.specs.Promise.{Goes, Point}
 use Rattle.sd_world.specs.Runs.{IsStep}
 use Rattle.sd_world.specs.View.{WorldView}
 use Rattle.sd_world.specs.Jobs.{Drives, IsJob, is_end}
+use Rattle.sd_world.proofs.HeadlineLemmas.{first_stands}
 use Rattle.sd_world.proofs.PointLemmas.{drives_honest, drives_reach}
 use Rattle.sd_run.specs.Lines.{AnswersLine, AnswersLines, script_seat}
-use Rattle.sd_run.specs.Promise.{AreOf, EndsJob, GoesByLine, GoesByLines, IsAnswerToLine, Promise, PromiseSoFar, RunsLine, Starts, Tells, begins_with, worker_of}
+use Rattle.sd_run.specs.Promise.{AreEventsOf, GoesByLine, GoesByLines, IsAnswerOf, LastIs, Promise, PromiseSoFar, RunsLine, Tells}
 use Rattle.sd_run.specs.Whole.{AreTold, IsPartOfRun, IsWholeRun, RunIsOpened}
+
+-- events of a worker: its steps, and the device calls that it asked for
+abbrev AreOf : Worker → List Event → Type 0
+AreOf worker events = AllByRecursion (λ event. (event ≡ Work worker) ⊎ (event ≡ Perform worker)) events
+
+-- the answer is the last of these replies
+last_is : (fact : Reply → Type 0) (before : List Reply) (last : Reply) → fact last → LastIs fact (before ++ last ∷ []) (answer.Reply last)
+last_is fact before last holds = record { before = before; last = last; are = refl; is = refl; holds = holds }
+
+-- of which nothing more is told
+is_last : (before : List Reply) (last : Reply) → LastIs (λ reply. Unit {0}) (before ++ last ∷ []) (answer.Reply last)
+is_last before last = last_is (λ reply. Unit {0}) before last tt
+
+-- or which ends a job
+is_end_of : (before : List Reply) (last : Reply) → is_end last ≡ true → LastIs (λ reply. is_end reply ≡ true) (before ++ last ∷ []) (answer.Reply last)
+is_end_of before last ends = last_is (λ reply. is_end reply ≡ true) before last ends
 
 module _ {D : Type 0} (g : Ghosts D) (follow : PointsFollow g) where
   -- a world goes on to another, and from each point at which it may stand there is one at which the other stands
@@ -30,71 +48,56 @@ module _ {D : Type 0} (g : Ghosts D) (follow : PointsFollow g) where
 
   -- ---- a line
 
-  by_event : (asked : Line) (event : Event) (first last : WorldView D) (reply : Reply) → begins_with asked ≡ event ∷ [] → AreOf (worker_of asked) []
-      → IsAnswerToLine asked (reply ∷ []) (answer.Reply reply) → EndsJob asked (answer.Reply reply) → IsStep g event first reply last → g.is_honest last.disk
+  by_event : (asked : Line) (event : Event) (first last : WorldView D) (reply : Reply) → AreEventsOf asked (event ∷ [])
+      → IsAnswerOf asked (reply ∷ []) (answer.Reply reply) → IsStep g event first reply last → g.is_honest last.disk
       → Reaches first last (λ from to. GoesByLine g asked from (answer.Reply reply) to)
-  by_event asked event first last reply is none told ends step honest from stands =
+  by_event asked event first last reply are told step honest from stands =
       let one = follow event first reply last step honest from stands in (
         one.0,
         one.1,
-        record {
-          others = [];
-          replies = reply ∷ [];
-          goes = subst (λ events. Goes g from (events ++ []) (reply ∷ []) one.0) (sym is) (one.0, one.2, refl);
-          others_are = none;
-          answer = told;
-          ends = ends;
-        },
+        record { events = event ∷ []; replies = reply ∷ []; goes = (one.0, one.2, refl); events_are = are; answer = told },
       )
 
-  by_worker : (asked : Line) (worker : Worker) (first last : WorldView D) (before : List Reply) (reply : Reply) → begins_with asked ≡ []
-      → worker_of asked ≡ Some worker → IsAnswerToLine asked (before ++ reply ∷ []) (answer.Reply reply) → EndsJob asked (answer.Reply reply)
+  by_worker : (asked : Line) (worker : Worker) (first last : WorldView D) (before : List Reply) (reply : Reply)
+      → ((events : List Event) → AreOf worker events → AreEventsOf asked events) → IsAnswerOf asked (before ++ reply ∷ []) (answer.Reply reply)
       → Drives g worker first (before ++ reply ∷ []) last → g.is_honest last.disk
       → Reaches first last (λ from to. GoesByLine g asked from (answer.Reply reply) to)
-  by_worker asked worker first last before reply is whose told ends drives honest from stands =
+  by_worker asked worker first last before reply are told drives honest from stands =
       let all = drives_reach g follow worker first last (before ++ reply ∷ []) drives honest from stands in (
         all.0,
         all.1,
         record {
-          others = all.2.events;
+          events = all.2.events;
           replies = before ++ reply ∷ [];
-          goes = subst (λ events. Goes g from (events ++ all.2.events) (before ++ reply ∷ []) all.0) (sym is) all.2.goes;
-          others_are = subst (λ w. AreOf w all.2.events) (sym whose) all.2.are;
+          goes = all.2.goes;
+          events_are = are all.2.events all.2.are;
           answer = told;
-          ends = ends;
         },
       )
 
-  by_job : (asked : Line) (order : Event) (worker : Worker) (first last : WorldView D) (reply : Reply) → begins_with asked ≡ order ∷ []
-      → worker_of asked ≡ Some worker → ((before : List Reply) → IsAnswerToLine asked (before ++ reply ∷ []) (answer.Reply reply))
-      → (is_end reply ≡ true → EndsJob asked (answer.Reply reply)) → IsJob g order worker first reply last → g.is_honest last.disk
+  by_job : (asked : Line) (order : Event) (worker : Worker) (first last : WorldView D) (reply : Reply)
+      → ((events : List Event) → AreOf worker events → AreEventsOf asked (order ∷ events))
+      → ((before : List Reply) → is_end reply ≡ true → IsAnswerOf asked (before ++ reply ∷ []) (answer.Reply reply))
+      → IsJob g order worker first reply last → g.is_honest last.disk
       → Reaches first last (λ from to. GoesByLine g asked from (answer.Reply reply) to)
-  by_job asked order worker first last reply is whose told ends (IsJob.refused ended step) honest from stands =
+  by_job asked order worker first last reply are told (IsJob.refused ended step) honest from stands =
       let one = follow order first reply last step honest from stands in (
         one.0,
         one.1,
-        record {
-          others = [];
-          replies = reply ∷ [];
-          goes = subst (λ events. Goes g from (events ++ []) (reply ∷ []) one.0) (sym is) (one.0, one.2, refl);
-          others_are = subst (λ w. AreOf w []) (sym whose) tt;
-          answer = told [];
-          ends = ends ended;
-        },
+        record { events = order ∷ []; replies = reply ∷ []; goes = (one.0, one.2, refl); events_are = are [] tt; answer = told [] ended },
       )
-  by_job asked order worker first last reply is whose told ends (IsJob.finished begun mid goes_on step finished) honest from stands =
+  by_job asked order worker first last reply are told (IsJob.finished begun mid goes_on step finished) honest from stands =
       let driven = finished.driven in
       let one = follow order first begun mid step (drives_honest g worker mid last (driven.before ++ reply ∷ []) driven.drives honest) from stands in
       let all = drives_reach g follow worker mid last (driven.before ++ reply ∷ []) driven.drives honest one.0 one.1 in (
         all.0,
         all.1,
         record {
-          others = all.2.events;
+          events = order ∷ all.2.events;
           replies = begun ∷ (driven.before ++ reply ∷ []);
-          goes = subst (λ events. Goes g from (events ++ all.2.events) (begun ∷ (driven.before ++ reply ∷ [])) all.0) (sym is) (one.0, one.2, all.2.goes);
-          others_are = subst (λ w. AreOf w all.2.events) (sym whose) all.2.are;
-          answer = told (begun ∷ driven.before);
-          ends = ends finished.ends;
+          goes = (one.0, one.2, all.2.goes);
+          events_are = are all.2.events all.2.are;
+          answer = told (begun ∷ driven.before) finished.ends;
         },
       )
 
@@ -103,34 +106,39 @@ module _ {D : Type 0} (g : Ghosts D) (follow : PointsFollow g) where
   line_reaches (line.Words space address count) first last given answers honest = λ from stands. (
     from,
     subst (λ (w : WorldView D). StandsAt w from) (sym answers.1) stands,
-    record { others = []; replies = []; goes = refl; others_are = refl; answer = tt; ends = tt },
+    record { events = []; replies = []; goes = refl; events_are = refl; answer = tt },
   )
   line_reaches (line.Command command) first last (answer.Reply r) answers honest =
-      by_event (line.Command command) (Command script_seat command) first last r refl refl ([], r, refl, refl) tt answers honest
+      by_event (line.Command command) (Command script_seat command) first last r refl (is_last [] r) answers honest
   line_reaches (line.Begin rounds) first last (answer.Reply r) answers honest =
-      by_event (line.Begin rounds) (Begin rounds) first last r refl refl ([], r, refl, refl) tt answers honest
+      by_event (line.Begin rounds) (Begin rounds) first last r refl (is_last [] r) answers honest
   line_reaches line.BeginMerge first last (answer.Reply r) answers honest =
-      by_event line.BeginMerge (Merge) first last r refl refl ([], r, refl, refl) tt answers honest
+      by_event line.BeginMerge Merge first last r refl (is_last [] r) answers honest
   line_reaches line.Cancel first last (answer.Reply r) answers honest =
-      by_event line.Cancel (Cancel) first last r refl refl ([], r, refl, refl) tt answers honest
+      by_event line.Cancel Cancel first last r refl (is_last [] r) answers honest
   line_reaches (line.Work worker) first last (answer.Reply r) answers honest =
-      by_event (line.Work worker) (Work worker) first last r refl refl ([], r, refl, refl) tt answers honest
+      by_event (line.Work worker) (Work worker) first last r refl (is_last [] r) answers honest
   line_reaches (line.Perform worker) first last (answer.Reply r) answers honest =
-      by_event (line.Perform worker) (Perform worker) first last r refl refl ([], r, refl, refl) tt answers honest
+      by_event (line.Perform worker) (Perform worker) first last r refl (is_last [] r) answers honest
   line_reaches (line.PerformAt worker place) first last (answer.Reply r) answers honest =
-      by_event (line.PerformAt worker place) (PerformAt worker place) first last r refl refl ([], r, refl, refl) tt answers honest
+      by_event (line.PerformAt worker place) (PerformAt worker place) first last r refl (is_last [] r) answers honest
   line_reaches line.Trim first last (answer.Reply r) answers honest =
-      by_event line.Trim (Trim) first last r refl refl ([], r, refl, refl) tt answers honest
+      by_event line.Trim Trim first last r refl (is_last [] r) answers honest
   line_reaches (line.Step worker count) first last (answer.Reply r) answers honest =
-      by_worker (line.Step worker count) worker first last answers.before r refl refl (answers.before, r, refl, refl) tt answers.drives honest
+      by_worker (line.Step worker count) worker first last answers.before r (λ events are. record { others = events; are = refl; of_worker = are })
+      (is_last answers.before r) answers.drives honest
   line_reaches (line.Finish worker) first last (answer.Reply r) answers honest =
-      by_worker (line.Finish worker) worker first last answers.driven.before r refl refl (answers.driven.before, r, refl, refl) answers.ends answers.driven.drives honest
+      by_worker (line.Finish worker) worker first last answers.driven.before r (λ events are. record { others = events; are = refl; of_worker = are })
+      (is_end_of answers.driven.before r answers.ends) answers.driven.drives honest
   line_reaches (line.Checkpoint rounds) first last (answer.Reply r) answers honest =
-      by_job (line.Checkpoint rounds) (Begin rounds) Dumper first last r refl refl (λ before. (before, r, refl, refl)) (λ ended. ended) answers honest
+      by_job (line.Checkpoint rounds) (Begin rounds) Dumper first last r (λ events are. record { others = events; are = refl; of_worker = are })
+      (λ before ended. is_end_of before r ended) answers honest
   line_reaches line.Merge first last (answer.Reply r) answers honest =
-      by_job line.Merge (Merge) Merger first last r refl refl (λ before. (before, r, refl, refl)) (λ ended. ended) answers honest
+      by_job line.Merge Merge Merger first last r (λ events are. record { others = events; are = refl; of_worker = are })
+      (λ before ended. is_end_of before r ended) answers honest
   line_reaches line.Reopen first last (answer.Reply r) answers honest =
-      by_job line.Reopen (Reopen) Opener first last r refl refl (λ before. (before, r, refl, refl)) (λ ended. ended) answers honest
+      by_job line.Reopen Reopen Opener first last r (λ events are. record { others = events; are = refl; of_worker = are })
+      (λ before ended. is_end_of before r ended) answers honest
   line_reaches _ first last (answer.Words words) answers honest = absurd answers
 
   pub runs_line : {E : Type 0} (asked : Line) (first last : WorldView D) (given : Answer) (ended : Result Answer E) (before now : Option (List ℕ))
@@ -176,59 +184,84 @@ module _ {D : Type 0} (g : Ghosts D) (follow : PointsFollow g) where
 
   -- ---- a whole run
 
-  abbrev pub first_point : WorldView D → Point D
-  first_point opened = record { disk = opened.disk; base = opened.core.base; entries = []; begun = None }
+  -- what was told, and what was broken off
+  record Parts (answers : List Answer) (before now : Option (List ℕ)) : Type 0 where
+    pub told : List Answer
+    pub broken : List Answer
+    pub are : answers ≡ told ++ broken
+    pub one : length broken ≤ 1
+    pub front : List ℕ
+    pub back : List ℕ
+    pub line : front ++ back ≡ flat_map answer_line broken
+    pub printed : Appends before now (flat_map answer_line told ++ front)
 
-  first_stands : (opened : WorldView D) → opened.core.items ≡ [] → opened.core.dumper.running ≡ None → StandsAt opened (first_point opened)
-  first_stands opened empty idle = record {
-    disk = refl;
-    gone = [];
-    folds = Folds.none _ _ refl refl;
-    entries = ap (λ (items : Marked). entries_of items ++ []) (sym empty);
-    legal = subst (λ (items : Marked). IsLegal opened.core.base (entries_of items)) (sym empty) tt;
-    begun = λ n is. sym (ap running_number idle) ∙ is;
+  all_told : (answers : List Answer) (before now : Option (List ℕ)) → Appends before now (flat_map answer_line answers) → Parts answers before now
+  all_told answers before now printed = record {
+    told = answers;
+    broken = [];
+    are = sym (append-nil answers);
+    one = omega arith;
+    front = [];
+    back = [];
+    line = refl;
+    printed = subst (Appends before now) (sym (append-nil (flat_map answer_line answers))) printed;
   }
 
-  first_starts : (old : D) (opened : WorldView D) → RunIsOpened g old opened → g.is_honest opened.disk → Starts g old (first_point opened)
-  first_starts old opened opening honest = grind arith
+  parts_told : (answers : List Answer) (before now : Option (List ℕ)) → AreTold answers before now → Parts answers before now
+  parts_told answers before now (inl all) = all_told answers before now all
+  parts_told answers before now (inr breaks) = record {
+    told = breaks.told;
+    broken = breaks.last ∷ [];
+    are = breaks.are;
+    one = omega arith;
+    front = breaks.front;
+    back = breaks.rest;
+    line = breaks.line ∙ sym (append-nil (answer_line breaks.last));
+    printed = breaks.printed;
+  }
 
-  pub promise_of : (lines : List Line) (old new : D) (before now : Option (List ℕ)) (run : IsWholeRun g lines old new before now) → g.is_honest new
-      → Promise g lines old new before now
-  promise_of lines old new before now whole honest =
-      let at_last = subst g.is_honest whole.run.disk honest in
-      let answered = whole.answers.answered in
-      let at_first = lines_honest whole.opened whole.last lines whole.answers.answers answered at_last in
-      let opening = whole.run.opening in
-      let all = lines_reach whole.opened whole.last lines whole.answers.answers answered at_last (first_point whole.opened)
-      (first_stands whole.opened opening.journal opening.idle) in
+  run_of : (lines : List Line) (old new : D) (before now : Option (List ℕ)) (opened last : WorldView D) (done rest : List Line) (answers : List Answer)
+      → RunIsOpened g old opened → AnswersLines g opened done answers last → lines ≡ done ++ rest → new ≡ last.disk → g.is_honest last.disk
+      → Parts answers before now → PromiseSoFar g lines old new before now
+  run_of lines old new before now opened last done rest answers opening answered parts disk honest told =
+      let at_first = lines_honest opened last done answers answered honest in
+      let all = lines_reach opened last done answers answered honest (first_point opened) (first_stands opened opening.journal opening.idle opening.bare) in
       record {
-        first = first_point whole.opened;
+        first = first_point opened;
         last = all.0;
-        starts = first_starts old whole.opened opening at_first;
-        answers = whole.answers.answers;
-        goes = all.2;
-        ends = whole.run.disk ∙ sym all.1.disk;
-        printed = whole.answers.printed;
+        reads = opening.reads;
+        entries = refl;
+        begun = refl;
+        shows = opening.shows at_first;
+        everywhere = opening.everywhere at_first;
+        done = done;
+        rest = rest;
+        parts = parts;
+        told = told.told;
+        broken = told.broken;
+        one = told.one;
+        goes = subst (λ a. GoesByLines g (first_point opened) done a all.0) told.are all.2;
+        ends = disk ∙ sym all.1.disk;
+        front = told.front;
+        back = told.back;
+        line = told.line;
+        printed = told.printed;
       }
 
   pub promise_so_far : (lines : List Line) (old new : D) (before now : Option (List ℕ)) (part : IsPartOfRun g lines old new) → AreTold part.answers.answers before now
       → g.is_honest new → PromiseSoFar g lines old new before now
   promise_so_far lines old new before now part told honest =
-      let at_last = subst g.is_honest part.run.disk honest in
       let some = part.answers in
-      let at_first = lines_honest part.opened part.last some.done some.answers some.answered at_last in
-      let opening = part.run.opening in
-      let all = lines_reach part.opened part.last some.done some.answers some.answered at_last (first_point part.opened)
-      (first_stands part.opened opening.journal opening.idle) in
-      record {
-        first = first_point part.opened;
-        last = all.0;
-        starts = first_starts old part.opened opening at_first;
-        done = some.done;
-        rest = some.rest;
-        parts = some.parts;
-        answers = some.answers;
-        goes = all.2;
-        ends = part.run.disk ∙ sym all.1.disk;
-        told = told;
-      }
+      run_of lines old new before now part.opened part.last some.done some.rest some.answers part.run.opening some.answered some.parts part.run.disk
+      (subst g.is_honest part.run.disk honest) (parts_told some.answers before now told)
+
+  pub promise_of : (lines : List Line) (old new : D) (before now : Option (List ℕ)) → IsWholeRun g lines old new before now → g.is_honest new
+      → Promise g lines old new before now
+  unfolding run_of all_told
+  promise_of lines old new before now whole honest =
+      let answers = whole.answers.answers in (
+        run_of lines old new before now whole.opened whole.last lines [] answers whole.run.opening whole.answers.answered (sym (append-nil lines)) whole.run.disk
+            (subst g.is_honest whole.run.disk honest) (all_told answers before now whole.answers.printed),
+        refl,
+        refl,
+      )

@@ -1,4 +1,4 @@
--- Bytes in bulk: stores side by side.
+-- Bytes in bulk: stores or loads side by side.
 use Rattle.std.specs.Prelude.{◌≡◌, ◌≢◌, ◌≤◌, ◌+◌, ◌^◌, ◌%◌, ℕ, List, [], ◌∷◌, ◌++◌, length, map, Option, Some, None}
 use Rattle.std.specs.Prelude.{Result, Ok, Err}
 use Rattle.std.specs.List.{concat}
@@ -46,3 +46,55 @@ pub data Puts {E : Type 0} (Answers : List Line → List Answer → Type 0) (spa
       → Puts Answers space address bytes (Ok (Some halt))
   no_room : (why : E) (pieces : List (List ℕ)) (rest : List ℕ) → bytes ≡ concat pieces ++ rest
       → Answers (stores_of space address pieces) (dones pieces) → Puts Answers space address bytes (Err why)
+
+-- ---- loads
+
+-- the load of so many bytes
+abbrev pub load_of : ℕ → ℕ → ℕ → Line
+load_of space address count = line.Command (command.Load space address count)
+
+-- a load of so many bytes, and the bytes that it was answered
+pub record Loaded : Type 0 where
+  pub count : ℕ
+  pub bytes : List ℕ
+
+-- loads side by side
+abbrev pub loads_of : ℕ → ℕ → List Loaded → List Line
+loads_of space address [] = []
+loads_of space address (load ∷ loads) =
+    load_of space address load.count ∷ loads_of space ((address + load.count) % 2 ^ 64) loads
+
+-- the address after them
+abbrev pub past_loads : ℕ → List Loaded → ℕ
+past_loads address [] = address
+past_loads address (load ∷ loads) = past_loads ((address + load.count) % 2 ^ 64) loads
+
+-- how many bytes they ask for
+abbrev pub asked_by : List Loaded → ℕ
+asked_by [] = 0
+asked_by (load ∷ loads) = load.count + asked_by loads
+
+-- their answers
+abbrev pub bytes_told : List Loaded → List Answer
+bytes_told [] = []
+bytes_told (load ∷ loads) = answer.Reply (reply.Bytes load.bytes) ∷ bytes_told loads
+
+-- all of their bytes
+abbrev pub all_bytes : List Loaded → List ℕ
+all_bytes [] = []
+all_bytes (load ∷ loads) = load.bytes ++ all_bytes loads
+
+-- Loads were answered bytes, which are added to those that were there. Where they ask for all, nothing is left; else
+-- the next one was answered something else, at the address that is told.
+pub data Gets {E : Type 0} (Answers : List Line → List Answer → Type 0) (space address count : ℕ)
+    (before after : List ℕ) : Result (Option Halt) E → Type 0 where
+  loaded : (loads : List Loaded) → asked_by loads ≡ count → after ≡ before ++ all_bytes loads
+      → Answers (loads_of space address loads) (bytes_told loads)
+      → Gets Answers space address count before after (Ok None)
+  stopped : (halt : Halt) (loads : List Loaded) (asked : ℕ) → after ≡ before ++ all_bytes loads
+      → halt.address ≡ past_loads address loads → ((bytes : List ℕ) → halt.reply ≢ reply.Bytes bytes)
+      → Answers (loads_of space address loads ++ load_of space halt.address asked ∷ [])
+      (bytes_told loads ++ answer.Reply halt.reply ∷ [])
+      → Gets Answers space address count before after (Ok (Some halt))
+  no_room : (why : E) (loads : List Loaded) → Answers (loads_of space address loads) (bytes_told loads)
+      → Gets Answers space address count before after (Err why)

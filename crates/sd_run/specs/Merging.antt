@@ -7,7 +7,7 @@ use Rattle.sd_disk.specs.Reads.{OnlyReads}
 use Rattle.sd_disk.specs.declared.disk.Disk.{Ghosts}
 use Rattle.sd_exit.specs.declared.stop.Stop.{Stop}
 use Rattle.sd_exit.specs.declared.stop.Stop.TheVariants as stop
-use Rattle.sd_exit.specs.Ending.{Exits, OnWriter, end_status, end_text}
+use Rattle.sd_exit.specs.Ending.{ExitsAs, OnWriter}
 use Rattle.sd_gate.specs.declared.worker.Worker.TheVariants.{Merger, Opener}
 use Rattle.sd_script.specs.Texts.{reply_line}
 use Rattle.sd_world.specs.declared.event.Event.TheVariants.{Merge, Reopen}
@@ -75,4 +75,4 @@ pub record MergesToExit {D : Type 0} (g : Ghosts D) (old new : D) (before after 
   pub why : g.is_honest new → ended ≢ Err stop.Refused
       → IfErr ended (IsWhyRun (λ _. ⊥) (g.contents old) (g.failed old) (g.failed new))
   pub writer : OnWriter ended (refused ≡ true)
-  pub exits : Exits printed after refused (end_text ended) (end_status ended) status
+  pub exits : ExitsAs ended printed after refused status

@@ -1,5 +1,6 @@
 -- What is promised of the run of a script: of its lines, their answers, what is printed, and the disk alone.
-use Rattle.std.specs.Prelude.{◌≡◌, ◌⊎◌, ℕ, Bool, true, List, [], ◌∷◌, ◌++◌, Option, Some, None, Result, IfErr, IfOk}
+use Rattle.std.specs.Prelude.{◌≡◌, ◌⊎◌, ◌≤◌, ℕ, Bool, true, List, [], ◌∷◌, ◌++◌, length, Option, None, Result, IfErr}
+use Rattle.std.specs.Prelude.{IfOk}
 use Rattle.std.specs.List.{AllByRecursion, flat_map}
 use Rattle.std.specs.Io.KnownBytes.{Appends}
 use Rattle.sd_command.specs.declared.reply.Reply.{Reply}
@@ -9,9 +10,8 @@ use Rattle.sd_disk.specs.declared.disk.Disk.{Ghosts}
 use Rattle.sd_gate.specs.declared.worker.Worker.{Worker}
 use Rattle.sd_gate.specs.declared.worker.Worker.TheVariants.{Dumper, Merger, Opener}
 use Rattle.sd_exit.specs.declared.stop.Stop.{Stop}
-use Rattle.sd_exit.specs.Ending.{Exits, OnWriter, end_status, end_text}
+use Rattle.sd_exit.specs.Ending.{ExitsAs, OnWriter}
 use Rattle.sd_image.specs.Shows.{Shows}
-use Rattle.sd_core.specs.Starts.{shown_base}
 use Rattle.sd_script.specs.declared.answer.Answer.{Answer}
 use Rattle.sd_script.specs.declared.answer.Answer.TheVariants as answer
 use Rattle.sd_script.specs.declared.line.Line.{Line}
@@ -20,71 +20,64 @@ use Rattle.sd_script.specs.Texts.{answer_line}
 use Rattle.sd_world.specs.declared.event.Event.{Event}
 use Rattle.sd_world.specs.declared.event.Event.TheVariants.{Command, Begin, Work, Perform, PerformAt, Merge, Cancel}
 use Rattle.sd_world.specs.declared.event.Event.TheVariants.{Reopen, Trim}
-use Rattle.sd_world.specs.Opens.{bare_memory}
 use Rattle.sd_world.specs.Points.{StandsAt}
 use Rattle.sd_world.specs.Promise.{Goes, Point}
 use Rattle.sd_world.specs.View.{WorldView}
 use Rattle.sd_world.specs.Jobs.{is_end}
 use Rattle.sd_run.specs.Ending.{IsWhyRun}
-use Rattle.sd_run.specs.Lines.{IsReplyOf, script_seat}
-use Rattle.sd_run.specs.Whole.{AreTold}
 
--- ---- the events of a line
+-- ---- the events of a line, and its answer
 
--- the event with which a line begins: its order, or a worker's next event
-abbrev pub begins_with : Line → List Event
-begins_with (line.Command command) = Command script_seat command ∷ []
-begins_with (line.Begin rounds) = Begin rounds ∷ []
-begins_with line.BeginMerge = Merge ∷ []
-begins_with line.Cancel = Cancel ∷ []
-begins_with (line.Work worker) = Work worker ∷ []
-begins_with (line.Perform worker) = Perform worker ∷ []
-begins_with (line.PerformAt worker place) = PerformAt worker place ∷ []
-begins_with (line.Checkpoint rounds) = Begin rounds ∷ []
-begins_with line.Merge = Merge ∷ []
-begins_with line.Reopen = Reopen ∷ []
-begins_with line.Trim = Trim ∷ []
-begins_with _ = []
+-- these orders, and then steps of a worker, and the device calls that it asked for
+pub record IsJobOf (orders : List Event) (worker : Worker) (events : List Event) : Type 0 where
+  pub others : List Event
+  pub are : events ≡ orders ++ others
+  pub of_worker : AllByRecursion (λ event. (event ≡ Work worker) ⊎ (event ≡ Perform worker)) others
 
--- the worker that goes on then
-abbrev pub worker_of : Line → Option Worker
-worker_of (line.Step worker count) = Some worker
-worker_of (line.Finish worker) = Some worker
-worker_of (line.Checkpoint rounds) = Some Dumper
-worker_of line.Merge = Some Merger
-worker_of line.Reopen = Some Opener
-worker_of _ = None
+-- the events that a line makes; one that asks for words makes none
+abbrev pub AreEventsOf : Line → List Event → Type 0
+AreEventsOf (line.Command command) events = events ≡ Command 0 command ∷ []
+AreEventsOf (line.Words space address count) events = events ≡ []
+AreEventsOf (line.Begin rounds) events = events ≡ Begin rounds ∷ []
+AreEventsOf line.BeginMerge events = events ≡ Merge ∷ []
+AreEventsOf line.Cancel events = events ≡ Cancel ∷ []
+AreEventsOf line.Trim events = events ≡ Trim ∷ []
+AreEventsOf (line.Work worker) events = events ≡ Work worker ∷ []
+AreEventsOf (line.Perform worker) events = events ≡ Perform worker ∷ []
+AreEventsOf (line.PerformAt worker place) events = events ≡ PerformAt worker place ∷ []
+AreEventsOf (line.Step worker count) events = IsJobOf [] worker events
+AreEventsOf (line.Finish worker) events = IsJobOf [] worker events
+AreEventsOf (line.Checkpoint rounds) events = IsJobOf (Begin rounds ∷ []) Dumper events
+AreEventsOf line.Merge events = IsJobOf (Merge ∷ []) Merger events
+AreEventsOf line.Reopen events = IsJobOf (Reopen ∷ []) Opener events
 
--- it goes on by its steps, and by the device calls that it asked for
-abbrev pub AreOf : Option Worker → List Event → Type 0
-AreOf None events = events ≡ []
-AreOf (Some worker) events = AllByRecursion (λ event. (event ≡ Work worker) ⊎ (event ≡ Perform worker)) events
-
--- the answer is the last reply; a line that asks for words makes no event
-abbrev pub IsAnswerToLine : Line → List Reply → Answer → Type 0
-IsAnswerToLine (line.Words space address count) replies given = Unit {0}
-IsAnswerToLine _ replies given =
-    (before : List Reply) × (last : Reply) × (replies ≡ before ++ last ∷ []) × (given ≡ answer.Reply last)
+-- the answer is the last reply, of which this is so
+pub record LastIs (fact : Reply → Type 0) (replies : List Reply) (given : Answer) : Type 0 where
+  pub before : List Reply
+  pub last : Reply
+  pub are : replies ≡ before ++ last ∷ []
+  pub is : given ≡ answer.Reply last
+  pub holds : fact last
 
 -- that of a whole job ends it, or is a refusal
-abbrev pub EndsJob : Line → Answer → Type 0
-EndsJob (line.Finish worker) given = IsReplyOf (λ reply. is_end reply ≡ true) given
-EndsJob (line.Checkpoint rounds) given = IsReplyOf (λ reply. is_end reply ≡ true) given
-EndsJob line.Merge given = IsReplyOf (λ reply. is_end reply ≡ true) given
-EndsJob line.Reopen given = IsReplyOf (λ reply. is_end reply ≡ true) given
-EndsJob _ given = Unit {0}
+abbrev pub IsAnswerOf : Line → List Reply → Answer → Type 0
+IsAnswerOf (line.Words space address count) replies given = Unit {0}
+IsAnswerOf (line.Finish worker) replies given = LastIs (λ reply. is_end reply ≡ true) replies given
+IsAnswerOf (line.Checkpoint rounds) replies given = LastIs (λ reply. is_end reply ≡ true) replies given
+IsAnswerOf line.Merge replies given = LastIs (λ reply. is_end reply ≡ true) replies given
+IsAnswerOf line.Reopen replies given = LastIs (λ reply. is_end reply ≡ true) replies given
+IsAnswerOf _ replies given = LastIs (λ reply. Unit {0}) replies given
 
 -- ---- from one point of a run to a later one
 
 -- by a line and its answer
 pub record GoesByLine {D : Type 0} (g : Ghosts D) (asked : Line) (first : Point D) (given : Answer)
     (last : Point D) : Type 0 where
-  pub others : List Event
+  pub events : List Event
   pub replies : List Reply
-  pub goes : Goes g first (begins_with asked ++ others) replies last
-  pub others_are : AreOf (worker_of asked) others
-  pub answer : IsAnswerToLine asked replies given
-  pub ends : EndsJob asked given
+  pub goes : Goes g first events replies last
+  pub events_are : AreEventsOf asked events
+  pub answer : IsAnswerOf asked replies given
 
 -- by lines, one after the other, each with its answer
 abbrev pub GoesByLines : {D : Type 0} → Ghosts D → Point D → List Line → List Answer → Point D → Type 0
@@ -110,50 +103,44 @@ pub record RunsLine {D E : Type 0} (g : Ghosts D) (asked : Line) (first : Point 
 
 -- ---- from the disk that was opened to the one that is left
 
--- The run starts: the disk was only read, the journal is empty, and no checkpoint was begun. What was read shows what
--- the run starts from, or nothing saved, and so does whatever a crash may leave. Where nothing was saved it starts from
--- space 1 alone, without areas.
-pub record Starts {D : Type 0} (g : Ghosts D) (old : D) (first : Point D) : Type 0 where
-  pub reads : OnlyReads g old first.disk
-  pub entries : first.entries ≡ []
-  pub begun : first.begun ≡ None
-  pub shows : Shows (g.contents old) (shown_base first.base.number first.base.memory)
-  pub everywhere : Within (g.may_leave first.disk) (λ c. Shows c (shown_base first.base.number first.base.memory))
-  pub bare : first.base.number ≡ None → first.base.memory ≡ bare_memory
-
--- All lines were answered, and their answers printed behind what was.
-pub record Promise {D : Type 0} (g : Ghosts D) (lines : List Line) (old new : D)
-    (before now : Option (List ℕ)) : Type 0 where
-  pub first : Point D
-  pub last : Point D
-  pub starts : Starts g old first
-  pub answers : List Answer
-  pub goes : GoesByLines g first lines answers last
-  pub ends : new ≡ last.disk
-  pub printed : Appends before now (flat_map answer_line answers)
-
--- The first of the lines were answered, up to any place, and their answers printed behind what was; or the last one was
--- broken off.
+-- A run over these lines, as far as it came.
 pub record PromiseSoFar {D : Type 0} (g : Ghosts D) (lines : List Line) (old new : D)
     (before now : Option (List ℕ)) : Type 0 where
   pub first : Point D
   pub last : Point D
-  pub starts : Starts g old first
+  -- It starts: the disk was only read, the journal is empty, and no checkpoint was begun. What was read shows what the
+  -- run starts from, or nothing saved, and so does whatever a crash may leave.
+  pub reads : OnlyReads g old first.disk
+  pub entries : first.entries ≡ []
+  pub begun : first.begun ≡ None
+  pub shows : Shows (g.contents old) first.first
+  pub everywhere : Within (g.may_leave first.disk) (λ c. Shows c first.first)
+  -- The first of the lines were answered, and their answers are printed after what was; of the last one a beginning,
+  -- where its printing was broken off.
   pub done : List Line
   pub rest : List Line
   pub parts : lines ≡ done ++ rest
-  pub answers : List Answer
-  pub goes : GoesByLines g first done answers last
+  pub told : List Answer
+  pub broken : List Answer
+  pub one : length broken ≤ 1
+  pub goes : GoesByLines g first done (told ++ broken) last
   pub ends : new ≡ last.disk
-  pub told : AreTold answers before now
+  pub front : List ℕ
+  pub back : List ℕ
+  pub line : front ++ back ≡ flat_map answer_line broken
+  pub printed : Appends before now (flat_map answer_line told ++ front)
 
--- What is promised however a run ends: the disk was only read, and no answer was printed; or the first of the lines
--- were answered.
+-- it came to its end: all lines were answered, and all answers printed
+abbrev pub Promise : {D : Type 0} → Ghosts D → List Line → D → D → Option (List ℕ) → Option (List ℕ) → Type 0
+Promise g lines old new before now =
+    (run : PromiseSoFar g lines old new before now) × (run.rest ≡ []) × (run.broken ≡ [])
+
+-- what is promised however a run ends: the disk was only read, and no answer was printed; or it came so far
 abbrev pub PromiseAnyway : {D : Type 0} → Ghosts D → List Line → D → D → Option (List ℕ) → Option (List ℕ) → Type 0
 PromiseAnyway g lines old new before now =
     (OnlyReads g old new × (now ≡ before)) ⊎ PromiseSoFar g lines old new before now
 
--- The same up to the exit: behind what was printed stands why the run was stopped, if it was, and the status is the one
+-- The same up to the exit: after what was printed stands why the run was stopped, if it was, and the status is the one
 -- that comes with that.
 pub record PromiseToExit {D : Type 0} (g : Ghosts D) (blames : ℕ → Type 0) (lines : List Line) (old new : D)
     (before after : Option (List ℕ)) (refused : Bool) (status : ℕ) : Type 0 where
@@ -162,4 +149,4 @@ pub record PromiseToExit {D : Type 0} (g : Ghosts D) (blames : ℕ → Type 0) (
   pub so_far : PromiseAnyway g lines old new before printed
   pub why : IfErr ended (IsWhyRun blames (g.contents old) (g.failed old) (g.failed new))
   pub writer : OnWriter ended (refused ≡ true)
-  pub exits : Exits printed after refused (end_text ended) (end_status ended) status
+  pub exits : ExitsAs ended printed after refused status

@@ -3,7 +3,7 @@ ghost use Rattle.std.specs.Prelude.{◌≡◌, ◌≤◌, ◌++◌, [], length, 
 ghost use Rattle.sd_world.specs.Goes.{GoesOn};
 ghost use Rattle.sd_world.specs.Points.{StandsAt};
 ghost use Rattle.sd_world.specs.Promise.{Point};
-ghost use Rattle.sd_run.specs.Bulk.{Puts};
+ghost use Rattle.sd_run.specs.Bulk.{Gets, Puts};
 ghost use Rattle.sd_run.specs.Lines.{AnswersLines};
 ghost use Rattle.sd_run.specs.Promise.{GoesByLines};
 
@@ -116,18 +116,18 @@ pub fn put_bytes<D: Disk>(
     put_pieces(alloc, world, place, bytes)
 }
 
-/// Loads so many bytes by loads of at most 64 bytes, each within one page, in rising order, up to the first that is
-/// refused, and adds them to a list. None where all were loaded.
-///
-/// # Errors
-///
-/// `AllocError` where there is no room for the bytes of a load, which was made, as those before it.
-pub fn get_bytes<D: Disk>(
+/// Loads bytes piece by piece, up to the first load that isn't answered bytes, and adds them to a list.
+fn get_pieces<D: Disk>(
     world: &mut World<D>,
     place: Place,
     length: usize,
     bytes: &mut Vec<u8>,
-) -> Result<Option<Halt>, AllocError> {
+) -> Result<Option<Halt>, AllocError>
+    ensures answered { Gets (λ lines answers. AnswersLines D.Disk world.old lines answers world.new)
+        place.space place.address length bytes.old.items bytes.new.items result }
+    ensures goes_on { GoesOn D.Disk world.old world.new }
+{
+    world.sound();
     let Place { space, mut address } = place;
     let mut left = length;
     while left > 0 {
@@ -145,4 +145,30 @@ pub fn get_bytes<D: Disk>(
         left -= count;
     }
     Ok(None)
+}
+
+/// Loads so many bytes by loads of at most 64 bytes, each within one page, in rising order, up to the first that is
+/// refused, and adds them to a list. None where all were loaded.
+///
+/// # Errors
+///
+/// `AllocError` where there is no room for the bytes of a load, which was made, as those before it.
+pub fn get_bytes<D: Disk>(
+    world: &mut World<D>,
+    place: Place,
+    length: usize,
+    bytes: &mut Vec<u8>,
+) -> Result<Option<Halt>, AllocError>
+    // It is the lines of these loads, one after the other, and the bytes are those of their answers.
+    ensures answered { Gets (λ lines answers. AnswersLines D.Disk world.old lines answers world.new)
+        place.space place.address length bytes.old.items bytes.new.items result }
+    ensures goes_on { GoesOn D.Disk world.old world.new }
+    // So what `run_line` promises of each line holds.
+    ensures promise { D.is_honest world.new.disk → (first : Point D) → StandsAt world.old first
+        → (last : Point D) × StandsAt world.new last
+        × Gets (λ lines answers. GoesByLines D.Disk first lines answers last)
+        place.space place.address length bytes.old.items bytes.new.items result }
+{
+    world.points_follow();
+    get_pieces(world, place, length, bytes)
 }

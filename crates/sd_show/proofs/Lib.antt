@@ -3,3 +3,4 @@ pub mod ItemLemmas
 pub mod PrintLemmas
 pub mod CountLemmas
 pub mod SlotLemmas
+pub mod TableLemmas

@@ -1,11 +1,14 @@
 -- The state of a slot, what is wrong with it, and what is read of it.
 use Rattle.std.specs.Prelude.{◌≡◌, ◌⊎◌, ◌<◌, All, ℕ, ◌+◌, ◌*◌, ◌==◌, ◌&&◌, nat_le, Bool, true, false, if◌then◌else◌}
+use Rattle.std.specs.Prelude.{◌≤◌, min, take}
 use Rattle.std.specs.Prelude.{List, [], codes, length, drop, slice_index, slice_range, Option, None, Some, MatchOption}
 use Rattle.std.specs.Prelude.{Result, Ok, Err, is_some}
 use Rattle.sd_image.specs.declared.reason.Reason.{Reason}
 use Rattle.sd_image.specs.declared.reason.Reason.TheVariants.{Digest}
 use Rattle.sd_image.specs.Image.{Image, IsImage, is_open, gate}
-use Rattle.sd_image.specs.Reading.{digest_of_file, file_in, number_at}
+use Rattle.sd_image.specs.Reading.{digest_of_file, file_in, header_in, number_at, table_in}
+use Rattle.sd_image.specs.declared.header.Header.{Header}
+use Rattle.sd_show.specs.declared.judged.Judged.{Judged}
 use Rattle.sd_show.specs.declared.opened.Opened.{Opened}
 use Rattle.sd_show.specs.declared.seen.Seen.{Seen}
 use Rattle.sd_show.specs.declared.state.State.{State}
@@ -61,10 +64,33 @@ bytes_from (Some at) file = drop at file
 abbrev pub table_bytes : List ℕ → List ℕ
 table_bytes file = bytes_from (table_at (slice_range file 0 4096) (length file)) file
 
+-- what is shown of a table: all of an image's, and the first 2 MiB of another file's
+abbrev pub shown_table : Option Reason → List ℕ → List ℕ
+shown_table None table = table
+shown_table (Some reason) table = take 2097152 table
+
+-- bytes are the first of a table: all of them, or 2 MiB or more
+pub record BeginsTable (table bytes : List ℕ) : Type 0 where
+  pub beginning : bytes ≡ take (length bytes) table
+  pub long : min 2097152 (length table) ≤ length bytes
+
+-- what is read of a table behind a header: all of it where it is one, and why it is none, if it is none
+pub record IsJudged (header : Header) (table : List ℕ) (judged : Judged) : Type 0 where
+  pub begins : BeginsTable table judged.bytes.items
+  pub whole : judged.fault ≡ None → judged.bytes.items ≡ table
+  pub fault : judged.fault ≡ reason_of (table_in header table)
+
+-- what is read of the table of a file: so, where its header is one
+pub record IsTableOf (file : List ℕ) (judged : Judged) : Type 0 where
+  pub begins : BeginsTable (table_bytes file) judged.bytes.items
+  pub whole : judged.fault ≡ None → judged.bytes.items ≡ table_bytes file
+  pub fault : (header : Header) → header_in (slice_range file 0 4096) (length file) ≡ Ok header
+      → judged.fault ≡ reason_of (table_in header (table_bytes file))
+
 -- what is read of an open slot
 pub record OpenSlotIsRead (file : List ℕ) (opened : Opened) : Type 0 where
   pub front : opened.front ≡ slice_range file 0 4096
-  pub table : opened.table.items ≡ table_bytes file
+  pub table : opened.table.items ≡ shown_table (reason_of (file_in file)) (table_bytes file)
   pub digest : opened.digest ≡ digest_of_file file
   pub fault : opened.fault ≡ reason_of (file_in file)
 

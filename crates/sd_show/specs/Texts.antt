@@ -13,7 +13,7 @@ use Rattle.sd_image.specs.ReasonLaws.{reason_number}
 use Rattle.sd_show.specs.declared.state.State.{State}
 use Rattle.sd_show.specs.Items.{areas_in, behind_run, behind_runs, runs_in, table_spaces}
 use Rattle.sd_show.specs.Phrases.{reason_phrase}
-use Rattle.sd_show.specs.Slots.{fault_in, state_in, state_word, table_bytes}
+use Rattle.sd_show.specs.Slots.{fault_in, shown_table, state_in, state_word, table_bytes}
 
 -- the end of a line
 abbrev pub newline : List ℕ
@@ -138,7 +138,7 @@ opened_text fault front digest table = fault_text fault ++ header_lines front di
 unfoldable pub slot_lines : ℕ → List ℕ → List ℕ
 slot_lines slot file = slot_line slot (state_in file)
     ++ (if is_open file then opened_text (fault_in file) (slice_range file 0 4096) (digest_of_file file)
-    (table_bytes file) else [])
+    (shown_table (fault_in file) (table_bytes file)) else [])
 
 -- all slots, rising
 abbrev pub slots_text : List (List ℕ) → List ℕ

@@ -7,6 +7,7 @@ mod digest;
 mod header_text;
 mod items;
 mod json;
+mod judged;
 mod laws;
 mod numbers;
 mod opened;

@@ -1,26 +1,29 @@
 //! Reading an open slot, whatever is wrong with it.
-ghost use Rattle.std.specs.Prelude.{◌≡◌, ◌<◌, ◌≤◌, ℕ, List, length, IfOk, IfSome, slice_range, IsErrOf};
+ghost use Rattle.std.specs.Prelude.{◌≡◌, ◌<◌, ◌≤◌, ℕ, List, None, Ok, drop, take, length, IfOk, IfSome, slice_range};
+ghost use Rattle.std.specs.Prelude.{IsErrOf};
 ghost use Rattle.sd_disk.specs.Contents.{file_at};
 ghost use Rattle.sd_disk.specs.Failures.{HasCause};
 ghost use Rattle.sd_disk.specs.Reads.{OnlyReads};
-ghost use Rattle.sd_image.specs.Reading.{breaks_digest, digest_of_file, file_in, table_in};
-ghost use Rattle.sd_show.specs.Slots.{OpenSlotIsRead, or_digest, reason_of, table_at, table_bytes};
+ghost use Rattle.sd_image.specs.declared.header.Header.{Header as HeaderOf};
+ghost use Rattle.sd_image.specs.Reading.{breaks_digest, digest_of_file, file_in, header_in, table_in};
+ghost use Rattle.sd_show.specs.Slots.{BeginsTable, IsTableOf, OpenSlotIsRead, or_digest, reason_of, shown_table};
+ghost use Rattle.sd_show.specs.Slots.{table_at, table_bytes};
 ghost use Rattle.sd_show.specs.declared.stop.Stop.TheVariants as stop;
 
 use crate::digest::digest_of;
+use crate::judged::{FRONT, Judged, read_judged, read_part};
 use crate::stop::Stop;
 use sd_disk::{DeviceError, Disk, read_file};
-use sd_image::{
-    HEADER_SIZE, Header, Reason, TableError, Version, decode_header, decode_table, u64_at,
-};
-use std::alloc::{AllocError, Global};
+use sd_image::{HEADER_SIZE, Header, Reason, Version, decode_header, u64_at};
+use std::alloc::Global;
 
 /// What was read of an open slot.
 #[derive(Drop)]
 pub(crate) struct Opened {
     /// The first bytes of its file.
     pub(crate) front: [u8; HEADER_SIZE],
-    /// The bytes of its table; none where header, pages and table are not as long as the file.
+    /// The bytes of its table; none where header, pages and table are not as long as the file. Where the file is no
+    /// image, no more than the first 2 MiB of them.
     pub(crate) table: Vec<u8>,
     /// The digest of its file.
     pub(crate) digest: [u8; 32],
@@ -56,38 +59,42 @@ fn table_at(front: &[u8; HEADER_SIZE], len: usize) -> Option<usize>
     Some(at as usize)
 }
 
-/// Reads the bytes of the table of a slot's file of this length. They are no more than the file has.
+/// Where the table begins in a file of this length, whose first bytes these are: at its end, where it has none.
+fn table_start(front: &[u8; HEADER_SIZE], len: usize) -> usize
+    ensures within { result ≤ len }
+    ensures from { (file : List ℕ) → len ≡ length file → front.now ≡ slice_range file 0 4096
+        → drop result file ≡ table_bytes file }
+{
+    table_at(front, len).unwrap_or(len)
+}
+
+/// Reads the table of a slot's file of this length, whose first bytes these are: what stands behind its header, or
+/// where that is none the first bytes where a table would stand.
 fn read_table<D: Disk>(
     alloc: Global,
     disk: &mut D,
     slot: usize,
     len: usize,
     front: &[u8; HEADER_SIZE],
-) -> Result<Vec<u8>, Stop>
+) -> Result<Judged, Stop>
     requires slot { slot < length (D.contents disk.old) }
-    ensures bytes { D.is_honest disk.new → len ≡ length (file_at (D.contents disk.old) slot)
+    ensures table { D.is_honest disk.new → len ≡ length (file_at (D.contents disk.old) slot)
         → front.now ≡ slice_range (file_at (D.contents disk.old) slot) 0 4096
-        → IfOk result (λ bytes. bytes.items ≡ table_bytes (file_at (D.contents disk.old) slot)) }
+        → IfOk result (IsTableOf (file_at (D.contents disk.old) slot)) }
     ensures reads { OnlyReads D.Disk disk.old disk.new }
     ensures device { IsErrOf result stop.Device → D.failed disk.old < D.failed disk.new }
     ensures stops { D.failed disk.old < D.failed disk.new → IsErrOf result stop.Device }
 {
-    let at = table_at(front, len).unwrap_or(len);
-    let mut bytes = vec![in alloc; 0u8; len - at]?;
-    if !bytes.is_empty() {
-        read_file(disk, slot, at, &mut bytes)?;
-    }
-    Ok(bytes)
-}
-
-/// Why the bytes of a table are none behind this header, if they are none.
-fn table_fault(alloc: Global, header: &Header, table: &[u8]) -> Result<Option<Reason>, AllocError>
-    ensures { IfOk result (λ fault. fault ≡ reason_of (table_in header.now table.now)) }
-{
-    match decode_table(alloc, header, table) {
-        Ok(_) => Ok(None),
-        Err(TableError::Damaged(reason)) => Ok(Some(reason)),
-        Err(TableError::OutOfMemory) => Err(AllocError),
+    let at = table_start(front, len);
+    match decode_header(front, len as u64) {
+        Ok(header) => read_judged(alloc, disk, slot, &header, at, len),
+        Err(reason) => {
+            let bytes = read_part(alloc, disk, slot, at, FRONT.min(len - at))?;
+            Ok(Judged {
+                bytes,
+                fault: Some(reason),
+            })
+        }
     }
 }
 
@@ -110,25 +117,60 @@ fn or_digest(fault: Option<Reason>, is_other: bool) -> Option<Reason>
     }
 }
 
-/// Why a file with these first bytes, this table and this digest is no image, if it is none: its header first, then
-/// its table, and its digest last.
+/// Why a file with these first bytes and this digest is no image, if it is none: its header first, then its table, and
+/// its digest last.
 fn fault_of(
-    alloc: Global,
     front: &[u8; HEADER_SIZE],
     len: usize,
-    table: &[u8],
+    table: Option<Reason>,
     digest: &[u8; 32],
-) -> Result<Option<Reason>, AllocError>
-    ensures { (file : List ℕ) → front.now ≡ slice_range file 0 4096 → len ≡ length file
-        → table.now ≡ table_bytes file → digest.now ≡ digest_of_file file
-        → IfOk result (λ fault. fault ≡ reason_of (file_in file)) }
+) -> Option<Reason>
+    ensures named { (file : List ℕ) → front.now ≡ slice_range file 0 4096 → len ≡ length file
+        → digest.now ≡ digest_of_file file
+        → ((header : HeaderOf) → header_in (slice_range file 0 4096) (length file) ≡ Ok header
+        → table ≡ reason_of (table_in header (table_bytes file)))
+        → result ≡ reason_of (file_in file) }
+    ensures kept { result ≡ None → table ≡ None }
 {
-    let header = match decode_header(front, len as u64) {
-        Ok(header) => header,
-        Err(reason) => return Ok(Some(reason)),
-    };
-    let fault = table_fault(alloc, &header, table)?;
-    Ok(or_digest(fault, has_other_digest(&header, digest)))
+    match decode_header(front, len as u64) {
+        Ok(header) => or_digest(table, has_other_digest(&header, digest)),
+        Err(reason) => Some(reason),
+    }
+}
+
+/// The first 2 MiB of bytes, or all where they are fewer.
+fn first_of(bytes: Vec<u8>) -> Vec<u8>
+    ensures { result.items ≡ take 2097152 bytes.items }
+{
+    let mut bytes = bytes;
+    bytes.truncate(FRONT);
+    bytes
+}
+
+/// What is shown of a table that was read, by why its file is no image.
+fn shown_of(judged: Judged, fault: Option<Reason>) -> Vec<u8>
+    ensures { (table : List ℕ) → BeginsTable table judged.bytes.items → (fault ≡ None → judged.bytes.items ≡ table)
+        → result.items ≡ shown_table fault table }
+{
+    match fault {
+        Some(_) => first_of(judged.bytes),
+        None => judged.bytes,
+    }
+}
+
+/// What was read of an open slot, by its first bytes, its table and its digest.
+fn opened_of(front: [u8; HEADER_SIZE], len: usize, judged: Judged, digest: [u8; 32]) -> Opened
+    ensures { (file : List ℕ) → front ≡ slice_range file 0 4096 → len ≡ length file → IsTableOf file judged
+        → digest ≡ digest_of_file file → OpenSlotIsRead file result }
+{
+    let fault = fault_of(&front, len, judged.fault, &digest);
+    let table = shown_of(judged, fault);
+    Opened {
+        front,
+        table,
+        digest,
+        fault,
+    }
 }
 
 /// Reads an open slot, whose file has this length in bytes.
@@ -153,11 +195,5 @@ pub(crate) fn read_opened<D: Disk>(
     let front = read_front(disk, slot)?;
     let table = read_table(alloc, disk, slot, len, &front)?;
     let digest = digest_of(alloc, disk, slot, len, &front)?;
-    let fault = fault_of(alloc, &front, len, &table, &digest)?;
-    Ok(Opened {
-        front,
-        table,
-        digest,
-        fault,
-    })
+    Ok(opened_of(front, len, table, digest))
 }

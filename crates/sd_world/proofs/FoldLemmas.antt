@@ -14,7 +14,7 @@ use Rattle.sd_journal.specs.Legal.{IsAbove, IsLegal, MayFollow}
 use Rattle.sd_journal.specs.Trimming.{IsEnded, TrimLaws, base_after}
 use Rattle.sd_crash_safety.specs.Shown.{ShowsAllowed}
 use Rattle.sd_world.specs.Points.{Folds}
-use Rattle.sd_world.specs.Promise.{ShowsFreeze, ShowsReply}
+use Rattle.sd_world.specs.Runs.{ShowsFreeze, ShowsReply}
 
 -- the older entries of a legal journal are one
 pub legal_behind : (base : Base) (newer older : History) → IsLegal base (newer ++ older) → IsLegal base older
@@ -26,7 +26,7 @@ module _ (laws : TrimLaws) where
       → MayFollow (base_after base n folded) kept entry → MayFollow base (kept ++ folded) entry
   follows_back base n folded kept entry ended legal follows = grind arith
 
-  legal_back : (base : Base) (n : ℕ) (folded kept : History) → IsEnded n folded → IsLegal base folded → IsLegal (base_after base n folded) kept
+  pub legal_back : (base : Base) (n : ℕ) (folded kept : History) → IsEnded n folded → IsLegal base folded → IsLegal (base_after base n folded) kept
       → IsLegal base (kept ++ folded)
   legal_back base n folded [] ended before legal = before
   legal_back base n folded (entry ∷ kept) ended before legal =

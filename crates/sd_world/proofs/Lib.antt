@@ -4,6 +4,7 @@ mod AllowedLemmas
 mod AnewLemmas
 mod BegunLemmas
 mod AuditLemmas
+mod BasePoints
 mod BusyLemmas
 mod Calls
 mod CommandLemmas
@@ -41,3 +42,4 @@ mod JobLemmas
 pub mod PointLemmas
 mod StartLemmas
 pub mod SavedLemmas
+pub mod HeadlineLemmas

@@ -10,6 +10,7 @@ use Rattle.sd_world.specs.declared.kept.Kept.{Kept}
 use Rattle.sd_world.specs.Jobs.{Drives, GoesByJob, IsFinished, IsJob, next_event}
 use Rattle.sd_world.specs.Points.{PointsFollow, StandsAt}
 use Rattle.sd_world.specs.Promise.{Goes, Point}
+use Rattle.sd_world.specs.Runs.{Runs}
 use Rattle.sd_world.specs.View.{WorldView, is_asked}
 
 next_of : (kept : List Kept) (worker : Worker) → (next_event kept worker ≡ Work worker) ⊎ (next_event kept worker ≡ Perform worker)
@@ -69,3 +70,21 @@ module _ {D : Type 0} (g : Ghosts D) where
         let one = follow order first begun mid step before from stands in
         let all = drives_reach worker mid last (driven.before ++ answer ∷ []) driven.drives honest one.0 one.1 in
         (all.0, all.1, record { others = all.2.events; of_worker = all.2.are; before = begun ∷ driven.before; goes = (one.0, one.2, all.2.goes) })
+
+-- ---- a list of events
+
+module _ {D : Type 0} (g : Ghosts D) (follow : PointsFollow g) where
+  runs_honest : (first last : WorldView D) (events : List Event) (answers : List Reply) → Runs g first events answers last → g.is_honest last.disk
+      → g.is_honest first.disk
+  runs_honest first last [] [] runs honest = subst (λ (w : WorldView D). g.is_honest w.disk) runs honest
+  runs_honest first last (e ∷ events) (a ∷ answers) runs honest = runs.1.honest (runs_honest runs.0 last events answers runs.2 honest)
+  runs_honest first last _ _ runs honest = absurd runs
+
+  pub points_reached : (first last : WorldView D) (events : List Event) (answers : List Reply) → Runs g first events answers last → g.is_honest last.disk
+      → (from : Point D) → StandsAt first from → (to : Point D) × StandsAt last to × Goes g from events answers to
+  points_reached first last [] [] runs honest from stands = (from, subst (λ (w : WorldView D). StandsAt w from) (sym runs) stands, refl)
+  points_reached first last (e ∷ events) (a ∷ answers) runs honest from stands =
+      let one = follow e first a runs.0 runs.1 (runs_honest runs.0 last events answers runs.2 honest) from stands in
+      let rest = points_reached runs.0 last events answers runs.2 honest one.0 one.1 in
+      (rest.0, rest.1, (one.0, one.2, rest.2))
+  points_reached first last _ _ runs honest from stands = absurd runs

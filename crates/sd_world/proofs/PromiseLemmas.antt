@@ -1,4 +1,4 @@
--- From each point at which a world stands a step goes to one at which it stands then.
+-- From each point at which a world stands a step goes to one at which it stands then; by the base of its journal.
 use Rattle.std.proofs.Common.{◌≡◌, ◌≢◌, ◌⊎◌, ℕ, List, [], ◌∷◌, ◌++◌, Option, Some, None, refl, sym, ◌∙◌, ap, subst, inl, inr, arith}
 use Rattle.std.proofs.lemmas.List.{append_assoc}
 use Rattle.sd_command.specs.declared.command.Command.{Command}
@@ -19,12 +19,13 @@ use Rattle.sd_crash_safety.specs.View.{CoreView, history_of}
 use Rattle.sd_world.specs.declared.event.Event.{Event}
 use Rattle.sd_world.specs.declared.event.Event.TheVariants.{Begin, Trim}
 use Rattle.sd_world.specs.Adds.{AddsByCommand, AddsByPerform, AddsByWork, AddsToJournal}
-use Rattle.sd_world.specs.Points.{Folds, PointsFollow, StandsAt}
-use Rattle.sd_world.specs.Promise.{AddsByReply, AddsCancelled, AddsCommand, AddsEntry, Goes, Point, begun_after}
-use Rattle.sd_world.specs.Runs.{IsStep, Runs}
+use Rattle.sd_world.specs.Points.{Folds}
+use Rattle.sd_world.specs.Promise.{begun_after}
+use Rattle.sd_world.specs.Runs.{IsStep}
 use Rattle.sd_world.specs.Steps.{Does}
 use Rattle.sd_world.specs.Trims.{TrimsJournal}
 use Rattle.sd_world.specs.View.{WorldView}
+use Rattle.sd_world.proofs.BasePoints.{AddsByReply, AddsCancelled, AddsCommand, AddsEntry, BasePoint, EntersFollow, StandsAtBase}
 use Rattle.sd_world.proofs.FoldLemmas.{fresh_back, legal_behind, shows_back, told_back}
 use Rattle.sd_world.proofs.NumberLemmas.{number_goes}
 use Rattle.sd_world.proofs.ReplyLemmas.{marked_legal}
@@ -127,8 +128,8 @@ no_trim : (event : Event) → (event ≡ Trim) ⊎ (event ≢ Trim)
 no_trim event = grind arith
 
 module _ (laws : TrimLaws) {D : Type 0} (g : Ghosts D) where
-  went : (event : Event) (old : WorldView D) (answer : Reply) (new : WorldView D) → IsStep g event old answer new → (first : Point D)
-      → (stands : StandsAt old first) → Went event answer first.begun first.base (history_of old.core ++ stands.gone) new.core
+  went : (event : Event) (old : WorldView D) (answer : Reply) (new : WorldView D) → IsStep g event old answer new → (first : BasePoint D)
+      → (stands : StandsAtBase old first) → Went event answer first.begun first.base (history_of old.core ++ stands.gone) new.core
   went event old answer new step first stands = elim (no_trim event) [
     | inl is ↦ subst (λ e. Went e answer first.begun first.base (history_of old.core ++ stands.gone) new.core) (sym is)
         (went_by_trim answer first.begun old.core new.core first.base stands.gone stands.folds stands.legal (trims_of g event answer old new step.does is))
@@ -138,11 +139,11 @@ module _ (laws : TrimLaws) {D : Type 0} (g : Ghosts D) where
         (subst (IsLegal new.core.base) is (marked_legal new.core.base new.core.items step.tracked.marked)))) step.adds
   ]
 
-  pub points_follow : PointsFollow g
-  points_follow event old answer new step honest first stands =
+  pub enters_follow : EntersFollow g
+  enters_follow event old answer new step honest first stands =
       let w = went event old answer new step first stands in
       let legal = marked_legal new.core.base new.core.items step.tracked.marked in
-      let last : Point D = record {
+      let last : BasePoint D = record {
         disk = new.disk;
         base = first.base;
         entries = history_of new.core ++ w.gone;
@@ -170,21 +171,3 @@ module _ (laws : TrimLaws) {D : Type 0} (g : Ghosts D) where
           told = λ c may. told_back laws answer first.base w.gone (history_of new.core) new.core.base w.folds c (step.shows honest c may);
         },
       )
-
--- ---- a list of events
-
-module _ {D : Type 0} (g : Ghosts D) (follow : PointsFollow g) where
-  runs_honest : (first last : WorldView D) (events : List Event) (answers : List Reply) → Runs g first events answers last → g.is_honest last.disk
-      → g.is_honest first.disk
-  runs_honest first last [] [] runs honest = subst (λ (w : WorldView D). g.is_honest w.disk) runs honest
-  runs_honest first last (e ∷ events) (a ∷ answers) runs honest = runs.1.honest (runs_honest runs.0 last events answers runs.2 honest)
-  runs_honest first last _ _ runs honest = absurd runs
-
-  pub points_reached : (first last : WorldView D) (events : List Event) (answers : List Reply) → Runs g first events answers last → g.is_honest last.disk
-      → (from : Point D) → StandsAt first from → (to : Point D) × StandsAt last to × Goes g from events answers to
-  points_reached first last [] [] runs honest from stands = (from, subst (λ (w : WorldView D). StandsAt w from) (sym runs) stands, refl)
-  points_reached first last (e ∷ events) (a ∷ answers) runs honest from stands =
-      let one = follow e first a runs.0 runs.1 (runs_honest runs.0 last events answers runs.2 honest) from stands in
-      let rest = points_reached runs.0 last events answers runs.2 honest one.0 one.1 in
-      (rest.0, rest.1, (one.0, one.2, rest.2))
-  points_reached first last _ _ runs honest from stands = absurd runs

@@ -12,7 +12,7 @@ use Rattle.sd_restore.specs.Faulty.{FaultNames}
 use Rattle.sd_crash_safety.specs.Shown.{ShowsAllowed}
 use Rattle.sd_world.specs.Restored.{IsRestored, IsRestoredAs}
 
-restored_as : ShownOnce → (contents : List (List ℕ)) (shown : Shown) (result : Result Snapshot Fault) → Shows contents shown
+pub restored_as : ShownOnce → (contents : List (List ℕ)) (shown : Shown) (result : Result Snapshot Fault) → Shows contents shown
     → IfOk result (λ snapshot. Shows contents (Some (snapshot.checkpoint, memory_of snapshot)))
     → (IsErrOf result EmptyChain → Shows contents None) → IfErr result (FaultNames (λ slot reason. ⊥)) → IsRestoredAs shown result
 restored_as once contents shown (Ok snapshot) shows ok none good = once contents shown (Some (snapshot.checkpoint, memory_of snapshot)) shows ok

@@ -4,9 +4,9 @@ use Rattle.sd_command.specs.declared.reply.Reply.{Reply}
 use Rattle.sd_disk.specs.Crash.{Within}
 use Rattle.sd_disk.specs.Spans.{LeavesOnly}
 use Rattle.sd_disk.specs.declared.disk.Disk.{Ghosts}
-use Rattle.sd_crash_safety.specs.Shown.{ShowsAllowed}
+use Rattle.sd_journal.specs.Tell.{tell}
 use Rattle.sd_world.specs.declared.event.Event.{Event}
-use Rattle.sd_world.specs.Promise.{Goes, Point}
+use Rattle.sd_world.specs.Promise.{Goes, Point, ShowsTold}
 
 -- Contents show what the journal allowed at one of the points of a run: it goes by the first events to that point, and
 -- by the others on.
@@ -21,10 +21,10 @@ pub record ShowsOnTheWay {D : Type 0} (g : Ghosts D) (first : Point D) (events :
   pub goes_on : Goes g mid after more last
   pub events_are : events ≡ before ++ after
   pub answers_are : answers ≡ told ++ more
-  pub shows : ShowsAllowed mid.base mid.entries contents
+  pub shows : ShowsTold (tell mid.first mid.entries) contents
 
 -- Whatever moment of a run a crash comes, it leaves such contents, where it was so as the run began.
 abbrev pub GoesLeave : {D : Type 0} → Ghosts D → Type 0
 GoesLeave {D} g = (first last : Point D) (events : List Event) (answers : List Reply)
-    → Within (g.may_leave first.disk) (ShowsAllowed first.base first.entries) → Goes g first events answers last
+    → Within (g.may_leave first.disk) (ShowsTold (tell first.first first.entries)) → Goes g first events answers last
     → LeavesOnly g first.disk last.disk (ShowsOnTheWay g first events answers last)

@@ -1,7 +1,8 @@
 -- What is promised of a run, of its events, their replies, its journal and its disk alone.
-use Rattle.std.specs.Prelude.{◌≡◌, ◌⊎◌, ℕ, List, [], ◌∷◌, Option, Some, None}
+use Rattle.std.specs.Prelude.{◌≡◌, ◌≢◌, ◌⊎◌, ℕ, List, [], ◌∷◌, ◌++◌, Option, Some}
+use Rattle.std.specs.List.{AllByRecursion}
+use Rattle.std.specs.Option.{option_map}
 use Rattle.sd_areas.specs.PlainMemory.{PlainMemory}
-use Rattle.sd_command.specs.declared.command.Command.{Command}
 use Rattle.sd_command.specs.declared.refusal.Refusal.TheVariants.{JournalFull, OutOfMemory}
 use Rattle.sd_command.specs.declared.reply.Reply.{Reply}
 use Rattle.sd_command.specs.declared.reply.Reply.TheVariants as reply
@@ -10,93 +11,96 @@ use Rattle.sd_disk.specs.Spans.{LeavesOnly}
 use Rattle.sd_disk.specs.declared.disk.Disk.{Ghosts}
 use Rattle.sd_gate.specs.declared.worker.Worker.{Worker}
 use Rattle.sd_gate.specs.declared.worker.Worker.TheVariants.{Dumper, Opener}
-use Rattle.sd_journal.specs.declared.entry.Entry.TheVariants.{Applied, Freeze, Acked, Cancelled, Reopened}
 use Rattle.sd_image.specs.Shows.{Shows}
-use Rattle.sd_journal.specs.History.{Base, History, at_freeze}
-use Rattle.sd_crash_safety.specs.Shown.{ShowsAllowed}
+use Rattle.sd_journal.specs.declared.entry.Entry.{Entry}
+use Rattle.sd_journal.specs.declared.entry.Entry.TheVariants.{Applied, Freeze, Acked, Cancelled, Reopened}
+use Rattle.sd_journal.specs.Allowed.{Shown}
+use Rattle.sd_journal.specs.Tell.{MayShow, Told, tell}
 use Rattle.sd_world.specs.declared.event.Event.{Event}
 use Rattle.sd_world.specs.declared.event.Event.TheVariants.{Command as CommandEvent, Begin, Work, TakeUp, HandInAt}
 use Rattle.sd_world.specs.declared.event.Event.TheVariants.{Cancel}
 
--- A point of a run: the disk; what the run started from, and all entries of its journal since, the newest first; and
--- the number of the checkpoint that was begun last.
+-- A point of a run: the disk; what the store showed as the run started, and all entries of its journal since, the
+-- newest first; and the number of the checkpoint that was begun last.
 pub record Point (D : Type 0) : Type 0 where
   pub disk : D
-  pub base : Base
-  pub entries : History
+  pub first : Shown
+  pub entries : List Entry
   pub begun : Option ℕ
 
 -- ---- what an event with its reply adds to the journal
 
--- a command adds its entry, with its reply, unless it is refused as journal-full or as out of memory
-abbrev pub AddsCommand : ℕ → Command → Reply → History → History → Type 0
-AddsCommand seat command (reply.Refused JournalFull) old new = new ≡ old
-AddsCommand seat command (reply.Refused OutOfMemory) old new = new ≡ old
-AddsCommand seat command answer old new = new ≡ Applied seat command answer ∷ old
+-- The entry that an event and its reply tell, if they tell one. A command that is refused as journal-full or as out of
+-- memory leaves none. Here a trim takes nothing away.
+abbrev pub told_by : Event → Reply → List Entry
+told_by (CommandEvent seat command) (reply.Refused JournalFull) = []
+told_by (CommandEvent seat command) (reply.Refused OutOfMemory) = []
+told_by (CommandEvent seat command) answer = Applied seat command answer ∷ []
+told_by event (reply.Acked n) = Acked n ∷ []
+told_by event (reply.Cancelled n) = Cancelled n ∷ []
+told_by event (reply.Reopened m) = Reopened m ∷ []
+told_by event answer = []
 
--- the memory is frozen for the checkpoint that was begun last, whose number no freeze had before
-pub record Freezes (base : Base) (begun : Option ℕ) (old new : History) : Type 0 where
+-- a worker's step, or an outcome that it hands in
+abbrev pub IsOf : Worker → Event → Type 0
+IsOf worker event = (event ≡ Work worker) ⊎ ((event ≡ TakeUp worker) ⊎ ((place : ℕ) × (event ≡ HandInAt worker place)))
+
+-- only the dumper acknowledges, only the opener reopens, and only the order to cancel cancels
+abbrev pub IsToldBy : Reply → Event → Type 0
+IsToldBy (reply.Acked n) event = IsOf Dumper event
+IsToldBy (reply.Reopened m) event = IsOf Opener event
+IsToldBy (reply.Cancelled n) event = event ≡ Cancel
+IsToldBy _ event = Unit {0}
+
+-- The freeze, which no reply tells: a step of the dumper that only worked may have frozen the memory, for the
+-- checkpoint that was begun last, whose number no freeze had before, nor what the run started from.
+pub record Freezes (event : Event) (answer : Reply) (begun : Option ℕ) (first : Shown)
+    (old new : List Entry) : Type 0 where
+  pub dumper : IsOf Dumper event
+  pub worked : answer ≡ reply.Worked
   pub number : ℕ
   pub last : begun ≡ Some number
-  pub fresh : at_freeze base old number ≡ None
+  pub fresh : AllByRecursion (λ entry. entry ≢ Freeze number) old
+  pub beyond : option_map (λ (pair : ℕ × PlainMemory). pair.0) first ≢ Some number
   pub entry : new ≡ Freeze number ∷ old
-
--- A worker's step, or an outcome that it hands in, adds what its reply tells: the dumper's an acknowledgement, the
--- opener's a reopening. One of the dumper that only worked may have frozen the memory.
-abbrev pub AddsByReply : Worker → Reply → Base → Option ℕ → History → History → Type 0
-AddsByReply worker (reply.Acked n) base begun old new = (worker ≡ Dumper) × (new ≡ Acked n ∷ old)
-AddsByReply worker (reply.Reopened m) base begun old new = (worker ≡ Opener) × (new ≡ Reopened m ∷ old)
-AddsByReply worker reply.Worked base begun old new = (new ≡ old) ⊎ ((worker ≡ Dumper) × Freezes base begun old new)
-AddsByReply worker _ base begun old new = new ≡ old
-
--- the order to cancel adds the number that it answers; where it is refused it adds nothing
-abbrev pub AddsCancelled : Reply → History → History → Type 0
-AddsCancelled (reply.Cancelled n) old new = new ≡ Cancelled n ∷ old
-AddsCancelled _ old new = new ≡ old
-
--- other orders and device calls add nothing; here a trim takes nothing away
-abbrev pub AddsEntry : Event → Reply → Base → Option ℕ → History → History → Type 0
-AddsEntry (CommandEvent seat command) answer base begun old new = AddsCommand seat command answer old new
-AddsEntry (Work worker) answer base begun old new = AddsByReply worker answer base begun old new
-AddsEntry (TakeUp worker) answer base begun old new = AddsByReply worker answer base begun old new
-AddsEntry (HandInAt worker place) answer base begun old new = AddsByReply worker answer base begun old new
-AddsEntry Cancel answer base begun old new = AddsCancelled answer old new
-AddsEntry _ answer base begun old new = new ≡ old
 
 -- the number of the checkpoint that was begun last
 abbrev pub begun_after : Event → Reply → Option ℕ → Option ℕ
 begun_after (Begin rounds) (reply.Begun n) before = Some n
 begun_after _ answer before = before
 
--- ---- what contents show behind a reply
+-- ---- what contents show
 
--- a checkpoint, with the memory at its freeze
-pub record ShowsFreeze (base : Base) (history : History) (n : ℕ) (contents : List (List ℕ)) : Type 0 where
-  pub memory : PlainMemory
-  pub freeze : at_freeze base history n ≡ Some memory
-  pub shows : Shows contents (Some (n, memory))
+-- contents show what is told to be allowed
+pub record ShowsTold (told : Told) (contents : List (List ℕ)) : Type 0 where
+  pub shown : Shown
+  pub allowed : MayShow told shown
+  pub shows : Shows contents shown
 
--- the checkpoint that was acknowledged or found, or nothing saved; other replies say nothing of it
-abbrev pub ShowsReply : Reply → Base → History → List (List ℕ) → Type 0
-ShowsReply (reply.Acked n) base history contents = ShowsFreeze base history n contents
-ShowsReply (reply.Reopened (Some n)) base history contents = ShowsFreeze base history n contents
-ShowsReply (reply.Reopened None) base history contents = Shows contents None
-ShowsReply _ base history contents = Unit {0}
+-- after `acked` and `reopened` they show the last checkpoint, which has that number, or that nothing was saved
+abbrev pub ShowsAnswer : Reply → Told → List (List ℕ) → Type 0
+ShowsAnswer (reply.Acked n) told contents =
+    (option_map (λ (pair : ℕ × PlainMemory). pair.0) told.last ≡ Some n) × Shows contents told.last
+ShowsAnswer (reply.Reopened m) told contents =
+    (option_map (λ (pair : ℕ × PlainMemory). pair.0) told.last ≡ m) × Shows contents told.last
+ShowsAnswer _ told contents = Unit {0}
 
 -- ---- one event, and a list of them
 
 -- From one point of a run to the next, by one event and its reply.
 pub record Moves {D : Type 0} (g : Ghosts D) (event : Event) (answer : Reply) (old new : Point D) : Type 0 where
-  -- the run started from where it started, and the journal gets what the event and its reply add
-  pub base : new.base ≡ old.base
-  pub entries : AddsEntry event answer old.base old.begun old.entries new.entries
+  -- the run started from where it started, and the journal gets what the event and its reply tell, or the freeze
+  pub first : new.first ≡ old.first
+  pub entries : (new.entries ≡ told_by event answer ++ old.entries)
+      ⊎ Freezes event answer old.begun old.first old.entries new.entries
+  pub teller : IsToldBy answer event
   pub begun : new.begun ≡ begun_after event answer old.begun
   -- a crash at any moment between the two points leaves what the journal allowed at the first
-  pub any_moment : LeavesOnly g old.disk new.disk (ShowsAllowed old.base old.entries)
+  pub any_moment : LeavesOnly g old.disk new.disk (ShowsTold (tell old.first old.entries))
   -- a crash at the second leaves what the journal allows then
-  pub at_end : Within (g.may_leave new.disk) (ShowsAllowed new.base new.entries)
-  -- and behind `acked n` or `reopened n` that checkpoint, with the memory at its freeze
-  pub told : Within (g.may_leave new.disk) (ShowsReply answer new.base new.entries)
+  pub at_end : Within (g.may_leave new.disk) (ShowsTold (tell new.first new.entries))
+  -- and after `acked` or `reopened` the last checkpoint, or nothing saved
+  pub told : Within (g.may_leave new.disk) (ShowsAnswer answer (tell new.first new.entries))
 
 -- the events, one after the other, each with its reply
 abbrev pub Goes : {D : Type 0} → Ghosts D → Point D → List Event → List Reply → Point D → Type 0

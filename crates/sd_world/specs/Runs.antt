@@ -1,9 +1,13 @@
 -- Whole runs, and what they show.
-use Rattle.std.specs.Prelude.{◌≡◌, ◌≢◌, ℕ, List, [], ◌∷◌, ◌++◌}
+use Rattle.std.specs.Prelude.{◌≡◌, ◌≢◌, ℕ, List, [], ◌∷◌, ◌++◌, Some, None}
+use Rattle.sd_areas.specs.PlainMemory.{PlainMemory}
 use Rattle.sd_command.specs.declared.reply.Reply.{Reply}
+use Rattle.sd_command.specs.declared.reply.Reply.TheVariants as reply
 use Rattle.sd_disk.specs.Crash.{Within}
 use Rattle.sd_disk.specs.Spans.{LeavesOnly}
 use Rattle.sd_disk.specs.declared.disk.Disk.{Ghosts}
+use Rattle.sd_image.specs.Shows.{Shows}
+use Rattle.sd_journal.specs.History.{Base, History, at_freeze}
 use Rattle.sd_journal.specs.Marked.{IsTracked}
 use Rattle.sd_crash_safety.specs.Shown.{ShowsAllowed}
 use Rattle.sd_crash_safety.specs.View.{history_of}
@@ -15,10 +19,22 @@ use Rattle.sd_world.specs.Copied.{DoesCopy}
 use Rattle.sd_world.specs.KeptCheckpoint.{KeepsCheckpoint}
 use Rattle.sd_world.specs.Little.{DoesLittle}
 use Rattle.sd_world.specs.Merges.{DoesMerge, KeepsMerged}
-pub use Rattle.sd_world.specs.Promise.{ShowsFreeze, ShowsReply}
 use Rattle.sd_world.specs.Refused.{GoesOnUnless}
 use Rattle.sd_world.specs.Steps.{Does}
 use Rattle.sd_world.specs.View.{WorldView}
+
+-- a checkpoint, with the memory at its freeze
+pub record ShowsFreeze (base : Base) (history : History) (n : ℕ) (contents : List (List ℕ)) : Type 0 where
+  pub memory : PlainMemory
+  pub freeze : at_freeze base history n ≡ Some memory
+  pub shows : Shows contents (Some (n, memory))
+
+-- the checkpoint that was acknowledged or found, or nothing saved; other replies say nothing of it
+abbrev pub ShowsReply : Reply → Base → History → List (List ℕ) → Type 0
+ShowsReply (reply.Acked n) base history contents = ShowsFreeze base history n contents
+ShowsReply (reply.Reopened (Some n)) base history contents = ShowsFreeze base history n contents
+ShowsReply (reply.Reopened None) base history contents = Shows contents None
+ShowsReply _ base history contents = Unit {0}
 
 -- what an event does to a world, what it adds to the journal or takes from it, what it makes of a checkpoint, and what
 -- a crash leaves

@@ -26,7 +26,7 @@ ghost use Rattle.sd_world.specs.Little.{DoesLittle};
 ghost use Rattle.sd_world.specs.Merged.{MergesStand};
 ghost use Rattle.sd_world.specs.Merges.{DoesMerge, KeepsMerged};
 ghost use Rattle.sd_world.specs.Moments.{GoesLeave};
-ghost use Rattle.sd_world.specs.Points.{PointsFollow, StandsAt};
+ghost use Rattle.sd_world.specs.Points.{FirstStands, PointsFollow, StandsAt};
 ghost use Rattle.sd_world.specs.Promise.{Goes, Point};
 ghost use Rattle.sd_world.specs.Refused.{GoesOnUnless};
 ghost use Rattle.sd_world.specs.Restored.{IsRestored};
@@ -216,6 +216,13 @@ impl<D: Disk> World<D> {
         ensures { PointsFollow D.Disk }
     {
         trim_laws();
+        let _core = &self.core;
+    }
+
+    /// A law: a world that was opened, and has made no event, stands at the first point of a run.
+    pub fn first_stands(&self)
+        ensures { FirstStands D }
+    {
         let _core = &self.core;
     }
 

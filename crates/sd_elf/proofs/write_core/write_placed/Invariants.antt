@@ -11,6 +11,6 @@ invariant-loop-space g l = record {
   reads : OnlyReads g.D.Disk l.fn.disk l.disk;
   same : g.S.CoreFiles.wanted l.files ≡ g.S.CoreFiles.wanted l.fn.files;
   taken : g.D.Disk.is_honest l.disk → TakesFiles (g.S.CoreFiles.taken l.fn.files) (g.S.CoreFiles.taken l.files)
-      (placed_cores (g.S.CoreFiles.wanted l.fn.files) (g.D.Disk.contents l.fn.disk) l.placed.checkpoint (placed_pages l.placed.runs.items)
+      (placed_cores l.threads (g.S.CoreFiles.wanted l.fn.files) (g.D.Disk.contents l.fn.disk) l.placed.checkpoint (placed_pages l.placed.runs.items)
       (map listing_of (take l.space-index l.placed.spaces.now)));
 }

@@ -25,5 +25,5 @@ returns-clause-cores g c = λ honest.
     let after = g.S.CoreFiles.taken c.write_placed.new.files in
     let spaces = map listing_of placed.spaces.now in
     let pages = placed_pages placed.runs.items in
-    takes_cores wanted contents placed.checkpoint spaces pages before after (c.in_ok-placed.ensures.shown contents catalog) (c.in_ok-placed.ensures.laid contents catalog)
-    (subst (λ contents. TakesFiles before after (placed_cores wanted contents placed.checkpoint pages spaces)) same (c.in_ok-write_placed.ensures.taken honest))
+    takes_cores c.args.threads.now wanted contents placed.checkpoint spaces pages before after (c.in_ok-placed.ensures.shown contents catalog) (c.in_ok-placed.ensures.laid contents catalog)
+    (subst (λ contents. TakesFiles before after (placed_cores c.args.threads.now wanted contents placed.checkpoint pages spaces)) same (c.in_ok-write_placed.ensures.taken honest))

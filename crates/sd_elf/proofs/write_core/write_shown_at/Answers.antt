@@ -27,6 +27,6 @@ returns-clause-cores g c = λ honest.
     let spaces = map listing_of placed.spaces.now in
     let pages = placed_pages placed.runs.items in
     on_ok_weaker c.write_placed.result
-    (λ taken. takes_cores_at wanted contents c.args.number placed.checkpoint spaces pages before after c.in_ok-placed.ensures.number (c.in_ok-placed.ensures.shown contents catalog) (c.in_ok-placed.ensures.laid contents catalog)
-    (subst (λ contents. TakesFiles before after (placed_cores wanted contents placed.checkpoint pages spaces)) same taken))
+    (λ taken. takes_cores_at c.args.threads.now wanted contents c.args.number placed.checkpoint spaces pages before after c.in_ok-placed.ensures.number (c.in_ok-placed.ensures.shown contents catalog) (c.in_ok-placed.ensures.laid contents catalog)
+    (subst (λ contents. TakesFiles before after (placed_cores c.args.threads.now wanted contents placed.checkpoint pages spaces)) same taken))
     (c.write_placed.ensures.taken honest)

@@ -1,6 +1,8 @@
 use Rattle.sd_readers.specs.declared.steady.Reader.TheVariants.{Restore}
 use Rattle.sd_readers.proofs.AnswerLemmas.{answers, told_of, empty_of, text_of, whole_of}
+use Rattle.std.proofs.Common.{refl}
 use Rattle.sd_readers.proofs.MemoryTexts.{exact_memory}
+use Rattle.sd_readers.proofs.RestoredLemmas.{restores_as}
 use Rattle.sd_readers.proofs.restore.restore_to.Goals as goal
 
 pub returns-clause-answers : goal.returns-clause-answers
@@ -28,3 +30,18 @@ pub returns-clause-exact : goal.returns-clause-exact
 returns-clause-exact g c = λ honest zero moment shows.
     exact_memory c.shown_once.ensures (g.D.Disk.contents c.args.disk.now) (g.W.Write.contents c.args.out.now.writer) (g.W.Write.contents c.exit.new.out.writer)
     (returns-clause-text g c honest zero) moment shows
+
+pub returns-clause-restored : goal.returns-clause-restored
+returns-clause-restored g c = λ shown honest shows.
+    let done = c.print_steady-ended in
+    let failed = g.D.Disk.failed c.args.disk.now in
+    let now = g.D.Disk.failed done.new.disk in
+    let from = g.W.Write.contents c.args.out.now.writer in
+    let to = g.W.Write.contents done.new.out.writer in
+    record {
+      ended = done.result;
+      printed = to;
+      restores = restores_as c.shown_once.ensures (g.D.Disk.contents c.args.disk.now) shown failed now from to done.result shows
+          (done.ensures.store.text honest) (done.ensures.store.why honest) (done.ensures.good honest refl shown shows);
+      exits = c.exit.ensures.exits;
+    }

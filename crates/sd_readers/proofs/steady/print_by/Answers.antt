@@ -36,3 +36,6 @@ returns-in-Verify-clause-store g c =
       alone = done.ensures.alone;
       why = done.ensures.why;
     })
+
+pub returns-in-Restore-clause-good : goal.returns-in-Restore-clause-good
+returns-in-Restore-clause-good g c = λ honest is shown shows. c.print_restored.ensures.good honest shown shows

@@ -4,6 +4,7 @@ use Rattle.std.proofs.lemmas.Result.{err_from_is_err_and}
 use Rattle.sd_restore.specs.declared.fault.Fault.{Fault}
 use Rattle.sd_restore.specs.declared.fault.Fault.TheVariants.{EmptyChain, Device}
 use Rattle.sd_exit.specs.declared.stop.Stop.TheVariants as stop
+use Rattle.sd_image.specs.Shows.{Shows}
 use Rattle.sd_readers.specs.Fronts.{front}
 use Rattle.sd_readers.specs.Reading.{ReadsStore}
 use Rattle.sd_readers.proofs.EndingLemmas.{breaks, breaks_longer, outside}
@@ -57,3 +58,9 @@ returns-clause-store g c =
     (sym c.if-eq.false ∙ c.eq.ensures))
     (longer_honest by contents before honest failed a b after done.result from to last.honest first.failures last.failures
     (subst (λ files. ReadsStore by before files a b done.result from to) first.same done.ensures.store))
+
+pub returns-then-eq-clause-good : goal.returns-then-eq-clause-good
+returns-then-eq-clause-good g c = λ honest is shown shows.
+    let first = c.in_ok-before.ensures.reads in
+    let last = c.in_ok-fronts.ensures.reads in
+    c.print_by-ended.ensures.good (last.honest honest) is shown (subst (λ (files : List (List ℕ)). Shows files shown) (sym first.same) shows)

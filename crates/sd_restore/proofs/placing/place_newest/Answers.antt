@@ -8,7 +8,7 @@ use Rattle.sd_restore.specs.Mapped.{mapped_pages}
 use Rattle.sd_restore.specs.Placed.{MeetsBreak, placed_memory, placed_pages}
 use Rattle.sd_restore.specs.declared.placing.PlacedMemory.{PlacedMemory}
 use Rattle.sd_restore.proofs.AtLemmas.{broken_tip, err_more, ok_both, tip_among}
-use Rattle.sd_restore.proofs.ShowLemmas.{tip_shows}
+use Rattle.sd_restore.proofs.ShowLemmas.{no_break, tip_shows}
 use Rattle.sd_restore.proofs.placing.place_newest.Goals as goal
 
 pub returns-clause-shown : goal.returns-clause-shown
@@ -32,6 +32,14 @@ returns-clause-broken c = λ contents catalog.
     let finds : FindsTip contents (Some c.in-Some.tip) = subst (FindsTip contents) c.in-Some.is (c.tip.ensures.store contents catalog) in
     err_more (MeetsBreak c.args.catalog.now tip.header.serial (mapped_pages tip.spaces)) (IsBrokenChain contents) c.place_image.result
     (λ slot reason met. broken_tip contents c.args.catalog.now c.in-Some.tip slot reason c.sound.ensures catalog finds c.in-Some.ensures.newest met)
+    c.place_image.ensures.broken
+
+pub returns-clause-good : goal.returns-clause-good
+returns-clause-good c = λ contents shown catalog shows.
+    let tip = c.in-Some.tip.now in
+    let finds : FindsTip contents (Some c.in-Some.tip) = subst (FindsTip contents) c.in-Some.is (c.tip.ensures.store contents catalog) in
+    err_more (MeetsBreak c.args.catalog.now tip.header.serial (mapped_pages tip.spaces)) (λ slot reason. ⊥) c.place_image.result
+    (λ slot reason met. no_break c.one_store.ensures c.tip_once.ensures contents c.args.catalog.now c.in-Some.tip slot reason shown catalog finds met shows)
     c.place_image.ensures.broken
 
 pub returns-clause-wanted : goal.returns-clause-wanted

@@ -1,4 +1,4 @@
-use Rattle.sd_world.proofs.PromiseLemmas as lemmas
+use Rattle.sd_world.proofs.HeadlineLemmas as lemmas
 use Rattle.sd_world.proofs.world.World.points_follow.Goals as goal
 
 pub returns : goal.returns

@@ -2,7 +2,7 @@ use Rattle.std.proofs.Common.{arith, ◌≡◌, ◌+◌, [], ◌∷◌, ◌++◌
 use Rattle.std.proofs.lemmas.List.{take_all, take_more}
 use Rattle.sd_disk.specs.Spans.{LeavesOnly}
 use Rattle.sd_world.specs.Runs.{IsStep, Runs, ShowsAllowedWithin}
-use Rattle.sd_world.proofs.PromiseLemmas.{points_reached}
+use Rattle.sd_world.proofs.PointLemmas.{points_reached}
 use Rattle.sd_world.proofs.RunLemmas.{runs_more, span_more, span_none}
 use Rattle.sd_world.proofs.world.World.run.Goals as goal
 
