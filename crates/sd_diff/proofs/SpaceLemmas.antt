@@ -13,7 +13,7 @@ use Rattle.sd_diff.proofs.ListLemmas.{below_or}
 
 -- ---- what was put twice
 
--- of the pages from one on, some were put, and then those behind
+-- of the pages from one on, some were put, and then those after
 put_both : {Old Mid New P : Type 0} (space from mid to at page : ℕ) → from ≤ mid → mid ≤ to
     → (Mid ↔ (Old ⊎ (IsBetween space from mid at page × P))) → (New ↔ (Mid ⊎ (IsBetween space mid to at page × P))) → New ↔ (Old ⊎ (IsBetween space from to at page × P))
 put_both space from mid to at page low high first second = (
@@ -120,7 +120,7 @@ no_change was is a b none nothing change =
 none_written : (contents : List (List ℕ)) (a b : Option Held) → a ≡ None → IsWritten contents a b → ⊥
 none_written contents a b none written = subst (λ o. IsWritten contents o b) none written
 
--- one space more, of whose pages none is behind the last that was looked at
+-- one space more, of whose pages none is after the last that was looked at
 one_space : {Old New : Type 0} (P : ℕ → Type 0) (end to space page : ℕ) → 0 < end → (to ≤ page → P end → ⊥)
     → (Old ↔ (IsNumbered end space × P space)) → (New ↔ (Old ⊎ (IsBetween end 0 to space page × P end))) → New ↔ (IsNumbered (end + 1) space × P space)
 one_space P end to space page some high was put = (

@@ -25,12 +25,12 @@ abbrev pub held_in : Option PlacedRun → ℕ → Option Held
 held_in None page = None
 held_in (Some r) page = Some (held_by r page)
 
--- each run begins behind the one before
+-- each run begins after the one before
 abbrev pub AreRising : List PlacedRun → Type 0
 AreRising [] = Unit {0}
 AreRising (r ∷ runs) = All (λ (s : PlacedRun). r.first + r.count ≤ s.first) runs × AreRising runs
 
--- the first of these runs ends behind a page
+-- the first of these runs ends after a page
 abbrev pub EndsBehind : ℕ → List PlacedRun → Type 0
 EndsBehind page [] = Unit {0}
 EndsBehind page (r ∷ runs) = page < r.first + r.count

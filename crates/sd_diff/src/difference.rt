@@ -6,7 +6,7 @@ ghost use Rattle.sd_diff.specs.Difference.{HasChange, HasPage, IsChangedIn, IsIn
 use sd_areas::{PageNo, Prot, SpaceId};
 use std::alloc::{AllocError, Global};
 
-/// Pages of a space, one behind the other.
+/// Pages of a space, one after the other.
 #[derive(Clone, Copy)]
 pub struct PageRun {
     pub space: SpaceId,
@@ -72,7 +72,7 @@ fn longer(last: PageRun, count: u64) -> PageRun
     }
 }
 
-/// Puts pages behind others: as a part of the last, where they go on there.
+/// Puts pages after others: as a part of the last, where they go on there.
 pub(crate) fn push_pages(list: &mut Vec<PageRun>, run: PageRun) -> Result<(), AllocError>
     requires within { run.first + run.count ≤ 2 ^ 35 }
     ensures pages { OnOk result ((space page : ℕ) → HasPage list.new.items space page
@@ -136,7 +136,7 @@ fn longer_change(last: AreaChange, count: u64) -> AreaChange
     }
 }
 
-/// Puts a change behind others: as a part of the last, where it goes on there.
+/// Puts a change after others: as a part of the last, where it goes on there.
 pub(crate) fn push_change(list: &mut Vec<AreaChange>, change: AreaChange) -> Result<(), AllocError>
     requires within { change.pages.first + change.pages.count ≤ 2 ^ 35 }
     ensures changes { OnOk result ((space page : ℕ) (old new : Option Prot)

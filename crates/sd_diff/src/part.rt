@@ -11,7 +11,7 @@ use sd_restore::PlacedRun;
 /// What runs of a space have from a page on: nothing, or the pages of a run.
 #[derive(Clone, Copy)]
 pub(crate) struct Part {
-    /// The page behind the last of the part.
+    /// The page after the last of the part.
     pub until: u64,
     /// The run that has these pages, from the first of them on.
     pub run: Option<PlacedRun>,

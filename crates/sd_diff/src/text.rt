@@ -61,7 +61,7 @@ fn push_prot(text: &mut String, prot: Option<Prot>) -> Result<(), AllocError> {
     }
 }
 
-/// The space of pages, their first address, and the one behind their last.
+/// The space of pages, their first address, and the one after their last.
 fn push_range(text: &mut String, sign: char, pages: &PageRun) -> Result<(), AllocError> {
     let first = pages.first.number();
     let end = first.saturating_add(pages.count);

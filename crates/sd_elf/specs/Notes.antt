@@ -8,6 +8,6 @@ use Rattle.sd_elf.specs.declared.program_header.ProgramHeader.{ProgramHeader}
 abbrev pub has_notes : ProgramHeader → Bool
 has_notes s = nat_eq s.p_type 4
 
--- the bytes of a segment of notes, with zeros behind them up to a word of 4 bytes
+-- the bytes of a segment of notes, with zeros after them up to a word of 4 bytes
 abbrev pub segment_notes : List ℕ → ProgramHeader → List ℕ
 segment_notes held s = padded ((s.p_filesz + 3) / 4 * 4) (slice_range held s.p_offset (s.p_offset + s.p_filesz))

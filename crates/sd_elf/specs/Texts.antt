@@ -52,7 +52,7 @@ notes_place areas = 64 + 56 * (areas + 1)
 abbrev pub notes_size : List ℕ → ℕ
 notes_size threads = length threads + 40
 
--- where its pages stand: at the first multiple of 4,096 behind so many bytes of notes
+-- where its pages stand: at the first multiple of 4,096 after so many bytes of notes
 abbrev pub pages_place : ℕ → ℕ → ℕ
 pages_place size areas = (notes_place areas + size + 4095) / 4096 * 4096
 
@@ -132,7 +132,7 @@ front_text threads checkpoint space areas = padded (pages_place (notes_size thre
     ++ flat_map program_header_text
     (area_headers (pages_place (notes_size threads) (length areas)) areas) ++ threads ++ own_note checkpoint space)
 
--- the core file of a space of a checkpoint, with these notes of threads: its pages rise behind the front
+-- the core file of a space of a checkpoint, with these notes of threads: its pages rise after the front
 abbrev pub core_of : List ℕ → ℕ → ℕ → Space → List ℕ
 core_of threads checkpoint number space = front_text threads checkpoint number (areas_of (prots_in space))
     ++ flat_map (λ (entry : ℕ × Page). entry.1.bytes) (finmap.entries space)

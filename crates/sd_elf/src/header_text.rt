@@ -56,7 +56,7 @@ fn notes_size(threads: &[u8]) -> u64
     (threads.len() + OWN_NOTE_SIZE) as u64
 }
 
-/// Where its pages stand: at the first multiple of a page's size behind so many bytes of notes.
+/// Where its pages stand: at the first multiple of a page's size after so many bytes of notes.
 fn pages_place(size: u64, areas: usize) -> u64
     requires size { size ≤ 2 ^ 24 + 40 }
     requires areas { areas ≤ 1024 }

@@ -41,7 +41,7 @@ part_begins table bytes n part few long =
 range_is_front : (file : List ℕ) (at n : ℕ) → slice_range file at (at + n) ≡ take n (drop at file)
 range_is_front file at n = ap (λ k. take k (drop at file)) (let e : at + n - at ≡ n = omega arith in e)
 
--- ---- a table behind a header
+-- ---- a table after a header
 
 -- a rule breaks in a front
 pub front_judged : (file bytes : List ℕ) (h : Header) (at count : ℕ) (reason : Reason) (judged : Judged) → judged.bytes.items ≡ bytes → judged.fault ≡ Some reason

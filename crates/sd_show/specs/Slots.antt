@@ -74,7 +74,7 @@ pub record BeginsTable (table bytes : List ℕ) : Type 0 where
   pub beginning : bytes ≡ take (length bytes) table
   pub long : min 2097152 (length table) ≤ length bytes
 
--- what is read of a table behind a header: all of it where it is one, and why it is none, if it is none
+-- what is read of a table after a header: all of it where it is one, and why it is none, if it is none
 pub record IsJudged (header : Header) (table : List ℕ) (judged : Judged) : Type 0 where
   pub begins : BeginsTable table judged.bytes.items
   pub whole : judged.fault ≡ None → judged.bytes.items ≡ table

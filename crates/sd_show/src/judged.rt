@@ -1,4 +1,4 @@
-//! Reading the table of a slot's file behind its header. Of a long one the fronts are looked at first.
+//! Reading the table of a slot's file after its header. Of a long one the fronts are looked at first.
 ghost use Rattle.std.specs.Prelude.{◌≡◌, ◌+◌, ◌<◌, ◌≤◌, length, drop, IfOk, IfSome, IsErrOf, slice_range};
 ghost use Rattle.sd_disk.specs.Contents.{file_at};
 ghost use Rattle.sd_disk.specs.Reads.{OnlyReads};
@@ -49,7 +49,7 @@ pub(crate) fn read_part<D: Disk>(
     Ok(bytes)
 }
 
-/// Why the bytes of a table are none behind this header, if they are none.
+/// Why the bytes of a table are none after this header, if they are none.
 fn table_fault(alloc: Global, header: &Header, table: &[u8]) -> Result<Option<Reason>, AllocError>
     ensures { IfOk result (λ fault. fault ≡ reason_of (table_in header.now table.now)) }
 {

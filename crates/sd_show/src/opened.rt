@@ -68,7 +68,7 @@ fn table_start(front: &[u8; HEADER_SIZE], len: usize) -> usize
     table_at(front, len).unwrap_or(len)
 }
 
-/// Reads the table of a slot's file of this length, whose first bytes these are: what stands behind its header, or
+/// Reads the table of a slot's file of this length, whose first bytes these are: what stands after its header, or
 /// where that is none the first bytes where a table would stand.
 fn read_table<D: Disk>(
     alloc: Global,

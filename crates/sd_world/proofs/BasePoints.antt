@@ -75,7 +75,7 @@ pub record Enters {D : Type 0} (g : Ghosts D) (event : Event) (answer : Reply) (
   pub any_moment : LeavesOnly g old.disk new.disk (ShowsAllowed old.base old.entries)
   -- a crash at the second leaves what the journal allows then
   pub at_end : Within (g.may_leave new.disk) (ShowsAllowed new.base new.entries)
-  -- and behind `acked n` or `reopened n` that checkpoint, with the memory at its freeze
+  -- and after `acked n` or `reopened n` that checkpoint, with the memory at its freeze
   pub told : Within (g.may_leave new.disk) (ShowsReply answer new.base new.entries)
 
 -- A world stands at such a point: the entries that its journal has no more were folded into its base, and the checkpoint

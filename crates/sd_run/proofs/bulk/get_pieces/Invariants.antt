@@ -1,4 +1,4 @@
--- The loads so far were answered bytes, which stand behind those that were there.
+-- The loads so far were answered bytes, which stand after those that were there.
 use Rattle.std.proofs.Common.{◌≡◌, ◌+◌, ◌++◌, List, ℕ}
 use Rattle.sd_world.specs.Goes.{GoesOn}
 use Rattle.sd_run.specs.Bulk.{Loaded, all_bytes, asked_by, bytes_told, loads_of, past_loads}
