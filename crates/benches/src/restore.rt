@@ -44,7 +44,7 @@ fn run(first: u64, count: u64, kind: RunKind) -> Run
     Run { first, count, kind }
 }
 
-/// The table of an image: so many pages lie in its parent, and so many behind them among its data.
+/// The table of an image: so many pages lie in its parent, and so many after them among its data.
 fn table(alloc: Global, parents: u64, stored: u64) -> Result<Table, AllocError>
     requires parents { parents ≤ PAGES }
     requires stored { stored ≤ PAGES }

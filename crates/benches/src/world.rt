@@ -1,4 +1,4 @@
-//! Lists of events by chance, with a crash behind each of their device calls.
+//! Lists of events by chance, with a crash after each of their device calls.
 use crate::ended::Ended;
 use std::alloc::{AllocError, Global};
 use world_trials::{Figures, Trouble, try_by_chance};

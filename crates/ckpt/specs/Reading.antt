@@ -1,4 +1,4 @@
--- What came of reading the store in a folder, also behind a run.
+-- What came of reading the store in a folder, also after a run.
 use Rattle.std.specs.Prelude.{◌≡◌, ℕ, Bool, true, List, Option, Result, Ok, IfErr, OnOk}
 use Rattle.sd_disk.specs.declared.dir_disk.DirDisk.{DirDisk}
 use Rattle.sd_disk.specs.declared.disk.Disk.{Ghosts}
@@ -20,7 +20,7 @@ ReadsFolder reader read before after refused =
     ReaderEnds reader (IsFolderHonest read.0) (folder_files read.0) 0 (folder_failures read.0) before after refused
     read.1
 
--- what comes behind the answers of a run: where it came to its end, the memory that the store then shows, if that was
+-- what comes after the answers of a run: where it came to its end, the memory that the store then shows, if that was
 -- asked for; and else why it was stopped, if it was
 abbrev pub Then : {D : Type 0} → Ghosts D → Bool → Result Unit Stop → D → D → Option (List ℕ) → Option (List ℕ) → Bool
     → ℕ → Type 0

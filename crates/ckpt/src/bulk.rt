@@ -44,7 +44,7 @@ const WORDS: [(&[u8], Way); 2] = [(b"put", Way::Put), (b"get", Way::Get)];
 /// The word of the request that has the same fields: a space, an address, and how many bytes.
 const SAME_FIELDS: &[u8] = b"load";
 
-/// The fields of a line behind the word `put` or `get`, with the space before them, if it has one of these words.
+/// The fields of a line after the word `put` or `get`, with the space before them, if it has one of these words.
 fn split_word(line: &[u8]) -> Option<(Way, &[u8])> {
     for (word, way) in WORDS {
         if let Some(fields) = line.strip_prefix(word)

@@ -1,4 +1,4 @@
-//! What stands behind a fixed line of the output, for a reader: one line on the standard error. Where that can't be
+//! What stands after a fixed line of the output, for a reader: one line on the standard error. Where that can't be
 //! printed, nothing is lost.
 
 use crate::course::line_of_request;
@@ -39,7 +39,7 @@ impl<C: Display> Display for Advised<'_, C> {
     }
 }
 
-/// Tells the cause of a fault, behind what it was met at.
+/// Tells the cause of a fault, after what it was met at.
 pub fn tell<C: Display>(rt: &impl Eprint, causes: Causes, place: &str, cause: &C) {
     if causes == Causes::Told {
         let place = if place.is_empty() { NO_NAME } else { place };

@@ -100,7 +100,7 @@ impl Job for ShellJob<'_, '_, '_> {
 }
 
 /// Runs the lines of a script over a store up to the first that isn't answered as it was meant, and returns the store
-/// with the exit status. With `restores` the memory that the store then shows is printed behind the answers.
+/// with the exit status. With `restores` the memory that the store then shows is printed after the answers.
 fn run_strict<D: Disk, W: Write, S: Watch>(
     rt: &HostRuntime,
     asked: RunAsked<'_>,

@@ -1,4 +1,4 @@
-//! What stands behind the end of a program, and what may be done about it: one line on the standard error.
+//! What stands after the end of a program, and what may be done about it: one line on the standard error.
 
 use crate::cause::{Causes, line_of, tell};
 use crate::command_line::{Work, asked_of};
@@ -128,7 +128,7 @@ pub fn tell_few_slots(rt: &impl Eprint, causes: Causes, folder: &str, slots: Few
     }
 }
 
-/// The same of the request of a line of a script, behind its run.
+/// The same of the request of a line of a script, after its run.
 #[derive(Clone, Copy)]
 struct FewSlotsAt {
     line: usize,
@@ -184,7 +184,7 @@ fn has_document(work: Work) -> bool {
     )
 }
 
-/// Tells what stands behind the end of a program: behind its exit status, and the fault that its last line told.
+/// Tells what stands after the end of a program: after its exit status, and the fault that its last line told.
 pub fn tell_end(
     rt: &HostRuntime,
     causes: Causes,

@@ -12,7 +12,7 @@ use std::sync::Wait;
 use std::time::{Clock, Duration};
 use std::{io, thread};
 
-/// How long a writer waits behind each try to open a store whose lock is taken, in milliseconds: a reader asks for it
+/// How long a writer waits after each try to open a store whose lock is taken, in milliseconds: a reader asks for it
 /// for a moment.
 const PAUSES: [u64; 3] = [1, 5, 20];
 

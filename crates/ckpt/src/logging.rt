@@ -3,7 +3,7 @@
 use log::{Log, debug};
 use sd_disk::{FileCall, Observed, Observer};
 
-/// A disk whose calls are logged, each behind its end.
+/// A disk whose calls are logged, each after its end.
 pub type Logging<'a, L, D> = Observed<CallLogger<'a, L>, D>;
 
 /// Logs each call on a disk.

@@ -85,7 +85,7 @@ fn restore_over<D: Disk, W: Write>(alloc: Global, disk: D, out: &mut Output<W>) 
 }
 
 /// Runs a script over a store, and returns the store with the exit status. With `restores` the memory that the store
-/// then shows is printed behind the answers.
+/// then shows is printed after the answers.
 fn run_over<D: Disk, W: Write, S: Watch>(
     alloc: Global,
     disk: D,

@@ -49,7 +49,7 @@ impl fmt::Display for Done {
     }
 }
 
-/// When a line is to be written: a second behind the beginning, and then each second.
+/// When a line is to be written: a second after the beginning, and then each second.
 #[derive(Clone, Copy)]
 pub struct Pace {
     begun: Option<Instant>,

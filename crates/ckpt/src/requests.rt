@@ -1,4 +1,4 @@
-//! The requests of a shell, as its input brings them: lines, and raw bytes behind some of them.
+//! The requests of a shell, as its input brings them: lines, and raw bytes after some of them.
 
 use std::alloc::{AllocError, Global};
 use std::io;
@@ -86,7 +86,7 @@ impl<I: Read> Requests<I> {
         })
     }
 
-    /// Moves what waits to the front, and makes room for one call behind it.
+    /// Moves what waits to the front, and makes room for one call after it.
     fn make_room(&mut self) -> Result<(), AllocError> {
         let (first, end) = (self.first, self.end);
         if first <= end && end <= self.room.len() {
@@ -101,7 +101,7 @@ impl<I: Read> Requests<I> {
         Ok(())
     }
 
-    /// One call of the input into the room behind what waits, made again where a signal interrupted it.
+    /// One call of the input into the room after what waits, made again where a signal interrupted it.
     fn read_some(&mut self) -> io::Result<usize> {
         let first = self.end.min(self.room.len());
         let end = first.saturating_add(TAKEN).min(self.room.len());

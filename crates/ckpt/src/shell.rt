@@ -37,7 +37,7 @@ pub enum Asking {
     Silent,
 }
 
-/// How requests are asked for, of which store, and where is told what stands behind an answer.
+/// How requests are asked for, of which store, and where is told what stands after an answer.
 #[derive(Clone, Copy)]
 pub struct Asked<'r, 'f, 'g> {
     pub rt: &'r HostRuntime,
@@ -335,7 +335,7 @@ fn prompt<W: Write>(asking: Asking, out: &mut Output<W>) -> io::Result<()> {
     out.flush()
 }
 
-/// Ends the line of a prompt behind which the input ended.
+/// Ends the line of a prompt after which the input ended.
 fn end_prompt<W: Write>(asking: Asking, out: &mut Output<W>) -> Result<(), Stop> {
     if asking == Asking::Prompts {
         out.write_all(b"\n")?;

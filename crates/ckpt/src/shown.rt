@@ -77,7 +77,7 @@ impl<'a> ReadingLine<'a> {
         self.rt.stderr().write_all(&line)
     }
 
-    /// Whether a slot stands behind those that were read.
+    /// Whether a slot stands after those that were read.
     fn is_behind(&self, slot: usize) -> bool {
         match self.top {
             Some(top) => slot > top,
@@ -85,7 +85,7 @@ impl<'a> ReadingLine<'a> {
         }
     }
 
-    /// Counts a read behind a header. Behind the last the line is off.
+    /// Counts a read after a header. After the last the line is off.
     fn count(&mut self, slot: usize, length: usize) {
         if self.is_behind(slot) {
             self.top = Some(slot);
@@ -101,10 +101,10 @@ impl<'a> ReadingLine<'a> {
     }
 }
 
-/// A disk whose first reading is shown: of each image, what stands behind its header.
+/// A disk whose first reading is shown: of each image, what stands after its header.
 pub type Shown<'a, D> = Observed<ReadingLine<'a>, D>;
 
-/// What the file of an open slot has behind the header of an image, in bytes. A closed one isn't read.
+/// What the file of an open slot has after the header of an image, in bytes. A closed one isn't read.
 fn body_len<D: Disk>(disk: &mut D, slot: usize) -> u64 {
     if slot >= disk.slots() {
         return 0;

@@ -257,7 +257,7 @@ impl<'a, S: Watch + Drop> Counting<'a, S> {
         Ok(())
     }
 
-    /// Prints what is left behind a run, and the table if it is asked for, and returns what is missing there.
+    /// Prints what is left after a run, and the table if it is asked for, and returns what is missing there.
     pub fn finish(mut self) -> Untold {
         self.drain(true);
         if let Err(error) = self.print_summary() {

@@ -78,7 +78,7 @@ impl<'a> Seen<'a> {
         self.verbose || self.shows
     }
 
-    /// A disk of which all of that is seen, behind its slots. `does` says what is done with the store.
+    /// A disk of which all of that is seen, after its slots. `does` says what is done with the store.
     pub fn disk(self, does: &'static str, disk: DirDisk) -> SeenDisk<'a> {
         let mut disk = disk;
         if self.verbose {

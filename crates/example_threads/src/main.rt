@@ -57,7 +57,7 @@ fn prepare<D: Disk + Drop>(
     }
 }
 
-/// Fills each row in a thread of its own, beside three checkpoints, and makes a fourth one behind that. Returns the
+/// Fills each row in a thread of its own, beside three checkpoints, and makes a fourth one after that. Returns the
 /// numbers under which they were acknowledged.
 fn fill_and_save<R: Threads + Wait + Sync, D: Disk + Drop + Send>(
     rt: &R,

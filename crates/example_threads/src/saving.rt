@@ -20,7 +20,7 @@ impl Hold for Free {
     fn before(&self, _call: u64) {}
 }
 
-/// Whether a checkpoint may stand behind this reply, with all frozen for it: memory was refused.
+/// Whether a checkpoint may stand after this reply, with all frozen for it: memory was refused.
 fn may_stand(reply: &Reply) -> bool {
     matches!(reply, Reply::Refused(Refusal::OutOfMemory))
 }

@@ -1,5 +1,5 @@
 //! The ledger: numbers of eight bytes each in two pages of a space. The first is how many transfers there were, and
-//! behind it stand the accounts.
+//! after it stand the accounts.
 use anyhow::{Result, bail, ensure};
 use sd_areas::{Prot, SpaceId};
 use sd_command::{Bytes, Command, Reply};

@@ -51,7 +51,7 @@ Chooses memory (command.Store space address bytes) answer =
     → (answer ≡ reply.Refused refusal.NoFrame) ↔ (frame_due memory (page_under memory space address) ≢ None)
 Chooses memory _ answer = Unit {0}
 
--- Where a command takes memory, and so may find none: behind all that is tested before. An exit and a try of a store
+-- Where a command takes memory, and so may find none: after all that is tested before. An exit and a try of a store
 -- take none; a load takes it for the bytes that it returns; a fault and a store for a frame that the page needs; an
 -- `mmap` and an `mprotect` where some page doesn't have the permissions yet, a `munmap` where some page is mapped.
 abbrev pub TakesMemory : Contents → Command → Type 0

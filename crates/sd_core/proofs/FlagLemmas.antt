@@ -70,7 +70,7 @@ swept_trims laws marked (Noted (Visit serial space page) ∷ kept) front n f = s
 swept_trims laws marked (Noted (Table serial) ∷ kept) front n f =
     ap (λ all. is_some (pending all)) (marked.entries kept front) ∙ ap is_some (sym (laws.pending_stays (entries_of kept) (entries_of front) n f.ended))
 
--- behind the table of the pending checkpoint's dump it is swept
+-- after the table of the pending checkpoint's dump it is swept
 pub table_swept_by : (swept last : Bool) (frozen : Option ℕ) → (swept ≡ true → IsSome frozen) → is_some frozen ≡ last → (swept || last) ≡ is_some frozen
 table_swept_by swept last frozen some is = grind arith
 

@@ -65,7 +65,7 @@ use Rattle.sd_core.proofs.WorkLemmas.{at_work, core_working, held_at_work, held_
 -- ---- the outcome
 
 -- An outcome of the dumper's call for the image in the making is handed in, and followed: what is known of the core
--- before it, and of the phases of the slots and the requests that are out behind it.
+-- before it, and of the phases of the slots and the requests that are out after it.
 pub record HandsDump (core : Parts) (seen : CoreView) (lane : ℕ) (made : Made) (phases : List Phase)
     (outs : List (Option RequestId)) (closed : Bool) (running : Running) (image : Making) : Type 0 where
   pub sound : IsCore core
@@ -153,7 +153,7 @@ module _ {core : Parts} {seen : CoreView} {lane : ℕ} {made : Made} {phases : L
 
 -- ---- the image goes on
 
--- the core behind an outcome that ends no checkpoint
+-- the core after an outcome that ends no checkpoint
 abbrev pub handed_core : Parts → List Phase → List (Option RequestId) → Places → Dumping → Parts
 handed_core core phases outs places dumper = record core { phases = phases; outs = outs; places = places; dumper = dumper }
 
@@ -280,11 +280,11 @@ module _ {core : Parts} {seen : CoreView} {lane : ℕ} {made : Made} {phases : L
 
 -- ---- the image is open
 
--- the core behind the acknowledgement
+-- the core after the acknowledgement
 abbrev pub acked_core : Parts → JournalView → Parts
 acked_core core journal = record core { journal = journal; frozen = None; newest = Some core.numbers.begun; grows = true; committing = false; swept = false }
 
--- an outcome with which the image is open: the last one ends the checkpoint, and behind another the next is to come
+-- an outcome with which the image is open: the last one ends the checkpoint, and after another the next is to come
 pub record OpensDump (core : Parts) (seen : CoreView) (lane : ℕ) (made : Made) (phases : List Phase)
     (outs : List (Option RequestId)) (places : Places) (dumper : Dumping) (opened : NewImage) (last : Bool) : Type 0 where
   pub closed : Bool
@@ -355,7 +355,7 @@ module _ {core : Parts} {seen : CoreView} {lane : ℕ} {made : Made} {phases : L
       has_slot : (b : Bool) → dumper.running ≡ (if b then None else Some (after_pre_dump o.running opened)) → (slot : ℕ) → HasSlot dumper.running slot → HasSlot (Some o.running) slot
       has_slot b is slot has = grind arith
 
-      -- behind a pre-dump the checkpoint fills one slot less
+      -- after a pre-dump the checkpoint fills one slot less
       fills : (b : Bool) → dumper.running ≡ (if b then None else Some (after_pre_dump o.running opened)) → (slot : ℕ) → IsSpared (Some o.running) slot → IsSpared dumper.running slot
       fills b is slot spared = grind arith
 

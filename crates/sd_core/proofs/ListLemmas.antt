@@ -44,7 +44,7 @@ pub none_enters : {core : Parts} {seen : CoreView} {made : Made} {phases : List 
 none_enters {core} {seen} {made} {phases} {outs} {places} {now} l = not_opened core seen (seen_of (merged_core core phases outs places core.room now)) l.hands.sound l.hands.seen_is
     (λ n held. left_held l.closed made.request.id.slot core.places places n l.leaves held)
 
--- nor behind a call that comes late
+-- nor after a call that comes late
 pub late_opens : (old new : CoreView) (worker : Worker) → is_idle old worker ≡ true → worker ≡ its.Merger → (merge : merger.Running) (serial : ℕ) → OpensMerged merge serial old new → ⊥
 late_opens old new worker idle whose merge serial opens = grind arith
 
@@ -162,7 +162,7 @@ module _ {core : Parts} {seen : CoreView} {made : Made} {phases : List Phase} {o
   ended_was : seen.merger ≡ Some m.leaves.merge
   ended_was = ap (λ (v : CoreView). v.merger) (sym m.leaves.hands.seen_is) ∙ m.leaves.hands.was
 
-  -- behind the last of its calls
+  -- after the last of its calls
   pub ended_cut : {before : Places} → MergerOutcomes before → (bodies : List (List ℕ)) → IsAsBelieved seen made.request bodies → AreCut seen (seen_of (merged_core core phases outs places core.room now))
   ended_cut laws bodies b = record {
     free = λ one listed. (let at = found one listed in subst (λ all. IsFree all one.slot) (sym m.leaves.hands.outs_are) (list_free m.leaves.hands m.ends.r m.ends.was at.0 one at.1));

@@ -103,7 +103,7 @@ pub record StepsMerge (core : Parts) (seen : CoreView) (made : MergeStep) (now :
   pub makes : MakesInOrder core.dumper.since_freeze core.dumper.running
   pub on : IsStepOf core.numbers.ticket core.places core.merger made now
 
--- the core behind it
+-- the core after it
 abbrev pub stepped_core : Parts → List (Option RequestId) → Numbers → Option merger.Running → Parts
 stepped_core core outs numbers now = record core { outs = outs; numbers = numbers; merger = now }
 

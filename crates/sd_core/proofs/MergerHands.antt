@@ -40,7 +40,7 @@ use Rattle.sd_core.proofs.WorkLemmas.{at_work, same_numbers}
 -- ---- the outcome
 
 -- An outcome of the merger's call is handed in, and followed: what is known of the core before it, and of the phases of
--- the slots and the requests that are out behind it.
+-- the slots and the requests that are out after it.
 pub record HandsMerge (core : Parts) (seen : CoreView) (made : Made) (phases : List Phase)
     (outs : List (Option RequestId)) (closed : Bool) (merge : merger.Running) : Type 0 where
   pub sound : IsCore core
@@ -53,7 +53,7 @@ pub record HandsMerge (core : Parts) (seen : CoreView) (made : Made) (phases : L
   pub follows : FollowsOutcome core.phases made phases closed
   pub outs_are : outs ≡ slice_set core.outs 1 None
 
--- the core behind it, unless it failed
+-- the core after it, unless it failed
 abbrev pub merged_core : Parts → List Phase → List (Option RequestId) → Places → ℕ → Option merger.Running → Parts
 merged_core core phases outs places room now = record core { phases = phases; outs = outs; places = places; room = room; merger = now }
 
@@ -69,7 +69,7 @@ module _ {core : Parts} {seen : CoreView} {made : Made} {phases : List Phase} {o
   its_out = same_Some (merger.out_in merge.doing) (Some made.request.id)
       (ap (λ m. Some (merger.out_of_merge m)) (sym h.was) ∙ ap (λ all. slice_get all 1) (sym (jobs_out core h.sound work.stands)) ∙ own)
 
-  -- a slot that the checkpoint spares has no request out behind it
+  -- a slot that the checkpoint spares has no request out after it
   pub free_then : (slot : ℕ) → IsSpared core.dumper.running slot → IsFree (slice_set core.outs 1 None) slot
   free_then slot spared = free_spared core slot h.sound work.stands spared
 
@@ -138,7 +138,7 @@ rests_after stage plan calls rests = grind arith
 
 -- ---- an image that the merger closed may leave the catalog
 
--- an outcome of a call behind which the image of its slot leaves the catalog, if it closed that for sure
+-- an outcome of a call after which the image of its slot leaves the catalog, if it closed that for sure
 pub record LeavesMerge (core : Parts) (seen : CoreView) (made : Made) (phases : List Phase)
     (outs : List (Option RequestId)) (places : Places) (now : Option merger.Running) : Type 0 where
   pub closed : Bool

@@ -74,7 +74,7 @@ pub record OpensBeside (core : Parts) (merge : merger.Running) (made : Made) (im
 module _ {core : Parts} {seen : CoreView} {made : Made} {phases : List Phase} {outs : List (Option RequestId)}
     {places : Places} {room : ℕ} {image : NewImage} {ended : Option ℕ} {now : Option merger.Running}
     (o : OpensMerge core seen made phases outs places room image ended now) where
-  -- the core behind it
+  -- the core after it
   abbrev pub opened_core : Parts
   opened_core = merged_core core phases outs places room now
 

@@ -41,7 +41,7 @@ beside_seen worker made inside now new same beside = subst (λ v. StepsBeside wo
 pub counted_still : (old now : Bool) (since new : ℕ) → now ≡ old → new ≡ since → new ≡ (if not old && now then 0 else since)
 counted_still old now since new same is = is ∙ counted_same old since ∙ ap (λ b. if not old && b then 0 else since) (sym same)
 
--- the memory isn't frozen behind it
+-- the memory isn't frozen after it
 pub none_now : (old now : Bool) (since : ℕ) → now ≡ false → since ≡ (if not old && now then 0 else since)
 none_now old now since thawed = by old ∙ ap (λ b. if not old && b then 0 else since) (sym thawed)
   where
@@ -49,7 +49,7 @@ none_now old now since thawed = by old ∙ ap (λ b. if not old && b then 0 else
     by true = refl
     by false = refl
 
--- the marks behind no request but those of the table
+-- the marks after no request but those of the table
 pub notes_none : (old new : CoreView) (slot : Option ℕ) (ends : Bool) → slot ≡ None → ends ≡ false → KeepsMarks old new → NotesByCall (is_some slot) ends old new
 notes_none old new slot ends none over keeps = subst (λ s. NotesByCall (is_some s) ends old new) (sym none) (subst (λ e. NotesByCall false e old new) (sym over) keeps)
 

@@ -51,7 +51,7 @@ next_turns old new places from to was is next = subst (λ running. TurnsRound ol
 none_idle : (running : Option Running) → is_none running ≡ true → running ≡ None
 none_idle running is = grind arith
 
--- behind an outcome that came late none runs
+-- after an outcome that came late none runs
 pub late_turns : (worker : Worker) (old new : CoreView) (answer : Reply) → answer ≡ reply.Refused StoreDown → LeavesByOutcome old worker answer new
     → TurnsRound old.dumper.running new.dumper.running new.catalog
 late_turns worker old new answer is leaves =

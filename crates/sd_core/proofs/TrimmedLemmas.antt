@@ -26,7 +26,7 @@ use Rattle.sd_core.proofs.FrontLemmas.{same_front}
 use Rattle.sd_core.proofs.LittleLemmas.{no_visits}
 use Rattle.sd_core.proofs.WorkLemmas.{at_work}
 
--- ---- the image in the making was begun behind the front
+-- ---- the image in the making was begun after the front
 
 no_start : {P : Type 0} (n : ℕ) (front : Marked) (serial : ℕ) → IsFolded n front → is_begun front serial ≡ true → P
 no_start n [] serial f is = absurd (let no : false ≡ true = is in cc)

@@ -100,7 +100,7 @@ pub record Begins (old : CoreView) (rounds n : ℕ) (new : CoreView) : Type 0 wh
   pub parent : ℕ
   pub reserved : AreReserved old rounds pre_dumps dump
   pub first : IsFirstParent old.catalog old.grows parent
-  -- it takes every page exactly where none was acknowledged behind the latest reopening and the latest cancelling of
+  -- it takes every page exactly where none was acknowledged after the latest reopening and the latest cancelling of
   -- the journal
   pub since : IsFirstParent old.catalog (has_grown old.base (history_of old)) parent
   pub running : new.dumper.running ≡ Some (begun_checkpoint n pre_dumps dump parent)

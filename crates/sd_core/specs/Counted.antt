@@ -9,11 +9,11 @@ use Rattle.sd_crash_safety.specs.View.{CoreView, history_of}
 abbrev pub is_frozen : CoreView → Bool
 is_frozen core = is_some (pending (history_of core))
 
--- behind a step: 0 at the one that freezes the memory
+-- after a step: 0 at the one that freezes the memory
 abbrev pub counted_by_step : CoreView → CoreView → ℕ
 counted_by_step old new = if not (is_frozen old) && is_frozen new then 0 else old.dumper.since_freeze
 
--- behind an outcome of a job: one more for each of the dumper's while the memory is frozen
+-- after an outcome of a job: one more for each of the dumper's while the memory is frozen
 abbrev pub counted_by_outcome : CoreView → Worker → ℕ
 counted_by_outcome core Dumper = if is_frozen core then core.dumper.since_freeze + 1 else core.dumper.since_freeze
 counted_by_outcome core Merger = core.dumper.since_freeze

@@ -75,7 +75,7 @@ pub record OpensFlags (old new : CoreView) : Type 0 where
   pub committing_is : new.committing ≡ false
   pub finds : FindsNumbers old.numbers new.catalog new.numbers
 
--- the ticket behind this one; it has 64 bits
+-- the ticket after this one; it has 64 bits
 abbrev pub ticket_after : ℕ → ℕ
 ticket_after ticket = (ticket + 1) % 2 ^ 64
 

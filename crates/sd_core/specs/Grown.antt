@@ -27,7 +27,7 @@ has_grown base (Acked n ∷ earlier) = true
 has_grown base (Cancelled n ∷ earlier) = false
 has_grown base (Reopened m ∷ earlier) = false
 
--- The pass of the pending checkpoint's dump is over: behind the freeze a table was begun, which visited each page.
+-- The pass of the pending checkpoint's dump is over: after the freeze a table was begun, which visited each page.
 abbrev pub has_swept : Marked → Bool
 has_swept [] = false
 has_swept (Told (Applied seat command reply) ∷ earlier) = has_swept earlier
@@ -39,7 +39,7 @@ has_swept (Noted (Start serial) ∷ earlier) = has_swept earlier
 has_swept (Noted (Visit serial space page) ∷ earlier) = has_swept earlier
 has_swept (Noted (Table serial) ∷ earlier) = is_some (pending (entries_of earlier))
 
--- The next checkpoint goes on from the tip where one was acknowledged; and a gate's opening was taken up only behind
+-- The next checkpoint goes on from the tip where one was acknowledged; and a gate's opening was taken up only after
 -- the pass of the pending checkpoint's dump.
 pub record AreFlags (base : Base) (items : Marked) (swept grows committing : Bool) : Type 0 where
   pub grown : grows ≡ has_grown base (entries_of items)
@@ -51,7 +51,7 @@ abbrev pub HasNoOpen : Calls → Type 0
 HasNoOpen [] = Unit {0}
 HasNoOpen (one ∷ calls) = (opens_gate one.0 ≡ false) × HasNoOpen calls
 
--- the gate of the last image is opened only behind its pass
+-- the gate of the last image is opened only after its pass
 abbrev pub IsGatedStage : Bool → Bool → Stage → Type 0
 IsGatedStage last swept (Format plan) = HasNoOpen plan.calls
 IsGatedStage last swept FreezeStage = Unit {0}

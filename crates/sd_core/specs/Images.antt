@@ -41,7 +41,7 @@ pub record HasImage (running : Running) (places : Places) (image : Opened) : Typ
   pub parent : image.header.parent ≡ running.parent
   pub checkpoint : image.header.checkpoint ≡ running.number
 
--- The dump entered behind all the pre-dumps, each of which names the one before, and the checkpoint is acknowledged:
+-- The dump entered after all the pre-dumps, each of which names the one before, and the checkpoint is acknowledged:
 -- since the freeze there was an outcome for each data page of the dump, and five more.
 pub record IsAcked (n : ℕ) (old new : CoreView) : Type 0 where
   pub running : Running

@@ -15,7 +15,7 @@ fixed_in (opened serial) = None
 fixed_in (retiring r) = Some (r.serial, r.list)
 
 -- It repeats the same source into the same slot and knows the same images; its image and its list stay as they were
--- fixed, and the list is fixed behind an image that was begun.
+-- fixed, and the list is fixed after an image that was begun.
 pub record IsSameMerge (old new : merger.Running) : Type 0 where
   pub source : new.source ≡ old.source
   pub slot : new.slot ≡ old.slot

@@ -178,7 +178,7 @@ abbrev pub HasItsList : merger.Running → CoreView → Type 0
 HasItsList merge core =
     IsListOf core.catalog core.dumper.running (Some merge) core.outs (length core.phases) (list_of core.merger)
 
--- the store is as it is believed to be, with these bodies behind the gates, and this request is out
+-- the store is as it is believed to be, with these bodies after the gates, and this request is out
 pub record IsAsBelieved (core : CoreView) (request : Asked) (bodies : List (List ℕ)) : Type 0 where
   pub asked : List (Option Asked)
   pub files : List (List ℕ)

@@ -29,11 +29,11 @@ pub record IsNextRound (old new : Running) (places : Places) : Type 0 where
   pub has : HasImage old places image
   pub parent : new.parent ≡ image.header.serial
 
--- a checkpoint that runs behind a step ran before it, and the step opens none of its images
+-- a checkpoint that runs after a step ran before it, and the step opens none of its images
 abbrev pub SameRound : Option Running → Option Running → Type 0
 SameRound old new = IfSome new (λ next. (running : Running) × (old ≡ Some running) × IsSameRound running next)
 
--- one that runs behind an outcome ran before it, and the outcome opens one image at most
+-- one that runs after an outcome ran before it, and the outcome opens one image at most
 abbrev pub TurnsRound : Option Running → Option Running → Places → Type 0
 TurnsRound old new places = IfSome new
     (λ next. (running : Running) × (old ≡ Some running) × (IsSameRound running next ⊎ IsNextRound running next places))

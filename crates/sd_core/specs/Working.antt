@@ -63,7 +63,7 @@ abbrev pub LeavesByWork : CoreView → Worker → Taken → CoreView → Type 0
 LeavesByWork old worker (Step answer) new = LeavesByStep old worker answer new
 LeavesByWork old worker (Call request) new = MovesOn old worker new
 
--- an open store is down behind a call that failed
+-- an open store is down after a call that failed
 abbrev pub fallen : Standing → Standing
 fallen NotOpen = NotOpen
 fallen Open = Down

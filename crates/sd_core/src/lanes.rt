@@ -27,7 +27,7 @@ fn lane_of_worker(worker: Worker) -> usize
     }
 }
 
-/// The lane of a write of a data page, behind those of the workers.
+/// The lane of a write of a data page, after those of the workers.
 pub(crate) fn page_lane(lane: usize) -> usize
     requires { lane < 8 }
     ensures lane { result ≡ page_lane lane }

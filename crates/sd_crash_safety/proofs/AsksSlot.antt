@@ -157,13 +157,13 @@ module _ (order : ImageOrder) (pages : Pages) (phase : Phase) (body : List ℕ) 
         → (belief ≡ Closed) × (dump ≡ None) → AsksOn (Close next header tables) order pages phase body request belief dump
     before place left call same other_close other_open rests asks closed = grind arith
 
-    -- the sync behind it
+    -- the sync after it
     behind : (place : ℕ) → (request.id.call ∷ map kind_of_call next.calls) ≡ drop place (map kind_of_call all) → (call : Call) → request.id.call ≡ call → call ≢ CloseCall → call ≢ Open
         → is_opening_at place (Some request) ≡ true
         → (belief ≡ Opening i) × (dump ≡ pending_dump order.kind i) → AsksOn (Close next header tables) order pages phase body request belief dump
     behind place left call same other_close other_open asks opening = grind arith
 
-    -- behind the opening and its sync the body is that of the image
+    -- after the opening and its sync the body is that of the image
     opened_body : (calls : Calls) → map kind_of_call calls ≡ Sync ∷ [] → Leads (after phase Open true) (body_after body Open request.bytes) calls Whole (image_text i) → body ≡ image_text i
     opened_body [] names leads = absurd (let no : 0 ≡ 1 = ap length names in omega (arith, no))
     opened_body ((call, bytes) ∷ calls) names leads =

@@ -133,7 +133,7 @@ file_set [] k body within = absurd (omega (arith, within))
 file_set (b ∷ bodies) zero body within = refl
 file_set (b ∷ bodies) (suc k) body within = file_set bodies k body (omega (arith, within))
 
--- what is being opened behind an outcome was before
+-- what is being opened after an outcome was before
 pub opening_before : (sure : Bool) (belief : Belief) (j : Image) → belief_after sure belief ≡ Opening j → belief ≡ Opening j
 opening_before sure belief j is = grind arith
 

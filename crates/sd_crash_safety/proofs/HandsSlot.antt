@@ -256,7 +256,7 @@ module _ (order : ImageOrder) (i : Image) (plan next : Planned) (phase : Phase) 
   pub closes_more : ClosesOn order i next phase body request belief dump
   closes_more = closes_at c.place c.left c.shut c.opening
 
--- ---- a sync behind a close
+-- ---- a sync after a close
 
 is_closing_phase : (phase : Phase) → is_being_closed phase ≡ true → phase ≡ ClosingPhase
 is_closing_phase phase is = grind arith

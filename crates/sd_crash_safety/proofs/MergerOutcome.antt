@@ -98,7 +98,7 @@ module _ (old new : CoreView) (made : Made) (phase : Phase) (asked : List (Optio
       → IsSameSlot (slots_at old.phases bodies b.beliefs) (slots_at (phases_then old made phase) (bodies_then bodies made) beliefs) k
   others_handed beliefs k other same = grind (arith, set_other, body_other)
 
--- ---- an open store, behind an outcome
+-- ---- an open store, after an outcome
 
 -- One slot changed, and is believed to be what its phase says.
 pub record SlotThen (old new : Slots) (slot : ℕ) : Type 0 where
@@ -199,7 +199,7 @@ module _ (keeps : StepsKeep) (gives : StepsGive) (needs : NeedsNoMore) (memory :
   it_is : (j : Image) → Contains store.catalog j → j.header.serial ≡ i.header.serial → j ≡ i
   it_is j there same = sound.serials j i there member same
 
-  -- were it behind what is newest then, it would be the tip
+  -- were it after what is newest then, it would be the tip
   module _ (tip : Image) (is : IsTip gone tip) where
     not_behind : IsRestorable i → IsNotAfter tip i → ⊥
     not_behind restored behind = unneeded (inl (record {

@@ -99,7 +99,7 @@ retired_begins plans phases asked bodies store beliefs running count exact silen
 still_formats : (plan next : Planned) (calls : Calls) → calls ≢ [] → stage_after Merged (Format plan) next calls ≡ Format next
 still_formats plan next calls some = grind arith
 
--- behind the end of a list is nothing
+-- after the end of a list is nothing
 within_all : (list : List Retired) (end place : ℕ) (one : Retired) → slice_get list end ≡ None → slice_get list place ≡ Some one → place < end
 within_all [] end place one none there = absurd cc
 within_all (x ∷ list) zero place one none there = absurd (let no : Some x ≡ None = none in cc)
@@ -231,7 +231,7 @@ module _ (quiet : QuietSteps) (gates : GateSteps) (making : MakingLaws) (closing
 
   -- ---- the next one begins
 
-  -- behind its last call its slot is closed, and its file one byte long
+  -- after its last call its slot is closed, and its file one byte long
   cut_now : IsLastCall r made → IsCutOn (phases_then old made phase) running one
   cut_now l =
       let led = leads_head phase Bare (file_at bodies slot) [] made.request.id.call made.request.bytes r.plan.calls slot_was.0.leads in
@@ -287,7 +287,7 @@ pub retires_lem : QuietSteps → GateSteps → MakingLaws → ClosingRetires →
 retires_lem quiet gates making closing_retires keeps gives needs follows cut plans old new merge r next made phase done s is asked bodies files at told b =
     retires_by quiet gates making closing_retires keeps gives needs follows cut plans old new merge r next made phase done s asked bodies files at b done s.hands is
 
--- behind the last of them each image of the list is closed, and its file one byte long
+-- after the last of them each image of the list is closed, and its file one byte long
 pub cuts_lem : QuietSteps → GateSteps → MakingLaws → ClosingRetires → StepsKeep → StepsGive → NeedsNoMore → CatalogFollows → CutHoldsTheSame → PlansLead
     → (old new : CoreView) (merge : merger.Running) (r next : Retiring) (made : Made) (phase : Phase) (serial : ℕ) (place : ℕ) (one : Retired)
     (asked : List (Option Asked)) (bodies files : List (List ℕ)) → RetiringGoesOn old merge r made phase (progress.Merged serial) next new

@@ -94,7 +94,7 @@ module _ (order : ImageOrder) (i : Image) (plan : Planned) (phase : Phase) (body
 
 -- ---- it enters the catalog
 
--- the place of a checkpoint's image, behind the last one that of the dump
+-- the place of a checkpoint's image, after the last one that of the dump
 slots_end : (pre_dumps : List ℕ) (dump place : ℕ) → length pre_dumps ≤ place → get_or pre_dumps place dump ≡ get_or pre_dumps (length pre_dumps) dump
 slots_end [] dump place behind = refl
 slots_end (p ∷ pre_dumps) dump zero behind = absurd (omega (arith, behind))

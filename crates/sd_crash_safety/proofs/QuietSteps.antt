@@ -44,9 +44,9 @@ pub left_cases : (asked : List (Option Asked)) (worker other : ℕ) (was : Optio
     → slice_get (slice_set asked worker None) other ≡ Some (Some r) → (other ≢ worker) × (slice_get asked other ≡ Some (Some r))
 left_cases asked worker other was r at out = grind (arith, cases_eq, same_Some, set_same, set_other)
 
--- ---- a slot behind its gate is written by several requests
+-- ---- a slot after its gate is written by several requests
 
--- behind one write it is ready for the next
+-- after one write it is ready for the next
 written_ready : (phase : Phase) (at : ℕ) (done : Bool) → may_write phase ≡ true → may_write (after phase (Write at) done) ≡ true
 written_ready phase at done ready = grind arith
 

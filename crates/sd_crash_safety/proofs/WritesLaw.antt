@@ -99,7 +99,7 @@ module _ (quiet : QuietSteps) (follows : CatalogFollows)
   unneeded_of : (i : Image) → IsReserved running slot → image_in m.belief ≡ Some i → IsNeededIn b.store i → ⊥
   unneeded_of i r has = w.unneeded slot i r (ap (λ o. option_and_then image_in o) m.belief_is ∙ has)
 
-  -- a write behind the gate is asked for, and the image is this one
+  -- a write after the gate is asked for, and the image is this one
   believes_write : (place : ℕ) → request.id.call ≡ Write place → request.id.slot ≡ slot → slice_get asked_now 1 ≡ slice_get asked 1 → (later : Making) → next ≡ later → later.order ≡ image.order
       → ids_of (lanes_of asked_now) ≡ later.writes
       → IsMakingOn old.base history old.memory old.phases asked_now bodies old.numbers.serial b.store b.dump b.beliefs running.parent running.number later → Believes new asked_now bodies files

@@ -36,7 +36,7 @@ pub record ShowsPending (base : Base) (history : History) (images : List Image) 
   pub is : IsPendingPair base history shown
   pub shows : ImagesShow images shown
 
--- With these bodies behind the gates, and these requests out: the slots are believed to be those of this sound store,
+-- With these bodies after the gates, and these requests out: the slots are believed to be those of this sound store,
 -- which shows the last pair; and with the dump that is being opened, if one is, it would show the pending pair.
 pub record HasStore (base : Base) (history : History) (phases : List Phase) (asked : List (Option Asked))
     (bodies : List (List ℕ))

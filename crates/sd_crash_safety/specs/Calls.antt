@@ -176,7 +176,7 @@ pub record MakesStep (old : CoreView) (worker : Worker) (answer : Reply) (new : 
   pub keeps : Stays old new ⊎ StartsAnew old new
   pub adds : AddsByStep worker old answer (history_of old) (history_of new)
 
--- an outcome tells of its slot's file: behind a call that only looks, what is read of the slot now; and where the call
+-- an outcome tells of its slot's file: after a call that only looks, what is read of the slot now; and where the call
 -- was done, what it read
 pub record WasTold (phases : List Phase) (bodies files : List (List ℕ)) (made : Made) : Type 0 where
   pub reads : IsLook made.request.id.call → (phase : Phase) → Waits phases made.request.id phase

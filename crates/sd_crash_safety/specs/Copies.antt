@@ -19,7 +19,7 @@ pub record AreImagesOf (places : Places) (images : List Image) : Type 0 where
   pub opened : (i : Image) → Contains images i
       → (o : Opened) × (place_of places i.header.serial ≡ Some (Some o)) × IsToldAs o i
 
--- an image of a catalog stands in its slot: it is what is behind the slot's open gate
+-- an image of a catalog stands in its slot: it is what is after the slot's open gate
 pub record StandsIn (places : Places) (phases : List Phase) (bodies : List (List ℕ)) (i : Image) : Type 0 where
   pub opened : Opened
   pub there : place_of places i.header.serial ≡ Some (Some opened)

@@ -22,7 +22,7 @@ use Rattle.sd_crash_safety.specs.Calls.{IsApart, IsFree}
 use Rattle.sd_crash_safety.specs.DumperSteps.{OnlyDumps}
 use Rattle.sd_crash_safety.specs.View.{CoreView, history_of, page_lane}
 
--- a sync behind a close: from then on the slot is closed for sure
+-- a sync after a close: from then on the slot is closed for sure
 abbrev pub is_being_closed : Phase → Bool
 is_being_closed Raw = false
 is_being_closed RawClosing = false
@@ -47,7 +47,7 @@ is_sync Open = false
 is_sync Cut = false
 is_sync Sync = true
 
--- the call is the sync behind which a body that is being closed is closed
+-- the call is the sync after which a body that is being closed is closed
 abbrev pub closes_for_sure : Phase → Call → Bool
 closes_for_sure phase call = is_being_closed phase && is_sync call
 
@@ -171,7 +171,7 @@ pub record DumperOutcomes : Type 0 where
       → DumpOpens old running image made phase opened new → slice_get asked 0 ≡ Some (Some made.request)
       → Believes old asked bodies files
       → Believes new (slice_set asked 0 None) (bodies_after bodies made.request.id made.request.bytes) files
-  -- behind an image that enters the catalog the gate of its slot is open
+  -- after an image that enters the catalog the gate of its slot is open
   pub enters_open : (old new : CoreView) (running : Running) (image : Making) (made : Made) (phase : Phase)
       (opened : NewImage) (asked : List (Option Asked)) (bodies files : List (List ℕ))
       → ImageOpens old running image made phase opened new → slice_get asked 0 ≡ Some (Some made.request)

@@ -114,7 +114,7 @@ body_written body [] = body
 body_written body (None ∷ lanes) = body_written body lanes
 body_written body (Some request ∷ lanes) = body_written (body_after body request.id.call request.bytes) lanes
 
--- a slot that is closed for sure, and has these data pages behind the gate
+-- a slot that is closed for sure, and has these data pages after the gate
 pub record IsFilledSlot (pages : Pages) (phase : Phase) (body : List ℕ) (belief : Belief) : Type 0 where
   pub writes : may_write phase ≡ true
   pub fills : filled phase ≡ Writing

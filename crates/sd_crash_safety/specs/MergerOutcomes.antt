@@ -156,7 +156,7 @@ pub record MergerOutcomes (places : Places) : Type 0 where
       (done : MergeProgress)
       → RetiringGoesOn old merge r made phase done next new → new.merger ≡ goes_on_with merge done next
       → OutcomeIsBelieved old new made
-  -- behind the last of these calls each image of the list is closed, and its file one byte long
+  -- after the last of these calls each image of the list is closed, and its file one byte long
   pub cuts : (old new : CoreView) (merge : merger.Running) (r next : Retiring) (made : Made) (phase : Phase)
       (serial place : ℕ) (one : Retired)
       (asked : List (Option Asked)) (bodies files : List (List ℕ))

@@ -137,7 +137,7 @@ pub record IsReadOn (phases : List Phase) (bodies : List (List ℕ)) (store : St
   pub stored : slice_get image.pages place ≡ Some bytes
   pub holds : Holds store.catalog at.0 at.1 bytes source
 
--- A page is written behind the gate of its slot: nothing is left of the plan.
+-- A page is written after the gate of its slot: nothing is left of the plan.
 pub record IsWriteOn (target : ℕ) (plan : Planned) (request : Asked) : Type 0 where
   pub on : request.id.slot ≡ target
   pub last : plan.calls ≡ []

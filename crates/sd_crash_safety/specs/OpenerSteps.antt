@@ -74,7 +74,7 @@ pub record Decodes (old : CoreView) (opener next : Looking) (new : CoreView) : T
   pub decoded : IsDecoded opener next
   pub sees : (files : List (List ℕ)) → Sees files None opener → Sees files None next
 
--- an outcome was handed in: the slot's phase is the one behind the call
+-- an outcome was handed in: the slot's phase is the one after the call
 pub record IsHandedToOpener (old : CoreView) (made : Made) (phase : Phase) (new : CoreView) : Type 0 where
   pub rest : OnlyOpens old new
   pub alone : old.outs ≡ opener_alone made.request.id

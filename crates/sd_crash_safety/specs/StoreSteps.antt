@@ -26,7 +26,7 @@ pub record MayAsk (phases : List Phase) (asked : List (Option Asked)) (lane : �
   pub phase : Phase
   pub waits : Waits phases request.id phase
 
--- a call that changes no belief: it opens no gate, and closes none behind which an image stands for sure
+-- a call that changes no belief: it opens no gate, and closes none after which an image stands for sure
 pub record IsQuiet (phase : Phase) (call : Call) : Type 0 where
   pub opens : call ≢ Open
   pub closes : call ≡ Close → phase ≢ Whole

@@ -109,6 +109,6 @@ index Dumper = 0
 index Merger = 1
 index Opener = 2
 
--- the lane of a write of a data page, behind those of the workers
+-- the lane of a write of a data page, after those of the workers
 abbrev pub page_lane : ℕ → ℕ
 page_lane lane = 3 + lane

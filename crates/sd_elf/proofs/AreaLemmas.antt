@@ -1,4 +1,4 @@
--- The program headers of areas, one behind the other.
+-- The program headers of areas, one after the other.
 use Rattle.std.proofs.Common.{◌≡◌, ◌≤◌, ◌<◌, ◌+◌, ◌*◌, ◌^◌, ℕ, zero, suc, List, [], ◌∷◌, ◌++◌, Option, Some, None, sym, ◌∙◌, ap, arith, take, length, slice_index_or, append-nil}
 use Rattle.std.specs.Prelude.{sum_by}
 use Rattle.std.specs.List.{flat_map}
@@ -61,7 +61,7 @@ maximal_within before [] i area are less is = absurd (omega arith)
 maximal_within before (a ∷ areas) zero area are less is = let within = (follows_on before a are.0).within in rw is within
 maximal_within before (a ∷ areas) (suc i) area are less is = maximal_within (Some a) areas i area are.1 (omega arith) is
 
--- ---- the parts of a front, one behind the other
+-- ---- the parts of a front, one after the other
 
 pub front_parts : (o0 o1 o2 o3 o4 o5 o6 a b c d e : List ℕ) (n m : ℕ) → o0 ≡ [] → o1 ≡ o0 ++ a → o2 ≡ o1 ++ b → o3 ≡ o2 ++ c → o4 ≡ o3 ++ d → o5 ≡ o4 ++ e → o6 ≡ padded n o5 → n ≡ m → o6 ≡ padded m (a ++ b ++ c ++ d ++ e)
 front_parts o0 o1 o2 o3 o4 o5 o6 a b c d e n m e0 e1 e2 e3 e4 e5 e6 same = grind arith

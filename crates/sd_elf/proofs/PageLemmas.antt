@@ -1,4 +1,4 @@
--- The bytes of pages, one behind the other.
+-- The bytes of pages, one after the other.
 use Rattle.std.proofs.Common.{◌≡◌, ◌<◌, ◌+◌, ◌*◌, ℕ, zero, suc, Bool, true, false, nat_eq, List, [], ◌∷◌, ◌++◌, map, Result, OnOk, Option, refl, sym, ◌∙◌, ap, subst, arith, append_assoc, append-nil}
 use Rattle.std.specs.Prelude.{filter, slice_range}
 use Rattle.std.specs.List.{flat_map, range_with_len}

@@ -9,7 +9,7 @@ use Rattle.sd_elf.specs.declared.program_header.ProgramHeader.{ProgramHeader}
 use Rattle.sd_elf.specs.declared.segments.Extent.{Extent}
 use Rattle.sd_elf.specs.Segments.{AreSegments, BreaksSegment, IsFirstSegmentFault, IsSegment, extent_after, extent_of, is_memory, no_extent}
 
--- ---- behind others
+-- ---- after others
 
 pub segments_join : (size : ℕ) (e : Extent) (xs ys : List ProgramHeader) → AreSegments size e xs → AreSegments size (extent_of e xs) ys → AreSegments size e (xs ++ ys)
 segments_join size e [] ys p q = q
@@ -19,7 +19,7 @@ pub extent_of-append : (e : Extent) (xs ys : List ProgramHeader) → extent_of e
 extent_of-append e [] ys = refl
 extent_of-append e (x ∷ xs) ys = extent_of-append (extent_after e x) xs ys
 
--- one among others stands behind those before it
+-- one among others stands after those before it
 pub segment_among : (size : ℕ) (e : Extent) (xs : List ProgramHeader) (s : ProgramHeader) (ys : List ProgramHeader) → AreSegments size e (xs ++ s ∷ ys) → IsSegment size (extent_of e xs) s
 segment_among size e [] s ys p = p.0
 segment_among size e (x ∷ xs) s ys p = segment_among size (extent_after e x) xs s ys p.1

@@ -11,7 +11,7 @@ use Rattle.sd_elf.specs.declared.program_header.ProgramHeader.{ProgramHeader}
 use Rattle.sd_elf.specs.Headers.{BreaksHeader, IsCoreHeader, program_header_in, table_end}
 use Rattle.sd_elf.specs.Segments.{AreSegments, IsFirstSegmentFault, is_memory, no_extent}
 
--- so many program headers that stand one behind the other in bytes
+-- so many program headers that stand one after the other in bytes
 abbrev pub program_headers_in : ℕ → List ℕ → List ProgramHeader
 program_headers_in count bytes =
     map (λ k. program_header_in (slice_range bytes (56 * k) (56 * k + 56))) (range_with_len 0 count)

@@ -24,7 +24,7 @@ placed_cores threads wanted contents checkpoint pages spaces =
     map {B = CoreOfSpace} (λ (s : Listed). (s.space, placed_core threads contents checkpoint pages s))
     (filter (λ (s : Listed). wanted s.space) spaces)
 
--- these files were taken behind others; nothing is claimed where those aren't known
+-- these files were taken after others; nothing is claimed where those aren't known
 abbrev pub TakesFiles : Option (List CoreOfSpace) → Option (List CoreOfSpace) → List CoreOfSpace → Type 0
 TakesFiles None after files = Unit {0}
 TakesFiles (Some before) after files = after ≡ Some (before ++ files)

@@ -28,7 +28,7 @@ segment_end s = s.p_vaddr + s.p_memsz
 abbrev pub no_extent : Extent
 no_extent = record { end = 0; bits = 0; pages = 0; areas = 0 }
 
--- whether a segment begins an area: it is the first, or begins behind the one before, or has other permissions
+-- whether a segment begins an area: it is the first, or begins after the one before, or has other permissions
 abbrev pub begins_area : Extent → ProgramHeader → Bool
 begins_area e s = e.areas == 0 || not (s.p_vaddr == e.end) || not (segment_bits s == e.bits)
 
@@ -41,7 +41,7 @@ extent_after e s = record {
   areas = e.areas + (if begins_area e s then 1 else 0);
 }
 
--- it has pages, and begins at the end of the others or behind it
+-- it has pages, and begins at the end of the others or after it
 pub record StandsBehind (e : Extent) (s : ProgramHeader) : Type 0 where
   pub start : s.p_vaddr % 4096 ≡ 0
   pub whole : s.p_memsz % 4096 ≡ 0
@@ -53,7 +53,7 @@ pub record HasBytes (size : ℕ) (s : ProgramHeader) : Type 0 where
   pub part : s.p_filesz ≤ s.p_memsz
   pub inside : s.p_offset + s.p_filesz ≤ size
 
--- a space can have a segment behind others, with its bytes in a file of this size
+-- a space can have a segment after others, with its bytes in a file of this size
 pub record IsSegment (size : ℕ) (e : Extent) (s : ProgramHeader) : Type 0 where
   pub stands : StandsBehind e s
   pub bytes : HasBytes size s
@@ -61,7 +61,7 @@ pub record IsSegment (size : ℕ) (e : Extent) (s : ProgramHeader) : Type 0 wher
   pub pages : e.pages + s.p_memsz / 4096 ≤ 65536
   pub areas : e.areas + (if begins_area e s then 1 else 0) ≤ 1024
 
--- what a fault says of a segment behind others
+-- what a fault says of a segment after others
 abbrev pub BreaksSegment : ℕ → Extent → ProgramHeader → SegmentFault → Type 0
 BreaksSegment size e s fault.Pages = (s.p_vaddr % 4096 ≢ 0) ⊎ (s.p_memsz % 4096 ≢ 0) ⊎ (s.p_memsz ≡ 0)
 BreaksSegment size e s fault.Order = s.p_vaddr < e.end
@@ -71,7 +71,7 @@ BreaksSegment size e s fault.Above = 2 ^ 47 < segment_end s
 BreaksSegment size e s fault.TooManyPages = 65536 < e.pages + s.p_memsz / 4096
 BreaksSegment size e s fault.TooManyAreas = 1024 < e.areas + (if begins_area e s then 1 else 0)
 
--- a space can have segments one after the other, behind others
+-- a space can have segments one after the other, after others
 abbrev pub AreSegments : ℕ → Extent → List ProgramHeader → Type 0
 AreSegments size e [] = Unit {0}
 AreSegments size e (s ∷ segments) = IsSegment size e s × AreSegments size (extent_after e s) segments
@@ -81,7 +81,7 @@ abbrev pub extent_of : Extent → List ProgramHeader → Extent
 extent_of e [] = e
 extent_of e (s ∷ segments) = extent_of (extent_after e s) segments
 
--- the first segment of memory that a space can't have, behind those before it, and what is wrong with it
+-- the first segment of memory that a space can't have, after those before it, and what is wrong with it
 pub record IsFirstSegmentFault (size : ℕ) (headers : List ProgramHeader) (number : ℕ) (f : SegmentFault) : Type 0 where
   pub segment : ProgramHeader
   pub within : number < length headers

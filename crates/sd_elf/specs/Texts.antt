@@ -44,7 +44,7 @@ size_text s =
 unfoldable pub program_header_text : ProgramHeader → List ℕ
 program_header_text s = place_text s ++ size_text s
 
--- where the notes of a core with so many areas stand, behind its program headers: one of the notes, and one an area
+-- where the notes of a core with so many areas stand, after its program headers: one of the notes, and one an area
 abbrev pub notes_place : ℕ → ℕ
 notes_place areas = 64 + 56 * (areas + 1)
 
@@ -104,7 +104,7 @@ area_header area place = record {
   p_align = 4096;
 }
 
--- the program headers of areas whose pages stand one behind the other, from a place on
+-- the program headers of areas whose pages stand one after the other, from a place on
 abbrev pub area_headers : ℕ → List Area → List ProgramHeader
 area_headers place [] = []
 area_headers place (area ∷ areas) = area_header area place ∷ area_headers (place + 4096 * area.count) areas
@@ -120,7 +120,7 @@ unfoldable pub own_note : ℕ → ℕ → List ℕ
 own_note checkpoint space = number_bytes 4 11 ++ number_bytes 4 16 ++ number_bytes 4 1
     ++ (codes "DEVONTSIRA" ++ 0 ∷ 0 ∷ []) ++ number_bytes 8 checkpoint ++ number_bytes 8 space
 
--- bytes with zeros behind them, up to a length
+-- bytes with zeros after them, up to a length
 abbrev pub padded : ℕ → List ℕ → List ℕ
 padded n bytes = bytes ++ zero_bytes (n - length bytes)
 
@@ -156,6 +156,6 @@ abbrev pub run_part_bytes : List (List ℕ) → PlacedRun → ℕ → ℕ → Li
 run_part_bytes contents r behind count =
     flat_map (λ k. placed_bytes contents (page_behind r (behind + k))) (range_with_len 0 count)
 
--- pages that lie one behind the other in bytes that were read
+-- pages that lie one after the other in bytes that were read
 abbrev pub pages_bytes : List ℕ → ℕ → List ℕ
 pages_bytes bytes count = flat_map (λ k. slice_range bytes (4096 * k) (4096 * k + 4096)) (range_with_len 0 count)

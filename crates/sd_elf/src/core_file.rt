@@ -90,7 +90,7 @@ pub struct Core {
     pub extent: Extent,
 }
 
-/// The program headers that stand one behind the other in these bytes.
+/// The program headers that stand one after the other in these bytes.
 pub(crate) fn program_headers(alloc: Global, bytes: &[u8]) -> Result<Vec<ProgramHeader>, AllocError>
     ensures { IfOk result (λ headers.
         headers.items ≡ program_headers_in (length bytes.now / 56) bytes.now) }
@@ -164,7 +164,7 @@ pub fn read_core<F: CoreFile>(alloc: Global, file: &F) -> Result<Core, ReadError
     Ok(Core { segments, extent })
 }
 
-/// Reads a page of a segment of a core, or any part of it: from so many bytes behind its start on. What isn't in the
+/// Reads a page of a segment of a core, or any part of it: from so many bytes after its start on. What isn't in the
 /// file is zeros.
 ///
 /// # Errors

@@ -22,7 +22,7 @@ pub enum HeaderFault {
     /// There are 65,535 program headers or more.
     #[error("e_phnum is over 65534")]
     Count,
-    /// The program headers end behind the file.
+    /// The program headers end after the file.
     #[error("the program headers end behind the file")]
     Table,
 }
@@ -39,7 +39,7 @@ pub enum SegmentFault {
     /// It has more bytes in the file than in memory.
     #[error("has more bytes in the file than in memory")]
     Larger,
-    /// Its bytes end behind the file.
+    /// Its bytes end after the file.
     #[error("ends behind the file")]
     PastEnd,
     /// It ends above the address 2^47.

@@ -25,7 +25,7 @@ pub(crate) const EV_CURRENT: u32 = 1;
 /// The count that says that there are more program headers than a file header can count.
 const PN_XNUM: u16 = 0xffff;
 
-/// The file header, `Elf64_Ehdr`, behind its identification.
+/// The file header, `Elf64_Ehdr`, after its identification.
 #[derive(Clone, Copy, PartialEq, Eq)]
 pub struct FileHeader {
     pub e_type: u16,

@@ -205,7 +205,7 @@ fn put_program_header(out: &mut Vec<u8>, header: &ProgramHeader) -> Result<(), A
     put_segment_size(out, header)
 }
 
-/// Writes the program headers of areas whose pages stand one behind the other, from a place on.
+/// Writes the program headers of areas whose pages stand one after the other, from a place on.
 fn put_area_headers(out: &mut Vec<u8>, areas: &[Area], place: u64) -> Result<(), AllocError>
     requires areas { AreMaximal None areas.now }
     requires place { place ≤ 2 ^ 25 }

@@ -18,11 +18,11 @@ pub trait CoreOutput {
     /// What was written, where that is known.
     ghost contents: { Self → Option (List ℕ) };
 
-    /// Writes bytes behind the others.
+    /// Writes bytes after the others.
     fn put(&mut self, bytes: &[u8]) -> io::Result<()>
         ensures { OnOk result (Appends (contents self.old) (contents self.new) bytes.now) };
 
-    /// Writes so many zeros behind the others, at most 65,536.
+    /// Writes so many zeros after the others, at most 65,536.
     fn put_zeros(&mut self, count: usize) -> io::Result<()>
         ensures { OnOk result (Appends (contents self.old) (contents self.new) (zero_bytes count)) };
 }

@@ -33,7 +33,7 @@ fn longer(area: Area, count: u64) -> Area {
     }
 }
 
-/// Puts an area behind the others: as a part of the last, where it begins at its end and has its permissions.
+/// Puts an area after the others: as a part of the last, where it begins at its end and has its permissions.
 fn push_area(areas: &mut Vec<Area>, area: Area) -> Result<(), AllocError> {
     if let Some(last) = areas.pop() {
         if continues(&last, &area) {
@@ -74,7 +74,7 @@ pub struct PageRun {
     pub count: u64,
 }
 
-/// Puts pages behind others: as a part of the last run, where they begin at its end.
+/// Puts pages after others: as a part of the last run, where they begin at its end.
 fn push_run(runs: &mut Vec<PageRun>, first: u64, end: u64) -> Result<(), AllocError> {
     let count = end.saturating_sub(first);
     if count == 0 {
@@ -100,7 +100,7 @@ fn ended_by(areas: &[Area], page: u64) -> usize {
     areas.partition_point(|area| end_of(area) <= page)
 }
 
-/// Puts the pages of an area that no other area has behind the runs. The other areas rise.
+/// Puts the pages of an area that no other area has after the runs. The other areas rise.
 fn push_outside(runs: &mut Vec<PageRun>, area: &Area, others: &[Area]) -> Result<(), AllocError> {
     let end = end_of(area);
     let mut next = area.first.number();

@@ -44,7 +44,7 @@ pub fn is_memory(segment: &ProgramHeader) -> bool
     segment.p_type == PT_LOAD && segment.p_vaddr < KERNEL_START
 }
 
-/// What the segments take of a space with one more, which has pages and begins at the end of the others or behind it.
+/// What the segments take of a space with one more, which has pages and begins at the end of the others or after it.
 fn with_segment(extent: &Extent, segment: &ProgramHeader) -> Extent
     requires pages { extent.now.pages ≤ 65536 }
     requires areas { extent.now.areas ≤ 1024 }
@@ -61,7 +61,7 @@ fn with_segment(extent: &Extent, segment: &ProgramHeader) -> Extent
     }
 }
 
-/// What is wrong with where a segment stands in memory, behind the others.
+/// What is wrong with where a segment stands in memory, after the others.
 fn place_fault(extent: &Extent, segment: &ProgramHeader) -> Option<SegmentFault>
     ensures { MatchOption result (StandsBehind extent.now segment.now)
         (λ fault. (size : ℕ) → BreaksSegment size extent.now segment.now fault) }

@@ -112,7 +112,7 @@ fn write_placed<D: Disk, S: CoreFiles>(
     Ok(())
 }
 
-/// Writes the core files of the memory that a store shows, behind all checks of a restore, and returns the number of
+/// Writes the core files of the memory that a store shows, after all checks of a restore, and returns the number of
 /// its checkpoint. It holds a few pages at a time. Each file has these notes of threads, at most
 /// [`THREAD_NOTES_LIMIT`] bytes: those of another core ([`read_notes`](crate::read_notes)), or those of a thread whose
 /// state is zeros ([`idle_thread`](crate::idle_thread)).
@@ -139,7 +139,7 @@ pub fn write_shown<D: Disk, S: CoreFiles>(
     Ok(placed.checkpoint)
 }
 
-/// Writes the core files of the memory of a store at a checkpoint, whether it is the newest or not, behind all checks
+/// Writes the core files of the memory of a store at a checkpoint, whether it is the newest or not, after all checks
 /// of a restore. It holds a few pages at a time.
 ///
 /// # Errors

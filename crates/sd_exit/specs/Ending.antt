@@ -16,7 +16,7 @@ status_of (stop.Fault EmptyChain) = 3
 status_of (stop.ScriptLine _) = 2
 status_of _ = 1
 
--- what a program prints last where it is stopped: why; but a refusal is answered before, and behind a failure of the
+-- what a program prints last where it is stopped: why; but a refusal is answered before, and after a failure of the
 -- writer nothing is printed
 abbrev pub stop_text : Stop → List ℕ
 stop_text (stop.Fault fault) = fault_line fault
@@ -49,7 +49,7 @@ abbrev pub IsWrittenLast : Option (List ℕ) → Option (List ℕ) → Bool → 
 IsWrittenLast before after refused text wanted status =
     ((status ≡ wanted) × Appends before after text) ⊎ (refused ≡ true)
 
--- how a program exits behind a last text: nothing was ever refused, the writer took that text, and the status is the
+-- how a program exits after a last text: nothing was ever refused, the writer took that text, and the status is the
 -- one that comes with it; or something was refused, and the status is 1
 abbrev pub Exits : Option (List ℕ) → Option (List ℕ) → Bool → List ℕ → ℕ → ℕ → Type 0
 Exits before after refused text wanted status =

@@ -42,7 +42,7 @@ pub fn exit<W: Write>(ended: &Result<(), Stop>, out: &mut Output<W>) -> u8
     }
 }
 
-/// Flushes behind a document that told a fault, and returns the exit status that the fault's line has, or 1 where
+/// Flushes after a document that told a fault, and returns the exit status that the fault's line has, or 1 where
 /// anything was refused.
 pub fn exit_told<W: Write>(fault: Fault, out: &mut Output<W>) -> u8
     ensures exits { Exits (W.contents out.old.writer) (W.contents out.new.writer) out.new.refused

@@ -125,7 +125,7 @@ fn apply_done(
     }
 }
 
-/// The first page of a range that is within the addresses, and the number behind its last page.
+/// The first page of a range that is within the addresses, and the number after its last page.
 fn run_of(address: u64, length: u64) -> (PageNo, u64)
     requires some { 0 < length }
     requires within { page_of address + pages_for length ≤ 2 ^ 35 }

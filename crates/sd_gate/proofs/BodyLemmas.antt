@@ -33,12 +33,12 @@ pub length-zeros : (n : ℕ) → length (zero_bytes n) ≡ n
 unfolding zero_bytes
 length-zeros n = length-replicate {A = ℕ} n 0
 
--- behind an empty body: the room for the header, and the bytes
+-- after an empty body: the room for the header, and the bytes
 first_written : (at : ℕ) (bytes : List ℕ) → at ≡ 4095 → file_after_write [] at bytes ≡ zero_bytes 4095 ++ bytes
 unfolding zero_bytes
 first_written at bytes is = ap (λ n. file_after_write [] n bytes) is ∙ written_behind [] 4095 bytes (lit≤ tt)
 
--- bytes behind the data pages
+-- bytes after the data pages
 behind_pages : (pages : List (List ℕ)) (at : ℕ) (bytes : List ℕ) → AreWholePages pages → at ≡ page_place pages
     → file_after_write (pages_body pages) (at - 1) bytes ≡ zero_bytes 4095 ++ concat pages ++ bytes
 unfolding zero_bytes

@@ -14,7 +14,7 @@ closed_is_behind body file behind = record { first = behind.first; spelled = beh
 pub open_is_behind : (body file : List ℕ) → file ≡ gate ∷ body → IsBodyOf body file
 open_is_behind body file is = record { first = gate; spelled = is }
 
--- a write behind the gate leaves it closed
+-- a write after the gate leaves it closed
 pub torn_closed : (at n : ℕ) (old new : List ℕ) → 0 < at → IsClosed old → Torn at n old new → IsClosed new
 torn_closed at n old new behind closed torn = grind arith
 
@@ -51,7 +51,7 @@ zeroed_behind body file behind = record { first = 0; shut = λ is_gate. omega (a
 pub opened : (body file : List ℕ) → IsBodyOf body file → file_after_write file 0 (gate ∷ []) ≡ gate ∷ body
 opened body file behind = rw behind.spelled (gate_written behind.first gate body)
 
--- bytes behind the gate are written into the body
+-- bytes after the gate are written into the body
 pub body_written : (first at : ℕ) (body bytes : List ℕ) → 0 < at → file_after_write (first ∷ body) at bytes ≡ first ∷ file_after_write body (at - 1) bytes
 body_written first at body bytes behind = grind arith
 

@@ -11,11 +11,11 @@ use Rattle.sd_gate.specs.Phases.{may_close, may_write, given_up, synced, closing
 use Rattle.sd_gate.specs.Fits.{IsClosed, IsBehindClosed, PhaseReads, PhaseLeaves, is_synced, SlotFits}
 use Rattle.sd_gate.proofs.FitLemmas.{behind_is_closed, closed_is_behind, open_is_behind, torn_closed, cut_closed, torn_behind, torn_short, zeroed_closed, zeroed_behind, opened, filled_behind, cut_bare, written_closed}
 
--- a slot that may be written behind its gate is closed
+-- a slot that may be written after its gate is closed
 leaves_closed : (phase : Phase) (body file : List ℕ) → may_write phase ≡ true → PhaseLeaves phase body file → IsClosed file
 leaves_closed phase body file ready is = grind arith
 
--- what a phase reads and leaves after a write behind the gate
+-- what a phase reads and leaves after a write after the gate
 filled_reads : (phase : Phase) (at : ℕ) (body bytes file : List ℕ) → may_write phase ≡ true → 0 < at → PhaseReads phase body file
     → PhaseReads (filled phase) (file_after_write body (at - 1) bytes) (file_after_write file at bytes)
 filled_reads Shut at body bytes file ready behind is = written_closed at bytes file behind is

@@ -21,7 +21,7 @@ shut_at_most image phase body ready = grind arith
 short_at_most : (image body : List ℕ) → LeavesAtMost image Raw body
 short_at_most image body file left = inl (leaves_whole_or_closed Raw body file left)
 
--- what stands behind any byte is the image, where it is behind the gate
+-- what stands after any byte is the image, where it is after the gate
 behind_at_most : (image body : List ℕ) → IsClosedOrWhole image (gate ∷ body) → (file : List ℕ) → IsBodyOf body file → IsClosedOrWhole image file
 behind_at_most image body whole file behind = grind arith
 

@@ -12,12 +12,12 @@ pub record IsClosed (file : List ℕ) : Type 0 where
   pub some : 0 < length file
   pub shut : slice_index file 0 ≢ gate
 
--- the body behind some byte
+-- the body after some byte
 pub record IsBodyOf (body file : List ℕ) : Type 0 where
   pub first : ℕ
   pub spelled : file ≡ first ∷ body
 
--- the body behind a closed gate
+-- the body after a closed gate
 pub record IsBehindClosed (body file : List ℕ) : Type 0 where
   pub first : ℕ
   pub shut : first ≢ gate

@@ -95,7 +95,7 @@ following the_length answer buffer = after_length answer
 following (the_header len) answer None = ([], nothing)
 following (the_header len) answer (Some bytes) = after_first bytes len
 
--- what is left after an outcome: the calls that are known, and what they lead to only behind them
+-- what is left after an outcome: the calls that are known, and what they lead to only after them
 abbrev pub calls_then : Calls → Awaits → Answer → Option (List ℕ) → Following
 calls_then [] awaits answer buffer = following awaits answer buffer
 calls_then (call ∷ calls) awaits answer buffer = (call ∷ calls, awaits)

@@ -99,7 +99,7 @@ pub record PlansLead : Type 0 where
 abbrev pub AreWholePages : List (List ℕ) → Type 0
 AreWholePages = AllByRecursion (λ page. length page ≡ 4096)
 
--- the body with these data pages behind the room for a header, which is made with the first of them
+-- the body with these data pages after the room for a header, which is made with the first of them
 abbrev pub pages_body : List (List ℕ) → List ℕ
 pages_body [] = []
 pages_body (page ∷ pages) = zero_bytes 4095 ++ concat (page ∷ pages)
@@ -108,7 +108,7 @@ pages_body (page ∷ pages) = zero_bytes 4095 ++ concat (page ∷ pages)
 abbrev pub page_place : List (List ℕ) → ℕ
 page_place pages = data_place (length pages)
 
--- data pages are written one behind the other, and the table and the header complete the body of the image
+-- data pages are written one after the other, and the table and the header complete the body of the image
 pub record BodiesFill : Type 0 where
   pub page : (pages : List (List ℕ)) (page : List ℕ) → AreWholePages pages
       → body_after (pages_body pages) (Write (page_place pages)) page ≡ pages_body (pages ++ page ∷ [])
@@ -128,7 +128,7 @@ CutsFit contents may_leave =
 abbrev pub AreApart : ℕ → List ℕ → ℕ → List ℕ → Type 0
 AreApart i first j second = (i + length first ≤ j) ⊎ (j + length second ≤ i)
 
--- two writes behind the gate that don't overlap leave one body in either order, and those of two data pages don't
+-- two writes after the gate that don't overlap leave one body in either order, and those of two data pages don't
 -- overlap
 pub record WritesCommute : Type 0 where
   pub apart : (body : List ℕ) (i j : ℕ) (first second : List ℕ) → 0 < i → 0 < j → AreApart i first j second

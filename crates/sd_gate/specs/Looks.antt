@@ -55,7 +55,7 @@ IsLookAt file Shut = (4096 ≤ length file) × (slice_index (front_of_file file)
 IsLookAt file (Broken why) = HasNoHeader file why
 IsLookAt file (Whole h) = ReadsHeader file h
 
--- the calls that are known there, and those behind the next
+-- the calls that are known there, and those after the next
 abbrev pub calls_at : Look → Calls
 calls_at AtSync = first_looks
 calls_at AtLength = (Len, []) ∷ []

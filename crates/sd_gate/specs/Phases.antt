@@ -26,7 +26,7 @@ state_of Opening = OpenSlot
 state_of Doubt = OpenSlot
 state_of DoubtSynced = OpenSlot
 
--- a 0 may be written over the gate: nobody needs what stands behind it
+-- a 0 may be written over the gate: nobody needs what stands after it
 abbrev pub may_close : Phase → Bool
 may_close Raw = true
 may_close RawClosing = true
@@ -41,7 +41,7 @@ may_close Opening = true
 may_close Doubt = true
 may_close DoubtSynced = true
 
--- it may be written and cut behind the gate, which is closed
+-- it may be written and cut after the gate, which is closed
 abbrev pub may_write : Phase → Bool
 may_write Raw = false
 may_write RawClosing = false
@@ -127,7 +127,7 @@ closing Opening = Closing
 closing Doubt = Closing
 closing DoubtSynced = Closing
 
--- after a write behind the gate
+-- after a write after the gate
 abbrev pub filled : Phase → Phase
 filled Raw = Raw
 filled RawClosing = RawClosing
@@ -173,6 +173,6 @@ pub record Waits (phases : List Phase) (id : RequestId) (phase : Phase) : Type 0
 abbrev pub phases_after : List Phase → RequestId → Phase → Bool → List Phase
 phases_after phases id phase done = slice_set phases id.slot (after phase id.call done)
 
--- the bodies of all slots behind a call that was carried out
+-- the bodies of all slots after a call that was carried out
 abbrev pub bodies_after : List (List ℕ) → RequestId → List ℕ → List (List ℕ)
 bodies_after bodies id bytes = slice_set bodies id.slot (body_after (file_at bodies id.slot) id.call bytes)

@@ -40,7 +40,7 @@ Takes image phase body ((call, bytes) ∷ calls) last final =
     × LeavesAtMost image (after phase call false) (body_after body call bytes)
     × Takes image (after phase call true) (body_after body call bytes) calls last final
 
--- the body of an image once its table and its header are written behind these bytes
+-- the body of an image once its table and its header are written after these bytes
 abbrev pub body_closed : List ℕ → Header → List ℕ → List ℕ
 body_closed body header table =
     body_after (body_after body (Write (table_place header)) table) WriteHeader (header_text header)

@@ -114,7 +114,7 @@ calls_after plan made =
     then calls_then plan.calls plan.awaits made.answer (buffer_back made.request.id.call made.request.bytes)
     else ([], nothing)
 
--- a plan behind the outcome of its call
+-- a plan after the outcome of its call
 abbrev pub plan_after : Planned → Made → Planned
 plan_after plan made = record {
   slot = plan.slot;

@@ -40,7 +40,7 @@ pub record IsPage (place : ℕ) (bytes : List ℕ) : Type 0 where
   pub few : place < 2 ^ 39
   pub whole : length bytes ≡ 4096
 
--- where the table goes: behind the data pages
+-- where the table goes: after the data pages
 abbrev pub table_place : Header → ℕ
 table_place header = data_place header.pages
 
@@ -73,7 +73,7 @@ calls_of_sequence OpenStep = (Open, []) ∷ (Sync, []) ∷ []
 calls_of_sequence SyncOpen = (Sync, []) ∷ []
 calls_of_sequence Done = []
 
--- a buffer that is to be written has bytes, and goes behind the gate
+-- a buffer that is to be written has bytes, and goes after the gate
 abbrev pub AreSound : CallSequence → Type 0
 AreSound CloseStep = Unit {0}
 AreSound SyncClosed = Unit {0}

@@ -5,7 +5,7 @@ pub enum Call {
     Len,
     /// Fills the bytes from byte `at` of the file on.
     Read { at: usize },
-    /// Writes the bytes at byte `at`, behind the gate.
+    /// Writes the bytes at byte `at`, after the gate.
     Write { at: usize },
     /// Writes a header, the bytes from 1 to 4,095 of the file.
     WriteHeader,

@@ -50,12 +50,12 @@ pub fn inspection_finds()
     ensures { InspectionFinds }
 {}
 
-/// Two writes behind the gate that don't overlap, as those of two data pages, may be made in either order.
+/// Two writes after the gate that don't overlap, as those of two data pages, may be made in either order.
 pub fn writes_commute()
     ensures { WritesCommute }
 {}
 
-/// The bytes that the plans write: data pages one behind the other, and then the table and the header, make the body of
+/// The bytes that the plans write: data pages one after the other, and then the table and the header, make the body of
 /// the image that has them.
 pub fn bodies_fill()
     ensures { BodiesFill }

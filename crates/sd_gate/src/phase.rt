@@ -6,32 +6,32 @@ use crate::call::Call;
 use crate::slot_state::SlotState;
 
 /// How far a slot has come, by the calls that were made on it: what is read from it, and what a crash may leave.
-/// Its body is what stands behind the gate, the first byte of its file.
+/// Its body is what stands after the gate, the first byte of its file.
 #[derive(Clone, Copy, PartialEq, Eq)]
 pub enum Phase {
     /// Shorter than a header.
     Raw,
     /// Shorter than a header, and closed as it reads.
     RawClosing,
-    /// The body behind an open gate, and nothing else.
+    /// The body after an open gate, and nothing else.
     Whole,
-    /// The body behind any byte; closed as it reads.
+    /// The body after any byte; closed as it reads.
     Closing,
-    /// Closed, whatever stands behind the gate.
+    /// Closed, whatever stands after the gate.
     Shut,
     /// Closed, and a crash leaves what is read.
     ShutSynced,
     /// Closed, and one byte long as it reads.
     Bare,
-    /// Closed, and the body behind the gate as it reads.
+    /// Closed, and the body after the gate as it reads.
     Writing,
-    /// The body behind a closed gate, and nothing else.
+    /// The body after a closed gate, and nothing else.
     Ready,
-    /// The body behind any byte; open as it reads.
+    /// The body after any byte; open as it reads.
     Opening,
-    /// The body behind any byte.
+    /// The body after any byte.
     Doubt,
-    /// The body behind any byte, and a crash leaves what is read.
+    /// The body after any byte, and a crash leaves what is read.
     DoubtSynced,
 }
 
@@ -100,7 +100,7 @@ impl Phase {
         !self.may_write()
     }
 
-    /// Whether the slot may be written and cut behind its gate, which is closed.
+    /// Whether the slot may be written and cut after its gate, which is closed.
     fn may_write(self) -> bool
         ensures { result ≡ may_write self }
     {
@@ -139,7 +139,7 @@ impl Phase {
         }
     }
 
-    /// The phase after a write behind the gate.
+    /// The phase after a write after the gate.
     fn filled(self) -> Phase
         ensures { result ≡ filled self }
     {

@@ -139,7 +139,7 @@ impl Plan {
         Plan::new(slot, Job::Sequence(CallSequence::ReadPage { at, buffer }))
     }
 
-    /// Writes the table behind the data pages and the header before them, syncs them, and opens the gate.
+    /// Writes the table after the data pages and the header before them, syncs them, and opens the gate.
     /// The image is there once the last sync is done. A table without bytes and a header that counts more than
     /// 2^39 data pages are of no image: the plan has no call then.
     pub fn close_body(slot: usize, header: Header, table: Vec<u8>) -> Self

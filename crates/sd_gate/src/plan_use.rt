@@ -44,8 +44,8 @@ pub fn plan_left(plan: &Plan) -> u128
     plan.left() as u128
 }
 
-/// Takes the outcome of the request of a plan that is out. Behind `More` the plan goes on with [`next_request`]; behind
-/// `Finished` each of its calls was done; behind `Failed` the device refused one, and the plan is dropped.
+/// Takes the outcome of the request of a plan that is out. After `More` the plan goes on with [`next_request`]; after
+/// `Finished` each of its calls was done; after `Failed` the device refused one, and the plan is dropped.
 pub fn settle(plan: &mut Plan, outcome: Outcome) -> Settled
     requires under_way { IsUnderWay plan.old }
     requires out { plan.old.out ≡ Some outcome.request.id }

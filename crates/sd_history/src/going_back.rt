@@ -52,7 +52,7 @@ fn is_restorable(alloc: Global, catalog: &Catalog, number: u64) -> Result<bool, 
     }
 }
 
-/// Puts a checkpoint behind the others, where it can be restored.
+/// Puts a checkpoint after the others, where it can be restored.
 fn keep_restorable(
     alloc: Global,
     catalog: &Catalog,

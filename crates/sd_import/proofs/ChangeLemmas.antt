@@ -96,7 +96,7 @@ module _ {D : Type 0} (g : Ghosts D) where
   changes_further space old mid new (ChangesOnly.goes first keeps) (ChangesOnly.goes second more) =
       ChangesOnly.goes (goes_further g old mid new first second) (λ other apart. more other apart ∙ keeps other apart)
 
-  -- behind what was done, what a last call does where it comes to its end
+  -- after what was done, what a last call does where it comes to its end
   pub then_ok : {T E : Type 0} (space : ℕ) (old mid new : WorldView D) (result : Result T E) → ChangesOnly g space old mid
       → OnOk result (ChangesOnly g space mid new) → OnOk result (ChangesOnly g space old new)
   then_ok space old mid new (Ok told) first second = changes_further space old mid new first second

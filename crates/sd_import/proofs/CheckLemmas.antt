@@ -31,7 +31,7 @@ pub same_sector : (o : Option PageState) (start : ℕ) (part bytes : List ℕ) �
 same_sector None start part bytes there read same = absurd (let no : false ≡ true = there in cc)
 same_sector (Some found) start part bytes there read same = (found, refl, sym read ∙ same)
 
--- bytes that are the same up to a sector are so behind it, where it is the same
+-- bytes that are the same up to a sector are so after it, where it is the same
 pub sectors_more : (xs ys : List ℕ) (n : ℕ) → slice_range xs n (n + 512) ≡ slice_range ys n (n + 512)
     → ((k : ℕ) → k < n → slice_index xs k ≡ slice_index ys k) → (k : ℕ) → k < n + 512 → slice_index xs k ≡ slice_index ys k
 sectors_more xs ys n same before k to = elim (cases_lt k n) [

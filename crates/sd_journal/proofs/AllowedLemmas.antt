@@ -40,7 +40,7 @@ pub acked_allows : (base : Base) (history : History) (n : ℕ) (shown : Shown) �
     → IsAllowed base (Acked n ∷ history) shown ↔ IsPendingPair base history shown
 acked_allows base history n shown legal = grind arith
 
--- nothing is pending behind a cancelling
+-- nothing is pending after a cancelling
 pub none_left : (base : Base) (history : History) (n k : ℕ) {P : Type 0}
     → (pending history ≡ Some n) ⊎ ((pending history ≡ None) × IsAbove base history n) → unless_it_is n (pending history) ≡ Some k → P
 none_left base history n k (inl is) e =

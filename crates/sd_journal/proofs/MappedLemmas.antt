@@ -1,4 +1,4 @@
--- A page that is mapped behind a command was mapped before, or the command made it.
+-- A page that is mapped after a command was mapped before, or the command made it.
 use Rattle.std.proofs.Common.{◌≡◌, ◌⊎◌, ℕ, ◌==◌, Bool, true, false, cond, nat_eq, is_some, Option, Some, None, refl, sym, ◌∙◌, ap, subst, arith, unwrap_or, inl, inr}
 use Rattle.std.proofs.lemmas.Bool.Decides.{nat_tests}
 use Rattle.std.specs.Option.{option_map, option_map_or}

@@ -111,7 +111,7 @@ of_memory plain base items contents space page memory is =
 below : (s p space page : ℕ) → is_above (Some (s, p)) space page ≡ false → is_page s p space page ≡ false → is_above (Some (space, page)) s p ≡ true
 below s p space page above other = grind (arith, nat_tests)
 
--- a page behind the new last visit was visited
+-- a page after the new last visit was visited
 swept_visit : PlainLaw → (base : Base) (items : Marked) (old : Contents) (serial s p : ℕ) → IsTracked base items old → visiting items ≡ Some serial
     → IsNextPage old.spaces (last_visit items serial) (Some (s, p)) → IsSwept base (Noted (Visit serial s p) ∷ items) serial
 swept_visit plain base items old serial s p tracked is next space page behind stays =

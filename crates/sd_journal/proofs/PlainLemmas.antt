@@ -210,7 +210,7 @@ module _ {X : Type 0} where
   pub mapped_itself : (o : Option X) → option_map (λ x. x) o ≡ o
   mapped_itself o = grind arith
 
-  -- the page behind the run is as it was
+  -- the page after the run is as it was
   pub change_outside : (change : X → X) (t : Table X) (first k : ℕ) → finmap.get (change_within change t first (k - first)) k ≡ finmap.get t k
   change_outside change t first k = get-change_within change t first (k - first) k ∙ ap (λ b. option_map (λ x. cond b (change x) x) (finmap.get t k)) (not_behind first k) ∙ mapped_itself (finmap.get t k)
 

@@ -85,7 +85,7 @@ told_all next (entry ∷ newer) older marks within =
     one_more : (n k : ℕ) → n + suc k ≡ n + k + 1
     one_more n k = omega arith
 
--- the journal parts at a number: the marks behind it go with the newer entries, and the others stand before the last of the older ones
+-- the journal parts at a number: the marks after it go with the newer entries, and the others stand before the last of the older ones
 record IsCut (under next : ℕ) (newer older : History) (marks : List PlacedMark) : Type 0 where
   old_marks : List PlacedMark
   within : AreWithin under old_marks

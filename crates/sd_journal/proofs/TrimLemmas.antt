@@ -267,7 +267,7 @@ ends_pending n before entry ends = grind arith
 never_less : {P : Type 0} (n : ℕ) → n < n → P
 never_less n less = absurd (omega (arith, less))
 
--- none stands behind another
+-- none stands after another
 not_twice : (base : Base) (kept folded : History) (n : ℕ) (entry : Entry) {P : Type 0} → IsLegal base (kept ++ folded) → IsEnded n folded
     → Ends n (kept ++ folded) entry → P
 not_twice base kept folded n entry was ended ends =

@@ -171,7 +171,7 @@ marked base (Noted mark ∷ kept) folded n was f = (noted base kept folded n mar
 
 -- ---- bits
 
--- a page that is mapped behind an item was mapped before, or the item made it
+-- a page that is mapped after an item was mapped before, or the item made it
 was_there : (base : Base) (item : Item) (items : Marked) (space page : ℕ) → is_mapped (memory_at base (item ∷ items)) space page ≡ true
     → (is_mapped (memory_at base items) space page ≡ true)
     ⊎ ((touches space page (item_event item) ≡ true) × (write_protects space page (item_event item) ≡ true))

@@ -53,6 +53,6 @@ abbrev pub AreWithin : ℕ → List PlacedMark → Type 0
 AreWithin next [] = Unit {0}
 AreWithin next (placed ∷ earlier) = (placed.before ≤ next) × AreWithin placed.before earlier
 
--- it stands behind the entries before that number
+-- it stands after the entries before that number
 abbrev pub is_behind : ℕ → PlacedMark → Bool
 is_behind number placed = leb number placed.before

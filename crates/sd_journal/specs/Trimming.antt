@@ -130,7 +130,7 @@ pub record MarkedTrimLaws : Type 0 where
 
 -- ---- a journal as it is kept
 
--- So many entries were taken from the front, with the marks between them: a mark behind the last of them is kept. The
+-- So many entries were taken from the front, with the marks between them: a mark after the last of them is kept. The
 -- others keep their numbers.
 pub record TakesFront (many : ℕ) (taken : List Entry) (old new : JournalView) : Type 0 where
   pub gone : Marked

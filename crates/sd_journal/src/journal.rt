@@ -191,7 +191,7 @@ impl Journal {
         self.marks.try_reserve(1)
     }
 
-    /// Adds a mark behind all entries so far, which takes no memory.
+    /// Adds a mark after all entries so far, which takes no memory.
     pub fn note(&mut self, mark: Mark)
         requires { 0 < self.old.mark_room }
         ensures items { self.new.items ≡ Noted mark ∷ self.old.items }
@@ -231,7 +231,7 @@ impl Journal {
         Ok(room)
     }
 
-    /// Takes so many entries from the front, in order of time, with the marks between them. A mark behind the last of
+    /// Takes so many entries from the front, in order of time, with the marks between them. A mark after the last of
     /// them is kept. The others keep their numbers, and what is held stays. They move into a list with room for them,
     /// so that no memory is taken.
     pub fn take_front(&mut self, room: Vec<Entry>, count: usize) -> Vec<Entry>
@@ -262,7 +262,7 @@ fn split_front(entries: &mut Vec<Entry>, mut kept: Vec<Entry>, count: usize) -> 
     mem::replace(entries, kept)
 }
 
-/// Moves the entries behind the first so many into an empty list with room for them.
+/// Moves the entries after the first so many into an empty list with room for them.
 fn move_behind(entries: &mut Vec<Entry>, count: usize, kept: &mut Vec<Entry>)
     requires within { count ≤ vec_len entries.old }
     requires empty { kept.old.items ≡ [] }

@@ -78,7 +78,7 @@ listed_put tables t = map-append listing_of tables (t ∷ [])
 pub sourced : (kind : RunKind) → kind ≢ Parent → IsSourced 0 kind
 sourced kind own e = absurd (own e)
 
--- ---- a page put behind the others
+-- ---- a page put after the others
 
 -- the last space has one page more
 pub longer_space : (front : List SpaceTable) (last new : SpaceTable) (at : Place) (kind : RunKind)

@@ -1,4 +1,4 @@
--- The pages of an image rise, and the one that is next behind the last that was taken is the first of those to come.
+-- The pages of an image rise, and the one that is next after the last that was taken is the first of those to come.
 use Rattle.std.proofs.Common.{◌≡◌, ◌⊎◌, ℕ, zero, suc, ◌+◌, ◌<◌, ◌≤◌, Bool, true, false, nat_eq, if◌then◌else◌, List, [], ◌∷◌, ◌++◌, length, map, filter, Contains, Option, Some, None, IsTrue, refl, sym, ◌∙◌, ap, subst, inl, inr, arith}
 use Rattle.std.specs.Prelude.{slice_get, slice_index_or}
 use Rattle.std.specs.List.{AllByRecursion, flat_map}
@@ -34,7 +34,7 @@ after_place a = (a.0, a.1 + 1)
 from_before : (a p : Place) → IsFrom (after_place a) p → IsBefore a p
 from_before a p given = grind arith
 
--- each from a place on, and behind the one before
+-- each from a place on, and after the one before
 abbrev Rising : Place → List Place → Type 0
 Rising least [] = Unit {0}
 Rising least (p ∷ ps) = IsFrom least p × Rising (after_place p) ps
@@ -193,7 +193,7 @@ last_is : (before : Option Place) (entries : List ImageEntry) → last_of before
 last_is before [] = refl
 last_is before (e ∷ entries) = last_is (Some e.place) entries
 
--- those to come are behind the last
+-- those to come are after the last
 rest_behind : (b : Place) (done rest : List Place) → Rising (after_place b) (done ++ rest) → AllByRecursion (λ p. IsBehind (last_place (Some b) done) p) rest
 rest_behind b [] rest are = rising_before b rest are
 rest_behind b (d ∷ done) rest are = rest_behind d done rest are.1
@@ -209,7 +209,7 @@ done_not_behind b (d ∷ done) rest are =
     further None behind = tt
     further (Some last) behind = before_more last b d behind (from_before b d are.0)
 
--- behind the first of those to come are the others
+-- after the first of those to come are the others
 abbrev AreLater : List Place → Type 0
 AreLater [] = Unit {0}
 AreLater (r ∷ rest) = AllByRecursion (IsBefore r) rest
@@ -240,7 +240,7 @@ split_at_last a (d ∷ done) rest are = record {
 splits : (h : Header) (spaces : List Listed) (entries : List ImageEntry) (rest : List Place) → IsTable h spaces → map place_of_entry entries ++ rest ≡ listed_places spaces → AreSplit (map place_of_entry entries) rest
 splits h spaces entries rest table all = split_at_last (0 + 1, 0) (map place_of_entry entries) rest (subst (Rising (0 + 1, 0)) (sym all) (spaces_rise h 0 spaces table.each))
 
--- The page that an image lists next behind those that were taken is the first of those to come.
+-- The page that an image lists next after those that were taken is the first of those to come.
 pub next_is_first : (h : Header) (spaces : List Listed) (entries : List ImageEntry) (rest : List Place) (at : Place) → IsTable h spaces → Lists (entries_listed spaces) spaces
     → map place_of_entry entries ++ rest ≡ listed_places spaces → IsNextOf spaces (last_of None entries) at → IsFirstOf rest at
 next_is_first h spaces entries rest at table lists all next = by rest refl (splits h spaces entries rest table all)

@@ -46,7 +46,7 @@ numbered few places sound are serial page slot offset lies =
 
 -- ---- the next page
 
--- a page that is next is behind the last
+-- a page that is next is after the last
 next_behind : (places : Places) (serial : ℕ) (after : Option Place) (at : Place) → IsNextPageOfImage places serial after (Some at) → IsBehind after at
 next_behind places serial after at next = by (place_of places serial) refl
   where

@@ -104,7 +104,7 @@ above_spaces h number before (s ∷ spaces) are below =
     let l : before < s.space = are.0.above in
     above_table number s spaces (omega arith) (above_spaces h number s.space spaces are.1 (omega arith))
 
--- Two lists that have a space's places first and places above it behind them: both parts agree.
+-- Two lists that have a space's places first and places above it after them: both parts agree.
 split : (space : ℕ) (xs ys us vs : List Place) → AreIn space xs → AreIn space us → AreAbove space ys → AreAbove space vs → xs ++ ys ≡ us ++ vs → (xs ≡ us) × (ys ≡ vs)
 split space [] ys [] vs one two three four e = (refl, e)
 split space [] [] (u ∷ us) vs one two three four e = absurd (let f : 0 ≡ suc (length (us ++ vs)) = ap (λ (l : List Place). length l) e in omega arith)

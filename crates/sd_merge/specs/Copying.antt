@@ -294,7 +294,7 @@ pub record HasReadOut (plan : Planned) : Type 0 where
   pub known : plan.awaits ≡ nothing
   pub fresh : plan.found ≡ nothing_back
 
--- a page that is being taken is behind the others
+-- a page that is being taken is after the others
 abbrev pub TakesPageBehind : List ImageEntry → Option Place → Type 0
 TakesPageBehind entries None = ⊥
 TakesPageBehind entries (Some at) = IsBehind (last_of None entries) at

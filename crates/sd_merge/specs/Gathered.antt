@@ -25,7 +25,7 @@ abbrev pub AreGathered : ℕ → List Listed → Type 0
 AreGathered least [] = Unit {0}
 AreGathered least (t ∷ tables) = IsGathered least t × AreGathered (t.space + 1) tables
 
--- they end behind a page, or there is none
+-- they end after a page, or there is none
 abbrev pub EndBehind : Option Place → List Listed → Type 0
 EndBehind None tables = tables ≡ []
 EndBehind (Some at) tables = EndBefore (at.0, at.1 + 1) tables
@@ -36,13 +36,13 @@ pub record AreCopies (spaces : List SpaceTable) (last : Option Place) : Type 0 w
   pub is_last : last ≡ last_of None (entries_in spaces)
   pub ends : EndBehind last (listed spaces)
 
--- a page was put behind the others
+-- a page was put after the others
 pub record IsPut (old new : List Listed) (at : Place) (kind : RunKind) : Type 0 where
   pub entries : entries_listed new ≡ entries_listed old ++ (record { place = at; kind = kind }) ∷ []
   pub gathered : AreGathered 0 new
   pub ends : EndBefore (at.0, at.1 + 1) new
 
--- a space with one page was put behind the others
+-- a space with one page was put after the others
 pub record SpaceIsBegun (old new : List SpaceTable) (at : Place) (kind : RunKind) : Type 0 where
   pub table : SpaceTable
   pub behind : new ≡ old ++ table ∷ []
@@ -57,7 +57,7 @@ abbrev pub front_runs : ℕ → List Listed → List Run
 front_runs space [] = []
 front_runs space (t ∷ tables) = if t.space == space then t.runs else []
 
--- the spaces behind it
+-- the spaces after it
 abbrev pub spaces_behind : ℕ → List Listed → List Listed
 spaces_behind space [] = []
 spaces_behind space (t ∷ tables) = if t.space == space then tables else t ∷ tables

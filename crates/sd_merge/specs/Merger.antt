@@ -29,7 +29,7 @@ use Rattle.sd_merge.specs.declared.source.Source.{Source}
 use Rattle.sd_merge.specs.declared.stage.Stage.TheVariants.{Pass as PassStage}
 use Rattle.sd_merge.specs.Copying.{Copying, HandsIn, IsLost, IsSoundCopying, Steps, begun_copy, out_of}
 
--- the images of a merge's list: how many are behind, and the calls on the one that is being closed
+-- the images of a merge's list: how many are after, and the calls on the one that is being closed
 pub record Retiring : Type 0 where
   pub serial : ℕ
   pub list : List Retired
@@ -205,7 +205,7 @@ pub record EndsAll (old : Retiring) (serial : ℕ) : Type 0 where
   pub over : slice_get old.list (old.ended + 1) ≡ None
   pub number : serial ≡ old.serial
 
--- behind the last call on an image
+-- after the last call on an image
 abbrev pub EndsRetiring : Retiring → MergeProgress → Retiring → Type 0
 EndsRetiring old progress.Strange new = ⊥
 EndsRetiring old progress.Failed new = ⊥
@@ -321,7 +321,7 @@ awaited_in (copying copy) = None
 awaited_in (opened serial) = Some serial
 awaited_in (retiring r) = None
 
--- the serial of the merged image behind which the list of images to close is awaited
+-- the serial of the merged image after which the list of images to close is awaited
 abbrev pub awaited : Option Running → Option ℕ
 awaited None = None
 awaited (Some running) = awaited_in running.doing

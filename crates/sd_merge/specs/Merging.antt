@@ -54,7 +54,7 @@ pub record IsFirstOf (rest : List Place) (at : Place) : Type 0 where
   pub later : List Place
   pub is : rest ≡ at ∷ later
 
--- behind the pass no page is to come
+-- after the pass no page is to come
 abbrev pub IsOverIn : Stage → List Place → Type 0
 IsOverIn (Format plan) rest = Unit {0}
 IsOverIn PassStage rest = Unit {0}

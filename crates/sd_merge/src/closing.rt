@@ -15,7 +15,7 @@ pub struct Closing {
     pub(crate) serial: u64,
     /// The images of the list, rising by slot.
     pub(crate) list: Vec<Retired>,
-    /// How many of them are behind.
+    /// How many of them are after.
     pub(crate) ended: usize,
     /// The calls on the one that is being closed.
     pub(crate) plan: Plan,

@@ -102,7 +102,7 @@ fn merged_header(order: CopyOrder, pages: u64, digester: Digester, text: &[u8]) 
     with_digest(digester, text, header)
 }
 
-/// Whether a page is behind this one, or behind none.
+/// Whether a page is after this one, or after none.
 fn is_behind(after: Option<(SpaceId, PageNo)>, space: SpaceId, page: PageNo) -> bool
     ensures { IsTrue result ↔ IsBehind after (space, page) }
 {

@@ -53,7 +53,7 @@ impl Copies {
         self.last
     }
 
-    /// Puts a page behind the others.
+    /// Puts a page after the others.
     ///
     /// # Errors
     ///

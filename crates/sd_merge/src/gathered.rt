@@ -8,7 +8,7 @@ use sd_areas::{PageNo, SpaceId};
 use sd_image::{Run, RunKind, SpaceTable, Table, push_page};
 use std::alloc::{AllocError, Global};
 
-/// Puts a page behind the others. It takes constant time.
+/// Puts a page after the others. It takes constant time.
 ///
 /// # Errors
 ///
@@ -38,7 +38,7 @@ pub(crate) fn put_page(
     put
 }
 
-/// Puts the first page of a space behind the others.
+/// Puts the first page of a space after the others.
 fn begin_space(
     alloc: Global,
     spaces: &mut Vec<SpaceTable>,
@@ -60,7 +60,7 @@ fn begin_space(
     Ok(())
 }
 
-/// The runs of a space that may be the first of these, and the spaces behind it.
+/// The runs of a space that may be the first of these, and the spaces after it.
 fn split_space(spaces: &[SpaceTable], space: SpaceId) -> (&[Run], &[SpaceTable])
     ensures runs { result.0.now ≡ front_runs space (listed spaces.now) }
     ensures behind { listed result.1.now ≡ spaces_behind space (listed spaces.now) }

@@ -13,7 +13,7 @@ pub enum Stage {
     Pass,
     /// A data page of the source is read.
     PageRead(Plan),
-    /// It is written behind the data pages before it.
+    /// It is written after the data pages before it.
     PageWrite(Plan),
     /// The table and the header are written, and the gate is opened.
     Close {

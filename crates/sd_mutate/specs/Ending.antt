@@ -19,13 +19,13 @@ is_early NotEmpty = true
 is_early (Open fault) = true
 is_early (Refused why) = false
 
--- behind such a fault the disk is handed back, and was only read
+-- after such a fault the disk is handed back, and was only read
 abbrev pub LeavesStore : {D : Type 0} → Ghosts D → D → Option D → Result Tally MutateFault → Type 0
 LeavesStore g old (Some new) (Err fault) = is_early fault ≡ true → OnlyReads g old new
 LeavesStore g old None (Err fault) = is_early fault ≡ false
 LeavesStore g old left (Ok tally) = Unit {0}
 
--- a job may stand behind this reply, and all be frozen for it: memory was refused
+-- a job may stand after this reply, and all be frozen for it: memory was refused
 abbrev pub may_stand : Reply → Bool
 may_stand (reply.Refused OutOfMemory) = true
 may_stand _ = false

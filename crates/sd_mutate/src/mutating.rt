@@ -103,7 +103,7 @@ fn run_each<R: Threads + Wait + Sync, D: Disk + Drop + Send>(
     );
 }
 
-/// Lets all mutators run while checkpoints are made, and makes the last one behind them.
+/// Lets all mutators run while checkpoints are made, and makes the last one after them.
 fn run_all<R: Threads + Wait + Sync, D: Disk + Drop + Send>(
     rt: &R,
     alloc: Global,
@@ -134,7 +134,7 @@ fn stopped_in(mutators: &[Mutator]) -> Option<Refusal> {
     mutators.iter().find_map(|mutator| mutator.stopped)
 }
 
-/// Puts receipts behind others.
+/// Puts receipts after others.
 fn append(receipts: &mut Vec<Receipt>, more: Vec<Receipt>) -> Result<(), AllocError> {
     receipts.try_reserve(more.len())?;
     for receipt in more {

@@ -35,14 +35,14 @@ enum Ended {
     LeftStanding(WaitsEnded),
 }
 
-/// Whether a job may stand behind this reply, and all be frozen for it: memory was refused.
+/// Whether a job may stand after this reply, and all be frozen for it: memory was refused.
 fn may_stand(reply: &Reply) -> bool
     ensures { result ≡ may_stand reply.now }
 {
     matches!(reply, Reply::Refused(Refusal::OutOfMemory))
 }
 
-/// Whether nothing is frozen for a checkpoint of this thread's behind this reply, or the store is down.
+/// Whether nothing is frozen for a checkpoint of this thread's after this reply, or the store is down.
 fn lets_go(reply: &Reply) -> bool
     ensures { result ≡ lets_go reply.now }
 {
@@ -163,7 +163,7 @@ impl Saved {
         match checkpoint(rt, shared, rounds) {
             Ended::LetGo(Reply::Acked(number)) => self.acks.push_reserved(number),
             Ended::LetGo(Reply::Refused(why)) if why != Refusal::Idle => self.refused = Some(why),
-            // Memory was refused again and again: to a step of the checkpoint, or to its order, behind which there is
+            // Memory was refused again and again: to a step of the checkpoint, or to its order, after which there is
             // none to be cancelled.
             Ended::LetGo(_) | Ended::LeftStanding(_) => self.refused = Some(Refusal::OutOfMemory),
         }

@@ -17,7 +17,7 @@ use Rattle.sd_gate.specs.Plans.{Back}
 use Rattle.sd_restore.specs.Faulty.{IsFaulty}
 use Rattle.sd_restore.specs.Reading.{HasHeader}
 
--- a file in phase Whole has a header behind an open gate
+-- a file in phase Whole has a header after an open gate
 pub record IsWhole (file : List ℕ) : Type 0 where
   pub long : 4096 ≤ length file
   pub gate : slice_index file 0 ≡ gate

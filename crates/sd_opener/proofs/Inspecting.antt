@@ -171,7 +171,7 @@ ended nothing calls found call bytes answer is answers header =
     subst (λ k. InspectionHasEnded (back_of found k bytes answer)) (sym call_is)
     (subst (λ a. InspectionHasEnded (found_after found a (Some bytes))) (sym done) (table_ends found bytes is.1 is.2))
 
--- an inspection goes on behind an outcome that is done, or has come to its end where the call was answered as it asks
+-- an inspection goes on after an outcome that is done, or has come to its end where the call was answered as it asks
 module _ (plan new : Planned) (made : Made) (out : plan.out ≡ Some made.request.id) (is : IsInspecting plan) (new_is : new ≡ plan_after plan made) where
   abbrev after : Following
   after = after_of plan.calls plan.awaits made.request.id.call made.request.bytes made.answer

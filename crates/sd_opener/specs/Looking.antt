@@ -46,7 +46,7 @@ pub record HasFirst (first : Option (List ℕ)) : Type 0 where
   pub whole : length bytes ≡ 4096
 
 -- by what it waits for: the slot is synced and the file's length asked for; the header of a file that has one is read;
--- the table is read, behind its header
+-- the table is read, after its header
 abbrev pub HasCome : Awaits → List DeviceCall → Back → Type 0
 HasCome the_length ahead found = (ahead ≡ Sync ∷ Len ∷ [] ⊎ ahead ≡ Len ∷ []) × (found.first ≡ None)
 HasCome (the_header len) ahead found =
@@ -62,7 +62,7 @@ IsStageOf slot (Asking plan) = (plan.slot ≡ slot) × IsInspecting plan
 IsStageOf slot (Read header table) = Unit {0}
 IsStageOf slot (Broken reason) = Unit {0}
 
--- Nothing is asked behind the last slot, and there is room for each phase.
+-- Nothing is asked after the last slot, and there is room for each phase.
 pub record IsLooking (count : ℕ) (found : List Phase) (capacity : ℕ) (at : Stage) (images : Scanned) : Type 0 where
   pub within : length found ≤ count
   pub last : length found ≡ count → (request : RequestId) → out_of_look at ≢ Some request

@@ -221,7 +221,7 @@ impl Opener {
     }
 
     /// How many steps and outcomes it has before it, at most: one where every slot was read. Each step that doesn't end
-    /// it lowers this, and so does each outcome behind which it goes on.
+    /// it lowers this, and so does each outcome after which it goes on.
     pub fn left(&self) -> u128
         ensures { result ≡ looking_left self.now }
     {

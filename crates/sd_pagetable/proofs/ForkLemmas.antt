@@ -30,7 +30,7 @@ less_of page q le differs = grind (arith, nat_tests)
 agree : (a b : Bool) → (a ≡ true → b ≡ true) → (b ≡ true → a ≡ true) → a ≡ b
 agree a b f g = grind arith
 
--- behind its first page
+-- after its first page
 pub from_next : {X : Type 0} (t : Table X) (start : Bound ℕ) (page q : ℕ) → IsFirstFrom t start (Some page) → IsSome (finmap.get t q) → nat_eq q page ≡ false → is_from start q ≡ is_from (Excluded page) q
 from_next t start page q first there differs = agree (is_from start q) (nat_lt page q)
     (λ from. less_of page q (first.2 q there from) differs) (up_from start page q first.1)

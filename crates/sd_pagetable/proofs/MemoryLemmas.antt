@@ -183,7 +183,7 @@ write_there m n s p q v e h = grind (arith, permitted_page)
 pub plain_made_writable : (m n : Contents) (s p : ℕ) → MakesWritable m s p (λ bytes. bytes) n → plain_of n ≡ plain_of m
 plain_made_writable m n s p (x, k, there, own, is) = ap plain_of is ∙ plain_same m s p x (writable_page x k x.bytes) there refl
 
--- and a store behind it is a store
+-- and a store after it is a store
 pub writable_there : (m n : Contents) (s p : ℕ) → MakesWritable m s p (λ bytes. bytes) n → (x : PageState) × (page_at n s p ≡ Some x) × (x.writable ≡ true)
 writable_there m n s p (x, k, there, own, is) = (writable_page x k x.bytes, ap (λ (z : Contents). page_at z s p) is ∙ at_put_here m s p (writable_page x k x.bytes), refl)
 

@@ -93,7 +93,7 @@ impl Memory {
     ///
     /// In this order: no-frame where more pages than the pool has frames aren't all zeros; ENOMEM
     /// where a space has a number outside 1 to 16 or over 1,024 areas, or over 65,536 pages are
-    /// mapped. Out of memory where a growth was refused, behind the numbers of frames and pages.
+    /// mapped. Out of memory where a growth was refused, after the numbers of frames and pages.
     pub fn from_snapshot(
         alloc: Global,
         frames: usize,

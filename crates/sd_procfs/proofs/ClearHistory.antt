@@ -10,7 +10,7 @@ use Rattle.sd_pagetable.specs.Law.{IsClearedAt}
 use Rattle.sd_procfs.specs.Clears.{AreFalling, IsNextIn, lists_page}
 use Rattle.sd_procfs.proofs.ClearSteps.{ClearsBehind, is_behind, below_is, is_below, is_above}
 
--- the mapped pages behind the cursor were cleared, one after the other
+-- the mapped pages after the cursor were cleared, one after the other
 pub record HistoryBehind (cursor : Option ℕ) (space : ℕ) (old now : Contents) (pages : List ℕ) : Type 0 where
   pub falls : AreFalling pages
   pub passed : AllByRecursion (λ page. is_behind cursor page ≡ true) pages
@@ -28,7 +28,7 @@ all_mapped [] f all = tt
 all_mapped (page ∷ pages) f all = (f page all.0, all_mapped pages f all.1)
 
 module _ (space page : ℕ) (old now new : Contents) (next : Option ℕ) (was : ClearsBehind (Some page) space old now) (cleared : IsClearedAt space page now new) (least : IsNextIn new space page next) where
-  -- the page itself is behind the next
+  -- the page itself is after the next
   here_behind : is_behind next page ≡ true
   here_behind = of next least
     where
@@ -36,7 +36,7 @@ module _ (space page : ℕ) (old now new : Contents) (next : Option ℕ) (was : 
       of None least = refl
       of (Some q) least = is_below page q least.0
 
-  -- what is behind the page is behind the next
+  -- what is after the page is after the next
   still_behind : (p : ℕ) → p < page → is_behind next p ≡ true
   still_behind p below = of next least
     where
@@ -57,7 +57,7 @@ module _ (space page : ℕ) (old now new : Contents) (next : Option ℕ) (was : 
   order : (p : ℕ) → (p < page) ⊎ ((p ≡ page) ⊎ (page < p))
   order p = grind arith
 
-  -- one page more is behind the next, if it was mapped
+  -- one page more is after the next, if it was mapped
   more : (mapped : Bool) → is_some (page_at old space page) ≡ mapped → (p : ℕ) → (is_behind next p && is_some (page_at old space p)) ≡ ((nat_eq page p && mapped) || (nat_lt p page && is_some (page_at old space p)))
   more mapped e p = elim (order p) [
     | inl below ↦ with_below (is_behind next p) (nat_eq page p) mapped (nat_lt p page) (is_some (page_at old space p)) (still_behind p below) (not_equal p (inl below)) (is_below p page below)

@@ -15,7 +15,7 @@ abbrev pub is_behind : Option ℕ → ℕ → Bool
 is_behind None page = true
 is_behind (Some cursor) page = nat_lt page cursor
 
--- the pages behind the cursor are cleared, and nothing else changed
+-- the pages after the cursor are cleared, and nothing else changed
 pub record ClearsBehind (cursor : Option ℕ) (space : ℕ) (old now : Contents) : Type 0 where
   pub pool : now.pool ≡ old.pool
   pub alive : (other : ℕ) → is_alive now.spaces other ≡ is_alive old.spaces other
@@ -73,7 +73,7 @@ is_below p n below = grind (arith, nat_tests)
 pub is_above : (p n : ℕ) → n ≤ p → nat_lt p n ≡ false
 is_above p n above = grind (arith, nat_tests)
 
--- a page behind the one that was just cleared, before the next
+-- a page after the one that was just cleared, before the next
 pub between : (next : Option ℕ) (memory : Contents) (space page p : ℕ) → IsNextIn memory space page next → page < p → is_behind next p ≡ true → IsSome (page_at memory space p) → ⊥
 between next memory space page p least above behind mapped = grind arith
 

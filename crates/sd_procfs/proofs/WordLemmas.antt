@@ -21,7 +21,7 @@ one_word_more memory space first count =
     ∙ flat_map-append (bytes_low_first 0 8) words (word_at memory space (first + count) ∷ [])
     ∙ ap (λ xs. flat_map (bytes_low_first 0 8) words ++ xs) (append-nil (bytes_low_first 0 8 (word_at memory space (first + count))))
 
--- the words with one more written behind them
+-- the words with one more written after them
 pub written_more : (memory : Contents) (space first count : ℕ) (k : ℕ) (words bytes : List ℕ) → take (8 * count) words ≡ words_text memory space first count
     → 8 * count ≤ length words → bytes ≡ bytes_low_first 0 8 (word_at memory space (first + count))
     → take (8 * (count + 1)) (put_mid (8 * count) k words bytes) ≡ words_text memory space first (count + 1)

@@ -10,7 +10,7 @@ use Rattle.sd_areas.specs.Prot.{prot_text}
 abbrev pub address_text : ℕ → List ℕ
 address_text address = codes "0x" ++ digits 16 false address
 
--- `area FIRST END PERMISSIONS`: its first address, the first behind it, and `rwx` with a `-` for each that is missing
+-- `area FIRST END PERMISSIONS`: its first address, the first after it, and `rwx` with a `-` for each that is missing
 abbrev pub area_line : Area → List ℕ
 area_line area =
     codes "area " ++ address_text (4096 * area.first) ++ codes " " ++ address_text (4096 * (area.first + area.count))

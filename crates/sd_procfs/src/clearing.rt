@@ -40,7 +40,7 @@ fn is_clear_text(text: &[u8]) -> bool
     text == b"4".as_slice() || text == b"4\n".as_slice()
 }
 
-/// The next mapped page of a space behind another.
+/// The next mapped page of a space after another.
 fn next_in(memory: &Memory, space: SpaceId, page: PageNo) -> Option<PageNo>
     ensures { IsNextIn memory.now space page result }
 {

@@ -26,7 +26,7 @@ begins_all a b text p = record { front = text; rest = []; whole = append-nil tex
 pub begun : (a b : Option (List ℕ)) (bs rest ds : List ℕ) → bs ++ rest ≡ ds → Appends a b bs → PrintsBeginning a b ds
 begun a b bs rest ds e p = record { front = bs; rest = rest; whole = e; printed = p }
 
--- behind some of it a beginning of what comes next is one of the whole
+-- after some of it a beginning of what comes next is one of the whole
 pub begins_behind : (a b c : Option (List ℕ)) (bs cs rest ds : List ℕ) → bs ++ cs ++ rest ≡ ds → Appends a b bs → PrintsBeginning b c cs → PrintsBeginning a c ds
 begins_behind a b c bs cs rest ds e p q = grind (arith, append_assoc)
 

@@ -40,7 +40,7 @@ module _ (before printed after : Option (List ℕ)) (refused : Bool) (status : �
   empty_told (Err why) (inl e) shows is = shows (ap (λ (w : Stop). Err w) (only_empty why (sym e.2 ∙ is)))
   empty_told ended (inr e) shows is = let one : status ≡ 1 = e.1 in absurd (omega (arith, one, is))
 
--- what was printed stands where nothing is printed behind it
+-- what was printed stands where nothing is printed after it
 then_nothing : (a b c : Option (List ℕ)) (bs : List ℕ) → Appends a b bs → Appends b c [] → Appends a c bs
 then_nothing a b c bs p q = subst (Appends a c) (append-nil bs) (Appends-trans a b c bs [] p q)
 
@@ -87,7 +87,7 @@ why_of_break by contents failed now why is = grind arith
 pub why_longer : (by : Reader) (contents : List (List ℕ)) (failed a b now : ℕ) (why : Stop) → failed ≤ a → b ≤ now → IsWhy by contents a b why → IsWhy by contents failed now why
 why_longer by contents failed a b now why before behind is = grind arith
 
--- a stop that says nothing against the store may come behind lines
+-- a stop that says nothing against the store may come after lines
 pub not_alone : (before after : Option (List ℕ)) (why : Stop) → IsOutsideStore why → StandsAlone before after why
 not_alone before after why is = λ yes. absurd (let f : true ≡ false = sym yes ∙ is in cc)
 

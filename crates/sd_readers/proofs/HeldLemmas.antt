@@ -10,7 +10,7 @@ use Rattle.sd_readers.specs.declared.steady.Reader.{Reader}
 use Rattle.sd_readers.specs.Reading.{ReaderEnds, ReadsStore}
 use Rattle.sd_readers.proofs.SteadyLemmas.{moved_out, never_held}
 
--- bytes behind the known ones
+-- bytes after the known ones
 appended : (before : Option (List ℕ)) (front : List ℕ) → Appends before (append_known before front) front
 appended before front = grind arith
 
@@ -19,7 +19,7 @@ second_part : (before after : Option (List ℕ)) (front last text : List ℕ) �
 second_part before after front last text parts printed = grind (arith, append_assoc)
 
 module _ (by : Reader) (honest : Type 0) (contents : List (List ℕ)) (failed now : ℕ) (before mid after : Option (List ℕ)) (text : List ℕ) (status answered : ℕ) (was refused : Bool) where
-  -- what was printed into the vector before the last line, as it stands behind what was printed before
+  -- what was printed into the vector before the last line, as it stands after what was printed before
   moved : (ended : Result Unit Stop) (printed : Option (List ℕ)) → ReadsStore by honest contents failed now ended (Some []) printed → Appends printed (Some text) (end_text ended)
       → (there : Option (List ℕ)) × ReadsStore by honest contents failed now ended before there × (Appends before after text → Appends there after (end_text ended))
   moved ended None reads told = (None, never_held by contents honest failed now ended before reads, λ taken. tt)

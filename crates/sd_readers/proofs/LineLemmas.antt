@@ -33,7 +33,7 @@ module _ (zeros : ℕ) (digits shown : List ℕ) (few : zeros ≤ 15) (sixteen :
       ∙ ap (λ n. n + length shown) (length-append (blanks 8 ++ digits) (blanks 1) ∙ ap (λ n. n + 1) (length-append (blanks 8) digits ∙ ap (λ n. 8 + n) sixteen))
       ∙ ap (λ n. 25 + n) long) refl
 
-  -- what is behind the digits
+  -- what is after the digits
   abbrev rest : List ℕ
   rest = codes " " ++ (shown ++ 10 ∷ [])
 

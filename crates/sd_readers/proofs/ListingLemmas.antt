@@ -7,7 +7,7 @@ use Rattle.sd_exit.specs.Texts.{slot_text}
 use Rattle.sd_image.specs.Words.{kind_name}
 use Rattle.sd_readers.specs.Listing.{image_line}
 
--- what an image's line has behind the slot
+-- what an image's line has after the slot
 abbrev pub rest_of_line : List ℕ → Header → List ℕ
 rest_of_line kind h = (32 ∷ (kind ++ (codes " serial " ++ (decimal h.serial ++ (codes " stands " ++ (decimal h.stands_for
     ++ (codes " parent " ++ (decimal h.parent ++ (codes " checkpoint " ++ (decimal h.checkpoint ++ (codes " pages " ++ decimal h.pages))))))))))) ++ 10 ∷ []

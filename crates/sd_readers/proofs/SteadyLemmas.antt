@@ -81,7 +81,7 @@ module _ (by : Reader) (contents : List (List ℕ)) where
       → OnFault ended (BeginsToPrint by contents before after) → BeginsToPrint by contents before after
   any_part ended before after fine whole begun = grind (arith, whole_begins)
 
-  -- a fault of the device or of the memory behind it
+  -- a fault of the device or of the memory after it
   pub faulty_behind : (honest : Type 0) (failed now : ℕ) (ended : Result Unit Stop) (fault : Fault) (before after : Option (List ℕ)) → writer_failed ended ≡ false
       → IsOutsideStore (stop.Fault fault) → (honest → IsBreak failed now (stop.Fault fault)) → Reads honest failed now ended before after → Reads honest failed now (Err (stop.Fault fault)) before after
   faulty_behind honest failed now ended fault before after fine outside breaks is = record {

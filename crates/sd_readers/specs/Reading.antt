@@ -35,7 +35,7 @@ pub record ReadsStore (by : Reader) (IsHonest : Type 0) (contents : List (List �
   pub alone : IfErr ended (StandsAlone before after)
   pub why : IsHonest → IfErr ended (IsWhy by contents failed now)
 
--- The same to its exit: what was printed, and behind it why it was stopped, if it was; and the status. A writer's
+-- The same to its exit: what was printed, and after it why it was stopped, if it was; and the status. A writer's
 -- failure stops it only where the output refused something.
 pub record ReaderEnds (by : Reader) (IsHonest : Type 0) (contents : List (List ℕ)) (failed now : ℕ)
     (before after : Option (List ℕ)) (refused : Bool) (status : ℕ) : Type 0 where

@@ -23,7 +23,7 @@ line_text address bytes = codes "bytes " ++ address_text address ++ codes " " ++
 abbrev pub bytes_line : ℕ → List ℕ → List ℕ
 bytes_line address bytes = if list_all (λ byte. byte == 0) bytes then [] else line_text address bytes
 
--- the line of the 32 bytes that are so many times 32 behind the first of a page
+-- the line of the 32 bytes that are so many times 32 after the first of a page
 abbrev pub part_text : ℕ → List ℕ → ℕ → List ℕ
 part_text address bytes k = bytes_line (address + 32 * k) (slice_range bytes (32 * k) (32 * k + 32))
 
@@ -65,7 +65,7 @@ abbrev pub part_of_run : List (List ℕ) → PlacedRun → ℕ → ℕ → List 
 part_of_run contents r behind count =
     flat_map (λ k. placed_text contents (page_behind r (behind + k))) (range_with_len 0 count)
 
--- pages that lie one behind the other in bytes that were read
+-- pages that lie one after the other in bytes that were read
 abbrev pub pages_text : ℕ → List ℕ → ℕ → List ℕ
 pages_text first bytes count = flat_map
     (λ k. page_text (4096 * (first + k)) (slice_range bytes (4096 * k) (4096 * k + 4096))) (range_with_len 0 count)

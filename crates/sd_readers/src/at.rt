@@ -24,7 +24,7 @@ pub enum ReaderAt {
     Verify,
 }
 
-/// Prints the memory of a store at a checkpoint, behind all checks of a restore. It holds a few pages at a time.
+/// Prints the memory of a store at a checkpoint, after all checks of a restore. It holds a few pages at a time.
 #[tactic(auto, using(crate::proofs::EndingLemmas::stands_alone, crate::proofs::EndingLemmas::none_alone))]
 fn print_restored_at<D: Disk, W: Write>(
     alloc: Global,
@@ -99,7 +99,7 @@ fn print_by<D: Disk, W: Write>(
 /// # Errors
 ///
 /// `EmptyChain` where the store has no image of the checkpoint. Else those of a restore; `Device` and `OutOfMemory`
-/// also behind all that is printed.
+/// also after all that is printed.
 pub fn print_at<D: Disk, W: Write>(
     alloc: Global,
     reader: ReaderAt,

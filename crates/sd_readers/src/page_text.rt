@@ -87,7 +87,7 @@ fn are_zeros(bytes: &[u8]) -> bool
     ones == 0
 }
 
-/// Puts a line at a place of a text, and returns where it ends. Its address is put behind the place of the zeros before
+/// Puts a line at a place of a text, and returns where it ends. Its address is put after the place of the zeros before
 /// it, and those are left out.
 fn put_line(text: &mut [u8; PAGE_LEN], place: usize, address: u64, bytes: &[u8]) -> usize
     requires bytes { length bytes.now ≡ 32 }
@@ -115,7 +115,7 @@ fn put_at(text: &mut [u8; PAGE_LEN], place: usize, bytes: &[u8]) -> usize
     end
 }
 
-/// The text of a line, behind so many bytes that are left out as the address has zeros before its digits.
+/// The text of a line, after so many bytes that are left out as the address has zeros before its digits.
 fn line_from(zeros: usize, digits: &[u8; 16], shown: &[u8; 2 * LINE_BYTES]) -> [u8; LINE_LEN]
     requires { zeros ≤ 15 }
     ensures { drop zeros result

@@ -70,7 +70,7 @@ pub fn restore_to<D: Disk, W: Write>(alloc: Global, disk: &mut D, out: &mut Outp
     exit(&ended, out)
 }
 
-/// Prints the memory that a store shows, behind all checks of a restore. It holds a few pages at a time.
+/// Prints the memory that a store shows, after all checks of a restore. It holds a few pages at a time.
 #[tactic(auto, using(crate::proofs::EndingLemmas::stands_alone, crate::proofs::EndingLemmas::none_alone))]
 pub(crate) fn print_restored<D: Disk, W: Write>(
     alloc: Global,

@@ -78,7 +78,7 @@ fn front_of<D: Disk>(disk: &mut D, slot: usize) -> Result<Front, DeviceError>
 }
 
 /// The fronts of all slots' files. As long as they stay the same, so do the open images, since a serial is never given
-/// twice: who reads a store beside a run asks before and behind what it reads, and gives up where they differ.
+/// twice: who reads a store beside a run asks before and after what it reads, and gives up where they differ.
 ///
 /// # Errors
 ///
@@ -104,7 +104,7 @@ pub fn fronts<D: Disk>(alloc: Global, disk: &mut D) -> Result<Vec<Front>, Fault>
 ///
 /// # Errors
 ///
-/// Those of the program; `Device` and `OutOfMemory` also behind all that it prints.
+/// Those of the program; `Device` and `OutOfMemory` also after all that it prints.
 pub(crate) fn print_steady<D: Disk, W: Write>(
     alloc: Global,
     reader: Reader,

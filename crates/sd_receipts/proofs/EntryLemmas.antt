@@ -38,7 +38,7 @@ pub acked_next : (journal : List Entry) (i n : ℕ) (d : Entry) (acks : List ℕ
 acked_next journal i n d acks found within is near same so_far =
     acked_more journal i d (Acked n) within is ∙ rw so_far (ap (λ m. take found acks ++ (m ∷ [])) (sym same) ∙ sym (take_more acks found 0 near))
 
--- all acknowledgements, by those before an entry and those behind it
+-- all acknowledgements, by those before an entry and those after it
 pub acked_split : (journal : List Entry) (i n : ℕ) (d : Entry) → i < length journal → Acked n ≡ get_or journal i d
     → acked_numbers journal ≡ acked_numbers (take i journal) ++ (n ∷ acked_numbers (drop (i + 1) journal))
 acked_split journal i n d within is =

@@ -6,7 +6,7 @@ use Rattle.sd_relay.specs.declared.message.Message.{Message}
 use Rattle.sd_relay.specs.Hands.{ticket_of, tickets}
 use Rattle.sd_relay.specs.Tickets.{IsLast, TicketsRise, times}
 
--- what rises still does with a greater one behind it
+-- what rises still does with a greater one after it
 pub rises_more : (xs : List ℕ) (t : ℕ) → TicketsRise xs → All (λ x. x < t) xs → TicketsRise (xs ++ t ∷ [])
 rises_more [] t rises below = (All-nil (λ y. t < y), tt)
 rises_more (x ∷ xs) t rises below =

@@ -2,7 +2,7 @@
 use Rattle.std.specs.Prelude.{◌≡◌, ℕ, ◌+◌, ◌<◌, ◌≤◌, ◌==◌, ⊤, cond, List, [], ◌∷◌, Option, None, Some}
 use Rattle.std.specs.List.{All}
 
--- each number is below all that stand behind it
+-- each number is below all that stand after it
 abbrev pub TicketsRise : List ℕ → Type 0
 TicketsRise [] = ⊤
 TicketsRise (x ∷ xs) = All (λ y. x < y) xs × TicketsRise xs

@@ -29,7 +29,7 @@ pub slot_more : (contents : List (List ℕ)) (slot a b c : ℕ) → slot < lengt
     → c ≤ b + calls_for (file_at contents slot) → c ≤ a + sum_by calls_for (take (slot + 1) contents)
 slot_more contents slot a b c within was now = grind (arith, sum_by_more)
 
--- and none behind it
+-- and none after it
 pub slot_last : (contents : List (List ℕ)) (slot a b c : ℕ) → slot < length contents → b ≤ a + sum_by calls_for (take slot contents)
     → c ≤ b + calls_for (file_at contents slot) → c ≤ a + sum_by calls_for contents
 slot_last contents slot a b c within was now = grind (arith, sum_by_more_le)

@@ -26,7 +26,7 @@ use Rattle.sd_restore.proofs.TakeLemmas.{taken_all}
 
 -- ---- what a digester is fed
 
--- two ranges, one behind the other, are one
+-- two ranges, one after the other, are one
 pub range_join : (xs : List ℕ) (a m n : ℕ) → slice_range xs a (a + m) ++ slice_range xs (a + m) (a + m + n) ≡ slice_range xs a (a + m + n)
 range_join xs a m n =
     ap (λ k. take k (drop a xs) ++ slice_range xs (a + m) (a + m + n)) (let e : a + m - a ≡ m = omega arith in e)
@@ -35,7 +35,7 @@ range_join xs a m n =
     ∙ sym (take-add m n (drop a xs))
     ∙ ap (λ k. take k (drop a xs)) (let e : m + n ≡ a + m + n - a = omega arith in e)
 
--- the pages of bytes, one behind the other
+-- the pages of bytes, one after the other
 pub pages_of_bytes : (k : ℕ) (bytes : List ℕ) → flat_map (λ (page : List ℕ). page) (first_chunks 4096 k bytes) ≡ take (k * 4096) bytes
 pages_of_bytes zero bytes = refl
 pages_of_bytes (suc k) bytes =

@@ -46,7 +46,7 @@ pub header_is_faulty : (file : List ℕ) (reason : Reason) (bytes : List ℕ) (l
     → header_in bytes len ≡ Err reason → IsFaulty file reason
 header_is_faulty file reason bytes len opens are long breaks = grind arith
 
--- the table is all that stands behind the data pages
+-- the table is all that stands after the data pages
 pub table_is_rest : (file : List ℕ) (h : Header) → IsHeader h (length file) → table_bytes h file ≡ drop (4096 + 4096 * h.pages) file
 table_is_rest file h is = grind (arith, taken_all, length-drop)
 

@@ -118,7 +118,7 @@ find_in (f ∷ es) e sorted c =
 abbrev HasIts : List Listed → ℕ × Space → Type 0
 HasIts spaces e = (s : Listed) × Contains spaces s × (s.space ≡ e.0) × (finmap.len e.1 ≤ sum_by (λ (a : Area). a.count) s.areas)
 
--- a space with a greater number is one of those behind
+-- a space with a greater number is one of those after
 skips : (s : Listed) (spaces : List Listed) (f : ℕ × Space) → s.space < f.0 → HasIts (s ∷ spaces) f → HasIts spaces f
 skips s spaces f less its = grind arith
 

@@ -36,7 +36,7 @@ unfolding IsDistinct
 stands_once [] y zs distinct = refl
 stands_once (x ∷ xs) y zs distinct = or_from (nat_eq y x) (list_any (nat_eq y) xs) (apart x y (differs x xs y zs distinct.0)) (stands_once xs y zs distinct.1)
 
--- the images of all slots are those of the slots before one, that of this one, and those behind it
+-- the images of all slots are those of the slots before one, that of this one, and those after it
 split_at_slot : OneImage → (contents : List (List ℕ)) (slot : ℕ) (earlier images : List Image) (image : Image) → OpenImages (take slot contents) earlier
     → is_open (file_at contents slot) ≡ true → IsImage (file_at contents slot) image → OpenImages contents images
     → (later : List Image) × (images ≡ earlier ++ image ∷ later)

@@ -39,7 +39,7 @@ no_pages first = refl
 pages_from-snoc : (first count : ℕ) → pages_from first (count + 1) ≡ pages_from first count ++ (first + count) ∷ []
 pages_from-snoc first count = ap (pages_from first) (omega arith) ∙ grown first count
 
--- the page behind the first k, and those behind it
+-- the page after the first k, and those after it
 pages_split : (first count k : ℕ) → k < count → (rest : List ℕ) × (pages_from first count ≡ pages_from first k ++ (first + k) ∷ rest)
 unfolding pages_from
 pages_split first zero k less = absurd (omega arith)
@@ -84,7 +84,7 @@ area_within before (a ∷ areas) area are c = elim (contains_cases a area areas 
     ends : (before : Option Area) (a : Area) → IsTrue (is_area_after before a) → a.first + a.count ≤ 2 ^ 35
     ends before a after = grind (arith, nat_tests)
 
--- each later area begins behind this one
+-- each later area begins after this one
 behind : (a : Area) (areas : List Area) (area : Area) → AreMaximal (Some a) areas → Contains areas area → a.first + a.count ≤ area.first
 behind a [] area are c = absurd (contains_none area c)
 behind a (b ∷ areas) area are c =

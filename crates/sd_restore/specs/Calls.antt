@@ -23,7 +23,7 @@ abbrev pub calls_behind : Result Header Reason → ℕ
 calls_behind (Ok h) = fronts_read h.table_len + pages_digested h.version h.pages
 calls_behind (Err reason) = 0
 
--- a slot: its length; its first bytes, where the file is as long as a header; where the slot is open, its table, behind
+-- a slot: its length; its first bytes, where the file is as long as a header; where the slot is open, its table, after
 -- the fronts of a long one, and in version 2 its data pages
 abbrev pub calls_for : List ℕ → ℕ
 calls_for file =

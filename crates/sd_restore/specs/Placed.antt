@@ -29,7 +29,7 @@ pub record PlacedPage : Type 0 where
   pub prot : Prot
   pub there : Found
 
--- the page of a run that is so many behind its first
+-- the page of a run that is so many after its first
 abbrev pub page_behind : PlacedRun → ℕ → PlacedPage
 page_behind r k = record { space = r.space; page = r.first + k; prot = r.prot; there = found_on r.there k }
 

@@ -16,7 +16,7 @@ pub record HasHeader (file : List ℕ) (h : Header) : Type 0 where
   pub spelled : drop 1 (slice_range file 0 4096) ≡ header_text h
   pub is : IsHeader h (length file)
 
--- the bytes of a file's table, behind a header and its data pages
+-- the bytes of a file's table, after a header and its data pages
 abbrev pub table_bytes : Header → List ℕ → List ℕ
 table_bytes h file = slice_range file (4096 + 4096 * h.pages) (4096 + 4096 * h.pages + h.table_len)
 

@@ -17,7 +17,7 @@ use sd_chain::{Catalog, Chain, Found, OpenImage, Trace};
 use sd_image::{Reason, SpaceTable};
 use std::alloc::Global;
 
-/// Where the chain of an image has pages that lie one behind the other.
+/// Where the chain of an image has pages that lie one after the other.
 #[derive(Clone, Copy)]
 struct FoundPages {
     /// Where the first is.
@@ -27,7 +27,7 @@ struct FoundPages {
 }
 
 /// Where the chain of an image has pages that the image lists, from one on and at most so many, as far as they lie one
-/// behind the other.
+/// after the other.
 fn find_pages(
     catalog: &Catalog,
     chain: &mut Chain<'_>,
@@ -69,7 +69,7 @@ fn find_pages(
     }
 }
 
-/// Puts the pages of an area behind the others.
+/// Puts the pages of an area after the others.
 fn place_area(
     catalog: &Catalog,
     chain: &mut Chain<'_>,
@@ -112,7 +112,7 @@ fn place_area(
     Ok(())
 }
 
-/// Puts the pages of a space behind the others.
+/// Puts the pages of a space after the others.
 fn place_space(
     catalog: &Catalog,
     chain: &mut Chain<'_>,
@@ -145,7 +145,7 @@ fn place_space(
 }
 
 /// Where the mapped pages of a dump or merged image lie, rising by space and page. Its time grows with the runs of
-/// pages that lie one behind the other, each times the images that it is followed through, and not with the pages.
+/// pages that lie one after the other, each times the images that it is followed through, and not with the pages.
 ///
 /// # Errors
 ///

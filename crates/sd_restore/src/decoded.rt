@@ -22,7 +22,7 @@ pub struct Decoded {
 ///
 /// # Errors
 ///
-/// `Damaged` names the slot and the reason why the bytes are no table behind this header. `OutOfMemory` where the
+/// `Damaged` names the slot and the reason why the bytes are no table after this header. `OutOfMemory` where the
 /// table finds no room.
 pub fn decode_slot(
     alloc: Global,
@@ -42,7 +42,7 @@ pub fn decode_slot(
     ensures sound { (len : ℕ) → IsHeader header len → IfOk result IsSoundTable }
     ensures empty { result ≢ Err Fault.EmptyChain }
     ensures device { result ≢ Err Fault.Device }
-    // Memory is taken behind the table's head.
+    // Memory is taken after the table's head.
     ensures tested { result ≡ Err Fault.OutOfMemory → IsOk (head_at table.now) }
 {
     file_is_image();

@@ -130,7 +130,7 @@ pub fn check_digest<D: Disk>(
         → HasHeader (file_at (D.contents disk.old) slot) header.now
         → table.now ≡ table_bytes header.now (file_at (D.contents disk.old) slot)
         → OnOk result (HasDigestOf (file_at (D.contents disk.old) slot) header.now) }
-    // Where it is another, behind a good table, the file is faulty.
+    // Where it is another, after a good table, the file is faulty.
     ensures wrong { D.is_honest disk.new
         → HasHeader (file_at (D.contents disk.old) slot) header.now
         → table.now ≡ table_bytes header.now (file_at (D.contents disk.old) slot)

@@ -24,7 +24,7 @@ impl Fault {
     ghost use Rattle.std.specs.Prelude.{◌≡◌};
     ghost use Rattle.sd_restore.specs.Faulty.{fault_number};
 
-    /// The number of the fault, 20 to 23, behind those of the reasons.
+    /// The number of the fault, 20 to 23, after those of the reasons.
     pub fn number(self) -> u8
         ensures { result ≡ fault_number self }
     {

@@ -18,7 +18,7 @@ const FRONT: usize = 2_097_152;
 /// How many fronts are looked at, each twice as long as the one before: no file is longer than the last.
 const FRONTS: u32 = 42;
 
-/// Reads so many bytes behind the data pages of an image with this header.
+/// Reads so many bytes after the data pages of an image with this header.
 fn read_part<D: Disk>(
     alloc: Global,
     disk: &mut D,

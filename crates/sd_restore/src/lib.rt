@@ -31,5 +31,6 @@ pub use placing::{PlacedMemory, page_buffer, place_newest, read_placed_pages};
 pub use report::Report;
 pub use restoring::{restore, restore_from};
 pub use scanned::Scanned;
+pub use slot_reader::read_slot;
 pub use slots::scan;
 pub use verifying::{newest_checkpoint, verify};

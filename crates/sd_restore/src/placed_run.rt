@@ -5,7 +5,7 @@ ghost use Rattle.sd_restore.specs.Placed.{IsInSlots, IsWithin};
 use sd_areas::{PAGE_BYTES, PageNo, Prot, SpaceId};
 use sd_chain::Found;
 
-/// Mapped pages of an image, one behind the other, and where their bytes are.
+/// Mapped pages of an image, one after the other, and where their bytes are.
 #[derive(Clone, Copy)]
 pub struct PlacedRun {
     pub space: SpaceId,
@@ -14,13 +14,13 @@ pub struct PlacedRun {
     /// How many pages.
     pub count: u64,
     pub prot: Prot,
-    /// Where the bytes of the first page are. Where they are in a file, those of the other pages stand behind them;
+    /// Where the bytes of the first page are. Where they are in a file, those of the other pages stand after them;
     /// else all are zeros.
     pub there: Found,
 }
 
 impl PlacedRun {
-    /// Where the bytes of the page are that is so many behind the first.
+    /// Where the bytes of the page are that is so many after the first.
     pub fn place(&self, behind: u64) -> Found
         requires run { IsWithin self.now }
         requires within { behind ≤ self.now.count }

@@ -83,7 +83,7 @@ fn read_header<D: Disk>(disk: &mut D, slot: usize) -> Result<Option<Header>, Fau
     }
 }
 
-/// Reads what stands behind the header of a slot: its table, and the data pages of version 2, for their digest.
+/// Reads what stands after the header of a slot: its table, and the data pages of version 2, for their digest.
 fn read_behind<D: Disk>(
     alloc: Global,
     disk: &mut D,
@@ -111,7 +111,13 @@ fn read_behind<D: Disk>(
     Ok(decoded)
 }
 
-/// Reads a slot: what it says of its image, whose digest it checks, or none where it is closed.
+/// Reads a slot: what it says of its image, whose digest it checks, or none where it is closed. For a caller that takes
+/// slots in one by one ([`Scanned::take_in`](crate::Scanned::take_in)), as [`scan`](crate::scan) does.
+///
+/// # Errors
+///
+/// `Damaged` where the slot's header, table or digest is faulty, with the reason; `Device` where a call failed; and
+/// `OutOfMemory`.
 pub fn read_slot<D: Disk>(
     alloc: Global,
     disk: &mut D,
@@ -130,7 +136,7 @@ pub fn read_slot<D: Disk>(
     ensures calls { D.is_honest disk.new → D.calls disk.new
         ≤ D.calls disk.old + calls_for (file_at (D.contents disk.old) slot) }
     ensures empty { result ≢ Err Fault.EmptyChain }
-    // Memory is wanted for what an open slot says, behind its header.
+    // Memory is wanted for what an open slot says, after its header.
     ensures headed { D.is_honest disk.new → IfOk result (λ opened. IsSome opened
         → WantsMemory (file_at (D.contents disk.old) slot)) }
     ensures wanted { D.is_honest disk.new → result ≡ Err Fault.OutOfMemory

@@ -135,7 +135,7 @@ pub fn scan<D: Disk>(alloc: Global, disk: &mut D) -> Result<Catalog, Fault>
     ensures calls { D.is_honest disk.new
         → D.calls disk.new ≤ D.calls disk.old + scan_calls (D.contents disk.old) }
     ensures empty { result ≢ Err Fault.EmptyChain }
-    // Memory is wanted at an open slot that has a header, behind slots that are closed or images; so none of a store
+    // Memory is wanted at an open slot that has a header, after slots that are closed or images; so none of a store
     // without open slots.
     ensures wanted { D.is_honest disk.new → result ≡ Err Fault.OutOfMemory
         → StoreWants (D.contents disk.old) }

@@ -162,7 +162,7 @@ works_running since serial state ticket old new before after step is works =
 
 -- ---- an outcome
 
--- a dump is frozen behind its format
+-- a dump is frozen after its format
 hands_leaves : (since : ℕ) (old new : Making) (made : Made) → PlanGoesOn old made new → (is_frozen_dump old ≡ true → IsCounted since old)
     → is_frozen_dump new ≡ true → IsCounted (if is_frozen_dump old then since + 1 else since) new
 hands_leaves since old new made g was frozen =
@@ -259,7 +259,7 @@ hands_running since old new made _ is hands strange ended = absurd (both_ways tr
 pub handed : (old new : Dumping) (made : Made) (progress : Progress) → is_strange progress ≡ false → IsHanded old made progress new → Hands old made progress new
 handed old new made progress strange is = grind arith
 
--- a step freezes the memory exactly where the image is behind its format
+-- a step freezes the memory exactly where the image is after its format
 freezes_is : (ticket : ℕ) (old new : Making) (before after : Contents) (step : ImageStep) → Steps ticket old before step new after → freezes step ≡ is_freeze_next old.stage
 freezes_is ticket old new before after (Call request) s = sym (has_plan old.stage s.0.plan s.0.was)
   where

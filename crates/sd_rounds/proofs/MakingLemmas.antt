@@ -133,7 +133,7 @@ steps keeps laws ticket pages chain old new before after (Copied c) s was =
     (subst (λ (g : Stage). IsKeptIn g pages chain new.pass before) (sym s.0.passes.0)
     (laws.copy_keeps (listed_pages pages) chain old.pass new.pass before c s.0.copies (pass_kept old.stage pages chain old.pass before s.0.passes.0 was.kept))))
 
--- behind a plan whose calls are done
+-- after a plan whose calls are done
 behind_keeps : (kind : Kind) (stage : Stage) (pages : Pages) (chain : Chain) (pass : Pass) (memory : Contents) → closing_outcomes stage ≡ 0 → IsKeptIn stage pages chain pass memory
     → IsKeptIn (stage_behind kind stage) pages chain pass memory
 behind_keeps kind stage pages chain pass memory none kept = grind arith

@@ -1,4 +1,4 @@
--- A checkpoint behind a step of its pass, and before a step that is none.
+-- A checkpoint after a step of its pass, and before a step that is none.
 use Rattle.std.proofs.Common.{◌≡◌, ℕ, Bool, false, if◌then◌else◌, Option, Some, None, refl, sym, ◌∙◌, ap, subst, arith}
 use Rattle.std.specs.Prelude.{MatchOption}
 use Rattle.std.specs.Option.{option_map}
@@ -34,7 +34,7 @@ still_running since old new same is = subst (λ (r : Running). IsRunning since r
 freezes_not : (step : PassStep) → freezes (image_step step) ≡ false
 freezes_not step = grind arith
 
--- the checkpoint runs on behind a step of its pass, and where none was next
+-- the checkpoint runs on after a step of its pass, and where none was next
 pub found_running : (since : ℕ) (old new : Running) (before after : Contents) (found : Option PassStep) → Found old before new after found → IsRunning since old → IsRunning since new
 found_running since old new before after None is running = still_running since old new is.1 running
 found_running since old new before after (Some step) is running =

@@ -18,7 +18,7 @@ length-pages_from first (suc count) = ap (λ n. suc n) (length-pages_from (suc f
 run_long : (space : ℕ) (run : Run) → length (run_entries space run) ≡ run.count
 run_long space run = length-map (pages_from run.first run.count) _ ∙ length-pages_from run.first run.count
 
--- the page behind the run before, if there is one
+-- the page after the run before, if there is one
 abbrev end_before : Option Run → ℕ
 end_before None = 0
 end_before (Some run) = run.first + run.count
@@ -99,7 +99,7 @@ filter_short {X} p (x ∷ xs) = by (filter_short p xs) (p x)
     by tail true = omega (arith, tail)
     by tail false = omega (arith, tail)
 
--- an image has room behind its data pages for one more
+-- an image has room after its data pages for one more
 pub has_room : (parent : ℕ) (tables : List Listed) (at : Place) → AreTables parent 0 tables → EndBefore at tables → 1 ≤ at.0 → at.0 ≤ 16 → at.1 < 2 ^ 35
     → data_pages (entries_listed tables) < 2 ^ 39
 has_room parent tables at are ends least within page = grind (arith, entries_fit, filter_short, length-map)

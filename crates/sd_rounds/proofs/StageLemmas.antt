@@ -1,4 +1,4 @@
--- An image behind the format of its slot.
+-- An image after the format of its slot.
 use Rattle.std.proofs.Common.{◌≡◌, ℕ, nat_eq, List, Option, refl}
 use Rattle.sd_image.specs.declared.header.Kind.{Kind}
 use Rattle.sd_image.specs.declared.header.Kind.TheVariants.{PreDump, Dump, Merged}

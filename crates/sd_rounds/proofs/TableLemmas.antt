@@ -93,7 +93,7 @@ no_push xs x e = absurd (let f : 0 ≡ length xs + 1 = ap length e ∙ length-ap
 listed_put : (tables : List SpaceTable) (t : SpaceTable) → listed (tables ++ t ∷ []) ≡ listed tables ++ listing_of t ∷ []
 listed_put tables t = map-append listing_of tables (t ∷ [])
 
--- ---- a page put behind the entries
+-- ---- a page put after the entries
 
 -- the last space has one page more
 pub longer_table : (parent : ℕ) (front : List SpaceTable) (last new : SpaceTable) (at : Place) (kind : RunKind)

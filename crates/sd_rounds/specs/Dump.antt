@@ -29,7 +29,7 @@ pub record WasDue (cut : Contents) (pass : Pass) (taking : Taking) : Type 0 wher
   pub is : (pass.takes_all || page.soft_dirty) ≡ true
 
 -- The dump of a memory that was frozen as `cut`: it has the pages of the freeze, those ahead as they were and those
--- behind clean, and each page that was passed has its entry in the way that is due.
+-- after clean, and each page that was passed has its entry in the way that is due.
 pub record IsDumping (cut : Contents) (pass : Pass) (memory : Contents) : Type 0 where
   pub plain : plain_of memory ≡ plain_of cut
   pub ahead : (at : Place) → has_passed pass.after at ≡ false → page_at memory at.0 at.1 ≡ page_at cut at.0 at.1

@@ -229,7 +229,7 @@ pub record HandsImage (old : Running) (made : Made) (opened : NewImage) : Type 0
 abbrev pub after_pre_dump : Running → NewImage → Running
 after_pre_dump old image = record old { opened = old.opened + 1; parent = image.header.serial; image = None }
 
--- What an outcome does to a checkpoint. Behind a pre-dump the next image names it as its parent.
+-- What an outcome does to a checkpoint. After a pre-dump the next image names it as its parent.
 abbrev pub HandsTo : Running → Made → Progress → Running → Type 0
 HandsTo old made Strange new = (IsOutOfImage old.image made.request.id → ⊥) × (new ≡ old)
 HandsTo old made HasFailed new = HandsOn old made Failed new

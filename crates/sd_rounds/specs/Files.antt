@@ -24,7 +24,7 @@ use Rattle.sd_rounds.specs.MakingLaws.{AreItsNumbers, DumpsImage, KeepsImage, Pa
 use Rattle.sd_rounds.specs.Pass.{Pass, Place, data_pages}
 use Rattle.sd_rounds.specs.Rises.{IsRising}
 
--- the text of an image behind an open gate
+-- the text of an image after an open gate
 abbrev pub file_of : Image → List ℕ
 file_of i = gate ∷ image_text i
 

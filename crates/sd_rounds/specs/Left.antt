@@ -38,8 +38,8 @@ taking_left (Some taking) = (8 - length taking.copied / 512) + 2
 abbrev pub pass_left : Pass → PlainMemory → ℕ
 pass_left pass memory = 11 * pages_ahead pass.after memory + taking_left pass.taking
 
--- an image whose pass, with the writes that are out, has so much before it: behind the format comes the freeze, and
--- behind the pass five calls close the body
+-- an image whose pass, with the writes that are out, has so much before it: after the format comes the freeze, and
+-- after the pass five calls close the body
 abbrev pub stage_left : Stage → ℕ → ℕ
 stage_left (Format plan) pass = plan_left plan + 1 + pass + 10
 stage_left Freeze pass = 1 + pass + 10

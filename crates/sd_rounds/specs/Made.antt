@@ -53,7 +53,7 @@ pub record MadeLaws : Type 0 where
   pub dumps : (stored : Stored) (chain : Chain) (cut : Contents) (pass : Pass) (i : Image)
       → IsImageOf stored chain pass.entries i → HasTheAreas (plain_of cut) i.spaces
       → IsDumped stored chain cut pass → IsMemory chain.images i (plain_of cut)
-  -- a page write is taken up: its bytes stand behind the pages before it, once it is done
+  -- a page write is taken up: its bytes stand after the pages before it, once it is done
   pub takes_up : (pages : List (List ℕ)) (chain : Chain) (pass : Pass) (memory : Contents) (taking : Taking)
       → pass.taking ≡ Some taking → length taking.copied ≡ 4096
       → length pages ≡ data_pages pass.entries → Keeps (listed_pages pages) chain pass memory

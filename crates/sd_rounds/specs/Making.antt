@@ -66,7 +66,7 @@ plan_of Freeze = None
 plan_of PassStage = None
 plan_of (Close plan header tables) = Some plan
 
--- the freeze is behind
+-- the freeze is after
 abbrev pub is_past_freeze : Stage → Bool
 is_past_freeze (Format plan) = false
 is_past_freeze Freeze = false
@@ -132,7 +132,7 @@ out_of (Close plan header tables) = plan.out
 abbrev pub IsOutOf : Making → RequestId → Type 0
 IsOutOf making id = (out_of making.stage ≡ Some id) ⊎ IsInLane making.writes id
 
--- the stage behind a plan whose calls are all done
+-- the stage after a plan whose calls are all done
 abbrev pub stage_behind : Kind → Stage → Stage
 stage_behind Dump (Format plan) = Freeze
 stage_behind PreDump (Format plan) = PassStage

@@ -44,7 +44,7 @@ pub record Pass : Type 0 where
   pub after : Option Place
   pub taking : Option Taking
 
--- the cursor is at the page, or behind it
+-- the cursor is at the page, or after it
 abbrev pub has_passed : Option Place → Place → Bool
 has_passed after place = not (is_above after place.0 place.1)
 

@@ -35,7 +35,7 @@ pass_of takes_all tables after taking buffer =
 abbrev pub entry_parent : Bool → ℕ
 entry_parent takes_all = if takes_all then 0 else 1
 
--- the entries end before the page that is being taken, or behind the cursor
+-- the entries end before the page that is being taken, or after the cursor
 abbrev pub limit : Option Place → Option Place → Place
 limit None taking = (0, 0)
 limit (Some after) None = (after.0, after.1 + 1)
@@ -86,7 +86,7 @@ pub record IsNextSector (old : Pass) (memory : Contents) (taking : Taking) (page
   pub at_sector : length taking.copied ≡ 512 * sector
   pub within : sector < 8
 
--- the sector stands behind those before it; a whole page isn't all zeros
+-- the sector stands after those before it; a whole page isn't all zeros
 pub record CopiesMore (old : Pass) (memory : Contents) (new : Pass) : Type 0 where
   pub taking : Taking
   pub page : PageState

@@ -8,7 +8,7 @@ use Rattle.sd_image.specs.Table.{AreRuns, Listed, listing_of}
 use Rattle.sd_rounds.specs.Pass.{Place, ImageEntry}
 use Rattle.sd_rounds.specs.Made.{entries_listed}
 
--- the entries of a space, behind those of the space before: maximal runs, where the image's parent has this number
+-- the entries of a space, after those of the space before: maximal runs, where the image's parent has this number
 pub record IsTableAfter (parent before : ℕ) (t : Listed) : Type 0 where
   pub above : before < t.space
   pub within : t.space ≤ 16
@@ -37,13 +37,13 @@ listed = map listing_of
 abbrev pub entries_in : List SpaceTable → List ImageEntry
 entries_in tables = entries_listed (listed tables)
 
--- a page was put behind the entries
+-- a page was put after the entries
 pub record IsPushed (parent : ℕ) (old new : List Listed) (at : Place) (kind : RunKind) : Type 0 where
   pub entries : entries_listed new ≡ entries_listed old ++ (record { place = at; kind = kind }) ∷ []
   pub tables : AreTables parent 0 new
   pub ends : EndBefore (at.0, at.1 + 1) new
 
--- a space with one page was put behind the others
+-- a space with one page was put after the others
 pub record SpaceIsBegun (old new : List SpaceTable) (at : Place) (kind : RunKind) : Type 0 where
   pub table : SpaceTable
   pub behind : new ≡ old ++ table ∷ []

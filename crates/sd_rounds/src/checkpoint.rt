@@ -66,7 +66,7 @@ impl Checkpoint {
         }
     }
 
-    /// Whether the image that is made next, or is being made, or one behind it stands in this slot.
+    /// Whether the image that is made next, or is being made, or one after it stands in this slot.
     pub(crate) fn fills(&self, slot: usize) -> bool
         ensures { IsTrue result ↔ IsReserved (running_of self.now) slot }
     {
@@ -254,7 +254,7 @@ impl Checkpoint {
         }
     }
 
-    /// An image is open. Behind a pre-dump the next image names it as its parent.
+    /// An image is open. After a pre-dump the next image names it as its parent.
     fn end_image(&mut self, image: NewImage) -> Progress
         ensures dump { is_last (running_of self.old) ≡ true → result ≡ DumpOpen image }
         ensures pre_dump { is_last (running_of self.old) ≡ false → (result ≡ PreDumpOpen image)

@@ -1,7 +1,7 @@
 /// What copying a sector came to.
 #[derive(Clone, Copy, PartialEq, Eq)]
 pub enum Copied {
-    /// The sector stands behind those before it.
+    /// The sector stands after those before it.
     More,
     /// It was the eighth, and the page is all zeros: it has its entry.
     Zero,

@@ -69,7 +69,7 @@ fn ends(progress: &Progress) -> bool
     matches!(progress, Progress::Failed | Progress::Dump(_))
 }
 
-/// How many outcomes are counted behind a step: none where it freezes the memory.
+/// How many outcomes are counted after a step: none where it freezes the memory.
 #[inline(always)]
 fn counted(freezes: bool, since_freeze: u64) -> u64
     ensures { result ≡ (if freezes then 0 else since_freeze) }

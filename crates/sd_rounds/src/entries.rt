@@ -9,7 +9,7 @@ use sd_areas::{PageNo, SpaceId};
 use sd_image::{RunKind, SpaceTable, push_page};
 use std::alloc::{AllocError, Global};
 
-/// Puts a page behind the entries. It takes constant time.
+/// Puts a page after the entries. It takes constant time.
 ///
 /// # Errors
 ///
@@ -49,7 +49,7 @@ fn end_in(tables: &[SpaceTable], space: SpaceId) -> bool
     }
 }
 
-/// Puts the first page of a space behind the entries.
+/// Puts the first page of a space after the entries.
 #[inline(never)]
 fn push_space(
     alloc: Global,

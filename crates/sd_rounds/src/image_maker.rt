@@ -94,7 +94,7 @@ fn own_header(order: ImageOrder, pages: u64, table_len: u64) -> Header
     }
 }
 
-/// The stage behind the format of a slot: a dump freezes the memory.
+/// The stage after the format of a slot: a dump freezes the memory.
 fn behind_format(kind: Kind) -> Stage
     ensures { (plan : Planned) → result ≡ stage_behind kind (Format plan) }
 {

@@ -79,7 +79,7 @@ impl PageCopy {
         }
     }
 
-    /// Puts a sector behind those that were copied.
+    /// Puts a sector after those that were copied.
     ///
     /// # Errors
     ///
@@ -157,7 +157,7 @@ fn write_zeros(buffer: &mut Vec<u8>, front: usize) -> Result<(), AllocError>
     Ok(())
 }
 
-/// Puts bytes behind those of a buffer.
+/// Puts bytes after those of a buffer.
 ///
 /// # Errors
 ///

@@ -90,7 +90,7 @@ impl Round {
         &self.tables
     }
 
-    /// An image has room for the page that is being taken behind its data pages. It does nothing: a caller learns it.
+    /// An image has room for the page that is being taken after its data pages. It does nothing: a caller learns it.
     pub fn has_room(&self)
         ensures { (taking : Taking) → self.now.taking ≡ Some taking
             → data_pages self.now.entries < 2 ^ 39 }
@@ -180,7 +180,7 @@ impl Round {
         Ok(Copied::More)
     }
 
-    /// Takes the page that was copied as data, and gives its bytes out. Its place in the file is behind the data pages
+    /// Takes the page that was copied as data, and gives its bytes out. Its place in the file is after the data pages
     /// before it.
     ///
     /// # Errors
@@ -240,7 +240,7 @@ impl Round {
         self.taking = None;
     }
 
-    /// Puts the page that is being taken behind the entries.
+    /// Puts the page that is being taken after the entries.
     fn enter_taken(&mut self, space: SpaceId, page: PageNo, kind: RunKind) -> Result<(), AllocError>
         requires own { kind ≢ Parent }
         requires here { place_taken self.old ≡ Some (space, page) }
@@ -252,7 +252,7 @@ impl Round {
         Ok(())
     }
 
-    /// Puts a sector behind those that were copied.
+    /// Puts a sector after those that were copied.
     #[inline]
     fn append(&mut self, sector: Option<&[u8]>) -> Result<(), AllocError>
         requires copying { IsCopying self.old }

@@ -107,7 +107,7 @@ told_behind before mid now given answers one (inr broken) = inr (record {
       (Appends-trans before mid now (answer_line given) (flat_map answer_line broken.told ++ broken.front) one broken.printed);
 })
 
--- ---- what stands where nothing is printed behind it
+-- ---- what stands where nothing is printed after it
 
 then_nothing : (a b c : Option (List ℕ)) (bs : List ℕ) → Appends a b bs → Appends b c [] → Appends a c bs
 then_nothing a b c bs p q = subst (Appends a c) (append-nil bs) (Appends-trans a b c bs [] p q)

@@ -11,11 +11,11 @@ use Rattle.sd_script.specs.declared.line.Line.{Line}
 use Rattle.sd_script.specs.declared.line.Line.TheVariants as line
 use Rattle.sd_run.specs.declared.bulk.Halt.{Halt}
 
--- the address behind bytes from an address on
+-- the address after bytes from an address on
 abbrev pub behind : ℕ → List ℕ → ℕ
 behind address piece = (address + length piece) % 2 ^ 64
 
--- the address behind pieces of bytes, side by side
+-- the address after pieces of bytes, side by side
 abbrev pub behind_all : ℕ → List (List ℕ) → ℕ
 behind_all address [] = address
 behind_all address (piece ∷ pieces) = behind_all (behind address piece) pieces

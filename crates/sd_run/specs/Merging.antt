@@ -43,7 +43,7 @@ pub record IsMergeRun {D : Type 0} (g : Ghosts D) (old : D) (answer : Reply) (ne
   pub run : IsRun g old opened last new
   pub merges : MergesTip g opened answer last
 
--- a merge ended with this reply, and its line was printed behind what was
+-- a merge ended with this reply, and its line was printed after what was
 pub record PrintsMerge {D : Type 0} (g : Ghosts D) (old : D) (answer : Reply) (new : D)
     (before now : Option (List ℕ)) : Type 0 where
   pub run : IsMergeRun g old answer new
@@ -63,7 +63,7 @@ pub data IsLeftByMerge {D : Type 0} (g : Ghosts D) (old new : D) : Type 0 where
   only_read : OnlyReads g old new → IsLeftByMerge g old new
   run : (answer : Reply) → IsMergeRun g old answer new → IsLeftByMerge g old new
 
--- A merge up to the exit: behind the reply, or in its place, stands why it was stopped, if it was, and the status comes
+-- A merge up to the exit: after the reply, or in its place, stands why it was stopped, if it was, and the status comes
 -- with that.
 pub record MergesToExit {D : Type 0} (g : Ghosts D) (old new : D) (before after : Option (List ℕ)) (refused : Bool)
     (status : ℕ) : Type 0 where

@@ -87,7 +87,7 @@ GoesByLines {D} g first (asked ∷ lines) (given ∷ answers) last =
 GoesByLines g first [] (given ∷ answers) last = ⊥
 GoesByLines g first (asked ∷ lines) [] last = ⊥
 
--- an answer is returned, and its line printed behind what was
+-- an answer is returned, and its line printed after what was
 abbrev pub Tells : Answer → Option (List ℕ) → Option (List ℕ) → Answer → Type 0
 Tells given before now told = (told ≡ given) × Appends before now (answer_line given)
 

@@ -18,7 +18,7 @@ use Rattle.sd_world.specs.View.{WorldView}
 use Rattle.sd_world.specs.Goes.{GoesOn}
 use Rattle.sd_run.specs.Lines.{AnswersLines}
 
--- the lines of these answers but the last are printed behind what was, and a beginning of that one's
+-- the lines of these answers but the last are printed after what was, and a beginning of that one's
 pub record BreaksOff (answers : List Answer) (before now : Option (List ℕ)) : Type 0 where
   pub told : List Answer
   pub last : Answer
@@ -30,7 +30,7 @@ pub record BreaksOff (answers : List Answer) (before now : Option (List ℕ)) : 
 
 -- ---- from one state of a world to another
 
--- these lines were answered, and their answers printed behind what was
+-- these lines were answered, and their answers printed after what was
 pub record PrintsLines {D : Type 0} (g : Ghosts D) (first : WorldView D) (lines : List Line) (last : WorldView D)
     (before now : Option (List ℕ)) : Type 0 where
   pub answers : List Answer
@@ -46,7 +46,7 @@ pub record AnswersSome {D : Type 0} (g : Ghosts D) (first : WorldView D) (lines 
   pub answers : List Answer
   pub answered : AnswersLines g first done answers last
 
--- the lines of these answers are printed behind what was; or the last one was broken off
+-- the lines of these answers are printed after what was; or the last one was broken off
 abbrev pub AreTold : List Answer → Option (List ℕ) → Option (List ℕ) → Type 0
 AreTold answers before now = Appends before now (flat_map answer_line answers) ⊎ BreaksOff answers before now
 

@@ -45,7 +45,7 @@ fn piece_len(address: u64, left: usize) -> usize
     PIECE.min(of_page).min(left)
 }
 
-/// The bytes of the next store, and those behind it.
+/// The bytes of the next store, and those after it.
 fn split_piece(address: u64, bytes: &[u8]) -> Option<(&[u8], &[u8])>
     ensures parts { IfSome result (λ parts. bytes.now ≡ parts.0.now ++ parts.1.now) }
     ensures some { IfSome result (λ parts. 1 ≤ length parts.0.now) }

@@ -127,7 +127,7 @@ fn answer_one<D: Disk, W: Write, S: Watch>(
     flush_acked(&given, out)
 }
 
-/// Flushes behind the answer of an acknowledged checkpoint.
+/// Flushes after the answer of an acknowledged checkpoint.
 #[tactic(auto, using(crate::proofs::LineLemmas::stays))]
 fn flush_acked<W: Write>(given: &Answer, out: &mut Output<W>) -> Result<(), Stop>
     ensures bytes { Keeps (W.contents out.old.writer) (W.contents out.new.writer) }
@@ -170,7 +170,7 @@ pub fn run_line<D: Disk, W: Write, S: Watch>(
     Ok(told)
 }
 
-/// Flushes behind an answer that tells what the store shows: an acknowledged checkpoint, a merge, a reopening.
+/// Flushes after an answer that tells what the store shows: an acknowledged checkpoint, a merge, a reopening.
 #[tactic(auto, using(crate::proofs::LineLemmas::stays))]
 fn flush_settled<W: Write>(given: &Answer, out: &mut Output<W>) -> Result<(), Stop>
     ensures bytes { Keeps (W.contents out.old.writer) (W.contents out.new.writer) }

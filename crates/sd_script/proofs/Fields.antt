@@ -112,7 +112,7 @@ splits-all line rest fields field splits none is =
     map-append (λ (x : Bor (List ℕ)). x.now) fields (field ∷ []) ∙ ap (λ x. texts fields ++ x ∷ []) is ∙ ap (λ xs. texts fields ++ xs) (sym (one_part is_space rest none)) ∙ splits
 
 -- ---- fields in a list of five, of which the first are taken
--- one more is put behind those before it
+-- one more is put after those before it
 pub splits-put : (line rest : List ℕ) (fields : List (Bor (List ℕ))) (count : ℕ) (field : Bor (List ℕ)) (others : List ℕ) → count < length fields
     → Splits line (take count fields) rest → position_or_len is_space rest < length rest → field.now ≡ before_first is_space rest → others ≡ after_first is_space rest
     → Splits line (take (count + 1) (slice_set fields count field)) others
@@ -125,7 +125,7 @@ pub splits-last : (line rest : List ℕ) (fields : List (Bor (List ℕ))) (count
 splits-last line rest fields count field within splits none is =
     ap texts (take_more_set fields count field within) ∙ splits-all line rest (take count fields) field splits none is
 
--- behind four fields there are two more
+-- after four fields there are two more
 pub splits-many : (line rest : List ℕ) (fields : List (Bor (List ℕ))) → 4 ≤ length fields
     → Splits line (take 4 fields) rest → position_or_len is_space rest < length rest → 5 < length (slice_split is_space line)
 splits-many line rest fields room splits found = grind (arith, length-append, length-map, length-take-le, slice_split_first, length-slice_split)

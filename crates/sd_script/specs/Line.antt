@@ -32,7 +32,7 @@ numeral_of radix digits =
     then Some (digits_value radix digits)
     else None
 
--- a number: in hexadecimal digits of either case behind `0x`, else in decimal digits
+-- a number: in hexadecimal digits of either case after `0x`, else in decimal digits
 abbrev pub number_of : List ℕ → Option ℕ
 number_of text = if starts_with nat_eq text (codes "0x") then numeral_of 16 (drop 2 text) else numeral_of 10 text
 
@@ -68,7 +68,7 @@ prot_of text = find (λ prot. bytes_eq text (prot_word prot)) every_prot
 abbrev pub hex_of : List ℕ → Option (List ℕ)
 hex_of text = if length text == 0 then None else result_ok (decode_of text)
 
--- `mmap SPACE ADDRESS BYTES PROT`, behind the word
+-- `mmap SPACE ADDRESS BYTES PROT`, after the word
 abbrev pub mmap_of : List (List ℕ) → Option Line
 mmap_of (space ∷ address ∷ bytes ∷ prot ∷ []) = do
   s ← number_of space
@@ -78,7 +78,7 @@ mmap_of (space ∷ address ∷ bytes ∷ prot ∷ []) = do
   Some (Command (Mmap s a b p))
 mmap_of _ = None
 
--- `munmap SPACE ADDRESS BYTES`, behind the word
+-- `munmap SPACE ADDRESS BYTES`, after the word
 abbrev pub munmap_of : List (List ℕ) → Option Line
 munmap_of (space ∷ address ∷ bytes ∷ []) = do
   s ← number_of space
@@ -87,7 +87,7 @@ munmap_of (space ∷ address ∷ bytes ∷ []) = do
   Some (Command (Munmap s a b))
 munmap_of _ = None
 
--- `mprotect SPACE ADDRESS BYTES PROT`, behind the word
+-- `mprotect SPACE ADDRESS BYTES PROT`, after the word
 abbrev pub mprotect_of : List (List ℕ) → Option Line
 mprotect_of (space ∷ address ∷ bytes ∷ prot ∷ []) = do
   s ← number_of space
@@ -97,21 +97,21 @@ mprotect_of (space ∷ address ∷ bytes ∷ prot ∷ []) = do
   Some (Command (Mprotect s a b p))
 mprotect_of _ = None
 
--- `fork SPACE`, behind the word
+-- `fork SPACE`, after the word
 abbrev pub fork_of : List (List ℕ) → Option Line
 fork_of (space ∷ []) = do
   s ← number_of space
   Some (Command (Fork s))
 fork_of _ = None
 
--- `exit SPACE`, behind the word
+-- `exit SPACE`, after the word
 abbrev pub exit_of : List (List ℕ) → Option Line
 exit_of (space ∷ []) = do
   s ← number_of space
   Some (Command (Exit s))
 exit_of _ = None
 
--- `load SPACE ADDRESS COUNT`, behind the word
+-- `load SPACE ADDRESS COUNT`, after the word
 abbrev pub load_of : List (List ℕ) → Option Line
 load_of (space ∷ address ∷ count ∷ []) = do
   s ← number_of space
@@ -120,7 +120,7 @@ load_of (space ∷ address ∷ count ∷ []) = do
   Some (Command (Load s a n))
 load_of _ = None
 
--- `try SPACE ADDRESS HEX`, behind the word
+-- `try SPACE ADDRESS HEX`, after the word
 abbrev pub try_of : List (List ℕ) → Option Line
 try_of (space ∷ address ∷ bytes ∷ []) = do
   s ← number_of space
@@ -129,7 +129,7 @@ try_of (space ∷ address ∷ bytes ∷ []) = do
   Some (Command (TryStore s a b))
 try_of _ = None
 
--- `fault SPACE ADDRESS`, behind the word
+-- `fault SPACE ADDRESS`, after the word
 abbrev pub fault_of : List (List ℕ) → Option Line
 fault_of (space ∷ address ∷ []) = do
   s ← number_of space
@@ -137,7 +137,7 @@ fault_of (space ∷ address ∷ []) = do
   Some (Command (Fault s a))
 fault_of _ = None
 
--- `store SPACE ADDRESS HEX`, behind the word
+-- `store SPACE ADDRESS HEX`, after the word
 abbrev pub store_of : List (List ℕ) → Option Line
 store_of (space ∷ address ∷ bytes ∷ []) = do
   s ← number_of space
@@ -150,7 +150,7 @@ store_of _ = None
 abbrev pub at_least_one : ℕ → Option ℕ
 at_least_one n = if nat_lt 0 n then Some n else None
 
--- `words SPACE ADDRESS COUNT`, behind the word: of one page at least
+-- `words SPACE ADDRESS COUNT`, after the word: of one page at least
 abbrev pub words_of : List (List ℕ) → Option Line
 words_of (space ∷ address ∷ count ∷ []) = do
   s ← number_of space
@@ -168,38 +168,38 @@ worker_by_name name =
     else if bytes_eq name (codes "opener") then Some Opener
     else None
 
--- `begin ROUNDS`, behind the word
+-- `begin ROUNDS`, after the word
 abbrev pub begin_of : List (List ℕ) → Option Line
 begin_of (rounds ∷ []) = do
   r ← number_of rounds
   Some (Begin r)
 begin_of _ = None
 
--- `begin-merge`, with nothing behind the word
+-- `begin-merge`, with nothing after the word
 abbrev pub begin_merge_of : List (List ℕ) → Option Line
 begin_merge_of [] = Some BeginMerge
 begin_merge_of (_ ∷ _) = None
 
--- `cancel`, with nothing behind the word
+-- `cancel`, with nothing after the word
 abbrev pub cancel_of : List (List ℕ) → Option Line
 cancel_of [] = Some Cancel
 cancel_of (_ ∷ _) = None
 
--- `work WORKER`, behind the word
+-- `work WORKER`, after the word
 abbrev pub work_of : List (List ℕ) → Option Line
 work_of (name ∷ []) = do
   w ← worker_by_name name
   Some (Work w)
 work_of _ = None
 
--- `perform WORKER`, behind the word
+-- `perform WORKER`, after the word
 abbrev pub perform_of : List (List ℕ) → Option Line
 perform_of (name ∷ []) = do
   w ← worker_by_name name
   Some (Perform w)
 perform_of _ = None
 
--- `perform-at WORKER PLACE`, behind the word
+-- `perform-at WORKER PLACE`, after the word
 abbrev pub perform_at_of : List (List ℕ) → Option Line
 perform_at_of (name ∷ place ∷ []) = do
   w ← worker_by_name name
@@ -207,7 +207,7 @@ perform_at_of (name ∷ place ∷ []) = do
   Some (PerformAt w k)
 perform_at_of _ = None
 
--- `step WORKER COUNT`, behind the word: one event at least
+-- `step WORKER COUNT`, after the word: one event at least
 abbrev pub step_of : List (List ℕ) → Option Line
 step_of (name ∷ count ∷ []) = do
   w ← worker_by_name name
@@ -216,31 +216,31 @@ step_of (name ∷ count ∷ []) = do
   Some (Step w n)
 step_of _ = None
 
--- `finish WORKER`, behind the word
+-- `finish WORKER`, after the word
 abbrev pub finish_of : List (List ℕ) → Option Line
 finish_of (name ∷ []) = do
   w ← worker_by_name name
   Some (Finish w)
 finish_of _ = None
 
--- `checkpoint ROUNDS`, behind the word
+-- `checkpoint ROUNDS`, after the word
 abbrev pub checkpoint_of : List (List ℕ) → Option Line
 checkpoint_of (rounds ∷ []) = do
   r ← number_of rounds
   Some (Checkpoint r)
 checkpoint_of _ = None
 
--- `merge`, with nothing behind the word
+-- `merge`, with nothing after the word
 abbrev pub merge_of : List (List ℕ) → Option Line
 merge_of [] = Some Merge
 merge_of (_ ∷ _) = None
 
--- `reopen`, with nothing behind the word
+-- `reopen`, with nothing after the word
 abbrev pub reopen_of : List (List ℕ) → Option Line
 reopen_of [] = Some Reopen
 reopen_of (_ ∷ _) = None
 
--- `trim`, with nothing behind the word
+-- `trim`, with nothing after the word
 abbrev pub trim_of : List (List ℕ) → Option Line
 trim_of [] = Some Trim
 trim_of (_ ∷ _) = None

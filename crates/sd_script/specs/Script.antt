@@ -50,7 +50,7 @@ is_unfit line = is_unfit_meaning (meaning_of line)
 abbrev pub request_in : List ℕ → Option Line
 request_in line = request_in_meaning (meaning_of line)
 
--- the lines of a script, separated by byte 10: behind a last one there is an empty line more
+-- the lines of a script, separated by byte 10: after a last one there is an empty line more
 abbrev pub lines_of : List ℕ → List (List ℕ)
 lines_of script = slice_split (λ byte. byte == 10) script
 

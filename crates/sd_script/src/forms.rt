@@ -11,7 +11,7 @@ pub struct Field {
     pub kind: FieldKind,
 }
 
-/// The form of a line: its word, the fields behind it, and what it does.
+/// The form of a line: its word, the fields after it, and what it does.
 #[derive(Clone, Copy)]
 pub struct LineForm {
     pub word: &'static str,

@@ -39,7 +39,7 @@ impl Script {
     }
 }
 
-/// The first line of a text and what stands behind its end, if byte 10 ends it.
+/// The first line of a text and what stands after its end, if byte 10 ends it.
 fn first_line(text: &[u8]) -> Option<(&[u8], &[u8])>
     ensures first { IfSome result
         (λ parts. lines_of text.now ≡ parts.0.now ∷ lines_of parts.1.now) }

@@ -93,7 +93,7 @@ impl<D: Disk + Drop> Shared<D> {
         self.run(rt, Worker::Merger, 0, hold)
     }
 
-    /// Opens the store, at first or behind a device call that failed. Returns the last reply: `Reopened` with the
+    /// Opens the store, at first or after a device call that failed. Returns the last reply: `Reopened` with the
     /// number of the checkpoint that the store shows, if it shows one. Seats are answered meanwhile, but of a memory
     /// that is frozen.
     ///

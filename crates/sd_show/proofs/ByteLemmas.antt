@@ -4,7 +4,7 @@ use Rattle.std.specs.Prelude.{slice_range}
 use Rattle.std.proofs.Math.Seq.{take-add}
 use Rattle.std.proofs.lemmas.List.{drop-drop, length-drop, take-take, take_all}
 
--- two ranges, one behind the other, are one
+-- two ranges, one after the other, are one
 range_join : (xs : List ℕ) (a m n : ℕ) → slice_range xs a (a + m) ++ slice_range xs (a + m) (a + m + n) ≡ slice_range xs a (a + m + n)
 range_join xs a m n =
     ap (λ k. take k (drop a xs) ++ slice_range xs (a + m) (a + m + n)) (let e : a + m - a ≡ m = omega arith in e)

@@ -11,7 +11,7 @@ spaces_pages_more kind left bytes some long =
     sym (ap (spaces_pages kind) (spaces_more left bytes some long)
     ∙ sum_by-cons (λ space. runs_pages kind (runs_in space)) bytes (spaces_in (left - 1) (behind_space bytes)))
 
--- behind the last there is nothing left
+-- after the last there is nothing left
 pub done : (limit total rest all : ℕ) → total ≤ limit → rest ≡ 0 → min (total + rest) limit ≡ min all limit → total ≡ min all limit
 done limit total rest all fits none invariant = omega (arith, fits, none, invariant)
 

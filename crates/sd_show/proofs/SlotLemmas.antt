@@ -47,7 +47,7 @@ pub fields_stand : (bytes : List ℕ) (len : ℕ) (h : Header) → header_in byt
 unfolding header_in form_in
 fields_stand bytes len h is = kept (bytes_kept bytes) (form_of bytes) (λ form. fields_kept (fields_of form bytes) len) (λ form. fields_of form bytes) h is
 
--- where a header is read, the table is all that stands behind its data pages
+-- where a header is read, the table is all that stands after its data pages
 pub table_stands : (file : List ℕ) (h : Header) → header_in (slice_range file 0 4096) (length file) ≡ Ok h → 4096 + 4096 * h.pages + h.table_len ≡ length file
     → table_bytes file ≡ drop (4096 + 4096 * h.pages) file
 unfolding fields_of

@@ -8,7 +8,7 @@ use Rattle.sd_image.specs.Reading.{number_at}
 abbrev pub items_in : ℕ → List ℕ → List (List ℕ)
 items_in count bytes = take count (first_chunks 24 (length bytes / 24) bytes)
 
--- of the space that bytes begin with: its areas, its runs, and the bytes behind it
+-- of the space that bytes begin with: its areas, its runs, and the bytes after it
 unfoldable pub areas_in : List ℕ → List (List ℕ)
 areas_in bytes = items_in (number_at 4 4 bytes) (drop 16 bytes)
 
@@ -27,16 +27,16 @@ spaces_in (suc n) bytes = if nat_lt (length bytes) 16 then [] else bytes ∷ spa
 abbrev pub table_spaces : List ℕ → List (List ℕ)
 table_spaces table = if nat_lt (length table) 8 then [] else spaces_in (number_at 4 0 table) (drop 8 table)
 
--- where the bytes behind so many data pages begin in the file, if that is below 2^64
+-- where the bytes after so many data pages begin in the file, if that is below 2^64
 abbrev pub behind : Option ℕ → ℕ → Option ℕ
 behind None count = None
 behind (Some at) count = if nat_lt (at + 4096 * count) (2 ^ 64) then Some (at + 4096 * count) else None
 
--- where the next data page stands behind a run, whose own pages would begin at a place
+-- where the next data page stands after a run, whose own pages would begin at a place
 abbrev pub behind_run : Option ℕ → List ℕ → Option ℕ
 behind_run at run = if number_at 4 16 run == 1 then behind at (number_at 8 8 run) else at
 
--- and behind runs
+-- and after runs
 abbrev pub behind_runs : Option ℕ → List (List ℕ) → Option ℕ
 behind_runs at [] = at
 behind_runs at (run ∷ runs) = behind_runs (behind_run at run) runs

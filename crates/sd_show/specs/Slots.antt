@@ -32,7 +32,7 @@ abbrev pub reason_of : {X : Type 0} → Result X Reason → Option Reason
 reason_of (Ok x) = None
 reason_of (Err reason) = Some reason
 
--- the fault of a table, or else of the digest behind it
+-- the fault of a table, or else of the digest after it
 abbrev pub or_digest : Option Reason → Bool → Option Reason
 or_digest (Some reason) is_other = Some reason
 or_digest None true = Some Digest

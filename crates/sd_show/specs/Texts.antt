@@ -70,7 +70,7 @@ address_text address = codes "0x" ++ digits 16 false address
 unfoldable pub permissions_text : ℕ → List ℕ
 permissions_text number = (if nat_le number 7 then prot_text (prot_of_number number) else decimal number) ++ newline
 
--- the first address of pages and the first behind them, or their numbers where they go past page 2^35
+-- the first address of pages and the first after them, or their numbers where they go past page 2^35
 unfoldable pub range_text : ℕ → ℕ → List ℕ
 range_text first count = if nat_le (first + count) (2 ^ 35)
     then codes "area " ++
@@ -109,7 +109,7 @@ unfoldable pub space_lines : Option ℕ → List ℕ → List ℕ
 space_lines at bytes = field_line (codes "space") (number_at 4 0 bytes) ++ flat_map area_item_line
     (areas_in bytes) ++ runs_text at (runs_in bytes)
 
--- spaces, the data pages of each behind those of the one before
+-- spaces, the data pages of each after those of the one before
 abbrev pub spaces_text : Option ℕ → List (List ℕ) → List ℕ
 spaces_text at [] = []
 spaces_text at (space ∷ spaces) = space_lines at space ++ spaces_text (behind_runs at (runs_in space)) spaces

@@ -86,7 +86,7 @@ fn hash_file<D: Disk>(
     Ok(hasher.finalize())
 }
 
-/// The digest of a slot's file of this length: of all that stands behind its header, and of bytes 1 to 63. It holds 16
+/// The digest of a slot's file of this length: of all that stands after its header, and of bytes 1 to 63. It holds 16
 /// pages at a time.
 ///
 /// # Errors

@@ -25,7 +25,7 @@ fn items_in(bytes: &[u8], count: u64) -> &[[u8; ITEM_SIZE]]
     &items[..count as usize]
 }
 
-/// The bytes behind so many items, none where there are not as many.
+/// The bytes after so many items, none where there are not as many.
 fn bytes_behind(bytes: &[u8], count: u64) -> &[u8]
     ensures { result.now ≡ drop (24 * count) bytes.now }
 {
@@ -44,7 +44,7 @@ pub(crate) fn areas_in(bytes: &[u8]) -> &[[u8; ITEM_SIZE]]
     items_in(&bytes[SPACE_HEAD_SIZE..], u64::from(u32_at(bytes, 4)))
 }
 
-/// The bytes behind the areas of the space that bytes begin with.
+/// The bytes after the areas of the space that bytes begin with.
 fn behind_areas(bytes: &[u8]) -> &[u8]
     requires { 16 ≤ length bytes.now }
     ensures { result.now ≡ drop (24 * number_at 4 4 bytes.now) (drop 16 bytes.now) }
@@ -61,7 +61,7 @@ pub(crate) fn runs_in(bytes: &[u8]) -> &[[u8; ITEM_SIZE]]
     items_in(behind_areas(bytes), u64_at(bytes, 8))
 }
 
-/// The bytes behind the space that bytes begin with.
+/// The bytes after the space that bytes begin with.
 #[tactic(auto, unfolding(crate::specs::Items::behind_space))]
 pub(crate) fn behind_space(bytes: &[u8]) -> &[u8]
     requires { 16 ≤ length bytes.now }
@@ -70,14 +70,14 @@ pub(crate) fn behind_space(bytes: &[u8]) -> &[u8]
     bytes_behind(behind_areas(bytes), u64_at(bytes, 8))
 }
 
-/// Where the bytes behind so many data pages begin in the file, if that is below 2^64.
+/// Where the bytes after so many data pages begin in the file, if that is below 2^64.
 fn behind(at: Option<u64>, count: u64) -> Option<u64>
     ensures { result ≡ behind at count }
 {
     at?.checked_add(count.checked_mul(4096)?)
 }
 
-/// Where the next data page stands in the file behind a run, whose own pages would begin at a place.
+/// Where the next data page stands in the file after a run, whose own pages would begin at a place.
 pub(crate) fn behind_run(at: Option<u64>, run: &[u8; ITEM_SIZE]) -> Option<u64>
     ensures { result ≡ behind_run at run.now }
 {

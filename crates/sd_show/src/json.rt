@@ -89,7 +89,7 @@ fn run_json(alloc: Global, at: Option<u64>, run: &[u8; ITEM_SIZE]) -> Result<Val
     Ok(Value::Object(shown))
 }
 
-/// Runs, in their order, and where the next data page stands behind them.
+/// Runs, in their order, and where the next data page stands after them.
 fn runs_json(
     alloc: Global,
     at: Option<u64>,
@@ -104,7 +104,7 @@ fn runs_json(
     Ok((Value::from(shown), next))
 }
 
-/// The space that bytes begin with, and where the next data page stands behind it.
+/// The space that bytes begin with, and where the next data page stands after it.
 fn space_json(
     alloc: Global,
     at: Option<u64>,

@@ -107,7 +107,7 @@ fn has_other_digest(header: &Header, digest: &[u8; 32]) -> bool
     header.version == Version::Two && header.digest != *digest
 }
 
-/// The fault of a table, or else of the digest behind it.
+/// The fault of a table, or else of the digest after it.
 fn or_digest(fault: Option<Reason>, is_other: bool) -> Option<Reason>
     ensures { result ≡ or_digest fault is_other }
 {

@@ -50,7 +50,7 @@ pub fn show_slot<D: Disk, W: Write>(
 ///
 /// Where a call of the device fails, memory runs out, or nothing more can be printed.
 pub fn show_slots<D: Disk, W: Write>(alloc: Global, disk: &mut D, out: &mut W) -> Result<bool, Stop>
-    // What is printed is the text of each slot's file, one behind the other.
+    // What is printed is the text of each slot's file, one after the other.
     ensures text { D.is_honest disk.new → OnOk result
         (Appends (W.contents out.old) (W.contents out.new) (slots_text (D.contents disk.old))) }
     ensures damaged { D.is_honest disk.new → IfOk result

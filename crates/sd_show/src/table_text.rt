@@ -44,7 +44,7 @@ fn is_within(first: u64, count: u64) -> bool
     u128::from(first) + u128::from(count) <= u128::from(PAGE_NUMBER_LIMIT)
 }
 
-/// Begins the line of an area: with its first address and the first behind it, as `restore` prints them, or with its
+/// Begins the line of an area: with its first address and the first after it, as `restore` prints them, or with its
 /// numbers where a space doesn't have such pages.
 #[tactic(auto, unfolding(crate::specs::Texts::range_text))]
 fn print_range<W: Write>(first: u64, count: u64, out: &mut W) -> io::Result<()>
@@ -105,7 +105,7 @@ fn print_run_kind<W: Write>(number: u32, out: &mut W) -> io::Result<()>
     }
 }
 
-/// Ends a run's line: behind the place in the file where its bytes begin, if it is of data.
+/// Ends a run's line: after the place in the file where its bytes begin, if it is of data.
 #[tactic(auto, unfolding(crate::specs::Texts::offset_text))]
 fn print_offset<W: Write>(kind: u32, at: Option<u64>, out: &mut W) -> io::Result<()>
     ensures { OnOk result
@@ -129,7 +129,7 @@ fn print_run<W: Write>(at: Option<u64>, run: &[u8; ITEM_SIZE], out: &mut W) -> i
     print_offset(kind, at, out)
 }
 
-/// Prints runs, in their order, and returns where the next data page stands behind them.
+/// Prints runs, in their order, and returns where the next data page stands after them.
 fn print_runs<W: Write>(
     at: Option<u64>,
     runs: &[[u8; ITEM_SIZE]],
@@ -147,7 +147,7 @@ fn print_runs<W: Write>(
     Ok(next)
 }
 
-/// Prints the space that bytes begin with, and returns where the next data page stands behind it.
+/// Prints the space that bytes begin with, and returns where the next data page stands after it.
 #[tactic(auto, unfolding(crate::specs::Texts::space_lines, crate::specs::Texts::field_line))]
 fn print_space<W: Write>(at: Option<u64>, bytes: &[u8], out: &mut W) -> io::Result<Option<u64>>
     requires { 16 ≤ length bytes.now }

@@ -17,16 +17,16 @@ pub(crate) struct Making {
     pub(crate) bytes: u64,
     /// Where the writes end.
     end: u64,
-    /// What was written last behind the header, taken for a table.
+    /// What was written last after the header, taken for a table.
     pages: PageCounts,
-    /// When the first call behind its formatting was made, and how many were made from it on.
+    /// When the first call after its formatting was made, and how many were made from it on.
     pub(crate) body_begun: Option<Duration>,
     pub(crate) body_calls: u64,
     pub(crate) header: Option<Header>,
     pub(crate) table: PageCounts,
     is_opened: bool,
     is_cut: bool,
-    /// An image is closed here behind a merge.
+    /// An image is closed here after a merge.
     pub(crate) closes: bool,
 }
 
@@ -67,7 +67,7 @@ impl Making {
         self.calls = self.calls.saturating_add(1);
     }
 
-    /// Counts a call behind the formatting.
+    /// Counts a call after the formatting.
     pub(crate) fn body(&mut self, now: Duration) {
         self.calls = self.calls.saturating_add(1);
         self.body_calls = self.body_calls.saturating_add(1);
@@ -76,7 +76,7 @@ impl Making {
         }
     }
 
-    /// Counts a sync, of the formatting or behind it.
+    /// Counts a sync, of the formatting or after it.
     pub(crate) fn sync(&mut self, now: Duration) {
         if self.body_begun.is_none() {
             self.format();
@@ -97,7 +97,7 @@ impl Making {
         }
     }
 
-    /// Takes the header in, behind its table.
+    /// Takes the header in, after its table.
     fn take_header(&mut self, bytes: &[u8]) {
         if bytes.len() != HEADER_SIZE - 1 {
             return;

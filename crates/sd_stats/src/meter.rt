@@ -35,7 +35,7 @@ pub struct Meter {
     worker: Option<Worker>,
     /// Since when the memory was seen frozen.
     frozen: Option<Duration>,
-    /// A merge whose image is there, while images are closed behind it.
+    /// A merge whose image is there, while images are closed after it.
     merge: Option<MergeRecord>,
     merge_begun: Duration,
     done: Vec<Record>,
@@ -166,7 +166,7 @@ impl Meter {
         }
     }
 
-    /// A call that closes an image behind a merge was made.
+    /// A call that closes an image after a merge was made.
     fn count_closing(&mut self, now: Duration)
         ensures { self.new.calls ≡ self.old.calls }
     {
@@ -177,7 +177,7 @@ impl Meter {
         }
     }
 
-    /// An image was closed behind a merge.
+    /// An image was closed after a merge.
     fn count_closed(&mut self, now: Duration)
         ensures { self.new.calls ≡ self.old.calls }
     {

@@ -48,7 +48,7 @@ pub struct MergeRecord {
     pub slot: usize,
     /// How many images pages were read from.
     pub read: u64,
-    /// How many images were closed behind it.
+    /// How many images were closed after it.
     pub closed: u64,
     pub calls: u64,
     pub took: Duration,

@@ -49,7 +49,7 @@ fn print_merge<W: Write>(record: &MergeRecord, out: &mut W) -> io::Result<()> {
     )
 }
 
-/// Prints records as a table: a row for each image, and a line behind those of each checkpoint and each merge.
+/// Prints records as a table: a row for each image, and a line after those of each checkpoint and each merge.
 ///
 /// # Errors
 ///

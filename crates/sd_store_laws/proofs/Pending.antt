@@ -15,7 +15,7 @@ use Rattle.sd_store_laws.proofs.StepLemmas.{steps_keep_lem}
 pub adds_front : (old : List Image) (one : Image) → Adds old one (one ∷ old)
 adds_front old one j = grind (arith, contains_cases, contains_front, contains_later)
 
--- one image more, behind another
+-- one image more, after another
 adds_behind : (first one : Image) (old new : List Image) → Adds old one new → Adds (first ∷ old) one (first ∷ new)
 adds_behind first one old new adds j = (
   λ c. elim (contains_cases first j new c) [

@@ -113,7 +113,7 @@ module _ (bytes : List ℕ) where
     );
   }
 
-  -- ---- a merge behind the tip
+  -- ---- a merge after the tip
 
   outrun_sound : IsSoundStore (outrun bytes)
   outrun_sound = steps_keep_lem.commits (busy bytes) d (d ∷ a ∷ []) (busy_sound bytes) (second_dump bytes) (adds_front (a ∷ []) d)

@@ -11,7 +11,7 @@ use Rattle.sd_gate.specs.Fits.{DiskLeaves}
 use Rattle.sd_gate.specs.Phases.{given_up}
 use Rattle.sd_store_laws.specs.Beliefs.{Belief, Closed, Kept, Closing, Opening, FitsBelief}
 
--- an image that is being closed or opened stands behind the gate
+-- an image that is being closed or opened stands after the gate
 abbrev pub IsInDoubt : List ℕ → Belief → Type 0
 IsInDoubt body belief = (i : Image) × ((belief ≡ Closing i) ⊎ (belief ≡ Opening i)) × IsImage (gate ∷ body) i
 

@@ -44,7 +44,7 @@ use Rattle.sd_world.proofs.Lists.{get_map, map_get}
 use Rattle.sd_world.proofs.MergesLemmas.{reads_free}
 use Rattle.sd_world.proofs.TrimLemmas.{trim_cases}
 
--- where they stood before an event they do behind it
+-- where they stood before an event they do after it
 abbrev pub KeepsPreDumps : {D : Type 0} → Ghosts D → WorldView D → WorldView D → Type 0
 KeepsPreDumps g old new = HasPreDumpsThere g old → HasPreDumpsThere g new
 

@@ -74,7 +74,7 @@ shows_allowed show base history store (Some image) beliefs c sound slots fits la
       | inr shows ↦ record { shown = next.shown; allowed = inr next.is; shows = shows }
     ]
 
--- a slot that may be written behind its gate is believed to be closed, whatever stands there
+-- a slot that may be written after its gate is believed to be closed, whatever stands there
 closed_belief : (p q : Phase) (body other : List ℕ) (belief : Belief) → may_write p ≡ true → may_write q ≡ true → MayBelieve p body belief → MayBelieve q other belief
 closed_belief p q body other belief may too m = record { strong = Closed; is = closed q too; weaker = subst (λ b. IsWeaker b belief) (its p may m.strong m.is) m.weaker }
   where

@@ -1,4 +1,4 @@
--- What a merged image is read from, and what is to be closed behind it, in the contents of a disk.
+-- What a merged image is read from, and what is to be closed after it, in the contents of a disk.
 use Rattle.std.proofs.Common.{◌≡◌, ◌⊎◌, ℕ, ◌<◌, false, List, [], length, Option, sym, ◌∙◌, ap, subst, inl, inr, arith}
 use Rattle.std.proofs.lemmas.Option.{slice_get-get_or}
 use Rattle.sd_command.specs.declared.reply.Reply.{Reply}

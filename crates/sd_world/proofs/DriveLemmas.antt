@@ -1,4 +1,4 @@
--- A worker's events, one more behind those so far.
+-- A worker's events, one more after those so far.
 use Rattle.std.proofs.Common.{◌≡◌, ◌+◌, ◌<◌, ℕ, true, false, List, [], ◌∷◌, ◌++◌, if◌then◌else◌, length, refl, sym, ap, subst, arith}
 use Rattle.std.proofs.lemmas.List.{append_assoc}
 use Rattle.std.specs.List.{AllByRecursion}
@@ -78,7 +78,7 @@ module _ {D : Type 0} (g : Ghosts D) (worker : Worker) where
   called_driven first mid last answer so_far step =
       record { before = so_far.answers; drives = drives_more first mid last so_far.answers answer so_far.drives step; goes_on = so_far.goes_on }
 
-  -- ---- one turn behind another
+  -- ---- one turn after another
 
   drives_on : (first mid last : WorldView D) (one other : List Reply) → Drives g worker first one mid → Drives g worker mid other last
       → Drives g worker first (one ++ other) last

@@ -94,7 +94,7 @@ module _ {D : Type 0} (g : Ghosts D) where
       shows = shown.shows;
     }
 
-  -- one part behind the other
+  -- one part after the other
   pub goes_further : (old mid new : WorldView D) → GoesOn g old mid → GoesOn g mid new → GoesOn g old new
   goes_further old mid new first second =
       let whole = ShowsAllowedWithin g old (first.events ++ second.events) (first.replies ++ second.replies) new in

@@ -358,7 +358,7 @@ writes_there kept slots lane k request places at asks some other_lane other ther
       | inr pages ↦ page_writes other.request.id.slot other (places.pages other_lane (Outcome other) other.request there refl pages.second)
     ]
 
--- a request that is ready stays so behind the outcomes on its slot
+-- a request that is ready stays so after the outcomes on its slot
 pub ready_now : (kept : List Kept) (slots lane : ℕ) (request : Asked) (s : SlotNow) → AreInPlace kept slots → slice_get kept lane ≡ Some (Request request)
     → is_ready s.phase request.id.call ≡ true → is_ready (slot_now kept request.id.slot s).phase request.id.call ≡ true
 ready_now kept slots lane request s places at ready = elim (lane_cases lane) [

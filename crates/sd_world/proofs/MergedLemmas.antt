@@ -25,7 +25,7 @@ append_none [] = refl
 append_none (x ∷ xs) = ap (λ all. x ∷ all) (append_none xs)
 
 module _ {D : Type 0} (g : Ghosts D) where
-  -- one event more, behind which the file is as it was
+  -- one event more, after which the file is as it was
   entered_longer : (first last end : WorldView D) (events : List Event) (answers : List Reply) (event : Event) (answer : Reply) (slot serial : ℕ) → IsStep g event last answer end
       → file_at (g.contents end.disk) slot ≡ file_at (g.contents last.disk) slot → EnteredWithin g first events answers last slot serial
       → EnteredWithin g first (events ++ event ∷ []) (answers ++ answer ∷ []) end slot serial
@@ -85,7 +85,7 @@ module _ {D : Type 0} (g : Ghosts D) where
       (subst (λ s. file_at (g.contents end.disk) s ≡ file_at (g.contents last.disk) s) was.in_slot (step.keeps was.merge was.r was.runs was.doing)) (entered slot serial was)
   came first last end events answers event answer slot serial runs step entered (inr enters) = entered_now first last end events answers event answer slot serial runs step enters
 
-  -- so it is behind all events
+  -- so it is after all events
   entered_all : (first mid last : WorldView D) (before : List Event) (told : List Reply) (after : List Event) (more : List Reply) → Runs g first before told mid → Entered first before told mid
       → Runs g mid after more last → g.is_honest last.disk → Entered first (before ++ after) (told ++ more) last × g.is_honest mid.disk
   entered_all first mid last before told [] [] runs entered rest honest = (

@@ -1,4 +1,4 @@
--- Which checkpoint runs behind an event: the one that was begun last, or the one that ran before.
+-- Which checkpoint runs after an event: the one that was begun last, or the one that ran before.
 use Rattle.std.proofs.Common.{◌≡◌, ◌≢◌, ◌⊎◌, ℕ, Bool, true, false, is_none, Option, Some, None, refl, sym, ◌∙◌, ap, subst, inl, inr, arith}
 use Rattle.std.proofs.lemmas.Bool.{cases_eq}
 use Rattle.sd_command.specs.declared.refusal.Refusal.{Refusal}
@@ -34,7 +34,7 @@ use Rattle.sd_world.proofs.TrimLemmas.{trim_cases}
 abbrev pub KeepsNumber : CoreView → CoreView → Type 0
 KeepsNumber old new = (n : ℕ) → running_number new.dumper.running ≡ Some n → running_number old.dumper.running ≡ Some n
 
--- a checkpoint that runs behind an event is the one that was begun last
+-- a checkpoint that runs after an event is the one that was begun last
 abbrev pub NumberGoes : Event → Reply → CoreView → CoreView → Type 0
 NumberGoes event answer old new = (n : ℕ) → running_number new.dumper.running ≡ Some n
     → begun_after event answer (running_number old.dumper.running) ≡ Some n
@@ -147,12 +147,14 @@ merge_number old answer new refused merges = by (merge_refusal old) refl
 
 cancel_number : (old : CoreView) (answer : Reply) (new : CoreView)
     → ((why : Refusal) → cancel_refusal old ≡ Some why → (answer ≡ reply.Refused why) × (new ≡ old))
-    → (cancel_refusal old ≡ None → IsCancelled old answer new) → KeepsNumber old new
+    → (cancel_refusal old ≡ None → IsCancelled old answer new) → NumberGoes Cancel answer old new
 cancel_number old answer new refused cancelled = by (cancel_refusal old) refl
   where
-    by : (o : Option Refusal) → cancel_refusal old ≡ o → KeepsNumber old new
-    by None is = none_begins old new (ap is_none (cancelled is).idle)
-    by (Some why) is = same_core old new (refused why is).1
+    by : (o : Option Refusal) → cancel_refusal old ≡ o → NumberGoes Cancel answer old new
+    by None due n runs = none_runs new.dumper.running (begun_after Cancel answer (running_number old.dumper.running) ≡ Some n) n
+        (ap is_none (cancelled due).idle) runs
+    by (Some why) due n runs = subst (λ a. begun_after Cancel a (running_number old.dumper.running) ≡ Some n) (sym (refused why due).0)
+        (same_core old new (refused why due).1 n runs)
 
 -- ---- the order to trim
 

@@ -17,7 +17,7 @@ use Rattle.sd_crash_safety.specs.Calls.{AddsByCancel, AddsByOrder, IsJournaled, 
 use Rattle.sd_crash_safety.specs.Shown.{ShowsAllowed}
 use Rattle.sd_crash_safety.specs.View.{CoreView, history_of}
 use Rattle.sd_world.specs.declared.event.Event.{Event}
-use Rattle.sd_world.specs.declared.event.Event.TheVariants.{Begin, Trim}
+use Rattle.sd_world.specs.declared.event.Event.TheVariants.{Begin, Cancel, Trim}
 use Rattle.sd_world.specs.Adds.{AddsByCommand, AddsByPerform, AddsByWork, AddsToJournal}
 use Rattle.sd_world.specs.Points.{Folds}
 use Rattle.sd_world.specs.Promise.{begun_after}
@@ -73,13 +73,20 @@ begins_so : (answer : Reply) (rounds : ℕ) (one other : Option ℕ) → ((n : �
     → (n : ℕ) → begun_after (Begin rounds) answer one ≡ Some n → begun_after (Begin rounds) answer other ≡ Some n
 begins_so answer rounds one other so n is = grind arith
 
+cancels_so : (answer : Reply) (one other : Option ℕ) → ((n : ℕ) → one ≡ Some n → other ≡ Some n)
+    → (n : ℕ) → begun_after Cancel answer one ≡ Some n → begun_after Cancel answer other ≡ Some n
+cancels_so (reply.Cancelled m) one other so n is = is
+cancels_so _ one other so n is = so n is
+
 begun_so : (event : Event) (answer : Reply) (one other : Option ℕ) → ((n : ℕ) → one ≡ Some n → other ≡ Some n)
     → (n : ℕ) → begun_after event answer one ≡ Some n → begun_after event answer other ≡ Some n
-begun_so event answer one other so n is = grind arith
+begun_so (Begin rounds) answer one other so n is = begins_so answer rounds one other so n is
+begun_so Cancel answer one other so n is = cancels_so answer one other so n is
+begun_so _ answer one other so n is = so n is
 
 -- ---- what a trim folds
 
--- what is gone behind an event, with the entries that are left then
+-- what is gone after an event, with the entries that are left then
 record Went (event : Event) (answer : Reply) (begun : Option ℕ) (base : Base) (before : History) (new : CoreView) : Type 0 where
   pub gone : History
   pub folds : Folds base gone new.base

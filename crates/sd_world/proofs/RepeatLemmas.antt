@@ -13,7 +13,7 @@ module _ {D : Type 0} (g : Ghosts D) (event : Event) (answer : Reply) where
   repeated_on zero first mid last runs step = (last, subst (λ (world : WorldView D). IsStep g event world answer last) runs step, refl)
   repeated_on (suc count) first mid last runs step = (runs.0, runs.1, repeated_on count runs.0 mid last runs.2 step)
 
-  -- one more behind those so far
+  -- one more after those so far
   pub repeated : (count : ℕ) (first mid last : WorldView D) → Runs g first (replicate count event) (replicate count answer) mid
       → IsStep g event mid answer last → Runs g first (replicate (count + 1) event) (replicate (count + 1) answer) last
   repeated count first mid last runs step = subst (λ n. Runs g first (replicate n event) (replicate n answer) last) (suc-eq-add-one count)

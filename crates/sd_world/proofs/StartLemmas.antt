@@ -1,4 +1,4 @@
--- What an opener leaves that opened a store again, behind its world's opening.
+-- What an opener leaves that opened a store again, after its world's opening.
 use Rattle.std.proofs.Common.{◌≡◌, ℕ, Bool, true, false, List, [], ◌∷◌, if◌then◌else◌, Option, Some, None, refl, sym, ◌∙◌, ap, subst, arith}
 use Rattle.std.specs.List.{AllByRecursion}
 use Rattle.sd_command.specs.declared.refusal.Refusal.{Refusal}
@@ -110,7 +110,7 @@ module _ {D : Type 0} (g : Ghosts D) where
         history = rest.history ∙ event_keeps first drives.0 r drives.1 goes.0;
       }
 
-  -- ---- behind an opening
+  -- ---- after an opening
 
   none_awaited : (core : CoreView) → history_of core ≡ [] → awaited_checkpoint core ≡ None
   none_awaited core none = ap (λ history. if has_swept core.items then pending history else None) none ∙ either (has_swept core.items) None

@@ -81,7 +81,7 @@ step_keeps : (old : CoreView) (worker : Worker) (answer : Reply) (new : CoreView
     → KeepsTickets old new
 step_keeps old worker answer new makes flags = grind arith
 
--- what is out behind a request that is handed out
+-- what is out after a request that is handed out
 module _ (outs : List (Option RequestId)) (lane : ℕ) (id : RequestId) (free : slice_get outs lane ≡ Some None) where
   out_before : (at : ℕ) (one : RequestId) → slice_get (slice_set outs lane (Some id)) at ≡ Some (Some one)
       → ((at ≡ lane) × (one ≡ id)) ⊎ ((at ≢ lane) × (slice_get outs at ≡ Some (Some one)))

@@ -39,7 +39,7 @@ pub record IsWorldThere {D : Type 0} (g : Ghosts D) (world : WorldView D) : Type
   pub is : IsWorld g world
   pub pre_dumps : g.is_honest world.disk → HasPreDumpsThere g world
 
--- Behind the acknowledgement of n its dump and all its pre-dumps stand in their slots: the dump names the last pre-dump
+-- After the acknowledgement of n its dump and all its pre-dumps stand in their slots: the dump names the last pre-dump
 -- as its parent.
 pub record IsAckedThere {D : Type 0} (g : Ghosts D) (n : ℕ) (old new : WorldView D) : Type 0 where
   pub running : Running

@@ -30,7 +30,7 @@ pub record BegunWithin {D : Type 0} (g : Ghosts D) (first : WorldView D) (events
   pub running : next.core.dumper.running ≡ Some checkpoint
   pub asked : length checkpoint.pre_dumps ≡ rounds
 
--- So began the checkpoint that runs behind a run, where none ran as that began. An acknowledgement is of the checkpoint
+-- So began the checkpoint that runs after a run, where none ran as that began. An acknowledgement is of the checkpoint
 -- that ran before it.
 abbrev pub RunsAsBegun : {D : Type 0} → Ghosts D → Type 0
 RunsAsBegun {D} g = (first last : WorldView D) (events : List Event) (answers : List Reply)

@@ -30,7 +30,7 @@ pub record EntersIn {D : Type 0} (g : Ghosts D) (old new : WorldView D) (slot se
 abbrev pub ComesToClose : {D : Type 0} → Ghosts D → WorldView D → WorldView D → ℕ → ℕ → Type 0
 ComesToClose g old new slot serial = MergeCloses old.core slot serial ⊎ EntersIn g old new slot serial
 
--- a merge that closes images behind an event came to it so
+-- a merge that closes images after an event came to it so
 abbrev pub ClosesBehind : {D : Type 0} → Ghosts D → WorldView D → WorldView D → Type 0
 ClosesBehind g old new = (slot serial : ℕ) → MergeCloses new.core slot serial → ComesToClose g old new slot serial
 

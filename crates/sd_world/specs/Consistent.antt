@@ -42,7 +42,7 @@ slot_now (kept ∷ others) slot now = slot_now others slot (slot_with kept slot 
 abbrev pub FitsNow : {D : Type 0} → Ghosts D → D → ℕ → SlotNow → Type 0
 FitsNow g disk slot now = SlotFits now.phase now.body slot (g.contents disk) (g.may_leave disk)
 
--- The core believes what it does of the requests that are kept and of the files of the disk, with these bodies behind
+-- The core believes what it does of the requests that are kept and of the files of the disk, with these bodies after
 -- the gates; each slot fits its phase, with the calls that were made; and each outcome tells its slot's file as it is.
 pub record IsConsistent {D : Type 0} (g : Ghosts D) (world : WorldView D) : Type 0 where
   pub bodies : List (List ℕ)

@@ -44,7 +44,7 @@ pub record EntersStored (contents : List (List ℕ)) (merge : merger.Running) (s
   pub closes : RetiresThese (opened_merge merge serial) new (list_of new.merger)
   pub each : (one : Retired) → Contains (list_of new.merger) one → IsListedThere contents new.catalog one
 
--- so it is behind the merger's outcome at this place with which the merged image enters the catalog
+-- so it is after the merger's outcome at this place with which the merged image enters the catalog
 abbrev pub CopiesStored : {D : Type 0} → Ghosts D → Worker → ℕ → WorldView D → WorldView D → Type 0
 CopiesStored g worker place old new =
     (lane : ℕ) → worker ≡ Merger → IsAt old.kept its.Made worker place lane → (merge : merger.Running) (serial : ℕ)

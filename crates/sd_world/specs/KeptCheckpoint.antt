@@ -13,7 +13,7 @@ use Rattle.sd_world.specs.declared.event.Event.TheVariants.{Begin}
 abbrev pub RanBefore : Option Running → Option Running → Type 0
 RanBefore old new = IfSome new (λ next. (running : Running) × (old ≡ Some running) × (begun_as next ≡ begun_as running))
 
--- so it is behind an event, unless that is the order that began it
+-- so it is after an event, unless that is the order that began it
 pub data KeepsCheckpoint (event : Event) (answer : Reply) (old new : CoreView) : Type 0 where
   ran : RanBefore old.dumper.running new.dumper.running → KeepsCheckpoint event answer old new
   begun : (rounds n : ℕ) → event ≡ Begin rounds → answer ≡ reply.Begun n → Begins old rounds n new

@@ -20,7 +20,7 @@ pub record WorksLittle {D : Type 0} (worker : Worker) (place : ℕ) (old : World
   pub acked : (n : ℕ) → answer ≡ reply.Acked n → IsAcked n old.core new.core
   -- and the dump has exactly the pages of the memory at its freeze, each in the way that was due then
   pub little : (n : ℕ) → answer ≡ reply.Acked n → IsLittleDump n old.core new.core
-  -- behind the dumper's outcome with which one pre-dump more is open, that has none but the pages that its visits found
+  -- after the dumper's outcome with which one pre-dump more is open, that has none but the pages that its visits found
   -- touched
   pub round : (lane : ℕ) (running : Running) → worker ≡ Dumper → IsAt old.kept its.Made worker place lane
       → OpensPreDump running old.core new.core → IsLittlePreDump running old.core new.core

@@ -46,7 +46,7 @@ pub record HasMerged {D : Type 0} (g : Ghosts D) (first : WorldView D) (events :
   pub entered : EnteredWithin g first events answers end slot serial
   pub cut : AreCutThere (g.contents end.disk) (list_of last.core.merger)
 
--- So it is behind each event of a run that is answered `merged`, where the disk is honest and none closed images as the
+-- So it is after each event of a run that is answered `merged`, where the disk is honest and none closed images as the
 -- run began.
 abbrev pub MergesStand : {D : Type 0} → Ghosts D → Type 0
 MergesStand {D} g = (first last end : WorldView D) (events : List Event) (answers : List Reply) (event : Event)

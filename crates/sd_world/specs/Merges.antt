@@ -42,7 +42,7 @@ AreCutThere contents list = (one : Retired) → Contains list one
 -- What a worker's event makes of a merge, where it hands in the outcome at this place.
 pub record MergesThere {D : Type 0} (g : Ghosts D) (worker : Worker) (place : ℕ) (old : WorldView D) (answer : Reply)
     (new : WorldView D) : Type 0 where
-  -- behind the merger's outcome with which the merged image enters the catalog
+  -- after the merger's outcome with which the merged image enters the catalog
   pub enters : (lane : ℕ) → worker ≡ Merger → IsAt old.kept its.Made worker place lane
       → (merge : merger.Running) (serial : ℕ)
       → OpensMerged merge serial old.core new.core → IsMergedThere (g.contents new.disk) old.core.catalog merge serial

@@ -1,5 +1,5 @@
 -- What is promised of a run, of its events, their replies, its journal and its disk alone.
-use Rattle.std.specs.Prelude.{◌≡◌, ◌≢◌, ◌⊎◌, ℕ, List, [], ◌∷◌, ◌++◌, Option, Some}
+use Rattle.std.specs.Prelude.{◌≡◌, ◌≢◌, ◌⊎◌, ℕ, List, [], ◌∷◌, ◌++◌, Option, Some, None}
 use Rattle.std.specs.List.{AllByRecursion}
 use Rattle.std.specs.Option.{option_map}
 use Rattle.sd_areas.specs.PlainMemory.{PlainMemory}
@@ -21,7 +21,7 @@ use Rattle.sd_world.specs.declared.event.Event.TheVariants.{Command as CommandEv
 use Rattle.sd_world.specs.declared.event.Event.TheVariants.{Cancel}
 
 -- A point of a run: the disk; what the store showed as the run started, and all entries of its journal since, the
--- newest first; and the number of the checkpoint that was begun last.
+-- newest first; and the number of the checkpoint that was begun last, until it is cancelled.
 pub record Point (D : Type 0) : Type 0 where
   pub disk : D
   pub first : Shown
@@ -64,9 +64,10 @@ pub record Freezes (event : Event) (answer : Reply) (begun : Option ℕ) (first 
   pub beyond : option_map (λ (pair : ℕ × PlainMemory). pair.0) first ≢ Some number
   pub entry : new ≡ Freeze number ∷ old
 
--- the number of the checkpoint that was begun last
+-- the number of the checkpoint that was begun last, until it is cancelled
 abbrev pub begun_after : Event → Reply → Option ℕ → Option ℕ
 begun_after (Begin rounds) (reply.Begun n) before = Some n
+begun_after Cancel (reply.Cancelled n) before = None
 begun_after _ answer before = before
 
 -- ---- what contents show

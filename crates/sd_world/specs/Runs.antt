@@ -43,7 +43,7 @@ pub record IsStep {D : Type 0} (g : Ghosts D) (event : Event) (old : WorldView D
   pub does : Does g event old answer new
   pub adds : AddsToJournal event answer old.core new.core
   pub little : DoesLittle event old answer new
-  -- the checkpoint that runs behind it is the one that ran before, or the one that it began
+  -- the checkpoint that runs after it is the one that ran before, or the one that it began
   pub checkpoint : KeepsCheckpoint event answer old.core new.core
   -- what a merge's event makes of the disk, where that is honest, and that the merged image's file stays while images
   -- are closed
@@ -51,7 +51,7 @@ pub record IsStep {D : Type 0} (g : Ghosts D) (event : Event) (old : WorldView D
   pub keeps : KeepsMerged g old new
   pub closes : g.is_honest new.disk → ClosesBehind g old new
   pub ends : g.is_honest new.disk → EndsBehind g old answer new
-  -- that a merged image is read from what stands on the disk, and which images are to be closed behind it
+  -- that a merged image is read from what stands on the disk, and which images are to be closed after it
   pub copies : g.is_honest new.disk → DoesCopy g event old new
   -- for what alone the next step of a job is refused
   pub jobs : g.is_honest new.disk → GoesOnUnless event old answer
@@ -60,7 +60,7 @@ pub record IsStep {D : Type 0} (g : Ghosts D) (event : Event) (old : WorldView D
   -- what the run goes on from stays, but by a trim; the journal is legal, and the memory is the one that it makes
   pub base : event ≢ Trim → new.core.base ≡ old.core.base
   pub tracked : IsTracked new.core.base new.core.items new.core.memory
-  -- a crash within it leaves what the journal allowed before it; a crash behind it what the journal allows then, and
+  -- a crash within it leaves what the journal allowed before it; a crash after it what the journal allows then, and
   -- after an acknowledgement or a reopening that checkpoint
   pub any_moment : g.is_honest new.disk
       → LeavesOnly g old.disk new.disk (ShowsAllowed old.core.base (history_of old.core))

@@ -20,7 +20,7 @@ use Rattle.sd_world.specs.Jobs.{IsJob}
 use Rattle.sd_world.specs.Opens.{HasNoFrame, IsFaultOf, bare_memory}
 use Rattle.sd_world.specs.View.{WorldView, nothing_kept}
 
--- A world behind its opening over a disk, as the call tells: no entry stands in the journal, the store isn't open yet,
+-- A world after its opening over a disk, as the call tells: no entry stands in the journal, the store isn't open yet,
 -- nothing is out, and no checkpoint runs. The disk was only read. Its contents show what the run starts from, or
 -- nothing saved, and so does every outcome of a crash.
 pub record IsOpened {D : Type 0} (g : Ghosts D) (disk : D) (frames : ℕ) (opened : WorldView D) : Type 0 where

@@ -34,7 +34,7 @@ use Rattle.sd_world.specs.View.{IsAt, IsNowhere, WorldView}
 
 -- ---- a worker's event
 
--- what is left of a worker's job behind its event: less, unless that ended the job or was refused
+-- what is left of a worker's job after its event: less, unless that ended the job or was refused
 abbrev pub LeavesLess : Reply → ℕ → ℕ → Type 0
 LeavesLess reply.Worked before now = now < before
 LeavesLess (reply.Acked n) before now = Unit {0}

@@ -175,7 +175,7 @@ impl<D: Disk> World<D> {
         self.follow(worker, &mut Unwatched)
     }
 
-    /// [`finish`](World::finish), while the job is watched: between its turns `watch` is shown the core, and behind its
+    /// [`finish`](World::finish), while the job is watched: between its turns `watch` is shown the core, and after its
     /// end it is told so.
     pub fn finish_watched<S: Watch>(&mut self, worker: Worker, watch: &mut S) -> Reply
         ensures finished { IsFinished D.Disk worker self.old result self.new }
@@ -210,7 +210,7 @@ impl<D: Disk> World<D> {
         self.finish_watched(worker, watch)
     }
 
-    /// Makes a checkpoint with 0 to 8 rounds before its freeze, to its end, and returns its number. Behind `Ok(n)`
+    /// Makes a checkpoint with 0 to 8 rounds before its freeze, to its end, and returns its number. After `Ok(n)`
     /// whatever a crash leaves shows checkpoint n, with the memory at its freeze (`acked` and `shows` of
     /// [`step`](World::step)). The store has to be open: [`start`](World::start) opens it. Next comes an event `Trim`,
     /// so that the journal doesn't fill.
@@ -227,7 +227,7 @@ impl<D: Disk> World<D> {
         // Its last reply is `acked`, with that number, or the refusal.
         ensures job { IsJob D.Disk (Begin rounds) Dumper self.old (last_reply reply.Acked result) self.new }
         ensures goes_on { GoesOn D.Disk self.old self.new }
-        // Whatever a crash leaves then shows checkpoint n behind `Ok(n)`, with the memory at its freeze.
+        // Whatever a crash leaves then shows checkpoint n after `Ok(n)`, with the memory at its freeze.
         ensures shows { D.is_honest self.new.disk → Within (D.may_leave self.new.disk)
             (ShowsReply (last_reply reply.Acked result) self.new.core.base (history_of self.new.core)) }
         ensures promise { D.is_honest self.new.disk → (first : Point D) → StandsAt self.old first
@@ -252,7 +252,7 @@ impl<D: Disk> World<D> {
     /// `Busy` where a merge runs, `Idle` where the store shows no checkpoint, `NumbersUsed`, `NoSlot` where no slot is
     /// free, or `OutOfMemory`. Or the refusal of a step: `OutOfMemory`, with which the merge may still run and be
     /// finished; `Damaged` where its source isn't there to be read; or `Device` or `StoreDown` where a device call
-    /// failed, and then as behind a checkpoint.
+    /// failed, and then as after a checkpoint.
     pub fn merge_now(&mut self) -> Result<u64, Refusal>
         // Its last reply is `merged`, with that serial, or the refusal.
         ensures job { IsJob D.Disk Merge Merger self.old (last_reply reply.Merged result) self.new }
@@ -268,7 +268,7 @@ impl<D: Disk> World<D> {
     }
 
     /// Opens the store again, to its end, and returns the number of the checkpoint that it shows, if it shows one. It
-    /// is done once behind [`open`](World::open), as [`start`](World::start) does, and once behind each device call
+    /// is done once after [`open`](World::open), as [`start`](World::start) does, and once after each device call
     /// that failed; then checkpoints and merges are made again.
     ///
     /// # Errors
@@ -281,7 +281,7 @@ impl<D: Disk> World<D> {
         // Its last reply is `reopened`, with what it found, or the refusal.
         ensures job { IsJob D.Disk Reopen Opener self.old (last_reply reply.Reopened result) self.new }
         ensures goes_on { GoesOn D.Disk self.old self.new }
-        // Whatever a crash leaves then shows what it found behind `Ok`, with the memory at its freeze, or nothing
+        // Whatever a crash leaves then shows what it found after `Ok`, with the memory at its freeze, or nothing
         // saved.
         ensures shows { D.is_honest self.new.disk → Within (D.may_leave self.new.disk)
             (ShowsReply (last_reply reply.Reopened result) self.new.core.base (history_of self.new.core)) }

@@ -192,7 +192,7 @@ impl<D: Disk> World<D> {
         self.core.sound();
     }
 
-    /// A law: behind each event of a run that is answered `merged` the image of that serial stands in its slot of the
+    /// A law: after each event of a run that is answered `merged` the image of that serial stands in its slot of the
     /// contents, a copy of its source, as it entered at one of the run's events; and the images of the merge's list are
     /// closed, and cut to one byte.
     pub fn merges_stand(&self)
@@ -201,7 +201,7 @@ impl<D: Disk> World<D> {
         let _core = &self.core;
     }
 
-    /// A law: the checkpoint that runs behind a run that began with none was begun by one of the run's events, and has
+    /// A law: the checkpoint that runs after a run that began with none was begun by one of the run's events, and has
     /// as many pre-dumps as that order asked for. An acknowledgement is of the checkpoint that ran before it (`step`:
     /// `acked`).
     pub fn runs_as_begun(&self)
@@ -234,7 +234,7 @@ impl<D: Disk> World<D> {
         let _core = &self.core;
     }
 
-    /// A law: the requests that are out have tickets of their own behind each event of a run, as long as 64 bits last.
+    /// A law: the requests that are out have tickets of their own after each event of a run, as long as 64 bits last.
     /// So the least ticket of a worker is that of its oldest request.
     pub fn tickets_last(&self)
         ensures { TicketsLast D.Disk }
@@ -263,7 +263,7 @@ impl<D: Disk> World<D> {
     /// or `Refused`), and journaled with its reply; refused as `JournalFull` or `OutOfMemory` it isn't, and nothing
     /// changes. Between a freeze and its end every command is refused as `Frozen`. Orders begin a job or end it:
     /// `Begun`, `Worked`, `Cancelled`, `Trimmed`. A worker's next event is `Perform` where [`World::is_out`], and else
-    /// `Work`, up to `Acked`, `Merged` or `Reopened`: [`World::finish`] makes them. Behind a device call that failed
+    /// `Work`, up to `Acked`, `Merged` or `Reopened`: [`World::finish`] makes them. After a device call that failed
     /// (`Device`) the next step is refused as `StoreDown`, and so are all jobs until the store is opened again.
     pub fn step(&mut self, event: &Event) -> Reply
         // What it does to the core, the disk and what is kept.
@@ -272,7 +272,7 @@ impl<D: Disk> World<D> {
             → is_asked self.old.kept worker ≡ false
             → (result ≡ reply.Refused Idle) × (self.new ≡ self.old) }
 
-        // Behind a device call one fewer is out of its worker that wasn't made.
+        // After a device call one fewer is out of its worker that wasn't made.
         ensures made { (worker : WorkerKind) → event.now ≡ Perform worker
             → is_asked self.old.kept worker ≡ true
             → asked_count self.new.kept worker < asked_count self.old.kept worker }
@@ -298,22 +298,22 @@ impl<D: Disk> World<D> {
         // freeze, as data or zeros those that something touched since their last visit; and a pre-dump has such pages
         // alone.
         ensures little { DoesLittle event.now self.old result self.new }
-        // A checkpoint that runs behind it ran before, with the number, the slots and the first parent with which it
+        // A checkpoint that runs after it ran before, with the number, the slots and the first parent with which it
         // began; or this event began it.
         ensures checkpoint { KeepsCheckpoint event.now result self.old.core self.new.core }
 
         // Where a merge's image enters the catalog it is open in its slot, a copy of its source, and stays so while the
-        // merge closes images; and behind the merge those that it was to close are closed, and cut to one byte.
+        // merge closes images; and after the merge those that it was to close are closed, and cut to one byte.
         ensures merges { D.is_honest self.new.disk
             → DoesMerge D.Disk event.now self.old result self.new }
         ensures keeps { KeepsMerged D.Disk self.old self.new }
-        // A merge that closes images behind it, or ends with it, did so before, or its image enters by it.
+        // A merge that closes images after it, or ends with it, did so before, or its image enters by it.
         ensures closes { D.is_honest self.new.disk → ClosesBehind D.Disk self.old self.new }
         ensures ends { D.is_honest self.new.disk → EndsBehind D.Disk self.old result self.new }
         // As it enters, its source stands on the disk with all that this reaches, so it has what these hold there; and
         // the list of the images to close is fixed.
         ensures copies { D.is_honest self.new.disk → DoesCopy D.Disk event.now self.old self.new }
-        // Behind an acknowledgement the checkpoint's dump and each of its pre-dumps are open in their slots of the
+        // After an acknowledgement the checkpoint's dump and each of its pre-dumps are open in their slots of the
         // contents, and each names the one before as its parent.
         ensures acked { D.is_honest self.new.disk → DoesAck D.Disk event.now self.old result self.new }
         // While a worker's job runs, its next step is refused only for want of memory, or where a device call failed.
@@ -365,8 +365,8 @@ impl<D: Disk> World<D> {
         ensures honest { D.is_honest self.new.disk → D.is_honest self.old.disk }
 
         // From each point at which the world stands the events go, one by one, to a point at which it stands then.
-        // Within an event a crash leaves what the journal allowed before it, and behind it what the journal allows
-        // then; behind `acked` and `reopened` that checkpoint, with the memory at its freeze.
+        // Within an event a crash leaves what the journal allowed before it, and after it what the journal allows
+        // then; after `acked` and `reopened` that checkpoint, with the memory at its freeze.
         ensures promise { IfOk result (λ replies. D.is_honest self.new.disk → (first : Point D)
             → StandsAt self.old first → (last : Point D) × StandsAt self.new last
             × Goes D.Disk first events.now replies.items last) }

@@ -1,4 +1,4 @@
-//! Crashes behind each device call of runs, and runs of which each call fails.
+//! Crashes after each device call of runs, and runs of which each call fails.
 use sd_disk::MemDisk;
 use std::alloc::Global;
 use std::process::Abort;
@@ -46,7 +46,7 @@ const ROUNDS: [Line; 14] = [
     Line::Finish,
 ];
 
-/// A checkpoint that is cancelled behind its pre-dump, and two that aren't.
+/// A checkpoint that is cancelled after its pre-dump, and two that aren't.
 const CANCEL: [Line; 12] = [
     Line::Map(2),
     Line::Store(0, 1),
@@ -90,7 +90,7 @@ fn is_right(
     Ok(())
 }
 
-/// A call of a run fails: a crash behind it, and one at the end, leaves what it may, and a checkpoint is acknowledged
+/// A call of a run fails: a crash after it, and one at the end, leaves what it may, and a checkpoint is acknowledged
 /// at least. Returns whether a call failed.
 fn fails(
     rt: &impl Abort,
@@ -135,25 +135,25 @@ fn is_right_where_calls_fail(
     Ok(())
 }
 
-/// A crash comes behind each call of two checkpoints.
+/// A crash comes after each call of two checkpoints.
 #[test]
 fn two_checkpoints(rt: HostRuntime) -> Result<(), Fail> {
     Ok(is_right(&rt, rt.alloc(), &NONE, &TWO, 2)?)
 }
 
-/// A crash comes behind each call of a checkpoint of two pre-dumps, between whose steps bytes are stored.
+/// A crash comes after each call of a checkpoint of two pre-dumps, between whose steps bytes are stored.
 #[test]
 fn a_checkpoint_in_rounds(rt: HostRuntime) -> Result<(), Fail> {
     Ok(is_right(&rt, rt.alloc(), &TWO, &ROUNDS, 2)?)
 }
 
-/// A crash comes behind each call of a checkpoint that is cancelled, and of the next one.
+/// A crash comes after each call of a checkpoint that is cancelled, and of the next one.
 #[test]
 fn a_checkpoint_that_is_cancelled(rt: HostRuntime) -> Result<(), Fail> {
     Ok(is_right(&rt, rt.alloc(), &TWO, &CANCEL, 2)?)
 }
 
-/// A crash comes behind each call of a store that is opened again, and of its checkpoints.
+/// A crash comes after each call of a store that is opened again, and of its checkpoints.
 #[test]
 fn a_store_that_is_opened_again(rt: HostRuntime) -> Result<(), Fail> {
     Ok(is_right(&rt, rt.alloc(), &TWO, &AGAIN, 2)?)

@@ -1,4 +1,4 @@
-//! Merges that are cut in at each place of a checkpoint in rounds, with a stop behind each call.
+//! Merges that are cut in at each place of a checkpoint in rounds, with a stop after each call.
 use crate::line::{HELLO, Line};
 use crate::picks::FOUR;
 use crate::stops::shown_by_stops;
@@ -15,7 +15,7 @@ const BELLO: &[u8] = b"bello";
 /// Bytes of zeros.
 const ZEROS: &[u8] = &[0; 5];
 
-/// A merge is cut in at the first place, and at each that is so many behind. tests/quick raises it in its copy.
+/// A merge is cut in at the first place, and at each that is so many after. tests/quick raises it in its copy.
 const EACH: u64 = 1;
 
 /// How many places there are.
@@ -24,7 +24,7 @@ const PLACES: u64 = 87;
 /// How many lines come before the merge.
 const BEFORE_THE_MERGE: usize = 8;
 
-/// A checkpoint, and a second one of two pre-dumps, in which behind so many events a merge is made.
+/// A checkpoint, and a second one of two pre-dumps, in which after so many events a merge is made.
 fn cut_in(first: &'static [u8], events: u64) -> [Line; 11] {
     [
         Line::Open,
@@ -56,7 +56,7 @@ fn calls_of(
     Err("the lines never end".into())
 }
 
-/// Stops a run behind this call. What is shown is the checkpoint that was acknowledged last, or the one behind it.
+/// Stops a run after this call. What is shown is the checkpoint that was acknowledged last, or the one after it.
 /// Returns whether the run ended before the call.
 fn stops(
     rt: &(impl Abort + Eprint + AllocGlobal),
@@ -71,7 +71,7 @@ fn stops(
     Ok(told.end() == Ended::Done)
 }
 
-/// Stops a run behind each of its calls that come behind so many.
+/// Stops a run after each of its calls that come after so many.
 fn stops_everywhere(
     rt: &(impl Abort + Eprint + AllocGlobal),
     lines: &[Line],
@@ -87,7 +87,7 @@ fn stops_everywhere(
 }
 
 /// A merge is cut in at each place of the checkpoint. A run that stops before its merge is the one that stops there
-/// before a later merge, so calls that were made before the merge of the last run are behind it. Returns how many
+/// before a later merge, so calls that were made before the merge of the last run are after it. Returns how many
 /// places there are.
 fn cuts_in(rt: &(impl Abort + Eprint + AllocGlobal), first: &'static [u8]) -> Result<u64, Fail> {
     let mut behind = calls_of(rt, &[Line::Open], 0)?;

@@ -59,7 +59,7 @@ pub(crate) const MERGED: &[Line] = &[
     Line::Finish(Worker::Merger),
 ];
 
-/// A checkpoint that is cancelled behind another one, and one more, which takes every page.
+/// A checkpoint that is cancelled after another one, and one more, which takes every page.
 pub(crate) const STALE_BITS: &[Line] = &[
     Line::Open,
     Line::Map,
@@ -89,7 +89,7 @@ pub(crate) const MERGE_BESIDE_ROUND: &[Line] = &[
     Line::Finish(Worker::Dumper),
 ];
 
-/// Two checkpoints, with a trim behind each.
+/// Two checkpoints, with a trim after each.
 pub(crate) const TRIMMED: &[Line] = &[
     Line::Open,
     Line::Map,
@@ -153,7 +153,7 @@ impl Line {
         }
     }
 
-    /// The worker that goes on behind that, and for how many events at most.
+    /// The worker that goes on after that, and for how many events at most.
     pub(crate) fn work(self) -> Option<(Worker, u64)> {
         match self {
             Line::Open => Some((Worker::Opener, u64::MAX)),

@@ -1,4 +1,4 @@
-//! Writes of data pages that are out at once: in each order in which they are made, with a crash behind each.
+//! Writes of data pages that are out at once: in each order in which they are made, with a crash after each.
 ghost use Rattle.std.specs.Prelude.{◌<◌};
 
 use std::alloc::{AllocError, Global};
@@ -61,7 +61,7 @@ fn in_orders(alloc: Global, count: u64, made: u64, handed: u64) -> Result<Vec<Li
     Ok(lines)
 }
 
-/// A crash behind each call leaves what it may, and the checkpoint is acknowledged.
+/// A crash after each call leaves what it may, and the checkpoint is acknowledged.
 fn is_right(
     rt: &impl Abort,
     alloc: Global,

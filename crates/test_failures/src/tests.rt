@@ -134,7 +134,7 @@ fn each_call_fails_in_turn(rt: HostRuntime) -> Result<(), Fail> {
     Ok(())
 }
 
-/// The least and the greatest number that a stop behind this call may leave.
+/// The least and the greatest number that a stop after this call may leave.
 fn allowed(call: u64, last: u64) -> (u64, u64) {
     match call {
         0..=7 => (0, 0),
@@ -144,7 +144,7 @@ fn allowed(call: u64, last: u64) -> (u64, u64) {
     }
 }
 
-/// A run stops behind each of its calls.
+/// A run stops after each of its calls.
 fn stops_everywhere(
     rt: &(impl Abort + Eprint + AllocGlobal),
     lines: &[Line],

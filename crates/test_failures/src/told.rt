@@ -31,7 +31,7 @@ pub(crate) enum Ended {
     Done,
 }
 
-/// How a run goes on behind a reply.
+/// How a run goes on after a reply.
 #[derive(Clone, Copy, PartialEq, Eq)]
 pub(crate) enum Next {
     /// The worker goes on.

@@ -9,7 +9,7 @@ use std::alloc::{AllocError, Global};
 /// More device calls than any of the runs makes.
 pub(crate) const MOST: u64 = 500;
 
-/// Room in each slot for the one page, behind 4,096 bytes of front and before a table.
+/// Room in each slot for the one page, after 4,096 bytes of front and before a table.
 const ROOM: usize = 4_096 + 4_096 + 256;
 
 /// A run: its lines, and what it does when the device has failed.
@@ -27,7 +27,7 @@ pub(crate) fn empty(alloc: Global) -> Result<MemDisk, AllocError> {
     }
 }
 
-/// An empty store of which a call fails behind so many, and may be dropped.
+/// An empty store of which a call fails after so many, and may be dropped.
 pub(crate) fn fused(alloc: Global, calls: u64, drops: bool) -> Result<Fused<MemDisk>, AllocError> {
     let disk = empty(alloc)?;
     if drops {
@@ -94,7 +94,7 @@ pub(crate) fn make(
     try_run(rt, alloc, disk, run, told).0.into_inner()
 }
 
-/// Makes lines over an empty store of which a call fails behind so many. Returns the disk, and what was told.
+/// Makes lines over an empty store of which a call fails after so many. Returns the disk, and what was told.
 pub(crate) fn made_of(
     rt: &(impl Eprint + AllocGlobal),
     lines: &[Line],

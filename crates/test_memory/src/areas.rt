@@ -13,7 +13,7 @@ use std::test::Fail;
 
 const ENOMEM: AreaError = AreaError::Refused(Errno::Enomem);
 
-/// The first address behind the last page: 2^47.
+/// The first address after the last page: 2^47.
 const END: u64 = 0x8000_0000_0000;
 
 /// The address of the last page.

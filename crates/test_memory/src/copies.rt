@@ -7,7 +7,7 @@ use std::ops::Bound;
 use std::process::Abort;
 use std::test::Fail;
 
-/// The first of the pages, the last but one of a table, and the end behind them, in the next one.
+/// The first of the pages, the last but one of a table, and the end after them, in the next one.
 const FIRST: u64 = 510;
 
 const END: u64 = 514;

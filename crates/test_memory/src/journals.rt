@@ -31,7 +31,7 @@ fn a_fresh_journal_is_empty(rt: HostRuntime) {
     assert_eq!(rt; journal.free(), ENTRY_LIMIT);
 }
 
-/// A journal with a checkpoint that was acknowledged, named again by a reopening, and a mark behind the
+/// A journal with a checkpoint that was acknowledged, named again by a reopening, and a mark after the
 /// acknowledgement.
 fn saved_once(rt: &impl AllocGlobal) -> Result<Journal, AllocError> {
     let mut journal = Journal::with_limit(rt.alloc(), 8);

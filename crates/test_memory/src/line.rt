@@ -38,7 +38,7 @@ fn refused<T>(refusal: MemoryRefusal) -> Result<T, MemoryError> {
     Err(MemoryError::Denied(AccessError::Refused(refusal)))
 }
 
-/// Whether a store needs a fault, and is done behind it.
+/// Whether a store needs a fault, and is done after it.
 fn stores(
     memory: &mut Memory,
     space: SpaceId,

@@ -7,7 +7,7 @@ use std::alloc::Global;
 use std::process::Abort;
 use std::test::Fail;
 
-/// Maps a page that is stored to, and a fresh one two pages behind it.
+/// Maps a page that is stored to, and a fresh one two pages after it.
 fn map_two_pages(memory: &mut Memory) -> Result<(), MemoryError> {
     let space = SpaceId::new(1);
     memory.mmap(space, 0x10000, 4096, READ_WRITE)?;
@@ -26,7 +26,7 @@ fn has_words(rt: &impl Abort, memory: &Memory, wanted: &[u8; 24]) {
     assert_eq!(rt; &words, wanted);
 }
 
-/// The last page and one behind it, and a space that isn't alive.
+/// The last page and one after it, and a space that isn't alive.
 fn has_no_words(rt: &impl Abort, memory: &Memory) {
     let last = page(rt, 0x7_FFFF_FFFF);
     let mut behind = [7; 16];

@@ -1,4 +1,4 @@
-//! Crashes behind a run, and a gate whose sync fails.
+//! Crashes after a run, and a gate whose sync fails.
 use crate::run::{FIRST_SHOWN, answers, empty, fresh, is_printed, printed};
 use sd_disk::{Disk, Fused, MemDisk, Pick};
 use std::process::Abort;
@@ -63,7 +63,7 @@ fn torn_gate(rt: HostRuntime) -> Result<(), Fail> {
     is_torn_or_open(&rt, &disk)
 }
 
-/// The sync behind the gate of checkpoint 2 fails.
+/// The sync after the gate of checkpoint 2 fails.
 const DOUBTFUL: &str = "mmap 1 0x10000 4096 rw => done
 store 1 0x10000 68656c6c6f => done
 checkpoint 0 => acked 1
@@ -127,7 +127,7 @@ slot 003 merged serial 3 stands 1 parent 0 checkpoint 1 pages 1
 tip 3
 ";
 
-/// Two images stand for number 1 behind the crash, and both hold the memory of checkpoint 1.
+/// Two images stand for number 1 after the crash, and both hold the memory of checkpoint 1.
 fn shows_both(rt: &(impl Abort + AllocGlobal), disk: &MemDisk) -> Result<(), Fail> {
     let mut crashed = disk.crash(rt.alloc(), &mut Now)?;
     is_printed(rt, &mut crashed, "list", BOTH_LISTED);

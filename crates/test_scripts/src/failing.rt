@@ -32,7 +32,7 @@ impl io::Write for Failing {
 /// What a run over checkpoint 1 prints.
 const LOADED: &str = "reopened 1\nbytes 68656c6c6f\nrefused 11 busy\n";
 
-/// The status of a run over checkpoint 1 whose writer fails behind so many bytes.
+/// The status of a run over checkpoint 1 whose writer fails after so many bytes.
 fn status_behind(rt: &(impl Abort + AllocGlobal), left: usize) -> Result<u8, Fail> {
     let script = b"load 1 0x10000 5\nreopen\n";
     let disk = fresh(rt, FIRST)?;
@@ -49,7 +49,7 @@ fn a_writer_that_fails_ends_the_run(rt: HostRuntime) -> Result<(), Fail> {
     Ok(())
 }
 
-/// The status of `restore` whose writer fails behind so many bytes.
+/// The status of `restore` whose writer fails after so many bytes.
 fn restored_behind<D: Disk>(alloc: Global, disk: &mut D, left: usize) -> u8 {
     restore_to(alloc, disk, &mut Output::new(Failing { left }))
 }
@@ -74,7 +74,7 @@ fn a_writer_that_fails_ends_the_restore(rt: HostRuntime) -> Result<(), Fail> {
 /// table, and of the first its data page for its digest.
 const SILENT_CALLS: u64 = 10 + 13;
 
-/// How many they make in all: of a restored memory also its page is read, behind the lines of its area; and at last
+/// How many they make in all: of a restored memory also its page is read, after the lines of its area; and at last
 /// again each length and front.
 const CALLS: [(&str, u64); 3] = [
     ("restore", SILENT_CALLS + 1 + 10),
@@ -82,7 +82,7 @@ const CALLS: [(&str, u64); 3] = [
     ("verify", SILENT_CALLS + 10),
 ];
 
-/// What a program prints of the chain when a call behind so many fails, and its exit status.
+/// What a program prints of the chain when a call after so many fails, and its exit status.
 fn printed_behind(
     rt: &(impl Abort + AllocGlobal),
     program: &str,

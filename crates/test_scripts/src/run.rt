@@ -33,7 +33,7 @@ area 0x10000 0x11000 rw-
 bytes 0x10000 68656c6c6f000000000000000000000000000000000000000000000000000000
 ";
 
-/// Room in each slot for an image of the one page, behind 4,096 bytes of front and before a table.
+/// Room in each slot for an image of the one page, after 4,096 bytes of front and before a table.
 pub(crate) const ROOM: usize = 4_096 + 4_096 + 512;
 
 /// An empty disk.

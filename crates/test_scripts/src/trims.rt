@@ -4,7 +4,7 @@ use sd_disk::Fused;
 use std::test::Fail;
 
 /// The sync after the gate of checkpoint 2 fails: the store is down, and the checkpoint stays pending. A trim folds
-/// up to the one before it; behind the reopening, which finds it, up to that.
+/// up to the one before it; after the reopening, which finds it, up to that.
 const WHILE_DOWN: &str = "mmap 1 0x10000 4096 rw => done
 store 1 0x10000 68656c6c6f => done
 checkpoint 0 => acked 1

@@ -18,7 +18,7 @@ use std::time::Clock;
 /// How many bytes a page has.
 const PAGE_BYTES: usize = 4096;
 
-/// Room in each slot for the one page, behind 4,096 bytes of front and before a table.
+/// Room in each slot for the one page, after 4,096 bytes of front and before a table.
 const ROOM: usize = 4_096 + PAGE_BYTES + 512;
 
 /// What a disk and a thread with a seat tell each other.

@@ -57,7 +57,7 @@ pub(crate) fn save_until_refused<R: Wait>(
     None
 }
 
-/// Makes a checkpoint without pre-dumps, behind a merge where it finds no slot.
+/// Makes a checkpoint without pre-dumps, after a merge where it finds no slot.
 fn save_with_room<R: Wait>(rt: &R, shared: &Shared<Store>) -> Reply {
     let reply = shared.run_dumper(rt, 0, &Free);
     if reply == Reply::Refused(Refusal::NoSlot) && make_room(rt, shared) {
@@ -102,7 +102,7 @@ fn wait_for_thaws<R: Wait + Clock>(
 }
 
 /// Cancels a checkpoint while it is made, and makes one of its own. Returns what the first dumper was answered, and
-/// whether the other one was acknowledged, whose number is kept behind the others.
+/// whether the other one was acknowledged, whose number is kept after the others.
 fn cancel_beside<R: Threads + Wait + Clock + Sync>(
     rt: &R,
     shared: &Shared<Store>,

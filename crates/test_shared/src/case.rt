@@ -13,7 +13,7 @@ pub(crate) enum Case {
     LacksReceipt,
     /// An acknowledgement too many is told.
     TellsMore,
-    /// A merge behind a checkpoint.
+    /// A merge after a checkpoint.
     Merged,
     /// A checkpoint beside two mutators.
     Beside(Way),
@@ -23,7 +23,7 @@ pub(crate) enum Case {
     Falls,
     /// A checkpoint on a disk that drops what it is given.
     Dropped,
-    /// A checkpoint whose pages two threads write, and one without threads behind it.
+    /// A checkpoint whose pages two threads write, and one without threads after it.
     Relayed,
     /// One of which the first page's write fails, and another one.
     RelayFalls,

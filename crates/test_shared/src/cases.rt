@@ -112,7 +112,7 @@ fn awaits<R: Threads + Wait + Clock + Files + Alloc + Abort + Sync>(
     Ok(())
 }
 
-/// Does what a case says, by two mutators, behind the commands that map the pages.
+/// Does what a case says, by two mutators, after the commands that map the pages.
 fn act<R: Threads + Wait + Clock + Files + Alloc + Abort + Sync>(
     rt: &R,
     alloc: Global,
@@ -327,7 +327,7 @@ fn drops_device_calls(rt: HostRuntime) -> Result<(), Fail> {
     run(&rt, rt.alloc(), Case::Dropped)
 }
 
-/// Two pages are written beside each other, each by a thread of its own; and a checkpoint behind that has its pre-dump.
+/// Two pages are written beside each other, each by a thread of its own; and a checkpoint after that has its pre-dump.
 #[test]
 fn two_writers(rt: HostRuntime) -> Result<(), Fail> {
     run(&rt, rt.alloc(), Case::Relayed)
@@ -351,7 +351,7 @@ fn a_wait_sleeps_until_it_is_woken(rt: HostRuntime) -> Result<(), Fail> {
     run(&rt, rt.alloc(), Case::Awaited)
 }
 
-/// Each checkpoint is trimmed behind its acknowledgement, while two mutators store.
+/// Each checkpoint is trimmed after its acknowledgement, while two mutators store.
 #[test]
 fn trims_while_threads_store(rt: HostRuntime) -> Result<(), Fail> {
     run(&rt, rt.alloc(), Case::Trimmed)

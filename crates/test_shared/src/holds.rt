@@ -28,7 +28,7 @@ impl Hold for Counting<'_> {
     }
 }
 
-/// A checkpoint of one round behind another one, of which no page was touched since: eight calls for each of its
+/// A checkpoint of one round after another one, of which no page was touched since: eight calls for each of its
 /// images.
 pub(crate) fn saves_in_16_calls(rt: &(impl Abort + Wait), shared: &Shared<Store>) {
     let calls = AtomicU64::new(0);

@@ -1,4 +1,4 @@
-//! Checkpoints beside two mutators, each trimmed behind its acknowledgement.
+//! Checkpoints beside two mutators, each trimmed after its acknowledgement.
 use crate::cases::Store;
 use crate::holds::Free;
 use crate::mutator::{Mutator, load, store};
@@ -102,7 +102,7 @@ fn save_and_trim(
     }
 }
 
-/// Makes checkpoints, and trims behind each.
+/// Makes checkpoints, and trims after each.
 fn save_all(
     rt: &(impl Threads + Wait + Sync),
     alloc: Global,

@@ -80,7 +80,7 @@ fn wait_kept<R: Wait + Clock + Files + Alloc>(
     Some((thaw, kept, nanos_used(rt)?.saturating_sub(before)))
 }
 
-/// Loads once nothing is frozen. Returns whether that was answered, and behind the end of the freeze.
+/// Loads once nothing is frozen. Returns whether that was answered, and after the end of the freeze.
 fn load_kept<R: Wait + Clock>(
     rt: &R,
     shared: &Shared<Store>,
@@ -116,7 +116,7 @@ pub(crate) fn waits_asleep<R: Threads + Wait + Clock + Files + Alloc + Abort + S
     assert!(rt; nanos < MOST_NANOS, "{nanos} ns");
 }
 
-/// A command that waits for the thaw is made behind it. The checkpoint is the second one.
+/// A command that waits for the thaw is made after it. The checkpoint is the second one.
 pub(crate) fn loads_thawed<R: Threads + Wait + Clock + Abort + Sync>(
     rt: &R,
     shared: &Shared<Store>,

@@ -131,7 +131,7 @@ pub(crate) fn with_digest(header: Header, text: &[u8], byte: u8) -> Header {
     Header { digest, ..header }
 }
 
-/// Puts the file of an image with this table behind a file's gate.
+/// Puts the file of an image with this table after a file's gate.
 fn put_file(file: &mut Vec<u8>, header: &Header, text: &[u8], byte: u8) -> Result<(), AllocError> {
     file.push(0xA5)?;
     file.extend_from_slice(&encode_header(header))?;

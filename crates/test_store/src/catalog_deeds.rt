@@ -129,7 +129,7 @@ fn found_for(catalog: &Catalog, number: u64) -> Option<u64> {
     Some(catalog.find(number)?.header().serial)
 }
 
-/// The data page of a slot behind so many others.
+/// The data page of a slot after so many others.
 fn data(slot: usize, before: u64) -> Option<Found> {
     let offset = before.saturating_add(1).saturating_mul(4096);
     Some(Found::Data { slot, offset })
@@ -207,7 +207,7 @@ fn reached(catalog: &Catalog, serial: u64) -> Result<usize, AllocError> {
     Ok(catalog.reachable(serial)?.len())
 }
 
-/// The page of an image behind a place, or its first page.
+/// The page of an image after a place, or its first page.
 fn behind(catalog: &Catalog, serial: u64, after: Option<Place>) -> Result<Option<Place>, Unbuilt> {
     let after = match after {
         Some((space, number)) => Some((SpaceId::new(space), page(number)?)),
@@ -312,7 +312,7 @@ fn does_all(
     Ok(())
 }
 
-/// Does deeds, and others behind them, with a catalog that is empty at first.
+/// Does deeds, and others after them, with a catalog that is empty at first.
 pub(crate) fn run(
     rt: &impl Abort,
     alloc: Global,

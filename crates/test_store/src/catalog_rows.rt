@@ -47,7 +47,7 @@ pub(crate) enum Deed {
 pub(crate) enum Fact {
     /// The chain of a serial has a page of space 1 there.
     Has(u64, u64, Option<Found>),
-    /// It has the page in a slot, as the data page behind so many others.
+    /// It has the page in a slot, as the data page after so many others.
     At(u64, u64, usize, u64),
     /// It has a place there.
     HasIn(u64, Place, Option<Found>),
@@ -77,6 +77,6 @@ pub(crate) enum Fact {
     HasImage(u64, bool),
     /// The pages of a serial's image, from the first on.
     InOrder(u64, &'static [Place]),
-    /// The page of a serial's image behind a place.
+    /// The page of a serial's image after a place.
     Next(u64, Place, Option<Place>),
 }

@@ -135,7 +135,7 @@ const MANY_RUNS: Rows = &[
     (9, 4, RunKind::Data),
 ];
 
-/// Each data page has its place behind those before it, in every run.
+/// Each data page has its place after those before it, in every run.
 const PLACES: [Deed; 11] = [
     Dump(5, (1, 1, 0), MANY_RUNS),
     Shows(At(1, 2, 5, 0)),
@@ -288,7 +288,7 @@ const THREE_RUNS: Rows = &[
     (LAST, 1, RunKind::Parent),
 ];
 
-/// An image with three runs in each of two spaces; its pages, and the one behind each of some places.
+/// An image with three runs in each of two spaces; its pages, and the one after each of some places.
 /// Each page comes once, rising by space and page, whatever its kind; and a place that isn't listed may be given.
 const PAGES_IN_ORDER: [Deed; 8] = [
     InTwoSpaces(2, (3, 3, 2), THREE_RUNS),

@@ -64,7 +64,7 @@ fn undigested(alloc: Global, version: Version) -> Result<Vec<u8>, AllocError> {
     Ok(file)
 }
 
-/// The digest of a file, by `sha2` alone: of all that stands behind its first 4,096 bytes, and of bytes 1 to 63.
+/// The digest of a file, by `sha2` alone: of all that stands after its first 4,096 bytes, and of bytes 1 to 63.
 fn digest_of(file: &[u8]) -> Option<[u8; 32]> {
     let mut hasher = Sha256::new();
     hasher.update(file.get(4096..)?);

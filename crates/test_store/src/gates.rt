@@ -158,7 +158,7 @@ fn finds_image(alloc: Global, disk: &mut MemDisk) -> Result<bool, AllocError> {
 /// The gate is another byte.
 const OTHER_GATE: &[Step] = &[(0, DiskCall::Write(0, &[0x3C]), true)];
 
-/// The gate stands, and the byte behind it is another.
+/// The gate stands, and the byte after it is another.
 const OTHER_HEADER: &[Step] = &[(0, DiskCall::Write(0, &[0xA5, 0]), true)];
 
 /// Whether an inspection reads no table once these bytes are written.
@@ -268,7 +268,7 @@ fn is_whole_or_closed(alloc: Global, disk: &MemDisk, whole: bool) -> Result<bool
     Ok(true)
 }
 
-/// A slot in this state, of which one call fails behind so many, and may be dropped.
+/// A slot in this state, of which one call fails after so many, and may be dropped.
 fn old_slot(
     alloc: Global,
     state: SlotState,
@@ -286,7 +286,7 @@ fn old_slot(
     })
 }
 
-/// Whether an image whose writing fails behind so many calls is there or not, whatever a crash leaves.
+/// Whether an image whose writing fails after so many calls is there or not, whatever a crash leaves.
 fn fails_behind(
     alloc: Global,
     state: SlotState,

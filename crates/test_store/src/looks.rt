@@ -23,7 +23,7 @@ impl Observer for Counter {
     }
 }
 
-/// Writes a file, looks at it, and asks for bytes behind its end. Returns whether it was as it has to be.
+/// Writes a file, looks at it, and asks for bytes after its end. Returns whether it was as it has to be.
 fn is_looked_at<D: Disk>(disk: &mut D) -> Result<bool, DeviceError> {
     if disk.slots() == 0 {
         return Ok(false);

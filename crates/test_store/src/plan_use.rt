@@ -16,7 +16,7 @@ fn is_in_second_lane(request: &Request) -> bool {
         && is_any_out(&outs)
 }
 
-/// A plan asks for its calls one by one: no second request is given while one is out, and behind its outcome two
+/// A plan asks for its calls one by one: no second request is given while one is out, and after its outcome two
 /// fewer requests and outcomes are left.
 #[test]
 fn a_plan_goes_on_call_by_call(rt: HostRuntime) -> Result<(), Fail> {

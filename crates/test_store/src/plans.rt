@@ -48,7 +48,7 @@ pub(crate) const BODY: &[Call] = &[
     Call::Sync,
 ];
 
-/// The page: these bytes, and zeros behind them.
+/// The page: these bytes, and zeros after them.
 pub(crate) fn page(alloc: Global) -> Result<Vec<u8>, AllocError> {
     let mut page = Vec::with_capacity(alloc, 4096)?;
     page.extend_from_slice(b"hello")?;

@@ -23,7 +23,7 @@ pub(crate) enum Files {
 pub(crate) enum Deed {
     /// The newest image has this serial, and its chain has page 0x10 there.
     Newest(u64, Option<Found>),
-    /// Restoring, and then verifying, succeeds, and there were so many reads behind each.
+    /// Restoring, and then verifying, succeeds, and there were so many reads after each.
     Reads(u64, u64),
 }
 
@@ -65,7 +65,7 @@ fn has_newest(
     }
 }
 
-/// How many reads there were behind a restore that succeeds, and behind a verify that does.
+/// How many reads there were after a restore that succeeds, and after a verify that does.
 fn reads(alloc: Global, disk: &mut MemDisk) -> Option<(u64, u64)> {
     if restore_fault(alloc, disk).is_some() {
         return None;
@@ -107,7 +107,7 @@ pub(crate) fn run(alloc: Global, files: Files, deed: Deed) -> Result<bool, Unbui
     shows(alloc, &mut disk, deed)
 }
 
-/// A store of these images, whose device fails behind so many calls.
+/// A store of these images, whose device fails after so many calls.
 fn fused(alloc: Global, images: &[Image], calls: u64) -> Result<Fused<MemDisk>, Unbuilt> {
     let mut disk = four_slots(alloc)?;
     put_images(alloc, &mut disk, images)?;
@@ -122,7 +122,7 @@ fn fault_of<D: Disk>(alloc: Global, disk: &mut D, call: Call) -> Option<Fault> {
     }
 }
 
-/// What a call on a store of these images finds where the device fails behind so many calls.
+/// What a call on a store of these images finds where the device fails after so many calls.
 pub(crate) fn fault_behind(
     alloc: Global,
     images: &[Image],

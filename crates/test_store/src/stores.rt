@@ -120,7 +120,7 @@ fn slots_are_taken_in_one_by_one(rt: HostRuntime) -> Result<(), Fail> {
     Ok(())
 }
 
-/// Whether restoring and verifying fail as they should, where the device fails behind so many calls.
+/// Whether restoring and verifying fail as they should, where the device fails after so many calls.
 fn fail_so(alloc: Global, calls: u64) -> Result<bool, Unbuilt> {
     let device = Some(Fault::Device);
     let verified = if calls < 9 { device } else { None };

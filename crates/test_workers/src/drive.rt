@@ -24,7 +24,7 @@ pub(crate) const PROT: Prot = Prot {
 
 const SLOTS: usize = 12;
 
-/// Room for an image of the three pages of each of two spaces, behind 4,096 bytes of front and before a table.
+/// Room for an image of the three pages of each of two spaces, after 4,096 bytes of front and before a table.
 const SLOT_SIZE: usize = 7 * 4_096 + 1_024;
 
 const CALLS: usize = 1_000_000;

@@ -3,7 +3,7 @@ use crate::runs::{Part, asks, asks_again};
 use crate::store::{EIGHT, FOUR, Store, TWO};
 use std::test::Fail;
 
-/// A checkpoint, whose one page is visited and copied in one call, and a store behind it.
+/// A checkpoint, whose one page is visited and copied in one call, and a store after it.
 const FIRST: &str = "\
 reopen = worked
 open = reopened none
@@ -37,7 +37,7 @@ fn second_run(rt: HostRuntime) -> Result<(), Fail> {
     Ok(asks_again(&rt, rt.alloc(), EIGHT, &FIRST_PARTS, &SECOND_PARTS)?)
 }
 
-/// A call of the second checkpoint fails at its gate or behind it: it is in doubt, and can't be cancelled.
+/// A call of the second checkpoint fails at its gate or after it: it is in doubt, and can't be cancelled.
 const DOUBTFUL: &str = "\
 reopen = worked
 open = reopened none
@@ -53,12 +53,12 @@ cancel = refused 11 busy
 begin 0 = refused 13 store-down
 merge = refused 13 store-down";
 
-/// The sync behind the gate fails.
+/// The sync after the gate fails.
 const SYNC_FAILS: Store = Store { calls: 56, ..EIGHT };
 
 const FOUND_PARTS: [Part<'static>; 2] = [Part::Lines(DOUBTFUL), Part::Lines(FOUND)];
 
-/// The sync behind the gate fails: the opener finds the checkpoint.
+/// The sync after the gate fails: the opener finds the checkpoint.
 #[test]
 fn doubtful_commit_is_found(rt: HostRuntime) -> Result<(), Fail> {
     Ok(asks(&rt, rt.alloc(), SYNC_FAILS, &FOUND_PARTS)?)

@@ -4,7 +4,7 @@ use crate::store::FOUR;
 use std::test::Fail;
 
 /// Five entries, up to the acknowledgement, and loads until the journal has 1,048,576 entries. Another load is
-/// refused, and so is a checkpoint, which needs two entries; behind a trim both are there.
+/// refused, and so is a checkpoint, which needs two entries; after a trim both are there.
 const FULL: &str = "\
 reopen = worked
 open = reopened none

@@ -25,7 +25,7 @@ fn an_empty_store_is_opened(rt: HostRuntime) -> Result<(), Fail> {
     Ok(asks(&rt, rt.alloc(), TWO, &ASKED)?)
 }
 
-/// Why a store of two slots isn't opened of which the call behind so many fails.
+/// Why a store of two slots isn't opened of which the call after so many fails.
 fn fault_behind(
     rt: &impl Abort,
     alloc: Global,

@@ -13,7 +13,7 @@ pub(crate) type Device = Fused<MemDisk>;
 pub(crate) struct Store {
     /// How many slots it has.
     pub(crate) slots: usize,
-    /// Behind how many calls one fails.
+    /// After how many calls one fails.
     pub(crate) calls: u64,
     /// Whether that one isn't made. Else a write or a cut is made all the same.
     pub(crate) drops: bool,

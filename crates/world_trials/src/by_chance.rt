@@ -194,7 +194,7 @@ fn run(
     }
 }
 
-/// Crashes a run everywhere. Returns what a crash by chance leaves behind some of its steps.
+/// Crashes a run everywhere. Returns what a crash by chance leaves after some of its steps.
 fn crash(
     alloc: Global,
     record: &Record,
@@ -233,7 +233,7 @@ fn store(alloc: Global, chance: &mut Chance) -> Result<MemDisk, Trouble> {
 }
 
 /// A list of events by chance over a store by chance, then another one over what a crash of it left by chance, and so
-/// on. Behind each device call the disk is crashed, and what is restored is compared with what the replies allow.
+/// on. After each device call the disk is crashed, and what is restored is compared with what the replies allow.
 ///
 /// # Errors
 ///

@@ -37,7 +37,7 @@ pub(crate) struct Course {
     job: Job,
 }
 
-/// How a run goes on behind an order to begin that is refused.
+/// How a run goes on after an order to begin that is refused.
 fn job_after_begin(job: Job, rounds: u64, why: Refusal) -> Job {
     match why {
         Refusal::Busy => Job::Dumping,
@@ -50,7 +50,7 @@ fn job_after_begin(job: Job, rounds: u64, why: Refusal) -> Job {
     }
 }
 
-/// How it goes on behind a worker's step that is refused.
+/// How it goes on after a worker's step that is refused.
 fn job_after_work(job: Job, worker: Worker, why: Refusal) -> Job {
     match why {
         Refusal::StoreDown if job == Job::Falling => job,
@@ -64,7 +64,7 @@ fn job_after_work(job: Job, worker: Worker, why: Refusal) -> Job {
     }
 }
 
-/// How it goes on behind an event that is refused.
+/// How it goes on after an event that is refused.
 fn job_after_refusal(job: Job, event: &Event, why: Refusal) -> Job {
     match event {
         Event::Begin(rounds) => job_after_begin(job, *rounds, why),
@@ -78,7 +78,7 @@ fn job_after_refusal(job: Job, event: &Event, why: Refusal) -> Job {
     }
 }
 
-/// How a run goes on behind an event.
+/// How a run goes on after an event.
 fn job_after(job: Job, event: &Event, reply: &Reply) -> Job {
     match reply {
         Reply::Begun(_) => Job::Dumping,

@@ -24,7 +24,7 @@ pub struct Figures {
     pub reopened: u64,
     /// Device calls that failed.
     pub failed: u64,
-    /// Crashes behind a device call.
+    /// Crashes after a device call.
     pub crashes: u64,
     /// Crashes that left the last checkpoint.
     pub last: u64,

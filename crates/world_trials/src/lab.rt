@@ -14,9 +14,9 @@ const FRAMES: usize = 16;
 #[derive(Clone, Copy, Debug)]
 pub enum Failing {
     Nothing,
-    /// Behind so many calls one fails; a write or a cut is made all the same.
+    /// After so many calls one fails; a write or a cut is made all the same.
     Made(u64),
-    /// Behind so many calls one fails, and isn't made.
+    /// After so many calls one fails, and isn't made.
     Dropped(u64),
 }
 

@@ -47,7 +47,7 @@ const FIRST: u64 = 0x10000;
 pub enum Line {
     /// So many pages are mapped, to be read and written.
     Map(u64),
-    /// A byte is stored at an address behind the first.
+    /// A byte is stored at an address after the first.
     Store(u64, u8),
     /// A checkpoint of so many pre-dumps begins, in a store that is opened again before, where it isn't open.
     Begin(u64),
@@ -227,8 +227,8 @@ fn end_of(alloc: Global, record: &Record) -> Result<MemDisk, Trouble> {
     Ok(disk.crash(alloc, &mut Rule::Now)?)
 }
 
-/// Plays lines over a copy of a store, which is synced, and crashes it behind each call; or, where a call is to fail,
-/// behind that one and at the end. Returns what was found.
+/// Plays lines over a copy of a store, which is synced, and crashes it after each call; or, where a call is to fail,
+/// after that one and at the end. Returns what was found.
 ///
 /// # Errors
 ///
@@ -246,7 +246,7 @@ pub fn try_lines(
     Ok(figures)
 }
 
-/// Crashes a run behind each call; or, where a call is to fail, behind that one and at the end.
+/// Crashes a run after each call; or, where a call is to fail, after that one and at the end.
 fn crash(record: &Record, failing: Failing, figures: &mut Figures) -> Result<(), Trouble> {
     match failing {
         Failing::Nothing => record.crash_everywhere(&RULES, figures),

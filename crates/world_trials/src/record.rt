@@ -11,7 +11,7 @@ use sd_restore::Fault;
 use sd_world::{Event, restore_left};
 use std::alloc::{AllocError, Global};
 
-/// Where no checkpoint is pending, a crash comes behind the device calls whose steps have a number that is divisible by
+/// Where no checkpoint is pending, a crash comes after the device calls whose steps have a number that is divisible by
 /// this. tests/quick raises it in its copy.
 const EACH: usize = 1;
 
@@ -107,7 +107,7 @@ impl Record {
         true
     }
 
-    /// The disk behind so many steps, which are made again.
+    /// The disk after so many steps, which are made again.
     pub(crate) fn disk_behind(&self, count: usize) -> Result<MemDisk, Trouble> {
         match self.open()? {
             Ok(mut lab) => {
@@ -164,7 +164,7 @@ impl Record {
         self.crash(&disk, account, rules, figures)
     }
 
-    /// Makes the run again up to its opening, and up to each device call behind it, and crashes its disk there.
+    /// Makes the run again up to its opening, and up to each device call after it, and crashes its disk there.
     pub(crate) fn crash_everywhere(
         &self,
         rules: &[Rule],
@@ -175,7 +175,7 @@ impl Record {
         self.crash_at_calls(&mut account, rules, figures)
     }
 
-    /// Goes through the steps, and crashes the disk behind each device call.
+    /// Goes through the steps, and crashes the disk after each device call.
     fn crash_at_calls(
         &self,
         account: &mut Account,
@@ -203,7 +203,7 @@ impl Record {
         self.crash_behind(self.steps.len(), &account, rules, figures)
     }
 
-    /// Goes through the steps, and crashes the disk behind each call that fails.
+    /// Goes through the steps, and crashes the disk after each call that fails.
     fn crash_at_failures(
         &self,
         account: &mut Account,

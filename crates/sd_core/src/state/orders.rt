@@ -89,12 +89,14 @@ impl Core {
         Reply::Begun(number)
     }
 
-    /// The free slots, rising.
+    /// The free slots, rising: no image stands there that is needed, no job reserves them, and no request is out on
+    /// them. [`begin`](Core::begin) takes the lowest of them, as many as pre-dumps and two, and
+    /// [`merge`](Core::merge) one.
     ///
     /// # Errors
     ///
     /// Out of memory where a list finds no room.
-    pub(super) fn free_slots(&self) -> Result<Vec<usize>, AllocError>
+    pub fn free_slots(&self) -> Result<Vec<usize>, AllocError>
         ensures { IfOk result (λ slots. FreeSlots self.now slots.items) }
     {
         free_in(

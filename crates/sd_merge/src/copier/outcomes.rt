@@ -103,7 +103,7 @@ impl Copier {
         }
     }
 
-    /// Takes the outcome of a call that closes the body. Behind the last the image is open.
+    /// Takes the outcome of a call that closes the body. After the last the image is open.
     pub(super) fn end_close(
         &mut self,
         mut plan: Plan,

@@ -51,7 +51,7 @@ impl ImageMaker {
         }
     }
 
-    /// Takes the outcome of a call of the format. Behind the last a dump freezes the memory.
+    /// Takes the outcome of a call of the format. After the last a dump freezes the memory.
     pub(super) fn end_format(&mut self, mut plan: Plan, outcome: Outcome) -> ImageProgress
         requires stage { self.old.stage ≡ PassStage }
         requires fresh { self.old.pass ≡ opened (self.old.order.parent == 0) }
@@ -96,7 +96,7 @@ impl ImageMaker {
         }
     }
 
-    /// Takes the outcome of a call that closes the body. Behind the last the image is open.
+    /// Takes the outcome of a call that closes the body. After the last the image is open.
     pub(super) fn end_close(
         &mut self,
         mut plan: Plan,

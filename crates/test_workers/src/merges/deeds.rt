@@ -117,7 +117,7 @@ fn does_all(rt: &impl Abort, alloc: Global, drive: &mut Drive, deeds: &[Deed]) -
     Ok(())
 }
 
-/// Does deeds, and others behind them, with a memory of so many pages.
+/// Does deeds, and others after them, with a memory of so many pages.
 fn does_both(
     rt: &impl Abort,
     alloc: Global,
@@ -130,7 +130,7 @@ fn does_both(
     does_all(rt, alloc, drive, deeds.1)
 }
 
-/// Does deeds, and others behind them, with a memory of some pages over an empty disk of which a call fails behind
+/// Does deeds, and others after them, with a memory of some pages over an empty disk of which a call fails after
 /// so many.
 pub(crate) fn run(
     rt: &impl Abort,

@@ -32,7 +32,7 @@ impl Watch {
         }
     }
 
-    /// Notes events, and whether less is left behind them than before.
+    /// Notes events, and whether less is left after them than before.
     fn see(&mut self, events: usize, before: u128, left: u128) {
         self.events = self.events.wrapping_add(events);
         if before <= left {

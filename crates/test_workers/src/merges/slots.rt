@@ -7,7 +7,7 @@ use sd_merge::Retired;
 use std::test::Fail;
 
 /// The tip reaches the images in the slots 0 to 2 of eight. The merge has slot 3, the checkpoint 5 and 6. Once the
-/// merged image is open, the chain's slots are free, until the merge has its list, and again behind its end.
+/// merged image is open, the chain's slots are free, until the merge has its list, and again after its end.
 const FREE: [Deed; 12] = [
     Deed::Is(Fact::Free(None, &[3, 4, 5, 6, 7])),
     Deed::BeginMerge(3),

@@ -51,7 +51,7 @@ fn an_open_store_is_not_opened_again(rt: HostRuntime) -> Result<(), Fail> {
     Ok(run(&rt, rt.alloc(), THREE, case)?)
 }
 
-/// A page is visited and its sectors are copied while a checkpoint is at its pass: behind the three calls of its slot's
+/// A page is visited and its sectors are copied while a checkpoint is at its pass: after the three calls of its slot's
 /// format and the freeze.
 const PASSED: [Row; 10] = [
     (Order::Open, Answer::Reopened(None)),
@@ -72,7 +72,7 @@ fn a_pass_goes_on_step_by_step(rt: HostRuntime) -> Result<(), Fail> {
     Ok(run(&rt, rt.alloc(), THREE, case)?)
 }
 
-/// A store is opened, and a checkpoint, one of whose device calls fails behind so many, is cancelled with this answer.
+/// A store is opened, and a checkpoint, one of whose device calls fails after so many, is cancelled with this answer.
 fn is_cancelled(
     rt: &impl Abort,
     alloc: Global,
@@ -90,8 +90,8 @@ fn is_cancelled(
     run(rt, alloc, Store { slots: 3, calls }, Case::Answers(&rows))
 }
 
-/// Behind how many calls one fails, and what the cancel is answered. The opening makes six, the format three, and five
-/// close the body; the memory is frozen behind the format.
+/// After how many calls one fails, and what the cancel is answered. The opening makes six, the format three, and five
+/// close the body; the memory is frozen after the format.
 const CANCELS: [(u64, Answer); 6] = [
     (6, IDLE),
     (8, IDLE),
@@ -128,10 +128,10 @@ fn a_store_that_fell_is_opened_again(rt: HostRuntime) -> Result<(), Fail> {
     Ok(run(&rt, rt.alloc(), store, case)?)
 }
 
-/// A checkpoint is acknowledged and the next one cancelled, so that the third takes every page; the sync behind the
+/// A checkpoint is acknowledged and the next one cancelled, so that the third takes every page; the sync after the
 /// gate of its dump fails. Whether it stands is in doubt, and it can't be cancelled. The store is opened again and
 /// names it. What was in doubt is over then: the next checkpoint has the next number and may be cancelled, and so may
-/// the one behind it.
+/// the one after it.
 const DOUBTFUL: [Row; 19] = [
     (Order::Open, Answer::Reopened(None)),
     (Order::Map, Answer::Journaled),

@@ -12,7 +12,7 @@ use sd_gate::Phase;
 use sd_pagetable::Memory;
 use std::alloc::{AllocError, Global};
 
-/// A store in memory: how many slots it has, and behind how many calls one fails.
+/// A store in memory: how many slots it has, and after how many calls one fails.
 #[derive(Clone, Copy)]
 pub(crate) struct Store {
     pub(crate) slots: usize,
@@ -62,7 +62,7 @@ pub(crate) fn fresh(alloc: Global) -> Result<Core, AllocError> {
     }
 }
 
-/// Room in each slot for an image of one page, behind 4,096 bytes of front and before a table.
+/// Room in each slot for an image of one page, after 4,096 bytes of front and before a table.
 const ROOM: usize = 4_096 + 4_096 + 512;
 
 /// A disk of empty files, of at most sixteen slots.

@@ -2,7 +2,7 @@ use Rattle.std.proofs.Common.{◌<◌, ◌≤◌}
 use Rattle.sd_elf.specs.Pieces.{AreSame}
 use Rattle.sd_elf.proofs.differences.end_of_differences.Given as goal
 
--- behind the end none so far differs
+-- after the end none so far differs
 abbrev pub invariant-loop-k : goal.invariant-loop-k
 invariant-loop-k l = record {
   some : l.from < l.end;

@@ -5,7 +5,7 @@ use Rattle.sd_elf.specs.Texts.{area_headers, program_header_text}
 use Rattle.sd_elf.proofs.AreaLemmas.{count_of}
 use Rattle.sd_elf.proofs.header_text.put_area_headers.Given as goal
 
--- the headers of the areas so far are written, and the next one's pages stand behind theirs
+-- the headers of the areas so far are written, and the next one's pages stand after theirs
 abbrev pub invariant-loop-area : goal.invariant-loop-area
 invariant-loop-area l = record {
   place : l.at ≡ l.place + 4096 * sum_by count_of (take l.area-index l.areas);

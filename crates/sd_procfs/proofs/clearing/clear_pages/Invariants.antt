@@ -4,7 +4,7 @@ use Rattle.sd_procfs.proofs.ClearSteps.{ClearsBehind, way_left}
 use Rattle.sd_procfs.proofs.ClearHistory.{HasHistoryBehind}
 use Rattle.sd_procfs.proofs.clearing.clear_pages.Given as goal
 
--- the pages behind the cursor were cleared
+-- the pages after the cursor were cleared
 abbrev pub invariant-loop-cursor : goal.invariant-loop-cursor
 invariant-loop-cursor l = record {
   behind : ClearsBehind l.cursor l.space l.fn.memory l.memory;

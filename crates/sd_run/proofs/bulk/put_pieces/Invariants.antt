@@ -1,4 +1,4 @@
--- The pieces so far were stored, and the rest is behind them.
+-- The pieces so far were stored, and the rest is after them.
 use Rattle.std.proofs.Common.{◌≡◌, ◌++◌, List, ℕ, length}
 use Rattle.std.specs.List.{concat}
 use Rattle.sd_world.specs.Goes.{GoesOn}

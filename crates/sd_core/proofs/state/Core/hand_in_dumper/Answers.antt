@@ -111,7 +111,7 @@ pub invariant_of-self-in-Dump : goal.invariant_of-self-in-Dump
 invariant_of-self-in-Dump c = dump_core (dump c) c.outcome_laws.ensures.tracked c.outcome_laws.ensures.plain c.append_held.new.self c.append_held.ensures.items c.append_held.ensures.numbers.first
     c.append_held.ensures.numbers.limit c.append_held.ensures.held c.sound-in-Dump.ensures
 
--- ---- what is believed behind it
+-- ---- what is believed after it
 
 pub returns-in-Failed-clause-handed : goal.returns-in-Failed-clause-handed
 returns-in-Failed-clause-handed c =

@@ -109,7 +109,7 @@ invariant_of-self-in-Merged c = ends_core (merged c)
 pub invariant_of-self-in-Opened : goal.invariant_of-self-in-Opened
 invariant_of-self-in-Opened c = core_opened (opened c)
 
--- ---- what is believed behind it
+-- ---- what is believed after it
 
 pub returns-in-Failed-clause-handed : goal.returns-in-Failed-clause-handed
 returns-in-Failed-clause-handed c =

@@ -5,7 +5,7 @@ use Rattle.std.proofs.lemmas.Option.{slice_get-get_or}
 use Rattle.sd_rounds.specs.Dumper.{IsReserved, running_of}
 use Rattle.sd_rounds.proofs.checkpoint.Checkpoint.fills.Goals as goal
 
--- the place behind all pre-dumps is the dump's
+-- the place after all pre-dumps is the dump's
 pub returns-then-slot-self : goal.returns-then-slot-self
 returns-then-slot-self c =
     let running = running_of c.args.self.now in
