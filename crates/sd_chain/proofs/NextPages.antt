@@ -136,7 +136,7 @@ from_high number page place small low = elim (cases_lt number place.0) [
     at : number ≡ place.0 → from_within number place ≤ page → place.1 ≤ page
     at same low = grind (arith, nat_tests)
 
--- no page of a space is at a place or after it
+-- no page of a space is at a place or behind it
 abbrev pub IsPassed : ℕ × ℕ → SpaceTable → Type 0
 IsPassed place s = (page : ℕ) → IsFrom place (s.space, page) → HasPageInRuns s.runs.items page → ⊥
 
@@ -166,7 +166,7 @@ pub passed : (h : Header) (items : List SpaceTable) (s : SpaceTable) (place : �
 passed h items s place table c none page from has =
     none page (from_low s.space page place (small_page h.parent s.runs.items page (runs_good h items s table c) has) from) has
 
--- a space after others has a greater number
+-- a space behind others has a greater number
 later_is_above : (h : Header) (before : ℕ) (items : List SpaceTable) (i j : ℕ) (d e : SpaceTable) → AreSpaces h before (map listing_of items) → i < j → j < length items
     → (get_or items i d).space < (get_or items j e).space
 later_is_above h before [] i j d e good less within = absurd (omega (arith, within))
@@ -272,7 +272,7 @@ had_listed items page has =
     (by_kind (map listing_of items) (has.0.space, page.1) has.3.0.kind
     (has_in_run has.3.0.kind (map listing_of items) (listing_of has.0) has.3.0 page.1 (listed_in items has.0 has.1) has.3.1 refl has.3.2))
 
--- from the place after a page on is after it
+-- from the place behind a page on is behind it
 start_on : (after : Option (ℕ × ℕ)) (page : ℕ × ℕ) → IsBehind after page → IsFrom (start_of after) page
 start_on after page behind = grind arith
 

@@ -153,7 +153,7 @@ pub run_at : (items : List SpaceTable) (index at : ℕ) (s : SpaceTable) (run : 
     → IsAt items index at s run space page
 run_at items index at s run space page got number low within is = grind (arith, slice_get-get_or)
 
--- so it has the pages after it up to its end
+-- so it has the pages behind it up to its end
 pub at_behind : (items : List SpaceTable) (index at : ℕ) (s : SpaceTable) (run : Run) (space page k : ℕ) → IsAt items index at s run space page → k < run.count - (page - run.first)
     → IsAt items index at s run space (page + k)
 at_behind items index at s run space page k found less = grind arith

@@ -73,7 +73,7 @@ impl OpenImage {
         self.table.way(space, page)
     }
 
-    /// How the image has a page and as many after it as it has alike, looked for first near a spot. None where it
+    /// How the image has a page and as many behind it as it has alike, looked for first near a spot. None where it
     /// doesn't list the page.
     pub(crate) fn stretch(&self, space: SpaceId, page: PageNo, near: Spot) -> Option<Stretch>
         ensures some { IfSome result (λ s. 0 < s.count) }
@@ -85,7 +85,7 @@ impl OpenImage {
         self.table.stretch(space, page, near)
     }
 
-    /// The first page that the image lists after a place, rising by space and page, or its first page where no place
+    /// The first page that the image lists behind a place, rising by space and page, or its first page where no place
     /// is given. The time grows with the spaces, and with the logarithm of the runs of each.
     pub fn next_page(&self, after: Option<(SpaceId, PageNo)>) -> Option<(SpaceId, PageNo)>
         ensures { IsTable self.now.header self.now.spaces
