@@ -59,6 +59,16 @@ an_import_that_takes_long_is_shown() {
   is_shown 'checkpoint: [0-9]+ %, [0-9]+ s left, [0-9]+ of 100 pages written into this image, frozen'
 }
 
+# And so is the reading of a core.
+a_core_that_is_read_for_long_is_shown() {
+  slow_writes || return
+  of_pages 300 > script
+  "$ckpt" run made script > out || { cat out; return 1; }
+  "$ckpt" export made cores || return 1
+  SLOW_READS=1 on_terminal "$ckpt" import store cores/space-1.core > shown || { cat shown; return 1; }
+  is_shown 'import: [0-9]+ %, [0-9]+ s left'
+}
+
 # A script whose requests take long is shown by its lines, where its answers don't go to a terminal.
 a_script_that_takes_long_is_shown() {
   slow_writes || return
@@ -73,4 +83,5 @@ a_script_that_takes_long_is_shown() {
 try a_job_that_takes_long_is_shown
 try a_merge_that_takes_long_is_shown
 try an_import_that_takes_long_is_shown
+try a_core_that_is_read_for_long_is_shown
 try a_script_that_takes_long_is_shown

@@ -24,6 +24,43 @@ sys.exit(1 if wrong or len(quotes) < 20 else 0)
 PYTHON
 }
 
+# From `main` the calls lead to each function that the table of docs/CLAUSES.md names, through those before it.
+programs_call_what_is_promised() {
+  needs_python || return
+  python3 - "$sources" << 'PYTHON'
+import re, sys
+from pathlib import Path
+
+top = Path(sys.argv[1])
+calls = {}
+for file in sorted((top / "crates/ckpt/src").glob("*.rt")):
+    for indent, name, body in re.findall(r"^( *)(?:pub(?:\(\w+\))? )?fn (\w+).*?\{\n(.*?)^\1\}$", file.read_text(), re.M | re.S):
+        calls.setdefault(name, set()).update(re.findall(r"\b(\w+)\(", body))
+
+
+def reached(start):
+    found, open_ = {start}, [start]
+    while open_:
+        for name in calls.get(open_.pop(), ()):
+            if name not in found:
+                found.add(name)
+                open_.append(name)
+    return found
+
+
+page = (top / "docs/CLAUSES.md").read_text().partition("## What each program calls")[2].partition("\n## ")[0]
+rows = [[cell.strip() for cell in line.split("|")[1:4]] for line in page.splitlines() if line.startswith("| `") or line.startswith("| those")]
+wrong = []
+for program, by, to in rows:
+    way = ["main", *re.findall(r"`(\w+)`", by)]
+    ends = re.findall(r"`(\w+)`", to)
+    steps = [*zip(way, way[1:]), *((way[-1], end) for end in ends)]
+    wrong += [f"{program}: {first} doesn't lead to {then}" for first, then in steps if then not in reached(first)]
+print(*wrong, sep="\n")
+sys.exit(1 if wrong or len(rows) < 12 else 0)
+PYTHON
+}
+
 # The number of definitions that have to be believed for the first tier is the one that the page has, and at most 100.
 promise_is_small() {
   needs_python || return
@@ -86,3 +123,4 @@ try what_is_believed_is_listed
 try hidden_definitions_are_counted
 try links_lead_to_clauses
 try each_promise_names_wrong_bodies
+try programs_call_what_is_promised

@@ -51,9 +51,9 @@ C
 }
 
 # The numbers of the table in an export of a store.
-exported_table() {  # exported_table STORE
+exported_table() {  # exported_table STORE [--checkpoint N]
   rm -rf cores
-  "$ckpt" export "$1" cores || return 1
+  "$ckpt" export "$1" cores "${@:2}" || return 1
   gdb -batch -nx -ex "x/64dw $(cat address)" -c cores/space-1.core 2> gdb.log | sed -n 's/^0x.*:\t//p' | tr '\t' '\n'
 }
 
@@ -79,6 +79,20 @@ follow_keeps_states_of_a_program() {
     [ "$(head -n 1 state)" -gt "$last" ] || { echo "the table did not go on"; return 1; }
     last=$(head -n 1 state)
   done
+  older_states_rise
+}
+
+# Each checkpoint that the store still has is a state of the table too, later than the one before.
+older_states_rise() {
+  local number last=0 count=0
+  for number in $(seq 10); do
+    exported_table store --checkpoint "$number" > state 2> err || continue
+    is_state_of_table state || return 1
+    [ "$(head -n 1 state)" -gt "$last" ] || { echo "checkpoint $number isn't later than the one before"; return 1; }
+    last=$(head -n 1 state)
+    count=$((count + 1))
+  done
+  [ "$count" -ge 5 ] || { echo "only $count checkpoints are left"; return 1; }
 }
 
 # The program goes on also where who follows it is killed, at any moment.

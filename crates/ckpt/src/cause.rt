@@ -1,11 +1,10 @@
 //! What stands after a fixed line of the output, for a reader: one line on the standard error. Where that can't be
 //! printed, nothing is lost.
 
-use crate::course::line_of_request;
-use crate::strict::Failure;
+use crate::course::{Failure, line_of_request};
 use clap::ArgMatches;
 use sd_disk::DirDisk;
-use sd_script::{QuotedLine, blame_line, print_answer};
+use sd_script::{QuotedLine, blame_line};
 use std::fmt::Display;
 use std::{fmt, str};
 
@@ -74,17 +73,11 @@ pub fn tell_line(
 }
 
 /// Tells at which request a strict run ended, of a script with these bytes: its line, and how it was answered.
-pub fn tell_failure(
-    rt: &(impl Eprint + AllocGlobal),
-    causes: Causes,
-    bytes: &[u8],
-    failure: &Failure,
-) {
-    let mut answer = Vec::new(rt.alloc());
-    if causes == Causes::Kept || print_answer(&failure.answer, &mut answer).is_err() {
+pub fn tell_failure(rt: &impl Eprint, causes: Causes, bytes: &[u8], failure: &Failure) {
+    if causes == Causes::Kept {
         return;
     }
-    let answer = str::from_utf8(&answer).unwrap_or("").trim_end();
+    let answer = str::from_utf8(&failure.answer).unwrap_or("").trim_end();
     let Some(number) = line_of_request(bytes, failure.request) else {
         let _ = eprintln!(rt; "opening: {answer}");
         return;

@@ -7,16 +7,14 @@ use crate::folders::make_store;
 use crate::progress::ProgressLine;
 use crate::shell::{Asked, run_shell};
 use crate::stats::{Counting, Counts, Inputs, LeftOut, Untold, counts_asked, meter_for};
-use crate::strict::run_strictly;
 use crate::verbose::{Seen, is_watched, logger_for, seen_by, unseen};
-use crate::{FAILED, restore_over, run_over};
+use crate::{FAILED, run_over};
 use clap::ArgMatches;
 use sd_disk::{DirDisk, Disk, Found};
 use sd_exit::{Output, Stop, exit};
-use sd_run::{Watch, merge_to};
+use sd_run::{Rule, RunWatch, merge_to};
 use sd_script::Script;
-use sd_stats::{Gated, Metered, Metering};
-use std::alloc::Global;
+use sd_stats::{Metered, Metering};
 use std::io::{Lock, Write};
 use std::sync::Wait;
 use std::time::Clock;
@@ -24,7 +22,7 @@ use std::time::Clock;
 /// What a program does over a store, with a watch over its jobs.
 pub trait Job {
     /// Does it, and returns the store with the exit status.
-    fn run<D: Disk, W: Write, S: Watch>(
+    fn run<D: Disk, W: Write, S: RunWatch>(
         self,
         rt: &HostRuntime,
         disk: D,
@@ -39,7 +37,7 @@ pub struct RunAsked<'a> {
     pub folder: &'a str,
     pub course: &'a Course<'a>,
     pub restores: bool,
-    pub strict: bool,
+    pub rule: Rule,
     pub causes: Causes,
 }
 
@@ -51,7 +49,7 @@ pub struct ScriptJob<'a> {
 }
 
 impl Job for ScriptJob<'_> {
-    fn run<D: Disk, W: Write, S: Watch>(
+    fn run<D: Disk, W: Write, S: RunWatch>(
         self,
         rt: &HostRuntime,
         disk: D,
@@ -64,30 +62,28 @@ impl Job for ScriptJob<'_> {
 
 /// The merge of the newest chain.
 #[derive(Clone, Copy)]
-pub struct MergeJob<'a> {
-    pub course: &'a Course<'a>,
-}
+pub struct MergeJob;
 
-impl Job for MergeJob<'_> {
-    fn run<D: Disk, W: Write, S: Watch>(
+impl Job for MergeJob {
+    fn run<D: Disk, W: Write, S: RunWatch>(
         self,
         rt: &HostRuntime,
         disk: D,
         out: &mut Output<W>,
         watch: &mut S,
     ) -> (D, u8) {
-        merge_gated(rt.alloc(), self.course, disk, out, watch)
+        merge_to(rt.alloc(), disk, out, watch)
     }
 }
 
 /// A shell over the standard input.
 #[derive(Clone, Copy)]
-pub struct ShellJob<'r, 'f, 'g> {
-    pub asked: Asked<'r, 'f, 'g>,
+pub struct ShellJob<'r, 'f, 'c> {
+    pub asked: Asked<'r, 'f, 'c>,
 }
 
 impl Job for ShellJob<'_, '_, '_> {
-    fn run<D: Disk, W: Write, S: Watch>(
+    fn run<D: Disk, W: Write, S: RunWatch>(
         self,
         rt: &HostRuntime,
         disk: D,
@@ -99,31 +95,8 @@ impl Job for ShellJob<'_, '_, '_> {
     }
 }
 
-/// Runs the lines of a script over a store up to the first that isn't answered as it was meant, and returns the store
-/// with the exit status. With `restores` the memory that the store then shows is printed after the answers.
-fn run_strict<D: Disk, W: Write, S: Watch>(
-    rt: &HostRuntime,
-    asked: RunAsked<'_>,
-    disk: D,
-    script: Script,
-    out: &mut Output<W>,
-    watch: &mut S,
-) -> (D, u8) {
-    let (disk, ended) = run_strictly(rt.alloc(), disk, script, out, watch);
-    let ended = match ended {
-        Ok(None) if asked.restores => return restore_over(rt.alloc(), disk, out),
-        Ok(None) => Ok(()),
-        Ok(Some(failure)) => {
-            tell_failure(rt, asked.causes, asked.course.script(), &failure);
-            Err(Stop::Refused)
-        }
-        Err(stop) => Err(stop),
-    };
-    (disk, exit(&ended, out))
-}
-
 /// Runs a script over a store as the words ask for, and returns the store with the exit status.
-fn run_asked<D: Disk, W: Write, S: Watch>(
+fn run_asked<D: Disk, W: Write, S: RunWatch>(
     rt: &HostRuntime,
     asked: RunAsked<'_>,
     disk: D,
@@ -132,13 +105,12 @@ fn run_asked<D: Disk, W: Write, S: Watch>(
     watch: &mut S,
 ) -> (D, u8) {
     let course = asked.course;
-    let gated = Gated::new(course.gates(), disk);
-    let (gated, status) = if asked.strict {
-        run_strict(rt, asked, gated, script, out, watch)
-    } else {
-        run_over(rt.alloc(), gated, script, asked.restores, out, watch)
-    };
+    let (rule, restores) = (asked.rule, asked.restores);
+    let (disk, status) = run_over(rt.alloc(), disk, script, rule, restores, out, watch);
     course.clear();
+    if let (Rule::Strict, Some(failure)) = (rule, course.failure()) {
+        tell_failure(rt, asked.causes, course.script(), failure);
+    }
     tell_few_at(
         rt,
         asked.causes,
@@ -146,26 +118,11 @@ fn run_asked<D: Disk, W: Write, S: Watch>(
         course.script(),
         course.few(),
     );
-    let (_, disk) = gated.into_parts();
-    (disk, status)
-}
-
-/// Merges the newest chain of a store, and sees its gates.
-fn merge_gated<D: Disk, W: Write, S: Watch>(
-    alloc: Global,
-    course: &Course<'_>,
-    disk: D,
-    out: &mut Output<W>,
-    watch: &mut S,
-) -> (D, u8) {
-    let gated = Gated::new(course.gates(), disk);
-    let (gated, status) = merge_to(alloc, gated, out, watch);
-    let (_, disk) = gated.into_parts();
     (disk, status)
 }
 
 /// Does a job over a store that a meter sees, and tells what its images, checkpoints and merges took.
-fn run_counted<J: Job + Drop, W: Write, S: Watch + Drop>(
+fn run_counted<J: Job + Drop, W: Write, S: RunWatch + Drop>(
     rt: &HostRuntime,
     seen: Seen<'_>,
     causes: Causes,
@@ -189,7 +146,7 @@ fn run_counted<J: Job + Drop, W: Write, S: Watch + Drop>(
 
 /// Does a job over a store, and returns the store with the exit status. Where counts are asked for, what its images,
 /// checkpoints and merges took is told.
-fn run_job<J: Job + Drop, W: Write, S: Watch + Drop>(
+fn run_job<J: Job + Drop, W: Write, S: RunWatch + Drop>(
     rt: &HostRuntime,
     seen: Seen<'_>,
     causes: Causes,

@@ -1,8 +1,11 @@
-//! How far the run of a script is: the line that is being answered, and the first request that found too few free
-//! slots.
+//! How far the run of a script is: the request that was answered last, the first that found too few free slots, and the
+//! one that ended a strict run.
 
 use crate::progress::{CLEAR, Done, Pace};
-use sd_stats::Gates;
+use sd_command::{Refusal, Reply};
+use sd_core::Core;
+use sd_run::is_failure;
+use sd_script::{Answer, print_answer};
 use std::cell::{Cell, OnceCell};
 use std::io::Write;
 use std::time::Duration;
@@ -10,12 +13,6 @@ use std::{fmt, io};
 
 /// How many answers are printed between two looks at the clock.
 const ANSWERS_A_LOOK: usize = 16;
-
-/// What a request is answered for which too few slots are free.
-const NO_SLOT: &[u8] = b"refused 12 no-slot\n";
-
-/// What an order is answered that has nothing to do.
-const IDLE: &[u8] = b"refused 14 idle\n";
 
 /// A line of a script, of how many.
 #[derive(Clone, Copy)]
@@ -39,15 +36,24 @@ pub struct FewAt {
     pub free: usize,
 }
 
-/// How far the run of a script is, as its answers and its device calls show.
+/// The request at which a strict run ended, and the line of its answer.
+#[derive(Drop)]
+pub struct Failure {
+    /// Its number among the requests of the script, counted from 1; 0 is the opening.
+    pub request: usize,
+    pub answer: Vec<u8>,
+}
+
+/// How far the run of a script is, as it is told.
 #[derive(Drop)]
 pub struct Course<'a> {
     rt: &'a HostRuntime,
-    gates: Gates,
     script: OnceCell<Vec<u8>>,
-    /// How many answers were printed. The first is that of the opening.
+    /// How many requests were answered. The first is the opening.
     answers: Cell<usize>,
     few: Cell<Option<FewAt>>,
+    /// The first request whose answer is a refusal or `segv`.
+    failure: OnceCell<Failure>,
     /// Whether an order had nothing to do.
     idle: Cell<bool>,
     /// Whether the line of a long script is written.
@@ -61,10 +67,10 @@ impl<'a> Course<'a> {
     pub fn new(rt: &'a HostRuntime) -> Self {
         Course {
             rt,
-            gates: Gates::unseen(),
             script: OnceCell::new(),
             answers: Cell::new(0),
             few: Cell::new(None),
+            failure: OnceCell::new(),
             idle: Cell::new(false),
             shows: Cell::new(false),
             pace: Cell::new(Pace::IDLE),
@@ -86,9 +92,9 @@ impl<'a> Course<'a> {
         }
     }
 
-    /// The gates of the slots.
-    pub fn gates(&self) -> &Gates {
-        &self.gates
+    /// The first request whose answer is a refusal or `segv`.
+    pub fn failure(&self) -> Option<&Failure> {
+        self.failure.get()
     }
 
     /// The first request that found too few free slots.
@@ -111,19 +117,38 @@ impl<'a> Course<'a> {
         Some(LineOf { number, of })
     }
 
-    /// Notes an answer.
-    fn note(&self, answer: &[u8]) {
+    /// Takes in that the next request was answered.
+    pub fn answered(&self, core: &Core, given: &Answer) {
         let request = self.answers.get();
-        if answer == NO_SLOT && self.few.get().is_none() {
-            let free = self.gates.free();
-            self.few.set(Some(FewAt { request, free }));
+        if let Answer::Reply(Reply::Refused(why)) = given {
+            self.refused(core, *why);
         }
-        if answer == IDLE {
-            self.idle.set(true);
+        if is_failure(given) && self.failure.get().is_none() {
+            self.note_failure(request, given);
         }
         self.answers.set(request.saturating_add(1));
         if self.shows.get() && request % ANSWERS_A_LOOK == 0 {
             self.look();
+        }
+    }
+
+    /// Takes in that the next request is refused.
+    pub fn refused(&self, core: &Core, why: Refusal) {
+        if why == Refusal::Idle {
+            self.idle.set(true);
+        }
+        if why == Refusal::NoSlot && self.few.get().is_none() {
+            let request = self.answers.get();
+            let free = free_in(core);
+            self.few.set(Some(FewAt { request, free }));
+        }
+    }
+
+    /// Keeps the answer of a request that failed. One that finds no room isn't told.
+    fn note_failure(&self, request: usize, given: &Answer) {
+        let mut answer = Vec::new(self.rt.alloc());
+        if print_answer(given, &mut answer).is_ok() {
+            let _ = self.failure.set(Failure { request, answer });
         }
     }
 
@@ -178,31 +203,10 @@ fn has_request(line: &[u8]) -> bool {
     !line.is_empty() && !line.starts_with(b"#")
 }
 
-/// A writer of answers, each of which is noted once it is written, or its last part is.
-#[derive(Drop)]
-pub struct Noted<'a, W> {
-    course: &'a Course<'a>,
-    writer: W,
-}
-
-impl<'a, W: Write> Noted<'a, W> {
-    pub fn new(course: &'a Course<'a>, writer: W) -> Self {
-        Noted { course, writer }
-    }
-}
-
-impl<W: Write> Write for Noted<'_, W> {
-    ghost contents = { λ noted. W.contents noted.writer };
-
-    fn write(&mut self, bytes: &[u8]) -> io::Result<usize> {
-        let ended = self.writer.write(bytes);
-        if matches!(ended, Ok(count) if count == bytes.len()) {
-            self.course.note(bytes);
-        }
-        ended
-    }
-
-    fn flush(&mut self) -> io::Result<()> {
-        self.writer.flush()
+/// How many slots of a store are free.
+pub fn free_in(core: &Core) -> usize {
+    match core.free_slots() {
+        Ok(slots) => slots.len(),
+        Err(_) => 0,
     }
 }

@@ -5,7 +5,8 @@ use crate::cause::{Advised, Causes, causes_asked, tell, tell_device};
 use crate::cores::threads_asked;
 use crate::folders::open_store;
 use crate::parts::{Left, core_name, is_folder, is_there, make_part, part_name};
-use crate::queries::{tell_numbers, told_not_there};
+use crate::queries::told_not_there;
+use crate::reading::tell_numbers;
 use crate::slots::{is_same_file, is_slot_file, slot_error};
 use crate::verbose::{Seen, is_watched, logger_for, seen_by, unseen};
 use clap::ArgMatches;
@@ -328,9 +329,8 @@ pub fn export_program<R: Clock + Wait, W: Write>(
         tell_export_beside(rt, causes, store, is_beside);
     }
     if let (Some(number), Some(Fault::EmptyChain)) = (export.checkpoint, fault_of(&ended)) {
-        let mut disk = disk;
         let status = told_not_there(number, out);
-        tell_numbers(rt, causes, store, &mut disk);
+        tell_numbers(rt, causes, store, disk);
         return Ok(status);
     }
     if let (Ok(()), Some(name)) = (&ended, words.get_str("notes")) {

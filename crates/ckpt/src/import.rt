@@ -1,11 +1,13 @@
 //! `ckpt import`: the memory of ELF core files as the memory of a space, one after the other, and a checkpoint of each.
 
 use crate::cause::{Causes, causes_asked, tell};
+use crate::core_line::ShownCore;
 use crate::cores::{Source, open_cores, stopped, unread};
 use crate::counted::{Job, do_seen};
 use crate::course::{Course, FewAt};
 use crate::ends::{FewSlots, tell_few_slots};
 use crate::stats::Inputs;
+use crate::verbose::is_watched;
 use clap::ArgMatches;
 use sd_areas::SpaceId;
 use sd_command::Reply;
@@ -14,9 +16,8 @@ use sd_exit::{Output, Stop, exit};
 use sd_gate::Worker;
 use sd_import::{ImportError, Tally, import_core};
 use sd_restore::Fault;
-use sd_run::{FRAMES, Watch, unopened};
+use sd_run::{FRAMES, RunWatch, unopened};
 use sd_script::{Answer, print_answer};
-use sd_stats::Gated;
 use sd_world::{Event, OpenError, World};
 use std::alloc::Global;
 use std::io;
@@ -40,42 +41,25 @@ struct Order {
 
 /// An import of core files, one after the other.
 #[derive(Clone, Copy)]
-struct ImportJob<'a, 's> {
-    course: &'a Course<'a>,
+struct ImportJob<'s> {
     order: Order,
     sources: &'s [Source<'s>],
 }
 
-impl Job for ImportJob<'_, '_> {
-    fn run<D: Disk, W: Write, S: Watch>(
+impl Job for ImportJob<'_> {
+    fn run<D: Disk, W: Write, S: RunWatch>(
         self,
         rt: &HostRuntime,
         disk: D,
         out: &mut Output<W>,
         watch: &mut S,
     ) -> (D, u8) {
-        import_gated(rt, self.course, self.order, self.sources, disk, out, watch)
+        import_over(rt, self.order, self.sources, disk, out, watch)
     }
 }
 
-/// Imports the cores into a store of which it is known how many slots are free, and returns it with the exit status.
-fn import_gated<D: Disk, W: Write, S: Watch>(
-    rt: &HostRuntime,
-    course: &Course<'_>,
-    order: Order,
-    sources: &[Source<'_>],
-    disk: D,
-    out: &mut Output<W>,
-    watch: &mut S,
-) -> (D, u8) {
-    let gated = Gated::new(course.gates(), disk);
-    let (gated, status) = import_over(rt, order, sources, gated, out, watch);
-    let (_, disk) = gated.into_parts();
-    (disk, status)
-}
-
 /// Imports the cores into a store, and returns it with the exit status.
-fn import_over<D: Disk, W: Write, S: Watch>(
+fn import_over<D: Disk, W: Write, S: RunWatch>(
     rt: &HostRuntime,
     order: Order,
     sources: &[Source<'_>],
@@ -94,7 +78,7 @@ fn import_over<D: Disk, W: Write, S: Watch>(
 
 /// Opens the store of a world again, and imports the cores, up to the first that isn't saved. Between two the journal
 /// is trimmed, so each has all of its room.
-fn import_all<D: Disk, W: Write, S: Watch>(
+fn import_all<D: Disk, W: Write, S: RunWatch>(
     rt: &HostRuntime,
     order: Order,
     sources: &[Source<'_>],
@@ -114,7 +98,7 @@ fn import_all<D: Disk, W: Write, S: Watch>(
 }
 
 /// Gives the space the memory of a core, and makes a checkpoint.
-fn import_one<D: Disk, W: Write, S: Watch>(
+fn import_one<D: Disk, W: Write, S: RunWatch>(
     rt: &HostRuntime,
     order: Order,
     source: &Source<'_>,
@@ -122,11 +106,17 @@ fn import_one<D: Disk, W: Write, S: Watch>(
     out: &mut Output<W>,
     watch: &mut S,
 ) -> Result<(), Stop> {
-    match import_core(rt.alloc(), world, &source.file, &source.core, order.space) {
+    let file = ShownCore::new(rt, &source.file, is_watched(rt, order.causes));
+    let imported = import_core(rt.alloc(), world, &file, &source.core, order.space);
+    file.clear();
+    match imported {
         Ok(tally) => print_tally(&tally, out)?,
         Err(error) => return Err(ended_with(rt, order.causes, source.name, error, out)),
     }
     let answer = world.do_job(Event::Begin(order.rounds), Worker::Dumper, watch);
+    if let Reply::Refused(why) = &answer {
+        watch.refused(world.core(), *why);
+    }
     if !matches!(&answer, Reply::Acked(_)) {
         return Err(refused(rt.alloc(), answer, out));
     }
@@ -196,7 +186,6 @@ pub fn import_program<R: Clock + Wait, W: Write>(
         rounds,
     };
     let job = ImportJob {
-        course,
         order,
         sources: &sources,
     };

@@ -13,16 +13,16 @@ use cause::{Causes, causes_asked, tell};
 use clap::ArgMatches;
 use command_line::{Work, asked_of};
 use counted::{MergeJob, RunAsked, ScriptJob, ShellJob, do_seen};
-use course::{Course, Noted};
+use course::Course;
 use ends::{tell_end, tell_merge};
 use mutating::mutate_program;
-use queries::{QueryAsked, history_asked, query_asked, query_program};
-use reading::{read_seen, read_store};
+use queries::{Query, difference_asked, history_asked, query_asked};
+use reading::{ReadAsked, read_store};
 use scripts::{parse_script, read_script, script_inputs};
 use sd_disk::{Disk, Found};
 use sd_exit::{Output, Stop, Taken, exit};
-use sd_readers::{Reader, restore_to};
-use sd_run::{Watch, run_lines};
+use sd_readers::restore_to;
+use sd_run::{Rule, RunWatch, run_lines};
 use sd_script::Script;
 use shell::{Asked, Asking};
 use stats::Inputs;
@@ -42,10 +42,11 @@ mod bulk;
 mod called;
 mod cause;
 mod command_line;
+mod core_line;
 mod cores;
 mod counted;
 mod course;
-mod diff;
+mod difference;
 mod ends;
 mod explained;
 mod export;
@@ -66,7 +67,6 @@ mod show;
 mod shown;
 mod slots;
 mod stats;
-mod strict;
 mod verbose;
 
 /// The exit status of a program that was refused or stopped.
@@ -84,22 +84,24 @@ fn restore_over<D: Disk, W: Write>(alloc: Global, disk: D, out: &mut Output<W>) 
     (disk, status)
 }
 
-/// Runs a script over a store, and returns the store with the exit status. With `restores` the memory that the store
-/// then shows is printed after the answers.
-fn run_over<D: Disk, W: Write, S: Watch>(
+/// Runs a script over a store, up to the first answer that ends it by its rule, and returns the store with the exit
+/// status. With `restores` the memory that the store then shows is printed after the answers of a run that came to its
+/// end.
+fn run_over<D: Disk, W: Write, S: RunWatch>(
     alloc: Global,
     disk: D,
     script: Script,
+    rule: Rule,
     restores: bool,
     out: &mut Output<W>,
     watch: &mut S,
 ) -> (D, u8)
     // The answers of the script's lines are printed, or a beginning of them; and then the text of the memory that the
     // store shows, or a beginning of it; and why the program was stopped, if it was.
-    ensures runs { RunsScript D.Disk restores (asked.Reopen ∷ script.lines.items) disk result.0
+    ensures runs { RunsScript D.Disk rule restores (asked.Reopen ∷ script.lines.items) disk result.0
         (W.contents out.old.writer) (W.contents out.new.writer) out.new.refused result.1 }
 {
-    let (disk, ended) = run_lines(alloc, disk, script, out, watch);
+    let (disk, ended) = run_lines(alloc, disk, script, rule, out, watch);
     if restores && ended.is_ok() {
         return restore_over(alloc, disk, out);
     }
@@ -117,6 +119,15 @@ fn check_program<W: Write>(
     let script = parse_script(rt, causes, name, &bytes)?;
     writeln!(out, "ok {} requests", script.lines.len())?;
     Ok(exit(&Ok(()), out))
+}
+
+/// Which answers end a run before its last request.
+fn rule_asked(words: &ArgMatches<'_>) -> Rule {
+    if words.get_flag("strict") {
+        Rule::Strict
+    } else {
+        Rule::Plain
+    }
 }
 
 /// `ckpt run`: a script that can't be taken makes no file.
@@ -140,7 +151,7 @@ fn run_program<R: Clock + Wait, W: Write>(
         folder: words.get_str("DIR").unwrap_or(""),
         course,
         restores: words.get_flag("restore"),
-        strict: words.get_flag("strict"),
+        rule: rule_asked(words),
         causes,
     };
     let job = ScriptJob { asked, script };
@@ -170,7 +181,6 @@ fn shell_program<R: Clock + Wait, W: Write>(
         rt,
         causes: causes_asked(words),
         folder: words.get_str("DIR").unwrap_or(""),
-        gates: course.gates(),
         failed: &failed,
         asking: asking_of(rt.stdin().is_terminal() && rt.stdout().is_terminal()),
     };
@@ -210,7 +220,7 @@ fn merge_program<R: Clock + Wait, W: Write>(
         words,
         course,
         Inputs::NONE,
-        MergeJob { course },
+        MergeJob,
         found,
         out,
     )?;
@@ -219,54 +229,27 @@ fn merge_program<R: Clock + Wait, W: Write>(
     Ok(status)
 }
 
-/// `ckpt restore`, `ckpt list` and `ckpt verify`.
+/// The programs that only read a store: `ckpt restore`, `list`, `verify`, `history` and `diff`.
 fn reader_program<R: Clock + Wait, W: Write>(
     rt: &HostRuntime,
     threads: &R,
-    reader: Reader,
-    words: &ArgMatches<'_>,
-    found: &Found,
-    out: &mut Output<W>,
-) -> Result<u8, Stop> {
-    let folder = words.get_str("DIR").unwrap_or("");
-    let causes = causes_asked(words);
-    let log = logger_for(rt, words);
-    let seen = seen_by(rt, &log, words, is_watched(rt, causes));
-    if let Some(query) = query_asked(reader, words) {
-        let asked = QueryAsked {
-            seen,
-            causes,
-            query,
-            folder,
-            found,
-        };
-        return query_program(rt, threads, asked, out);
-    }
-    if seen.is_asked() {
-        return read_seen(rt, threads, seen, causes, reader, folder, found, out);
-    }
-    let (_, status) = read_store(rt, threads, causes, reader, folder, found, out)?;
-    Ok(status)
-}
-
-/// `ckpt history`.
-fn history_program<R: Clock + Wait, W: Write>(
-    rt: &HostRuntime,
-    threads: &R,
+    query: Query,
     words: &ArgMatches<'_>,
     found: &Found,
     out: &mut Output<W>,
 ) -> Result<u8, Stop> {
     let causes = causes_asked(words);
     let log = logger_for(rt, words);
-    let asked = QueryAsked {
+    let asked = ReadAsked {
         seen: seen_by(rt, &log, words, is_watched(rt, causes)),
         causes,
-        query: history_asked(words),
+        query,
         folder: words.get_str("DIR").unwrap_or(""),
         found,
     };
-    query_program(rt, threads, asked, out)
+    let (disk, status) = read_store(rt, threads, asked, out)?;
+    asked.tell_lack(rt, disk, status, out);
+    Ok(status)
 }
 
 /// Runs the program that the words ask for, and returns the exit status.
@@ -286,9 +269,11 @@ fn run_matches<R: Clock + Threads + Wait + Sync, W: Write>(
         Work::Shell => shell_program(rt, threads, words, course, found, out),
         Work::Merge => merge_program(rt, threads, words, course, found, out),
         Work::Mutate => mutate_program(rt, threads, words, found, out),
-        Work::Read(reader) => reader_program(rt, threads, reader, words, found, out),
-        Work::History => history_program(rt, threads, words, found, out),
-        Work::Diff => diff::diff_program(rt, threads, words, found, out),
+        Work::Read(reader) => {
+            reader_program(rt, threads, query_asked(reader, words), words, found, out)
+        }
+        Work::History => reader_program(rt, threads, history_asked(words), words, found, out),
+        Work::Diff => reader_program(rt, threads, difference_asked(words), words, found, out),
         Work::Show => show::show_program(rt, threads, causes_asked(words), words, found, out),
         Work::Export => export::export_program(rt, threads, words, found, out),
         Work::Import => import::import_program(rt, threads, words, course, found, out),
@@ -341,7 +326,7 @@ fn run_command<R: Clock + Threads + Wait + Sync>(
 ) -> io::Result<u8> {
     let course = Course::new(rt);
     let writer = BufWriter::new(rt.alloc(), Taken::new(io::writer(rt)))?;
-    let mut out = Output::new(Noted::new(&course, writer));
+    let mut out = Output::new(writer);
     match run_words(rt, threads, words, &course, found, &mut out) {
         Ok((causes, status)) => {
             tell_refusal(rt, causes, out.error());

@@ -2,9 +2,11 @@
 
 use crate::course::Course;
 use sd_areas::{Area, AreaMap, SPACE_LIMIT, SpaceId};
+use sd_command::Refusal;
 use sd_core::Core;
 use sd_gate::Worker;
-use sd_run::Watch;
+use sd_run::{RunWatch, Watch};
+use sd_script::Answer;
 use std::io::Write;
 use std::time::{Clock, Duration, Instant};
 use std::{fmt, io};
@@ -186,5 +188,15 @@ impl<'a, R: Clock, W: Write> Watch for ProgressLine<'a, R, W> {
         self.is_begun = false;
         self.pace = Pace::IDLE;
         self.is_shown = false;
+    }
+}
+
+impl<'a, R: Clock, W: Write> RunWatch for ProgressLine<'a, R, W> {
+    fn answered(&mut self, core: &Core, given: &Answer) {
+        self.course.answered(core, given);
+    }
+
+    fn refused(&mut self, core: &Core, why: Refusal) {
+        self.course.refused(core, why);
     }
 }

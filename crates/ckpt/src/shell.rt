@@ -3,18 +3,19 @@
 
 use crate::bulk::{Bulk, BulkLine, MOST_BYTES, Way, answer_get, answer_put, parse_bulk};
 use crate::cause::Causes;
+use crate::course::free_in;
 use crate::ends::{FewSlots, tell_few_slots, wanted_slots};
 use crate::explained::{print_requests, refuse_line, tell_rounds};
 use crate::requests::{Brought, Requests};
 use crate::scripts::{STANDARD_INPUT, unread};
 use sd_command::{Refusal, Reply};
+use sd_core::Core;
 use sd_disk::Disk;
 use sd_exit::{Output, Stop};
 use sd_gate::Worker;
 use sd_restore::Fault;
 use sd_run::{FRAMES, Watch, run_line, unopened};
 use sd_script::{Answer, Line, Script, ScriptError};
-use sd_stats::{Gated, Gates};
 use sd_world::{OpenError, World};
 use std::cell::Cell;
 use std::io;
@@ -39,21 +40,20 @@ pub enum Asking {
 
 /// How requests are asked for, of which store, and where is told what stands after an answer.
 #[derive(Clone, Copy)]
-pub struct Asked<'r, 'f, 'g> {
+pub struct Asked<'r, 'f, 'c> {
     pub rt: &'r HostRuntime,
     pub causes: Causes,
     pub folder: &'f str,
-    pub gates: &'g Gates,
     pub asking: Asking,
     /// The worker whose device call failed, until the store is opened again.
-    pub failed: &'g Cell<Option<Worker>>,
+    pub failed: &'c Cell<Option<Worker>>,
 }
 
 impl Asked<'_, '_, '_> {
     /// Tells how many slots are free, where a request was refused because too few are.
-    fn tell_answer(self, wanted: Option<u64>, answer: &Answer) {
+    fn tell_answer(self, core: &Core, wanted: Option<u64>, answer: &Answer) {
         if let (Some(wanted), Answer::Reply(Reply::Refused(Refusal::NoSlot))) = (wanted, answer) {
-            let free = self.gates.free();
+            let free = free_in(core);
             tell_few_slots(self.rt, self.causes, self.folder, FewSlots { free, wanted });
         }
     }
@@ -70,18 +70,13 @@ pub fn run_shell<D: Disk, I: Read + Drop, W: Write, S: Watch>(
     out: &mut Output<W>,
     watch: &mut S,
 ) -> (D, Result<(), Stop>) {
-    let gated = Gated::new(asked.gates, disk);
-    match World::open(asked.rt.alloc(), gated, FRAMES) {
+    match World::open(asked.rt.alloc(), disk, FRAMES) {
         Ok(mut world) => {
             let mut requests = Requests::new(asked.rt.alloc(), input);
             let ended = answer_all(asked, &mut world, &mut requests, out, watch);
-            let (_, disk) = world.close().into_parts();
-            (disk, ended)
+            (world.close(), ended)
         }
-        Err(OpenError { fault, disk }) => {
-            let (_, disk) = disk.into_parts();
-            (disk, Err(unopened(fault)))
-        }
+        Err(OpenError { fault, disk }) => (disk, Err(unopened(fault))),
     }
 }
 
@@ -199,7 +194,7 @@ fn answer_request<D: Disk, W: Write, S: Watch>(
         hand_in_all(asked, world, failed, watch)?;
     }
     let given = run_line(asked.rt.alloc(), world, request, out, watch)?;
-    asked.tell_answer(wanted, &given);
+    asked.tell_answer(world.core(), wanted, &given);
     match (&given, rounds) {
         (Answer::Reply(Reply::Refused(Refusal::Device)), _) => asked.failed.set(worker),
         (Answer::Reply(Reply::Reopened(_)), _) => asked.failed.set(None),

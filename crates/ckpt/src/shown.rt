@@ -1,8 +1,11 @@
 //! How far the reading of a store is that takes long, as a line on a terminal.
 
+ghost use Rattle.std.specs.Prelude.{◌≡◌, ◌<◌, length};
+ghost use Rattle.sd_disk.specs.Reads.{OnlyReads};
+
 use crate::progress::{CLEAR, Done, Pace};
 use crate::verbose::is_open;
-use sd_disk::{Disk, FileCall, Observed, Observer};
+use sd_disk::{Disk, FileCall, Observed, Observer, file_len};
 use sd_image::HEADER_SIZE;
 use std::io;
 use std::io::Write;
@@ -42,7 +45,9 @@ impl<'a> ReadingLine<'a> {
     }
 
     /// Takes in how much there is to be read of each image.
-    fn measure<D: Disk>(&mut self, disk: &mut D) {
+    fn measure<D: Disk>(&mut self, disk: &mut D)
+        ensures reads { OnlyReads D.Disk disk.old disk.new }
+    {
         for slot in 0..disk.slots() {
             let length = body_len(disk, slot);
             self.bytes = self.bytes.saturating_add(length);
@@ -105,11 +110,11 @@ impl<'a> ReadingLine<'a> {
 pub type Shown<'a, D> = Observed<ReadingLine<'a>, D>;
 
 /// What the file of an open slot has after the header of an image, in bytes. A closed one isn't read.
-fn body_len<D: Disk>(disk: &mut D, slot: usize) -> u64 {
-    if slot >= disk.slots() {
-        return 0;
-    }
-    let length = disk.len(slot).unwrap_or(0);
+fn body_len<D: Disk>(disk: &mut D, slot: usize) -> u64
+    requires { slot < length (D.contents disk.old) }
+    ensures reads { OnlyReads D.Disk disk.old disk.new }
+{
+    let length = file_len(disk, slot).unwrap_or(0);
     if length > HEADER_SIZE && is_open(disk, slot) {
         (length - HEADER_SIZE) as u64
     } else {
@@ -123,7 +128,9 @@ pub fn shown<'a, D: Disk>(
     does: &'static str,
     is_on: bool,
     disk: D,
-) -> Shown<'a, D> {
+) -> Shown<'a, D>
+    ensures reads { OnlyReads D.Disk disk result.disk }
+{
     let mut line = ReadingLine::new(rt, does);
     let mut disk = disk;
     if is_on {
@@ -133,7 +140,9 @@ pub fn shown<'a, D: Disk>(
 }
 
 /// The disk within. The line is cleared.
-pub fn unshown<D: Disk>(shown: Shown<'_, D>) -> D {
+pub fn unshown<D: Disk>(shown: Shown<'_, D>) -> D
+    ensures { result ≡ shown.entry.disk }
+{
     let (mut line, disk) = shown.into_parts();
     line.clear();
     disk

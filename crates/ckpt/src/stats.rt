@@ -4,11 +4,13 @@ use crate::cause::{Advised, Causes, tell};
 use crate::slots::{is_same_file, open_beside_slots};
 use crate::verbose::{Logger, Seen, log_end, log_job, log_left_out, log_record};
 use clap::ArgMatches;
+use sd_command::Refusal;
 use sd_core::Core;
 use sd_exit::{Output, Stop};
 use sd_gate::Worker;
 use sd_restore::Fault;
-use sd_run::Watch;
+use sd_run::{RunWatch, Watch};
+use sd_script::Answer;
 use sd_stats::{Meter, Record, print_record, print_table};
 use std::cell::RefCell;
 use std::fs::File;
@@ -171,7 +173,7 @@ pub struct Counting<'a, S> {
     fault: Option<io::Error>,
 }
 
-impl<'a, S: Watch + Drop> Counting<'a, S> {
+impl<'a, S: RunWatch + Drop> Counting<'a, S> {
     pub fn new(
         rt: &'a HostRuntime,
         log: &'a Logger<'a>,
@@ -292,7 +294,7 @@ impl fmt::Display for LeftOut {
     }
 }
 
-impl<S: Watch + Drop> Watch for Counting<'_, S> {
+impl<S: RunWatch + Drop> Watch for Counting<'_, S> {
     fn goes_on(&mut self, core: &Core, worker: Worker) {
         self.beside.goes_on(core, worker);
         if self.worker != Some(worker) {
@@ -313,5 +315,15 @@ impl<S: Watch + Drop> Watch for Counting<'_, S> {
         self.drain(ends_merge);
         log_end(self.log, self.worker);
         self.worker = None;
+    }
+}
+
+impl<S: RunWatch + Drop> RunWatch for Counting<'_, S> {
+    fn answered(&mut self, core: &Core, given: &Answer) {
+        self.beside.answered(core, given);
+    }
+
+    fn refused(&mut self, core: &Core, why: Refusal) {
+        self.beside.refused(core, why);
     }
 }

@@ -1,4 +1,8 @@
 //! `--verbose`: what is logged on the standard error.
+ghost use Rattle.std.specs.Prelude.{◌≡◌, ◌<◌, length};
+ghost use Rattle.sd_disk.specs.Reads.{OnlyReads};
+ghost use Rattle.sd_disk.specs.Folder.{folder_files};
+ghost use Rattle.ckpt.specs.Reading.{within};
 
 use crate::cause::Causes;
 use crate::logging::{CallLogger, Logging};
@@ -6,7 +10,7 @@ use crate::shown::{Shown, shown, unshown};
 use clap::ArgMatches;
 use log::sink::Console;
 use log::{LevelFilter, Logged, info};
-use sd_disk::{DirDisk, Disk, Observed};
+use sd_disk::{DirDisk, Disk, Observed, file_len, read_file};
 use sd_gate::Worker;
 use sd_image::GATE;
 use sd_stats::Record;
@@ -35,17 +39,20 @@ pub fn logger_for<'a>(rt: &'a HostRuntime, words: &ArgMatches<'_>) -> Logger<'a>
 }
 
 /// Whether the gate of a slot is open.
-pub fn is_open<D: Disk>(disk: &mut D, slot: usize) -> bool {
+pub fn is_open<D: Disk>(disk: &mut D, slot: usize) -> bool
+    requires { slot < length (D.contents disk.old) }
+    ensures reads { OnlyReads D.Disk disk.old disk.new }
+{
     let mut gate = [0];
-    slot < disk.slots() && disk.read(slot, 0, &mut gate).is_ok() && gate[0] == GATE
+    read_file(disk, slot, 0, &mut gate).is_ok() && gate[0] == GATE
 }
 
 /// Logs a slot, if its file has any bytes.
-fn log_slot<D: Disk>(log: &Logger<'_>, disk: &mut D, slot: usize) {
-    if slot >= disk.slots() {
-        return;
-    }
-    let Ok(length) = disk.len(slot) else {
+fn log_slot<D: Disk>(log: &Logger<'_>, disk: &mut D, slot: usize)
+    requires { slot < length (D.contents disk.old) }
+    ensures reads { OnlyReads D.Disk disk.old disk.new }
+{
+    let Ok(length) = file_len(disk, slot) else {
         return;
     };
     if length > 0 {
@@ -55,6 +62,15 @@ fn log_slot<D: Disk>(log: &Logger<'_>, disk: &mut D, slot: usize) {
             "closed"
         };
         info!(log; target: "ckpt", "img-{slot:03}: {state}, {length} bytes");
+    }
+}
+
+/// Logs each slot.
+fn log_slots<D: Disk>(log: &Logger<'_>, disk: &mut D)
+    ensures reads { OnlyReads D.Disk disk.old disk.new }
+{
+    for slot in 0..disk.slots() {
+        log_slot(log, disk, slot);
     }
 }
 
@@ -79,12 +95,13 @@ impl<'a> Seen<'a> {
     }
 
     /// A disk of which all of that is seen, after its slots. `does` says what is done with the store.
-    pub fn disk(self, does: &'static str, disk: DirDisk) -> SeenDisk<'a> {
+    pub fn disk(self, does: &'static str, disk: DirDisk) -> SeenDisk<'a>
+        // What is looked at before is only read.
+        ensures files { folder_files (within result) ≡ folder_files disk }
+    {
         let mut disk = disk;
         if self.verbose {
-            for slot in 0..disk.slots() {
-                log_slot(self.log, &mut disk, slot);
-            }
+            log_slots(self.log, &mut disk);
         }
         let shown = shown(self.rt, does, self.shows, disk);
         Observed::new(CallLogger { log: self.log }, shown)
@@ -92,7 +109,9 @@ impl<'a> Seen<'a> {
 }
 
 /// The disk of a folder within.
-pub fn unseen(disk: SeenDisk<'_>) -> DirDisk {
+pub fn unseen(disk: SeenDisk<'_>) -> DirDisk
+    ensures { result ≡ within disk.entry }
+{
     let (_, shown) = disk.into_parts();
     unshown(shown)
 }

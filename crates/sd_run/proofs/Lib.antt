@@ -3,3 +3,4 @@ mod EndLemmas
 mod LineLemmas
 mod MergingLemmas
 mod PromiseLemmas
+mod StrictLemmas

@@ -162,6 +162,9 @@ pub one_more : {A : Type 0} (all seen : List A) (item : A) → map (λ y. y) see
     → item ≡ get_or all (length seen) item → all ≡ (seen ++ item ∷ []) ++ drop (length seen + 1) all
 one_more all seen item front within is = grind (arith, map-id, take_more, take-append-drop)
 
+pub all_of_them : {A : Type 0} (all seen : List A) → map (λ y. y) seen ≡ all → seen ≡ all
+all_of_them all seen is = grind (arith, map-id)
+
 -- ---- what holds where a call succeeded
 
 pub then_on_ok : {T E : Type 0} (result : Result T E) (before after : Type 0) → (before → after) → OnOk result before → OnOk result after

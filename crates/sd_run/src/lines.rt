@@ -1,6 +1,7 @@
 //! The lines of a script, answered by a world.
-ghost use Rattle.std.specs.Prelude.{◌≡◌, ◌∷◌, true, IfErr, IfOk, OnErr, OnOk};
+ghost use Rattle.std.specs.Prelude.{◌≡◌, ◌∷◌, true, Err, IfErr, IfOk, OnErr, OnOk};
 ghost use Rattle.std.specs.Io.KnownBytes.{Appends, Keeps};
+ghost use Rattle.sd_exit.specs.declared.stop.Stop.TheVariants as stop;
 ghost use Rattle.sd_exit.specs.Ending.{OnWriter};
 ghost use Rattle.sd_exit.specs.Texts.{PrintsBeginning};
 ghost use Rattle.sd_script.specs.declared.line.Line.TheVariants as asked;
@@ -8,6 +9,7 @@ ghost use Rattle.sd_script.specs.Texts.{answer_line};
 ghost use Rattle.sd_world.specs.Points.{StandsAt};
 ghost use Rattle.sd_world.specs.Promise.{Point};
 ghost use Rattle.sd_run.specs.Ending.{IsUnprinted};
+ghost use Rattle.sd_run.specs.Strict.{ChecksAnswer, IsEndOfLines, Passes, StopsStrictly};
 ghost use Rattle.sd_world.specs.Goes.{GoesOn};
 ghost use Rattle.sd_world.specs.Runs.{IsStep};
 ghost use Rattle.sd_world.specs.declared.event.Event.TheVariants.{Command as CommandEvent};
@@ -18,6 +20,8 @@ ghost use Rattle.sd_run.specs.Words.{AreGiven};
 
 use crate::page_words;
 use crate::printing::print_line;
+use crate::rule::Rule;
+use crate::watching::RunWatch;
 use sd_areas::SpaceId;
 use sd_command::{Command, Reply};
 use sd_disk::Disk;
@@ -100,16 +104,18 @@ fn words<D: Disk>(
     page_words::answer(alloc, world.core().memory(), space, address, count)
 }
 
-/// Answers a line, and prints its answer. An acknowledged checkpoint is seen before the next line begins; other answers
-/// may wait in the writer's buffer.
+/// Answers a line, and prints its answer, which the watch is then told. What the store shows, as an acknowledged
+/// checkpoint tells it, is seen before the next line begins; other answers may wait in the writer's buffer.
 ///
 /// # Errors
 ///
-/// `Fault` where there is no room for the answer's text, and `Writer` where it was refused. The line was answered.
-fn answer_one<D: Disk, W: Write, S: Watch>(
+/// `Fault` where there is no room for the answer's text, and `Writer` where it was refused; `Refused` where the answer
+/// ends the run by its rule. The line was answered.
+fn answer_one<D: Disk, W: Write, S: RunWatch>(
     alloc: Global,
     world: &mut World<D>,
     line: Line,
+    rule: Rule,
     buffer: &mut Vec<u8>,
     out: &mut Output<W>,
     watch: &mut S,
@@ -117,27 +123,17 @@ fn answer_one<D: Disk, W: Write, S: Watch>(
     // Its answer is printed, or a beginning of that.
     ensures printed { (given : Answer) × AnswersLine D.Disk line world.old given world.new
         × OnOk result (Appends (W.contents out.old.writer) (W.contents out.new.writer) (answer_line given))
-        × PrintsBeginning (W.contents out.old.writer) (W.contents out.new.writer) (answer_line given) }
+        × PrintsBeginning (W.contents out.old.writer) (W.contents out.new.writer) (answer_line given)
+        × ChecksAnswer rule given result (W.contents out.old.writer) (W.contents out.new.writer) }
     ensures goes_on { GoesOn D.Disk world.old world.new }
-    ensures stops { IfErr result IsUnprinted }
+    ensures stops { IfErr result (IsEndOfLines rule) }
     ensures writer { OnWriter result (out.new.refused ≡ true) }
 {
     let given = answer(alloc, world, line, watch);
     print_line(&given, buffer, out)?;
-    flush_acked(&given, out)
-}
-
-/// Flushes after the answer of an acknowledged checkpoint.
-#[tactic(auto, using(crate::proofs::LineLemmas::stays))]
-fn flush_acked<W: Write>(given: &Answer, out: &mut Output<W>) -> Result<(), Stop>
-    ensures bytes { Keeps (W.contents out.old.writer) (W.contents out.new.writer) }
-    ensures stops { IfErr result IsUnprinted }
-    ensures writer { OnWriter result (out.new.refused ≡ true) }
-{
-    if let Answer::Reply(Reply::Acked(_)) = given {
-        out.flush()?;
-    }
-    Ok(())
+    flush_settled(&given, out)?;
+    watch.answered(world.core(), &given);
+    rule.check(&given)
 }
 
 /// Answers one request of a run, and prints its answer, for a caller that has them one by one; returns the answer. An
@@ -158,6 +154,9 @@ pub fn run_line<D: Disk, W: Write, S: Watch>(
     ensures answered { (given : Answer) × AnswersLine D.Disk line world.old given world.new
         × IfOk result (Tells given (W.contents out.old.writer) (W.contents out.new.writer)) }
     ensures goes_on { GoesOn D.Disk world.old world.new }
+    // It fails only where the answer isn't printed, for want of memory or since the writer refused it.
+    ensures stops { IfErr result IsUnprinted }
+    ensures writer { IfErr result (λ why. OnWriter (Err why) (out.new.refused ≡ true)) }
     // The same of the line, its answer, what is printed and the disk alone, as in `run_lines`.
     ensures promise { D.is_honest world.new.disk → (first : Point D) → StandsAt world.old first
         → RunsLine D.Disk line first world.new result
@@ -183,55 +182,62 @@ fn flush_settled<W: Write>(given: &Answer, out: &mut Output<W>) -> Result<(), St
     Ok(())
 }
 
-/// Answers one line after the other, and prints each answer.
+/// Answers one line after the other, and prints each answer, up to the first that ends the run by its rule.
 ///
 /// # Errors
 ///
-/// Those of the printing: no further line is answered.
-fn print_all<D: Disk, W: Write, S: Watch>(
+/// Those of the printing, and `Refused` after an answer that ends the run: no further line is answered.
+fn print_all<D: Disk, W: Write, S: RunWatch>(
     alloc: Global,
     world: &mut World<D>,
     lines: Vec<Line>,
+    rule: Rule,
     buffer: &mut Vec<u8>,
     out: &mut Output<W>,
     watch: &mut S,
 ) -> Result<(), Stop>
     ensures told { OnErr result (TellsSome D.Disk world.old lines.items world.new
         (W.contents out.old.writer) (W.contents out.new.writer)) }
-    ensures printed { OnOk result (PrintsLines D.Disk world.old lines.items world.new
-        (W.contents out.old.writer) (W.contents out.new.writer)) }
+    ensures printed { OnOk result ((all : PrintsLines D.Disk world.old lines.items world.new
+        (W.contents out.old.writer) (W.contents out.new.writer)) × Passes rule all.answers) }
+    ensures strict { result ≡ Err stop.Refused → StopsStrictly D.Disk rule world.old lines.items world.new
+        (W.contents out.old.writer) (W.contents out.new.writer) }
     ensures goes_on { GoesOn D.Disk world.old world.new }
-    ensures stops { IfErr result IsUnprinted }
+    ensures stops { IfErr result (IsEndOfLines rule) }
     ensures writer { OnWriter result (out.new.refused ≡ true) }
 {
     world.sound();
     for line in lines {
-        answer_one(alloc, world, line, buffer, out, watch)?;
+        answer_one(alloc, world, line, rule, buffer, out, watch)?;
     }
     Ok(())
 }
 
-/// Opens the store of a world again, and then answers the lines, each with its answer printed.
+/// Opens the store of a world again, and then answers the lines, each with its answer printed, up to the first answer
+/// that ends the run by its rule.
 ///
 /// # Errors
 ///
-/// Those of the printing: no further line is answered.
-pub(crate) fn answer_all<D: Disk, W: Write, S: Watch>(
+/// Those of the printing, and `Refused` after an answer that ends the run: no further line is answered.
+pub(crate) fn answer_all<D: Disk, W: Write, S: RunWatch>(
     alloc: Global,
     world: &mut World<D>,
     lines: Vec<Line>,
+    rule: Rule,
     buffer: &mut Vec<u8>,
     out: &mut Output<W>,
     watch: &mut S,
 ) -> Result<(), Stop>
     ensures told { TellsSome D.Disk world.old (asked.Reopen ∷ lines.items) world.new
         (W.contents out.old.writer) (W.contents out.new.writer) }
-    ensures printed { OnOk result (PrintsLines D.Disk world.old (asked.Reopen ∷ lines.items) world.new
-        (W.contents out.old.writer) (W.contents out.new.writer)) }
+    ensures printed { OnOk result ((all : PrintsLines D.Disk world.old (asked.Reopen ∷ lines.items) world.new
+        (W.contents out.old.writer) (W.contents out.new.writer)) × Passes rule all.answers) }
+    ensures strict { result ≡ Err stop.Refused → StopsStrictly D.Disk rule world.old (asked.Reopen ∷ lines.items)
+        world.new (W.contents out.old.writer) (W.contents out.new.writer) }
     ensures goes_on { GoesOn D.Disk world.old world.new }
-    ensures stops { IfErr result IsUnprinted }
+    ensures stops { IfErr result (IsEndOfLines rule) }
     ensures writer { OnWriter result (out.new.refused ≡ true) }
 {
-    answer_one(alloc, world, Line::Reopen, buffer, out, watch)?;
-    print_all(alloc, world, lines, buffer, out, watch)
+    answer_one(alloc, world, Line::Reopen, rule, buffer, out, watch)?;
+    print_all(alloc, world, lines, rule, buffer, out, watch)
 }

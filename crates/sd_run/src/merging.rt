@@ -11,6 +11,7 @@ ghost use Rattle.sd_run.specs.Merging.{IsLeftByMerge, IsRefusedMerge, IsWholeMer
 use crate::ending::unopened;
 use crate::printing::print_line;
 use crate::running::FRAMES;
+use crate::watching::RunWatch;
 use sd_command::Reply;
 use sd_disk::Disk;
 use sd_exit::{Output, Stop, exit};
@@ -23,7 +24,7 @@ use std::io::Write;
 /// Opens a store, and opens it again, and then merges its newest chain into one image. Prints the last reply, or why
 /// the store isn't opened, flushes, and returns the disk and the exit status: 0 where the chain was merged, and else 1.
 /// The jobs that last are watched.
-pub fn merge_to<D: Disk, W: Write, S: Watch>(
+pub fn merge_to<D: Disk, W: Write, S: RunWatch>(
     alloc: Global,
     disk: D,
     out: &mut Output<W>,
@@ -51,7 +52,7 @@ pub fn merge_to<D: Disk, W: Write, S: Watch>(
 /// `Fault` and `NoFrame` where the store isn't opened: nothing was printed. `Refused` where the merge, or the reopening
 /// before it, was refused, which was printed. `Fault` also where there is no room for the reply's line, and `Writer`
 /// where it is refused.
-fn merge_store<D: Disk, W: Write, S: Watch>(
+fn merge_store<D: Disk, W: Write, S: RunWatch>(
     alloc: Global,
     disk: D,
     out: &mut Output<W>,
@@ -71,11 +72,19 @@ fn merge_store<D: Disk, W: Write, S: Watch>(
     match World::open(alloc, disk, FRAMES) {
         Ok(mut world) => {
             let reply = merge_tip(&mut world, watch);
+            watch_refusal(&world, &reply, watch);
             let ended = told(alloc, reply, out);
             world.sound();
             (world.close(), ended)
         }
         Err(OpenError { fault, disk }) => (disk, Err(unopened(fault))),
+    }
+}
+
+/// Shows a watch a merge that is refused.
+fn watch_refusal<D: Disk, S: RunWatch>(world: &World<D>, reply: &Reply, watch: &mut S) {
+    if let Reply::Refused(why) = reply {
+        watch.refused(world.core(), *why);
     }
 }
 

@@ -1,21 +1,25 @@
 //! Whole runs of a script, from one disk to another.
-ghost use Rattle.std.specs.Prelude.{◌≡◌, ◌≢◌, ◌∷◌, ℕ, Some, true, IfErr, IsSome, OnOk};
+ghost use Rattle.std.specs.Prelude.{◌≡◌, ◌≢◌, ◌∷◌, ℕ, Some, true, Err, IfErr, IsSome, OnOk};
 ghost use Rattle.std.specs.Io.KnownBytes.{Appends};
+ghost use Rattle.sd_exit.specs.declared.stop.Stop.TheVariants as stop;
 ghost use Rattle.sd_exit.specs.Ending.{OnWriter};
 ghost use Rattle.sd_script.specs.Script.{first_unfit_line, requests_of};
 ghost use Rattle.sd_script.specs.declared.line.Line.TheVariants as asked;
 ghost use Rattle.sd_run.specs.Ending.{IsWhyRun, script_fault_line};
 ghost use Rattle.sd_run.specs.Promise.{Promise, PromiseAnyway, PromiseToExit};
+ghost use Rattle.sd_run.specs.Strict.{IsStrictRun, Passes};
 ghost use Rattle.sd_run.specs.Whole.{IsLeftByRun, IsWholeRun};
 
 use crate::ending::{unfit, unopened};
 use crate::lines::answer_all;
 use crate::printing::LINE_BYTES;
+use crate::rule::Rule;
+use crate::watching::RunWatch;
 use sd_disk::Disk;
 use sd_exit::{Output, Stop, exit};
 use sd_restore::Fault;
 use sd_script::Script;
-use sd_world::{OpenError, Unwatched, Watch, World};
+use sd_world::{OpenError, Unwatched, World};
 use std::alloc::Global;
 use std::io::Write;
 
@@ -56,23 +60,26 @@ pub fn run_script<D: Disk, W: Write>(
 {
     match Script::parse(alloc, script) {
         Ok(script) => {
-            let (disk, ended) = run_lines(alloc, disk, script, out, &mut Unwatched);
+            let (disk, ended) = run_lines(alloc, disk, script, Rule::Plain, out, &mut Unwatched);
             (disk, exit(&ended, out))
         }
         Err(error) => (disk, exit(&Err(unfit(error)), out)),
     }
 }
 
-/// Runs a parsed script over a disk, as `run_script` does, and returns the disk. The jobs that last are watched.
+/// Runs a parsed script over a disk, as `run_script` does, up to the first answer that ends the run by its rule, and
+/// returns the disk. The jobs that last are watched, and the watch is told each answer once it is printed.
 ///
 /// # Errors
 ///
 /// `Fault` and `NoFrame` where the store isn't opened, or there is no room for the answers' lines: nothing was printed.
 /// `Fault` also where there is no room for an answer, and `Writer` where one is refused: no further line is answered.
-pub fn run_lines<D: Disk, W: Write, S: Watch>(
+/// `Refused` after an answer that ends the run by its rule, which is printed: no further line is answered.
+pub fn run_lines<D: Disk, W: Write, S: RunWatch>(
     alloc: Global,
     disk: D,
     script: Script,
+    rule: Rule,
     out: &mut Output<W>,
     watch: &mut S,
 ) -> (D, Result<(), Stop>)
@@ -85,8 +92,13 @@ pub fn run_lines<D: Disk, W: Write, S: Watch>(
         (W.contents out.old.writer) (W.contents out.new.writer)) }
     ensures so_far { D.is_honest result.0 → PromiseAnyway D.Disk (asked.Reopen ∷ script.lines.items)
         disk result.0 (W.contents out.old.writer) (W.contents out.new.writer) }
+    // A strict run ends at the first answer that is a refusal or `segv`, which is printed, and at no other.
+    ensures passes { OnOk result.1 ((run : IsWholeRun D.Disk (asked.Reopen ∷ script.lines.items) disk result.0
+        (W.contents out.old.writer) (W.contents out.new.writer)) × Passes rule run.answers.answers) }
+    ensures strict { result.1 ≡ Err stop.Refused → IsStrictRun D.Disk rule (asked.Reopen ∷ script.lines.items)
+        disk result.0 (W.contents out.old.writer) (W.contents out.new.writer) }
     // What stopped it is what it names.
-    ensures why { D.is_honest result.0 → IfErr result.1
+    ensures why { D.is_honest result.0 → result.1 ≢ Err stop.Refused → IfErr result.1
         (IsWhyRun (λ _. ⊥) (D.contents disk) (D.failed disk) (D.failed result.0)) }
     ensures writer { OnWriter result.1 (out.new.refused ≡ true) }
 {
@@ -96,7 +108,8 @@ pub fn run_lines<D: Disk, W: Write, S: Watch>(
     };
     match World::open(alloc, disk, FRAMES) {
         Ok(mut world) => {
-            let ended = answer_all(alloc, &mut world, script.lines, &mut buffer, out, watch);
+            let lines = script.lines;
+            let ended = answer_all(alloc, &mut world, lines, rule, &mut buffer, out, watch);
             world.sound();
             world.points_follow();
             (world.close(), ended)

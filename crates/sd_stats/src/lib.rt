@@ -1,8 +1,7 @@
 //! What a run does on its device: of each image, checkpoint and merge how many pages, bytes and device calls it took,
-//! and how long, and which slots have an open image. It is seen in the calls alone, so that a run doesn't depend on it.
+//! and how long. It is seen in the calls alone, so that a run doesn't depend on it.
 #![tactic(auto)]
 
-mod gates;
 mod lines;
 mod making;
 mod meter;
@@ -10,7 +9,6 @@ mod metered;
 mod record;
 mod table;
 
-pub use gates::{Gated, Gates};
 pub use lines::print_record;
 pub use meter::Meter;
 pub use metered::{Metered, Metering};

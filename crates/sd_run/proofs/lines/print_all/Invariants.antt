@@ -6,6 +6,7 @@ use Rattle.sd_script.specs.declared.answer.Answer.{Answer}
 use Rattle.sd_script.specs.Texts.{answer_line}
 use Rattle.sd_world.specs.Goes.{GoesOn}
 use Rattle.sd_run.specs.Lines.{AnswersLines}
+use Rattle.sd_run.specs.Strict.{Passes}
 use Rattle.sd_run.proofs.lines.print_all.Given as goal
 
 abbrev pub invariant-loop-line : goal.invariant-loop-line
@@ -13,5 +14,6 @@ invariant-loop-line g l = record {
   answers : List Answer;
   answered : AnswersLines g.D.Disk l.fn.world l.yielded answers l.world;
   printed : Appends (g.W.Write.contents l.fn.out.writer) (g.W.Write.contents l.out.writer) (flat_map answer_line answers);
+  passes : Passes l.fn.rule answers;
   goes_on : GoesOn g.D.Disk l.fn.world l.world;
 }

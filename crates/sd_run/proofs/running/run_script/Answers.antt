@@ -11,6 +11,7 @@ use Rattle.sd_run.specs.Promise.{Promise, PromiseToExit}
 use Rattle.sd_run.specs.Whole.{IsWholeRun}
 use Rattle.sd_run.proofs.EndLemmas.{blamed_line, never_writer, unfit_is_seen, unfit_why, why_run}
 use Rattle.sd_run.proofs.LineLemmas.{promised_still, run_still}
+use Rattle.sd_run.proofs.StrictLemmas.{plain_goes_on}
 use Rattle.sd_run.proofs.running.run_script.Goals as goal
 
 pub returns-in-Ok-clause-whole : goal.returns-in-Ok-clause-whole
@@ -42,7 +43,7 @@ returns-in-Ok-clause-so_far g c = λ honest.
       ended = ran.result.1;
       printed = g.W.Write.contents ran.new.out.writer;
       so_far = ran.ensures.so_far honest;
-      why = why_run (λ number. first_unfit_line c.args.script.now ≡ Some number) (g.D.Disk.contents c.args.disk) (g.D.Disk.failed c.args.disk) (g.D.Disk.failed ran.result.0) ran.result.1 (ran.ensures.why honest);
+      why = why_run (λ number. first_unfit_line c.args.script.now ≡ Some number) (g.D.Disk.contents c.args.disk) (g.D.Disk.failed c.args.disk) (g.D.Disk.failed ran.result.0) ran.result.1 (ran.ensures.why honest (λ refused. plain_goes_on (ran.ensures.strict refused).run.answers.answers ⊥ (ran.ensures.strict refused).ends));
       writer = on_writer ran.result.1 c.exit.ensures.kept ran.ensures.writer;
       exits = c.exit.ensures.exits;
     })
