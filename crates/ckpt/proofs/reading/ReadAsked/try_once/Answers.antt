@@ -1,5 +1,6 @@
 -- What was printed into a vector is its bytes.
-use Rattle.std.proofs.Common.{◌≡◌, false, [], Some, subst, rules}
+use Rattle.std.proofs.Common.{◌≡◌, ℕ, false, [], Some, subst, rules}
+use Rattle.sd_disk.specs.declared.dir_disk.DirDisk.{DirDisk}
 use Rattle.ckpt.specs.Reading.{ReadsFound}
 use Rattle.ckpt.proofs.reading.ReadAsked.try_once.Goals as goal
 
@@ -7,7 +8,7 @@ pub returns : goal.returns
 returns c = record {
   answers = λ reader is.
       let found = c.args.self.found.now in
-      let read = (c.in_ok-disk.disk, c.in_ok-disk.status) in
+      let read : DirDisk × ℕ = (c.in_ok-disk.disk, c.in_ok-disk.status) in
       let refused = c.read_once.new.out.refused in
       let now = c.read_once.new.out.writer.items in
       let bare : c.new-out.result.writer.items ≡ [] = search rules in
