@@ -46,6 +46,7 @@ mod cores;
 mod counted;
 mod course;
 mod diff;
+mod drop;
 mod ends;
 mod explained;
 mod export;
@@ -289,6 +290,7 @@ fn run_matches<R: Clock + Threads + Wait + Sync, W: Write>(
         Work::Read(reader) => reader_program(rt, threads, reader, words, found, out),
         Work::History => history_program(rt, threads, words, found, out),
         Work::Diff => diff::diff_program(rt, threads, words, found, out),
+        Work::Drop => drop::drop_program(rt, threads, words, found, out),
         Work::Show => show::show_program(rt, threads, causes_asked(words), words, found, out),
         Work::Export => export::export_program(rt, threads, words, found, out),
         Work::Import => import::import_program(rt, threads, words, course, found, out),
