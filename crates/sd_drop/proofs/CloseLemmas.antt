@@ -1,5 +1,5 @@
 -- What the calls that close a slot leave of it.
-use Rattle.std.proofs.Common.{◌≡◌, ◌≢◌, ◌⊎◌, ◌<◌, ◌≤◌, ◌+◌, ℕ, zero, suc, true, false, nat_le, ◌&&◌, ◌==◌, List, [], ◌∷◌, length, drop, Option, slice_set, slice_index, refl, sym, ◌∙◌, ap, subst, inl, inr, arith}
+use Rattle.std.proofs.Common.{◌≡◌, ◌≢◌, ◌⊎◌, ◌<◌, ◌≤◌, ℕ, zero, suc, true, false, nat_le, ◌==◌, List, [], ◌∷◌, length, Option, slice_set, slice_index, refl, sym, ◌∙◌, ap, subst, inl, inr, arith}
 use Rattle.std.proofs.Math.Nat.{le_refl}
 use Rattle.std.proofs.lemmas.Bool.{and_right, cases_eq, ne_eqb}
 use Rattle.std.proofs.lemmas.Bool.Decides.{nat_tests}
@@ -14,7 +14,7 @@ use Rattle.sd_disk.specs.declared.disk.Disk.{Ghosts}
 use Rattle.sd_image.specs.Image.{is_open}
 use Rattle.sd_image.specs.Shows.{Shows}
 use Rattle.sd_drop.specs.Closing.{IsClosing, closed_at}
-use Rattle.sd_drop.proofs.FileLemmas.{AreAlikeBut, alike_set, alike_same, at_set, closed_alike, other_set}
+use Rattle.sd_drop.proofs.FileLemmas.{AreAlikeBut, closed_alike}
 
 -- a first byte that is no gate closes a file
 pub no_gate : (file : List ℕ) → slice_index file 0 ≢ 165 → is_open file ≡ false

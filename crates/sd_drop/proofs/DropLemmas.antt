@@ -1,15 +1,19 @@
 -- What is shown while a slot is being closed, and afterwards.
-use Rattle.std.proofs.Common.{◌≡◌, ◌≢◌, ◌⊎◌, ◌<◌, ◌≤◌, ℕ, true, false, List, [], ◌∷◌, length, slice_set, Option, refl, sym, ◌∙◌, ap, subst, inl, inr, arith}
+use Rattle.std.proofs.Common.{◌≡◌, ◌⊎◌, ◌<◌, ◌≤◌, ℕ, false, List, [], length, Option, refl, sym, ◌∙◌, ap, subst, inl, inr}
 use Rattle.std.proofs.lemmas.List.{get_or_past, length-set}
 use Rattle.sd_areas.specs.PlainMemory.{PlainMemory}
 use Rattle.sd_disk.specs.Contents.{file_at}
+use Rattle.sd_disk.specs.Crash.{Within}
+use Rattle.sd_disk.specs.Reads.{OnlyReads}
+use Rattle.sd_disk.specs.Spans.{LeavesOnly, span_widened, spans_join}
+use Rattle.sd_disk.specs.declared.disk.Disk.{Ghosts}
 use Rattle.sd_image.specs.Image.{is_open}
 use Rattle.sd_image.specs.Shows.{Shows}
 use Rattle.sd_image.proofs.ReadyLemmas.{shown_still_lem}
 use Rattle.sd_drop.specs.Closing.{IsClosing, closed_at}
 use Rattle.sd_drop.specs.Needed.{IsNeeded}
-use Rattle.sd_drop.specs.Reached.{IsReachedAt}
-use Rattle.sd_drop.proofs.FileLemmas.{alike_same, alike_set, at_set, other_set}
+use Rattle.sd_drop.proofs.CloseLemmas.{reads_leave}
+use Rattle.sd_drop.proofs.FileLemmas.{alike_same, alike_set, other_set}
 use Rattle.sd_drop.proofs.NeedLemmas.{counts_closed}
 use Rattle.sd_drop.proofs.ReachLemmas.{unneeded_shows}
 
@@ -40,3 +44,22 @@ pub either_shows : (contents : List (List ℕ)) (slot : ℕ) (shown : Option (�
     → Shows contents shown ⊎ Shows (closed_at contents slot) shown → Shows (closed_at contents slot) shown
 either_shows contents slot shown free (inl shows) = unneeded_shows contents slot shown shows (λ r. free (inl r))
 either_shows contents slot shown free (inr shows) = shows
+
+-- ---- calls that read, and then those that close
+
+pub kept_span : {D : Type 0} (g : Ghosts D) (slot : ℕ) (shown : Option (ℕ × PlainMemory)) (old mid new : D)
+    → Within (g.left_since old (g.moment old)) (g.may_leave old) → OnlyReads g old mid → slot < length (g.contents old) → Shows (g.contents old) shown
+    → (IsNeeded (g.contents old) slot → ⊥) → Within (g.may_leave old) (λ c. Shows c shown) → LeavesOnly g mid new (IsClosing (g.contents mid) slot)
+    → LeavesOnly g old new (λ c. Shows c shown)
+kept_span g slot shown old mid new only_now reads within shows free before closing =
+    spans_join g old mid new (λ c. Shows c shown) (reads_leave g (λ c. Shows c shown) old mid only_now before reads)
+    (span_widened g mid new (IsClosing (g.contents mid) slot) (λ c. Shows c shown)
+    (λ c is. closing_shows (g.contents old) c slot shown within shows free (subst (λ files. IsClosing files slot c) reads.same is)) closing)
+
+pub counted_span : {D : Type 0} (g : Ghosts D) (slot : ℕ) (shown : Option (ℕ × PlainMemory)) (old mid new : D)
+    → Within (g.left_since old (g.moment old)) (g.may_leave old) → OnlyReads g old mid → Within (g.may_leave old) (λ c. Shows (closed_at c slot) shown)
+    → (Within (g.may_leave mid) (λ c. Shows (closed_at c slot) shown) → LeavesOnly g mid new (λ c. Shows (closed_at c slot) shown))
+    → LeavesOnly g old new (λ c. Shows (closed_at c slot) shown)
+counted_span g slot shown old mid new only_now reads before closing =
+    spans_join g old mid new (λ c. Shows (closed_at c slot) shown) (reads_leave g (λ c. Shows (closed_at c slot) shown) old mid only_now before reads)
+    (closing (λ c left. before c (reads.crash c left)))

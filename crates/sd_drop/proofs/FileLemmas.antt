@@ -1,10 +1,9 @@
 -- Contents, file by file.
-use Rattle.std.proofs.Common.{◌≡◌, ◌≢◌, ◌⊎◌, ◌<◌, ◌≤◌, ℕ, true, false, List, [], ◌∷◌, length, slice_set, refl, sym, ◌∙◌, ap, subst, inl, inr, arith}
+use Rattle.std.proofs.Common.{◌≡◌, ◌≢◌, ◌<◌, ℕ, List, [], length, slice_set, refl, sym, ◌∙◌, ap, subst, inl, inr}
 use Rattle.std.proofs.lemmas.Bool.{cases_eq}
 use Rattle.std.proofs.lemmas.Grind.{get_or-set_at}
 use Rattle.std.proofs.lemmas.List.{ext_get_or, get_or-set_other, length-set}
-use Rattle.sd_disk.specs.Contents.{AtSlot, file_at}
-use Rattle.sd_disk.specs.Crash.{Follows, Outcomes, Within}
+use Rattle.sd_disk.specs.Contents.{file_at}
 use Rattle.sd_drop.specs.Closing.{closed_at}
 
 -- two contents with the same files are the same

@@ -1,6 +1,5 @@
 -- What is needed, and what an error says.
-use Rattle.std.proofs.Common.{◌≡◌, ◌≢◌, ◌⊎◌, ◌<◌, ◌≤◌, ℕ, zero, suc, true, false, List, [], ◌∷◌, length, slice_set, Option, Some, None, Result, Ok, Err, refl, sym, ◌∙◌, ap, subst, inl, inr, arith}
-use Rattle.std.specs.Prelude.{IfErr}
+use Rattle.std.proofs.Common.{◌≡◌, ◌≢◌, ℕ, zero, suc, true, false, List, [], ◌∷◌, Option, Some, None, Err, refl, sym, ◌∙◌, ap, subst, inl, inr}
 use Rattle.std.specs.Result.{IsErrOf}
 use Rattle.std.proofs.lemmas.Option.{none-some}
 use Rattle.sd_areas.specs.PlainMemory.{PlainMemory}
@@ -22,8 +21,8 @@ use Rattle.sd_drop.specs.declared.drop_error.DropError.{DropError}
 use Rattle.sd_drop.specs.declared.drop_error.DropError.TheVariants.{Closed, Needed, Damaged, Device, OutOfMemory}
 use Rattle.sd_drop.specs.Closing.{closed_at}
 use Rattle.sd_drop.specs.Errors.{ErrorSays, error_of, error_without}
-use Rattle.sd_drop.specs.Needed.{IsDamagedBeside, IsMissed, IsNeeded}
-use Rattle.sd_drop.specs.Reached.{IsReachedAt, IsReachedIn}
+use Rattle.sd_drop.specs.Needed.{IsDamagedBeside, IsNeeded}
+use Rattle.sd_drop.specs.Reached.{IsReachedIn}
 use Rattle.sd_drop.proofs.ReachLemmas.{reached_in, reached_out}
 
 -- a slot that counts as closed has no bytes

@@ -1,6 +1,6 @@
 -- What the newest image leads to, in a catalog and in the contents that it is of; and what is shown without another.
-use Rattle.std.proofs.Common.{◌≡◌, ◌≢◌, ◌⊎◌, ◌<◌, ◌≤◌, ℕ, zero, suc, Bool, true, false, nat_eq, List, [], ◌∷◌, map, length, Option, Some, None, MatchOption, All, Contains, slice_get, slice_index_or, Bor, refl, sym, ◌∙◌, ap, subst, inl, inr, arith}
-use Rattle.std.specs.Prelude.{◌↔◌, IfSome, IsNone}
+use Rattle.std.proofs.Common.{◌≡◌, ◌≢◌, ◌⊎◌, ◌<◌, ◌≤◌, ℕ, zero, suc, true, false, nat_eq, List, [], ◌∷◌, map, Option, Some, None, MatchOption, All, Contains, slice_get, slice_index_or, Bor, refl, sym, ◌∙◌, ap, subst, inl, inr, arith}
+use Rattle.std.specs.Prelude.{IfSome, IsNone}
 use Rattle.std.specs.List.{AllByRecursion, IsDistinct}
 use Rattle.std.proofs.lemmas.List.Elements.{All-contains}
 use Rattle.std.proofs.lemmas.Option.{none-some, same_Some}
@@ -10,7 +10,7 @@ use Rattle.sd_image.specs.declared.header.Header.{Header}
 use Rattle.sd_image.specs.declared.header.Kind.TheVariants.{PreDump}
 use Rattle.sd_image.specs.Image.{Image, IsImage, OpenImages, is_open}
 use Rattle.sd_image.specs.Laws.{OneImage, OneStore}
-use Rattle.sd_image.specs.Shows.{IsNamed, IsNotAfter, IsStore, IsTip, Shows}
+use Rattle.sd_image.specs.Shows.{IsNamed, IsStore, IsTip, Shows}
 use Rattle.sd_image.proofs.Members.{contains_cases, contains_front, contains_later, contains_none}
 use Rattle.sd_chain.specs.Catalog.{IsSoundCatalog, Names, Opened, Places, images, place_of}
 use Rattle.sd_chain.specs.Catalog as catalog

@@ -1,6 +1,6 @@
 //! Dropping an image: closing it where the newest checkpoint doesn't need it.
-ghost use Rattle.std.specs.Prelude.{◌≡◌, ◌≢◌, ◌⊎◌, ℕ, ◌<◌, true, false, List, [], ◌∷◌, Option, slice_set, length, OnOk, IfErr};
-ghost use Rattle.std.specs.Prelude.{IsErrOf};
+ghost use Rattle.std.specs.Prelude.{◌≡◌, ◌≢◌, ◌⊎◌, ℕ, ◌<◌, true, false, [], ◌∷◌, Option, slice_set, length, OnOk};
+ghost use Rattle.std.specs.Prelude.{IfErr, IsErrOf};
 ghost use Rattle.sd_areas.specs.PlainMemory.{PlainMemory};
 ghost use Rattle.sd_disk.specs.Contents.{file_at};
 ghost use Rattle.sd_disk.specs.Crash.{Only, OnlyAt, Within};
@@ -71,7 +71,8 @@ fn prepare<D: Disk>(alloc: Global, disk: &mut D, slot: usize, force: bool) -> Re
         → OnOk result (is_open (file_at (D.contents disk.old) slot) ≡ true) }
     ensures unneeded { D.is_honest disk.new → force ≡ false
         → OnOk result (IsNeeded (D.contents disk.old) slot → ⊥) }
-    ensures synced { force ≡ false → OnOk result (Only (D.contents disk.old) (D.may_leave disk.new)) }
+    ensures synced { force ≡ false
+        → OnOk result (Only (D.contents disk.old) (D.may_leave disk.new)) }
     ensures reads { OnlyReads D.Disk disk.old disk.new }
     ensures device { IsErrOf result DropError.Device → D.failed disk.old < D.failed disk.new }
 {
@@ -90,9 +91,9 @@ fn prepare<D: Disk>(alloc: Global, disk: &mut D, slot: usize, force: bool) -> Re
 /// # Errors
 ///
 /// `Closed` where the slot has no open image, or isn't there. `Needed` where the newest dump or merged image stands
-/// there, or leads there by parent numbers; of a damaged image, where the others show no memory. `Damaged` names another
-/// slot for which the store isn't read: which images are needed isn't known then. `Device` and `OutOfMemory` end it at
-/// once. But for `Device` the store is as it was.
+/// there, or leads there by parent numbers; of a damaged image, where the others show no memory. `Damaged` names
+/// another slot for which the store isn't read: which images are needed isn't known then. `Device` and `OutOfMemory`
+/// end it at once. But for `Device` the store is as it was.
 pub fn drop_image<D: Disk>(
     alloc: Global,
     disk: &mut D,
@@ -113,7 +114,8 @@ pub fn drop_image<D: Disk>(
         → Shows (D.contents disk.old) shown ⊎ Shows (closed_at (D.contents disk.old) slot) shown
         → OnOk result (Within (D.may_leave disk.new) (λ c. Shows c shown)) }
     // The slot's file is one closed byte, also after a crash, and every other file stays.
-    ensures dropped { OnOk result (D.contents disk.new ≡ slice_set (D.contents disk.old) slot (0 ∷ [])) }
+    ensures dropped { OnOk result
+        (D.contents disk.new ≡ slice_set (D.contents disk.old) slot (0 ∷ [])) }
     ensures durable { OnOk result (OnlyAt slot (0 ∷ []) (D.may_leave disk.new)) }
     ensures others { (other : ℕ) → other ≢ slot
         → file_at (D.contents disk.new) other ≡ file_at (D.contents disk.old) other }

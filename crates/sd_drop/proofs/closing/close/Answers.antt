@@ -1,6 +1,5 @@
-use Rattle.std.proofs.Common.{◌≡◌, ℕ, List, [], ◌∷◌, Option, slice_set, take, ◌∙◌, ap, length, Result, Ok, Err}
+use Rattle.std.proofs.Common.{◌≡◌, ℕ, List, [], ◌∷◌, slice_set, take, ◌∙◌, ap, length, Result, Ok, Err}
 use Rattle.std.specs.Prelude.{OnOk}
-use Rattle.sd_areas.specs.PlainMemory.{PlainMemory}
 use Rattle.sd_disk.specs.Contents.{Cut, Torn, file_after_write, file_at}
 use Rattle.sd_disk.specs.Crash.{Outcomes}
 use Rattle.sd_image.specs.Shows.{Shows}

@@ -1,4 +1,4 @@
-use Rattle.std.proofs.Common.{◌≡◌, ℕ, List, ap, ◌∙◌, arith, subst, ◌<◌, length}
+use Rattle.std.proofs.Common.{◌≡◌, ℕ, List, ap, ◌∙◌, arith, length}
 use Rattle.sd_drop.proofs.FileLemmas.{same_files}
 use Rattle.sd_drop.proofs.closing.sync_all.Goals as goal
 
