@@ -21,9 +21,9 @@ use Rattle.sd_drop.specs.declared.drop_error.DropError.{DropError}
 use Rattle.sd_drop.specs.declared.drop_error.DropError.TheVariants.{Closed, Needed, Damaged, Device, OutOfMemory}
 use Rattle.sd_drop.specs.Closing.{closed_at}
 use Rattle.sd_drop.specs.Errors.{ErrorSays, error_of, error_without}
-use Rattle.sd_drop.specs.Needed.{IsDamagedBeside, IsNeeded}
+use Rattle.sd_drop.specs.Needed.{IsDamagedBeside, IsNeeded, IsUnneeded}
 use Rattle.sd_drop.specs.Reached.{IsReachedIn}
-use Rattle.sd_drop.proofs.ReachLemmas.{reached_in, reached_out}
+use Rattle.sd_drop.proofs.ReachLemmas.{left_images, reached_in, reached_out}
 
 -- a slot that counts as closed has no bytes
 pub none_at : (contents : List (List ℕ)) (slot : ℕ) → file_at (closed_at contents slot) slot ≡ []
@@ -51,18 +51,33 @@ pub needed_in_order : (contents : List (List ℕ)) (places : Places) (all : List
 needed_in_order contents places all slot error h store r =
     subst (ErrorSays ⊥ (IsNeeded contents slot) (IsDamagedBeside contents slot)) (sym r.0) (inl (reached_out contents places all slot h store r.1))
 
-pub unneeded_in_order : (contents : List (List ℕ)) (places : Places) (all : List Image) (slot : ℕ) → IsSoundCatalog places → IsCatalogOf contents places
+free_in_order : (contents : List (List ℕ)) (places : Places) (all : List Image) (slot : ℕ) → IsSoundCatalog places → IsCatalogOf contents places
     → HasTheImages contents places all → IsStore contents all → (IsReachedIn places slot → ⊥) → IsNeeded contents slot → ⊥
-unneeded_in_order contents places all slot sound of h store free (inl r) =
+free_in_order contents places all slot sound of h store free (inl r) =
     free (reached_in contents places all slot one_image_lem one_store_lem sound of h store.slots (image_opens (file_at contents slot) r.image r.is) r)
-unneeded_in_order contents places all slot sound of h store free (inr m) = no_damage good_store one_image_lem contents all slot m.reason store m.damage
+free_in_order contents places all slot sound of h store free (inr m) = no_damage good_store one_image_lem contents all slot m.reason store m.damage
+
+pub unneeded_in_order : (contents : List (List ℕ)) (places : Places) (all : List Image) (slot : ℕ) → IsSoundCatalog places → IsCatalogOf contents places
+    → HasTheImages contents places all → IsStore contents all → (IsReachedIn places slot → ⊥) → IsUnneeded contents slot
+unneeded_in_order contents places all slot sound of h store free =
+    let left = left_images contents slot all store.slots in
+    record {
+      images = left.0;
+      store = record { slots = left.1.slots; serials = left.1.serials store.serials };
+      free = free_in_order contents places all slot sound of h store free;
+    }
 
 -- ---- damaged
 
-pub unneeded_without : (contents : List (List ℕ)) (slot : ℕ) (reason : Reason) (moment : ℕ × PlainMemory) → IsDamage contents slot reason
+free_without : (contents : List (List ℕ)) (slot : ℕ) (reason : Reason) (moment : ℕ × PlainMemory) → IsDamage contents slot reason
     → Shows (closed_at contents slot) (Some moment) → IsNeeded contents slot → ⊥
-unneeded_without contents slot reason moment damage shows (inl r) = no_damage good_store one_image_lem contents r.images slot reason r.store damage
-unneeded_without contents slot reason moment damage shows (inr m) = m.shows_none moment shows
+free_without contents slot reason moment damage shows (inl r) = no_damage good_store one_image_lem contents r.images slot reason r.store damage
+free_without contents slot reason moment damage shows (inr m) = m.shows_none moment shows
+
+pub unneeded_without : (contents : List (List ℕ)) (slot : ℕ) (reason : Reason) (moment : ℕ × PlainMemory) → IsDamage contents slot reason
+    → Shows (closed_at contents slot) (Some moment) → IsUnneeded contents slot
+unneeded_without contents slot reason moment damage shows =
+    record { images = shows.images; store = shows.store; free = free_without contents slot reason moment damage shows }
 
 missed : (contents : List (List ℕ)) (slot : ℕ) (reason : Reason) → IsDamage contents slot reason
     → ((moment : ℕ × PlainMemory) → Shows (closed_at contents slot) (Some moment) → ⊥) → IsNeeded contents slot

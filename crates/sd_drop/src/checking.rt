@@ -6,7 +6,7 @@ ghost use Rattle.sd_chain.specs.Reaches.{ParentsFall};
 ghost use Rattle.sd_restore.specs.Faulty.{IsDamage, FaultNames};
 ghost use Rattle.sd_restore.specs.declared.fault.Fault.TheVariants.{Damaged};
 ghost use Rattle.sd_drop.specs.Errors.{ErrorSays};
-ghost use Rattle.sd_drop.specs.Needed.{IsDamagedBeside, IsNeeded};
+ghost use Rattle.sd_drop.specs.Needed.{IsDamagedBeside, IsNeeded, IsUnneeded};
 ghost use Rattle.sd_drop.specs.Reached.{IsReachedIn};
 
 use crate::drop_error::DropError;
@@ -35,7 +35,7 @@ fn check_without<D: Disk>(alloc: Global, disk: &mut D, slot: usize) -> Result<()
         → (reason : Reason) × IsDamage (D.contents disk.old) slot reason }
     ensures says { D.is_honest disk.new → IfErr result (ErrorSays ⊥
         (IsNeeded (D.contents disk.old) slot) (IsDamagedBeside (D.contents disk.old) slot)) }
-    ensures unneeded { D.is_honest disk.new → OnOk result (IsNeeded (D.contents disk.old) slot → ⊥) }
+    ensures unneeded { D.is_honest disk.new → OnOk result (IsUnneeded (D.contents disk.old) slot) }
     ensures reads { OnlyReads D.Disk disk.old disk.new }
     ensures device { IsErrOf result DropError.Device → D.failed disk.old < D.failed disk.new }
 {
@@ -71,7 +71,7 @@ fn check_fault<D: Disk>(
     requires empty { fault ≢ Fault.EmptyChain }
     ensures says { D.is_honest disk.new → IfErr result (ErrorSays ⊥
         (IsNeeded (D.contents disk.old) slot) (IsDamagedBeside (D.contents disk.old) slot)) }
-    ensures unneeded { D.is_honest disk.new → OnOk result (IsNeeded (D.contents disk.old) slot → ⊥) }
+    ensures unneeded { D.is_honest disk.new → OnOk result (IsUnneeded (D.contents disk.old) slot) }
     ensures reads { OnlyReads D.Disk disk.old disk.new }
     ensures device { IsErrOf result DropError.Device
         → (fault ≡ Fault.Device) ⊎ (D.failed disk.old < D.failed disk.new) }
@@ -90,7 +90,7 @@ fn check_fault<D: Disk>(
 pub(crate) fn check<D: Disk>(alloc: Global, disk: &mut D, slot: usize) -> Result<(), DropError>
     ensures says { D.is_honest disk.new → IfErr result (ErrorSays ⊥
         (IsNeeded (D.contents disk.old) slot) (IsDamagedBeside (D.contents disk.old) slot)) }
-    ensures unneeded { D.is_honest disk.new → OnOk result (IsNeeded (D.contents disk.old) slot → ⊥) }
+    ensures unneeded { D.is_honest disk.new → OnOk result (IsUnneeded (D.contents disk.old) slot) }
     ensures reads { OnlyReads D.Disk disk.old disk.new }
     ensures device { IsErrOf result DropError.Device → D.failed disk.old < D.failed disk.new }
 {

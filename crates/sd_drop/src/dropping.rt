@@ -10,7 +10,7 @@ ghost use Rattle.sd_image.specs.Image.{is_open};
 ghost use Rattle.sd_image.specs.Shows.{Shows};
 ghost use Rattle.sd_drop.specs.Closing.{closed_at};
 ghost use Rattle.sd_drop.specs.Errors.{ErrorSays};
-ghost use Rattle.sd_drop.specs.Needed.{IsDamagedBeside, IsNeeded};
+ghost use Rattle.sd_drop.specs.Needed.{IsDamagedBeside, IsNeeded, IsUnneeded};
 
 use crate::checking::check;
 use crate::closing::{close, is_slot_open, sync_all};
@@ -26,6 +26,8 @@ fn check_open<D: Disk>(disk: &mut D, slot: usize) -> Result<(), DropError>
     ensures slot { OnOk result (slot < length (D.contents disk.old)) }
     ensures opens { D.is_honest disk.new
         → OnOk result (is_open (file_at (D.contents disk.old) slot) ≡ true) }
+    ensures closed { D.is_honest disk.new → is_open (file_at (D.contents disk.old) slot) ≡ false
+        → IsErrOf result DropError.Closed ⊎ IsErrOf result DropError.Device }
     ensures reads { OnlyReads D.Disk disk.old disk.new }
     ensures device { IsErrOf result DropError.Device → D.failed disk.old < D.failed disk.new }
 {
@@ -51,7 +53,9 @@ pub fn check_drop<D: Disk>(alloc: Global, disk: &mut D, slot: usize) -> Result<(
     ensures slot { OnOk result (slot < length (D.contents disk.old)) }
     ensures opens { D.is_honest disk.new
         → OnOk result (is_open (file_at (D.contents disk.old) slot) ≡ true) }
-    ensures unneeded { D.is_honest disk.new → OnOk result (IsNeeded (D.contents disk.old) slot → ⊥) }
+    ensures closed { D.is_honest disk.new → is_open (file_at (D.contents disk.old) slot) ≡ false
+        → IsErrOf result DropError.Closed ⊎ IsErrOf result DropError.Device }
+    ensures unneeded { D.is_honest disk.new → OnOk result (IsUnneeded (D.contents disk.old) slot) }
     ensures reads { OnlyReads D.Disk disk.old disk.new }
     ensures device { IsErrOf result DropError.Device → D.failed disk.old < D.failed disk.new }
 {
@@ -69,8 +73,10 @@ fn prepare<D: Disk>(alloc: Global, disk: &mut D, slot: usize, force: bool) -> Re
     ensures slot { OnOk result (slot < length (D.contents disk.old)) }
     ensures opens { D.is_honest disk.new
         → OnOk result (is_open (file_at (D.contents disk.old) slot) ≡ true) }
+    ensures closed { D.is_honest disk.new → is_open (file_at (D.contents disk.old) slot) ≡ false
+        → IsErrOf result DropError.Closed ⊎ IsErrOf result DropError.Device }
     ensures unneeded { D.is_honest disk.new → force ≡ false
-        → OnOk result (IsNeeded (D.contents disk.old) slot → ⊥) }
+        → OnOk result (IsUnneeded (D.contents disk.old) slot) }
     ensures synced { force ≡ false
         → OnOk result (Only (D.contents disk.old) (D.may_leave disk.new)) }
     ensures reads { OnlyReads D.Disk disk.old disk.new }
@@ -119,14 +125,18 @@ pub fn drop_image<D: Disk>(
     ensures durable { OnOk result (OnlyAt slot (0 ∷ []) (D.may_leave disk.new)) }
     ensures others { (other : ℕ) → other ≢ slot
         → file_at (D.contents disk.new) other ≡ file_at (D.contents disk.old) other }
-    // Each error comes where its condition holds, and without force no image is closed where one does.
+    // Each error comes where its condition holds, and without force no image is closed where one does: the other slots
+    // are a store then, and the image isn't needed.
     ensures says { D.is_honest disk.new → IfErr result (ErrorSays
         (is_open (file_at (D.contents disk.old) slot) ≡ false)
         (IsNeeded (D.contents disk.old) slot) (IsDamagedBeside (D.contents disk.old) slot)) }
     ensures opened { D.is_honest disk.new
         → OnOk result (is_open (file_at (D.contents disk.old) slot) ≡ true) }
+    // A closed slot is told before all else.
+    ensures closed { D.is_honest disk.new → is_open (file_at (D.contents disk.old) slot) ≡ false
+        → IsErrOf result DropError.Closed ⊎ IsErrOf result DropError.Device }
     ensures unneeded { D.is_honest disk.new → force ≡ false
-        → OnOk result (IsNeeded (D.contents disk.old) slot → ⊥) }
+        → OnOk result (IsUnneeded (D.contents disk.old) slot) }
     // With force it is refused for a closed slot alone.
     ensures forced { force ≡ true
         → IfErr result (λ error. (error ≡ DropError.Closed) ⊎ (error ≡ DropError.Device)) }

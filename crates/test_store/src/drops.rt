@@ -19,8 +19,8 @@ const ENDS: [Result<(), DropError>; 5] = [
     Err(DropError::Closed),
 ];
 
-/// How many calls a drop makes before it writes: two for the gate, four to read each of the three images, one to measure
-/// the closed slot, and a sync of each slot.
+/// How many calls a drop makes before it writes: two for the gate, four to read each of the three images, one to
+/// measure the closed slot, and a sync of each slot.
 const FIRST_CALL: u64 = 2 + 3 * 4 + 1 + 4;
 
 /// A store of these images.

@@ -17,7 +17,7 @@ returns-in_err-close-clause-kept g c = λ honest unforced shown shows before.
     let new = c.close.new.disk in
     let reads : OnlyReads d old mid = c.in_ok-prepare.ensures.reads in
     let was = c.in_err-close.ensures.honest honest in
-    kept_span d slot shown old mid new (g.met.D.Disk.only_now old) reads c.in_ok-prepare.ensures.slot shows (c.in_ok-prepare.ensures.unneeded was unforced) before
+    kept_span d slot shown old mid new (g.met.D.Disk.only_now old) reads c.in_ok-prepare.ensures.slot shows (c.in_ok-prepare.ensures.unneeded was unforced).free before
     (c.in_err-close.ensures.closing (λ files left. c.in_ok-prepare.ensures.synced unforced files left ∙ sym reads.same)
     (ap (λ files. is_open (file_at files slot)) reads.same ∙ c.in_ok-prepare.ensures.opens was))
 
@@ -40,7 +40,7 @@ returns-clause-kept g c = λ honest unforced shown shows before.
     let new = c.close.new.disk in
     let reads : OnlyReads d old mid = c.in_ok-prepare.ensures.reads in
     let was = c.in_ok-close.ensures.honest honest in
-    kept_span d slot shown old mid new (g.met.D.Disk.only_now old) reads c.in_ok-prepare.ensures.slot shows (c.in_ok-prepare.ensures.unneeded was unforced) before
+    kept_span d slot shown old mid new (g.met.D.Disk.only_now old) reads c.in_ok-prepare.ensures.slot shows (c.in_ok-prepare.ensures.unneeded was unforced).free before
     (c.in_ok-close.ensures.closing (λ files left. c.in_ok-prepare.ensures.synced unforced files left ∙ sym reads.same)
     (ap (λ files. is_open (file_at files slot)) reads.same ∙ c.in_ok-prepare.ensures.opens was))
 
@@ -64,7 +64,7 @@ returns-clause-shown g c = λ honest unforced shown either files left.
     let reads : OnlyReads d old mid = c.in_ok-prepare.ensures.reads in
     let contents : List (List ℕ) = d.contents old in
     let was = c.in_ok-close.ensures.honest honest in
-    let free : IsNeeded contents slot → ⊥ = c.in_ok-prepare.ensures.unneeded was unforced in
+    let free : IsNeeded contents slot → ⊥ = (c.in_ok-prepare.ensures.unneeded was unforced).free in
     let closing : LeavesOnly d mid new (IsClosing (d.contents mid) slot) = c.in_ok-close.ensures.closing
     (λ other there. c.in_ok-prepare.ensures.synced unforced other there ∙ sym reads.same)
     (ap (λ other. is_open (file_at other slot)) reads.same ∙ c.in_ok-prepare.ensures.opens was) in
