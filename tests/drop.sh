@@ -112,7 +112,7 @@ drops_are_cut_off() {
   COUNTED=count LD_PRELOAD=./fail.so "$ckpt" drop -q store 1 > out || return 1
   were_counted 70 || return 1
   calls=$(($(cat count)))
-  for number in $(seq 1 20 $((calls - 20))) $(seq $((calls - 19)) "$calls"); do
+  for number in $(seq 1 40 $((calls - 10))) $(seq $((calls - 9)) "$calls"); do
     for how in unmade made; do
       rm -rf store
       cp -r whole store
