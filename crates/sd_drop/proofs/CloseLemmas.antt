@@ -1,5 +1,5 @@
 -- What the calls that close a slot leave of it.
-use Rattle.std.proofs.Common.{◌≡◌, ◌≢◌, ◌⊎◌, ◌<◌, ◌≤◌, ℕ, zero, suc, true, false, nat_le, ◌==◌, List, [], ◌∷◌, length, Option, slice_set, slice_index, refl, sym, ◌∙◌, ap, subst, inl, inr, arith}
+use Rattle.std.proofs.Common.{◌≡◌, ◌≢◌, ◌⊎◌, ◌<◌, ◌≤◌, ℕ, zero, suc, true, false, nat_le, ◌==◌, List, [], ◌∷◌, length, Option, slice_set, slice_index, refl, sym, ◌∙◌, ap, subst, inl, inr, arith, take}
 use Rattle.std.proofs.Math.Nat.{le_refl}
 use Rattle.std.proofs.lemmas.Bool.{and_right, cases_eq, ne_eqb}
 use Rattle.std.proofs.lemmas.Bool.Decides.{nat_tests}
@@ -14,7 +14,7 @@ use Rattle.sd_disk.specs.declared.disk.Disk.{Ghosts}
 use Rattle.sd_image.specs.Image.{is_open}
 use Rattle.sd_image.specs.Shows.{Shows}
 use Rattle.sd_drop.specs.Closing.{IsClosing, closed_at}
-use Rattle.sd_drop.proofs.FileLemmas.{AreAlikeBut, closed_alike}
+use Rattle.sd_drop.proofs.FileLemmas.{AreAlikeBut, at_set, closed_alike}
 
 -- a first byte that is no gate closes a file
 pub no_gate : (file : List ℕ) → slice_index file 0 ≢ 165 → is_open file ≡ false
@@ -89,10 +89,18 @@ closing_cut contents slot file old new only none was follows c left =
 pub written_byte : (file : List ℕ) → slice_index (file_after_write file 0 (0 ∷ [])) 0 ≡ 0
 written_byte file = refl
 
--- and cut
-pub closed_files : (contents : List (List ℕ)) (slot : ℕ) (file : List ℕ)
-    → slice_set (slice_set contents slot file) slot (0 ∷ []) ≡ slice_set contents slot (0 ∷ [])
-closed_files contents slot file = set-set contents slot file (0 ∷ [])
+-- it is in its slot
+pub at_written : (contents : List (List ℕ)) (slot : ℕ) (file : List ℕ) (written : List (List ℕ)) → slot < length contents → written ≡ slice_set contents slot file
+    → file_at written slot ≡ file
+at_written contents slot file written within is = ap (λ files. file_at files slot) is ∙ at_set contents slot file within
+
+-- and after the cut and the last sync its first byte
+pub cut_files : (contents : List (List ℕ)) (slot : ℕ) (file : List ℕ) (written cut last : List (List ℕ)) → slot < length contents
+    → written ≡ slice_set contents slot file → take 1 file ≡ 0 ∷ [] → cut ≡ slice_set written slot (take 1 (file_at written slot)) → last ≡ cut
+    → last ≡ slice_set contents slot (0 ∷ [])
+cut_files contents slot file written cut last within is first was same =
+    same ∙ was ∙ ap (slice_set written slot) (ap (take 1) (at_written contents slot file written within is) ∙ first)
+    ∙ ap (λ files. slice_set files slot (0 ∷ [])) is ∙ set-set contents slot file (0 ∷ [])
 
 -- A crash within some calls left what has P, and leaves it now.
 module _ {D : Type 0} (g : Ghosts D) (P : Outcomes) where

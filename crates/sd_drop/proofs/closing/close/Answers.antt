@@ -1,11 +1,10 @@
-use Rattle.std.proofs.Common.{◌≡◌, ℕ, List, [], ◌∷◌, slice_set, take, ◌∙◌, ap, length, Result, Ok, Err}
+use Rattle.std.proofs.Common.{ℕ, List, [], ◌∷◌, ◌∙◌, ap, length, Result, Ok, Err, refl}
 use Rattle.std.specs.Prelude.{OnOk}
 use Rattle.sd_disk.specs.Contents.{Cut, Torn, file_after_write, file_at}
 use Rattle.sd_disk.specs.Crash.{Outcomes}
 use Rattle.sd_image.specs.Shows.{Shows}
 use Rattle.sd_drop.specs.Closing.{IsClosing, closed_at}
-use Rattle.sd_drop.proofs.FileLemmas.{at_set}
-use Rattle.sd_drop.proofs.CloseLemmas.{closed_files, closing_begins, closing_cut, closing_written, counted_step, span_begins, span_more, span_same, written_byte}
+use Rattle.sd_drop.proofs.CloseLemmas.{at_written, cut_files, closing_begins, closing_cut, closing_written, counted_step, span_begins, span_more, span_same, written_byte}
 use Rattle.sd_drop.proofs.closing.close.Goals as goal
 
 always_ok : {T E P : Type 0} (r : Result T E) → P → OnOk r P
@@ -84,7 +83,7 @@ returns-in_err-cut-clause-closing g c = λ only opens.
     c.write_at.ensures.time (closing_written contents slot (d.may_leave old) (d.may_leave c.write_at.new.self) only opens c.write_at.ensures.crash) in
     let s2 = span_same d P old c.write_at.new.self c.sync.new.self s1 c.sync.ensures.time c.sync.ensures.crash in
     let file : List ℕ = file_after_write (file_at contents slot) 0 (0 ∷ []) in
-    let here : file_at (d.contents c.write_at.new.self) slot ≡ file = ap (λ files. file_at files slot) c.in_ok-write_at.ensures.written ∙ at_set contents slot file c.requires in
+    let here = at_written contents slot file (d.contents c.write_at.new.self) c.requires c.in_ok-write_at.ensures.written in
     let s3 = span_more d P old c.sync.new.self c.cut.new.self s2 c.cut.ensures.time
     (closing_cut contents slot file (d.may_leave c.sync.new.self) (d.may_leave c.cut.new.self) (λ files left. c.in_ok-sync.ensures.durable files left ∙ here)
     (written_byte (file_at contents slot)) s2.1 c.cut.ensures.crash) in
@@ -117,7 +116,7 @@ returns-clause-closing g c = λ only opens.
     c.write_at.ensures.time (closing_written contents slot (d.may_leave old) (d.may_leave c.write_at.new.self) only opens c.write_at.ensures.crash) in
     let s2 = span_same d P old c.write_at.new.self c.sync.new.self s1 c.sync.ensures.time c.sync.ensures.crash in
     let file : List ℕ = file_after_write (file_at contents slot) 0 (0 ∷ []) in
-    let here : file_at (d.contents c.write_at.new.self) slot ≡ file = ap (λ files. file_at files slot) c.in_ok-write_at.ensures.written ∙ at_set contents slot file c.requires in
+    let here = at_written contents slot file (d.contents c.write_at.new.self) c.requires c.in_ok-write_at.ensures.written in
     let s3 = span_more d P old c.sync.new.self c.cut.new.self s2 c.cut.ensures.time
     (closing_cut contents slot file (d.may_leave c.sync.new.self) (d.may_leave c.cut.new.self) (λ files left. c.in_ok-sync.ensures.durable files left ∙ here)
     (written_byte (file_at contents slot)) s2.1 c.cut.ensures.crash) in
@@ -127,11 +126,7 @@ returns-clause-closing g c = λ only opens.
 pub returns-clause-closed : goal.returns-clause-closed
 returns-clause-closed g c =
     let d = g.D.Disk in
-    let slot = c.args.slot in
     let contents : List (List ℕ) = d.contents c.args.disk.now in
-    let file : List ℕ = file_after_write (file_at contents slot) 0 (0 ∷ []) in
-    let synced : d.contents c.sync.new.self ≡ slice_set contents slot file = c.sync.ensures.same ∙ c.in_ok-write_at.ensures.written in
-    let here : take 1 (file_at (d.contents c.sync.new.self) slot) ≡ 0 ∷ [] = ap (λ files. take 1 (file_at files slot)) synced ∙ ap (take 1) (at_set contents slot file c.requires) in
-    let cut : d.contents c.cut.new.self ≡ slice_set contents slot (0 ∷ []) =
-    c.in_ok-cut.ensures.cut ∙ ap (slice_set (d.contents c.sync.new.self) slot) here ∙ ap (λ files. slice_set files slot (0 ∷ [])) synced ∙ closed_files contents slot file in
-    always_ok c.sync-2.result (c.sync-2.ensures.same ∙ cut)
+    let file : List ℕ = file_after_write (file_at contents c.args.slot) 0 (0 ∷ []) in
+    always_ok c.sync-2.result (cut_files contents c.args.slot file (d.contents c.sync.new.self) (d.contents c.cut.new.self) (d.contents c.sync-2.new.self)
+    c.requires (c.sync.ensures.same ∙ c.in_ok-write_at.ensures.written) refl c.in_ok-cut.ensures.cut c.sync-2.ensures.same)
