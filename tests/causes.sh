@@ -3,8 +3,8 @@
 
 # A damaged slot in words, by each program that opens the store; and nothing with --quiet.
 damage_is_told_in_words() {
-  local told="ckpt: store: img-000 is damaged: the digest is not that of the file; ckpt show store 0 tells more, and \
-an older copy of the file may help"
+  local told="ckpt: store: img-000 is damaged: the digest is not that of the file; ckpt show store 0 tells more; \
+the newest checkpoint needs it, and an older copy of the file may help"
   hello_store 2 || return 1
   flip 5000
   echo 'mmap 1 0 4096 r' > script
@@ -19,7 +19,8 @@ an older copy of the file may help"
 broken_chains_are_told() {
   store_of "2 2 2 2 1 1 parent"
   ends_with 1 "damaged 000 18" "ckpt: store: img-000 is damaged: a page is in a parent that does not have it; \
-ckpt show store 0 tells more, ckpt list store has the images that are there, and an older copy of the file may help" \
+ckpt show store 0 tells more, ckpt list store has the images that are there; the newest checkpoint needs it, and an \
+older copy of the file may help" \
     "$ckpt" verify store
 }
 

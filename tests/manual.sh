@@ -49,7 +49,7 @@ completion_offers_programs_options_and_folders() {
   for program in $(cat programs); do
     has "the programs" " $(offered "") " " $program " || return 1
   done
-  for program in run shell merge mutate restore list verify history diff show export import; do
+  for program in run shell merge mutate restore list verify history diff drop show export import; do
     same "the options of $program" "$(offered "$program" -- | tr ' ' '\n' | sort)" "$(options_of "$program")" \
       || return 1
   done

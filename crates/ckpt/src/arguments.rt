@@ -144,6 +144,13 @@ pub const SLOT: Item = Item {
     ..WORD
 };
 
+/// The slot whose image is closed.
+pub const SLOT_TO_DROP: Item = Item {
+    form: Form::Word,
+    help: "The number of the slot whose image is closed, 0 to 63",
+    ..SLOT
+};
+
 pub const OUT: Item = Item {
     name: "OUT",
     help: "The folder of the core files, which is made where it is missing",
@@ -160,6 +167,11 @@ pub const FORCE: Item = Item {
     name: "force",
     help: "Replaces core files that are there already",
     ..FLAG
+};
+
+pub const FORCE_DROP: Item = Item {
+    help: "Closes the image also where the newest checkpoint needs it, or another image is damaged",
+    ..FORCE
 };
 
 /// The core whose notes an export has.

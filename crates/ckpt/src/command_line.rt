@@ -1,13 +1,13 @@
 //! The words that the program is called with: each program's arguments as tables, and the command line that they make.
 
 use crate::arguments::{
-    AT_LEAST, CHECK, CHECKPOINT, CORES, DIR, DIR_TO_RUN, FORCE, Form, Item, JSON, NEW, NOTES,
-    Numbers, OLD, ONE_SPACE, OUT, QUIET, RESTORES, ROUNDS, SCRIPT, SLOT, SPACE, STATS, STRICT,
-    SUMMARY, THREADS, VERBOSE,
+    AT_LEAST, CHECK, CHECKPOINT, CORES, DIR, DIR_TO_RUN, FORCE, FORCE_DROP, Form, Item, JSON, NEW,
+    NOTES, Numbers, OLD, ONE_SPACE, OUT, QUIET, RESTORES, ROUNDS, SCRIPT, SLOT, SLOT_TO_DROP,
+    SPACE, STATS, STRICT, SUMMARY, THREADS, VERBOSE,
 };
 use crate::help::{
-    DIFF, EXPORT, HISTORY, IMPORT, LIMITS, LIST, MERGE, MUTATE, RESTORE, RUN_HEAD, RUN_TAIL, SHELL,
-    SHOW, VERIFY,
+    DIFF, DROP, EXPORT, HISTORY, IMPORT, LIMITS, LIST, MERGE, MUTATE, RESTORE, RUN_HEAD, RUN_TAIL,
+    SHELL, SHOW, VERIFY,
 };
 use clap::builder::ValueParser;
 use clap::{Arg, ArgAction, ArgMatches, Command};
@@ -30,6 +30,7 @@ pub enum Work {
     Read(Reader),
     History,
     Diff,
+    Drop,
     Show,
     Export,
     Import,
@@ -47,7 +48,7 @@ struct Program {
 }
 
 /// The programs, in the order of the help.
-const PROGRAMS: [Program; 12] = [
+const PROGRAMS: [Program; 13] = [
     Program {
         name: "run",
         work: Work::Run,
@@ -112,6 +113,13 @@ const PROGRAMS: [Program; 12] = [
         about: "Prints what differs between two checkpoints of the store in a folder",
         items: &[DIR, OLD, NEW, JSON, QUIET, VERBOSE],
         behind: Some(DIFF),
+    },
+    Program {
+        name: "drop",
+        work: Work::Drop,
+        about: "Closes an image of the store in a folder that the newest checkpoint doesn't need",
+        items: &[DIR, SLOT_TO_DROP, FORCE_DROP, QUIET, VERBOSE],
+        behind: Some(DROP),
     },
     Program {
         name: "show",

@@ -5,6 +5,8 @@ use crate::command_line::{Work, asked_of};
 use crate::course::{Course, FewAt, line_of_request};
 use crate::slots::has_slot_files;
 use clap::ArgMatches;
+use sd_disk::{DirDisk, Folder, Found};
+use sd_drop::{DropError, check_drop};
 use sd_image::Reason;
 use sd_readers::Reader;
 use sd_restore::Fault;
@@ -21,6 +23,23 @@ struct Damage<'a> {
     folder: &'a str,
     slot: usize,
     reason: Reason,
+    needed: Option<bool>,
+}
+
+/// Whether the newest checkpoint of the store in a folder needs the image of a slot. None where that isn't known.
+fn is_needed(
+    rt: &(impl Files<File = File> + AllocGlobal),
+    folder: &str,
+    found: &Found,
+    slot: usize,
+) -> Option<bool> {
+    let files = Folder::open(rt, folder, false).ok()?;
+    let mut disk = DirDisk::over(files, found.again());
+    match check_drop(rt.alloc(), &mut disk, slot) {
+        Ok(()) => Some(false),
+        Err(DropError::Needed) => Some(true),
+        Err(_) => None,
+    }
 }
 
 impl fmt::Display for Damage<'_> {
@@ -29,6 +48,7 @@ impl fmt::Display for Damage<'_> {
             folder,
             slot,
             reason,
+            needed,
         } = self;
         let words = reason_phrase(*reason);
         write!(
@@ -38,7 +58,16 @@ impl fmt::Display for Damage<'_> {
         if *reason == Reason::Chain {
             write!(f, ", ckpt list {folder} has the images that are there")?;
         }
-        f.write_str(", and an older copy of the file may help")
+        match needed {
+            Some(false) => write!(
+                f,
+                "; the newest checkpoint doesn't need it: ckpt drop {folder} {slot} closes it"
+            ),
+            Some(true) => f.write_str(
+                "; the newest checkpoint needs it, and an older copy of the file may help",
+            ),
+            None => f.write_str(", and an older copy of the file may help"),
+        }
     }
 }
 
@@ -61,18 +90,25 @@ it takes in"
 }
 
 /// Tells what is damaged, if a program's last line told that.
-fn tell_damage(rt: &impl Eprint, causes: Causes, folder: &str, told: Option<Fault>) {
+fn tell_damage(
+    rt: &(impl Files<File = File> + Eprint + AllocGlobal),
+    causes: Causes,
+    folder: &str,
+    found: &Found,
+    told: Option<Fault>,
+) {
+    if causes == Causes::Kept {
+        return;
+    }
     if let Some(Fault::Damaged { slot, reason }) = told {
-        tell(
-            rt,
-            causes,
+        let needed = is_needed(rt, folder, found, slot);
+        let damage = Damage {
             folder,
-            &Damage {
-                folder,
-                slot,
-                reason,
-            },
-        );
+            slot,
+            reason,
+            needed,
+        };
+        tell(rt, causes, folder, &damage);
     }
 }
 
@@ -189,6 +225,7 @@ pub fn tell_end(
     rt: &HostRuntime,
     causes: Causes,
     matches: &ArgMatches<'_>,
+    found: &Found,
     status: u8,
     told: Option<Fault>,
 ) {
@@ -198,7 +235,7 @@ pub fn tell_end(
     let folder = words.get_str("DIR").unwrap_or("");
     let is_document = has_document(work) && words.get_flag("json");
     if !is_document {
-        tell_damage(rt, causes, folder, told);
+        tell_damage(rt, causes, folder, found, told);
     }
     let is_empty = told == Some(Fault::EmptyChain) && work != Work::Run;
     let lists = matches!(

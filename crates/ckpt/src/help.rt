@@ -25,7 +25,7 @@ it can be written, and with --strict at the first request that is refused or ans
 where a line of SCRIPT doesn't fit the language (script line N: nothing is run) or the command
 line doesn't; with --restore, 3 where the store shows no checkpoint afterwards.
 
-Only one of run, shell, merge, mutate and import can have a store open at a time.";
+Only one of run, shell, merge, mutate, import and drop can have a store open at a time.";
 
 pub const SHELL: &str = "Example:
   printf 'mmap 1 0x10000 4096 rw\\ncheckpoint 0\\n' | ckpt shell store
@@ -46,7 +46,7 @@ Status: 0 at the end of the input, also where requests were refused; 1 where the
 device, memory, the input or the printing failed (damaged SSS WHY, device, out-of-memory,
 cannot open DIR, cannot read SCRIPT); 2 for a fault of the command line.
 
-Only one of run, shell, merge, mutate and import can have a store open at a time.";
+Only one of run, shell, merge, mutate, import and drop can have a store open at a time.";
 
 pub const RESTORE: &str = "Example:
   ckpt restore store
@@ -112,6 +112,22 @@ Status: 0 where it printed that, also where nothing differs; 3 where the store h
 of them (no checkpoint N); 1 where the store, its device, memory or the printing failed (damaged
 SSS WHY, device, out-of-memory, cannot open DIR); 2 for a fault of the command line.";
 
+pub const DROP: &str = "Example:
+  ckpt drop store 5
+
+Closes the image in img-SSS where the newest checkpoint doesn't need it, damaged or not, and prints
+dropped SSS. What the store shows stays the same, also if it is cut off; a checkpoint that needs the
+image can't be restored afterwards. The newest checkpoint needs its own image, and those to which
+its parent numbers lead; a damaged image counts as needed where the others show no checkpoint.
+It prints kept SSS needed where that is so, and kept SSS closed where the slot has no open image.
+Where another image is damaged it isn't known which are needed: damaged SSS WHY names it.
+
+Status: 0 where the image was closed; 1 where it stays (kept SSS needed, kept SSS closed, damaged
+SSS WHY), or the device, memory or the printing failed (device, out-of-memory, cannot open DIR);
+2 for a fault of the command line.
+
+Only one of run, shell, merge, mutate, import and drop can have a store open at a time.";
+
 pub const SHOW: &str = "Example:
   ckpt show store
   ckpt show store 3 --json
@@ -137,7 +153,7 @@ Status: 0 where the chain was merged; 1 where the merge was refused, or the stor
 device, memory or the printing failed (damaged SSS WHY, device, out-of-memory, cannot open
 DIR), or the file of --stats can't be written (cannot write FILE); 2 for a fault of the command line.
 
-Only one of run, shell, merge, mutate and import can have a store open at a time.";
+Only one of run, shell, merge, mutate, import and drop can have a store open at a time.";
 
 pub const MUTATE: &str = "Example:
   ckpt mutate store 4
@@ -153,7 +169,7 @@ the store has an image (store not empty), or the store, its device, memory or th
 failed (damaged SSS WHY, device, out-of-memory, cannot open DIR); 2 for a fault of the command
 line.
 
-Only one of run, shell, merge, mutate and import can have a store open at a time.";
+Only one of run, shell, merge, mutate, import and drop can have a store open at a time.";
 
 pub const EXPORT: &str = "Example:
   ckpt export store cores
@@ -201,4 +217,4 @@ was refused (refused N NAME), or the store, its device, memory or the printing f
 line. With status 1 nothing is saved of that core and of those after it, but where the device
 failed at the checkpoint's last step or acked N wasn't printed: verify tells then.
 
-Only one of run, shell, merge, mutate and import can have a store open at a time.";
+Only one of run, shell, merge, mutate, import and drop can have a store open at a time.";

@@ -47,6 +47,7 @@ mod cores;
 mod counted;
 mod course;
 mod difference;
+mod drop;
 mod ends;
 mod explained;
 mod export;
@@ -274,6 +275,7 @@ fn run_matches<R: Clock + Threads + Wait + Sync, W: Write>(
         }
         Work::History => reader_program(rt, threads, history_asked(words), words, found, out),
         Work::Diff => reader_program(rt, threads, difference_asked(words), words, found, out),
+        Work::Drop => drop::drop_program(rt, threads, words, found, out),
         Work::Show => show::show_program(rt, threads, causes_asked(words), words, found, out),
         Work::Export => export::export_program(rt, threads, words, found, out),
         Work::Import => import::import_program(rt, threads, words, course, found, out),
@@ -301,7 +303,7 @@ fn run_words<R: Clock + Threads + Wait + Sync, W: Write>(
         Some((_, words)) => causes_asked(words),
         None => Causes::Told,
     };
-    tell_end(rt, causes, &matches, status, out.fault());
+    tell_end(rt, causes, &matches, found, status, out.fault());
     Ok((causes, status))
 }
 

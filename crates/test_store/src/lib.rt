@@ -18,6 +18,8 @@ mod crashes;
 #[cfg(test)]
 mod devices;
 #[cfg(test)]
+mod drops;
+#[cfg(test)]
 mod example;
 #[cfg(test)]
 mod feeding;

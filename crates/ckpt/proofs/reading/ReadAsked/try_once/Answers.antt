@@ -15,6 +15,6 @@ returns c = record {
       let same : now ≡ c.into_writer-text.result.items = search rules in
       let whole : refused ≡ false = search rules in
       subst (λ items. ReadsFound found reader read (Some items) (Some c.into_writer-text.result.items) false) bare
-          (subst (λ items. ReadsFound found reader read (Some c.new-out.result.writer.items) (Some items) false) same
-          (subst (λ r. ReadsFound found reader read (Some c.new-out.result.writer.items) (Some now) r) whole (c.in_ok-disk.ensures.answers reader is)));
+      (subst (λ items. ReadsFound found reader read (Some c.new-out.result.writer.items) (Some items) false) same
+      (subst (λ r. ReadsFound found reader read (Some c.new-out.result.writer.items) (Some now) r) whole (c.in_ok-disk.ensures.answers reader is)));
 }

@@ -1,0 +1,4 @@
+pub mod Errors
+pub mod Closing
+pub mod Reached
+pub mod Needed
