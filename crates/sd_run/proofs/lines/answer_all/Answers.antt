@@ -34,7 +34,7 @@ returns-clause-told g c =
     let to = g.W.Write.contents c.print_all.new.out.writer in
     let all = PrintsLines g.D.Disk c.answer_one.new.world c.args.lines.items c.print_all.new.world at to in
     let others = tells_anyway g.D.Disk c.answer_one.new.world c.print_all.new.world c.args.lines.items at to c.print_all.result c.print_all.ensures.told
-        (then_on_ok c.print_all.result ((lines : all) × Passes c.args.rule lines.answers) all (λ both. both.0) c.print_all.ensures.printed) in
+    (then_on_ok c.print_all.result ((lines : all) × Passes c.args.rule lines.answers) all (λ both. both.0) c.print_all.ensures.printed) in
     record {
       some = record {
         done = asked.Reopen ∷ others.some.done;

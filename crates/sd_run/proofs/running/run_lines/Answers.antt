@@ -21,27 +21,30 @@ returns-in-Ok-open-clause-passes g c =
     let last = ended.new.world in
     then_on_ok ended.result ((all : PrintsLines g.D.Disk opened lines last from to) × Passes c.args.rule all.answers)
     ((run : IsWholeRun g.D.Disk lines c.args.disk c.close.result from to) × Passes c.args.rule run.answers.answers)
-    (λ both. (record {
-      opened = opened;
-      last = last;
-      run = record {
-        opening = record {
-          reads = c.in-Ok-open.ensures.reads;
-          journal = c.in-Ok-open.ensures.journal;
-          idle = c.in-Ok-open.ensures.idle;
-          shows = c.in-Ok-open.ensures.shows;
-          everywhere = c.in-Ok-open.ensures.everywhere;
-          bare = c.in-Ok-open.ensures.bare;
-          frames = c.in-Ok-open.ensures.frames;
+    (λ both. (
+      record {
+        opened = opened;
+        last = last;
+        run = record {
+          opening = record {
+            reads = c.in-Ok-open.ensures.reads;
+            journal = c.in-Ok-open.ensures.journal;
+            idle = c.in-Ok-open.ensures.idle;
+            shows = c.in-Ok-open.ensures.shows;
+            everywhere = c.in-Ok-open.ensures.everywhere;
+            bare = c.in-Ok-open.ensures.bare;
+            frames = c.in-Ok-open.ensures.frames;
+          };
+          goes_on = ended.ensures.goes_on;
+          disk = c.close.ensures;
+          at_end = c.sound.ensures.allowed;
+          contents = c.sound.ensures.contents;
+          tracked = c.sound.ensures.tracked;
         };
-        goes_on = ended.ensures.goes_on;
-        disk = c.close.ensures;
-        at_end = c.sound.ensures.allowed;
-        contents = c.sound.ensures.contents;
-        tracked = c.sound.ensures.tracked;
-      };
-      answers = both.0;
-    }, both.1))
+        answers = both.0;
+      },
+      both.1,
+    ))
     ended.ensures.printed
 
 pub returns-in-Ok-open-clause-whole : goal.returns-in-Ok-open-clause-whole
