@@ -31,9 +31,10 @@ fn is_needed(
     rt: &(impl Files<File = File> + AllocGlobal),
     folder: &str,
     slot: usize,
+    found: &Found,
 ) -> Option<bool> {
     let files = Folder::open(rt, folder, false).ok()?;
-    let mut disk = DirDisk::over(files, Found::any());
+    let mut disk = DirDisk::over(files, found.again());
     match check_drop(rt.alloc(), &mut disk, slot) {
         Ok(()) => Some(false),
         Err(DropError::Needed) => Some(true),
@@ -94,12 +95,13 @@ fn tell_damage(
     causes: Causes,
     folder: &str,
     told: Option<Fault>,
+    found: &Found,
 ) {
     if causes == Causes::Kept {
         return;
     }
     if let Some(Fault::Damaged { slot, reason }) = told {
-        let needed = is_needed(rt, folder, slot);
+        let needed = is_needed(rt, folder, slot, found);
         let damage = Damage {
             folder,
             slot,
@@ -225,6 +227,7 @@ pub fn tell_end(
     matches: &ArgMatches<'_>,
     status: u8,
     told: Option<Fault>,
+    found: &Found,
 ) {
     let Some((work, words)) = asked_of(matches) else {
         return;
@@ -232,7 +235,7 @@ pub fn tell_end(
     let folder = words.get_str("DIR").unwrap_or("");
     let is_document = has_document(work) && words.get_flag("json");
     if !is_document {
-        tell_damage(rt, causes, folder, told);
+        tell_damage(rt, causes, folder, told, found);
     }
     let is_empty = told == Some(Fault::EmptyChain) && work != Work::Run;
     let lists = matches!(

@@ -318,7 +318,7 @@ fn run_words<R: Clock + Threads + Wait + Sync, W: Write>(
         Some((_, words)) => causes_asked(words),
         None => Causes::Told,
     };
-    tell_end(rt, causes, &matches, status, out.fault());
+    tell_end(rt, causes, &matches, status, out.fault(), found);
     Ok((causes, status))
 }
 
