@@ -54,6 +54,7 @@ pub record RunsScript {D : Type 0} (g : Ghosts D) (rule : Rule) (restores : Bool
   pub whole : OnOk ended ((run : IsWholeRun g lines old ran before answered) × Passes rule run.answers.answers)
   pub strict : ended ≡ Err stop.Refused → IsStrictRun g rule lines old ran before answered
   pub so_far : g.is_honest ran → PromiseAnyway g lines old ran before answered
-  pub why : g.is_honest ran → ended ≢ Err stop.Refused → IfErr ended (IsWhyRun (λ _. ⊥) (g.contents old) (g.failed old) (g.failed ran))
+  pub why : g.is_honest ran → ended ≢ Err stop.Refused
+      → IfErr ended (IsWhyRun (λ _. ⊥) (g.contents old) (g.failed old) (g.failed ran))
   pub writer : OnWriter ended (refused ≡ true)
   pub behind : Then g restores ended ran new answered after refused status

@@ -104,8 +104,8 @@ fn words<D: Disk>(
     page_words::answer(alloc, world.core().memory(), space, address, count)
 }
 
-/// Answers a line, and prints its answer, which the watch is then told. What the store shows, as an acknowledged
-/// checkpoint tells it, is seen before the next line begins; other answers may wait in the writer's buffer.
+/// Answers a line, and prints its answer, which the watch is then told. An acknowledged checkpoint is seen before the
+/// next line begins; other answers may wait in the writer's buffer.
 ///
 /// # Errors
 ///
@@ -131,9 +131,22 @@ fn answer_one<D: Disk, W: Write, S: RunWatch>(
 {
     let given = answer(alloc, world, line, watch);
     print_line(&given, buffer, out)?;
-    flush_settled(&given, out)?;
+    flush_acked(&given, out)?;
     watch.answered(world.core(), &given);
     rule.check(&given)
+}
+
+/// Flushes after the answer of an acknowledged checkpoint.
+#[tactic(auto, using(crate::proofs::LineLemmas::stays))]
+fn flush_acked<W: Write>(given: &Answer, out: &mut Output<W>) -> Result<(), Stop>
+    ensures bytes { Keeps (W.contents out.old.writer) (W.contents out.new.writer) }
+    ensures stops { IfErr result IsUnprinted }
+    ensures writer { OnWriter result (out.new.refused ≡ true) }
+{
+    if let Answer::Reply(Reply::Acked(_)) = given {
+        out.flush()?;
+    }
+    Ok(())
 }
 
 /// Answers one request of a run, and prints its answer, for a caller that has them one by one; returns the answer. An

@@ -7,19 +7,19 @@ use Rattle.sd_run.specs.Ending.{IsUnprinted}
 use Rattle.sd_run.proofs.StrictLemmas.{checked, unprinted_checks}
 use Rattle.sd_run.proofs.lines.answer_one.Goals as goal
 
-pub returns-in_err-flush_settled-clause-printed : goal.returns-in_err-flush_settled-clause-printed
-returns-in_err-flush_settled-clause-printed g c =
+pub returns-in_err-flush_acked-clause-printed : goal.returns-in_err-flush_acked-clause-printed
+returns-in_err-flush_acked-clause-printed g c =
     let given = c.answer-given.result in
     let from = g.W.Write.contents c.args.out.now.writer in
     let mid = g.W.Write.contents c.print_line.new.out.writer in
-    let to = g.W.Write.contents c.flush_settled.new.out.writer in
-    let ended = c.from_residual-in_err-flush_settled.result in
+    let to = g.W.Write.contents c.flush_acked.new.out.writer in
+    let ended = c.from_residual-in_err-flush_acked.result in
     let never : OnOk ended ⊥ = search rules in
     let unprinted : IfErr ended IsUnprinted = search rules in (
       given,
       c.answer-given.ensures.answered,
       search rules,
-      begins_still from mid to (answer_line given) c.in_ok-print_line.ensures.begins c.in_err-flush_settled.ensures.bytes,
+      begins_still from mid to (answer_line given) c.in_ok-print_line.ensures.begins c.in_err-flush_acked.ensures.bytes,
       unprinted_checks c.args.rule given ended from to never unprinted,
     )
 
@@ -28,8 +28,8 @@ returns-clause-printed g c =
     let given = c.answer-given.result in
     let from = g.W.Write.contents c.args.out.now.writer in
     let mid = g.W.Write.contents c.print_line.new.out.writer in
-    let to = g.W.Write.contents c.flush_settled.new.out.writer in
-    let kept = c.in_ok-flush_settled.ensures.bytes in
+    let to = g.W.Write.contents c.flush_acked.new.out.writer in
+    let kept = c.in_ok-flush_acked.ensures.bytes in
     let printed = Appends-kept from mid to (answer_line given) c.in_ok-print_line.ensures.printed kept in (
       given,
       c.answer-given.ensures.answered,
