@@ -1,7 +1,7 @@
 //! Images that are dropped: which, and what a crash leaves after each call.
 use crate::builders::{FIRST, Image, SECOND, THIRD_MERGED, Unbuilt, four_slots, put_images};
 use crate::picks::{RULES, Rule};
-use sd_disk::{Disk, Fused, MemDisk};
+use sd_disk::{DeviceError, Disk, Fused, MemDisk};
 use sd_drop::{DropError, check_drop, drop_image};
 use sd_restore::{newest_checkpoint, scan};
 use std::alloc::Global;
@@ -23,12 +23,20 @@ const ENDS: [Result<(), DropError>; 5] = [
 /// measure the closed slot, and a sync of each slot.
 const FIRST_CALL: u64 = 2 + 3 * 4 + 1 + 4;
 
+/// Waits until a slot is on the device, if the disk has it.
+fn sync(disk: &mut MemDisk, slot: usize) -> Result<(), DeviceError> {
+    if slot < disk.slots() {
+        disk.sync(slot)?;
+    }
+    Ok(())
+}
+
 /// A store of these images.
 fn store(alloc: Global) -> Result<MemDisk, Unbuilt> {
     let mut disk = four_slots(alloc)?;
     put_images(alloc, &mut disk, &ALL)?;
-    for slot in 0..disk.slots() {
-        disk.sync(slot)?;
+    for slot in 0..4 {
+        sync(&mut disk, slot)?;
     }
     Ok(disk)
 }
@@ -95,6 +103,14 @@ fn drops_stand_crashes(rt: HostRuntime) -> Result<(), Fail> {
         );
     }
     let mut done = cut_off(alloc, FIRST_CALL + 4)?;
-    assert!(rt; done.failures() == 0 && done.len(0)? == 1);
+    assert!(rt; done.failures() == 0 && first_length(&mut done)? == 1);
     Ok(())
+}
+
+/// How long the file of the first slot is, or nothing where the disk has no slot.
+fn first_length(disk: &mut MemDisk) -> Result<usize, DeviceError> {
+    if disk.slots() == 0 {
+        return Ok(0);
+    }
+    disk.len(0)
 }
