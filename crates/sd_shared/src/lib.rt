@@ -1,4 +1,4 @@
-//! A core and its disk after two locks: threads store, workers make device calls, and afterwards the journal proves to
+//! A core and its disk behind two locks: threads store, workers make device calls, and afterwards the journal proves to
 //! each what it was told.
 #![tactic(auto)]
 

@@ -17,7 +17,7 @@ use sd_world::{OpenError, OpenFault, StartError, StartFault, World};
 use std::alloc::{AllocError, Global};
 use std::sync::{Condvar, Mutex};
 
-/// A core behind one lock and its disk after another. No thread holds both.
+/// A core behind one lock and its disk behind another. No thread holds both.
 #[derive(Drop)]
 pub struct Shared<D: Drop> {
     pub(crate) alloc: Global,

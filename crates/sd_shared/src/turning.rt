@@ -1,4 +1,4 @@
-//! The turns of threads at a shared core: each function takes its lock and makes one call of what lies after it.
+//! The turns of threads at a shared core: each function takes its lock and makes one call of what lies behind it.
 ghost use Rattle.std.specs.Prelude.{◌≡◌, ◌⊎◌, Err, IfOk, IfErr, IfNone, IfSome};
 ghost use Rattle.sd_command.specs.declared.refusal.Refusal.TheVariants.{LockBusy};
 ghost use Rattle.sd_crash_safety.specs.Calls.{IsUnjournaled};
