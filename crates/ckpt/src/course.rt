@@ -138,8 +138,14 @@ impl<'a> Course<'a> {
             self.idle.set(true);
         }
         if why == Refusal::NoSlot && self.few.get().is_none() {
+            self.note_few(core);
+        }
+    }
+
+    /// Keeps how many slots the next request found free. A count that finds no room isn't told.
+    fn note_few(&self, core: &Core) {
+        if let Some(free) = free_in(core) {
             let request = self.answers.get();
-            let free = free_in(core);
             self.few.set(Some(FewAt { request, free }));
         }
     }
@@ -189,12 +195,12 @@ impl<'a> Course<'a> {
 
 /// The number of the line that has this request of a script. Both are counted from 1.
 pub fn line_of_request(script: &[u8], request: usize) -> Option<usize> {
-    let behind = request.checked_sub(1)?;
+    let before = request.checked_sub(1)?;
     let mut lines = script
         .split(|byte| *byte == b'\n')
         .enumerate()
         .filter(|(_, line)| has_request(line));
-    let (place, _) = lines.nth(behind)?;
+    let (place, _) = lines.nth(before)?;
     Some(place.saturating_add(1))
 }
 
@@ -203,10 +209,7 @@ fn has_request(line: &[u8]) -> bool {
     !line.is_empty() && !line.starts_with(b"#")
 }
 
-/// How many slots of a store are free.
-pub fn free_in(core: &Core) -> usize {
-    match core.free_slots() {
-        Ok(slots) => slots.len(),
-        Err(_) => 0,
-    }
+/// How many slots of a store are free, or none where the list of them finds no room.
+pub fn free_in(core: &Core) -> Option<usize> {
+    Some(core.free_slots().ok()?.len())
 }

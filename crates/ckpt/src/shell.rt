@@ -52,8 +52,9 @@ pub struct Asked<'r, 'f, 'c> {
 impl Asked<'_, '_, '_> {
     /// Tells how many slots are free, where a request was refused because too few are.
     fn tell_answer(self, core: &Core, wanted: Option<u64>, answer: &Answer) {
-        if let (Some(wanted), Answer::Reply(Reply::Refused(Refusal::NoSlot))) = (wanted, answer) {
-            let free = free_in(core);
+        if let (Some(wanted), Answer::Reply(Reply::Refused(Refusal::NoSlot))) = (wanted, answer)
+            && let Some(free) = free_in(core)
+        {
             tell_few_slots(self.rt, self.causes, self.folder, FewSlots { free, wanted });
         }
     }

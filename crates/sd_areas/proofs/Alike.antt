@@ -11,7 +11,7 @@ use Rattle.sd_areas.specs.Areas.{PageMap, prot_in, AreMaximal, page_map_of}
 use Rattle.sd_areas.specs.Calls.{AllHave, has_hole}
 use Rattle.sd_areas.specs.Runs.{is_met, is_covering}
 use Rattle.sd_areas.proofs.Maximal.{follows_on, same_prot, inside, below, above, inside_parts, none_before}
-use Rattle.sd_areas.proofs.Unique.{at_head, below_head, behind_differs}
+use Rattle.sd_areas.proofs.Unique.{at_head, below_head, after_differs}
 use Rattle.sd_areas.proofs.PagesOf.{get-pages_of}
 use Rattle.sd_areas.proofs.Holes.{no_hole}
 
@@ -82,7 +82,7 @@ first_covered x xs begin end prot m some all low high =
     let found = all begin (omega arith) some in
     let same : x.prot ≡ prot = cc in
     elim (cases_lt (x.first + x.count) end) [
-      | inl short ↦ absurd (behind_differs x xs m (sym (cond-false _ _ _ (above x.first x.count (x.first + x.count) (omega arith))) ∙ all (x.first + x.count) (omega arith) short ∙ ap Some (sym same)))
+      | inl short ↦ absurd (after_differs x xs m (sym (cond-false _ _ _ (above x.first x.count (x.first + x.count) (omega arith))) ∙ all (x.first + x.count) (omega arith) short ∙ ap Some (sym same)))
       | inr long ↦ covering_from begin end prot x low long same
     ]
 

@@ -15,7 +15,7 @@ use Rattle.sd_areas.proofs.Maximal.{follows_on, below, above, none_before}
 abbrev pub begins_by : ℕ → Area → Bool
 begins_by page area = leb area.first page
 
--- each later area begins behind what stands before
+-- each later area begins after what stands before
 pub later_begins : (before : Option Area) (xs : List Area) (i : ℕ) (d : Area) → AreMaximal before xs → i < length xs → area_end before ≤ (get_or xs i d).first
 later_begins before [] i d m l = absurd (omega arith)
 later_begins before (x ∷ xs) zero d m l = (follows_on before x m.0).behind

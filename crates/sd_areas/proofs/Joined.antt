@@ -10,7 +10,7 @@ use Rattle.sd_areas.specs.Prot.{prot_bits}
 use Rattle.sd_areas.specs.Areas.{prot_in, is_area_after, AreMaximal}
 use Rattle.sd_areas.specs.Runs.{last_after, area_end}
 use Rattle.sd_areas.proofs.Maximal.{follows_on, same_prot, touching, comes_after, first_area, touches_after, above, inside_parts, end_grows, none_before, none_behind}
-use Rattle.sd_areas.proofs.Unique.{at_head, below_head, behind_differs}
+use Rattle.sd_areas.proofs.Unique.{at_head, below_head, after_differs}
 
 -- ---- a list in two parts
 pub parts_are : (before : Option Area) (xs ys : List Area) → AreMaximal before (xs ++ ys) → AreMaximal before xs × AreMaximal (last_after before xs) ys
@@ -33,7 +33,7 @@ pub alone : (before : Option Area) (xs : List Area) → AreMaximal before xs →
 alone before [] m = tt
 alone before (x ∷ xs) m = let f = follows_on before x m.0 in (first_area x f.pages f.within, m.1)
 
--- ---- what stands before and behind
+-- ---- what stands before and after
 abbrev pub EndsBelow : Option Area → ℕ → Type 0
 EndsBelow None page = Unit {0}
 EndsBelow (Some a) page = a.first + a.count < page
@@ -53,7 +53,7 @@ head_fits (Some a) middle y first count m h c w same =
     elim (cases_Bool (is_within first count y.first)) [
       | inl t ↦ comes_after (Some a) y c w (omega (arith, h, inside_parts first count y.first t))
       | inr f ↦ elim (cases_order (a.first + a.count) y.first) [
-        | inl e ↦ touches_after a y c w e (λ bits. behind_differs a middle m
+        | inl e ↦ touches_after a y c w e (λ bits. after_differs a middle m
             (ap (prot_in middle) e ∙ same f ∙ ap Some (sym (same_prot a.prot y.prot bits))))
         | inr (inl l) ↦ comes_after (Some a) y c w l
         | inr (inr g) ↦ (let none = none_before (Some a) middle y.first m g in let there = same f in absurd (cc))
@@ -76,7 +76,7 @@ last_there before y (z ∷ zs) l m e =
       ],
     )
 
--- a page that areas have is far below what stands behind them, or has other permissions
+-- a page that areas have is far below what stands after them, or has other permissions
 back_fits : (before : Option Area) (xs : List Area) (c : Area) (page : ℕ) (prot : Prot) → AreMaximal before xs → IsTrue (is_area_after (last_after before xs) c) → prot_in xs page ≡ Some prot
     → (page + 1 < c.first) ⊎ ((page + 1 ≡ c.first) × (prot_bits prot ≢ prot_bits c.prot))
 back_fits before [] c page prot m h e = absurd (cc)
@@ -104,7 +104,7 @@ back_fits before (x ∷ z ∷ zs) c page prot m h e =
       | inr o ↦ back_fits (Some x) (z ∷ zs) c page prot m.1 h (sym (cond-false _ (Some x.prot) (prot_in (z ∷ zs) page) o) ∙ e)
     ]
 
--- what stands behind follows the last of the new areas
+-- what stands after follows the last of the new areas
 tail_fits : (before : Option Area) (middle new : List Area) (c : Area) (first count : ℕ) → AreMaximal before middle → IsTrue (is_area_after (last_after before middle) c) → EndsBelow before first → first + count < c.first
     → AreMaximal before new → ((page : ℕ) → is_within first count page ≡ false → prot_in new page ≡ prot_in middle page) → IsTrue (is_area_after (last_after before new) c)
 tail_fits None middle [] c first count m h b a n same = let f = follows_on (last_after None middle) c h in first_area c f.pages f.within
@@ -128,18 +128,18 @@ tail_fits before middle (y ∷ ys) c first count m h b a n same =
     last_is y [] = (y, refl)
     last_is y (z ∷ zs) = last_is z zs
 
-new_behind : (before : Option Area) (middle new : List Area) (first count : ℕ) → AreMaximal before middle → EndsBelow before first → AreMaximal None new
+new_after : (before : Option Area) (middle new : List Area) (first count : ℕ) → AreMaximal before middle → EndsBelow before first → AreMaximal None new
     → ((page : ℕ) → is_within first count page ≡ false → prot_in new page ≡ prot_in middle page) → AreMaximal before new
-new_behind before middle [] first count m b n same = tt
-new_behind before middle (y ∷ ys) first count m b n same =
+new_after before middle [] first count m b n same = tt
+new_after before middle (y ∷ ys) first count m b n same =
     let f = follows_on None y n.0 in
     let there = at_head y ys y.first (omega arith) (omega (arith, f.pages)) in
     (head_fits before middle y first count m b f.pages f.within (λ o. sym (same y.first o) ∙ there), n.1)
 
-back_behind : (before : Option Area) (middle new back : List Area) (first count : ℕ) → AreMaximal before middle → AreMaximal (last_after before middle) back → EndsBelow before first → BeginsAbove back (first + count)
+back_after : (before : Option Area) (middle new back : List Area) (first count : ℕ) → AreMaximal before middle → AreMaximal (last_after before middle) back → EndsBelow before first → BeginsAbove back (first + count)
     → AreMaximal before new → ((page : ℕ) → is_within first count page ≡ false → prot_in new page ≡ prot_in middle page) → AreMaximal (last_after before new) back
-back_behind before middle new [] first count m k b a n same = tt
-back_behind before middle new (c ∷ cs) first count m k b a n same = (tail_fits before middle new c first count m k.0 b a n same, k.1)
+back_after before middle new [] first count m k b a n same = tt
+back_after before middle new (c ∷ cs) first count m k b a n same = (tail_fits before middle new c first count m k.0 b a n same, k.1)
 
 -- ---- the whole list
 -- the areas that meet or touch a run of pages, between the others
@@ -157,8 +157,8 @@ replaced_are front middle new back first count around n same =
     let before = last_after None front in
     let parts = parts_are None front (middle ++ back) around.maximal in
     let rest = parts_are before middle back parts.1 in
-    let fits = new_behind before middle new first count rest.0 around.below n same in
-    joined_are None front (new ++ back) parts.0 (joined_are before new back fits (back_behind before middle new back first count rest.0 rest.1 around.below around.above fits same))
+    let fits = new_after before middle new first count rest.0 around.below n same in
+    joined_are None front (new ++ back) parts.0 (joined_are before new back fits (back_after before middle new back first count rest.0 rest.1 around.below around.above fits same))
 
 -- the others have no page of the run
 none_in_front : (front middle back : List Area) (first count page : ℕ) → AreAround front middle back first count → first ≤ page → prot_in front page ≡ None

@@ -32,7 +32,7 @@ follows_on before area h = grind arith
 pub touching : (b area : Area) → IsTrue (is_area_after (Some b) area) → b.first + b.count ≡ area.first → prot_bits b.prot ≢ prot_bits area.prot
 touching b area h e same = grind arith
 
--- behind a gap, or with other permissions
+-- after a gap, or with other permissions
 pub comes_after : (before : Option Area) (area : Area) → 0 < area.count → area.first + area.count ≤ 2 ^ 35 → area_end before < area.first → IsTrue (is_area_after before area)
 comes_after before area c w g = grind arith
 

@@ -81,8 +81,8 @@ built_next all rest left areas new page found h e m ends same =
 pub built_maximal : (all rest : List (ℕ × SnapshotPage)) (areas : List Area) → IsBuilt all rest areas → AreMaximal None areas
 built_maximal all rest areas h = h.maximal
 
-pub built_behind : (all rest left : List (ℕ × SnapshotPage)) (areas : List Area) (page : ℕ) (found : SnapshotPage) → IsBuilt all rest areas → rest ≡ (page, found) ∷ left → end_of_all areas ≤ page
-built_behind all rest left areas page found h e = subst (FirstFrom (end_of_all areas)) e h.behind
+pub built_after : (all rest left : List (ℕ × SnapshotPage)) (areas : List Area) (page : ℕ) (found : SnapshotPage) → IsBuilt all rest areas → rest ≡ (page, found) ∷ left → end_of_all areas ≤ page
+built_after all rest left areas page found h e = subst (FirstFrom (end_of_all areas)) e h.behind
 
 nothing_else : (o : Option Prot) → or_else o None ≡ o
 unfolding or_else

@@ -1,4 +1,4 @@
--- The parts of a list of areas behind others, one area at a time.
+-- The parts of a list of areas after others, one area at a time.
 use Rattle.std.proofs.Common.{◌≡◌, ℕ, ◌+◌, ◌<◌, ◌≤◌, max, Bool, cond, ◌&&◌, List, [], ◌∷◌, ◌++◌, length, take, drop, get_or, Option, Some, None, sym, ap, subst, ◌∙◌, arith}
 use Rattle.std.proofs.lemmas.Bool.{and_parts, cases_Bool, cond-true, cond-false, leb-true}
 use Rattle.std.proofs.lemmas.List.{take_more, take-append-drop}
@@ -39,5 +39,5 @@ parts_step old done new xs i x from to m l e so_far part =
     (parts_next old done new (take i xs) x from to (AreMaximal-take i xs m) (next_follows i xs x m l e) so_far part)
 
 -- where the parts so far end, the next may begin
-pub parts_behind : (old done xs : List Area) (i : ℕ) (x : Area) (from to : ℕ) → AreMaximal None xs → i < length xs → x ≡ get_or xs i x → HasParts old done (take i xs) from to → end_of_all done ≤ max x.first from
-parts_behind old done xs i x from to m l e so_far = grind (arith, next_follows)
+pub parts_after : (old done xs : List Area) (i : ℕ) (x : Area) (from to : ℕ) → AreMaximal None xs → i < length xs → x ≡ get_or xs i x → HasParts old done (take i xs) from to → end_of_all done ≤ max x.first from
+parts_after old done xs i x from to m l e so_far = grind (arith, next_follows)

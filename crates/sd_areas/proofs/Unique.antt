@@ -14,10 +14,10 @@ at_head x xs page l h = cond-true _ _ _ (inside x.first x.count page l h)
 pub below_head : (before : Option Area) (x : Area) (xs : List Area) (page : ℕ) → AreMaximal before (x ∷ xs) → page < x.first → prot_in (x ∷ xs) page ≡ None
 below_head before x xs page m l = cond-false _ _ _ (below x.first x.count page l) ∙ none_before (Some x) xs page m.1 (omega arith)
 
--- the page behind an area has no permissions, or others
-pub behind_differs : (x : Area) (xs : List Area) → AreMaximal (Some x) xs → prot_in xs (x.first + x.count) ≡ Some x.prot → ⊥
-behind_differs x [] m e = cc
-behind_differs x (z ∷ zs) m e =
+-- the page after an area has no permissions, or others
+pub after_differs : (x : Area) (xs : List Area) → AreMaximal (Some x) xs → prot_in xs (x.first + x.count) ≡ Some x.prot → ⊥
+after_differs x [] m e = cc
+after_differs x (z ∷ zs) m e =
     let f = follows_on (Some x) z m.0 in
     elim (cases_lt (x.first + x.count) z.first) [
       | inl l ↦ (let none = below_head (Some x) z zs (x.first + x.count) m l in cc)
@@ -40,7 +40,7 @@ first_not_below before x y xs ys m n is l =
     cc
 
 count_not_below : (before : Option Area) (x y : Area) (xs ys : List Area) → AreMaximal before (x ∷ xs) → AreMaximal before (y ∷ ys) → ((page : ℕ) → prot_in (x ∷ xs) page ≡ prot_in (y ∷ ys) page) → x.first ≡ y.first → x.prot ≡ y.prot → x.count < y.count → ⊥
-count_not_below before x y xs ys m n is e p l = grind (arith, cond-false, above, at_head, behind_differs)
+count_not_below before x y xs ys m n is e p l = grind (arith, cond-false, above, at_head, after_differs)
 
 equal_unless : (a b : ℕ) → (a < b → ⊥) → (b < a → ⊥) → a ≡ b
 equal_unless a b f g = elim (cases_order a b) [ inl e ↦ e | inr (inl l) ↦ absurd (f l) | inr (inr l) ↦ absurd (g l) ]

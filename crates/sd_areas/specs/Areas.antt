@@ -21,7 +21,7 @@ abbrev pub prot_in : List Area → ℕ → Option Prot
 prot_in [] page = None
 prot_in (area ∷ areas) page = if is_within area.first area.count page then Some area.prot else prot_in areas page
 
--- an area begins behind the one before it, or at its end with other permissions
+-- an area begins after the one before it, or at its end with other permissions
 abbrev pub begins_after : Option Area → Area → Bool
 begins_after None area = true
 begins_after (Some before) area = nat_lt (before.first + before.count) area.first

@@ -12,12 +12,12 @@ abbrev pub last_after : Option Area → List Area → Option Area
 last_after before [] = before
 last_after before (area ∷ areas) = last_after (Some area) areas
 
--- the page behind an area
+-- the page after an area
 abbrev pub area_end : Option Area → ℕ
 area_end None = 0
 area_end (Some area) = area.first + area.count
 
--- the page behind the last of the areas
+-- the page after the last of the areas
 abbrev pub end_of_all : List Area → ℕ
 end_of_all areas = area_end (last_after None areas)
 
@@ -34,7 +34,7 @@ abbrev pub is_covering : ℕ → ℕ → Prot → Area → Bool
 is_covering begin end prot area = nat_le area.first begin && nat_le (end - area.first) area.count
     && (prot_bits area.prot == prot_bits prot)
 
--- one more area was put behind the others
+-- one more area was put after the others
 pub record IsExtended (old new : List Area) (area : Area) : Type 0 where
   pub maximal : AreMaximal None new
   pub ends : end_of_all new ≡ area.first + area.count
@@ -48,7 +48,7 @@ pub record IsPart (area : Area) (from to : ℕ) (part : Area) : Type 0 where
   pub pages : 0 < part.count
   pub same : part.prot ≡ area.prot
 
--- that part was put behind the others, if there is one
+-- that part was put after the others, if there is one
 pub record HasPart (old new : List Area) (area : Area) (from to : ℕ) : Type 0 where
   pub maximal : AreMaximal None new
   pub ends : end_of_all new ≤ max (end_of_all old) (min (area.first + area.count) to)
@@ -56,7 +56,7 @@ pub record HasPart (old new : List Area) (area : Area) (from to : ℕ) : Type 0 
       → prot_in new page ≡ (if (nat_le from page && nat_lt page to) && is_within area.first area.count page
       then Some area.prot else prot_in old page)
 
--- the parts of a list of areas from one page up to another were put behind the others
+-- the parts of a list of areas from one page up to another were put after the others
 pub record HasParts (old new source : List Area) (from to : ℕ) : Type 0 where
   pub maximal : AreMaximal None new
   pub ends : end_of_all new ≤ max from (min (end_of_all source) to)

@@ -21,7 +21,7 @@ use std::marker::Model;
 ///
 /// It keeps the maximal runs of pages with equal permissions, at most 1,024 of them.
 /// A call changes them in place: its time grows with the logarithm of the areas, with those that
-/// meet its range, and with one move of those behind it, and not with the pages.
+/// meet its range, and with one move of those after it, and not with the pages.
 #[derive(Clone, Drop)]
 pub struct AreaMap {
     alloc: Global,

@@ -1,5 +1,5 @@
 //! Changes of a list of areas in place. A change reads and replaces the areas that meet a run of
-//! pages or touch it; the areas behind them move as a whole.
+//! pages or touch it; the areas after them move as a whole.
 ghost use Rattle.std.specs.Prelude.{◌≡◌, ◌⊎◌, ◌+◌, ◌<◌, ◌≤◌, ◌^◌, nat_lt, length, Ok, OnOk, OnErr, IfErr};
 ghost use Rattle.std.specs.Prelude.{None, Some};
 ghost use Rattle.std.specs.List.{splice, AllWithin, position};
@@ -22,15 +22,15 @@ fn ends_before(area: &Area, page: u64) -> bool
     area.count < page.saturating_sub(area.first.number())
 }
 
-/// The place of the first of the areas that begins behind a page.
-fn first_behind(areas: &[Area], page: u64) -> Option<usize>
+/// The place of the first of the areas that begins after a page.
+fn first_after(areas: &[Area], page: u64) -> Option<usize>
     ensures { result ≡ position (λ (area : Area). nat_lt page area.first) areas.now }
 {
     areas.iter().position(|area| page < area.first.number())
 }
 
 /// The areas that meet a run of pages or touch it: the place of the first of them in the list, and
-/// the place behind the last. The first is found by binary search, and the others by a walk.
+/// the place after the last. The first is found by binary search, and the others by a walk.
 pub(crate) fn neighbours(areas: &[Area], range: &PageRange) -> (usize, usize)
     requires maximal { AreMaximal None areas.now }
     requires within { range.now.first + range.now.count ≤ 2 ^ 35 }
@@ -44,7 +44,7 @@ pub(crate) fn neighbours(areas: &[Area], range: &PageRange) -> (usize, usize)
     let begin = range.first.number();
     let end = begin + range.count;
     let from = areas.partition_point(|area| ends_before(area, begin));
-    let to = match first_behind(&areas[from..], end) {
+    let to = match first_after(&areas[from..], end) {
         Some(met) => from + met,
         None => areas.len(),
     };

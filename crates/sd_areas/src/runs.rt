@@ -37,7 +37,7 @@ fn longer(area: Area, count: u64) -> Area
     }
 }
 
-/// Puts an area behind the others: as a part of the last, where it continues that one.
+/// Puts an area after the others: as a part of the last, where it continues that one.
 pub(crate) fn push_area(areas: &mut Vec<Area>, area: Area) -> Result<(), AllocError>
     requires maximal { AreMaximal None areas.old.items }
     requires behind { end_of_all areas.old.items ≤ area.first }
@@ -76,7 +76,7 @@ fn part_of(area: &Area, from: u64, to: u64) -> Option<Area>
     })
 }
 
-/// Puts the part of an area from one page up to another behind the others, if there is one.
+/// Puts the part of an area from one page up to another after the others, if there is one.
 fn push_part(areas: &mut Vec<Area>, area: &Area, from: u64, to: u64) -> Result<(), AllocError>
     requires maximal { AreMaximal None areas.old.items }
     requires behind { end_of_all areas.old.items ≤ max area.now.first from }
@@ -89,7 +89,7 @@ fn push_part(areas: &mut Vec<Area>, area: &Area, from: u64, to: u64) -> Result<(
     }
 }
 
-/// Puts the parts of a list of areas behind others: what lies from one page up to another.
+/// Puts the parts of a list of areas after others: what lies from one page up to another.
 pub(crate) fn push_parts(
     areas: &mut Vec<Area>,
     source: &[Area],
@@ -237,7 +237,7 @@ pub(crate) fn has_area(areas: &[Area], area: &Area) -> bool
     any_covers(areas, begin, begin + area.count, area.prot)
 }
 
-/// Puts one page behind the areas.
+/// Puts one page after the areas.
 pub(crate) fn push_page(areas: &mut Vec<Area>, page: PageNo, prot: Prot) -> Result<(), AllocError>
     requires maximal { AreMaximal None areas.old.items }
     requires behind { end_of_all areas.old.items ≤ page }

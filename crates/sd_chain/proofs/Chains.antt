@@ -104,7 +104,7 @@ chain_ends places serial list was = record {
 
 -- ---- following pages
 
--- Pages were followed up to an image of the chain; they come to this where that one doesn't list them. Behind its last image they come to this.
+-- Pages were followed up to an image of the chain; they come to this where that one doesn't list them. After its last image they come to this.
 pub record IsFollowed (places : Places) (serial : ℕ) (chain : List Opened) (space page k count : ℕ) (answer : Trace) : Type 0 where
   pub here : (i : Opened) → slice_get chain k ≡ Some i
       → (start : Opened) × (place_of places serial ≡ Some (Some start)) × ((j : ℕ) → j < count → IsWalked places (space, page + j) start i answer)

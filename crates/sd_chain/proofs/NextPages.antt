@@ -13,7 +13,7 @@ use Rattle.sd_image.specs.declared.run.RunKind.{RunKind}
 use Rattle.sd_image.specs.declared.run.RunKind.TheVariants.{Data, Parent, Zero}
 use Rattle.sd_image.specs.declared.table.SpaceTable.{SpaceTable}
 use Rattle.sd_image.specs.Shows.{pages_of}
-use Rattle.sd_image.specs.Table.{AreRuns, AreSpaces, IsTable, Listed, begins_behind, has_source, listing_of}
+use Rattle.sd_image.specs.Table.{AreRuns, AreSpaces, IsTable, Listed, run_begins_after, has_source, listing_of}
 use Rattle.sd_image.proofs.Members.{contains_cases, contains_front, contains_later}
 use Rattle.sd_chain.specs.declared.way.Way.TheVariants as way
 use Rattle.sd_chain.specs.Passes.{HasPageInRuns, HasSpace, IsBefore, IsBehind, IsFirstPageFrom, IsFrom, IsLeastFrom, IsListed, IsNextOrNone, from_within, start_of}
@@ -31,8 +31,8 @@ is_run : (parent : ℕ) (before : Option Run) (runs : List Run) (k : ℕ) (d : R
     → (0 < (get_or runs k d).count) × ((get_or runs k d).first + (get_or runs k d).count ≤ 2 ^ 35)
 is_run parent before [] k d h l = absurd (omega (arith, l))
 is_run parent before (run ∷ runs) zero d h l =
-    let outer = and_parts (ltb 0 run.count && leb (run.first + run.count) (2 ^ 35) && begins_behind before run) (has_source parent run) h.0 in
-    let middle = and_parts (ltb 0 run.count && leb (run.first + run.count) (2 ^ 35)) (begins_behind before run) outer.0 in
+    let outer = and_parts (ltb 0 run.count && leb (run.first + run.count) (2 ^ 35) && run_begins_after before run) (has_source parent run) h.0 in
+    let middle = and_parts (ltb 0 run.count && leb (run.first + run.count) (2 ^ 35)) (run_begins_after before run) outer.0 in
     let inner = and_parts (ltb 0 run.count) (leb (run.first + run.count) (2 ^ 35)) middle.0 in
     (ltb-true _ _ inner.0, leb-true _ _ inner.1)
 is_run parent before (run ∷ runs) (suc k) d h l = is_run parent (Some run) runs k d h.1 (omega (arith, l))
@@ -136,7 +136,7 @@ from_high number page place small low = elim (cases_lt number place.0) [
     at : number ≡ place.0 → from_within number place ≤ page → place.1 ≤ page
     at same low = grind (arith, nat_tests)
 
--- no page of a space is at a place or behind it
+-- no page of a space is at a place or after it
 abbrev pub IsPassed : ℕ × ℕ → SpaceTable → Type 0
 IsPassed place s = (page : ℕ) → IsFrom place (s.space, page) → HasPageInRuns s.runs.items page → ⊥
 
@@ -166,7 +166,7 @@ pub passed : (h : Header) (items : List SpaceTable) (s : SpaceTable) (place : �
 passed h items s place table c none page from has =
     none page (from_low s.space page place (small_page h.parent s.runs.items page (runs_good h items s table c) has) from) has
 
--- a space behind others has a greater number
+-- a space after others has a greater number
 later_is_above : (h : Header) (before : ℕ) (items : List SpaceTable) (i j : ℕ) (d e : SpaceTable) → AreSpaces h before (map listing_of items) → i < j → j < length items
     → (get_or items i d).space < (get_or items j e).space
 later_is_above h before [] i j d e good less within = absurd (omega (arith, within))
@@ -272,7 +272,7 @@ had_listed items page has =
     (by_kind (map listing_of items) (has.0.space, page.1) has.3.0.kind
     (has_in_run has.3.0.kind (map listing_of items) (listing_of has.0) has.3.0 page.1 (listed_in items has.0 has.1) has.3.1 refl has.3.2))
 
--- from the place behind a page on is behind it
+-- from the place after a page on is after it
 start_on : (after : Option (ℕ × ℕ)) (page : ℕ × ℕ) → IsBehind after page → IsFrom (start_of after) page
 start_on after page behind = grind arith
 

@@ -21,7 +21,7 @@ end_of (Some run) = run.first + run.count
 behind : (parent : ℕ) (before : Option Run) (run : Run) → is_run_after parent before run ≡ true → end_of before ≤ run.first
 behind parent before run e = grind arith
 
--- each run begins behind the ends of those before it
+-- each run begins after the ends of those before it
 later_begins : (parent : ℕ) (before : Option Run) (runs : List Run) (i : ℕ) (d : Run) → AreRuns parent before runs → i < length runs → end_of before ≤ (get_or runs i d).first
 later_begins parent before [] i d h l = absurd (omega arith)
 later_begins parent before (run ∷ runs) zero d h l = behind parent before run h.0
@@ -61,7 +61,7 @@ within_low run page h = (has_both run page h).0
 pub within_high : (run : Run) (page : ℕ) → IsTrue (is_within run.first run.count page) → page < run.first + run.count
 within_high run page h = (has_both run page h).1
 
--- no run has a page that all begin behind
+-- no run has a page that all begin after
 pub none_begins : (page : ℕ) (runs : List Run) (after : ℕ) → IsPoint page runs after → after ≡ 0
     → All (λ run. IsTrue (is_within run.first run.count page) → ⊥) runs
 none_begins page runs after point none = grind arith

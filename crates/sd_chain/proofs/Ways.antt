@@ -153,10 +153,10 @@ pub run_at : (items : List SpaceTable) (index at : ℕ) (s : SpaceTable) (run : 
     → IsAt items index at s run space page
 run_at items index at s run space page got number low within is = grind (arith, slice_get-get_or)
 
--- so it has the pages behind it up to its end
-pub at_behind : (items : List SpaceTable) (index at : ℕ) (s : SpaceTable) (run : Run) (space page k : ℕ) → IsAt items index at s run space page → k < run.count - (page - run.first)
+-- so it has the pages after it up to its end
+pub at_after : (items : List SpaceTable) (index at : ℕ) (s : SpaceTable) (run : Run) (space page k : ℕ) → IsAt items index at s run space page → k < run.count - (page - run.first)
     → IsAt items index at s run space (page + k)
-at_behind items index at s run space page k found less = grind arith
+at_after items index at s run space page k found less = grind arith
 
 pub has_by_run : (kind : RunKind) (items : List SpaceTable) (index at : ℕ) (s : SpaceTable) (run : Run) (space page : ℕ) → IsAt items index at s run space page → run.kind ≡ kind
     → Contains (pages_of kind (map listing_of items)) (space, page)
@@ -198,14 +198,14 @@ pub alike_in_parent : (items : List SpaceTable) (index at : ℕ) (s : SpaceTable
     → AreAlike (map listing_of items) (space, page) way.Parent (left_of run page)
 alike_in_parent items index at s run space page found is = record {
   some = left_some run page found.within;
-  each = λ k less. has_by_run Parent items index at s run space (page + k) (at_behind items index at s run space page k found less) is;
+  each = λ k less. has_by_run Parent items index at s run space (page + k) (at_after items index at s run space page k found less) is;
 }
 
 pub alike_zeros : (items : List SpaceTable) (index at : ℕ) (s : SpaceTable) (run : Run) (space page : ℕ) → IsAt items index at s run space page → run.kind ≡ Zero
     → AreAlike (map listing_of items) (space, page) way.Zero (left_of run page)
 alike_zeros items index at s run space page found is = record {
   some = left_some run page found.within;
-  each = λ k less. has_by_run Zero items index at s run space (page + k) (at_behind items index at s run space page k found less) is;
+  each = λ k less. has_by_run Zero items index at s run space (page + k) (at_after items index at s run space page k found less) is;
 }
 
 pub alike_data : FewPages → (h : Header) (items : List SpaceTable) (index at : ℕ) (s : SpaceTable) (run : Run) (row : List ℕ) (before space page place : ℕ) → IsTable h (map listing_of items)
@@ -215,7 +215,7 @@ alike_data few h items index at s run row before space page place table found is
   some = left_some run page found.within;
   each = λ k less.
       let low = within_low run page found.within in
-      has_data few h items index at s run row before space (page + k) (place + k) table (at_behind items index at s run space page k found less) is counted places
+      has_data few h items index at s run row before space (page + k) (place + k) table (at_after items index at s run space page k found less) is counted places
       (λ fits. omega (arith, sum, fits, low));
 }
 

@@ -1,4 +1,4 @@
--- The chain of an image as a list, and pages that lie alike one behind the other.
+-- The chain of an image as a list, and pages that lie alike one after the other.
 use Rattle.std.specs.Prelude.{◌≡◌, ◌↔◌, ℕ, ◌+◌, ◌*◌, ◌^◌, ◌<◌, ◌≤◌, List, Some, slice_get}
 use Rattle.sd_image.specs.Table.{Listed}
 use Rattle.sd_chain.specs.declared.found.Found.{Found}
@@ -23,7 +23,7 @@ pub record IsTraced (places : Places) (serial : ℕ) (page : ℕ × ℕ) (answer
   pub broken : (slot : ℕ) → (answer ≡ trace.Broken slot) ↔ BreaksBySerial places serial page slot
   pub absent : (answer ≡ trace.Absent) ↔ IsAbsent places serial page
 
--- so many pages behind a place: as many times 4,096 bytes behind it in the same file, or zeros too
+-- so many pages after a place: as many times 4,096 bytes after it in the same file, or zeros too
 abbrev pub found_on : Found → ℕ → Found
 found_on found.Zero k = found.Zero
 found_on (found.Data slot offset) k = found.Data slot (offset + 4096 * k)
@@ -33,19 +33,19 @@ abbrev pub AreBelowLimit : Found → ℕ → Type 0
 AreBelowLimit found.Zero count = Unit {0}
 AreBelowLimit (found.Data slot offset) count = offset + 4096 * count ≤ 2 ^ 52
 
--- what following the page comes to that is so many pages behind one, where they lie alike
+-- what following the page comes to that is so many pages after one, where they lie alike
 abbrev pub trace_on : Trace → ℕ → Trace
 trace_on (trace.Found there) k = trace.Found (found_on there k)
 trace_on (trace.Broken slot) k = trace.Broken slot
 trace_on trace.Absent k = trace.Absent
 
--- the way of the page that is so many pages behind one, where a table has them alike
+-- the way of the page that is so many pages after one, where a table has them alike
 abbrev pub way_on : Way → ℕ → Way
 way_on (way.Data place) k = way.Data (place + k)
 way_on way.Parent k = way.Parent
 way_on way.Zero k = way.Zero
 
--- a table has a page in this way, and as many behind it alike
+-- a table has a page in this way, and as many after it alike
 pub record AreAlike (spaces : List Listed) (page : ℕ × ℕ) (w : Way) (count : ℕ) : Type 0 where
   pub some : 0 < count
   pub each : (k : ℕ) → k < count → HasPage spaces (page.0, page.1 + k) (way_on w k)

@@ -17,17 +17,17 @@ IsListed spaces page = (w : Way) × HasPage spaces page w
 abbrev pub IsBefore : ℕ × ℕ → ℕ × ℕ → Type 0
 IsBefore a b = (a.0 < b.0) ⊎ ((a.0 ≡ b.0) × (a.1 < b.1))
 
--- a page is behind a place, where one is given
+-- a page is after a place, where one is given
 abbrev pub IsBehind : Option (ℕ × ℕ) → ℕ × ℕ → Type 0
 IsBehind after page = MatchOption after (Unit {0}) (λ place. IsBefore place page)
 
--- the first page that a table lists behind a place
+-- the first page that a table lists after a place
 pub record IsNextOf (spaces : List Listed) (after : Option (ℕ × ℕ)) (page : ℕ × ℕ) : Type 0 where
   pub listed : IsListed spaces page
   pub behind : IsBehind after page
   pub first : (other : ℕ × ℕ) → IsListed spaces other → IsBehind after other → IsBefore other page → ⊥
 
--- the first that a table lists behind a place, or it lists none there
+-- the first that a table lists after a place, or it lists none there
 abbrev pub IsNextOrNone : List Listed → Option (ℕ × ℕ) → Option (ℕ × ℕ) → Type 0
 IsNextOrNone spaces after next =
     MatchOption next ((page : ℕ × ℕ) → IsListed spaces page → IsBehind after page → ⊥) (IsNextOf spaces after)
@@ -51,7 +51,7 @@ IsLeastFrom runs from least = MatchOption least
     (λ found. (from ≤ found) × HasPageInRuns runs found
     × ((page : ℕ) → from ≤ page → HasPageInRuns runs page → found ≤ page))
 
--- a page is at a place or behind it
+-- a page is at a place or after it
 abbrev pub IsFrom : ℕ × ℕ → ℕ × ℕ → Type 0
 IsFrom place page = (place.0 < page.0) ⊎ ((place.0 ≡ page.0) × (place.1 ≤ page.1))
 
@@ -66,11 +66,11 @@ IsFirstPageFrom spaces place first = MatchOption first
     (λ found. IsFrom place found × HasSpace spaces found
     × ((page : ℕ × ℕ) → IsFrom place page → HasSpace spaces page → IsBefore page found → ⊥))
 
--- from which number on the pages of a space are at a place or behind it
+-- from which number on the pages of a space are at a place or after it
 abbrev pub from_within : ℕ → ℕ × ℕ → ℕ
 from_within number place = if nat_lt number place.0 then 2 ^ 35 else (if number == place.0 then place.1 else 0)
 
--- from which place on pages are behind a page, or from which on all are
+-- from which place on pages are after a page, or from which on all are
 abbrev pub start_of : Option (ℕ × ℕ) → ℕ × ℕ
 start_of None = (0, 0)
 start_of (Some page) = (page.0, page.1 + 1)

@@ -17,7 +17,7 @@ HasPage spaces page (way.Data place) = slice_get (pages_of Data spaces) place �
 HasPage spaces page way.Parent = Contains (pages_of Parent spaces) page
 HasPage spaces page way.Zero = Contains (pages_of Zero spaces) page
 
--- The chain of an image has a page there: in the image's own file, behind its header and the data pages before it;
+-- The chain of an image has a page there: in the image's own file, after its header and the data pages before it;
 -- nowhere, as it is zeros; or where the chain of the image has it that its parent number names.
 pub data LiesAt (places : Places) (page : ℕ × ℕ) (there : Found) : Opened → Type 0 where
   by_data : (i : Opened) (place : ℕ) → HasPage i.spaces page (way.Data place)

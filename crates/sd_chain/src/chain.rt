@@ -34,7 +34,7 @@ impl<'a> Model for Chain<'a> {
     ghost invariant = { λ c. length c.spots.items ≡ length c.images.items };
 }
 
-/// The byte behind the header and so many data pages of a file.
+/// The byte after the header and so many data pages of a file.
 fn offset_of(place: u64) -> u64
     ensures { 4096 + 4096 * place < 2 ^ 64 → result ≡ 4096 + 4096 * place }
 {
@@ -102,7 +102,7 @@ impl<'a> Chain<'a> {
         Ok(Chain { images, spots })
     }
 
-    /// Where the chain has pages of a space, from one on and at most so many, as far as they lie one behind the other.
+    /// Where the chain has pages of a space, from one on and at most so many, as far as they lie one after the other.
     ///
     /// Where pages rise from call to call it takes a step for each image that it passes, and else one that grows with
     /// the logarithm of the runs.

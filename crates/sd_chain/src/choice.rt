@@ -122,7 +122,7 @@ pub(crate) fn named_of(places: &Places, number: u64) -> Option<&OpenImage>
     named
 }
 
-/// Puts the image of a place behind the others, if it has one.
+/// Puts the image of a place after the others, if it has one.
 fn push_image<'a>(
     list: &mut Vec<&'a OpenImage>,
     place: &'a Option<OpenImage>,

@@ -6,7 +6,7 @@ ghost use Rattle.sd_chain.specs.Passes.{IsNextOrNone};
 ghost use Rattle.sd_chain.specs.Chains.{AreAlike};
 ghost use Rattle.sd_chain.specs.Ways.{HasPage};
 
-use crate::passes::{first_from, place_behind};
+use crate::passes::{first_from, place_after};
 use crate::placed::PlacedTable;
 use crate::spot::Spot;
 use crate::stretch::Stretch;
@@ -73,7 +73,7 @@ impl OpenImage {
         self.table.way(space, page)
     }
 
-    /// How the image has a page and as many behind it as it has alike, looked for first near a spot. None where it
+    /// How the image has a page and as many after it as it has alike, looked for first near a spot. None where it
     /// doesn't list the page.
     pub(crate) fn stretch(&self, space: SpaceId, page: PageNo, near: Spot) -> Option<Stretch>
         ensures some { IfSome result (λ s. 0 < s.count) }
@@ -85,13 +85,13 @@ impl OpenImage {
         self.table.stretch(space, page, near)
     }
 
-    /// The first page that the image lists behind a place, rising by space and page, or its first page where no place
+    /// The first page that the image lists after a place, rising by space and page, or its first page where no place
     /// is given. The time grows with the spaces, and with the logarithm of the runs of each.
     pub fn next_page(&self, after: Option<(SpaceId, PageNo)>) -> Option<(SpaceId, PageNo)>
         ensures { IsTable self.now.header self.now.spaces
             → IsNextOrNone self.now.spaces after result }
     {
-        let (space, page) = place_behind(after);
+        let (space, page) = place_after(after);
         first_from(&self.table.table().spaces, space, page)
     }
 }

@@ -8,12 +8,12 @@ pub fn empty_catalog()
     ensures { EmptyCatalog }
 {}
 
-/// A closed slot behind the others leaves the catalog as it is.
+/// A closed slot after the others leaves the catalog as it is.
 pub fn closed_slot()
     ensures { ClosedSlotAddsNothing }
 {}
 
-/// An open slot behind the others, with a serial that no other has, adds its image: so slots are taken in by
+/// An open slot after the others, with a serial that no other has, adds its image: so slots are taken in by
 /// [`crate::Catalog::add`], one after the other.
 pub fn open_slot()
     ensures { OpenSlotAddsItsImage }

@@ -8,7 +8,7 @@ ghost use Rattle.sd_chain.specs.Passes.{IsFirstPageFrom, IsLeastFrom, from_withi
 use sd_areas::{PAGE_NUMBER_LIMIT, PageNo, SpaceId};
 use sd_image::{Run, SpaceTable};
 
-/// The number behind the last page of a run.
+/// The number after the last page of a run.
 fn end_of(run: &Run) -> u64
     ensures { result ≡ min (run.now.first + run.now.count) (2 ^ 64 - 1) }
 {
@@ -27,7 +27,7 @@ fn page_from(runs: &[Run], from: u64) -> Option<PageNo>
     PageNo::new(first.max(from))
 }
 
-/// From which number on the pages of a space are at a place of a table or behind it.
+/// From which number on the pages of a space are at a place of a table or after it.
 fn from_in(number: u64, space: u64, page: u64) -> u64
     ensures { result ≡ from_within number (space, page) }
 {
@@ -40,8 +40,8 @@ fn from_in(number: u64, space: u64, page: u64) -> u64
     }
 }
 
-/// The number of a space and a page from which on pages are behind this one, or from which on all are.
-pub(crate) fn place_behind(after: Option<(SpaceId, PageNo)>) -> (u64, u64)
+/// The number of a space and a page from which on pages are after this one, or from which on all are.
+pub(crate) fn place_after(after: Option<(SpaceId, PageNo)>) -> (u64, u64)
     ensures { result ≡ start_of after }
 {
     let Some((space, page)) = after else {

@@ -117,7 +117,7 @@ fn is_at(runs: &[Run], at: usize, page: PageNo) -> bool
     at < runs.len() && has_page(&runs[at], page)
 }
 
-/// Which of a space's runs has a page, looked for first at a place and behind it.
+/// Which of a space's runs has a page, looked for first at a place and after it.
 fn run_near(runs: &[Run], near: usize, page: PageNo) -> Option<usize>
     ensures place { IfSome result (λ at. at < length runs.now) }
     ensures run { IfSome result
@@ -174,8 +174,8 @@ impl PlacedTable {
         Some(stretch.way)
     }
 
-    /// How the table has a page of a space and as many behind it as it has alike, or none where it doesn't list the
-    /// page. At a spot or in the run behind it a page is found at once. Else the time grows with the logarithm of the
+    /// How the table has a page of a space and as many after it as it has alike, or none where it doesn't list the
+    /// page. At a spot or in the run after it a page is found at once. Else the time grows with the logarithm of the
     /// space's runs.
     pub(crate) fn stretch(&self, space: SpaceId, page: PageNo, near: Spot) -> Option<Stretch>
         ensures some { IfSome result (λ s. 0 < s.count) }

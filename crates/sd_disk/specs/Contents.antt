@@ -18,7 +18,7 @@ pub record Torn (at n : ℕ) (old new : List ℕ) : Type 0 where
   pub below : (i : ℕ) → i < length old → i < at → slice_index new i ≡ slice_index old i
   pub above : (i : ℕ) → i < length old → at + n ≤ i → slice_index new i ≡ slice_index old i
 
--- what a cut to n bytes may leave, also one that failed: the first n bytes, and behind them any bytes, no longer than
+-- what a cut to n bytes may leave, also one that failed: the first n bytes, and after them any bytes, no longer than
 -- before
 pub record Cut (n : ℕ) (old new : List ℕ) : Type 0 where
   pub no_shorter : min (length old) n ≤ length new

@@ -6,7 +6,7 @@ use Rattle.std.proofs.Math.Nat.{le_refl, le_trans}
 use Rattle.sd_disk.specs.Crash.{Within, Elapses}
 use Rattle.sd_disk.specs.declared.disk.Disk.{Ghosts}
 
--- A crash at any g.moment since old leaves contents that have P.
+-- A crash at any moment since old leaves contents that have P.
 pub record LeavesOnly {D : Type 0} (g : Ghosts D) (old new : D) (P : List (List ℕ) → Type 0) : Type 0 where
   pub later : g.moment old ≤ g.moment new
   pub each : (c : List (List ℕ)) → g.left_since new (g.moment old) c → P c
@@ -35,7 +35,7 @@ module _ {D : Type 0} (g : Ghosts D) where
         (time.nothing_else t c (le_trans since span.later) left);
   }
 
-  -- two spans, one behind the other
+  -- two spans, one after the other
   pub spans_join : (old mid new : D) (P : List (List ℕ) → Type 0) → LeavesOnly g old mid P → LeavesOnly g mid new P
       → LeavesOnly g old new P
   spans_join old mid new P first second = record {

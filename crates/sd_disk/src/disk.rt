@@ -92,7 +92,7 @@ pub trait Disk {
         ensures cause { HasCause (failed self.old) (failed self.new) result };
 
     /// Cuts a slot's file to `len` bytes. A shorter file isn't lengthened: that is an error, counted as a failure.
-    /// On an error any bytes may stand behind the first `len`, up to the old end.
+    /// On an error any bytes may stand after the first `len`, up to the old end.
     fn cut(&mut self, slot: usize, len: usize) -> Result<(), DeviceError>
         requires slot { slot < length (contents self.old) }
         // A cut that would lengthen the file fails.

@@ -6,7 +6,7 @@ use std::io;
 /// Where the system tells the limits of this process.
 const LIMITS: &str = "/proc/self/limits";
 
-/// The line of the limit for files (`RLIMIT_FSIZE`): behind these words come the limit in force and the greatest.
+/// The line of the limit for files (`RLIMIT_FSIZE`): after these words come the limit in force and the greatest.
 const FILE_SIZE: &str = "Max file size";
 
 /// The system's error for a file that would be too long (`EFBIG`).

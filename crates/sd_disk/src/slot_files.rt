@@ -71,12 +71,12 @@ fn id_at(rt: &impl Files, path: &str) -> Option<FileId> {
     look(rt, path).ok().map(|found| FileId::of(&found))
 }
 
-/// What the system tells of a path, behind symbolic links.
+/// What the system tells of a path, following symbolic links.
 fn look(rt: &impl Files, path: &str) -> io::Result<Metadata> {
     uninterrupted(|| fs::metadata(rt, path))
 }
 
-/// Whether a path is that of a folder, behind symbolic links.
+/// Whether a path is that of a folder, following symbolic links.
 fn is_folder(rt: &impl Files, path: &str) -> bool {
     look(rt, path).is_ok_and(|found| found.is_dir())
 }

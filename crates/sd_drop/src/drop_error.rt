@@ -1,3 +1,5 @@
+//! Why an image isn't closed.
+
 use sd_disk::DeviceError;
 use sd_image::Reason;
 use sd_restore::Fault;

@@ -43,16 +43,16 @@ length-pages (page ∷ pages) whole =
     let parts : length (page ++ concat pages) ≡ length page + length (concat pages) = length-append page (concat pages) in
     omega (arith, first, rest, parts, times_suc (length pages))
 
--- an image's text behind its header
-behind_header : (i : Image) → image_text i ≡ header_text i.header ++ (concat i.pages ++ table_text i.spaces)
-behind_header i = append_assoc (header_text i.header) (concat i.pages) (table_text i.spaces)
+-- an image's text after its header
+after_header : (i : Image) → image_text i ≡ header_text i.header ++ (concat i.pages ++ table_text i.spaces)
+after_header i = append_assoc (header_text i.header) (concat i.pages) (table_text i.spaces)
 
 header_read : (file : List ℕ) (i : Image) → IsImage file i → header_in (slice_range file 0 4096) (length file) ≡ Ok i.header
 header_read file i image =
     let long : 4096 ≤ length file = omega (arith, image.header.fills) in
     let whole : length (take 4096 file) ≡ 4096 = length-take-le 4096 file long in
     let front : take 4095 (image_text i) ≡ header_text i.header =
-    ap (take 4095) (behind_header i) ∙ take_at (header_text i.header) (concat i.pages ++ table_text i.spaces) 4095 (header_length i.header image.header.words) in
+    ap (take 4095) (after_header i) ∙ take_at (header_text i.header) (concat i.pages ++ table_text i.spaces) 4095 (header_length i.header image.header.words) in
     let text : drop 1 (take 4096 file) ≡ header_text i.header = ap (λ (bytes : List ℕ). drop 1 (take 4096 bytes)) image.spelled ∙ front in
     header_again (take 4096 file) (length file) i.header whole text image.header
 
@@ -63,7 +63,7 @@ table_place file i image = grind (arith, length-pages, length-append, header_len
 digest_in_file : (file : List ℕ) (i : Image) → HasWords i.header → file ≡ 165 ∷ image_text i → digest_of_file file ≡ sha256 (digested i)
 digest_in_file file i words spelled =
     let rest : List ℕ = concat i.pages ++ table_text i.spaces in
-    let text : file ≡ 165 ∷ (header_text i.header ++ rest) = spelled ∙ ap (λ (xs : List ℕ). 165 ∷ xs) (behind_header i) in
+    let text : file ≡ 165 ∷ (header_text i.header ++ rest) = spelled ∙ ap (λ (xs : List ℕ). 165 ∷ xs) (after_header i) in
     let body : drop 4096 file ≡ rest = ap (drop 4096) text ∙ drop_at (165 ∷ header_text i.header) rest 4096 (ap suc (header_length i.header words)) in
     let front : take 63 (drop 1 file) ≡ header_front i.header = ap (λ (xs : List ℕ). take 63 (drop 1 xs)) text ∙ front_of_file i.header rest in
     ap (λ (xs : List ℕ). sha256 (xs ++ take 63 (drop 1 file))) body ∙ ap (λ (xs : List ℕ). sha256 (rest ++ xs)) front

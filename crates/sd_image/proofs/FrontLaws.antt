@@ -54,7 +54,7 @@ then_on read next more first second = record {
   ];
 }
 
--- a value that doesn't depend on the bytes behind it
+-- a value that doesn't depend on the bytes after it
 value_on : {X : Type 0} (value : Result X Reason) (more : List ℕ) → ReadsOn (λ rest. value >>= λ x. Ok (x, rest)) more
 value_on (Ok x) more = record { reads = λ bytes y e. cc; breaks = λ bytes r e known. absurd cc }
 value_on (Err q) more = record { reads = λ bytes y e. absurd cc; breaks = λ bytes r e known. cc }

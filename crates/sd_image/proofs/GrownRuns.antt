@@ -74,7 +74,7 @@ ways_single : (page : ℕ) (kind : RunKind) → run_ways (record { first = page;
 unfolding pages_from
 ways_single page kind = refl
 
--- a page that goes on is the one behind the run
+-- a page that goes on is the one after the run
 pub ends_at : (run : Run) (page : ℕ) (kind : RunKind) → is_continued run page kind ≡ true → run.first + run.count ≡ page
 ends_at run page kind goes_on =
     eqb-true (run.first + run.count) page (and_parts (nat_eq (run_kind_number run.kind) (run_kind_number kind)) (nat_eq (run.first + run.count) page) goes_on).1
@@ -98,7 +98,7 @@ longer_runs parent pages front last page kind are within goes_on =
 abbrev BeginsRun : ℕ → List Run → ℕ → RunKind → Type 0
 BeginsRun parent runs page kind = IsTrue (is_run_after parent (last_of None runs) (record { first = page; count = 1; kind = kind }))
 
--- a run of one page behind the others
+-- a run of one page after the others
 pub more_runs : (parent : ℕ) (pages : List PageWay) (runs : List Run) (page : ℕ) (kind : RunKind)
     → AreRunsOf parent pages runs → BeginsRun parent runs page kind
     → AreRunsOf parent (pages ++ (page, kind) ∷ []) (runs ++ (record { first = page; count = 1; kind = kind }) ∷ [])
@@ -111,9 +111,9 @@ more_runs parent pages runs page kind are begins = record {
 pub begins_first : (parent page : ℕ) (kind : RunKind) → page < 2 ^ 35 → IsSourced parent kind → BeginsRun parent [] page kind
 begins_first parent page kind within sourced = grind arith
 
-pub begins_behind_last : (parent : ℕ) (front : List Run) (last : Run) (page : ℕ) (kind : RunKind) → last.first + last.count ≤ page → page < 2 ^ 35
+pub run_begins_after_last : (parent : ℕ) (front : List Run) (last : Run) (page : ℕ) (kind : RunKind) → last.first + last.count ≤ page → page < 2 ^ 35
     → is_continued last page kind ≡ false → IsSourced parent kind → BeginsRun parent (front ++ last ∷ []) page kind
-begins_behind_last parent front last page kind behind within other sourced = grind (arith, last_of-snoc, single_after)
+run_begins_after_last parent front last page kind behind within other sourced = grind (arith, last_of-snoc, single_after)
 
 -- ---- the pages of runs
 

@@ -34,7 +34,7 @@ pub area_item : (before : Option Area) (item : List ℕ) → area_holds before i
 unfolding area_holds
 area_item before item e = let parts = and_parts (leb (number_at 4 16 item) 7) _ e in record { prot = leb-true _ _ parts.0; after = parts.1 }
 
--- what holds of an area behind another
+-- what holds of an area after another
 pub record IsRange (first count : ℕ) : Type 0 where
   pub some : 0 < count
   pub inside : first + count ≤ 2 ^ 35

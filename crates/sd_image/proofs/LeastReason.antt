@@ -121,13 +121,13 @@ rules_of_header bytes len =
 fails_so : (kept : Result (Unit {0}) Reason) (h : Header) (r : Reason) → (kept >>= λ _. Ok h) ≡ Err r → kept ≡ Err r
 fails_so kept h r e = grind arith
 
-behind_header : (bytes : List ℕ) (len : ℕ) (q : Reason) → 10 ≤ reason_number q → breaks_header bytes len q ≡ false
-behind_header bytes len q past = grind arith
+after_header : (bytes : List ℕ) (len : ℕ) (q : Reason) → 10 ≤ reason_number q → breaks_header bytes len q ≡ false
+after_header bytes len q past = grind arith
 
 pub least_header_reason_lem : LeastHeaderReason
 least_header_reason_lem bytes len r = (
   λ e. broken_is_least (breaks_header bytes len) 1 (of_bytes ++ of_fields) r in_order (λ q less. none_is_zero q less)
       (fails_so (rules_kept (breaks_header bytes len) (of_bytes ++ of_fields)) (header_of bytes) r (sym (rules_of_header bytes len) ∙ e)),
   λ least. rules_of_header bytes len ∙ rw (least_is_broken (breaks_header bytes len) 1 (of_bytes ++ of_fields) r in_order
-      (elim (cases_lt (reason_number r) 1) [ inl none ↦ none_is_zero r none | inr some ↦ some ]) (behind_header bytes len) least) refl,
+      (elim (cases_lt (reason_number r) 1) [ inl none ↦ none_is_zero r none | inr some ↦ some ]) (after_header bytes len) least) refl,
 )

@@ -6,7 +6,7 @@ use Rattle.sd_image.specs.declared.reason.Reason.{Reason}
 use Rattle.sd_image.specs.Reading.{◌>>=◌, many}
 use Rattle.sd_image.proofs.Steps.{IsBytes, bind_ok, ok_is, Takes, Takes-then}
 
--- each is good behind what came before it
+-- each is good after what came before it
 abbrev pub AllFrom : {X S : Type 0} → (S → X → Type 0) → (X → S) → S → List X → Type 0
 AllFrom Good after state [] = Unit {0}
 AllFrom Good after state (x ∷ xs) = Good state x × AllFrom Good after (after x) xs

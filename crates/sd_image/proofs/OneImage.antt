@@ -23,7 +23,7 @@ fronts_once (x ∷ a) (y ∷ b) s t n e =
     (cc, found.1)
 fronts_once _ _ s t n e = absurd (omega arith)
 
--- equally many pages, each of so many bytes, and what stands behind them
+-- equally many pages, each of so many bytes, and what stands after them
 pages_once : (n : ℕ) (ps qs : List (List ℕ)) (s t : List ℕ) → AllByRecursion (λ page. length page ≡ n) ps → AllByRecursion (λ page. length page ≡ n) qs
     → length ps ≡ length qs → concat ps ++ s ≡ concat qs ++ t → (ps ≡ qs) × (s ≡ t)
 pages_once n [] [] s t a b m e = (refl, e)
@@ -78,7 +78,7 @@ image_of_file (file ∷ files) images i (inr a) among =
       | inr c ↦ image_of_file files a.1 i a.5 c
     ]
 
--- no image behind has the serial of one that differs from all of theirs
+-- no image after has the serial of one that differs from all of theirs
 pub not_behind : (n : ℕ) (images : List Image) (i : Image) → AllByRecursion (λ k. nat_eq n k ≡ false) (map (λ (j : Image). j.header.serial) images) → Contains images i
     → n ≡ i.header.serial → ⊥
 not_behind n [] i differ among e = omega (arith, among.1)

@@ -5,7 +5,7 @@ use Rattle.sd_image.proofs.ItemLaws.{same_run}
 use Rattle.sd_areas.specs.Pages.{is_within}
 use Rattle.sd_image.specs.declared.run.Run.{Run}
 use Rattle.sd_image.specs.declared.run.RunKind.{RunKind}
-use Rattle.sd_image.specs.Table.{begins_behind, is_run_after, AreRuns}
+use Rattle.sd_image.specs.Table.{run_begins_after, is_run_after, AreRuns}
 use Rattle.sd_image.specs.Laws.{kind_in, OneListOfRuns}
 use Rattle.sd_image.proofs.Items.{run_range}
 
@@ -23,14 +23,14 @@ above first count page high = and_right (leb first page) (ltb page (first + coun
 within_end : (first count page : ℕ) → is_within first count page ≡ true → page < first + count
 within_end first count page e = ltb-true _ _ (and_parts (leb first page) (ltb page (first + count)) e).1
 
--- ---- a run behind another
+-- ---- a run after another
 
 end_of : Option Run → ℕ
 end_of None = 0
 end_of (Some run) = run.first + run.count
 
-behind_of : (parent : ℕ) (before : Option Run) (run : Run) → is_run_after parent before run ≡ true → begins_behind before run ≡ true
-behind_of parent before run e = grind arith
+after_of : (parent : ℕ) (before : Option Run) (run : Run) → is_run_after parent before run ≡ true → run_begins_after before run ≡ true
+after_of parent before run e = grind arith
 
 begins_from : (parent : ℕ) (before : Option Run) (run : Run) → is_run_after parent before run ≡ true → end_of before ≤ run.first
 unfolding end_of
@@ -62,11 +62,11 @@ some_kind a b e = cc
 none_some : (a : RunKind) → None ≡ Some a → ⊥
 none_some a e = cc
 
--- the page behind a run is in none, or in one of another kind
-behind_differs : (parent : ℕ) (x : Run) (xs : List Run) → AreRuns parent (Some x) xs → kind_in xs (x.first + x.count) ≡ Some x.kind → ⊥
+-- the page after a run is in none, or in one of another kind
+after_differs : (parent : ℕ) (x : Run) (xs : List Run) → AreRuns parent (Some x) xs → kind_in xs (x.first + x.count) ≡ Some x.kind → ⊥
 unfolding end_of
-behind_differs parent x [] m e = none_some x.kind e
-behind_differs parent x (z ∷ zs) m e =
+after_differs parent x [] m e = none_some x.kind e
+after_differs parent x (z ∷ zs) m e =
     let from = begins_from parent (Some x) z m.0 in
     let range = run_range parent (Some x) z m.0 in
     elim (cases_lt (x.first + x.count) z.first) [
@@ -93,7 +93,7 @@ module _ (parent : ℕ) where
   count_not_below : (before : Option Run) (x y : Run) (xs ys : List Run) → AreRuns parent before (x ∷ xs) → AreRuns parent before (y ∷ ys) → Alike (x ∷ xs) (y ∷ ys)
       → x.first ≡ y.first → x.kind ≡ y.kind → x.count < y.count → ⊥
   unfolding Alike
-  count_not_below before x y xs ys m n alike first kind low = grind (arith, cond-false, above, at_head, behind_differs)
+  count_not_below before x y xs ys m n alike first kind low = grind (arith, cond-false, above, at_head, after_differs)
 
   equal_unless : (a b : ℕ) → (a < b → ⊥) → (b < a → ⊥) → a ≡ b
   equal_unless a b f g = elim (cases_order a b) [ inl e ↦ e | inr (inl l) ↦ absurd (f l) | inr (inr l) ↦ absurd (g l) ]

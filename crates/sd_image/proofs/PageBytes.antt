@@ -59,8 +59,8 @@ page_cut (first ∷ pages) rest (suc place) page whole there =
     ∙ ap (λ xs. take 4096 (drop (4096 * place) xs)) (ap (drop 4096) (append_assoc first (concat pages) rest) ∙ drop_at first (concat pages ++ rest) 4096 whole.0)
     ∙ page_cut pages rest place page whole.1 there
 
-behind_header : (file : List ℕ) (i : Image) → IsImage file i → drop 4096 file ≡ concat i.pages ++ table_text i.spaces
-behind_header file i image =
+after_header : (file : List ℕ) (i : Image) → IsImage file i → drop 4096 file ≡ concat i.pages ++ table_text i.spaces
+after_header file i image =
     let front : List ℕ = 165 ∷ header_text i.header in
     let text : image_text i ≡ header_text i.header ++ (concat i.pages ++ table_text i.spaces) = append_assoc (header_text i.header) (concat i.pages) (table_text i.spaces) in
     ap (drop 4096) (image.spelled ∙ ap (λ xs. 165 ∷ xs) text)
@@ -78,6 +78,6 @@ page_in_file_lem file i page place image there =
     let one : at + 4096 - at ≡ 4096 = omega arith in
     let cut : slice_range file at (at + 4096) ≡ bytes =
     ap (λ n. take n (drop at file)) one
-    ∙ ap (take 4096) (sym (drop-drop (4096 * place) 4096 file) ∙ ap (drop (4096 * place)) (behind_header file i image))
+    ∙ ap (take 4096) (sym (drop-drop (4096 * place) 4096 file) ∙ ap (drop (4096 * place)) (after_header file i image))
     ∙ page_cut i.pages (table_text i.spaces) place bytes image.whole there in
     (room, there ∙ ap Some (sym cut))

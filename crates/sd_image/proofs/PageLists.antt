@@ -18,7 +18,7 @@ none_left first (suc count) areas = rw (ne_eqb (suc count) 0 (λ e. omega arith)
 none_left first zero [] = refl
 none_left first zero (area ∷ areas) = none_left area.first area.count areas
 
--- n pages, and those behind them
+-- n pages, and those after them
 pub pages_split : (first n m : ℕ) → pages_from first (n + m) ≡ pages_from first n ++ pages_from (first + n) m
 unfolding pages_from
 pages_split first zero m = let a : zero + m ≡ m = omega arith in let b : first + zero ≡ first = omega arith in rw (a, b) refl
@@ -27,7 +27,7 @@ pages_split first (suc n) m =
     let b : first + suc n ≡ suc first + n = omega arith in
     rw (a, b) (ap (λ (x : List ℕ). first ∷ x) (pages_split (suc first) n m))
 
--- How far the pages of a run were met: `met` of them are behind, and the same of the areas' pages.
+-- How far the pages of a run were met: `met` of them are after, and the same of the areas' pages.
 pub record IsMet (all run left wanted : List ℕ) : Type 0 where
   pub met : List ℕ
   pub of_areas : all ≡ met ++ left
@@ -55,7 +55,7 @@ pub next_area : (all run wanted : List ℕ) (page count next_page : ℕ) (area :
 unfolding pages_from
 next_area all run wanted page count next_page area areas rest none parts np h = grind arith
 
--- the run's pages are met, and those of the areas that are left are behind them
+-- the run's pages are met, and those of the areas that are left are after them
 pub all_met : (all run left : List ℕ) (first wanted : ℕ) → wanted ≡ 0 → IsMet all run left (pages_from first wanted) → all ≡ run ++ left
 unfolding pages_from
 all_met all run left first wanted none h = grind (arith, append-nil)
@@ -88,7 +88,7 @@ left_over (x ∷ xs) ys = rw (eq-eqb x x refl) (left_over xs ys)
 pub compares_rest : (all left : List ℕ) (runs : List Run) (i : ℕ) → length runs ≤ i → all ≡ flat_map run_pages (take i runs) ++ left → pages_eq left [] ≡ pages_eq all (flat_map run_pages runs)
 compares_rest all left runs i past e = grind (arith, take_all, left_over)
 
--- the pages of the runs up to a place, those of the run there, and those behind
+-- the pages of the runs up to a place, those of the run there, and those after
 runs_split : (runs : List Run) (i : ℕ) (d : Run) → i < length runs → flat_map run_pages runs ≡ flat_map run_pages (take i runs) ++ (run_pages (get_or runs i d) ++ flat_map run_pages (drop (i + 1) runs))
 runs_split runs i d lt =
     let parts : runs ≡ take i runs ++ (get_or runs i d ∷ drop (i + 1) runs) = sym (take-append-drop i runs) ∙ ap (λ (rs : List Run). take i runs ++ rs) (drop_more runs i d lt) in

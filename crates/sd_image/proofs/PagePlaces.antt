@@ -94,7 +94,7 @@ where_true b low high xs h = grind (arith, rises_within)
 places_rise : (kind : RunKind) (space : ℕ) (r : Run) → Rises (key (space, r.first)) (places kind space r) (key (space, r.first + r.count))
 places_rise kind space r = where_true (eqb (run_kind_number r.kind) (run_kind_number kind)) _ _ _ (from_rise space r.first r.count)
 
--- the runs behind one, up to the end of their space
+-- the runs after one, up to the end of their space
 runs_rise : (kind : RunKind) (parent space : ℕ) (before : Run) (runs : List Run) → before.first + before.count ≤ 2 ^ 35 → AreRuns parent (Some before) runs
     → Rises (key (space, before.first + before.count)) (flat_map (places kind space) runs) (key (suc space, 0))
 runs_rise kind parent space before [] inside h = omega arith
@@ -148,7 +148,7 @@ test_holds b xs x c = grind arith
 has_kind : (kind : RunKind) (space : ℕ) (r : Run) (x : ℕ × ℕ) → Contains (places kind space r) x → run_kind_number r.kind ≡ run_kind_number kind
 has_kind kind space r x c = eqb-true (run_kind_number r.kind) (run_kind_number kind) (test_holds _ _ x c)
 
--- of these two lists, one goes on behind the other
+-- of these two lists, one goes on after the other
 apart : (low middle high : ℕ) (xs ys : List (ℕ × ℕ)) (x : ℕ × ℕ) → Rises low xs middle → Rises middle ys high → Contains xs x → Contains ys x → ⊥
 apart low middle high xs ys x a b c d =
     let under = element_high low middle xs x a c in

@@ -13,7 +13,7 @@ use Rattle.sd_image.specs.declared.reason.Reason.TheVariants as reason
 use Rattle.sd_image.specs.declared.run.Run.{Run}
 use Rattle.sd_image.specs.declared.space_head.SpaceHead.{SpaceHead}
 use Rattle.sd_image.specs.Words.{number_bytes}
-use Rattle.sd_image.specs.Table.{Listed, area_text, run_text, space_text, begins_behind, is_run_after, AreRuns, Covers, IsSpace, AreSpaces}
+use Rattle.sd_image.specs.Table.{Listed, area_text, run_text, space_text, run_begins_after, is_run_after, AreRuns, Covers, IsSpace, AreSpaces}
 use Rattle.sd_image.specs.Reading.{◌>>=◌, number_at, item_at, many, area_at, run_at, area_limit, space_head_of, space_head_at, covers, space_at}
 use Rattle.sd_image.proofs.Steps.{IsBytes, bind_ok, guard_ok, guard_ends, ok_is, Takes, Takes-then, piece}
 use Rattle.sd_image.proofs.Numbers.{bytes_4, bytes_8}
@@ -21,7 +21,7 @@ use Rattle.sd_image.proofs.Items.{run_range}
 use Rattle.sd_image.proofs.ManyLaws.{AllFrom, many_take, many_again}
 use Rattle.sd_image.proofs.ItemLaws.{item_takes, item_again, area_takes, area_again, run_takes, run_again}
 
--- ---- lists of areas, of runs and of spaces, each good behind the one before
+-- ---- lists of areas, of runs and of spaces, each good after the one before
 
 abbrev GoodArea : Option Area → Area → Type 0
 GoodArea before area = is_area_after before area ≡ true
@@ -124,7 +124,7 @@ limit_kept kind areas runs few h = grind arith
 
 -- ---- a space has fewer runs than pages
 
-pub begins_end : (before run : Run) → begins_behind (Some before) run ≡ true → before.first + before.count ≤ run.first
+pub begins_end : (before run : Run) → run_begins_after (Some before) run ≡ true → before.first + before.count ≤ run.first
 begins_end before run e = grind arith
 
 pub run_begins : (parent : ℕ) (before run : Run) → is_run_after parent (Some before) run ≡ true → before.first + before.count ≤ run.first

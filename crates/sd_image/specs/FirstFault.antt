@@ -53,7 +53,7 @@ run_rules parent before bytes =
     ∷ (reason.Zero, not (number_at 4 20 (take 24 bytes) == 0))
     ∷ []
 
--- Of n items one behind the other, the next to be read begins at this place, behind what came before it: all before it
+-- Of n items one after the other, the next to be read begins at this place, after what came before it: all before it
 -- are good.
 pub data ReadsUpTo {X S : Type 0} (read : S → List ℕ → Result (X × List ℕ) Reason) (after : X → S) (next : S)
     (place : List ℕ) : ℕ → S → List ℕ → Type 0 where
@@ -61,7 +61,7 @@ pub data ReadsUpTo {X S : Type 0} (read : S → List ℕ → Result (X × List �
   later : (n : ℕ) (state : S) (bytes : List ℕ) (x : X) (rest : List ℕ) → read state bytes ≡ Ok (x, rest)
       → ReadsUpTo read after next place n (after x) rest → ReadsUpTo read after next place (suc n) state bytes
 
--- where a space is at fault, behind the space with the number before
+-- where a space is at fault, after the space with the number before
 pub data IsSpaceFault (h : Header) (before : ℕ) (bytes : List ℕ) (r : Reason) : Type 0 where
   space_head_breaks : IsLeast (applies (space_head_rules h.kind before bytes)) r → IsSpaceFault h before bytes r
   area_breaks : (head : SpaceHead) (rest : List ℕ) (previous : Option Area) (place : List ℕ)

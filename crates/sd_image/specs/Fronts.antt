@@ -7,7 +7,7 @@ use Rattle.sd_image.specs.Reading.{table_in}
 use Rattle.sd_image.specs.Table.{Listed}
 
 -- Why nothing that begins so and is longer is a table, by how the front reads: a rule that breaks in it breaks there
--- too, and behind a whole table bytes remain. Where an item goes past its end, nothing is known.
+-- too, and after a whole table bytes remain. Where an item goes past its end, nothing is known.
 abbrev pub front_fault : Result (List Listed) Reason → Option Reason
 front_fault (Ok spaces) = Some Total
 front_fault (Err PastEnd) = None

@@ -18,7 +18,7 @@ pub record Image : Type 0 where
   pub pages : List (List ℕ)  -- the data pages
   pub spaces : List Listed
 
--- what stands behind the gate
+-- what stands after the gate
 abbrev pub image_text : Image → List ℕ
 image_text i = header_text i.header ++ concat i.pages ++ table_text i.spaces
 
@@ -39,7 +39,7 @@ pub record IsImage (file : List ℕ) (i : Image) : Type 0 where
   pub whole : AllByRecursion (λ page. length page ≡ 4096) i.pages
   pub digest : HasItsDigest i
 
--- a slot is open where it has a header behind an open gate
+-- a slot is open where it has a header after an open gate
 abbrev pub is_open : List ℕ → Bool
 is_open file = nat_le 4096 (length file) && slice_index file 0 == gate
 

@@ -115,7 +115,7 @@ pub record IsComplete (i : Image) : Type 0 where
   pub table_len : i.header.table_len ≡ length (table_text i.spaces)
   pub digest : HasItsDigest i
 
--- The text of a complete image, behind an open gate, is an open file, and is that image.
+-- The text of a complete image, after an open gate, is an open file, and is that image.
 abbrev pub TextIsImage : Type 0
 TextIsImage = (i : Image) → IsComplete i → IsImage (gate ∷ image_text i) i × (is_open (gate ∷ image_text i) ≡ true)
 
@@ -125,7 +125,7 @@ HeaderFillsFile = (bytes : List ℕ) (len : ℕ) (h : Header) → length bytes �
     → header_in bytes len ≡ Ok h
     → (drop 1 bytes ≡ header_text h) × IsHeader h len
 
--- A data page stands in its image's file behind the header and the data pages before it.
+-- A data page stands in its image's file after the header and the data pages before it.
 abbrev pub PageInFile : Type 0
 PageInFile = (file : List ℕ) (i : Image) (page : ℕ × ℕ) (place : ℕ) → IsImage file i
     → slice_get (pages_of Data i.spaces) place ≡ Some page
@@ -183,14 +183,14 @@ ReadyAgain = (contents : List (List ℕ)) (n slot : ℕ) (file : List ℕ) (i : 
     → IsImage file i → i.header.serial ≡ n → i.header.checkpoint ≡ n
     → IsReady (slice_set contents slot file) (n + 1)
 
--- What is written behind a closed gate leaves a store as ready as it was.
+-- What is written after a closed gate leaves a store as ready as it was.
 abbrev pub ReadyStill : Type 0
 ReadyStill = (contents : List (List ℕ)) (n slot : ℕ) (file : List ℕ)
     → IsReady contents n → slot < length contents → is_open (slice_index_or contents slot []) ≡ false
     → is_open file ≡ false
     → IsReady (slice_set contents slot file) n
 
--- What is written behind a closed gate leaves what contents show.
+-- What is written after a closed gate leaves what contents show.
 abbrev pub ShownStill : Type 0
 ShownStill = (contents : List (List ℕ)) (shown : Option (ℕ × PlainMemory)) (slot : ℕ) (file : List ℕ)
     → Shows contents shown → slot < length contents → is_open (slice_index_or contents slot []) ≡ false

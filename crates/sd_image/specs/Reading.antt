@@ -171,7 +171,7 @@ unfoldable pub area_of : List ℕ → Area
 area_of item =
     record { first = number_at 8 0 item; count = number_at 8 8 item; prot = prot_of_number (number_at 4 16 item) }
 
--- whether an item is an area that may stand behind the one before
+-- whether an item is an area that may stand after the one before
 unfoldable pub area_holds : Option Area → List ℕ → Bool
 area_holds before item = nat_le (number_at 4 16 item) 7 && is_area_after before (area_of item)
 
@@ -191,7 +191,7 @@ unfoldable pub run_of : List ℕ → Run
 run_of item =
     record { first = number_at 8 0 item; count = number_at 8 8 item; kind = run_kind_of (number_at 4 16 item) }
 
--- whether an item is a run that may stand behind the one before
+-- whether an item is a run that may stand after the one before
 unfoldable pub run_holds : ℕ → Option Run → List ℕ → Bool
 run_holds parent before item =
     nat_le 1 (number_at 4 16 item) && nat_le (number_at 4 16 item) 3 && is_run_after parent before (run_of item)
@@ -250,7 +250,7 @@ table_in h bytes = do
   spaces ← many (space_at h) (λ s. s.space) head.0 0 head.1
   if ends_rightly h spaces.0 spaces.1 then Ok spaces.0 else Err reason.Total
 
--- the digest of a file: of all that stands behind the header, and of bytes 1 to 63
+-- the digest of a file: of all that stands after the header, and of bytes 1 to 63
 abbrev pub digest_of_file : List ℕ → List ℕ
 digest_of_file file = sha256 (drop 4096 file ++ slice_range file 1 64)
 

@@ -9,7 +9,7 @@ use Rattle.sd_image.specs.Table.{Listed, table_text, IsTable}
 use Rattle.sd_image.specs.Image.{Image, IsImage, OpenImages, is_open}
 use Rattle.sd_image.specs.Reading.{form_of, fields_of, breaks_bytes, breaks_fields, header_in, table_in, file_in}
 
--- A header is read as itself: no reason is found in its text, behind any gate.
+-- A header is read as itself: no reason is found in its text, after any gate.
 abbrev pub GoodHeaderHasNoReason : Type 0
 GoodHeaderHasNoReason = (bytes : List ℕ) (len : ℕ) (h : Header)
     → length bytes ≡ 4096 → drop 1 bytes ≡ header_text h → IsHeader h len → header_in bytes len ≡ Ok h

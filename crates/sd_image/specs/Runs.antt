@@ -30,7 +30,7 @@ pub record AreRunsOf (parent : ℕ) (pages : List PageWay) (runs : List Run) : T
 abbrev pub IsSourced : ℕ → RunKind → Type 0
 IsSourced parent kind = kind ≡ Parent → 0 < parent
 
--- behind the last page of the last run
+-- after the last page of the last run
 abbrev pub end_of : List Run → ℕ
 end_of [] = 0
 end_of (run ∷ []) = run.first + run.count

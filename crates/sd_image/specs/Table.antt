@@ -49,20 +49,20 @@ table_text spaces = concat (number_bytes 4 (length spaces) ∷ zero_bytes 4 ∷ 
 
 -- What it has to be.
 
--- a run begins behind the one before it, or at its end as another kind
-abbrev pub begins_behind : Option Run → Run → Bool
-begins_behind None run = true
-begins_behind (Some before) run = nat_lt (before.first + before.count) run.first
+-- a run begins after the one before it, or at its end as another kind
+abbrev pub run_begins_after : Option Run → Run → Bool
+run_begins_after None run = true
+run_begins_after (Some before) run = nat_lt (before.first + before.count) run.first
     || (before.first + before.count == run.first && not (run_kind_number before.kind == run_kind_number run.kind))
 
 -- a parent's run needs a parent
 abbrev pub has_source : ℕ → Run → Bool
 has_source parent run = not (run_kind_number run.kind == 2) || nat_lt 0 parent
 
--- it has pages, all of them in the space, begins behind the one before, and its bytes are somewhere
+-- it has pages, all of them in the space, begins after the one before, and its bytes are somewhere
 abbrev pub is_run_after : ℕ → Option Run → Run → Bool
 is_run_after parent before run =
-    nat_lt 0 run.count && nat_le (run.first + run.count) (2 ^ 35) && begins_behind before run && has_source parent run
+    nat_lt 0 run.count && nat_le (run.first + run.count) (2 ^ 35) && run_begins_after before run && has_source parent run
 
 -- a list of runs, rising and maximal
 abbrev pub AreRuns : ℕ → Option Run → List Run → Type 0

@@ -10,7 +10,7 @@ ghost use Rattle.sd_image.specs.Reading.{pages_eq};
 use crate::run::Run;
 use sd_areas::Area;
 
-/// The pages of areas that no run had yet: what is left of one, and those behind it.
+/// The pages of areas that no run had yet: what is left of one, and those after it.
 #[derive(Clone, Copy)]
 pub(crate) struct PagesLeft<'a> {
     pub(crate) first: u128,
@@ -18,7 +18,7 @@ pub(crate) struct PagesLeft<'a> {
     pub(crate) areas: &'a [Area],
 }
 
-/// What is left behind the pages of a run, or none where they are not the next ones.
+/// What is left after the pages of a run, or none where they are not the next ones.
 fn behind<'a>(left: PagesLeft<'a>, run: &Run) -> Option<PagesLeft<'a>>
     requires { left.first + left.count < 2 ^ 65 }
     ensures fits { IfSome result (λ rest. rest.first + rest.count < 2 ^ 65) }

@@ -54,7 +54,7 @@ impl Digester {
         self.feed(page);
     }
 
-    /// Takes the table, behind the last data page.
+    /// Takes the table, after the last data page.
     pub fn table(&mut self, table: &[u8])
         ensures { (fed : List ℕ) → HasFed self.old fed → HasFed self.new (fed ++ table.now) }
     {

@@ -71,9 +71,9 @@ pub struct Header {
     pub parent: u64,
     /// The number of its checkpoint, from 1.
     pub checkpoint: u64,
-    /// How many data pages stand behind the header.
+    /// How many data pages stand after the header.
     pub pages: u64,
-    /// The length of the table behind them, in bytes.
+    /// The length of the table after them, in bytes.
     pub table_len: u64,
     /// In version 2 the SHA-256 of the data pages in file order, the table, and bytes 1 to 63; in version 1 zeros.
     pub digest: [u8; 32],

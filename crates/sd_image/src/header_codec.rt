@@ -40,7 +40,7 @@ fn kind_with(number: u16) -> Option<Kind>
     }
 }
 
-/// Writes a field at its place in the bytes behind the gate.
+/// Writes a field at its place in the bytes after the gate.
 fn put(text: &mut [u8; 4095], place: usize, field: &[u8])
     requires { place + length field.now ≤ 4095 }
     ensures { text.new
@@ -49,7 +49,7 @@ fn put(text: &mut [u8; 4095], place: usize, field: &[u8])
     text[place..place + field.len()].copy_from_slice(field);
 }
 
-/// Writes the digest behind the numbers.
+/// Writes the digest after the numbers.
 fn put_digest(text: &mut [u8; 4095], digest: [u8; 32])
     ensures text { text.new ≡ take 63 text.old ++ digest ++ drop 95 text.old }
     ensures length { length digest ≡ 32 }
@@ -61,7 +61,7 @@ fn put_digest(text: &mut [u8; 4095], digest: [u8; 32])
 pub fn encode_header(header: &Header) -> [u8; 4095]
     ensures text { result ≡ header_text header.now }
     ensures length { length result ≡ 4095 }
-    // What is written is read back, behind any gate.
+    // What is written is read back, after any gate.
     ensures read_back { (gate len : ℕ) → IsHeader header.now len
         → header_in (gate ∷ result) len ≡ Ok header.now }
 {

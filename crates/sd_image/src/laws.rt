@@ -14,12 +14,12 @@ pub fn ready_again()
     ensures { ReadyAgain }
 {}
 
-/// What is written behind a closed gate leaves a store as ready as it was.
+/// What is written after a closed gate leaves a store as ready as it was.
 pub fn ready_still()
     ensures { ReadyStill }
 {}
 
-/// What is written behind a closed gate leaves what contents show.
+/// What is written after a closed gate leaves what contents show.
 pub fn shown_still()
     ensures { ShownStill }
 {}
@@ -64,7 +64,7 @@ pub fn file_is_image()
     ensures { FileIsImage }
 {}
 
-/// The text of a complete image, behind an open gate, is an open file, and is that image.
+/// The text of a complete image, after an open gate, is an open file, and is that image.
 pub fn text_is_image()
     ensures { TextIsImage }
 {}
@@ -74,7 +74,7 @@ pub fn header_fills_file()
     ensures { HeaderFillsFile }
 {}
 
-/// A data page stands in its image's file behind the header and the data pages before it.
+/// A data page stands in its image's file after the header and the data pages before it.
 pub fn page_in_file()
     ensures { PageInFile }
 {}

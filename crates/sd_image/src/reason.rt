@@ -35,7 +35,7 @@ pub enum Reason {
     Zero,
     /// The runs of a space are not the pages of its areas.
     Coverage,
-    /// Bytes remain behind the table, the header counts other data pages, or over 65,536 pages are mapped.
+    /// Bytes remain after the table, the header counts other data pages, or over 65,536 pages are mapped.
     Total,
     /// An image of version 2 has another digest than its file.
     Digest,

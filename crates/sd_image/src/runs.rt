@@ -14,7 +14,7 @@ fn continues(run: &Run, page: u64, kind: RunKind) -> bool
     run.kind == kind && run.first.number() + run.count == page
 }
 
-/// Puts a page behind those of some runs: it makes the last run longer, or begins a new one. It takes constant time,
+/// Puts a page after those of some runs: it makes the last run longer, or begins a new one. It takes constant time,
 /// and memory only for a new run.
 ///
 /// # Errors

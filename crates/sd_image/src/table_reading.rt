@@ -11,7 +11,7 @@ ghost use Rattle.sd_image.specs.Reading.{area_limit, space_head_of, space_head_a
 ghost use Rattle.sd_image.specs.Reading.{table_in};
 ghost use Rattle.sd_image.specs.Words.{run_kind_number};
 ghost use Rattle.sd_image.specs.declared.table_error.TableError.TheVariants.{OutOfMemory};
-ghost use Rattle.sd_image.specs.Table.{Listed, listing_of, begins_behind, has_source, is_run_after, table_text};
+ghost use Rattle.sd_image.specs.Table.{Listed, listing_of, run_begins_after, has_source, is_run_after, table_text};
 ghost use Rattle.sd_image.specs.Table.{IsTable};
 
 use crate::coverage::have_same_pages;
@@ -29,7 +29,7 @@ use sd_areas::{
 };
 use std::alloc::Global;
 
-/// The next item, and the bytes behind it.
+/// The next item, and the bytes after it.
 fn item_of(bytes: &[u8], len: usize) -> Result<(&[u8], &[u8]), Reason>
     ensures read { Reads (λ x. (x.0.now, x.1.now)) result (item_at len bytes.now) }
     ensures long { IfOk result (λ x. length x.0.now ≡ len) }
@@ -56,7 +56,7 @@ fn head_of(bytes: &[u8]) -> Result<(u32, &[u8]), Reason>
     Ok((spaces, rest))
 }
 
-/// The first page behind a range of pages.
+/// The first page after a range of pages.
 fn end_of(first: PageNo, count: u64) -> u128
     ensures { result ≡ first + count }
 {
@@ -70,7 +70,7 @@ fn is_range(first: PageNo, count: u64) -> bool
     0 < count && end_of(first, count) <= u128::from(PAGE_NUMBER_LIMIT)
 }
 
-/// Whether an area begins behind the one before it, or at its end with other permissions.
+/// Whether an area begins after the one before it, or at its end with other permissions.
 fn begins_after(before: Option<&Area>, area: &Area) -> bool
     ensures { result ≡ begins_after (option_copied before.entry) area.now }
 {
@@ -82,7 +82,7 @@ fn begins_after(before: Option<&Area>, area: &Area) -> bool
     end < first || (end == first && before.prot.bits() != area.prot.bits())
 }
 
-/// Whether an area may stand behind the one before it.
+/// Whether an area may stand after the one before it.
 fn is_area_after(before: Option<&Area>, area: &Area) -> bool
     ensures { result ≡ is_area_after (option_copied before.entry) area.now }
 {
@@ -99,7 +99,7 @@ fn prot_with(number: u32) -> Option<Prot>
     Prot::from_bits(number as u8)
 }
 
-/// The area of an item, where it may stand behind the one before.
+/// The area of an item, where it may stand after the one before.
 fn area_in(before: Option<&Area>, item: &[u8]) -> Option<Area>
     requires { length item.now ≡ 24 }
     ensures { MatchOption result (area_holds (option_copied before.entry) item.now ≡ false)
@@ -116,7 +116,7 @@ fn area_in(before: Option<&Area>, item: &[u8]) -> Option<Area>
     Some(area)
 }
 
-/// The area that an item of 24 bytes spells, behind the one before.
+/// The area that an item of 24 bytes spells, after the one before.
 #[tactic(auto, unfolding(crate::specs::Reading::area_from))]
 fn area_from(before: Option<&Area>, item: &[u8]) -> Result<Area, Reason>
     requires { length item.now ≡ 24 }
@@ -129,7 +129,7 @@ fn area_from(before: Option<&Area>, item: &[u8]) -> Result<Area, Reason>
     Ok(area)
 }
 
-/// So many areas, one behind the other. Memory is taken as they are read, whatever the count says.
+/// So many areas, one after the other. Memory is taken as they are read, whatever the count says.
 fn areas_of(alloc: Global, count: u32, bytes: &[u8]) -> Result<(Vec<Area>, &[u8]), TableError>
     ensures { ReadsTable (λ x. (x.0.items, x.1.now)) result (many area_at Some count None bytes.now) }
 {
@@ -157,9 +157,9 @@ fn run_kind_with(number: u32) -> Option<RunKind>
     }
 }
 
-/// Whether a run begins behind the one before it, or at its end as another kind.
-fn begins_behind(before: Option<&Run>, run: &Run) -> bool
-    ensures { result ≡ begins_behind (option_copied before.entry) run.now }
+/// Whether a run begins after the one before it, or at its end as another kind.
+fn run_begins_after(before: Option<&Run>, run: &Run) -> bool
+    ensures { result ≡ run_begins_after (option_copied before.entry) run.now }
 {
     let Some(before) = before else {
         return true;
@@ -179,14 +179,14 @@ fn has_source(parent: u64, run: &Run) -> bool
     }
 }
 
-/// Whether a run may stand behind the one before it.
+/// Whether a run may stand after the one before it.
 fn is_run_after(parent: u64, before: Option<&Run>, run: &Run) -> bool
     ensures { result ≡ is_run_after parent (option_copied before.entry) run.now }
 {
-    is_range(run.first, run.count) && begins_behind(before, run) && has_source(parent, run)
+    is_range(run.first, run.count) && run_begins_after(before, run) && has_source(parent, run)
 }
 
-/// The run of an item, where it may stand behind the one before.
+/// The run of an item, where it may stand after the one before.
 fn run_in(parent: u64, before: Option<&Run>, item: &[u8]) -> Option<Run>
     requires { length item.now ≡ 24 }
     ensures { MatchOption result (run_holds parent (option_copied before.entry) item.now ≡ false)
@@ -203,7 +203,7 @@ fn run_in(parent: u64, before: Option<&Run>, item: &[u8]) -> Option<Run>
     Some(run)
 }
 
-/// The run that an item of 24 bytes spells, behind the one before.
+/// The run that an item of 24 bytes spells, after the one before.
 #[tactic(auto, unfolding(crate::specs::Reading::run_from))]
 fn run_from(parent: u64, before: Option<&Run>, item: &[u8]) -> Result<Run, Reason>
     requires { length item.now ≡ 24 }
@@ -216,7 +216,7 @@ fn run_from(parent: u64, before: Option<&Run>, item: &[u8]) -> Result<Run, Reaso
     Ok(run)
 }
 
-/// So many runs, one behind the other. Memory is taken as they are read, whatever the count says.
+/// So many runs, one after the other. Memory is taken as they are read, whatever the count says.
 fn runs_of(
     alloc: Global,
     parent: u64,
@@ -247,7 +247,7 @@ fn area_limit(kind: Kind) -> usize
     }
 }
 
-/// The head of a space behind the space with the number `before`.
+/// The head of a space after the space with the number `before`.
 #[tactic(auto, unfolding(crate::specs::Reading::space_head_at, crate::specs::Reading::space_head_of))]
 fn space_head_of(kind: Kind, before: u64, bytes: &[u8]) -> Result<(SpaceHead, &[u8]), Reason>
     ensures { Reads (λ x. (x.0, x.1.now)) result (space_head_at kind before bytes.now) }
@@ -278,7 +278,7 @@ fn covers(kind: Kind, areas: &[Area], runs: &[Run]) -> bool
     }
 }
 
-/// A space behind the space with the number `before`.
+/// A space after the space with the number `before`.
 #[tactic(auto, unfolding(crate::specs::Reading::space_at))]
 fn space_of<'a>(
     alloc: Global,
@@ -298,7 +298,7 @@ fn space_of<'a>(
     Ok((SpaceTable { space, areas, runs }, rest))
 }
 
-/// The spaces behind the head of a table.
+/// The spaces after the head of a table.
 fn spaces_of<'a>(
     alloc: Global,
     header: &Header,
@@ -344,8 +344,8 @@ fn table_of(alloc: Global, header: &Header, bytes: &[u8]) -> Result<Table, Table
     Ok(Table { spaces })
 }
 
-/// The table that the bytes spell, all of them, behind this header; or the least reason that applies to the
-/// first item at which a rule breaks. Out of memory comes only behind the table's head.
+/// The table that the bytes spell, all of them, after this header; or the least reason that applies to the
+/// first item at which a rule breaks. Out of memory comes only after the table's head.
 pub fn decode_table(alloc: Global, header: &Header, bytes: &[u8]) -> Result<Table, TableError>
     // What is read is spelled so, and is a table.
     ensures found { IfOk result
@@ -358,7 +358,7 @@ pub fn decode_table(alloc: Global, header: &Header, bytes: &[u8]) -> Result<Tabl
     // Which reason it is.
     ensures exact { ReadsTable (λ t. map listing_of t.spaces.items) result
         (table_in header.now bytes.now) }
-    // Memory is taken behind the head.
+    // Memory is taken after the head.
     ensures tested { result ≡ Err OutOfMemory → IsOk (head_at bytes.now) }
 {
     table_of(alloc, header, bytes)

@@ -46,7 +46,7 @@ fn put_run(out: &mut Vec<u8>, run: &Run) -> Result<(), AllocError>
     Ok(())
 }
 
-/// Writes areas, one behind the other.
+/// Writes areas, one after the other.
 fn put_areas(out: &mut Vec<u8>, areas: &[Area]) -> Result<(), AllocError>
     ensures { OnOk result (out.new.items ≡ out.old.items ++ flat_map area_text areas.now) }
 {
@@ -56,7 +56,7 @@ fn put_areas(out: &mut Vec<u8>, areas: &[Area]) -> Result<(), AllocError>
     Ok(())
 }
 
-/// Writes runs, one behind the other.
+/// Writes runs, one after the other.
 fn put_runs(out: &mut Vec<u8>, runs: &[Run]) -> Result<(), AllocError>
     ensures { OnOk result (out.new.items ≡ out.old.items ++ flat_map run_text runs.now) }
 {
@@ -78,7 +78,7 @@ fn put_space(out: &mut Vec<u8>, space: &SpaceTable) -> Result<(), AllocError>
     Ok(())
 }
 
-/// Writes spaces, one behind the other.
+/// Writes spaces, one after the other.
 fn put_spaces(out: &mut Vec<u8>, spaces: &[SpaceTable]) -> Result<(), AllocError>
     ensures { OnOk result
         (out.new.items ≡ out.old.items ++ flat_map space_text (map listing_of spaces.now)) }
@@ -92,7 +92,7 @@ fn put_spaces(out: &mut Vec<u8>, spaces: &[SpaceTable]) -> Result<(), AllocError
 /// The bytes of a table. A count that does not fit its bytes loses its highest ones.
 pub fn encode_table(alloc: Global, table: &Table) -> Result<Vec<u8>, AllocError>
     ensures text { IfOk result (λ v. v.items ≡ table_text (map listing_of table.now.spaces.items)) }
-    // What is written is read back, behind each header whose table it is.
+    // What is written is read back, after each header whose table it is.
     ensures read_back { IfOk result
         (λ v. (header : Header) → IsTable header (map listing_of table.now.spaces.items)
         → table_in header v.items ≡ Ok (map listing_of table.now.spaces.items)) }

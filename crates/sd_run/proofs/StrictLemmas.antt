@@ -41,9 +41,9 @@ pub passes_more : (rule : Rule) (answers : List Answer) (given : Answer) → Pas
 passes_more rule answers given all one strict = all_more (λ a. is_failure a ≡ false) answers given (all strict) (one strict).0
 
 -- one answer before the others
-pub passes_behind : (rule : Rule) (given : Answer) (answers : List Answer) → Passes rule (given ∷ []) → Passes rule answers
+pub passes_before : (rule : Rule) (given : Answer) (answers : List Answer) → Passes rule (given ∷ []) → Passes rule answers
     → Passes rule (given ∷ answers)
-passes_behind rule given answers one all strict = ((one strict).0, all strict)
+passes_before rule given answers one all strict = ((one strict).0, all strict)
 
 -- the next answer ends it
 pub ends_at : (rule : Rule) (answers : List Answer) (given : Answer) → Passes rule answers → rule ≡ Strict → is_failure given ≡ true
@@ -52,9 +52,9 @@ ends_at rule answers given all strict fails =
     record { strict = strict; passed = answers; last = given; are = refl; passes = all strict; fails = fails }
 
 -- one answer is given before it ends
-pub ends_behind : (rule : Rule) (given : Answer) (answers : List Answer) → Passes rule (given ∷ []) → EndsStrictly rule answers
+pub ends_before : (rule : Rule) (given : Answer) (answers : List Answer) → Passes rule (given ∷ []) → EndsStrictly rule answers
     → EndsStrictly rule (given ∷ answers)
-ends_behind rule given answers one ends = record {
+ends_before rule given answers one ends = record {
   strict = ends.strict;
   passed = given ∷ ends.passed;
   last = ends.last;

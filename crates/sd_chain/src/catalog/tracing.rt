@@ -134,7 +134,7 @@ impl Catalog {
         let _places = &self.places;
     }
 
-    /// The first page that the image of a serial lists behind a place, rising by space and page, or its first page
+    /// The first page that the image of a serial lists after a place, rising by space and page, or its first page
     /// where no place is given. None where the image lists no more, or no image has the serial. It takes no memory, and
     /// no walk over all runs.
     pub fn next_page(

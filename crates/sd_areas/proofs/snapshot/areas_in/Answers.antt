@@ -1,4 +1,4 @@
-use Rattle.sd_areas.proofs.PageRuns.{built_none, built_next, built_maximal, built_behind, built_all}
+use Rattle.sd_areas.proofs.PageRuns.{built_none, built_next, built_maximal, built_after, built_all}
 use Rattle.sd_areas.proofs.snapshot.areas_in.Goals as goal
 
 pub loop-page-init : goal.loop-page-init
@@ -8,7 +8,7 @@ pub push_page-requires-clause-maximal : goal.push_page-requires-clause-maximal
 push_page-requires-clause-maximal c = built_maximal _ _ _ c.loop-page.invariant
 
 pub push_page-requires-clause-behind : goal.push_page-requires-clause-behind
-push_page-requires-clause-behind c = built_behind _ _ _ _ _ _ c.loop-page.invariant c.in-Some.ensures.steps
+push_page-requires-clause-behind c = built_after _ _ _ _ _ _ c.loop-page.invariant c.in-Some.ensures.steps
 
 pub loop-page-preserved : goal.loop-page-preserved
 loop-page-preserved c = built_next _ _ _ _ _ _ _ c.loop-page.invariant c.in-Some.ensures.steps c.in_ok-push_page.ensures.maximal c.in_ok-push_page.ensures.ends c.in_ok-push_page.ensures.same

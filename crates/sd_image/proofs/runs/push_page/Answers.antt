@@ -1,7 +1,7 @@
 use Rattle.std.proofs.Common.{◌≡◌, ◌<◌, ◌≤◌, ◌^◌, ◌++◌, ◌∷◌, [], false, sym, ◌∙◌, ap, subst, arith}
 use Rattle.sd_image.specs.Runs.{is_continued, end_of, AreRunsOf}
 use Rattle.std.proofs.lemmas.List.{nil_from_length}
-use Rattle.sd_image.proofs.GrownRuns.{ends_at, end_of-snoc, longer_runs, more_runs, begins_first, begins_behind_last}
+use Rattle.sd_image.proofs.GrownRuns.{ends_at, end_of-snoc, longer_runs, more_runs, begins_first, run_begins_after_last}
 use Rattle.sd_image.proofs.runs.push_page.Goals as goal
 
 pub continues-requires : goal.continues-requires
@@ -34,7 +34,7 @@ returns-clause-more c = λ parent pages are sourced.
     subst (AreRunsOf parent (pages ++ (c.args.page, c.args.kind) ∷ []))
     (sym (c.in_ok-push-4.ensures.items ∙ ap (λ items. items ++ (record { first = c.args.page; count = 1; kind = c.args.kind }) ∷ []) c.in_ok-push-3.ensures.items))
     (more_runs parent pages (c.pop.new.self.items ++ c.in-Some.last ∷ []) c.args.page c.args.kind (subst (AreRunsOf parent pages) was are)
-    (begins_behind_last parent c.pop.new.self.items c.in-Some.last c.args.page c.args.kind
+    (run_begins_after_last parent c.pop.new.self.items c.in-Some.last c.args.page c.args.kind
     (omega (arith, end_of-snoc c.pop.new.self.items c.in-Some.last)) within other sourced))
 
 pub returns-clause-end : goal.returns-clause-end

@@ -9,7 +9,7 @@ use Rattle.sd_run.specs.Strict.{Passes}
 use Rattle.sd_run.specs.Whole.{PrintsLines}
 use Rattle.sd_world.proofs.GoesOnLemmas.{goes_further}
 use Rattle.sd_run.proofs.LineLemmas.{broken_off, tells_anyway, then_on_ok, told_behind}
-use Rattle.sd_run.proofs.StrictLemmas.{ends_at, ends_behind, passes_behind}
+use Rattle.sd_run.proofs.StrictLemmas.{ends_at, ends_before, passes_before}
 use Rattle.sd_run.proofs.lines.answer_all.Goals as goal
 
 pub returns-in_err-answer_one-clause-told : goal.returns-in_err-answer_one-clause-told
@@ -65,7 +65,7 @@ returns-clause-printed g c =
         answered = (mid, one.1, others.0.answered);
         printed = Appends-trans from at to (answer_line one.0) (flat_map answer_line others.0.answers) one.2 others.0.printed;
       },
-      passes_behind c.args.rule one.0 others.0.answers one.4.passes others.1,
+      passes_before c.args.rule one.0 others.0.answers one.4.passes others.1,
     ))
     c.print_all.ensures.printed
 
@@ -101,7 +101,7 @@ returns-clause-strict g c = λ refused.
         answers = one.0 ∷ others.some.answers;
         answered = (c.answer_one.new.world, one.1, others.some.answered);
       };
-      ends = ends_behind c.args.rule one.0 others.some.answers one.4.passes others.ends;
+      ends = ends_before c.args.rule one.0 others.some.answers one.4.passes others.ends;
       printed = Appends-trans from at to (answer_line one.0) (flat_map answer_line others.some.answers) one.2 others.printed;
     }
 

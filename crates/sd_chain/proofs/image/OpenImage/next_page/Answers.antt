@@ -11,4 +11,4 @@ returns c = λ table.
     let are : map listing_of items ≡ c.args.self.now.spaces = ap (map listing_of) c.deref.ensures.value ∙ c.table.ensures ∙ ap (λ (o : _). o.spaces) c.self.view_is in
     let first = c.first_from.ensures c.args.self.now.header (subst (IsTable c.args.self.now.header) (sym are) table) in
     subst (λ (spaces : List Listed). IsNextOrNone spaces c.args.after c.first_from.result) are
-    (next_of items c.args.after c.first_from.result (subst (λ (place : ℕ × ℕ). IsFirstPageFrom items (place.0, place.1) c.first_from.result) c.place_behind-space.ensures first))
+    (next_of items c.args.after c.first_from.result (subst (λ (place : ℕ × ℕ). IsFirstPageFrom items (place.0, place.1) c.first_from.result) c.place_after-space.ensures first))
