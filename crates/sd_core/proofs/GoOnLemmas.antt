@@ -15,12 +15,13 @@ use Rattle.sd_rounds.specs.Waits.{dumper_must_wait, image_must_wait}
 use Rattle.sd_opener.specs.Looking.{Looking}
 use Rattle.sd_gate.specs.Lanes.{is_any_out}
 use Rattle.sd_rounds.specs.Writes.{are_all_out, no_writes}
+use Rattle.sd_crash_safety.specs.declared.standing.Standing.TheVariants.{Open}
 use Rattle.sd_crash_safety.specs.View.{CoreView}
 use Rattle.sd_core.specs.Beginning.{first_of}
-use Rattle.sd_core.specs.GoingOn.{AreOwnLanes, CanGoOn, HasNoneOut, OpenerAsksAlone}
+use Rattle.sd_core.specs.GoingOn.{AreOwnLanes, CanGoOn, HasItsJobs, HasNoneOut, OpenerAsksAlone}
 use Rattle.sd_core.specs.Refusals.{is_idle, is_page_out, must_wait, none_at, work_refusal}
-use Rattle.sd_core.specs.Sound.{IsCore, Parts, out_of_opener, worker_of_lane}
-use Rattle.sd_core.proofs.BesideLemmas.{jobs_out}
+use Rattle.sd_core.specs.Sound.{AreTwo, IsCore, Parts, out_of_opener, worker_of_lane}
+use Rattle.sd_core.proofs.BesideLemmas.{jobs_out, merger_works}
 use Rattle.sd_core.proofs.WorkLemmas.{at_work}
 
 -- nothing is out in a lane of the worker
@@ -120,3 +121,22 @@ module _ (core : Parts) (view : CoreView) (sound : IsCore core) (outs_are : view
   can_go_on Dumper busy none = goes_by view Dumper (dumper_free busy none) busy
   can_go_on Merger busy none = goes_by view Merger (rests_by view.outs 1 (lane_rests 1 Merger (omega arith) refl none)) busy
   can_go_on Opener busy none = goes_by view Opener (rests_by view.outs 2 (lane_rests 2 Opener (omega arith) refl none)) busy
+
+  -- jobs run in an open store, and the opener has no request out where it doesn't run
+  pub has_jobs : view.merger ≡ core.merger → view.opener ≡ core.opener → view.standing ≡ core.standing → HasItsJobs view
+  has_jobs merger_is opener_is standing_is = record {
+    checkpoint = λ busy. checkpoint view.dumper.running refl busy;
+    merge = λ busy. merges view.merger refl busy;
+    opener = λ none. lane_none (sound.outs_are.two (sym opener_is ∙ none));
+  }
+    where
+      checkpoint : (running : Option Running) → view.dumper.running ≡ running → is_none view.dumper.running ≡ false → view.standing ≡ Open
+      checkpoint None is busy = absurd (let no : true ≡ false = sym (ap is_none is) ∙ busy in cc)
+      checkpoint (Some running) is busy = standing_is ∙ (at_work core running sound (ap (λ d. d.running) (sym dumper_is) ∙ is)).stands
+
+      merges : (merge : Option merger.Running) → view.merger ≡ merge → is_none view.merger ≡ false → view.standing ≡ Open
+      merges None is busy = absurd (let no : true ≡ false = sym (ap is_none is) ∙ busy in cc)
+      merges (Some merge) is busy = standing_is ∙ (merger_works core merge sound (sym merger_is ∙ is)).stands
+
+      lane_none : AreTwo core.outs → slice_get view.outs 2 ≡ Some None
+      lane_none two = ap (λ outs. slice_get outs 2) (outs_are ∙ two.are)

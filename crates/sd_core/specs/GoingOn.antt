@@ -2,7 +2,8 @@
 use Rattle.std.specs.Prelude.{◌≡◌, ◌≢◌, ℕ, false, List, Option, Some, None, slice_get}
 use Rattle.sd_gate.specs.declared.request_id.RequestId.{RequestId}
 use Rattle.sd_gate.specs.declared.worker.Worker.{Worker}
-use Rattle.sd_gate.specs.declared.worker.Worker.TheVariants.{Opener}
+use Rattle.sd_gate.specs.declared.worker.Worker.TheVariants.{Dumper, Merger, Opener}
+use Rattle.sd_crash_safety.specs.declared.standing.Standing.TheVariants.{Open}
 use Rattle.sd_crash_safety.specs.View.{CoreView}
 use Rattle.sd_core.specs.Refusals.{is_idle, work_refusal}
 use Rattle.sd_core.specs.Sound.{worker_of_lane}
@@ -24,3 +25,9 @@ OpenerAsksAlone core = is_idle core Opener ≡ false → (lane : ℕ) (id : Requ
 abbrev pub CanGoOn : CoreView → Type 0
 CanGoOn core =
     (worker : Worker) → is_idle core worker ≡ false → HasNoneOut core.outs worker → work_refusal core worker ≡ None
+
+-- a checkpoint and a merge run in an open store alone, and the opener has no request out where it doesn't run
+pub record HasItsJobs (core : CoreView) : Type 0 where
+  pub checkpoint : is_idle core Dumper ≡ false → core.standing ≡ Open
+  pub merge : is_idle core Merger ≡ false → core.standing ≡ Open
+  pub opener : core.opener ≡ None → slice_get core.outs 2 ≡ Some None

@@ -67,6 +67,7 @@ module _ {D : Type 0} (g : Ghosts D) (old : WorldView D) (later : CoreView) (sea
       closes = λ honest. step_closes g old new was.is event answer does tt;
       ends = λ honest. step_ends g old new was.is event answer does tt;
       copies = λ honest. tt;
+      files = λ honest slot free. (refl, inl free);
       jobs = λ honest worker why working. absurd (let no : Command seat command ≡ Work worker = working in cc);
       honest = λ honest. honest;
       base = λ other. applied.keeps.base;

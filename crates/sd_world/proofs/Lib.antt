@@ -14,6 +14,7 @@ mod FoldLemmas
 mod GoesLemmas
 mod HandInLemmas
 mod KeptLemmas
+mod LifetimeLemmas
 mod LimitLemmas
 mod Lists
 mod LittleLemmas
@@ -41,5 +42,6 @@ pub mod GoesOnLemmas
 mod JobLemmas
 pub mod PointLemmas
 mod StartLemmas
+mod StaysLemmas
 pub mod SavedLemmas
 pub mod HeadlineLemmas

@@ -13,7 +13,7 @@ use Rattle.sd_world.specs.Merged.{EnteredWithin, MergesStand}
 use Rattle.sd_world.specs.Merges.{IsMergedThere}
 use Rattle.sd_world.specs.Runs.{IsStep, Runs}
 use Rattle.sd_world.specs.View.{WorldView}
-use Rattle.sd_world.proofs.RunLemmas.{runs_more}
+use Rattle.sd_world.proofs.RunLemmas.{honest_before, runs_more}
 
 -- the merged image stands where its file stays
 still_there : (before now : List (List ℕ)) (places : Places) (merge : merger.Running) (serial : ℕ) → file_at now merge.slot ≡ file_at before merge.slot
@@ -95,19 +95,13 @@ module _ {D : Type 0} (g : Ghosts D) where
   )
   entered_all first mid last before told (e ∷ es) (r ∷ rs) runs entered rest honest =
       let next = rest.0 in
-      let ahead = honest_before next last es rs rest.2 honest in
+      let ahead = honest_before g next last es rs rest.2 honest in
       let more = entered_all first next last (before ++ e ∷ []) (told ++ r ∷ []) es rs (runs_more g first mid next before told e r runs rest.1)
       (λ slot serial c. came first mid next before told e r slot serial runs rest.1 entered (rest.1.closes ahead slot serial c)) rest.2 honest in (
         subst (λ events. Entered first events (told ++ r ∷ rs) last) (append_assoc before (e ∷ []) es)
             (subst (λ answers. Entered first ((before ++ e ∷ []) ++ es) answers last) (append_assoc told (r ∷ []) rs) more.0),
         rest.1.honest ahead,
       )
-    where
-      honest_before : (w last : WorldView D) (events : List Event) (answers : List Reply) → Runs g w events answers last → g.is_honest last.disk → g.is_honest w.disk
-      honest_before w last [] [] runs honest = subst (λ (v : WorldView D). g.is_honest v.disk) runs honest
-      honest_before w last [] (r ∷ rs) runs honest = absurd runs
-      honest_before w last (e ∷ es) [] runs honest = absurd runs
-      honest_before w last (e ∷ es) (r ∷ rs) runs honest = runs.1.honest (honest_before runs.0 last es rs runs.2 honest)
   entered_all first mid last before told _ _ runs entered rest honest = absurd rest
 
   pub merges_stand : MergesStand g

@@ -96,6 +96,7 @@ module _ {D : Type 0} (g : Ghosts D) (old : WorldView D) (later : CoreView) (tak
       closes = λ honest. step_closes g old new was.is event reply.Worked does (merges honest);
       ends = λ honest. step_ends g old new was.is event reply.Worked does (merges honest);
       copies = λ honest. step_copies g old new was.is commute gives lanes is left as_read event reply.Worked does (was.is.consistent honest) (is.consistent honest);
+      files = λ honest slot free. (refl, inl free);
       jobs = λ honest worker why working unasked busy refused. absurd (let no : reply.Worked ≡ reply.Refused why = refused in cc);
       honest = λ honest. honest;
       base = step_base g old new was.is event reply.Worked does;

@@ -19,6 +19,14 @@ runs_more g first mid last (e ∷ es) (r ∷ rs) event answer runs step =
     (runs.0, runs.1, runs_more g runs.0 mid last es rs event answer runs.2 step)
 runs_more g first mid last _ _ event answer runs step = absurd runs
 
+-- the disk was honest all along
+pub honest_before : {D : Type 0} (g : Ghosts D) (first last : WorldView D) (events : List Event) (answers : List Reply) → Runs g first events answers last → g.is_honest last.disk
+    → g.is_honest first.disk
+honest_before {D} g first last [] [] runs honest = subst (λ (v : WorldView D). g.is_honest v.disk) runs honest
+honest_before g first last [] (r ∷ rs) runs honest = absurd runs
+honest_before g first last (e ∷ es) [] runs honest = absurd runs
+honest_before g first last (e ∷ es) (r ∷ rs) runs honest = runs.1.honest (honest_before g runs.0 last es rs runs.2 honest)
+
 module _ {D : Type 0} (g : Ghosts D) where
   -- what is shown within a run is so within a longer one
   shown_longer : (first mid last : WorldView D) (events : List Event) (answers : List Reply) (event : Event) (answer : Reply) → IsStep g event mid answer last

@@ -7,6 +7,7 @@ pub mod Copied
 pub mod Goes
 pub mod Jobs
 pub mod KeptCheckpoint
+pub mod Lifetimes
 pub mod Little
 pub mod Merged
 pub mod Merges
@@ -18,6 +19,7 @@ pub mod Refused
 pub mod Restored
 pub mod Runs
 pub mod Starting
+pub mod Stays
 pub mod Steps
 pub mod Tickets
 pub mod Trims

@@ -20,6 +20,7 @@ use Rattle.sd_world.specs.KeptCheckpoint.{KeepsCheckpoint}
 use Rattle.sd_world.specs.Little.{DoesLittle}
 use Rattle.sd_world.specs.Merges.{DoesMerge, KeepsMerged}
 use Rattle.sd_world.specs.Refused.{GoesOnUnless}
+use Rattle.sd_world.specs.Stays.{FilesStay}
 use Rattle.sd_world.specs.Steps.{Does}
 use Rattle.sd_world.specs.View.{WorldView}
 
@@ -53,6 +54,8 @@ pub record IsStep {D : Type 0} (g : Ghosts D) (event : Event) (old : WorldView D
   pub ends : g.is_honest new.disk → EndsBehind g old answer new
   -- that a merged image is read from what stands on the disk, and which images are to be closed after it
   pub copies : g.is_honest new.disk → DoesCopy g event old new
+  -- that a file stays as it is until a job has its slot
+  pub files : g.is_honest new.disk → FilesStay g old new
   -- for what alone the next step of a job is refused
   pub jobs : g.is_honest new.disk → GoesOnUnless event old answer
   -- and the disk was honest before it

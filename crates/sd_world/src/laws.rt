@@ -5,7 +5,7 @@ ghost use Rattle.sd_store_laws.specs.Beliefs.{ContentsShow};
 ghost use Rattle.sd_store_laws.specs.Gates.{LeftAsBelieved};
 ghost use Rattle.sd_store_laws.specs.GateSteps.{SyncedIsFound};
 ghost use Rattle.sd_crash_safety.specs.Laws.{PerformedIsBelieved};
-ghost use Rattle.sd_core.specs.GoingOn.{AreOwnLanes, CanGoOn, OpenerAsksAlone};
+ghost use Rattle.sd_core.specs.GoingOn.{AreOwnLanes, CanGoOn, HasItsJobs, OpenerAsksAlone};
 ghost use Rattle.sd_core.specs.Lasting.{LeavesMerged};
 ghost use Rattle.sd_core.specs.Rounds.{HasFewOpen, LeavesPreDumps};
 
@@ -27,6 +27,7 @@ pub(crate) fn step_laws<D: Disk>(core: &Core, disk: &D)
     ensures synced { SyncedIsFound (D.contents disk.now) (D.may_leave disk.now) }
     ensures lanes { AreOwnLanes core.now.outs }
     ensures opener { OpenerAsksAlone core.now }
+    ensures jobs { HasItsJobs core.now }
     ensures goes { CanGoOn core.now }
     ensures merged { LeavesMerged core.now }
     ensures looks { LeavesPreDumps core.now }

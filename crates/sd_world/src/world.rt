@@ -22,6 +22,7 @@ ghost use Rattle.sd_world.specs.Begun.{RunsAsBegun};
 ghost use Rattle.sd_world.specs.Closing.{ClosesBehind, EndsBehind};
 ghost use Rattle.sd_world.specs.Copied.{DoesCopy};
 ghost use Rattle.sd_world.specs.KeptCheckpoint.{KeepsCheckpoint};
+ghost use Rattle.sd_world.specs.Lifetimes.{ImagesStay};
 ghost use Rattle.sd_world.specs.Little.{DoesLittle};
 ghost use Rattle.sd_world.specs.Merged.{MergesStand};
 ghost use Rattle.sd_world.specs.Merges.{DoesMerge, KeepsMerged};
@@ -31,6 +32,7 @@ ghost use Rattle.sd_world.specs.Promise.{Goes, Point};
 ghost use Rattle.sd_world.specs.Refused.{GoesOnUnless};
 ghost use Rattle.sd_world.specs.Restored.{IsRestored};
 ghost use Rattle.sd_world.specs.Runs.{Runs, ShowsAllowedWithin, ShowsReply};
+ghost use Rattle.sd_world.specs.Stays.{FilesStay};
 ghost use Rattle.sd_world.specs.Steps.{Does, IsAnsweredByDevice, LeavesLess};
 ghost use Rattle.sd_world.specs.Tickets.{HasOwnTickets, TicketsLast};
 ghost use Rattle.sd_world.specs.View.{asked_count, is_asked, nothing_kept};
@@ -201,6 +203,15 @@ impl<D: Disk> World<D> {
         let _core = &self.core;
     }
 
+    /// A law: in an open store each image that stands in its slot of the contents stays there, whatever run follows,
+    /// until a job has the slot: a checkpoint or a merge that makes an image there, or a merge that lists the image. So
+    /// it is with the images of a checkpoint after its acknowledgement (`step`: `acked`).
+    pub fn images_stay(&self)
+        ensures { ImagesStay D.Disk self.now }
+    {
+        self.core.goes_on();
+    }
+
     /// A law: the checkpoint that runs after a run that began with none was begun by one of the run's events, and has
     /// as many pre-dumps as that order asked for. An acknowledgement is of the checkpoint that ran before it (`step`:
     /// `acked`).
@@ -313,6 +324,8 @@ impl<D: Disk> World<D> {
         // As it enters, its source stands on the disk with all that this reaches, so it has what these hold there; and
         // the list of the images to close is fixed.
         ensures copies { D.is_honest self.new.disk → DoesCopy D.Disk event.now self.old self.new }
+        // The file of a slot stays as it is until a job has that slot.
+        ensures files { D.is_honest self.new.disk → FilesStay D.Disk self.old self.new }
         // After an acknowledgement the checkpoint's dump and each of its pre-dumps are open in their slots of the
         // contents, and each names the one before as its parent.
         ensures acked { D.is_honest self.new.disk → DoesAck D.Disk event.now self.old result self.new }
@@ -350,6 +363,7 @@ impl<D: Disk> World<D> {
         let answer = make_step(&mut self.core, &mut self.disk, &mut self.kept, event);
         self.core.sound();
         self.core.pre_dumps();
+        self.core.goes_on();
         answer
     }
 

@@ -9,7 +9,7 @@ ghost use Rattle.sd_journal.specs.Marked.{IsTracked};
 ghost use Rattle.sd_gate.specs.Lanes.{IsInLane};
 ghost use Rattle.sd_crash_safety.specs.View.{history_of};
 ghost use Rattle.sd_core.specs.Beginning.{is_down};
-ghost use Rattle.sd_core.specs.GoingOn.{AreOwnLanes, CanGoOn, OpenerAsksAlone};
+ghost use Rattle.sd_core.specs.GoingOn.{AreOwnLanes, CanGoOn, HasItsJobs, OpenerAsksAlone};
 ghost use Rattle.sd_core.specs.Grown.{has_grown};
 ghost use Rattle.sd_core.specs.Kept.{HasItsPreDumps};
 ghost use Rattle.sd_core.specs.Lasting.{LeavesMerged};
@@ -145,9 +145,11 @@ impl Core {
     }
 
     /// A law: a request that is out in a lane is of the worker whose lane that is, while an opener runs it alone has
-    /// one out, and a worker that has a job, and of which no request is out, can go on.
+    /// one out, and a worker that has a job, and of which no request is out, can go on. A checkpoint and a merge run
+    /// in an open store alone, and no opener's request is out where none runs.
     pub fn goes_on(&self)
         ensures lanes { AreOwnLanes self.now.outs }
+        ensures jobs { HasItsJobs self.now }
         ensures alone { OpenerAsksAlone self.now }
         ensures goes { CanGoOn self.now }
     {

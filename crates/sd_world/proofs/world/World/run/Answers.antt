@@ -24,7 +24,7 @@ loop-event-preserved g c =
     let events = c.args.events.now in
     let one_more : take (i + 1) events ≡ take i events ++ event ∷ [] =
     take_more events i event c.loop-event-test.true ∙ ap (λ e. take i events ++ e ∷ []) (sym c.event-item.is) in
-    let made : IsStep g.D.Disk event c.loop-event.self c.step-answer.result c.step-answer.new.self = record { does = step.does; adds = step.adds; little = step.little; checkpoint = step.checkpoint; merges = step.merges; keeps = step.keeps; closes = step.closes; ends = step.ends; copies = step.copies; jobs = step.jobs; honest = step.honest; base = step.base; tracked = step.tracked; any_moment = step.any_moment; at_end = step.at_end; shows = step.shows } in
+    let made : IsStep g.D.Disk event c.loop-event.self c.step-answer.result c.step-answer.new.self = record { does = step.does; adds = step.adds; little = step.little; checkpoint = step.checkpoint; merges = step.merges; keeps = step.keeps; closes = step.closes; ends = step.ends; copies = step.copies; files = step.files; jobs = step.jobs; honest = step.honest; base = step.base; tracked = step.tracked; any_moment = step.any_moment; at_end = step.at_end; shows = step.shows } in
     record {
       runs = subst (λ asked. Runs g.D.Disk c.args.self.now asked c.push_reserved.new.self.items c.step-answer.new.self) (sym one_more)
           (subst (λ answers. Runs g.D.Disk c.args.self.now (take i events ++ event ∷ []) answers c.step-answer.new.self) (sym c.push_reserved.ensures.items)

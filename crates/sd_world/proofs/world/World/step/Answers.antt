@@ -2,7 +2,7 @@ use Rattle.std.proofs.Common.{refl, subst}
 use Rattle.sd_disk.specs.Crash.{Within}
 use Rattle.sd_crash_safety.specs.Shown.{ShowsAllowed}
 use Rattle.sd_gate.specs.Laws.{GivenUpFits}
-use Rattle.sd_core.specs.GoingOn.{AreOwnLanes, CanGoOn, OpenerAsksAlone}
+use Rattle.sd_core.specs.GoingOn.{AreOwnLanes, CanGoOn, HasItsJobs, OpenerAsksAlone}
 use Rattle.sd_core.specs.Lasting.{LeavesMerged}
 use Rattle.sd_core.specs.Rounds.{HasFewOpen}
 use Rattle.sd_crash_safety.specs.View.{CoreView, history_of}
@@ -22,6 +22,7 @@ use Rattle.sd_world.proofs.MergesLemmas.{step_keeps, step_merges}
 use Rattle.sd_world.proofs.RefusedLemmas.{job_refused}
 use Rattle.sd_world.proofs.LowersLemmas.{hand_in_lowers, take_up_lowers, work_lowers}
 use Rattle.sd_world.proofs.ReplyLemmas.{marked_legal, says}
+use Rattle.sd_world.proofs.StaysLemmas.{step_files}
 use Rattle.sd_world.proofs.StepLemmas.{step_world}
 use Rattle.sd_world.proofs.world.World.step.Goals as goal
 
@@ -151,6 +152,14 @@ returns-clause-copies g c = λ honest.
     (subst (λ (w : WorldView g.row.D.Denot). AreOwnLanes w.core.outs) c.self.view_is c.step_laws.ensures.lanes)
     now c.step_laws.ensures.left (g.met.D.Disk.as_read c.make_step-answer.new.disk)
     c.args.event.now c.make_step-answer.result does (world.consistent (step_honest g.D.Disk old new world c.args.event.now c.make_step-answer.result does honest)) (now.consistent honest)
+
+pub returns-clause-files : goal.returns-clause-files
+returns-clause-files g c = λ honest.
+    let new : WorldView g.row.D.Denot = record { core = c.make_step-answer.new.core; disk = c.make_step-answer.new.disk; kept = c.make_step-answer.new.kept } in
+    let now = (invariant_of-self g c).is in
+    step_files g.D.Disk c.args.self.now new (subst (λ (w : WorldView g.row.D.Denot). HasItsJobs w.core) c.self.view_is c.step_laws.ensures.jobs)
+    c.goes_on.ensures.jobs c.goes_on.ensures.lanes now (now.consistent honest) c.args.event.now c.make_step-answer.result
+    (subst (λ w. Does g.D.Disk c.args.event.now w c.make_step-answer.result new) c.self.view_is c.make_step-answer.ensures)
 
 pub returns-clause-acked : goal.returns-clause-acked
 returns-clause-acked g c = λ honest.
