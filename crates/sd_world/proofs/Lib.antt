@@ -36,6 +36,7 @@ mod MergesLemmas
 mod RefusedLemmas
 mod RestingLemmas
 mod ClosesLemmas
+mod MadeLemmas
 mod MergedLemmas
 mod DriveLemmas
 pub mod GoesOnLemmas

@@ -9,6 +9,7 @@ pub mod Jobs
 pub mod KeptCheckpoint
 pub mod Lifetimes
 pub mod Little
+pub mod Made
 pub mod Merged
 pub mod Merges
 pub mod Moments

@@ -13,6 +13,7 @@ use Rattle.sd_crash_safety.specs.Shown.{ShowsAllowed}
 use Rattle.sd_crash_safety.specs.View.{history_of}
 use Rattle.sd_world.specs.declared.event.Event.{Event}
 use Rattle.sd_world.specs.declared.event.Event.TheVariants.{Trim}
+use Rattle.sd_world.specs.Acked.{DoesAck}
 use Rattle.sd_world.specs.Adds.{AddsToJournal}
 use Rattle.sd_world.specs.Closing.{ClosesBehind, EndsBehind}
 use Rattle.sd_world.specs.Copied.{DoesCopy}
@@ -46,6 +47,8 @@ pub record IsStep {D : Type 0} (g : Ghosts D) (event : Event) (old : WorldView D
   pub little : DoesLittle event old answer new
   -- the checkpoint that runs after it is the one that ran before, or the one that it began
   pub checkpoint : KeepsCheckpoint event answer old.core new.core
+  -- after an acknowledgement the checkpoint's images stand in their slots, where the disk is honest
+  pub acked : g.is_honest new.disk → DoesAck g event old answer new
   -- what a merge's event makes of the disk, where that is honest, and that the merged image's file stays while images
   -- are closed
   pub merges : g.is_honest new.disk → DoesMerge g event old answer new
@@ -64,12 +67,14 @@ pub record IsStep {D : Type 0} (g : Ghosts D) (event : Event) (old : WorldView D
   pub base : event ≢ Trim → new.core.base ≡ old.core.base
   pub tracked : IsTracked new.core.base new.core.items new.core.memory
   -- a crash within it leaves what the journal allowed before it; a crash after it what the journal allows then, and
-  -- after an acknowledgement or a reopening that checkpoint
+  -- after an acknowledgement or a reopening that checkpoint, as the contents do
   pub any_moment : g.is_honest new.disk
       → LeavesOnly g old.disk new.disk (ShowsAllowed old.core.base (history_of old.core))
   pub at_end : g.is_honest new.disk → Within (g.may_leave new.disk) (ShowsAllowed new.core.base (history_of new.core))
   pub shows : g.is_honest new.disk
       → Within (g.may_leave new.disk) (ShowsReply answer new.core.base (history_of new.core))
+  pub reads : g.is_honest new.disk
+      → ShowsReply answer new.core.base (history_of new.core) (g.contents new.disk)
 
 -- the world goes from the first state to the last, event by event, each answered by its reply
 abbrev pub Runs : {D : Type 0} → Ghosts D → WorldView D → List Event → List Reply → WorldView D → Type 0

@@ -86,8 +86,7 @@ impl<D: Disk> World<D> {
         }
     }
 
-    /// Makes one event, and answers it, as [`step`](World::step) does. What `step` says in many clauses is one word
-    /// here, for a proof that goes on from it.
+    /// Makes one event, and answers it, as [`step`](World::step) does, with what `made_tells` says of it.
     pub fn make(&mut self, event: Event) -> Reply
         ensures step { IsStep D.Disk event self.old result self.new }
         ensures goes_on { GoesOn D.Disk self.old self.new }
@@ -97,6 +96,7 @@ impl<D: Disk> World<D> {
             → asked_count self.new.kept worker < asked_count self.old.kept worker }
         ensures still { (worker : WorkerKind) → event ≡ Perform worker → self.new.core ≡ self.old.core }
     {
+        self.made_tells();
         self.step(&event)
     }
 

@@ -1,7 +1,6 @@
 //! A world: a core, its disk, and what is kept of the workers between events.
-ghost use Rattle.std.specs.Prelude.{◌≡◌, ◌≢◌, ◌≤◌, ◌<◌, [], ℕ, None, false, true, IfOk, IfErr};
-ghost use Rattle.sd_command.specs.declared.refusal.Refusal.TheVariants.{Idle, OutOfMemory};
-ghost use Rattle.sd_command.specs.declared.reply.Reply.TheVariants as reply;
+ghost use Rattle.std.specs.Prelude.{◌≡◌, ◌≤◌, [], None, IfOk, IfErr};
+ghost use Rattle.sd_command.specs.declared.refusal.Refusal.TheVariants.{OutOfMemory};
 ghost use Rattle.sd_disk.specs.Crash.{Within};
 ghost use Rattle.sd_disk.specs.Reads.{OnlyReads};
 ghost use Rattle.sd_disk.specs.Spans.{LeavesOnly};
@@ -9,37 +8,26 @@ ghost use Rattle.sd_image.specs.Shows.{Shows};
 ghost use Rattle.sd_pagetable.specs.Contents.{plain_of};
 ghost use Rattle.sd_crash_safety.specs.declared.standing.Standing.TheVariants.{NotOpen};
 ghost use Rattle.sd_core.specs.Starts.{shown_base};
-ghost use Rattle.sd_core.specs.Working.{left_by};
 ghost use Rattle.sd_world.specs.Opens.{HasNoFrame, IsFaultOf, bare_memory};
-ghost use Rattle.sd_gate.specs.declared.worker.Worker.{Worker as WorkerKind};
 ghost use Rattle.sd_journal.specs.Marked.{IsTracked};
 ghost use Rattle.sd_crash_safety.specs.Shown.{ShowsAllowed};
 ghost use Rattle.sd_crash_safety.specs.View.{history_of};
-ghost use Rattle.sd_world.specs.declared.event.Event.TheVariants.{HandInAt, Perform, PerformAt, TakeUp, Trim, Work};
-ghost use Rattle.sd_world.specs.Acked.{DoesAck, HasPreDumpsThere};
-ghost use Rattle.sd_world.specs.Adds.{AddsToJournal};
+ghost use Rattle.sd_world.specs.Acked.{HasPreDumpsThere};
 ghost use Rattle.sd_world.specs.Begun.{RunsAsBegun};
-ghost use Rattle.sd_world.specs.Closing.{ClosesBehind, EndsBehind};
-ghost use Rattle.sd_world.specs.Copied.{DoesCopy};
-ghost use Rattle.sd_world.specs.KeptCheckpoint.{KeepsCheckpoint};
 ghost use Rattle.sd_world.specs.Lifetimes.{ImagesStay};
-ghost use Rattle.sd_world.specs.Little.{DoesLittle};
+ghost use Rattle.sd_world.specs.Made.{IsMade, MadeTells, MovesOn};
 ghost use Rattle.sd_world.specs.Merged.{MergesStand};
-ghost use Rattle.sd_world.specs.Merges.{DoesMerge, KeepsMerged};
 ghost use Rattle.sd_world.specs.Moments.{GoesLeave};
 ghost use Rattle.sd_world.specs.Points.{FirstStands, PointsFollow, StandsAt};
 ghost use Rattle.sd_world.specs.Promise.{Goes, Point};
-ghost use Rattle.sd_world.specs.Refused.{GoesOnUnless};
 ghost use Rattle.sd_world.specs.Restored.{IsRestored};
-ghost use Rattle.sd_world.specs.Runs.{Runs, ShowsAllowedWithin, ShowsReply};
-ghost use Rattle.sd_world.specs.Stays.{FilesStay};
-ghost use Rattle.sd_world.specs.Steps.{Does, IsAnsweredByDevice, LeavesLess};
+ghost use Rattle.sd_world.specs.Runs.{Runs, ShowsAllowedWithin};
 ghost use Rattle.sd_world.specs.Tickets.{HasOwnTickets, TicketsLast};
-ghost use Rattle.sd_world.specs.View.{asked_count, is_asked, nothing_kept};
+ghost use Rattle.sd_world.specs.View.{is_asked, nothing_kept};
 
 use crate::event::Event;
 use crate::kept::Lanes;
-use crate::laws::step_laws;
+use crate::laws::{store_laws, world_laws};
 use crate::open_error::OpenError;
 use crate::open_fault::OpenFault;
 use crate::opening::start_of;
@@ -277,94 +265,30 @@ impl<D: Disk> World<D> {
     /// `Work`, up to `Acked`, `Merged` or `Reopened`: [`World::finish`] makes them. After a device call that failed
     /// (`Device`) the next step is refused as `StoreDown`, and so are all jobs until the store is opened again.
     pub fn step(&mut self, event: &Event) -> Reply
-        // What it does to the core, the disk and what is kept.
-        ensures does { Does D.Disk event.now self.old result self.new }
-        ensures idle { (worker : WorkerKind) → event.now ≡ Perform worker
-            → is_asked self.old.kept worker ≡ false
-            → (result ≡ reply.Refused Idle) × (self.new ≡ self.old) }
-
-        // After a device call one fewer is out of its worker that wasn't made.
-        ensures made { (worker : WorkerKind) → event.now ≡ Perform worker
-            → is_asked self.old.kept worker ≡ true
-            → asked_count self.new.kept worker < asked_count self.old.kept worker }
-
-        // A device call is answered by how it ended, and no other event touches the disk.
-        ensures device { (worker : WorkerKind) → event.now ≡ Perform worker
-            → is_asked self.old.kept worker ≡ true
-            → IsAnsweredByDevice (D.failed self.old.disk) (D.failed self.new.disk) result }
-        ensures quiet { ((worker : WorkerKind) → event.now ≢ Perform worker)
-            → ((worker : WorkerKind) (place : ℕ) → event.now ≢ PerformAt worker place)
-            → self.new.disk ≡ self.old.disk }
-
-        // A worker's step, or an outcome of it that is handed in, lowers what is left of its job, unless that ends the
-        // job or is refused.
-        ensures lowers { (worker : WorkerKind) → event.now ≡ Work worker
-            → LeavesLess result (left_by self.old.core worker) (left_by self.new.core worker) }
-        ensures lowers_up { (worker : WorkerKind) → event.now ≡ TakeUp worker
-            → LeavesLess result (left_by self.old.core worker) (left_by self.new.core worker) }
-        ensures lowers_at { (worker : WorkerKind) (place : ℕ) → event.now ≡ HandInAt worker place
-            → LeavesLess result (left_by self.old.core worker) (left_by self.new.core worker) }
-
-        // Where a worker's event acknowledges a checkpoint, its dump has exactly the pages that were mapped at the
-        // freeze, as data or zeros those that something touched since their last visit; and a pre-dump has such pages
-        // alone.
-        ensures little { DoesLittle event.now self.old result self.new }
-        // A checkpoint that runs after it ran before, with the number, the slots and the first parent with which it
-        // began; or this event began it.
-        ensures checkpoint { KeepsCheckpoint event.now result self.old.core self.new.core }
-
-        // Where a merge's image enters the catalog it is open in its slot, a copy of its source, and stays so while the
-        // merge closes images; and after the merge those that it was to close are closed, and cut to one byte.
-        ensures merges { D.is_honest self.new.disk
-            → DoesMerge D.Disk event.now self.old result self.new }
-        ensures keeps { KeepsMerged D.Disk self.old self.new }
-        // A merge that closes images after it, or ends with it, did so before, or its image enters by it.
-        ensures closes { D.is_honest self.new.disk → ClosesBehind D.Disk self.old self.new }
-        ensures ends { D.is_honest self.new.disk → EndsBehind D.Disk self.old result self.new }
-        // As it enters, its source stands on the disk with all that this reaches, so it has what these hold there; and
-        // the list of the images to close is fixed.
-        ensures copies { D.is_honest self.new.disk → DoesCopy D.Disk event.now self.old self.new }
-        // The file of a slot stays as it is until a job has that slot.
-        ensures files { D.is_honest self.new.disk → FilesStay D.Disk self.old self.new }
-        // After an acknowledgement the checkpoint's dump and each of its pre-dumps are open in their slots of the
-        // contents, and each names the one before as its parent.
-        ensures acked { D.is_honest self.new.disk → DoesAck D.Disk event.now self.old result self.new }
-        // While a worker's job runs, its next step is refused only for want of memory, or where a device call failed.
-        ensures jobs { D.is_honest self.new.disk → GoesOnUnless event.now self.old result }
-
-        // What it adds to the journal, or takes from it. What the run goes on from stays, but by a trim.
-        ensures adds { AddsToJournal event.now result self.old.core self.new.core }
-        ensures base { event.now ≢ Trim → self.new.core.base ≡ self.old.core.base }
-        // The journal is legal, the memory is the one that it makes, and its bits are those that commands and visits
-        // give.
-        ensures tracked { IsTracked self.new.core.base self.new.core.items self.new.core.memory }
-        ensures honest { D.is_honest self.new.disk → D.is_honest self.old.disk }
-
-        // At any moment of it a crash leaves what the journal allowed with which it began.
-        ensures any_moment { D.is_honest self.new.disk
-            → LeavesOnly D.Disk self.old.disk self.new.disk
-            (ShowsAllowed self.old.core.base (history_of self.old.core)) }
-        // At its end a crash leaves what the journal allows then.
-        ensures at_end { D.is_honest self.new.disk → Within (D.may_leave self.new.disk)
-            (ShowsAllowed self.new.core.base (history_of self.new.core)) }
-        // After an acknowledgement, or a reopening, it leaves that checkpoint with the memory at its freeze, or nothing
-        // saved where the reopening found none.
-        ensures shows { D.is_honest self.new.disk → Within (D.may_leave self.new.disk)
-            (ShowsReply result self.new.core.base (history_of self.new.core)) }
-        // So do the contents as read.
-        ensures contents { D.is_honest self.new.disk
-            → ShowsAllowed self.new.core.base (history_of self.new.core)
-            (D.contents self.new.disk) }
-        ensures reads { D.is_honest self.new.disk
-            → ShowsReply result self.new.core.base (history_of self.new.core)
-            (D.contents self.new.disk) }
+        // What it does, from a sound world to one: `made_tells` says what follows.
+        ensures does { IsMade D.Disk event.now self.old result self.new }
+        // From each point of a run at which the world stands it goes to one at which it stands then: a crash at any
+        // moment between them leaves what the journal allowed at the first, and after it what it allows at the second.
+        ensures moves { D.is_honest self.new.disk → MovesOn D.Disk event.now self.old result self.new }
     {
-        step_laws(&self.core, &self.disk);
+        store_laws();
+        self.points_follow();
+        self.made_tells();
+        world_laws(&self.core, &self.disk);
         let answer = make_step(&mut self.core, &mut self.disk, &mut self.kept, event);
-        self.core.sound();
-        self.core.pre_dumps();
-        self.core.goes_on();
+        world_laws(&self.core, &self.disk);
         answer
+    }
+
+    /// A law: all else that is said of an event follows from what it does: what it adds to the journal, what an
+    /// acknowledgement, a merge and a reopening leave on the disk, which files stay, why a job's step is refused, what
+    /// a crash within it and after it leaves, and how many device calls are out then.
+    pub fn made_tells(&self)
+        ensures { MadeTells D.Disk }
+    {
+        writes_commute();
+        left_as_believed();
+        contents_show();
     }
 
     /// Makes the steps of events in order, and returns their replies.
@@ -398,6 +322,7 @@ impl<D: Disk> World<D> {
     {
         self.sound();
         self.points_follow();
+        self.made_tells();
         let Ok(mut replies) = Vec::with_capacity(self.alloc, events.len()) else {
             return Err(Refusal::OutOfMemory);
         };

@@ -3,7 +3,7 @@ ghost use Rattle.sd_world.specs.Runs.{IsStep};
 ghost use Rattle.sd_world.specs.declared.event.Event.TheVariants.{Command as CommandEvent};
 
 use super::World;
-use crate::laws::step_laws;
+use crate::laws::{store_laws, world_laws};
 use crate::stepping::answer_of;
 use sd_command::{Command, Reply};
 use sd_disk::Disk;
@@ -14,10 +14,11 @@ impl<D: Disk> World<D> {
     pub fn apply(&mut self, seat: usize, command: Command) -> Reply
         ensures { IsStep D.Disk (CommandEvent seat command) self.old result self.new }
     {
-        step_laws(&self.core, &self.disk);
+        store_laws();
+        self.made_tells();
+        world_laws(&self.core, &self.disk);
         let told = self.core.apply_owned(seat, command);
-        self.core.sound();
-        self.core.pre_dumps();
+        world_laws(&self.core, &self.disk);
         answer_of(told)
     }
 }

@@ -14,7 +14,7 @@ ghost use Rattle.sd_world.specs.View.{IsNowhere, is_asked};
 
 use super::World;
 use crate::call_state::CallState;
-use crate::laws::step_laws;
+use crate::laws::{store_laws, world_laws};
 use crate::passed::{PassEnd, Passed};
 use sd_disk::Disk;
 use sd_gate::Worker;
@@ -35,15 +35,16 @@ impl<D: Disk> World<D> {
         ensures ends { IfSome result (λ end. end ≢ pass_end.AllMade
             × (end ≡ pass_end.AnotherIsNext → HasNoPassStep self.new.core)) }
     {
-        step_laws(&self.core, &self.disk);
+        store_laws();
+        self.made_tells();
+        world_laws(&self.core, &self.disk);
         let Ok(passed) = self.core.pass() else {
             return Some(PassEnd::OutOfMemory);
         };
         if !passed {
             return Some(PassEnd::AnotherIsNext);
         }
-        self.core.sound();
-        self.core.pre_dumps();
+        world_laws(&self.core, &self.disk);
         None
     }
 

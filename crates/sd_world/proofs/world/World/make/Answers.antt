@@ -1,6 +1,21 @@
+use Rattle.std.proofs.Common.{subst}
+use Rattle.sd_world.specs.Steps.{Does}
 use Rattle.sd_world.proofs.GoesOnLemmas.{goes_by_event}
 use Rattle.sd_world.proofs.world.World.make.Goals as goal
 
+pub returns-clause-step : goal.returns-clause-step
+returns-clause-step g c = (c.made_tells.ensures c.args.event c.args.self.now c.step.result c.step.new.self c.step.ensures.does).0
+
 pub returns-clause-goes_on : goal.returns-clause-goes_on
-returns-clause-goes_on g c = goes_by_event g.D.Disk c.args.event c.step.result c.args.self.now c.step.new.self
-    (record { does = c.step.ensures.does; adds = c.step.ensures.adds; little = c.step.ensures.little; checkpoint = c.step.ensures.checkpoint; merges = c.step.ensures.merges; keeps = c.step.ensures.keeps; closes = c.step.ensures.closes; ends = c.step.ensures.ends; copies = c.step.ensures.copies; files = c.step.ensures.files; jobs = c.step.ensures.jobs; honest = c.step.ensures.honest; base = c.step.ensures.base; tracked = c.step.ensures.tracked; any_moment = c.step.ensures.any_moment; at_end = c.step.ensures.at_end; shows = c.step.ensures.shows }) c.step.ensures.honest c.step.ensures.any_moment
+returns-clause-goes_on g c =
+    let step = returns-clause-step g c in
+    goes_by_event g.D.Disk c.args.event c.step.result c.args.self.now c.step.new.self step step.honest step.any_moment
+
+pub returns-clause-lowers : goal.returns-clause-lowers
+returns-clause-lowers g c = (c.made_tells.ensures c.args.event c.args.self.now c.step.result c.step.new.self c.step.ensures.does).1.lowers
+
+pub returns-clause-made : goal.returns-clause-made
+returns-clause-made g c = (c.made_tells.ensures c.args.event c.args.self.now c.step.result c.step.new.self c.step.ensures.does).1.made
+
+pub returns-clause-still : goal.returns-clause-still
+returns-clause-still g c = λ worker is. (subst (λ e. Does g.D.Disk e c.args.self.now c.step.result c.step.new.self) is (returns-clause-step g c).does).core

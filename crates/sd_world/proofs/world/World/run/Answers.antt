@@ -24,19 +24,20 @@ loop-event-preserved g c =
     let events = c.args.events.now in
     let one_more : take (i + 1) events ≡ take i events ++ event ∷ [] =
     take_more events i event c.loop-event-test.true ∙ ap (λ e. take i events ++ e ∷ []) (sym c.event-item.is) in
-    let made : IsStep g.D.Disk event c.loop-event.self c.step-answer.result c.step-answer.new.self = record { does = step.does; adds = step.adds; little = step.little; checkpoint = step.checkpoint; merges = step.merges; keeps = step.keeps; closes = step.closes; ends = step.ends; copies = step.copies; files = step.files; jobs = step.jobs; honest = step.honest; base = step.base; tracked = step.tracked; any_moment = step.any_moment; at_end = step.at_end; shows = step.shows } in
+    let made : IsStep g.D.Disk event c.loop-event.self c.step-answer.result c.step-answer.new.self =
+    (c.made_tells.ensures event c.loop-event.self c.step-answer.result c.step-answer.new.self step.does).0 in
     record {
       runs = subst (λ asked. Runs g.D.Disk c.args.self.now asked c.push_reserved.new.self.items c.step-answer.new.self) (sym one_more)
           (subst (λ answers. Runs g.D.Disk c.args.self.now (take i events ++ event ∷ []) answers c.step-answer.new.self) (sym c.push_reserved.ensures.items)
           (runs_more g.D.Disk c.args.self.now c.loop-event.self c.step-answer.new.self (take i events) c.loop-event.replies.items event c.step-answer.result before.runs made));
       count = c.push_reserved.ensures.len ∙ ap (λ n. n + 1) before.count;
       room = c.push_reserved.ensures.capacity ∙ before.room;
-      honest = λ honest. before.honest (step.honest honest);
+      honest = λ honest. before.honest (made.honest honest);
       span = λ honest.
           subst (λ asked. LeavesOnly g.D.Disk c.args.self.now.disk c.step-answer.new.self.disk (ShowsAllowedWithin g.D.Disk c.args.self.now asked c.push_reserved.new.self.items c.step-answer.new.self)) (sym one_more)
           (subst (λ answers. LeavesOnly g.D.Disk c.args.self.now.disk c.step-answer.new.self.disk (ShowsAllowedWithin g.D.Disk c.args.self.now (take i events ++ event ∷ []) answers c.step-answer.new.self)) (sym c.push_reserved.ensures.items)
           (span_more g.D.Disk c.args.self.now c.loop-event.self c.step-answer.new.self (take i events) c.loop-event.replies.items event c.step-answer.result before.runs made
-          (before.span (step.honest honest)) (step.any_moment honest)));
+          (before.span (made.honest honest)) (made.any_moment honest)));
     }
 
 pub returns-clause-promise : goal.returns-clause-promise
