@@ -37,6 +37,7 @@ use Rattle.sd_core.specs.Called.{IsTakenUp}
 use Rattle.sd_core.specs.GoingOn.{AreOwnLanes, HasItsJobs}
 use Rattle.sd_core.specs.Refusals.{is_idle, must_wait, work_refusal}
 use Rattle.sd_core.specs.Sound.{worker_of_lane}
+use Rattle.sd_core.specs.Working.{MovesOn}
 use Rattle.sd_world.specs.declared.event.Event.{Event}
 use Rattle.sd_world.specs.declared.event.Event.TheVariants.{Command, Begin, Work, TakeUp, HandInAt, Perform, PerformAt, Merge, Cancel, Reopen, Trim}
 use Rattle.sd_world.specs.declared.kept.Kept.{Kept}
@@ -73,11 +74,11 @@ set_there (x ∷ xs) (suc i) y z is = set_there xs i y z is
 looks_or_not : (call : Call) → IsLook call ⊎ (IsLook call → ⊥)
 looks_or_not Len = inl tt
 looks_or_not (Read at) = inl tt
-looks_or_not (Write at) = inr (λ no. no)
-looks_or_not WriteHeader = inr (λ no. no)
-looks_or_not Close = inr (λ no. no)
-looks_or_not OpenGate = inr (λ no. no)
-looks_or_not Cut = inr (λ no. no)
+looks_or_not (Write at) = inr (λ looks. looks)
+looks_or_not WriteHeader = inr (λ looks. looks)
+looks_or_not Close = inr (λ looks. looks)
+looks_or_not OpenGate = inr (λ looks. looks)
+looks_or_not Cut = inr (λ looks. looks)
 looks_or_not Sync = inl tt
 
 record AsksFor (kept : List Kept) (slot : ℕ) : Type 0 where
@@ -103,8 +104,8 @@ asked_or_not (k ∷ others) slot = elim (asked_or_not others slot) [
     all k here none (suc lane) request at = none lane request at
 
     first : (k : Kept) → IsUnasked others slot → IsUnasked (k ∷ others) slot ⊎ AsksFor (k ∷ others) slot
-    first Nothing none = inl (all Nothing (λ request no. absurd cc) none)
-    first (Outcome made) none = inl (all (Outcome made) (λ request no. absurd cc) none)
+    first Nothing none = inl (all Nothing (λ request is. absurd cc) none)
+    first (Outcome made) none = inl (all (Outcome made) (λ request is. absurd cc) none)
     first (Request request) none = elim (cases_eq request.id.slot slot) [
       | inr elsewhere ↦ inl (all (Request request) (λ one is on. absurd (elsewhere (ap (λ (r : Asked). r.id.slot) (same_request request one (ap Some is)) ∙ on))) none)
       | inl on ↦ elim (looks_or_not request.id.call) [
@@ -156,14 +157,14 @@ module _ {D : Type 0} (g : Ghosts D) (world : WorldView D) (is : IsWorld g world
       making : (running : Running) (image : Option Making) → world.core.dumper.running ≡ Some running → running.image ≡ image
           → IsImageOn world.core.base (history_of world.core) world.core.memory world.core.phases asked was.bodies world.core.numbers.serial was.believes.store was.believes.dump was.believes.beliefs running.parent running.number image
           → OnTaken
-      making running None runs no between = absurd (none_asked request (sym at ∙ between.none))
+      making running None runs its between = absurd (none_asked request (sym at ∙ between.none))
       making running (Some image) runs its made = IsTaken.by_checkpoint running image runs its
           (sym (subst (λ o. IfSome o (λ r. r.id.slot ≡ image.order.slot)) (same_asked request made.request (sym at ∙ made.own)) made.asked_at))
 
       by : (running : Option Running) → world.core.dumper.running ≡ running
           → IsAtWork world.core.base (history_of world.core) world.core.grows world.core.memory world.core.phases asked was.bodies world.core.numbers.serial was.believes.store was.believes.dump was.believes.beliefs world.core.dumper.running
           → OnTaken
-      by None no job = absurd (none_asked request (sym at ∙ (subst (IsAtWork world.core.base (history_of world.core) world.core.grows world.core.memory world.core.phases asked was.bodies world.core.numbers.serial was.believes.store was.believes.dump was.believes.beliefs) no job).none))
+      by None rests job = absurd (none_asked request (sym at ∙ (subst (IsAtWork world.core.base (history_of world.core) world.core.grows world.core.memory world.core.phases asked was.bodies world.core.numbers.serial was.believes.store was.believes.dump was.believes.beliefs) rests job).none))
       by (Some running) runs job = making running running.image runs refl
           (subst (IsAtWork world.core.base (history_of world.core) world.core.grows world.core.memory world.core.phases asked was.bodies world.core.numbers.serial was.believes.store was.believes.dump was.believes.beliefs) runs job).image
 
@@ -171,44 +172,39 @@ module _ {D : Type 0} (g : Ghosts D) (world : WorldView D) (is : IsWorld g world
   page_has : (lane : ℕ) → slice_get (lanes_of asked) lane ≡ Some (Some request) → OnTaken
   page_has lane at = by world.core.dumper.running refl
     where
-      known = was.believes.knows.in_use stands
-
       out : slice_get (writes_of_running world.core.dumper.running) lane ≡ Some (Some request.id)
-      out = ap (λ ids. slice_get ids lane) (sym known.writes) ∙ get_map _ (lanes_of asked) lane (Some request) at
+      out = ap (λ ids. slice_get ids lane) (sym (was.believes.knows.in_use stands).writes) ∙ get_map _ (lanes_of asked) lane (Some request) at
 
       making : (running : Running) (image : Option Making) → world.core.dumper.running ≡ Some running → running.image ≡ image
           → IsImageOn world.core.base (history_of world.core) world.core.memory world.core.phases asked was.bodies world.core.numbers.serial was.believes.store was.believes.dump was.believes.beliefs running.parent running.number image
           → OnTaken
-      making running None runs no between = absurd (no_write lane request.id (subst (λ o. slice_get (writes_of_image o) lane ≡ Some (Some request.id)) no (subst (λ o. slice_get (writes_of_running o) lane ≡ Some (Some request.id)) runs out)))
+      making running None runs its between = absurd (no_write lane request.id (subst (λ o. slice_get (writes_of_image o) lane ≡ Some (Some request.id)) its (subst (λ o. slice_get (writes_of_running o) lane ≡ Some (Some request.id)) runs out)))
       making running (Some image) runs its made = IsTaken.by_checkpoint running image runs its (sym (made.writing.each lane request at).on)
 
       by : (running : Option Running) → world.core.dumper.running ≡ running → OnTaken
-      by None no = absurd (no_write lane request.id (subst (λ o. slice_get (writes_of_running o) lane ≡ Some (Some request.id)) no out))
+      by None rests = absurd (no_write lane request.id (subst (λ o. slice_get (writes_of_running o) lane ≡ Some (Some request.id)) rests out))
       by (Some running) runs = making running running.image runs refl
-          (subst (IsAtWork world.core.base (history_of world.core) world.core.grows world.core.memory world.core.phases asked was.bodies world.core.numbers.serial was.believes.store was.believes.dump was.believes.beliefs) runs known.job).image
+          (subst (IsAtWork world.core.base (history_of world.core) world.core.grows world.core.memory world.core.phases asked was.bodies world.core.numbers.serial was.believes.store was.believes.dump was.believes.beliefs) runs (was.believes.knows.in_use stands).job).image
 
   -- the merger's lane
   merger_has : slice_get asked 1 ≡ Some (Some request) → OnTaken
   merger_has at = by world.core.merger refl (was.believes.knows.merging stands).is
     where
-      store = was.believes.store
-      beliefs = was.believes.beliefs
-
       doing_has : (merge : merger.Running) (doing : Doing) → world.core.merger ≡ Some merge → merge.doing ≡ doing
-          → IsMergeAt world.core.phases asked was.bodies world.core.numbers.serial store beliefs world.core.dumper.running merge.slot merge.source doing → OnTaken
+          → IsMergeAt world.core.phases asked was.bodies world.core.numbers.serial was.believes.store was.believes.beliefs world.core.dumper.running merge.slot merge.source doing → OnTaken
       doing_has merge due runs doing its = absurd (none_asked request (sym at ∙ its.1))
       doing_has merge (copying made) runs doing its = IsTaken.by_copy merge runs
-          (copy_on made.stage world.core.phases was.bodies store beliefs world.core.dumper.running merge.slot its.repeats.image made.taking request writes
-          (subst (IsAskedIn made.stage world.core.phases was.bodies store beliefs world.core.dumper.running merge.slot its.repeats.image made.taking) (same_asked request its.copy.request (sym at ∙ its.copy.own)) its.copy.asked_in))
+          (copy_on made.stage world.core.phases was.bodies was.believes.store was.believes.beliefs world.core.dumper.running merge.slot its.repeats.image made.taking request writes
+          (subst (IsAskedIn made.stage world.core.phases was.bodies was.believes.store was.believes.beliefs world.core.dumper.running merge.slot its.repeats.image made.taking) (same_asked request its.copy.request (sym at ∙ its.copy.own)) its.copy.asked_in))
       doing_has merge (opened serial) runs doing its = absurd its
       doing_has merge (retiring r) runs doing its = IsTaken.by_list its.one
           (subst (λ m. Contains (list_of m) its.one) (sym runs) (subst (λ d. Contains (merger.list_in d) its.one) (sym doing) (contains_at r.list r.ended its.one its.there)))
           (sym (its.closes.asked_at request (same_asked request its.closes.request (sym at ∙ its.closes.own))))
 
       by : (merge : Option merger.Running) → world.core.merger ≡ merge
-          → IsMergeOn world.core.phases asked was.bodies world.core.numbers.serial store beliefs world.core.dumper.running world.core.merger → OnTaken
-      by None no its = absurd (none_asked request (sym at ∙ (subst (IsMergeOn world.core.phases asked was.bodies world.core.numbers.serial store beliefs world.core.dumper.running) no its).1))
-      by (Some merge) runs its = doing_has merge merge.doing runs refl (subst (IsMergeOn world.core.phases asked was.bodies world.core.numbers.serial store beliefs world.core.dumper.running) runs its)
+          → IsMergeOn world.core.phases asked was.bodies world.core.numbers.serial was.believes.store was.believes.beliefs world.core.dumper.running world.core.merger → OnTaken
+      by None rests its = absurd (none_asked request (sym at ∙ (subst (IsMergeOn world.core.phases asked was.bodies world.core.numbers.serial was.believes.store was.believes.beliefs world.core.dumper.running) rests its).1))
+      by (Some merge) runs its = doing_has merge merge.doing runs refl (subst (IsMergeOn world.core.phases asked was.bodies world.core.numbers.serial was.believes.store was.believes.beliefs world.core.dumper.running) runs its)
 
 -- ---- what an opener asks for only looks
 
@@ -222,7 +218,7 @@ module _ {D : Type 0} (g : Ghosts D) (world : WorldView D) (is : IsWorld g world
   opener_asks request at = by world.core.opener refl
     where
       by : (opener : Option Looking) → world.core.opener ≡ opener → IsLook request.id.call
-      by None no = absurd (let clash : Some None ≡ Some (Some request.id) = sym (jobs.opener no) ∙ ap (λ outs. slice_get outs 2) is.outs ∙ get_map kept_id world.kept 2 (Request request) at in cc)
+      by None rests = absurd (let clash : Some None ≡ Some (Some request.id) = sym (jobs.opener rests) ∙ ap (λ outs. slice_get outs 2) is.outs ∙ get_map kept_id world.kept 2 (Request request) at in cc)
       by (Some opener) runs = opener_looks 2 request opener runs (get_map asked_of world.kept 2 (Request request) at)
 
   -- a request that writes is on a slot that a job has, in an open store
@@ -258,7 +254,9 @@ module _ {D : Type 0} (g : Ghosts D) (old new : WorldView D) (jobs : HasItsJobs 
   module _ (worker : Worker) (request : Asked) (taken : IsTakenUp worker old.core (CallTaken request) new.core) (keeps : KeepsRequest new.core.outs old.kept request new.kept) where
     unrefused : (o : Option Refusal) → work_refusal old.core worker ≡ o → work_refusal old.core worker ≡ None
     unrefused None is = is
-    unrefused (Some why) is = absurd (let no : CallTaken request ≡ StepTaken (reply.Refused why) = (taken.refused why is).1 in cc)
+    unrefused (Some why) is = absurd (let no : CallTaken request ≡ StepTaken (reply.Refused why) = (taken.refused why is).0 in cc)
+
+    goes : MovesOn old.core worker new.core
     goes = taken.leaves (unrefused (work_refusal old.core worker) refl)
 
     its_lane : worker_of_lane keeps.lane ≡ worker
@@ -305,7 +303,7 @@ module _ {D : Type 0} (g : Ghosts D) (old new : WorldView D) (jobs : HasItsJobs 
   takes_files worker answer (WorkerTakesUp.call request taken keeps worked) disk = asked_files worker request taken keeps disk
 
   hands_files : (worker : Worker) (place : ℕ) (answer : Reply) → HandsInAt worker place old.core old.kept answer new.core new.kept → new.disk ≡ old.disk → FilesStay g old new
-  hands_files worker place answer hands disk = set_files disk hands.lane Nothing hands.hands.left (λ request no. (let clash : Nothing ≡ Request request = no in cc))
+  hands_files worker place answer hands disk = set_files disk hands.lane Nothing hands.hands.left (λ request is. (let clash : Nothing ≡ Request request = is in cc))
 
   works_files : (worker : Worker) (answer : Reply) → WorkerWorks worker old.core old.kept answer new.core new.kept → new.disk ≡ old.disk → FilesStay g old new
   works_files worker answer (WorkerWorks.hands_in hands) disk = hands_files worker 0 answer hands disk
@@ -316,11 +314,11 @@ module _ {D : Type 0} (g : Ghosts D) (old new : WorldView D) (jobs : HasItsJobs 
   hand_in_files worker place answer (HandsInIfAny.none none idle) disk = same_files disk idle.left
 
   perform_files : (worker : Worker) (place : ℕ) (answer : Reply) → Performs g worker place old.disk old.kept answer new.disk new.kept → FilesStay g old new
-  perform_files worker place answer (Performs.none none idle) = same_files idle.disk idle.left
+  perform_files worker place answer (Performs.none none idle) slot free = same_files idle.disk idle.left slot free
   perform_files worker place answer (Performs.performs it) slot free = (
     file,
     inl (subst (λ l. IsUnasked l slot) (sym it.keeps.left)
-        (unasked_set old.kept it.lane slot (Outcome it.keeps.made) (λ request no. (let clash : Outcome it.keeps.made ≡ Request request = no in cc)) free)),
+        (unasked_set old.kept it.lane slot (Outcome it.keeps.made) (λ request is. (let clash : Outcome it.keeps.made ≡ Request request = is in cc)) free)),
   )
     where
       file : file_at (g.contents new.disk) slot ≡ file_at (g.contents old.disk) slot
