@@ -118,7 +118,7 @@ each_crate_is_named() {
 }
 
 # Each text that an edit or a plant replaces stands once in its file: else it would try nothing.
-wrong_bodies_fit_their_files() {
+planted_bugs_fit_their_files() {
   needs_python || return
   python3 - "$here/../crates" << 'PYTHON'
 import sys
@@ -148,4 +148,4 @@ try proved_tables_name_what_is_there
 try documents_are_in_plain_words
 try documents_are_short
 try each_crate_is_named
-try wrong_bodies_fit_their_files
+try planted_bugs_fit_their_files
