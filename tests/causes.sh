@@ -1,5 +1,5 @@
-# What is reported on the standard error after a fixed line: the cause, and what may help. The standard output stays as it
-# is.
+# What is reported on the standard error after a fixed line: the cause, and what may help. The standard output stays as
+# it is.
 
 # A damaged slot in words, by each program that opens the store; and nothing with --quiet.
 damage_is_told_in_words() {

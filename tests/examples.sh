@@ -31,7 +31,8 @@ first_run_prints_what_the_readme_has() {
 
 # What isn't a script is refused before anything is built.
 first_run_checks_its_argument() {
-  ends_with 2 "" "first-run: missing.ckpt: no script that can be read" "$here/../examples/first-run" missing.ckpt || return 1
+  ends_with 2 "" "first-run: missing.ckpt: no script that can be read" "$here/../examples/first-run" missing.ckpt \
+    || return 1
   ends_with 2 "" "first-run: .: no script that can be read" "$here/../examples/first-run" . || return 1
   ends_with 2 "" "usage: examples/first-run [SCRIPT]" "$here/../examples/first-run" one two
 }
@@ -70,7 +71,8 @@ first_run_keeps_its_program() {
   make_tree
   rm tree/out/ckpt-checked
   (cd tree && examples/first-run > ../out 2> ../err) || { cat err; return 1; }
-  same "what was run" "$(cat out)" "built run --restore $PWD/tree/out/first-store $PWD/tree/examples/first.ckpt" || return 1
+  same "what was run" "$(cat out)" "built run --restore $PWD/tree/out/first-store $PWD/tree/examples/first.ckpt" \
+    || return 1
   has "the build" "$(cat err)" "built" || return 1
   same "the last line" "$(tail -n 1 err)" "the store is kept; try: ./ckpt list out/first-store" || return 1
   (cd tree && examples/first-run > ../out 2> ../err) || { cat err; return 1; }

@@ -1,6 +1,6 @@
 # ./install: what it puts in place works from there, and all of it is taken away again; and so as a Debian package.
 
-# Checks that program, man page, completion and client of a prefix are found and work. Nothing of the Rattle kit is there.
+# Checks that program, man page, completion and client of a prefix are found and work, without the Rattle kit.
 works_from() {  # works_from PREFIX FOLDER-OF-PYTHON-MODULES
   local path=$1/bin:/usr/bin:/bin
   same "the version" "$(env -i PATH="$path" ckpt --version)" "$("$ckpt" --version)" || return 1
@@ -48,7 +48,8 @@ installs_and_uninstalls() {
   HOME=$(realpath home) "$here/../install" --uninstall || return 1
   same "what is left" "$(find home -mindepth 1)" "" || return 1
   ends_with 1 "" "install: nothing is installed in $prefix" "$here/../install" --uninstall "$prefix" || return 1
-  "$here/../install" --program "$ckpt" home/a/b > told && "$here/../install" --uninstall home/a/b || { cat told; return 1; }
+  "$here/../install" --program "$ckpt" home/a/b > told || { cat told; return 1; }
+  "$here/../install" --uninstall home/a/b || return 1
   same "what is left of a deep prefix" "$(find home -mindepth 1)" ""
 }
 
@@ -58,7 +59,8 @@ installs_beside_files_of_others() {
   echo mine > own/bin/other
   "$here/../install" --program "$ckpt" own > told || { cat told; return 1; }
   "$here/../install" --uninstall own || return 1
-  same "what is left" "$(cd own && find . -mindepth 1 | sort | tr '\n' ' ')" "./bin ./bin/other ./share ./share/man " || return 1
+  same "what is left" "$(cd own && find . -mindepth 1 | sort | tr '\n' ' ')" "./bin ./bin/other ./share ./share/man " \
+    || return 1
   echo mine > own/bin/ckpt
   ends_with 1 "" "install: $(realpath own)/bin/ckpt is there, and wasn't installed by this" \
     "$here/../install" --program "$ckpt" own || return 1
@@ -69,8 +71,8 @@ installs_beside_files_of_others() {
 install_reports_what_is_missing() {
   ends_with 1 "" "install: $(realpath .)/missing: no program" "$here/../install" --program missing own || return 1
   [ ! -e own ] || { echo "a prefix was made"; return 1; }
-  ends_with 2 "" "install: usage: ./install [--program FILE] [--build] [PREFIX | --deb FILE], or ./install --uninstall [PREFIX]" \
-    "$here/../install" --unknown
+  same "the status of an option that isn't there" "$(ends "$here/../install" --unknown)" 2 || return 1
+  has "its cause" "$(cat err)" "install: usage: ./install "
 }
 
 debian_package_has_the_same() {
