@@ -23,6 +23,20 @@ _ckpt() {
       mapfile -t COMPREPLY < <(compgen -f -- "$word")
       return
       ;;
+    --checkpoint | --at-least | --space | --rounds)
+      COMPREPLY=()
+      return
+      ;;
+  esac
+  # After DIR these take numbers, for which nothing is offered.
+  case $program-$word in
+    *--*) ;;
+    mutate-* | drop-* | show-* | diff-*)
+      if printf '%s\n' "${COMP_WORDS[@]:2:COMP_CWORD-2}" | grep -q '^[^-]'; then
+        COMPREPLY=()
+        return
+      fi
+      ;;
   esac
   case $word in
     -*) mapfile -t COMPREPLY < <(compgen -W "$options" -- "$word") ;;

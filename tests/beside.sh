@@ -1,6 +1,6 @@
 # Readers beside a run: what they print is one checkpoint, whole, and so are the lines of `list` and `verify`.
 
-# A script in which checkpoint N has the byte N at the start of two pages; merges close the images behind it.
+# A script in which checkpoint N has the byte N at the start of two pages; merges close the images after it.
 write_numbered_script() {  # write_numbered_script COUNT
   local number
   echo 'mmap 1 0x10000 8192 rw'

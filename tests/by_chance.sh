@@ -1,4 +1,4 @@
-# Calls by chance on a few spaces of a memory, and on plain maps of pages beside it: the program answers what the maps
+# Random calls on a few spaces of a memory, and on plain maps of pages beside it: the program answers what the maps
 # do, and its store shows what they have.
 
 # The permissions of each page as `SPACE:PAGE`, the first byte of a sector as `SPACE:PAGE:SECTOR`, and the living
@@ -94,7 +94,7 @@ plain() {  # plain CALL SPACE WORD..
   "plain_$@"
 }
 
-# The next call by chance, in words of the plain maps: on pages near a border of tables, also on a space that isn't
+# The next random call, in words of the plain maps: on pages near a border of tables, also on a space that isn't
 # alive, and of a range without pages or past the last. It is no fork with 3 spaces alive.
 call_by_chance() {
   local space first count prot

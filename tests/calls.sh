@@ -31,8 +31,8 @@ were_counted() {  # were_counted LEAST
   [ "$(($(cat count)))" -ge "$1" ] || { echo "fewer than $1 calls were counted"; return 1; }
 }
 
-# One call of a program that only reads fails: the status is 1, its cause is told, and LINE stands alone where a
-# document is asked for, and else behind lines that are in the file whole too; or the folder isn't opened. Counts in
+# One call of a program that only reads fails: the status is 1, its cause is reported, and LINE stands alone where a
+# document is asked for, and else after lines that are in the file whole too; or the folder isn't opened. Counts in
 # `told` how often LINE came.
 reader_fails_at() {  # reader_fails_at NUMBER LINE WORD..
   local number=$1 line=$2 lines
@@ -64,7 +64,7 @@ reader_tells_of_failures() {  # reader_tells_of_failures FIRST LINE WORD..
   [ "$told" -gt 0 ] || { echo "$* told $line at no call of $calls"; return 1; }
 }
 
-# Makes the library, the answers of a run without failures, and what is restored behind each checkpoint: memory-0 to
+# Makes the library, the answers of a run without failures, and what is restored after each checkpoint: memory-0 to
 # memory-3.
 prepare_calls() {
   local number=0 line
@@ -131,12 +131,12 @@ run_does_without() {
   esac
 }
 
-# An answer tells that a call failed that a run can't do without.
+# An answer reports that a call failed that a run can't do without.
 tells_of_failure() {
   ! cmp -s out whole.out || run_does_without || { echo "no answer tells that '$(cat called)' failed"; return 1; }
 }
 
-# One call fails: an answer tells of it, each is a named one, and nothing that was acknowledged is lost.
+# One call fails: an answer reports it, each is a named one, and nothing that was acknowledged is lost.
 call_may_fail() {  # call_may_fail NUMBER HOW
   run_failing "$1" "$2"
   [ $? -le 1 ] || { echo "another status"; return 1; }

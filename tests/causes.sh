@@ -1,5 +1,5 @@
-# What is told on the standard error behind a fixed line: the cause, and what may help. The standard output stays as it
-# is.
+# What is reported on the standard error after a fixed line: the cause, and what may help. The standard output stays as
+# it is.
 
 # A damaged slot in words, by each program that opens the store; and nothing with --quiet.
 damage_is_told_in_words() {
@@ -15,7 +15,7 @@ the newest checkpoint needs it, and an older copy of the file may help"
   done
 }
 
-# A broken chain is told with the list, which still has the images.
+# A broken chain is reported with the list, which still has the images.
 broken_chains_are_told() {
   store_of "2 2 2 2 1 1 parent"
   ends_with 1 "damaged 000 18" "ckpt: store: img-000 is damaged: a page is in a parent that does not have it; \
@@ -34,7 +34,7 @@ fill_store() {  # fill_store COUNT
   done
 }
 
-# What is told of a request for which too few slots are free, behind its script or at once.
+# What is reported of a request for which too few slots are free, after its script or at once.
 few_slots="a merge frees those of the images that it takes in"
 
 few_slots_are_told() {
@@ -54,7 +54,7 @@ $told" "$ckpt" run --strict store script || return 1
   done
 }
 
-# The line is the right one also behind answers that are longer than the output's buffer.
+# The line is the right one also after answers that are longer than the output's buffer.
 few_slots_are_told_behind_long_answers() {
   { echo 'mmap 1 0x10000 0x200000 rw'
     for number in 1 2 3 4 5 6 7; do echo 'checkpoint 8'; done
@@ -64,7 +64,7 @@ few_slots_are_told_behind_long_answers() {
   same "what is told" "$(cat err)" "ckpt: store: script line 11: no-slot: free slots: 1, wanted: 10; $few_slots"
 }
 
-# The first of them is told, with the slots that were free then, also where a merge has freed some since.
+# The first of them is reported, with the slots that were free then, also where a merge has freed some since.
 the_first_request_with_few_slots_is_told() {
   fill_store 63
   printf 'checkpoint 0\nmerge\ncheckpoint 0\nbegin 8\n' > script
@@ -75,7 +75,7 @@ acked 64
 begun 65" "ckpt: store: script line 1: no-slot: free slots: 1, wanted: 2; $few_slots" "$ckpt" run store script
 }
 
-# A merge and a shell tell it at once.
+# A merge and a shell report it at once.
 few_slots_are_told_at_once() {
   fill_store 64
   ends_with 1 "refused 12 no-slot" "ckpt: store: no-slot: free slots: 0, wanted: 1; $few_slots" "$ckpt" merge store \
@@ -93,7 +93,7 @@ merged 64
 acked 64" "" "$ckpt" shell --quiet store < script
 }
 
-# Other refusals are told without slots.
+# Other refusals are reported without slots.
 other_refusals_have_no_slots() {
   mkdir store
   local told="ckpt: store: it shows no checkpoint, so there is nothing to merge"
@@ -111,7 +111,7 @@ file|file: not a directory; DIR is the folder of a store, with the files img-000
 empty|empty: img-005: not a regular file
 store|store: img-005: not a regular file"
 
-# Each is told with its cause, also where a document is asked for; and nothing of it with --quiet.
+# Each is reported with its cause, also where a document is asked for; and nothing of it with --quiet.
 folders_that_are_not_opened_are_told() {
   local folder cause words
   mkdir -p empty/img-005
@@ -146,7 +146,7 @@ folders_without_files_are_told() {
   ends_with 3 "empty chain" "" "$ckpt" restore -q store
 }
 
-# Words that stand where others are meant, with what is answered and what is told.
+# Words that stand where others are meant, with what is answered and what is reported.
 mistakes="\
 run file script|cannot open DIR|file: not a directory; DIR is the folder of a store, with the files img-000 to img-063
 shell file/x|cannot open DIR|file/x: not a directory; DIR is the folder of a store, with the files img-000 to img-063
@@ -171,7 +171,7 @@ mistakes_are_told() {
   ends_with 1 "cannot open DIR" "ckpt: an empty name: No such file or directory (os error 2)" "$ckpt" run "" script
 }
 
-# Lines that don't fit, and what is told of them. NUMBER and RWX stand for what has to be there.
+# Lines that don't fit, and what is reported of them. NUMBER and RWX stand for what has to be there.
 a_number="a number below 2^64, decimal or 0x and hexadecimal"
 some_of_rwx="none, or some of rwx in this order"
 unfit_lines='mmap 1 0x10000 4096 wr|field 5 has to be RWX, not "wr"

@@ -20,7 +20,7 @@ closed_output_harms_no_run() {
   same "verify" "$("$ckpt" verify store)" "ok checkpoint 2 images 2"
 }
 
-# Words that don't fit end with status 2, also where that can't be told; a help that isn't printed ends with 1.
+# Words that don't fit end with status 2, also where that can't be reported; a help that isn't printed ends with 1.
 wrong_words_keep_their_status() {
   has_full_device || return
   local words

@@ -109,7 +109,7 @@ what_differs_beside_a_run_is_of_one_moment() {
   beside_runs diff_beside
 }
 
-# What differs by the memories that `restore` prints, of any two checkpoints of a script by chance.
+# What differs by the memories that `restore` prints, of any two checkpoints of a random script.
 what_differs_is_what_restores_say() {
   needs_python || return
   local turn old new

@@ -253,7 +253,7 @@ import_that_is_not_acknowledged_may_be_saved() {
   same "the store" "$("$ckpt" verify store)" "ok checkpoint 1 images 1"
 }
 
-# A folder into which another export writes, as its lock tells, is left alone.
+# A folder into which another export writes, as its lock shows, is left alone.
 exports_into_one_folder_exclude_each_other() {
   command -v flock > found || { echo "needs flock"; return 77; }
   make_store store || return 1
@@ -458,7 +458,7 @@ is_refused() {  # is_refused CORE LINE CAUSE
 }
 
 # Each read of an import in turn gives another first byte, as where somebody else writes the file meanwhile: what is
-# acknowledged is the memory of the file, or nothing is saved. A page that is read in two ways is told as
+# acknowledged is the memory of the file, or nothing is saved. A page that is read in two ways is reported as
 # `core changed`.
 core_that_changes_is_not_saved() {
   local number count said=0

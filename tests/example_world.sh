@@ -1,14 +1,14 @@
-# The ledger of `example_world`, killed at moments by chance and started again.
+# The ledger of `example_world`, killed at random moments and started again.
 
 ledger=$here/../crates/example_world/out/example_world
 
-# What a ledger is told to have had when it is opened and makes no transfer. It checks the sum of its accounts.
+# What a ledger is reported to have had when it is opened and makes no transfer. It checks the sum of its accounts.
 ledger_had() {
   "$ledger" store 0 2> err | sed 's/ transfers$//'
   [ ! -s err ] || cat err
 }
 
-# It goes on with what was acknowledged last, or with the checkpoint behind that, which was saved and not told.
+# It goes on with what was acknowledged last, or with the checkpoint after that, which was saved and not reported.
 ledger_that_is_killed_loses_nothing() {
   [ -x "$ledger" ] || { echo "needs crates/example_world/out/example_world"; return 77; }
   local turn acked=0 had

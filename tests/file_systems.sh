@@ -6,7 +6,7 @@ mount_small() {  # mount_small DIR
   [ "$(id -u)" = 0 ] && mount -t tmpfs -o size=4m tmpfs "$1" 2>/dev/null
 }
 
-# Runs a function on a file system of its own, which is taken away behind it.
+# Runs a function on a file system of its own, which is taken away after it.
 on_small() {  # on_small FUNCTION
   mount_small disk || { echo "needs to mount a tmpfs"; return 77; }
   local status=0

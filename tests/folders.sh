@@ -7,7 +7,7 @@ new_folder_stands_in_its_parent() {
   same "verify" "$("$ckpt" verify new/parent/store)" "ok checkpoint 1 images 1"
 }
 
-# The file calls of a program, one a line, as strace tells them with the paths of descriptors: the file calls-of-run.
+# The file calls of a program, one a line, as strace prints them with the paths of descriptors: the file calls-of-run.
 trace() {  # trace PROGRAM WORD..
   command -v strace > /dev/null || { echo "needs strace"; return 77; }
   strace -o calls-of-run true 2> err || { echo "strace can't run here"; return 77; }
@@ -126,7 +126,7 @@ files_are_synced_before_the_store_is_opened() {
 }
 
 # The calls on a slot's file, a letter each: z a 0 and o an open gate at its first byte, h the header, d what stands
-# behind it, t a cut, s a sync.
+# after it, t a cut, s a sync.
 calls_on() {  # calls_on SLOT
   awk -v file="img-$1>" '
     !index($0, file) { next }

@@ -10,7 +10,7 @@ growths_can_be_refused() {
   cc -O2 -shared -fPIC -o refuse.so "$here/refuse_growth.c"
 }
 
-# Whether a run ended since no thread could be made: the mutators then come behind the dumper, which has waited for them
+# Whether a run ended since no thread could be made: the mutators then come after the dumper, which has waited for them
 # in vain.
 lacks_a_thread() { grep -q '^  left: (Err(Idle), Err(Idle))$' out err; }
 

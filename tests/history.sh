@@ -127,7 +127,7 @@ print(" ".join(str(c["checkpoint"]) for c in past), past[0]["newest"], found["un
   same "its document" "$(cat out)" "$("$ckpt" verify --json store 2> err)"
 }
 
-# A gate byte that was lost makes an older checkpoint the newest: `verify` alone can't tell.
+# A gate byte that was lost makes an older checkpoint the newest: `verify` alone can't see it.
 a_newest_checkpoint_that_is_lost() {
   make_past store || return 1
   ends_with 0 "ok checkpoint 4 images 4" "" "$ckpt" verify --at-least 4 store || return 1

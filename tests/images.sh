@@ -45,7 +45,7 @@ header() {  # header VERSION KIND SERIAL STANDS PARENT CHECKPOINT PAGES TABLE-LE
   head -c 4032 /dev/zero
 }
 
-# Writes a byte into a file, at a place or behind its end.
+# Writes a byte into a file, at a place or after its end.
 put_byte() {  # put_byte FILE PLACE BYTE
   printf '%b' "\\x$(printf %02x "$3")" | dd of="$1" bs=1 seek="$2" conv=notrunc status=none
 }

@@ -25,7 +25,7 @@ documents_have_what_the_lines_have() {
   done
 }
 
-# The newest dump isn't the last image: a pre-dump of a checkpoint that was given up is behind it.
+# The newest dump isn't the last image: a pre-dump of a checkpoint that was given up is after it.
 the_tip_is_not_the_last_image() {
   printf '%s\n' 'mmap 1 0x10000 4096 rw' 'store 1 0x10000 61' 'checkpoint 0' 'store 1 0x10000 62' 'begin 1' \
     'step dumper 36' cancel > script
@@ -93,7 +93,7 @@ documents_of_a_checkpoint() {
   has "the fault" "$(cat out)" '"fault":"damaged","reason":17,"slot":0,' || return 1
 }
 
-# A file call that fails is told by a document, or without --json behind the lines; or the folder isn't opened. The
+# A file call that fails is reported by a document, or without --json after the lines; or the folder isn't opened. The
 # first five calls hold descriptors, and look whether a run is writing the store.
 a_failing_device_is_told() {
   calls_can_fail || return
@@ -105,7 +105,7 @@ a_failing_device_is_told() {
   done
 }
 
-# Where a growth is refused, a document is whole, or something is told.
+# Where a growth is refused, a document is whole, or something is reported.
 a_refused_growth_is_told() {
   [ -z "${CHECKED:-}" ] || { echo "a build with checks has an allocator of its own"; return 77; }
   growths_can_be_refused || return

@@ -92,7 +92,7 @@ scripts_that_do_not_fit() {
   same "the store" "$(sums store)" "$before"
 }
 
-# Scripts that fit, ` => `, and what they print over an empty store behind `reopened none`, each with such escapes.
+# Scripts that fit, ` => `, and what they print over an empty store after `reopened none`, each with such escapes.
 fit_scripts='# a page\n\nmmap 1 0x10000 4096 rx\nload 1 0x10000 1\nstore 1 0x10000 61\n => done\nbytes 00\nsegv accerr\n
 mmap 1 4096 0x2000 rw\nmunmap 1 4096 0x1000\nload 1 4096 1\nload 1 8192 1 => done\ndone\nsegv maperr\nbytes 00\n
 munmap 2 4096 0x1000 => refused 3 no-such-space\n

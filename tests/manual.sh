@@ -54,9 +54,21 @@ completion_offers_programs_options_and_folders() {
       || return 1
   done
   mkdir stores
-  same "a folder" "$(offered restore st)" stores
+  same "a folder" "$(offered restore st)" stores || return 1
+  same "a folder after an option" "$(offered show --json st)" stores
+}
+
+completion_offers_nothing_for_numbers() {
+  . "$here/../docs/ckpt.bash"
+  local words
+  mkdir 1
+  for words in "diff stores" "drop stores" "show --json stores" "mutate stores" "restore --checkpoint" \
+    "verify --at-least" "export --space" "import --rounds"; do
+    same "$words" "$(offered $words "")" "" || return 1
+  done
 }
 
 try manual_is_shown_without_a_warning
 try manual_has_each_program_and_option
 try completion_offers_programs_options_and_folders
+try completion_offers_nothing_for_numbers

@@ -12,7 +12,7 @@ areas_of() {  # areas_of SPACE
 }
 
 # Lines that map 1,024 areas of three pages each, with one page between them; in a build with checks, which is slow for
-# each page, those behind the first four have one page.
+# each page, those after the first four have one page.
 full_space() {
   local number length=0x3000
   for number in {0..1023}; do
@@ -70,7 +70,7 @@ mmap 1 0x5000 1 rw|refused 2 ENOMEM|1023
 munmap 1 0x5000 1|done|1024
 munmap 1 0x9000 1|refused 2 ENOMEM|1024"
 
-# Each child has the areas behind the call before it.
+# Each child has the areas after the call before it.
 an_area_is_freed() {
   local child=2 call answer count
   {

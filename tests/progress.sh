@@ -14,7 +14,7 @@ of_pages() {  # of_pages COUNT
   echo "checkpoint 0"
 }
 
-# Builds what makes each write of a store slow, or tells what is missing.
+# Builds what makes each write of a store slow, or says what is missing.
 slow_writes() {
   command -v cc > /dev/null || { echo "no C compiler"; return 77; }
   needs_python || return

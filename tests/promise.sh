@@ -105,16 +105,21 @@ links_lead_to_clauses() {
   "$sources/docs/links"
 }
 
-# Each row of the README's table of promises names wrong bodies that the gate refuses.
-each_promise_names_wrong_bodies() {
+# Each row of a page's table of promises names planted bugs that the gate refuses.
+rows_name_planted_bugs() {  # rows_name_planted_bugs PAGE HEAD LEAST
   local rows name
-  sed -n '/^| Promise | Carried by | Refused/,/^$/p' "$sources/README.md" | sed '1,2d; /^$/d' > rows
+  sed -n "/^$2/,/^\$/p" "$sources/$1" | sed '1,2d; /^$/d' > rows
   rows=$(wc -l < rows)
-  [ "$rows" -ge 12 ] || { cat rows; return 1; }
-  same "the rows with a wrong body" "$(grep -cE '\| `[a-z_]+`[^|]* \|$' rows)" "$rows" || return 1
+  [ "$rows" -ge "$3" ] || { cat rows; return 1; }
+  same "the rows of $1 with a planted bug" "$(grep -cE '\| `[a-z_]+`[^|]* \|$' rows)" "$rows" || return 1
   for name in $(sed -E 's/.*\| ([^|]*) \|$/\1/; s/[`,]//g' rows); do
-    ls "$sources"/crates/*/must-fail/"$name.edit" > /dev/null 2>&1 || { echo "no wrong body $name"; return 1; }
+    ls "$sources"/crates/*/must-fail/"$name.edit" > /dev/null 2>&1 || { echo "no planted bug $name"; return 1; }
   done
+}
+
+each_promise_names_planted_bugs() {
+  rows_name_planted_bugs README.md '| Promise | Carried by | Refused' 6 || return 1
+  rows_name_planted_bugs docs/CLAUSES.md '| Promise | Carried by | Definitions to believe | Refused' 12
 }
 
 try promise_quotes_the_definitions
@@ -122,5 +127,5 @@ try promise_is_small
 try what_is_believed_is_listed
 try hidden_definitions_are_counted
 try links_lead_to_clauses
-try each_promise_names_wrong_bodies
+try each_promise_names_planted_bugs
 try programs_call_what_is_promised

@@ -48,7 +48,7 @@ reader_by_the_formats_sees_damage() {
   same "what is shown of three images" "$(cat found)" "damaged 002 17"
 }
 
-# file(1) tells an image by examples/magic.
+# file(1) names an image by examples/magic.
 file_tells_an_image() {
   command -v file > found || { echo "needs file"; return 77; }
   make_store store || return 1

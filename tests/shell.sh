@@ -78,7 +78,7 @@ child 3\nmerged 2\n
 done\ndone\n'
 }
 
-# Bytes in bulk, over pages, and what stops them: the bytes behind a request that is refused are no requests.
+# Bytes in bulk, over pages, and what stops them: the bytes after a request that is refused are no requests.
 shell_puts_and_gets_bytes() {
   { printf 'mmap 1 0x10000 8192 rw\nput 1 0x10ffd 6\nab\ncd\nget 1 0x10ffc 8\nload 1 0x11000 1\n'
     printf 'put 1 0x11ffe 4\n1234get 1 0x11ffe 4\nload 1 0x11ffe 2\nput 2 0x10000 5\nfork\nget 9 0 1\n'
@@ -169,7 +169,7 @@ shell_into_a_full_device() {
   same "the cause" "$(cat err)" "ckpt: standard output: No space left on device (os error 28)"
 }
 
-# An input that can't be read has its cause told.
+# An input that can't be read has its cause reported.
 shell_tells_why_its_input_is_not_read() {
   same "the status" "$("$ckpt" shell store < / > out 2> err; echo $?)" 1 || return 1
   same "the output" "$(cat out)" "reopened none
@@ -186,7 +186,7 @@ shell_answers_at_once() {
   same "a key that isn't there" "$(python3 "$here/../examples/client.py" "$ckpt" store get size)" none
 }
 
-# On a terminal it asks for each line, and tells what is wrong with one.
+# On a terminal it asks for each line, and says what is wrong with one.
 shell_asks_on_a_terminal() {
   needs_python || return
   printf 'load 1\nquit\n' > lines
@@ -195,7 +195,7 @@ shell_asks_on_a_terminal() {
 > ' "" python3 "$here/on_terminal.py" 01 "$ckpt" shell store < lines
 }
 
-# On a terminal `help` lists the requests, and a checkpoint of too many rounds has its limit told.
+# On a terminal `help` lists the requests, and a checkpoint of too many rounds has its limit reported.
 shell_helps_on_a_terminal() {
   needs_python || return
   printf 'help\ncheckpoint 9\nquit\n' > lines
@@ -242,7 +242,7 @@ wait_for_answer() {  # wait_for_answer FILE
   return 1
 }
 
-# What a client's shell told on the standard error, but for the slots that weren't free: the client merges then.
+# What a client's shell printed on the standard error, but for the slots that weren't free: the client merges then.
 faults_of_client() {  # faults_of_client FILE
   grep -v '^ckpt: store: no-slot: free slots: ' "$1"
 }

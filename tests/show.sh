@@ -154,7 +154,7 @@ a_wrong_digest_is_shown() {
   shows 1 "$(hello_lines 2 wrong "17 the digest is not that of the file")" 0
 }
 
-# The fields stand as they are, and the table is shown behind a header of which another rule breaks.
+# The fields stand as they are, and the table is shown after a header of which another rule breaks.
 a_damaged_header_is_shown_as_far_as_it_goes() {
   hello_store 2 || return 1
   change 10=7 16=0
@@ -289,7 +289,7 @@ assert slots[0]['header']['kind'] == 7 and slots[0]['spaces'][0]['space'] == 1" 
   python_finds "assert slots[0]['digest'] == 'none' and slots[0]['header']['digest'] == 64 * '0'"
 }
 
-# A digest that isn't that of the file is wrong in a document too, and the slots behind a damaged one follow.
+# A digest that isn't that of the file is wrong in a document too, and the slots after a damaged one follow.
 wrong_digests_are_shown_as_json() {
   make_store store || return 1
   cp store/img-000 store/img-001

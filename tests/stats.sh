@@ -74,7 +74,7 @@ counts_may_be_the_standard_error() {
 $checkpoint"
 }
 
-# A call that failed has made nothing: as many checkpoints are told as were acknowledged, whichever of the last calls
+# A call that failed has made nothing: as many checkpoints are reported as were acknowledged, whichever of the last calls
 # fails.
 failed_calls_make_no_record() {
   calls_can_fail || return
@@ -109,7 +109,7 @@ checkpoint 1: 1 rounds, 17 device calls, S s; frozen 5 device calls, S s
 merge 3: 1 images read, 2 closed, S s"
 }
 
-# What is told of a file whose folder is missing.
+# What is reported of a file whose folder is missing.
 no_folder="the folder in which it is to stand has to be there"
 
 counts_that_cannot_be_written() {
@@ -217,7 +217,7 @@ files_beside_slots_may_have_counts() {
     "$ckpt" run --stats new/img-000 new script
 }
 
-# Where a growth is refused, each record is there, or the standard error tells how many aren't, and the status is 1.
+# Where a growth is refused, each record is there, or the standard error says how many aren't, and the status is 1.
 records_that_find_no_room_are_told() {
   [ -z "${CHECKED:-}" ] || { echo "a build with checks has an allocator of its own"; return 77; }
   in_memory || return 1

@@ -1,6 +1,6 @@
-# Checkpoints and merges that something meets behind each of their steps.
+# Checkpoints and merges that something meets after each of their steps.
 
-# Does something behind each step, eight at a time, in folders of their own.
+# Does something after each step, eight at a time, in folders of their own.
 behind_each() {  # behind_each FIRST LAST COMMAND
   local step
   for step in $(seq "$1" "$2"); do
@@ -27,7 +27,7 @@ area 0x10000 0x11000 rw-
 bytes 0x10000 $2${zeros:${#2}}"
 }
 
-# The second checkpoint is trimmed behind this step: up to the first one, and once it is acknowledged, up to itself.
+# The second checkpoint is trimmed after this step: up to the first one, and once it is acknowledged, up to itself.
 trimmed_behind() {  # trimmed_behind STEP
   cat > script << END
 mmap 1 0x10000 4096 rw
@@ -60,7 +60,7 @@ bytes 68656c6c6f" || return 1
 # A checkpoint of one page without pre-dumps takes 36 steps before its last one.
 a_checkpoint_is_trimmed_at_each_step() { behind_each 1 36 trimmed_behind; }
 
-# A checkpoint is cancelled behind this step, or finished where a call of it is out or its gate may be open; the next
+# A checkpoint is cancelled after this step, or finished where a call of it is out or its gate may be open; the next
 # one is acknowledged, and what was stored is restored.
 cancelled_behind() {  # cancelled_behind STEP
   local begun="reopened none done done begun 1" ended
@@ -93,7 +93,7 @@ make_chain() {
   printf 'store 1 0x10000 63\ncheckpoint 0\nbegin-merge\n'
 }
 
-# A run ends behind this step of a merge of that chain: the store shows the memory of the chain.
+# A run ends after this step of a merge of that chain: the store shows the memory of the chain.
 merged_behind() {  # merged_behind STEP
   { make_chain; printf 'step merger %d\n' "$1"; } > script
   same "the status" "$(ends "$ckpt" run store script)" 0 || return 1

@@ -65,7 +65,7 @@ a_faulty_file_comes_first() {
 }
 
 # Each open slot's digest is checked, whichever image is restored. It comes before what is wrong with the next slot,
-# and behind the reasons of its own header and table.
+# and after the reasons of its own header and table.
 a_wrong_digest_is_named() {
   store_of "$first" "$second" "$third_merged"
   put_byte store/img-002 5000 1

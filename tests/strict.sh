@@ -20,7 +20,7 @@ done
 segv accerr" "script line 2: store 1 0x10000 68: segv accerr" "$ckpt" run --strict --restore store script
 }
 
-# A store that isn't opened at the beginning is told as that, and as no line of the script. The last sync of a run that
+# A store that isn't opened at the beginning is reported as that, and as no line of the script. The last sync of a run that
 # saves nothing is one of its opening.
 strict_run_ends_at_its_opening() {
   calls_can_fail || return

@@ -17,7 +17,7 @@ table_shows() {  # table_shows KIND PAGES ITEMS ANSWER
   esac
 }
 
-# Each row of items, behind others, has its answer.
+# Each row of items, after others, has its answer.
 tables_show() {  # tables_show KIND FIRST-ITEMS ROWS
   local items answer
   while IFS='|' read -r items answer; do
@@ -56,7 +56,7 @@ second_space_heads() {
 4 0 0|ok checkpoint 2 images 1"
 }
 
-# The first area of a dump of one space, behind which one run would come: what may stand there lets the run be missed.
+# The first area of a dump of one space, after which one run would come: what may stand there lets the run be missed.
 first_areas() {
   tables_show dump "1 0,1 1 1," "\
 16 0 3 0|12
@@ -74,7 +74,7 @@ $most 1 3 0|12
 $end-1 1 0 0|10"
 }
 
-# An area behind one of pages 16 and 17 with permissions 3.
+# An area after one of pages 16 and 17 with permissions 3.
 second_areas() {
   tables_show dump "1 0,1 2 1,16 2 3 0," "\
 17 1 1 0|12
@@ -103,7 +103,7 @@ $end-1 2 3 0|13
 $end-1 1 3 0|10"
 }
 
-# A run behind one of data pages 16 and 17; a third would come.
+# A run after one of data pages 16 and 17; a third would come.
 second_runs() {
   tables_show pre_dump "1 0,1 0 3,16 2 1 0," "\
 17 1 3 0|13
@@ -140,7 +140,7 @@ a_run_goes_over_a_border_of_areas() {
   table_shows dump 0 "1 0,1 2 1,16 1 3 0,17 3 1 0,16 4 3 0" "ok checkpoint 2 images 1"
 }
 
-# Bytes behind the last space, and other numbers of data pages than the header's.
+# Bytes after the last space, and other numbers of data pages than the header's.
 ends_of_tables() {
   local pages items="1 0,1 1 1,16 2 3 0,16 2 1 0"
   for pages in 0 1 3 4; do

@@ -31,7 +31,7 @@ acked 1" "[INFO  ckpt] opener: a job has begun
 [INFO  ckpt] merger: the job has ended" "$ckpt" merge -v store
 }
 
-# Each device call of a checkpoint, in order, behind those that open the store.
+# Each device call of a checkpoint, in order, after those that open the store.
 device_calls_are_logged() {
   printf 'mmap 1 0x10000 4096 rw\nstore 1 0x10000 61\ncheckpoint 0\n' > script
   "$ckpt" run -vv store script > out 2> err || return 1

@@ -18,7 +18,7 @@ answers_into_a_full_device() {
   same "the text with --quiet" "$(cat err)" ""
 }
 
-# Also where more is printed than waits to be written, it is told once.
+# Also where more is printed than waits to be written, it is reported once.
 many_answers_into_a_full_device() {
   has_full_device || return
   make_image store/img-000 "2 2 1 1 0 1" 4 1 "1 0, 1 1 1, 16 4 3 0, 16 4 1 0"
@@ -34,7 +34,7 @@ open_unread_pipe() {
   mkfifo unread && exec 7<> unread 8> unread 7>&-
 }
 
-# Where whoever read the answers is gone, as behind `head`, there is nobody to tell it to.
+# Where whoever read the answers is gone, as after `head`, there is nobody to report it to.
 answers_that_nobody_reads() {
   local words
   make_store store || return 1

@@ -5,7 +5,7 @@ from typing import List, Optional
 
 from .errors import DeviceFailed, Error, Refused, Segv, Unfit
 
-# The numbers of the refusals that tell of a device: it was down already, or it failed now.
+# The numbers of the refusals that report a device: it was down already, or it failed now.
 OF_DEVICE = (13, 22)
 
 

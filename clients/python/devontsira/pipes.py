@@ -17,7 +17,7 @@ log = logging.getLogger("devontsira")
 TAKEN = 1 << 18
 HELD = 1 << 21
 
-# What the shell tells where another process has the store open.
+# What the shell says where another process has the store open.
 OPEN_ELSEWHERE = "another run has this store open"
 
 
