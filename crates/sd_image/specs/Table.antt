@@ -62,7 +62,8 @@ has_source parent run = not (run_kind_number run.kind == 2) || nat_lt 0 parent
 -- it has pages, all of them in the space, begins after the one before, and its bytes are somewhere
 abbrev pub is_run_after : ℕ → Option Run → Run → Bool
 is_run_after parent before run =
-    nat_lt 0 run.count && nat_le (run.first + run.count) (2 ^ 35) && run_begins_after before run && has_source parent run
+    nat_lt 0 run.count && nat_le (run.first + run.count) (2 ^ 35) && run_begins_after before run
+    && has_source parent run
 
 -- a list of runs, rising and maximal
 abbrev pub AreRuns : ℕ → Option Run → List Run → Type 0
