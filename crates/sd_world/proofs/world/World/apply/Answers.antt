@@ -1,4 +1,5 @@
 use Rattle.std.proofs.Common.{refl, subst}
+use Rattle.sd_world.specs.declared.event.Event.{Event}
 use Rattle.sd_world.specs.declared.event.Event.TheVariants.{Command}
 use Rattle.sd_world.specs.Made.{IsMade}
 use Rattle.sd_world.specs.Runs.{IsStep}
@@ -15,6 +16,7 @@ invariant_of-self g c =
 pub returns : goal.returns
 returns g c = subst (λ w. IsStep g.D.Disk event w c.answer_of.result new) c.self.view_is (c.made_tells.ensures event old c.answer_of.result new made).0
   where
+    event : Event
     event = Command c.args.seat c.args.command
 
     old : WorldView g.row.D.Denot
