@@ -193,7 +193,7 @@ impl<D: Disk> World<D> {
 
     /// A law: in an open store each image that stands in its slot of the contents stays there, whatever run follows,
     /// until a job has the slot: a checkpoint or a merge that makes an image there, or a merge that lists the image. So
-    /// it is with the images of a checkpoint after its acknowledgement (`step`: `acked`).
+    /// it is with the images of a checkpoint after its acknowledgement (`acked` of `IsStep`).
     pub fn images_stay(&self)
         ensures { ImagesStay D.Disk self.now }
     {
@@ -201,8 +201,8 @@ impl<D: Disk> World<D> {
     }
 
     /// A law: the checkpoint that runs after a run that began with none was begun by one of the run's events, and has
-    /// as many pre-dumps as that order asked for. An acknowledgement is of the checkpoint that ran before it (`step`:
-    /// `acked`).
+    /// as many pre-dumps as that order asked for. An acknowledgement is of the checkpoint that ran before it (`acked`
+    /// of `IsStep`).
     pub fn runs_as_begun(&self)
         ensures { RunsAsBegun D.Disk }
     {
