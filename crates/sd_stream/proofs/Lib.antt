@@ -1,0 +1,6 @@
+pub mod HeadLemmas
+pub mod LawLemmas
+pub mod PieceLemmas
+pub mod RecordLemmas
+pub mod StepLemmas
+pub mod TallyLemmas
