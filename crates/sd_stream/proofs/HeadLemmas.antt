@@ -1,5 +1,5 @@
 -- The head of a stream, written and read.
-use Rattle.std.proofs.Common.{◌≡◌, ℕ, ◌<◌, ◌≤◌, ◌^◌, List, [], ◌∷◌, ◌++◌, length, take, drop, Option, None, Some, IfSome, refl, sym, ap, ◌∙◌, subst, take-append-drop, append_assoc, length-take, length-drop, arith}
+use Rattle.std.proofs.Common.{◌≡◌, ℕ, ◌<◌, ◌^◌, List, ◌++◌, length, take, drop, Option, None, Some, IfSome, refl, sym, ap, ◌∙◌, subst, take-append-drop, length-take, length-drop, arith}
 use Rattle.std.proofs.lemmas.List.{take_all}
 use Rattle.std.specs.Io.KnownBytes.{Appends, Consumes}
 use Rattle.std.proofs.KnownBytes.{Consumes-trans}
@@ -9,7 +9,7 @@ use Rattle.sd_stream.specs.declared.writer.StreamWriter.{StreamWriter}
 use Rattle.sd_stream.specs.declared.stream_error.StreamError.{StreamError}
 use Rattle.sd_stream.specs.declared.stream_error.StreamError.TheVariants as read
 use Rattle.sd_stream.specs.Progress.{progress_text, started}
-use Rattle.sd_stream.specs.Reading.{BeginsWith, HasNoNumber, HasRead, IsHeadFault, IsNumberless}
+use Rattle.sd_stream.specs.Reading.{HasRead, IsHeadFault, IsNumberless}
 use Rattle.sd_stream.specs.Stream.{IsBase, base_digest, base_number, base_text, head_text, magic_text, number_text}
 use Rattle.sd_stream.specs.Tallies.{HasTaken}
 use Rattle.sd_stream.specs.Writing.{HasNumber, HasWritten}

@@ -1,12 +1,12 @@
 -- No two streams have the same bytes.
-use Rattle.std.proofs.Common.{◌≡◌, ℕ, ◌<◌, ◌≤◌, ◌^◌, ◌+◌, List, [], ◌∷◌, ◌++◌, length, Option, None, Some, refl, sym, ap, ◌∙◌, append_assoc, length-append, arith}
-use Rattle.std.specs.Prelude.{flat_map, replicate}
+use Rattle.std.proofs.Common.{◌≡◌, ℕ, ◌<◌, ◌≤◌, ◌^◌, List, [], ◌∷◌, ◌++◌, length, Option, None, Some, refl, sym, ap, ◌∙◌, append_assoc, arith}
+use Rattle.std.specs.Prelude.{flat_map}
 use Rattle.std.specs.Int.{from_le_bytes, w64}
 use Rattle.std.specs.List.{AllByRecursion}
 use Rattle.std.proofs.lemmas.Nat.{from_le_bytes-to_le_bytes_8}
 use Rattle.sha2.specs.Sha256.{sha256}
 use Rattle.sd_stream.specs.declared.base.Base.{Base}
-use Rattle.sd_stream.specs.Stream.{Group, AreGroups, IsBase, IsFileLength, IsGroup, IsStream, base_digest, base_number, base_text, digested_text, group_text, head_text, image_text, magic_text, number_text, record_text, stream_text}
+use Rattle.sd_stream.specs.Stream.{Group, AreGroups, IsBase, IsFileLength, IsStream, base_digest, base_number, base_text, digested_text, group_text, head_text, image_text, magic_text, number_text, record_text, stream_text}
 
 -- fronts of one length are the same, and so are the rests
 append_apart : (a b x y : List ℕ) → length a ≡ length b → a ++ x ≡ b ++ y → (a ≡ b) × (x ≡ y)

@@ -1,11 +1,11 @@
 -- Bytes that are written or read in several calls.
-use Rattle.std.proofs.Common.{◌≡◌, ℕ, ◌+◌, ◌-◌, ◌<◌, ◌≤◌, List, [], ◌∷◌, ◌++◌, Option, None, Some, length, take, drop, sym, ap, ◌∙◌, subst, refl, append_assoc, append-nil, take-append-drop, length-append, length-drop, length-take, arith}
-use Rattle.std.proofs.lemmas.List.{take_rest, take-take, take_all, drop-take, length-take-le}
-use Rattle.std.specs.Io.KnownBytes.{Appends, Consumes, IsAtEnd, Keeps}
-use Rattle.std.proofs.KnownBytes.{Appends-kept, Appends-nil, Consumes-nil, Consumes-trans}
+use Rattle.std.proofs.Common.{◌≡◌, ℕ, ◌+◌, ◌-◌, ◌<◌, List, [], ◌++◌, Option, length, take, drop, sym, ap, ◌∙◌, subst, append_assoc, append-nil, take-append-drop, length-append, length-take, arith}
+use Rattle.std.proofs.lemmas.List.{take_rest, take-take, drop-take}
+use Rattle.std.specs.Io.KnownBytes.{Appends, Consumes, Keeps}
+use Rattle.std.proofs.KnownBytes.{Appends-kept, Appends-nil, Consumes-trans}
 use Rattle.sd_stream.specs.declared.stream_error.StreamError.{StreamError}
 use Rattle.sd_stream.specs.declared.stream_error.StreamError.TheVariants as read
-use Rattle.sd_stream.specs.Pieces.{WritesBeginning, CutsOff, IsCutOff}
+use Rattle.sd_stream.specs.Pieces.{WritesBeginning, IsCutOff}
 
 -- what stays grows by nothing
 pub nothing_more : (a b : Option (List ℕ)) → Keeps a b → Appends a b []

@@ -1,6 +1,6 @@
 -- The numbers of a stream, and the heads that they make.
-use Rattle.std.proofs.Common.{◌≡◌, ℕ, ◌+◌, ◌<◌, ◌≤◌, ◌^◌, List, [], ◌∷◌, ◌++◌, length, take, drop, replicate, refl, sym, ap, ◌∙◌, append-nil, take-append-drop, arith, get_or, length-take, length-drop}
-use Rattle.std.specs.Int.{bytes_low_first, to_le_bytes, w64}
+use Rattle.std.proofs.Common.{◌≡◌, ℕ, ◌+◌, ◌<◌, ◌≤◌, List, ◌++◌, length, take, drop, replicate, refl, sym, ap, ◌∙◌, append-nil, take-append-drop, arith, get_or, length-take, length-drop}
+use Rattle.std.specs.Int.{to_le_bytes, w64}
 use Rattle.std.proofs.lemmas.Bool.{cases_lt}
 use Rattle.std.proofs.lemmas.List.{length-take-le, take_all, get_or-take, get_or_past}
 use Rattle.std.proofs.lemmas.Nat.{le_bytes_8}

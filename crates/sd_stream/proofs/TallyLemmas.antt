@@ -1,11 +1,11 @@
 -- A tally takes the steps of a stream.
-use Rattle.std.proofs.Common.{◌≡◌, ℕ, ◌+◌, ◌<◌, ◌^◌, Bool, true, false, List, [], ◌∷◌, ◌++◌, length, Option, refl, sym, ap, ◌∙◌, subst, arith}
+use Rattle.std.proofs.Common.{◌≡◌, ℕ, ◌+◌, ◌<◌, ◌^◌, true, false, List, ◌++◌, length, Option, refl, sym, ap, ◌∙◌, subst, arith}
 use Rattle.sha2.specs.Hashers.{Holds256}
 use Rattle.sd_stream.specs.declared.base.Base.{Base}
 use Rattle.sd_stream.specs.declared.tally.Tally.{Tally}
-use Rattle.sd_stream.specs.Stream.{Group, IsBase, IsFileLength, IsStream, base_number, digested_text, head_text, record_text}
+use Rattle.sd_stream.specs.Stream.{Group, IsBase, IsFileLength, base_number, digested_text, head_text, record_text}
 use Rattle.sd_stream.specs.Progress.{Progress, files_of, progress_text, started, with_acknowledged, with_bytes, with_image}
-use Rattle.sd_stream.specs.Tallies.{Grows, HasTaken, IsBegun, last_number}
+use Rattle.sd_stream.specs.Tallies.{Grows, HasTaken, IsBegun}
 use Rattle.sd_stream.proofs.StepLemmas.{started_text, image_step, bytes_step, acknowledged_step, end_step, whole_files, some_files, groups_more, last_more, begun_on}
 
 -- a hasher takes bytes

@@ -1,10 +1,11 @@
 -- How far a stream has come.
-use Rattle.std.specs.Prelude.{◌≡◌, ℕ, ◌+◌, List, [], ◌∷◌, ◌++◌, length, flat_map, Option, None, Some, option_map, option_to_list}
+use Rattle.std.specs.Prelude.{ℕ, ◌+◌, List, [], ◌∷◌, ◌++◌, length, flat_map, Option, None, Some, option_map}
+use Rattle.std.specs.Prelude.{option_to_list}
 use Rattle.sd_stream.specs.declared.base.Base.{Base}
 use Rattle.sd_stream.specs.Stream.{Group, group_text, head_text, image_text, record_text}
 
--- what stands between the head and where it has come: whole checkpoints, whole images after them, and of the image after
--- these the bytes so far
+-- what stands between the head and where it has come: whole checkpoints, whole images after them, and of the image
+-- after these the bytes so far
 pub record Progress : Type 0 where
   pub base : Option Base
   pub groups : List Group

@@ -1,5 +1,6 @@
 -- What a reader of a stream has read, and what its errors say of the bytes.
-use Rattle.std.specs.Prelude.{◌≡◌, ◌≢◌, ◌⊎◌, ℕ, ◌<◌, ◌≤◌, ◌^◌, Bool, true, false, List, ◌++◌, length, take, replicate, Option}
+use Rattle.std.specs.Prelude.{◌≡◌, ◌≢◌, ◌⊎◌, ℕ, ◌<◌, ◌≤◌, ◌^◌, Bool, true, false, List, ◌++◌, length, take, replicate}
+use Rattle.std.specs.Prelude.{Option}
 use Rattle.std.specs.Io.KnownBytes.{Consumes, IsAtEnd}
 use Rattle.sha2.specs.Hashers.{Holds256}
 use Rattle.sha2.specs.Sha256.{sha256}
@@ -14,13 +15,15 @@ use Rattle.sd_stream.specs.Stream.{IsFileLength, IsStream, magic_text, number_te
 use Rattle.sd_stream.specs.Tallies.{Grows, HasTaken}
 
 -- of what the input had before, it read a stream that has come so far
-pub record HasRead {R : Type 0} (remaining : R → Option (List ℕ)) (before : Option (List ℕ)) (p : Progress) (reader : StreamReader R) : Type 0 where
+pub record HasRead {R : Type 0} (remaining : R → Option (List ℕ)) (before : Option (List ℕ))
+    (p : Progress) (reader : StreamReader R) : Type 0 where
   pub text : Consumes before (remaining reader.input) (progress_text p reader.tally.left)
   pub taken : HasTaken reader.tally p
   pub base : reader.base ≡ p.base
 
 -- the stream is whole, and nothing comes after it
-pub record HasReadAll {R : Type 0} (remaining : R → Option (List ℕ)) (before : Option (List ℕ)) (p : Progress) (reader : StreamReader R) : Type 0 where
+pub record HasReadAll {R : Type 0} (remaining : R → Option (List ℕ)) (before : Option (List ℕ))
+    (p : Progress) (reader : StreamReader R) : Type 0 where
   pub text : Consumes before (remaining reader.input) (stream_text p.base p.groups)
   pub end : IsAtEnd (remaining reader.input)
   pub stream : IsStream p.base p.groups
@@ -57,6 +60,8 @@ IsRefused tally kind value _ = ⊥
 pub record BeginsRefused (tally : Tally) (rest : List ℕ) (error : StreamError) : Type 0 where
   pub kind : ℕ
   pub value : ℕ
+  pub kind_fits : kind < 2 ^ 64
+  pub value_fits : value < 2 ^ 64
   pub after : List ℕ
   pub text : rest ≡ record_text kind value ++ after
   pub refused : IsRefused tally kind value error
@@ -116,7 +121,7 @@ IsNumberless text _ = ⊥
 -- when 16 bytes aren't the front of a head
 abbrev pub IsFrontFault : List ℕ → StreamError → Type 0
 IsFrontFault front read.NotAStream = take 8 front ≢ magic_text
-IsFrontFault front (read.Version n) = (front ≡ magic_text ++ number_text n) × (n ≢ 1)
+IsFrontFault front (read.Version n) = (front ≡ magic_text ++ number_text n) × (n ≢ 1) × (n < 2 ^ 64)
 IsFrontFault front _ = ⊥
 
 -- bytes that begin with these
@@ -129,7 +134,7 @@ abbrev pub IsHeadFault : List ℕ → StreamError → Type 0
 IsHeadFault rest read.EndsEarly = length rest < 56
 IsHeadFault rest (read.Input _) = Unit {0}
 IsHeadFault rest read.NotAStream = take 8 rest ≢ magic_text
-IsHeadFault rest (read.Version n) = BeginsWith rest (magic_text ++ number_text n) × (n ≢ 1)
+IsHeadFault rest (read.Version n) = BeginsWith rest (magic_text ++ number_text n) × (n ≢ 1) × (n < 2 ^ 64)
 IsHeadFault rest read.BaseWithoutNumber =
     (base : List ℕ) × BeginsWith rest ((magic_text ++ number_text 1) ++ base) × HasNoNumber base
 IsHeadFault rest _ = ⊥

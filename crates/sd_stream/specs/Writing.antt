@@ -10,10 +10,12 @@ use Rattle.sd_stream.specs.Progress.{Progress, progress_text}
 use Rattle.sd_stream.specs.Tallies.{HasTaken}
 
 -- on its output stands what stood there before, and then a stream that has come so far
-pub record HasWritten {W : Type 0} (contents : W → Option (List ℕ)) (before : Option (List ℕ)) (p : Progress) (writer : StreamWriter W) : Type 0 where
+pub record HasWritten {W : Type 0} (contents : W → Option (List ℕ)) (before : Option (List ℕ))
+    (p : Progress) (writer : StreamWriter W) : Type 0 where
   pub text : Appends before (contents writer.out) (progress_text p writer.tally.left)
   pub taken : HasTaken writer.tally p
 
+-- the output failed
 abbrev pub IsOutput : WriteError → Type 0
 IsOutput (write.Output _) = Unit {0}
 IsOutput _ = ⊥

@@ -1,7 +1,7 @@
 //! A stream, read.
 ghost use Rattle.std.specs.Prelude.{◌≡◌, ◌+◌, ◌++◌, ◌⊎◌, ℕ, List, Option, Ok, length, take, min};
 ghost use Rattle.std.specs.Prelude.{true, false};
-ghost use Rattle.std.specs.Prelude.{IfErr, IfOk, IfSome, OnErr, OnOk};
+ghost use Rattle.std.specs.Prelude.{IfErr, IfOk, IfSome, IsErrOf, OnErr, OnOk};
 ghost use Rattle.std.specs.Io.KnownBytes.{Consumes};
 ghost use Rattle.sd_stream.specs.Stream.{IsBase, record_text};
 ghost use Rattle.sd_stream.specs.Progress.{Progress, progress_text, started, with_bytes};
@@ -73,6 +73,8 @@ impl<R: Read> StreamReader<R> {
             IfErr result (IsItemFault self.old.over self.old.tally rest)) }
         // After the end and after an error, nothing more is read.
         ensures ended { result ≡ Ok Item.End → self.new.over ≡ true }
+        ensures over { self.old.over ≡ true
+            → IsErrOf result StreamError.Over × (self.new ≡ self.old) }
         ensures failed { OnErr result ((self.new.over ≡ true) ⊎ (self.new ≡ self.old)) }
     {
         if self.over {
@@ -111,8 +113,10 @@ impl<R: Read> StreamReader<R> {
         requires left { self.old.tally.left ≡ 0 }
         requires waiting { self.old.tally.waiting ≡ false }
         ensures item { IfOk result (λ item. item ≡ Item.End) }
-        ensures read { OnOk result ((before : Option (List ℕ)) (p : Progress) → HasTaken self.old.tally p
-            → Consumes before (R.remaining self.old.input) (progress_text p 0 ++ record_text 3 0)
+        ensures read { OnOk result ((before : Option (List ℕ)) (p : Progress)
+            → HasTaken self.old.tally p
+            → Consumes before (R.remaining self.old.input)
+            (progress_text p 0 ++ record_text 3 0)
             → HasReadAll R.remaining before p self.new) }
         ensures fault { IfSome (R.remaining self.old.input) (λ rest.
             IfErr result (IsEndFault self.old.tally rest)) }
@@ -143,6 +147,8 @@ impl<R: Read> StreamReader<R> {
         ensures fault { IfSome (R.remaining self.old.input) (λ rest. IfErr result
             (IsBytesFault self.old.over (min self.old.tally.left (length buffer.old)) rest)) }
         ensures failed { OnErr result (self.new.over ≡ true) }
+        ensures over { self.old.over ≡ true
+            → IsErrOf result StreamError.Over × (self.new ≡ self.old) }
     {
         if self.over {
             return Err(StreamError::Over);

@@ -45,7 +45,8 @@ pub(crate) fn are_same(these: &[u8], those: &[u8]) -> bool
 /// Writes a field at its place.
 fn put(text: &mut [u8], place: usize, field: &[u8])
     requires { place + length field.now ≤ length text.old }
-    ensures text { text.new ≡ take place text.old ++ field.now ++ drop (place + length field.now) text.old }
+    ensures text { text.new
+        ≡ take place text.old ++ field.now ++ drop (place + length field.now) text.old }
     ensures length { length text.new ≡ length text.old }
 {
     text[place..place + field.len()].copy_from_slice(field);

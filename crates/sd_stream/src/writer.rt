@@ -6,7 +6,8 @@ ghost use Rattle.sd_stream.specs.Stream.{IsStream, record_text, stream_text};
 ghost use Rattle.sd_stream.specs.Progress.{Progress, started, with_acknowledged, with_bytes, with_image};
 ghost use Rattle.sd_stream.specs.Pieces.{WritesBeginning};
 ghost use Rattle.sd_stream.specs.Writing.{HasNumber, HasWritten, IsOutput, IsUnready, LacksNumber, OnRefusal};
-ghost use Rattle.sd_stream.specs.Writing.{RefusesBase, RefusesBytes, RefusesEnd, RefusesFlush, RefusesImage, RefusesNumber};
+ghost use Rattle.sd_stream.specs.Writing.{RefusesBase, RefusesBytes, RefusesEnd, RefusesFlush, RefusesImage};
+ghost use Rattle.sd_stream.specs.Writing.{RefusesNumber};
 
 use crate::base::Base;
 use crate::pieces::write_piece;
@@ -64,7 +65,8 @@ impl<W: Write> StreamWriter<W> {
     fn put(&mut self, piece: &[u8]) -> Result<(), WriteError>
         ensures bytes { OnOk result
             (Appends (W.contents self.old.out) (W.contents self.new.out) piece.now) }
-        ensures begins { WritesBeginning (W.contents self.old.out) (W.contents self.new.out) piece.now }
+        ensures begins { WritesBeginning (W.contents self.old.out) (W.contents self.new.out)
+            piece.now }
         ensures tally { self.new.tally ≡ self.old.tally }
         ensures ok { OnOk result (self.new.failed ≡ self.old.failed) }
         ensures failed { OnErr result (self.new.failed ≡ true) }
@@ -127,7 +129,8 @@ impl<W: Write> StreamWriter<W> {
         ensures written { OnOk result ((before : Option (List ℕ)) (p : Progress)
             → HasWritten W.contents before p self.old
             → HasWritten W.contents before (with_bytes p bytes.now) self.new) }
-        ensures begins { WritesBeginning (W.contents self.old.out) (W.contents self.new.out) bytes.now }
+        ensures begins { WritesBeginning (W.contents self.old.out) (W.contents self.new.out)
+            bytes.now }
         ensures left { OnOk result (self.new.tally.left + length bytes.now ≡ self.old.tally.left) }
         ensures refused { IfErr result (OnRefusal self.old self.new
             (RefusesBytes self.old.failed self.old.tally (length bytes.now))) }
@@ -205,7 +208,8 @@ impl<W: Write> StreamWriter<W> {
         ensures bytes { Keeps (W.contents self.old.out) (W.contents self.new.out) }
         ensures tally { self.new.tally ≡ self.old.tally }
         ensures ok { OnOk result (self.new.failed ≡ self.old.failed) }
-        ensures refused { IfErr result (OnRefusal self.old self.new (RefusesFlush self.old.failed)) }
+        ensures refused { IfErr result (OnRefusal self.old self.new
+            (RefusesFlush self.old.failed)) }
     {
         if self.failed {
             return Err(WriteError::Failed);

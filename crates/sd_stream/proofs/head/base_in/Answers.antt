@@ -1,4 +1,4 @@
-use Rattle.std.proofs.Common.{rules, ◌≡◌, ℕ, List, ap, sym, ◌∙◌, arith}
+use Rattle.std.proofs.Common.{rules, ◌≡◌, ap, sym, ◌∙◌, arith}
 use Rattle.sd_stream.specs.Stream.{number_text}
 use Rattle.sd_stream.proofs.HeadLemmas.{base_read}
 use Rattle.sd_stream.proofs.head.base_in.Goals as goal

@@ -13,6 +13,7 @@ returns-then-version-ne-VERSION-clause-fault c = (
   two_halves c.args.front.now _ _ magic_text _ c.requires c.split_at.ensures.front c.split_at.ensures.back (ap (λ (x : List ℕ). take 8 x) (c.are_same.ensures.yes (search rules)))
       c.number_in-version.ensures,
   search rules,
+  omega arith,
 )
 
 pub returns-clause-ok : goal.returns-clause-ok

@@ -1,4 +1,4 @@
-use Rattle.std.proofs.Common.{◌≡◌, List, ℕ, Option, Result, Err, IfSome, IfErr, sym, subst}
+use Rattle.std.proofs.Common.{Option, Result, IfSome, IfErr, sym, subst}
 use Rattle.std.proofs.lemmas.Result.{err_from_is_err_and}
 use Rattle.sd_stream.specs.declared.base.Base.{Base}
 use Rattle.sd_stream.specs.declared.stream_error.StreamError.{StreamError}

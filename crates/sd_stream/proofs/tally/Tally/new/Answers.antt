@@ -1,4 +1,4 @@
-use Rattle.std.proofs.Common.{ℕ, List, [], ◌++◌, refl, subst}
+use Rattle.std.proofs.Common.{ℕ, List, [], refl, subst}
 use Rattle.sha2.specs.Hashers.{Holds256}
 use Rattle.sd_stream.proofs.TallyLemmas.{starts}
 use Rattle.sd_stream.proofs.tally.Tally.new.Goals as goal
