@@ -1,5 +1,6 @@
 pub mod HeadLemmas
 pub mod LawLemmas
+pub mod NextLemmas
 pub mod PieceLemmas
 pub mod RecordLemmas
 pub mod StepLemmas

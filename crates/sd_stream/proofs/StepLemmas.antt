@@ -11,7 +11,7 @@ use Rattle.sd_stream.specs.Tallies.{IsBegun, last_number}
 -- ---- the bytes
 
 -- the images so far, where the last of them is whole
-whole_images : (front : List ℕ) (files : List (List ℕ)) (file : Option (List ℕ)) → (front ++ flat_map image_text files) ++ begun_text file 0 ≡ front ++ flat_map image_text (files ++ option_to_list file)
+pub whole_images : (front : List ℕ) (files : List (List ℕ)) (file : Option (List ℕ)) → (front ++ flat_map image_text files) ++ begun_text file 0 ≡ front ++ flat_map image_text (files ++ option_to_list file)
 whole_images front files None =
     append-nil (front ++ flat_map image_text files) ∙ ap (λ (fs : List (List ℕ)). front ++ flat_map image_text fs) (sym (append-nil files))
 whole_images front files (Some file) =

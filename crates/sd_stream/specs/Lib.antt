@@ -1,3 +1,4 @@
+pub mod Laws
 pub mod Pieces
 pub mod Progress
 pub mod Reading

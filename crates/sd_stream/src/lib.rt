@@ -16,7 +16,7 @@ mod writer;
 
 pub use base::Base;
 pub use item::Item;
-pub use laws::one_stream;
+pub use laws::{one_stream, streams_are_read};
 pub use reader::StreamReader;
 pub use records::MAX_FILE_LEN;
 pub use stream_error::StreamError;
