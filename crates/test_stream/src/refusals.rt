@@ -85,8 +85,9 @@ fn nothing_comes_after_the_end(rt: HostRuntime) -> Result<(), Fail> {
 
 #[test]
 fn a_reader_that_is_over_reads_nothing(rt: HostRuntime) -> Result<(), Fail> {
-    let stream = changed(rt.alloc(), usize::MAX, 0);
-    let mut reader = StreamReader::begin(&stream[..72])?;
+    let mut stream = changed(rt.alloc(), usize::MAX, 0);
+    stream.truncate(72);
+    let mut reader = StreamReader::begin(stream.as_slice())?;
     assert!(rt; reader.next()? == Item::Image(3));
     // Its bytes come first.
     assert!(rt;
