@@ -1,8 +1,9 @@
-//! Builders of files and stores.
+//! Builders of files and stores. Disks and catalogs aren't dropped in these tests: the process of a test ends with them.
 use sd_areas::PAGE_SIZE;
 use sd_disk::{DeviceError, Disk, MemDisk};
 use sd_image::{Digester, Header, Kind, Version, encode_header};
 use std::alloc::{AllocError, AllocFailed, Global};
+use std::mem::forget;
 
 /// Why something isn't built, or isn't asked for.
 #[derive(Clone, Copy, Debug)]
@@ -144,11 +145,22 @@ fn put_image(alloc: Global, disk: &mut MemDisk, slot: usize, image: Image) -> Re
     Ok(())
 }
 
+/// Writes the files of images into the first slots.
+fn put_images(alloc: Global, disk: &mut MemDisk, images: &[Image]) -> Result<(), Unbuilt> {
+    for slot in 0..images.len() {
+        put_image(alloc, disk, slot, images[slot])?;
+    }
+    Ok(())
+}
+
 /// A store of four slots with these images in the first.
 pub(crate) fn store(alloc: Global, images: &[Image]) -> Result<MemDisk, Unbuilt> {
     let mut disk = MemDisk::new(alloc, 4, 80_000, 64)?;
-    for (slot, image) in images.iter().enumerate() {
-        put_image(alloc, &mut disk, slot, *image)?;
+    match put_images(alloc, &mut disk, images) {
+        Ok(()) => Ok(disk),
+        Err(error) => {
+            forget(disk);
+            Err(error)
+        }
     }
-    Ok(disk)
 }

@@ -39,6 +39,13 @@ fn put_run(space: &mut SpaceTable, row: (u64, u64, RunKind)) -> Result<(), Unbui
     Ok(())
 }
 
+fn put_runs(space: &mut SpaceTable, rows: Rows) -> Result<(), Unbuilt> {
+    for row in rows {
+        put_run(space, *row)?;
+    }
+    Ok(())
+}
+
 /// The table of space 1 with these runs.
 fn placed(alloc: Global, rows: Rows) -> Result<PlacedTable, Unbuilt> {
     let mut space = SpaceTable {
@@ -46,9 +53,7 @@ fn placed(alloc: Global, rows: Rows) -> Result<PlacedTable, Unbuilt> {
         areas: Vec::new(alloc),
         runs: Vec::new(alloc),
     };
-    for row in rows {
-        put_run(&mut space, *row)?;
-    }
+    put_runs(&mut space, rows)?;
     let spaces = vec_of(alloc, space)?;
     Ok(PlacedTable::new(alloc, Table { spaces })?)
 }

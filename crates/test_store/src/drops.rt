@@ -12,13 +12,20 @@ use std::test::Fail;
 /// and three for the other, one to measure the closed slot, and a sync of each slot. Four calls close the slot then.
 const FIRST_CALL: u64 = 2 + 2 * 4 + 3 + 1 + 4;
 
+/// Whether a disk shows the second checkpoint.
+fn is_shown(alloc: Global, disk: &mut MemDisk) -> bool {
+    let Ok(catalog) = scan(alloc, disk) else {
+        return false;
+    };
+    let newest = newest_checkpoint(&catalog);
+    forget(catalog);
+    newest == Some(2)
+}
+
 /// Whether a crash of a disk by a rule leaves the checkpoint that its store showed.
 fn stands(alloc: Global, disk: &MemDisk, mut rule: Rule) -> Result<bool, Unbuilt> {
     let mut crashed = disk.crash(alloc, &mut rule)?;
-    let stands = match scan(alloc, &mut crashed) {
-        Ok(catalog) => newest_checkpoint(&catalog) == Some(2),
-        Err(_) => false,
-    };
+    let stands = is_shown(alloc, &mut crashed);
     forget(crashed);
     Ok(stands)
 }

@@ -41,10 +41,16 @@ fn is_whole_or_closed(alloc: Global, disk: &MemDisk, whole: bool) -> Result<bool
 /// A slot in this state: an open one has the image.
 fn old_slot(alloc: Global, state: SlotState) -> Result<MemDisk, AllocError> {
     let mut disk = roomy(alloc)?;
-    if matches!(state, SlotState::Open) {
-        write_image(alloc, &mut disk, SlotState::Raw)?;
+    if !matches!(state, SlotState::Open) {
+        return Ok(disk);
     }
-    Ok(disk)
+    match write_image(alloc, &mut disk, SlotState::Raw) {
+        Ok(_) => Ok(disk),
+        Err(error) => {
+            forget(disk);
+            Err(error)
+        }
+    }
 }
 
 /// Whether an image whose writing fails after so many calls is there or not, whatever a crash leaves. The call that

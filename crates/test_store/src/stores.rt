@@ -1,6 +1,6 @@
 //! Stores that are read: how many reads that takes, and what is found where a call fails.
 use crate::builders::{ABOVE, DUMP, FIRST, Image, SECOND, THIRD_MERGED, Unbuilt, store};
-use sd_disk::Fused;
+use sd_disk::{Fused, MemDisk};
 use sd_image::{Header, Version};
 use sd_restore::{Fault, restore, verify};
 use std::alloc::Global;
@@ -28,6 +28,17 @@ const OLD: &[Image] = &[
 /// A dump of sixteen spaces.
 const SIXTEEN: &[Image] = &[(Header { parent: 0, ..ABOVE }, 16, Some(6))];
 
+/// Restores a store. Returns what is found.
+fn restore_fault(alloc: Global, disk: &mut Fused<MemDisk>) -> Option<Fault> {
+    match restore(alloc, disk) {
+        Ok(snapshot) => {
+            forget(snapshot);
+            None
+        }
+        Err(fault) => Some(fault),
+    }
+}
+
 /// Reads a store of which a call fails after so many: restores it, or else verifies it. Returns what is found, and how
 /// many reads there were.
 fn read(
@@ -38,7 +49,7 @@ fn read(
 ) -> Result<(Option<Fault>, u64), Unbuilt> {
     let mut disk = Fused::new(store(alloc, images)?, calls);
     let fault = if restores {
-        restore(alloc, &mut disk).err()
+        restore_fault(alloc, &mut disk)
     } else {
         verify(alloc, &mut disk).err()
     };

@@ -57,9 +57,10 @@ fn add(alloc: Global, catalog: &mut Catalog, slot: usize, header: Header) -> Res
 impl Store {
     /// An empty store of eight slots.
     pub(crate) fn new(alloc: Global) -> Result<Store, AllocError> {
+        let disk = MemDisk::new(alloc, SLOTS, 5_000, 1_000)?;
         Ok(Store {
             catalog: Catalog::new(alloc),
-            disk: MemDisk::new(alloc, SLOTS, 5_000, 1_000)?,
+            disk,
             dumper: Dumper::new(alloc),
             merger: Merger::new(alloc),
             tickets: 0,
