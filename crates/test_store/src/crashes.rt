@@ -44,7 +44,7 @@ fn is_as_told(alloc: Global, disk: &mut MemDisk, case: &Case) -> Result<bool, Al
 /// Whether a case is as it says.
 fn passes(alloc: Global, case: &Case) -> Result<bool, AllocError> {
     let (slots, bytes, calls) = case.room;
-    let disk = MemDisk::new(alloc, slots.clamp(1, 4), bytes, calls)?;
+    let disk = MemDisk::new(alloc, slots.max(1).min(4), bytes, calls)?;
     let mut fused = if case.drops {
         Fused::dropping(disk, case.passes)
     } else {

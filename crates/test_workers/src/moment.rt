@@ -54,9 +54,9 @@ fn put_page_of_memory(
 
 /// Puts the numbers of the living spaces of a memory, and a 0.
 fn put_living(moment: &mut Vec<u8>, memory: &Memory) -> Result<(), AllocError> {
-    for number in 1..=16u8 {
-        if memory.areas(SpaceId::new(u64::from(number))).is_some() {
-            moment.push(number)?;
+    for number in 1..=16u64 {
+        if memory.areas(SpaceId::new(number)).is_some() {
+            moment.extend_from_slice(&number.to_le_bytes())?;
         }
     }
     moment.push(0)?;
@@ -91,18 +91,30 @@ fn put_pages(
     Ok(())
 }
 
+/// Puts the numbers of the spaces of a snapshot, and a 0.
+fn put_spaces(moment: &mut Vec<u8>, snapshot: &Snapshot) -> Result<(), AllocError> {
+    for (space, _) in &snapshot.spaces {
+        moment.extend_from_slice(&space.number().to_le_bytes())?;
+    }
+    moment.push(0)?;
+    Ok(())
+}
+
+/// Puts the pages of all spaces of a snapshot.
+fn put_all_pages(moment: &mut Vec<u8>, snapshot: &Snapshot) -> Result<(), AllocError> {
+    for (space, own) in &snapshot.spaces {
+        put_pages(moment, *space, own)?;
+    }
+    Ok(())
+}
+
 /// What a snapshot has.
 pub(crate) fn moment_of_snapshot(
     alloc: Global,
     snapshot: &Snapshot,
 ) -> Result<Vec<u8>, AllocError> {
     let mut moment = Vec::new(alloc);
-    for (space, _) in &snapshot.spaces {
-        moment.push(space.number() as u8)?;
-    }
-    moment.push(0)?;
-    for (space, own) in &snapshot.spaces {
-        put_pages(&mut moment, *space, own)?;
-    }
+    put_spaces(&mut moment, snapshot)?;
+    put_all_pages(&mut moment, snapshot)?;
     Ok(moment)
 }
