@@ -1,78 +1,43 @@
 //! How many pages of a chain are traced at once.
-use crate::builders::{ABOVE, DUMP, Unbuilt};
-use sd_areas::{Area, PageNo, Prot, SpaceId};
+use crate::builders::{ABOVE, DUMP};
+use sd_areas::{PageNo, SpaceId};
 use sd_chain::{Catalog, Chain, Found, PlacedTable, Trace, Way};
-use sd_image::{Header, Run, RunKind, SpaceTable, Table};
+use sd_image::{Header, decode_table};
 use std::alloc::{AllocError, Global};
 use std::mem::forget;
 use std::test::Fail;
 
-/// The first pages, counts and kinds of runs.
-type Rows = &'static [(u64, u64, RunKind)];
-
-const OLDER: Rows = &[(0x10, 4, RunKind::Data)];
-
-const NEWER: Rows = &[
-    (0x10, 1, RunKind::Parent),
-    (0x11, 1, RunKind::Data),
-    (0x12, 3, RunKind::Parent),
+/// A table of the data pages 0x10 to 0x13 of space 1.
+const OLDER: [u8; 72] = [
+    1, 0, 0, 0, 0, 0, 0, 0, //
+    1, 0, 0, 0, 1, 0, 0, 0, 1, 0, 0, 0, 0, 0, 0, 0, //
+    0x10, 0, 0, 0, 0, 0, 0, 0, 4, 0, 0, 0, 0, 0, 0, 0, 3, 0, 0, 0, 0, 0, 0, 0, //
+    0x10, 0, 0, 0, 0, 0, 0, 0, 4, 0, 0, 0, 0, 0, 0, 0, 1, 0, 0, 0, 0, 0, 0, 0,
 ];
 
-fn page(number: u64) -> Result<PageNo, Unbuilt> {
-    match PageNo::new(number) {
-        Some(page) => Ok(page),
-        None => Err(Unbuilt::Missing),
-    }
-}
+/// One of the pages 0x10 to 0x14, of which the second is data, and the others are in the parent.
+const NEWER: [u8; 120] = [
+    1, 0, 0, 0, 0, 0, 0, 0, //
+    1, 0, 0, 0, 1, 0, 0, 0, 3, 0, 0, 0, 0, 0, 0, 0, //
+    0x10, 0, 0, 0, 0, 0, 0, 0, 5, 0, 0, 0, 0, 0, 0, 0, 3, 0, 0, 0, 0, 0, 0, 0, //
+    0x10, 0, 0, 0, 0, 0, 0, 0, 1, 0, 0, 0, 0, 0, 0, 0, 2, 0, 0, 0, 0, 0, 0, 0, //
+    0x11, 0, 0, 0, 0, 0, 0, 0, 1, 0, 0, 0, 0, 0, 0, 0, 1, 0, 0, 0, 0, 0, 0, 0, //
+    0x12, 0, 0, 0, 0, 0, 0, 0, 3, 0, 0, 0, 0, 0, 0, 0, 2, 0, 0, 0, 0, 0, 0, 0,
+];
 
-/// Puts a run, and an area at it.
-fn put_run(space: &mut SpaceTable, row: (u64, u64, RunKind)) -> Result<(), Unbuilt> {
-    let (first, count, kind) = row;
-    let first = page(first)?;
-    let prot = Prot {
-        read: true,
-        write: true,
-        execute: false,
-    };
-    space.areas.push(Area { first, count, prot })?;
-    space.runs.push(Run { first, count, kind })?;
-    Ok(())
-}
-
-fn put_runs(space: &mut SpaceTable, rows: Rows) -> Result<(), Unbuilt> {
-    for row in rows {
-        put_run(space, *row)?;
-    }
-    Ok(())
-}
-
-/// The table of space 1 with these runs.
-fn placed(alloc: Global, rows: Rows) -> Result<PlacedTable, Unbuilt> {
-    let mut space = SpaceTable {
-        space: SpaceId::new(1),
-        areas: Vec::new(alloc),
-        runs: Vec::new(alloc),
-    };
-    put_runs(&mut space, rows)?;
-    let spaces = vec_of(alloc, space)?;
-    Ok(PlacedTable::new(alloc, Table { spaces })?)
-}
-
-fn vec_of(alloc: Global, space: SpaceTable) -> Result<Vec<SpaceTable>, AllocError> {
-    let mut spaces = Vec::new(alloc);
-    spaces.push(space)?;
-    Ok(spaces)
-}
-
-/// Adds an image with these runs.
+/// Adds an image with this table. Returns whether it is added.
 fn add(
     alloc: Global,
     catalog: &mut Catalog,
     slot: usize,
     header: Header,
-    rows: Rows,
-) -> Result<bool, Unbuilt> {
-    Ok(catalog.add(slot, header, placed(alloc, rows)?).is_ok())
+    text: &[u8],
+) -> Result<bool, AllocError> {
+    let Ok(table) = decode_table(alloc, &header, text) else {
+        return Ok(false);
+    };
+    let placed = PlacedTable::new(alloc, table)?;
+    Ok(catalog.add(slot, header, placed).is_ok())
 }
 
 /// The trace of the first data page of slot 0.
@@ -112,41 +77,52 @@ const ALIKE: [Alike; 9] = [
 ];
 
 /// Whether a chain has a page as a row says.
-fn lies_alike(chain: &mut Chain<'_>, row: Alike) -> Result<bool, Unbuilt> {
+fn lies_alike(chain: &mut Chain<'_>, row: Alike) -> bool {
     let (space, number, most, trace, count) = row;
-    let run = chain.trace(SpaceId::new(space), page(number)?, most.max(1));
-    Ok(run.trace == trace && (run.count == count || count == ANY))
+    let Some(page) = PageNo::new(number) else {
+        return false;
+    };
+    let run = chain.trace(SpaceId::new(space), page, most.max(1));
+    run.trace == trace && (run.count == count || count == ANY)
 }
 
-/// Whether a chain has all pages as the rows say.
-fn lie_alike(chain: &mut Chain<'_>) -> Result<bool, Unbuilt> {
+/// Whether the chain of the second image has all pages as the rows say.
+fn lie_alike(catalog: &Catalog) -> Result<bool, AllocError> {
+    let mut chain = catalog.chain(2)?;
     let mut alike = true;
     for row in ALIKE {
-        alike &= lies_alike(chain, row)?;
+        alike &= lies_alike(&mut chain, row);
     }
     Ok(alike)
 }
 
 /// Whether the second image says its way to its own page.
-fn says_its_way(catalog: &Catalog) -> Result<bool, Unbuilt> {
-    let way = match catalog.image(2) {
-        Some(image) => image.way(SpaceId::new(1), page(0x11)?),
-        None => None,
+fn says_its_way(catalog: &Catalog) -> bool {
+    let Some(page) = PageNo::new(0x11) else {
+        return false;
     };
-    Ok(way == Some(Way::Data { place: 0 }))
+    match catalog.image(2) {
+        Some(image) => image.way(SpaceId::new(1), page) == Some(Way::Data { place: 0 }),
+        None => false,
+    }
 }
+
+/// A dump of four data pages.
+const FOUR: Header = Header { pages: 4, ..DUMP };
+
+/// One above it, with a data page.
+const ONE: Header = Header { pages: 1, ..ABOVE };
 
 /// Adds a dump of four pages, and one that has the second of them itself: three runs, whether the pages rise or fall.
 /// Returns whether its chain has the pages so.
-fn traces_alike(alloc: Global, catalog: &mut Catalog) -> Result<bool, Unbuilt> {
-    let are_added = add(alloc, catalog, 0, DUMP, OLDER)? && add(alloc, catalog, 1, ABOVE, NEWER)?;
-    let mut chain = catalog.chain(2)?;
-    let alike = lie_alike(&mut chain)?;
-    Ok(are_added && alike && says_its_way(catalog)? && !catalog.is_held(2))
+fn traces_alike(alloc: Global, catalog: &mut Catalog) -> Result<bool, AllocError> {
+    let are_added = add(alloc, catalog, 0, FOUR, &OLDER)? && add(alloc, catalog, 1, ONE, &NEWER)?;
+    let alike = lie_alike(catalog)?;
+    Ok(are_added && alike && says_its_way(catalog) && !catalog.is_held(2))
 }
 
 /// The same with a catalog that is empty at first.
-fn is_right(alloc: Global) -> Result<bool, Unbuilt> {
+fn is_right(alloc: Global) -> Result<bool, AllocError> {
     let mut catalog = Catalog::new(alloc);
     let is_right = traces_alike(alloc, &mut catalog);
     forget(catalog);

@@ -109,14 +109,31 @@ fn leave_so(rt: &HostRuntime, path: &str) -> bool {
     is
 }
 
-/// A folder without files, in which a missing file is empty; and one with a folder in place of a file, which isn't
-/// opened.
-fn are_odd(rt: &HostRuntime, path: &str, inner: &str) -> Result<bool, Fail> {
-    fs::create_dir_all(rt, path)?;
-    let is_empty = ends(rt, Place { path, makes: false }, MISSING, End::Right);
-    fs::create_dir_all(rt, inner)?;
-    let is_refused = ends(rt, Place { path, makes: true }, &[], End::Closed);
-    Ok(is_empty && is_refused)
+/// Whether a folder keeps what was written.
+fn keeps(rt: &HostRuntime, parent: &str) -> Result<bool, Fail> {
+    let path = format!(in rt.alloc(); "{parent}/kept/within")?;
+    Ok(leave_so(rt, path.as_str()))
+}
+
+/// Whether a missing file is empty in a folder without files.
+fn is_empty(rt: &HostRuntime, parent: &str) -> Result<bool, Fail> {
+    fs::create_dir_all(rt, parent)?;
+    let place = Place {
+        path: parent,
+        makes: false,
+    };
+    Ok(ends(rt, place, MISSING, End::Right))
+}
+
+/// Whether one with a folder in place of a file isn't opened.
+fn is_refused(rt: &HostRuntime, parent: &str) -> Result<bool, Fail> {
+    let inner = format!(in rt.alloc(); "{parent}/img-007")?;
+    fs::create_dir_all(rt, inner.as_str())?;
+    let place = Place {
+        path: parent,
+        makes: true,
+    };
+    Ok(ends(rt, place, &[], End::Closed))
 }
 
 /// A folder keeps what was written, a missing file is empty, and a failed call leaves its cause.
@@ -124,13 +141,11 @@ fn are_odd(rt: &HostRuntime, path: &str, inner: &str) -> Result<bool, Fail> {
 fn folders_keep_what_was_written(rt: HostRuntime) -> Result<(), Fail> {
     let id = process::id(rt.process());
     let parent = format!(in rt.alloc(); "/tmp/test_disk-{id}")?;
-    let path = format!(in rt.alloc(); "{}/kept/within", parent.as_str())?;
-    let odd = format!(in rt.alloc(); "{}/odd", parent.as_str())?;
-    let inner = format!(in rt.alloc(); "{}/odd/img-007", parent.as_str())?;
     let _ = fs::remove_dir_all(&rt, parent.as_str());
-    let is_kept = leave_so(&rt, path.as_str());
-    let are_odd = are_odd(&rt, odd.as_str(), inner.as_str())?;
+    let are_right = keeps(&rt, parent.as_str())?
+        && is_empty(&rt, parent.as_str())?
+        && is_refused(&rt, parent.as_str())?;
     fs::remove_dir_all(&rt, parent.as_str())?;
-    assert!(rt; is_kept && are_odd);
+    assert!(rt; are_right);
     Ok(())
 }

@@ -1,10 +1,10 @@
 //! What a crash leaves of a store after each call that closes an image.
-use crate::builders::{FIRST, SECOND, THIRD_MERGED, Unbuilt, store};
+use crate::builders::{FIRST, SECOND, THIRD_MERGED, store};
 use crate::picks::{RULES, Rule};
 use sd_disk::{Disk, Fused, MemDisk};
 use sd_drop::drop_image;
 use sd_restore::{newest_checkpoint, scan};
-use std::alloc::Global;
+use std::alloc::{AllocError, Global};
 use std::mem::forget;
 use std::test::Fail;
 
@@ -23,7 +23,7 @@ fn is_shown(alloc: Global, disk: &mut MemDisk) -> bool {
 }
 
 /// Whether a crash of a disk by a rule leaves the checkpoint that its store showed.
-fn stands(alloc: Global, disk: &MemDisk, mut rule: Rule) -> Result<bool, Unbuilt> {
+fn stands(alloc: Global, disk: &MemDisk, mut rule: Rule) -> Result<bool, AllocError> {
     let mut crashed = disk.crash(alloc, &mut rule)?;
     let stands = is_shown(alloc, &mut crashed);
     forget(crashed);
@@ -31,7 +31,7 @@ fn stands(alloc: Global, disk: &MemDisk, mut rule: Rule) -> Result<bool, Unbuilt
 }
 
 /// Whether it is so by three rules.
-fn stands_crashes(alloc: Global, disk: &MemDisk) -> Result<bool, Unbuilt> {
+fn stands_crashes(alloc: Global, disk: &MemDisk) -> Result<bool, AllocError> {
     Ok(
         stands(alloc, disk, RULES[1])?
             && stands(alloc, disk, RULES[2])?
@@ -46,7 +46,7 @@ fn is_closed(disk: &mut MemDisk) -> bool {
 
 /// Whether a drop of the first image that is cut off after so many calls stands crashes, and whether the image is
 /// closed then. The merged image stands for the first, so the second leads to it and not to the first.
-fn is_cut_off_so(alloc: Global, calls: u64) -> Result<bool, Unbuilt> {
+fn is_cut_off_so(alloc: Global, calls: u64) -> Result<bool, AllocError> {
     let mut fused = Fused::new(store(alloc, &[FIRST, SECOND, THIRD_MERGED])?, calls);
     let ended = drop_image(alloc, &mut fused, 0, false).is_ok();
     let mut disk = fused.into_inner();

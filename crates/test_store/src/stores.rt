@@ -1,9 +1,9 @@
 //! Stores that are read: how many reads that takes, and what is found where a call fails.
-use crate::builders::{ABOVE, DUMP, FIRST, Image, SECOND, THIRD_MERGED, Unbuilt, store};
+use crate::builders::{DATA, DUMP, FIRST, Image, SECOND, THIRD_MERGED, store};
 use sd_disk::{Fused, MemDisk};
 use sd_image::{Header, Version};
 use sd_restore::{Fault, restore, verify};
-use std::alloc::Global;
+use std::alloc::{AllocError, Global};
 use std::mem::forget;
 use std::test::Fail;
 
@@ -19,14 +19,23 @@ const OLD: &[Image] = &[
             version: Version::One,
             ..DUMP
         },
-        1,
-        Some(7),
+        DATA,
+        7,
     ),
     SECOND,
 ];
 
-/// A dump of sixteen spaces.
-const SIXTEEN: &[Image] = &[(Header { parent: 0, ..ABOVE }, 16, Some(6))];
+/// A dump with one run of sixteen data pages.
+const SIXTEEN: &[Image] = &[(
+    Header { pages: 16, ..DUMP },
+    [
+        1, 0, 0, 0, 0, 0, 0, 0, //
+        1, 0, 0, 0, 1, 0, 0, 0, 1, 0, 0, 0, 0, 0, 0, 0, //
+        0x10, 0, 0, 0, 0, 0, 0, 0, 16, 0, 0, 0, 0, 0, 0, 0, 3, 0, 0, 0, 0, 0, 0, 0, //
+        0x10, 0, 0, 0, 0, 0, 0, 0, 16, 0, 0, 0, 0, 0, 0, 0, 1, 0, 0, 0, 0, 0, 0, 0,
+    ],
+    6,
+)];
 
 /// Restores a store. Returns what is found.
 fn restore_fault(alloc: Global, disk: &mut Fused<MemDisk>) -> Option<Fault> {
@@ -46,7 +55,7 @@ fn read(
     images: &[Image],
     calls: u64,
     restores: bool,
-) -> Result<(Option<Fault>, u64), Unbuilt> {
+) -> Result<(Option<Fault>, u64), AllocError> {
     let mut disk = Fused::new(store(alloc, images)?, calls);
     let fault = if restores {
         restore_fault(alloc, &mut disk)
@@ -65,7 +74,12 @@ fn read(
 const READS: [(&[Image], u64, u64); 4] = [(ALL, 9, 8), (TWO, 6, 5), (OLD, 5, 4), (SIXTEEN, 19, 3)];
 
 /// Whether a store is read so.
-fn takes(alloc: Global, images: &[Image], restored: u64, verified: u64) -> Result<bool, Unbuilt> {
+fn takes(
+    alloc: Global,
+    images: &[Image],
+    restored: u64,
+    verified: u64,
+) -> Result<bool, AllocError> {
     let restoring = read(alloc, images, u64::MAX, true)?;
     let verifying = read(alloc, images, u64::MAX, false)?;
     Ok(restoring == (None, restored) && verifying == (None, verified))
@@ -89,7 +103,7 @@ fn fault_after(calls: u64, all: u64) -> Option<Fault> {
 }
 
 /// Whether restoring and verifying fail as they should, where the device fails after so many calls.
-fn fail_so(alloc: Global, calls: u64) -> Result<bool, Unbuilt> {
+fn fail_so(alloc: Global, calls: u64) -> Result<bool, AllocError> {
     let (restored, _) = read(alloc, TWO, calls, true)?;
     let (verified, _) = read(alloc, TWO, calls, false)?;
     Ok(restored == fault_after(calls, 10) && verified == fault_after(calls, 9))

@@ -30,20 +30,37 @@ pub(crate) struct Store {
     tickets: u64,
 }
 
-/// A dump of this serial and checkpoint.
-fn dump(serial: u64) -> Header {
+/// A dump without a page.
+const FIRST: Header = Header {
+    version: Version::Two,
+    kind: Kind::Dump,
+    serial: 1,
+    stands_for: 1,
+    parent: 0,
+    checkpoint: 1,
+    pages: 0,
+    table_len: 8,
+    digest: [0; 32],
+};
+
+/// It, and two above it.
+const CHAIN: [Header; 3] = [
+    FIRST,
     Header {
-        version: Version::Two,
-        kind: Kind::Dump,
-        serial,
-        stands_for: serial,
-        parent: serial - 1,
-        checkpoint: serial,
-        pages: 0,
-        table_len: 8,
-        digest: [0; 32],
-    }
-}
+        serial: 2,
+        stands_for: 2,
+        parent: 1,
+        checkpoint: 2,
+        ..FIRST
+    },
+    Header {
+        serial: 3,
+        stands_for: 3,
+        parent: 2,
+        checkpoint: 3,
+        ..FIRST
+    },
+];
 
 /// Adds a dump of no space.
 fn add(alloc: Global, catalog: &mut Catalog, slot: usize, header: Header) -> Result<(), Stop> {
@@ -67,10 +84,10 @@ impl Store {
         })
     }
 
-    /// Adds a chain of three images in the slots 0 to 2.
+    /// Adds the chain in the slots 0 to 2.
     pub(crate) fn add_chain(&mut self, alloc: Global) -> Result<(), Stop> {
-        for slot in 0..3 {
-            add(alloc, &mut self.catalog, slot, dump(slot as u64 + 1))?;
+        for slot in 0..CHAIN.len() {
+            add(alloc, &mut self.catalog, slot, CHAIN[slot])?;
         }
         Ok(())
     }
