@@ -1,4 +1,5 @@
-//! Builders of files and stores. Disks and catalogs aren't dropped in these tests: the process of a test ends with them.
+//! Builders of files and stores. Disks and catalogs aren't dropped in these tests: the process of a test ends with
+//! them.
 use sd_areas::PAGE_SIZE;
 use sd_disk::{Disk, MemDisk};
 use sd_image::{Digester, Header, Kind, Version, encode_header};

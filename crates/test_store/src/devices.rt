@@ -69,11 +69,13 @@ enum End {
     PastTheEnd(usize),
 }
 
-/// Whether a fault is that of a read past the end of a slot's file, or there is none.
-fn is_past_the_end(fault: Option<FileFault>, slot: Option<usize>) -> bool {
+/// Whether a fault is that of a read past the end of a slot's file.
+fn is_past_the_end(fault: Option<FileFault>, slot: usize) -> bool {
     match fault {
-        Some(fault) => fault.slot == slot && fault.error.kind() == io::ErrorKind::UnexpectedEof,
-        None => slot.is_none(),
+        Some(fault) => {
+            fault.slot == Some(slot) && fault.error.kind() == io::ErrorKind::UnexpectedEof
+        }
+        None => false,
     }
 }
 
@@ -86,7 +88,7 @@ fn ends(rt: &HostRuntime, place: Place<'_>, steps: &[Step], end: End) -> bool {
         End::Closed => false,
         End::Right => is_right,
         End::Whole => is_right && fault.is_none(),
-        End::PastTheEnd(slot) => is_right && is_past_the_end(fault, Some(slot)),
+        End::PastTheEnd(slot) => is_right && is_past_the_end(fault, slot),
     }
 }
 
@@ -100,7 +102,7 @@ const CALLS: [(bool, &[Step], End); 6] = [
     (true, KEPT, End::Whole),
 ];
 
-/// Whether they all leave what they should.
+/// Whether each leaves what it says.
 fn leave_so(rt: &HostRuntime, path: &str) -> bool {
     let mut is = true;
     for (makes, steps, end) in CALLS {
