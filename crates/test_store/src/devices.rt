@@ -1,45 +1,36 @@
-//! Disks in folders, and the texts of errors.
+//! Disks in folders: what calls on real files do.
 ghost use Rattle.std.specs.Prelude.{◌≡◌, length, IfOk};
 ghost use Rattle.sd_disk.specs.Folder.{folder_files};
 
 use crate::cases::EXERCISE;
 use crate::steps::{Call, Step, first_wrong};
-use sd_disk::{DeviceError, DirDisk, FileFault, Folder, Fused, MemDisk, OpenError};
+use sd_disk::{DirDisk, FileFault, Folder, OpenError};
 use std::test::Fail;
-use std::{fmt, fs, io, process};
+use std::{fs, io, process};
 
-/// A path in the system's folder for temporary files that no other process uses.
-fn fresh(rt: &HostRuntime, name: &str) -> Result<String, Fail> {
-    let id = process::id(rt.process());
-    let path = format!(in rt.alloc(); "/tmp/test_disk-{id}-{name}")?;
-    let _ = fs::remove_dir_all(rt, path.as_str());
-    Ok(path)
+/// Where a folder's disk is opened.
+#[derive(Clone, Copy)]
+struct Place<'a> {
+    path: &'a str,
+    /// Whether what is missing is made.
+    makes: bool,
 }
 
-fn open(rt: &HostRuntime, path: &str, makes: bool) -> Result<DirDisk, OpenError>
+fn open(rt: &HostRuntime, place: Place<'_>) -> Result<DirDisk, OpenError>
     ensures { IfOk result (λ disk. length (folder_files disk) ≡ 64) }
 {
-    Ok(DirDisk::new(Folder::open(rt, path, makes)?))
+    Ok(DirDisk::new(Folder::open(rt, place.path, place.makes)?))
 }
 
 /// Opens a folder's disk and makes calls on it. Returns whether each ends as it has to, and the cause of the failure.
 fn drive(
     rt: &HostRuntime,
-    path: &str,
-    makes: bool,
+    place: Place<'_>,
     steps: &[Step],
 ) -> Result<(bool, Option<FileFault>), OpenError> {
-    let mut disk = open(rt, path, makes)?;
+    let mut disk = open(rt, place)?;
     let wrong = first_wrong(&mut disk, steps);
     Ok((wrong.is_none(), disk.fault()))
-}
-
-fn goes(rt: &HostRuntime, path: &str, makes: bool, steps: &[Step]) -> bool {
-    matches!(drive(rt, path, makes, steps), Ok((true, _)))
-}
-
-fn is_not_opened(rt: &HostRuntime, path: &str, makes: bool) -> bool {
-    matches!(drive(rt, path, makes, &[]), Err(OpenError::Folder(_)))
 }
 
 /// A new folder has all its slots.
@@ -50,18 +41,6 @@ const KEPT: &[Step] = &[
     (3, Call::Holds(b"\0xyb"), true),
     (0, Call::Holds(b"head"), true),
 ];
-
-#[test]
-fn a_folder_keeps_what_was_written(rt: HostRuntime) -> Result<(), Fail> {
-    let parent = fresh(&rt, "kept")?;
-    let path = format!(in rt.alloc(); "{}/within", parent.as_str())?;
-    let is_made = goes(&rt, path.as_str(), true, ALL_SLOTS);
-    let is_written = goes(&rt, path.as_str(), true, EXERCISE);
-    let is_kept = goes(&rt, path.as_str(), false, KEPT);
-    fs::remove_dir_all(&rt, parent.as_str())?;
-    assert!(rt; is_made && is_written && is_kept);
-    Ok(())
-}
 
 /// A file that is missing.
 const MISSING: &[Step] = &[
@@ -74,74 +53,101 @@ const MISSING: &[Step] = &[
     (63, Call::Failures(3), true),
 ];
 
-#[test]
-fn a_missing_file_is_empty(rt: HostRuntime) -> Result<(), Fail> {
-    let path = fresh(&rt, "missing")?;
-    let is_missing = is_not_opened(&rt, path.as_str(), false);
-    fs::create_dir(&rt, path.as_str())?;
-    let is_empty = goes(&rt, path.as_str(), false, MISSING);
-    fs::remove_dir_all(&rt, path.as_str())?;
-    assert!(rt; is_missing && is_empty);
-    Ok(())
+/// A read past the end.
+const PAST_THE_END: &[Step] = &[(5, Call::Read(0, 1), false)];
+
+/// What calls on a folder leave.
+#[derive(Clone, Copy)]
+enum End {
+    /// The folder isn't opened.
+    Closed,
+    /// Each call ended as it had to, and no cause is asked for.
+    Right,
+    /// The same, and no call failed.
+    Whole,
+    /// The same, and the last failure was a read past the end of this slot's file.
+    PastTheEnd(usize),
 }
 
-#[test]
-fn a_folder_in_place_of_a_file_is_not_opened(rt: HostRuntime) -> Result<(), Fail> {
-    let path = fresh(&rt, "folder")?;
-    let name = format!(in rt.alloc(); "{}/img-007", path.as_str())?;
-    fs::create_dir_all(&rt, name.as_str())?;
-    let is_refused = is_not_opened(&rt, path.as_str(), true);
-    fs::remove_dir_all(&rt, path.as_str())?;
-    assert!(rt; is_refused);
-    Ok(())
-}
-
-/// Whether a fault is that of a read past the end of the file of slot 5.
-fn is_past_the_end(fault: Option<FileFault>) -> bool {
+/// Whether a fault is that of a read past the end of a slot's file.
+fn is_past_the_end(fault: Option<FileFault>, slot: usize) -> bool {
     match fault {
         Some(fault) => {
-            fault.slot == Some(5) && fault.error.kind() == io::ErrorKind::UnexpectedEof
+            fault.slot == Some(slot) && fault.error.kind() == io::ErrorKind::UnexpectedEof
         }
         None => false,
     }
 }
 
-#[test]
-fn a_failed_call_leaves_its_cause(rt: HostRuntime) -> Result<(), Fail> {
-    let path = fresh(&rt, "cause")?;
-    let (_, before) = drive(&rt, path.as_str(), true, ALL_SLOTS)?;
-    let (is_refused, fault) = drive(&rt, path.as_str(), true, &[(5, Call::Read(0, 1), false)])?;
-    fs::remove_dir_all(&rt, path.as_str())?;
-    assert!(rt; before.is_none() && is_refused && is_past_the_end(fault));
-    Ok(())
-}
-
-fn is_shown<T: fmt::Display>(rt: &impl AllocGlobal, value: &T, text: &str) -> Result<bool, Fail> {
-    let shown = format!(in rt.alloc(); "{value}")?;
-    Ok(shown.as_str() == text)
-}
-
-#[test]
-fn errors_have_their_texts(rt: HostRuntime) -> Result<(), Fail> {
-    let file = FileFault {
-        slot: Some(7),
-        error: io::Error::from_raw_os_error(28),
+/// Whether calls on a folder leave this.
+fn ends(rt: &HostRuntime, place: Place<'_>, steps: &[Step], end: End) -> bool {
+    let Ok((is_right, fault)) = drive(rt, place, steps) else {
+        return matches!(end, End::Closed);
     };
-    let cause = "img-007: No space left on device (os error 28)";
-    let are_shown = is_shown(&rt, &DeviceError, "device")?
-        && is_shown(&rt, &OpenError::OutOfMemory, "out-of-memory")?
-        && is_shown(&rt, &OpenError::Folder(file), "cannot open DIR")?
-        && is_shown(&rt, &file, cause)?;
-    assert!(rt; are_shown);
-    Ok(())
+    match end {
+        End::Closed => false,
+        End::Right => is_right,
+        End::Whole => is_right && fault.is_none(),
+        End::PastTheEnd(slot) => is_right && is_past_the_end(fault, slot),
+    }
 }
 
-/// A type whose values can be handed to another thread.
-fn moves<T: Send>() {}
+/// Calls on one folder, each time opened anew.
+const CALLS: [(bool, &[Step], End); 6] = [
+    (false, &[], End::Closed),
+    (true, ALL_SLOTS, End::Whole),
+    (true, PAST_THE_END, End::PastTheEnd(5)),
+    (true, EXERCISE, End::Right),
+    (false, KEPT, End::Whole),
+    (true, KEPT, End::Whole),
+];
 
+/// Whether each leaves what it says.
+fn leave_so(rt: &HostRuntime, path: &str) -> bool {
+    let mut is = true;
+    for (makes, steps, end) in CALLS {
+        is = is && ends(rt, Place { path, makes }, steps, end);
+    }
+    is
+}
+
+/// Whether a folder keeps what was written.
+fn keeps(rt: &HostRuntime, parent: &str) -> Result<bool, Fail> {
+    let path = format!(in rt.alloc(); "{parent}/kept/within")?;
+    Ok(leave_so(rt, path.as_str()))
+}
+
+/// Whether a missing file is empty in a folder without files.
+fn is_empty(rt: &HostRuntime, parent: &str) -> Result<bool, Fail> {
+    fs::create_dir_all(rt, parent)?;
+    let place = Place {
+        path: parent,
+        makes: false,
+    };
+    Ok(ends(rt, place, MISSING, End::Right))
+}
+
+/// Whether one with a folder in place of a file isn't opened.
+fn is_refused(rt: &HostRuntime, parent: &str) -> Result<bool, Fail> {
+    let inner = format!(in rt.alloc(); "{parent}/img-007")?;
+    fs::create_dir_all(rt, inner.as_str())?;
+    let place = Place {
+        path: parent,
+        makes: true,
+    };
+    Ok(ends(rt, place, &[], End::Closed))
+}
+
+/// A folder keeps what was written, a missing file is empty, and a failed call leaves its cause.
 #[test]
-fn a_disk_can_be_moved_to_another_thread() {
-    moves::<DirDisk>();
-    moves::<MemDisk>();
-    moves::<Fused<MemDisk>>();
+fn folders_keep_what_was_written(rt: HostRuntime) -> Result<(), Fail> {
+    let id = process::id(rt.process());
+    let parent = format!(in rt.alloc(); "/tmp/test_disk-{id}")?;
+    let _ = fs::remove_dir_all(&rt, parent.as_str());
+    let are_right = keeps(&rt, parent.as_str())?
+        && is_empty(&rt, parent.as_str())?
+        && is_refused(&rt, parent.as_str())?;
+    fs::remove_dir_all(&rt, parent.as_str())?;
+    assert!(rt; are_right);
+    Ok(())
 }

@@ -8,19 +8,19 @@ use std::sync::Wait;
 use std::thread;
 
 /// How often an errand that was handed back is put again.
-const TRIES: u64 = 10_000_000;
+pub(crate) const TRIES: u64 = 10_000_000;
 
 /// Puts errands with the tickets from 1 on.
 #[derive(Drop)]
 pub(crate) struct Stream<'a, R> {
-    pub(crate) rt: &'a R,
+    rt: &'a R,
     /// The last ticket.
-    pub(crate) last: u64,
+    last: u64,
     /// How often an errand that is handed back is put again.
-    pub(crate) tries: u64,
+    tries: u64,
     /// How many errands were put.
     pub(crate) sent: u64,
-    pub(crate) is_done: bool,
+    is_done: bool,
 }
 
 /// The request to cut the first slot.
@@ -82,11 +82,11 @@ impl<R: Wait> Feeder for Stream<'_, R> {
 }
 
 impl<'a, R> Stream<'a, R> {
-    pub(crate) fn new(rt: &'a R, last: u64) -> Self {
+    pub(crate) fn new(rt: &'a R, last: u64, tries: u64) -> Self {
         Stream {
             rt,
             last,
-            tries: TRIES,
+            tries,
             sent: 0,
             is_done: false,
         }

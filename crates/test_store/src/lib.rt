@@ -1,4 +1,4 @@
-//! Tests of disks, of the gate and the relay, of images, catalogs and stores, by their public names alone.
+//! Tests of disks, of the gate and the relay, of chains and stores, by their public names alone.
 #![tactic(auto)]
 
 #[cfg(test)]
@@ -6,13 +6,7 @@ mod builders;
 #[cfg(test)]
 mod cases;
 #[cfg(test)]
-mod catalog_deeds;
-#[cfg(test)]
-mod catalog_rows;
-#[cfg(test)]
-mod catalogs;
-#[cfg(test)]
-mod codec;
+mod chains;
 #[cfg(test)]
 mod crashes;
 #[cfg(test)]
@@ -20,17 +14,11 @@ mod devices;
 #[cfg(test)]
 mod drops;
 #[cfg(test)]
-mod example;
-#[cfg(test)]
 mod feeding;
 #[cfg(test)]
 mod gates;
 #[cfg(test)]
-mod looks;
-#[cfg(test)]
 mod picks;
-#[cfg(test)]
-mod plan_use;
 #[cfg(test)]
 mod plans;
 #[cfg(test)]
@@ -38,8 +26,8 @@ mod relays;
 #[cfg(test)]
 mod steps;
 #[cfg(test)]
-mod store_deeds;
-#[cfg(test)]
 mod stores;
+#[cfg(test)]
+mod texts;
 #[cfg(test)]
 mod writing;

@@ -1,6 +1,4 @@
 //! Outcomes of a crash that tests pick.
-ghost use Rattle.std.specs.Prelude.{◌≡◌, [], ◌∷◌};
-
 use sd_disk::Pick;
 
 #[derive(Clone, Copy)]
@@ -92,54 +90,53 @@ impl Pick for Rule {
     }
 }
 
-/// Aims at a disk of one slot with this file.
+/// A question that a crash asks: whether it is of a length, the slot, and the numbers that go with it. Of a length they
+/// are the least, the greatest, that of the last sync and that of now; of a byte its place, and what it was and is,
+/// where it was and is there.
+pub(crate) type Question = (bool, usize, [u64; 4]);
+
+/// No byte is there.
+pub(crate) const NO_BYTE: u64 = 256;
+
+/// Compares what it is asked with questions, and picks what is there now.
 #[derive(Drop)]
-pub(crate) struct Towards<'a> {
-    pub(crate) file: &'a [u8],
+pub(crate) struct Asked<'a> {
+    pub(crate) questions: &'a [Question],
+    /// How many were asked.
+    pub(crate) count: usize,
+    /// Whether each was the next one.
+    pub(crate) is_right: bool,
 }
 
-impl Pick for Towards<'_> {
-    ghost aims = { λ pick c. c ≡ pick.file.now ∷ [] };
-
-    fn len(&mut self, slot: usize, _least: u64, _greatest: u64, _synced: u64, _now: u64) -> u64 {
-        if slot == 0 { self.file.len() as u64 } else { 0 }
+impl Asked<'_> {
+    fn note(&mut self, question: Question) {
+        let (is_length, slot, numbers) = question;
+        let is_next = match self.questions.get(self.count) {
+            Some(next) => next.0 == is_length && next.1 == slot && next.2 == numbers,
+            None => false,
+        };
+        self.is_right &= is_next;
+        self.count = self.count.wrapping_add(1);
     }
+}
 
-    fn byte(&mut self, slot: usize, at: u64, _synced: Option<u8>, _now: Option<u8>) -> u8 {
-        if slot == 0 {
-            self.file.get(at as usize).copied().unwrap_or(0)
-        } else {
-            0
-        }
+fn number_of(byte: Option<u8>) -> u64 {
+    match byte {
+        Some(byte) => u64::from(byte),
+        None => NO_BYTE,
     }
 }
 
-/// A question that a crash asked.
-#[derive(Clone, Copy, Debug, PartialEq, Eq)]
-pub(crate) enum Question {
-    Len(usize, u64, u64, u64, u64),
-    Byte(usize, u64, Option<u8>, Option<u8>),
-}
-
-/// Notes what it is asked, and picks by a rule.
-#[derive(Drop)]
-pub(crate) struct Noting {
-    pub(crate) asked: Vec<Question>,
-    pub(crate) rule: Rule,
-}
-
-impl Pick for Noting {
+impl Pick for Asked<'_> {
     ghost aims = { λ _ _. ⊥ };
 
     fn len(&mut self, slot: usize, least: u64, greatest: u64, synced: u64, now: u64) -> u64 {
-        let _ = self
-            .asked
-            .push(Question::Len(slot, least, greatest, synced, now));
-        self.rule.len(slot, least, greatest, synced, now)
+        self.note((true, slot, [least, greatest, synced, now]));
+        now
     }
 
     fn byte(&mut self, slot: usize, at: u64, synced: Option<u8>, now: Option<u8>) -> u8 {
-        let _ = self.asked.push(Question::Byte(slot, at, synced, now));
-        self.rule.byte(slot, at, synced, now)
+        self.note((false, slot, [at, number_of(synced), number_of(now), 0]));
+        now.unwrap_or(0)
     }
 }

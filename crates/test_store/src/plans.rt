@@ -1,11 +1,11 @@
 //! Plans of an image of one page, and how they run over a disk.
 use sd_disk::{Disk, MemDisk};
-use sd_gate::{Call, Plan, Settled, SlotState, Worker, perform};
+use sd_gate::{Plan, Settled, SlotState, Worker, perform};
 use sd_image::{Header, Kind, Version};
 use std::alloc::{AllocError, Global};
 
 /// One dump of one page.
-pub(crate) const HEADER: Header = Header {
+const HEADER: Header = Header {
     version: Version::One,
     kind: Kind::Dump,
     serial: 1,
@@ -18,7 +18,7 @@ pub(crate) const HEADER: Header = Header {
 };
 
 /// The first 64 bytes of its file.
-pub(crate) const FIRST: [u8; 64] = [
+const FIRST: [u8; 64] = [
     0xa5, 0x53, 0x44, 0x43, 0x48, 0x41, 0x49, 0x4e, 1, 0, 2, 0, 0, 0, 0, 0, //
     1, 0, 0, 0, 0, 0, 0, 0, 1, 0, 0, 0, 0, 0, 0, 0, //
     0, 0, 0, 0, 0, 0, 0, 0, 1, 0, 0, 0, 0, 0, 0, 0, //
@@ -26,7 +26,7 @@ pub(crate) const FIRST: [u8; 64] = [
 ];
 
 /// Its table.
-pub(crate) const TABLE: [u8; 72] = [
+const TABLE: [u8; 72] = [
     1, 0, 0, 0, 0, 0, 0, 0, //
     1, 0, 0, 0, 1, 0, 0, 0, 1, 0, 0, 0, 0, 0, 0, 0, //
     0x10, 0, 0, 0, 0, 0, 0, 0, 1, 0, 0, 0, 0, 0, 0, 0, 3, 0, 0, 0, 0, 0, 0, 0, //
@@ -34,22 +34,10 @@ pub(crate) const TABLE: [u8; 72] = [
 ];
 
 /// The length of its file.
-pub(crate) const FILE_LEN: usize = 8264;
-
-/// The calls by which a slot becomes one closed byte.
-pub(crate) const CLOSING: &[Call] = &[Call::Close, Call::Sync, Call::Cut];
-
-/// The calls by which the body of the image is closed.
-pub(crate) const BODY: &[Call] = &[
-    Call::Write { at: 8192 },
-    Call::WriteHeader,
-    Call::Sync,
-    Call::Open,
-    Call::Sync,
-];
+const FILE_LEN: usize = 8264;
 
 /// The page: these bytes, and zeros after them.
-pub(crate) fn page(alloc: Global) -> Result<Vec<u8>, AllocError> {
+fn page(alloc: Global) -> Result<Vec<u8>, AllocError> {
     let mut page = Vec::with_capacity(alloc, 4096)?;
     page.extend_from_slice(b"hello")?;
     page.resize(4096, 0)?;
@@ -61,51 +49,37 @@ pub(crate) fn roomy(alloc: Global) -> Result<MemDisk, AllocError> {
     MemDisk::new(alloc, 1, 16_000, 64)
 }
 
-/// Makes the next call of a plan. Returns it and what its outcome was to the plan, or none where there is no call.
-pub(crate) fn make_next<D: Disk>(
-    disk: &mut D,
-    plan: &mut Plan,
-    ticket: u64,
-) -> Result<Option<(Call, Settled)>, AllocError> {
+/// Whether these are the bytes of the image.
+pub(crate) fn is_image(file: &[u8]) -> bool {
+    file.len() == FILE_LEN
+        && file[0..64] == FIRST[..]
+        && file[64..4096].iter().all(|byte| *byte == 0)
+        && file[4096..4101] == b"hello"[..]
+        && file[4101..8192].iter().all(|byte| *byte == 0)
+        && file[8192..] == TABLE[..]
+}
+
+/// Makes the next call of a plan. Returns what its outcome was to the plan, which is strange where there is no call.
+fn make_next<D: Disk>(disk: &mut D, plan: &mut Plan, ticket: u64) -> Result<Settled, AllocError> {
     let Some(request) = plan.take(Worker::Dumper, ticket)? else {
-        return Ok(None);
+        return Ok(Settled::Strange);
     };
     if disk.slots() <= request.id().slot {
-        return Ok(None);
+        return Ok(Settled::Strange);
     }
-    let call = request.id().call;
     let outcome = perform(disk, request);
-    Ok(Some((call, plan.settle(outcome))))
+    Ok(plan.settle(outcome))
 }
 
 /// Runs a plan to its end, or up to the first call that fails.
-fn run<D: Disk>(disk: &mut D, plan: &mut Plan) -> Result<Settled, AllocError> {
+fn run<D: Disk>(disk: &mut D, mut plan: Plan) -> Result<Settled, AllocError> {
+    let mut settled = Settled::More;
     for ticket in 0..9 {
-        let Some((_, settled)) = make_next(disk, plan, ticket)? else {
-            return Ok(Settled::Strange);
-        };
-        if settled != Settled::More {
-            return Ok(settled);
+        if settled == Settled::More {
+            settled = make_next(disk, &mut plan, ticket)?;
         }
     }
-    Ok(Settled::Strange)
-}
-
-/// Whether a plan makes these calls, of which the last ends so, and no other.
-pub(crate) fn makes<D: Disk>(
-    disk: &mut D,
-    plan: &mut Plan,
-    calls: &[Call],
-    end: Settled,
-) -> Result<bool, AllocError> {
-    let mut settled = Settled::Finished;
-    for place in 0..calls.len() {
-        match make_next(disk, plan, place as u64)? {
-            Some((call, now)) if call == calls[place] => settled = now,
-            _ => return Ok(false),
-        }
-    }
-    Ok(settled == end && plan.take(Worker::Dumper, 9)?.is_none())
+    Ok(settled)
 }
 
 /// Formats the slot and writes the image, up to the first call that fails.
@@ -114,16 +88,16 @@ pub(crate) fn write_image<D: Disk>(
     disk: &mut D,
     state: SlotState,
 ) -> Result<Settled, AllocError> {
-    let formatted = run(disk, &mut Plan::format(0, state))?;
+    let formatted = run(disk, Plan::format(0, state))?;
     if formatted != Settled::Finished {
         return Ok(formatted);
     }
-    let written = run(disk, &mut Plan::write_page(0, 0, page(alloc)?))?;
+    let written = run(disk, Plan::write_page(0, 0, page(alloc)?))?;
     if written != Settled::Finished {
         return Ok(written);
     }
     let table = Vec::from_array(alloc, TABLE)?;
-    run(disk, &mut Plan::close_body(0, HEADER, table))
+    run(disk, Plan::close_body(0, HEADER, table))
 }
 
 /// The whole file of the first slot. None where the device fails.

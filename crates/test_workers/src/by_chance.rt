@@ -1,10 +1,10 @@
-//! Checkpoints while calls by chance are made on the memory.
+//! Checkpoints while random calls are made on the memory.
 ghost use Rattle.std.specs.Prelude.{◌≤◌};
 
 use crate::calls::call_by_chance;
 use crate::chance::below;
 use crate::drive::Drive;
-use crate::moment::Moment;
+use crate::moment::moment_of_memory;
 use crate::stop::Stop;
 use rand_pcg::Pcg32;
 use sd_pagetable::Memory;
@@ -39,8 +39,8 @@ fn begin(alloc: Global, drive: &mut Drive, chance: &mut Pcg32, number: u64) -> R
     let first = (place * IMAGES) as usize;
     let dump = first + below(chance, IMAGES) as usize;
     let rounds = slots(alloc, first, dump)?;
-    let parent = if place == 0 { 0 } else { drive.serials() };
-    drive.begin(number, rounds, dump, parent)
+    let parent = if place == 0 { 0 } else { drive.serials };
+    drive.begin(alloc, number, rounds, dump, parent)
 }
 
 /// Makes no, one or two calls on a memory.
@@ -58,14 +58,15 @@ fn up_to_freeze(drive: &mut Drive, chance: &mut Pcg32) -> Result<(), Stop> {
         if drive.step()? {
             return Err(Stop::Strange);
         }
-        if drive.frozen > 0 {
+        if drive.is_frozen {
             return Ok(());
         }
     }
     Err(Stop::NoEnd)
 }
 
-/// Makes a checkpoint, and returns whether the disk is restored to the memory at its freeze.
+/// Makes a checkpoint, and returns whether the disk is restored to the memory at its freeze, since which five outcomes
+/// or more were handed in.
 fn checkpoint(
     alloc: Global,
     drive: &mut Drive,
@@ -76,15 +77,14 @@ fn checkpoint(
 {
     begin(alloc, drive, chance, number)?;
     up_to_freeze(drive, chance)?;
-    let frozen = Moment::of_memory(alloc, &drive.memory)?;
+    let frozen = moment_of_memory(alloc, &drive.memory)?;
     drive.finish()?;
-    let (shown, moment) = drive.restore(alloc)?;
-    Ok(shown == number && moment == frozen)
+    Ok(5 <= drive.since_freeze() && drive.shows(alloc, number, &frozen)?)
 }
 
-/// Makes checkpoints by chance, up to the first that isn't restored. Returns whether there is none.
+/// Makes random checkpoints, up to the first that isn't restored. Returns whether there is none.
 pub(crate) fn checkpoints(alloc: Global, drive: &mut Drive, seed: u64) -> Result<bool, Stop> {
-    drive.map(1)?;
+    drive.map()?;
     let mut chance = Pcg32::new(seed, 0);
     for number in 1..=CHECKPOINTS {
         if !checkpoint(alloc, drive, &mut chance, number)? {

@@ -1,4 +1,4 @@
-//! Calls on a memory by chance, over three pages of two spaces.
+//! Random calls on a memory, over three pages of two spaces.
 use crate::chance::below;
 use crate::drive::{FIRST, PAGE, PROT};
 use rand_pcg::Pcg32;
@@ -8,13 +8,13 @@ use sd_pagetable::{Memory, MemoryError};
 /// How many pages a space may have.
 const PAGES: u64 = 3;
 
-/// Permissions by chance: in most cases those to read and to write.
+/// Random permissions: in most cases those to read and to write.
 fn prot_by_chance(chance: &mut Pcg32) -> Prot {
     let bits = below(chance, 32) as u8;
     Prot::from_bits(bits).unwrap_or(PROT)
 }
 
-/// An address by chance, where a sector begins.
+/// A random address, where a sector begins.
 fn address_by_chance(chance: &mut Pcg32) -> u64 {
     let page = FIRST + below(chance, PAGES) * PAGE;
     page + below(chance, 8) * 512
@@ -46,7 +46,7 @@ fn call_on_space(memory: &mut Memory, space: SpaceId) -> Result<(), MemoryError>
     Ok(())
 }
 
-/// Makes a call by chance. It may be refused.
+/// Makes a random call. It may be refused.
 fn call(memory: &mut Memory, chance: &mut Pcg32) -> Result<(), MemoryError> {
     let space = SpaceId::new(1 + below(chance, 2));
     let address = address_by_chance(chance);
@@ -63,7 +63,7 @@ fn call(memory: &mut Memory, chance: &mut Pcg32) -> Result<(), MemoryError> {
     }
 }
 
-/// Makes a call by chance, which a rule may forbid.
+/// Makes a random call, which a rule may forbid.
 ///
 /// # Errors
 ///

@@ -1,4 +1,4 @@
-//! Numbers by chance, the same in each run.
+//! Random numbers, the same in each run.
 ghost use Rattle.std.specs.Prelude.{◌<◌, ◌≤◌};
 
 use rand_core::Rng;

@@ -1,4 +1,4 @@
-//! Tests of the dumper's passes and checkpoints, and of the merger, by their public names.
+//! Tests of the dumper, and of the slots that are free beside it and a merger, by their public names.
 #![tactic(auto)]
 
 #[cfg(test)]
@@ -10,18 +10,14 @@ mod cases;
 #[cfg(test)]
 mod chance;
 #[cfg(test)]
-mod countdown;
-#[cfg(test)]
 mod drive;
-#[cfg(test)]
-mod merges;
 #[cfg(test)]
 mod moment;
 #[cfg(test)]
-mod passes;
+mod slot_deeds;
 #[cfg(test)]
-mod questions;
-#[cfg(test)]
-mod rows;
+mod slots;
 #[cfg(test)]
 mod stop;
+#[cfg(test)]
+mod store;

@@ -1,5 +1,6 @@
-//! The memory of a moment, to be compared.
-use sd_areas::{PAGE_SIZE, PageNo, Prot, Snapshot, SnapshotPage, SpaceId};
+//! The memory of a moment as bytes, to be compared: the living spaces, a 0, and then each page by its space and number,
+//! with its permissions and its bytes.
+use sd_areas::{PAGE_SIZE, PageNo, Snapshot, SnapshotPage, SpaceId};
 use sd_pagetable::{Memory, SECTOR_SIZE};
 use std::alloc::{AllocError, Global};
 use std::collections::BTreeMap;
@@ -7,114 +8,113 @@ use std::collections::BTreeMap;
 /// More pages than the spaces of a test have.
 const MOST: usize = 64;
 
-/// A mapped page: where it is, its permissions and its bytes.
-#[derive(PartialEq, Drop)]
-struct MomentPage {
+/// How many bytes stand before a page's own.
+const HEAD: usize = 17;
+
+/// Puts what stands before a page's own bytes.
+fn put_head(
+    moment: &mut Vec<u8>,
     space: SpaceId,
     page: PageNo,
-    prot: Option<Prot>,
-    bytes: Vec<u8>,
-}
-
-/// The memory of a moment: the living spaces, and all their pages.
-#[derive(PartialEq, Drop)]
-pub(crate) struct Moment {
-    spaces: Vec<SpaceId>,
-    pages: Vec<MomentPage>,
-}
-
-impl Moment {
-    /// What a memory is now.
-    pub(crate) fn of_memory(alloc: Global, memory: &Memory) -> Result<Self, AllocError> {
-        let mut pages = Vec::new(alloc);
-        let mut after = None;
-        for _ in 0..MOST {
-            let Some((space, page)) = memory.next_page(after) else {
-                break;
-            };
-            pages.push(page_of_memory(alloc, memory, space, page)?)?;
-            after = Some((space, page));
-        }
-        let spaces = living(alloc, memory)?;
-        Ok(Moment { spaces, pages })
-    }
-
-    /// The first bytes of two sectors of the first page, if there is one.
-    pub(crate) fn first_bytes(&self) -> Option<(u8, u8)> {
-        let page = self.pages.first()?;
-        Some((*page.bytes.first()?, *page.bytes.get(0x200)?))
-    }
-
-    /// What a snapshot has.
-    pub(crate) fn of_snapshot(alloc: Global, snapshot: &Snapshot) -> Result<Self, AllocError> {
-        let mut spaces = Vec::new(alloc);
-        let mut pages = Vec::new(alloc);
-        for (space, own) in &snapshot.spaces {
-            spaces.push(*space)?;
-            push_pages(alloc, &mut pages, *space, own)?;
-        }
-        Ok(Moment { spaces, pages })
-    }
-}
-
-/// The pages of a space of a snapshot.
-fn push_pages(
-    alloc: Global,
-    pages: &mut Vec<MomentPage>,
-    space: SpaceId,
-    own: &BTreeMap<PageNo, SnapshotPage>,
+    bits: u8,
 ) -> Result<(), AllocError> {
-    for (page, found) in own {
-        pages.push(page_of_snapshot(alloc, space, *page, found)?)?;
+    moment.try_reserve(HEAD + PAGE_SIZE)?;
+    moment.extend_from_slice(&space.number().to_le_bytes())?;
+    moment.extend_from_slice(&page.number().to_le_bytes())?;
+    moment.push(bits)?;
+    Ok(())
+}
+
+/// The bits of a page's permissions, or others than any where it isn't mapped.
+fn bits_of(memory: &Memory, space: SpaceId, page: PageNo) -> u8 {
+    match memory.areas(space) {
+        Some(areas) => match areas.prot_of(page) {
+            Some(prot) => prot.bits(),
+            None => u8::MAX,
+        },
+        None => u8::MAX,
+    }
+}
+
+/// Puts a page of a memory.
+fn put_page_of_memory(
+    moment: &mut Vec<u8>,
+    memory: &Memory,
+    space: SpaceId,
+    page: PageNo,
+) -> Result<(), AllocError> {
+    put_head(moment, space, page, bits_of(memory, space, page))?;
+    for number in 0..8 {
+        let mut sector = [0; SECTOR_SIZE];
+        memory.read_sector(space, page, number, &mut sector);
+        moment.extend_from_slice(&sector)?;
     }
     Ok(())
 }
 
-fn living(alloc: Global, memory: &Memory) -> Result<Vec<SpaceId>, AllocError> {
-    let mut spaces = Vec::new(alloc);
-    for number in 1..=16 {
-        let space = SpaceId::new(number);
-        if memory.areas(space).is_some() {
-            spaces.push(space)?;
+/// Puts the numbers of the living spaces of a memory, and a 0.
+fn put_living(moment: &mut Vec<u8>, memory: &Memory) -> Result<(), AllocError> {
+    for number in 1..=16u64 {
+        if memory.areas(SpaceId::new(number)).is_some() {
+            moment.extend_from_slice(&number.to_le_bytes())?;
         }
     }
-    Ok(spaces)
+    moment.push(0)?;
+    Ok(())
 }
 
-fn page_of_memory(
-    alloc: Global,
-    memory: &Memory,
-    space: SpaceId,
-    page: PageNo,
-) -> Result<MomentPage, AllocError> {
-    let mut bytes = Vec::with_capacity(alloc, PAGE_SIZE)?;
-    for number in 0..8 {
-        let mut sector = [0; SECTOR_SIZE];
-        memory.read_sector(space, page, number, &mut sector);
-        bytes.extend_from_slice(&sector)?;
+/// What a memory is now.
+pub(crate) fn moment_of_memory(alloc: Global, memory: &Memory) -> Result<Vec<u8>, AllocError> {
+    let mut moment = Vec::new(alloc);
+    put_living(&mut moment, memory)?;
+    let mut after = None;
+    for _ in 0..MOST {
+        let Some((space, page)) = memory.next_page(after) else {
+            break;
+        };
+        put_page_of_memory(&mut moment, memory, space, page)?;
+        after = Some((space, page));
     }
-    let prot = match memory.areas(space) {
-        Some(areas) => areas.prot_of(page),
-        None => None,
-    };
-    Ok(MomentPage {
-        space,
-        page,
-        prot,
-        bytes,
-    })
+    Ok(moment)
 }
 
-fn page_of_snapshot(
-    alloc: Global,
+/// Puts the pages of a space of a snapshot.
+fn put_pages(
+    moment: &mut Vec<u8>,
     space: SpaceId,
-    page: PageNo,
-    found: &SnapshotPage,
-) -> Result<MomentPage, AllocError> {
-    Ok(MomentPage {
-        space,
-        page,
-        prot: Some(found.prot),
-        bytes: found.bytes.to_vec(alloc)?,
-    })
+    own: &BTreeMap<PageNo, SnapshotPage>,
+) -> Result<(), AllocError> {
+    for (page, found) in own {
+        put_head(moment, space, *page, found.prot.bits())?;
+        moment.extend_from_slice(found.bytes.as_slice())?;
+    }
+    Ok(())
+}
+
+/// Puts the numbers of the spaces of a snapshot, and a 0.
+fn put_spaces(moment: &mut Vec<u8>, snapshot: &Snapshot) -> Result<(), AllocError> {
+    for (space, _) in &snapshot.spaces {
+        moment.extend_from_slice(&space.number().to_le_bytes())?;
+    }
+    moment.push(0)?;
+    Ok(())
+}
+
+/// Puts the pages of all spaces of a snapshot.
+fn put_all_pages(moment: &mut Vec<u8>, snapshot: &Snapshot) -> Result<(), AllocError> {
+    for (space, own) in &snapshot.spaces {
+        put_pages(moment, *space, own)?;
+    }
+    Ok(())
+}
+
+/// What a snapshot has.
+pub(crate) fn moment_of_snapshot(
+    alloc: Global,
+    snapshot: &Snapshot,
+) -> Result<Vec<u8>, AllocError> {
+    let mut moment = Vec::new(alloc);
+    put_spaces(&mut moment, snapshot)?;
+    put_all_pages(&mut moment, snapshot)?;
+    Ok(moment)
 }

@@ -1,6 +1,5 @@
 //! Why a test goes no further.
 use sd_chain::CatalogError;
-use sd_disk::DeviceError;
 use sd_pagetable::{AccessError, MemoryError};
 use sd_restore::Fault;
 use std::alloc::{AllocError, AllocFailed};
@@ -11,24 +10,14 @@ pub(crate) enum Stop {
     OutOfMemory,
     /// The paged memory refused.
     Memory,
-    /// The dumper refused.
-    Dumper,
-    /// The merger refused.
-    Merger,
+    /// The dumper or the merger refused.
+    Worker,
     /// The catalog doesn't take an image.
     Catalog,
-    /// A device call failed where none may.
-    Device,
     /// The disk isn't restored.
     Unrestored,
-    /// Nothing was saved yet.
-    NoTip,
-    /// There is no such slot, space or page.
-    Missing,
-    /// An outcome that may not come here, or a freeze or an end that may not.
+    /// An outcome that may not come here, or a freeze or an end that may not, or no slot, space or image.
     Strange,
-    /// What is left of a checkpoint doesn't fall.
-    Left,
     /// A checkpoint, a part of it or a merge doesn't end.
     NoEnd,
 }
@@ -64,26 +53,20 @@ impl From<sd_rounds::WorkError> for Stop {
     fn from(error: sd_rounds::WorkError) -> Stop {
         match error {
             sd_rounds::WorkError::OutOfMemory => Stop::OutOfMemory,
-            sd_rounds::WorkError::Busy | sd_rounds::WorkError::Idle => Stop::Dumper,
+            sd_rounds::WorkError::Busy | sd_rounds::WorkError::Idle => Stop::Worker,
         }
     }
 }
 
 impl From<sd_merge::WorkError> for Stop {
     fn from(_error: sd_merge::WorkError) -> Stop {
-        Stop::Merger
+        Stop::Worker
     }
 }
 
 impl From<CatalogError> for Stop {
     fn from(_error: CatalogError) -> Stop {
         Stop::Catalog
-    }
-}
-
-impl From<DeviceError> for Stop {
-    fn from(_error: DeviceError) -> Stop {
-        Stop::Device
     }
 }
 
