@@ -1,8 +1,8 @@
 #!/usr/bin/env bash
 # Memory that is refused, growth by growth, to tests that were built beside the program (crates/test_failures and
 # crates/test_shared): they give what was refused once more, and pass all the same.
-# `tests/growths.sh all` refuses every growth of the threads' tests, in a quarter of an hour; the gate every 97th, and
-# every 13th.
+# `tests/growths.sh all` refuses every growth of the threads' tests, in a quarter of an hour, and makes a thousand runs
+# of eight seats at random; the gate refuses every 97th, and every 13th, and makes ten runs.
 
 # Makes the library that refuses a growth.
 growths_can_be_refused() {
@@ -60,14 +60,23 @@ refuse_each() {  # refuse_each NAME JOBS
   ! ls "$1"-*/failed > failed 2>&1 && echo "$1: all passed, $(($(cat "$1"-*/ended | sort -n | head -n 1) - 1)) growths"
 }
 
-# Every growth of the threads' tests.
+# Makes a thousand runs of eight seats, each of another seed.
+run_at_random() {
+  local program=$here/../crates/test_shared/out/test_shared_tests run
+  for run in $(seq 100); do
+    timeout 300 "$program" eight::eight_seats_at_random > out 2> err || { cat out err; return 1; }
+  done
+  echo "eight_seats_at_random: 1000 runs passed"
+}
+
+# Every growth of the threads' tests, and runs at random.
 refuse_all() {
   here=$(cd "$(dirname "${BASH_SOURCE[0]}")" && pwd)
   local room status jobs
   jobs=${JOBS:-$(nproc)}
   [ "$jobs" -ge 1 ] || jobs=1
   room=$(mktemp -d) && cd "$room" || return
-  growths_can_be_refused && refuse_each threads "$jobs" && refuse_each twenty_pages "$jobs"
+  growths_can_be_refused && refuse_each threads "$jobs" && refuse_each twenty_pages "$jobs" && run_at_random
   status=$?
   rm -rf "$room"
   return "$status"

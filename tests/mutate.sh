@@ -114,8 +114,32 @@ mutate_is_refused_memory() {
   done
 }
 
+# Runs four threads once for each thread that is refused, so many from there on: what can't be done beside the rest is
+# done after it.
+mutate_with_fewer_threads() {  # mutate_with_fewer_threads COUNT
+  local number=1
+  while :; do
+    rm -rf store
+    timeout 20 env REFUSED="$number" REFUSED_COUNT="$1" LD_PRELOAD=./refuse_thread.so \
+      "$ckpt" mutate store 4 > out 2> err
+    same "the status without thread $number" $? 0 || { cat out err; return 1; }
+    same "the output without thread $number" "$(cat out)" "threads 4 stores 4000 acked 3
+close ok" && is_whole 4 || return 1
+    grep -q '^thread refused$' err || break
+    number=$((number + 1))
+  done
+  [ "$number" -gt 10 ] || { echo "only $((number - 1)) threads were refused"; return 1; }
+}
+
+mutate_is_refused_threads() {
+  command -v cc > /dev/null || { echo "no C compiler"; return 77; }
+  cc -O2 -shared -fPIC -o refuse_thread.so "$here/refuse_thread.c" || return
+  mutate_with_fewer_threads 1 && mutate_with_fewer_threads 1000000
+}
+
 try mutate_two_threads
 try a_hundred_runs_of_threads_end_so
 try a_store_with_an_image_is_not_mutated
 try threads_are_one_to_eight
 try mutate_is_refused_memory
+try mutate_is_refused_threads

@@ -115,6 +115,38 @@ follow_that_is_killed_leaves_the_program_running() {
   done
 }
 
+# Makes a cgroup that can be frozen, whose folder is in `cgroup`.
+make_cgroup() {
+  local root
+  root=$(findmnt -n -t cgroup2 -o TARGET | head -n 1)
+  cgroup=$(mktemp -d "${root:-/none}/ckpt-test-XXXXXX" 2> err) && [ -w "$cgroup/cgroup.freeze" ] \
+    || { echo "needs a cgroup that can be frozen"; return 77; }
+  trap 'kill -9 $program 2> killed; wait $program 2> ended; rmdir "$cgroup"' EXIT
+}
+
+# A program that stands in a cgroup is frozen with it, and goes on also where who follows it is killed.
+follow_freezes_a_cgroup() {
+  needs_python || return
+  command -v gdb > /dev/null || { echo "needs gdb"; return 77; }
+  start_table || return
+  make_cgroup || return
+  echo $program > "$cgroup/cgroup.procs" || return 1
+  python3 "$here/../examples/follow" $program store --every 0.2 --rounds 1 --checkpoints 3 --freeze "$cgroup" \
+    --ckpt "$ckpt" > told 2> err || { cat err; return 1; }
+  same "the checkpoints" "$(cut -d' ' -f1,2 told | tr '\n' ',')" "acked 1,acked 2,acked 3," || return 1
+  exported_table store > state || return 1
+  is_state_of_table state || return 1
+  : > told
+  setsid python3 "$here/../examples/follow" $program store --every 0 --rounds 0 --freeze "$cgroup" --ckpt "$ckpt" \
+    > told 2> err &
+  wait_for_answer told || { cat err; kill -9 -- -$!; return 1; }
+  sleep "0.$((RANDOM % 900 + 100))"
+  kill -9 -- -$! 2> killed
+  wait $! 2> ended
+  sleep 0.2
+  has "the cgroup" "$(cat "$cgroup/cgroup.events")" "frozen 0"
+}
+
 follow_tells_why_it_ends() {
   needs_python || return
   local pid
@@ -142,4 +174,5 @@ try python_client_is_typed
 try python_is_of_3_9
 try follow_keeps_states_of_a_program
 try follow_that_is_killed_leaves_the_program_running
+try follow_freezes_a_cgroup
 try follow_tells_why_it_ends

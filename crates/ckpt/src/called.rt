@@ -1,7 +1,7 @@
 //! How the program is called: the words of its command line, and the descriptors that the caller leaves open.
 
 use crate::FAILED;
-use crate::cause::{Causes, tell};
+use sd_program::{Causes, tell};
 use std::fs::File;
 use std::io;
 use std::rt::{Env, Files};

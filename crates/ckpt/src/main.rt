@@ -1,284 +1,129 @@
 //! `ckpt`: saves modelled memories into image files, and restores them.
 #![tactic(auto)]
 
-ghost use Rattle.std.specs.Prelude.{◌≡◌, ◌∷◌};
-ghost use Rattle.sd_disk.specs.Reads.{OnlyReads};
-ghost use Rattle.sd_script.specs.declared.line.Line.TheVariants as asked;
-ghost use Rattle.sd_readers.specs.declared.steady.Reader.TheVariants as reader;
-ghost use Rattle.sd_readers.specs.Reading.{ReaderEnds};
-ghost use Rattle.ckpt.specs.Reading.{RunsScript};
-
+use asked::{
+    called_by, counts_asked, difference_asked, export_asked, history_asked, import_asked,
+    query_asked, run_asked,
+};
 use called::{NOTHING, hold_descriptors, print_words_fault, words_of};
-use cause::{Causes, causes_asked, tell};
 use clap::ArgMatches;
 use command_line::{Work, asked_of};
-use counted::{MergeJob, RunAsked, ScriptJob, ShellJob, do_seen};
-use course::Course;
-use ends::{tell_end, tell_merge};
 use mutating::mutate_program;
-use queries::{Query, difference_asked, history_asked, query_asked};
-use reading::{ReadAsked, read_store};
-use scripts::{parse_script, read_script, script_inputs};
-use sd_disk::{Disk, Found};
+use sd_cores::export_program;
+use sd_disk::Found;
 use sd_exit::{Output, Stop, Taken, exit};
-use sd_readers::restore_to;
-use sd_run::{Rule, RunWatch, run_lines};
-use sd_script::Script;
-use shell::{Asked, Asking};
-use stats::Inputs;
-use std::alloc::Global;
-use std::cell::Cell;
+use sd_jobs::{check_program, import_program, merge_program, run_program};
+use sd_program::{Called, Causes, tell};
+use sd_queries::{drop_program, reader_program, show_program, tell_damage, tell_empty};
+use sd_readers::Reader;
+use sd_restore::Fault;
+use sd_shell::shell_program;
 use std::io;
-use std::io::{BufWriter, Input, IsTerminal, Write};
+use std::io::{BufWriter, Write};
 use std::process::ExitCode;
 use std::sync::Wait;
 use std::thread::Threads;
 use std::time::Clock;
-use verbose::{is_watched, logger_for, seen_by};
 
 mod arguments;
-mod beside;
-mod bulk;
+mod asked;
 mod called;
-mod cause;
 mod command_line;
-mod core_line;
-mod cores;
-mod counted;
-mod course;
-mod difference;
-mod drop;
-mod ends;
-mod explained;
-mod export;
-mod folders;
 mod help;
-mod import;
-mod json;
-mod logging;
 mod mutating;
-mod parts;
-mod progress;
-mod queries;
-mod reading;
-mod requests;
-mod scripts;
-mod shell;
-mod show;
-mod shown;
-mod slots;
-mod stats;
-mod verbose;
 
 /// The exit status of a program that was refused or stopped.
 const FAILED: u8 = 1;
 
-/// Prints the memory that a store shows, and gives the store back with the exit status.
-fn restore_over<D: Disk, W: Write>(alloc: Global, disk: D, out: &mut Output<W>) -> (D, u8)
-    ensures answers { ReaderEnds reader.Restore (D.is_honest result.0) (D.contents disk)
-        (D.failed disk) (D.failed result.0) (W.contents out.old.writer)
-        (W.contents out.new.writer) out.new.refused result.1 }
-    ensures reads { OnlyReads D.Disk disk result.0 }
-{
-    let mut disk = disk;
-    let status = restore_to(alloc, &mut disk, out);
-    (disk, status)
-}
-
-/// Runs a script over a store, up to the first answer that ends it by its rule, and returns the store with the exit
-/// status. With `restores` the memory that the store then shows is printed after the answers of a run that came to its
-/// end.
-fn run_over<D: Disk, W: Write, S: RunWatch>(
-    alloc: Global,
-    disk: D,
-    script: Script,
-    rule: Rule,
-    restores: bool,
-    out: &mut Output<W>,
-    watch: &mut S,
-) -> (D, u8)
-    // The answers of the script's lines are printed, or a beginning of them; and then the text of the memory that the
-    // store shows, or a beginning of it; and why the program was stopped, if it was.
-    ensures runs { RunsScript D.Disk rule restores (asked.Reopen ∷ script.lines.items) disk result.0
-        (W.contents out.old.writer) (W.contents out.new.writer) out.new.refused result.1 }
-{
-    let (disk, ended) = run_lines(alloc, disk, script, rule, out, watch);
-    if restores && ended.is_ok() {
-        return restore_over(alloc, disk, out);
-    }
-    (disk, exit(&ended, out))
-}
-
-/// `ckpt run --check`: whether a script fits the language.
-fn check_program<W: Write>(
-    rt: &HostRuntime,
-    causes: Causes,
-    name: &str,
+/// Runs a program that only reads, or that changes no more than one image.
+fn read_by<R: Clock + Wait, W: Write>(
+    called: Called<'_>,
+    clock: &R,
+    work: Work,
+    words: &ArgMatches<'_>,
     out: &mut Output<W>,
 ) -> Result<u8, Stop> {
-    let bytes = read_script(rt, causes, name)?;
-    let script = parse_script(rt, causes, name, &bytes)?;
-    writeln!(out, "ok {} requests", script.lines.len())?;
-    Ok(exit(&Ok(()), out))
-}
-
-/// Which answers end a run before its last request.
-fn rule_asked(words: &ArgMatches<'_>) -> Rule {
-    if words.get_flag("strict") {
-        Rule::Strict
-    } else {
-        Rule::Plain
+    let slot = words.get_one::<usize>("SLOT");
+    match work {
+        Work::Read(reader) => reader_program(called, clock, query_asked(reader, words), out),
+        Work::History => reader_program(called, clock, history_asked(words), out),
+        Work::Diff => reader_program(called, clock, difference_asked(words), out),
+        Work::Show => show_program(called, clock, slot, words.get_flag("json"), out),
+        Work::Drop => drop_program(
+            called,
+            clock,
+            slot.unwrap_or(0),
+            words.get_flag("force"),
+            out,
+        ),
+        _ => export_program(called, clock, export_asked(words), out),
     }
 }
 
-/// `ckpt run`: a script that can't be taken makes no file.
-fn run_program<R: Clock + Wait, W: Write>(
-    rt: &HostRuntime,
-    threads: &R,
+/// `ckpt run`, also with `--check`.
+fn run_or_check<R: Clock + Wait, W: Write>(
+    called: Called<'_>,
+    clock: &R,
     words: &ArgMatches<'_>,
-    course: &Course<'_>,
-    found: &Found,
     out: &mut Output<W>,
 ) -> Result<u8, Stop> {
-    let causes = causes_asked(words);
-    if let Some(name) = words.get_str("check") {
-        return check_program(rt, causes, name, out);
+    match words.get_str("check") {
+        Some(name) => check_program(called, name, out),
+        None => run_program(called, clock, run_asked(words), out),
     }
-    let names = [words.get_str("SCRIPT").unwrap_or("")];
-    let bytes = read_script(rt, causes, names[0])?;
-    let script = parse_script(rt, causes, names[0], &bytes)?;
-    course.begin(bytes, is_watched(rt, causes) && !rt.stdout().is_terminal());
-    let asked = RunAsked {
-        folder: words.get_str("DIR").unwrap_or(""),
-        course,
-        restores: words.get_flag("restore"),
-        rule: rule_asked(words),
-        causes,
-    };
-    let job = ScriptJob { asked, script };
-    do_seen(
-        rt,
-        threads,
-        words,
-        course,
-        script_inputs(&names),
-        job,
-        found,
-        out,
-    )
-}
-
-/// `ckpt shell`.
-fn shell_program<R: Clock + Wait, W: Write>(
-    rt: &HostRuntime,
-    threads: &R,
-    words: &ArgMatches<'_>,
-    course: &Course<'_>,
-    found: &Found,
-    out: &mut Output<W>,
-) -> Result<u8, Stop> {
-    let failed = Cell::new(None);
-    let asked = Asked {
-        rt,
-        causes: causes_asked(words),
-        folder: words.get_str("DIR").unwrap_or(""),
-        failed: &failed,
-        asking: asking_of(rt.stdin().is_terminal() && rt.stdout().is_terminal()),
-    };
-    do_seen(
-        rt,
-        threads,
-        words,
-        course,
-        Inputs::NONE,
-        ShellJob { asked },
-        found,
-        out,
-    )
-}
-
-/// Whether a shell asks for its requests: where its input and its output are a terminal.
-fn asking_of(is_terminal: bool) -> Asking {
-    if is_terminal {
-        Asking::Prompts
-    } else {
-        Asking::Silent
-    }
-}
-
-/// `ckpt merge`.
-fn merge_program<R: Clock + Wait, W: Write>(
-    rt: &HostRuntime,
-    threads: &R,
-    words: &ArgMatches<'_>,
-    course: &Course<'_>,
-    found: &Found,
-    out: &mut Output<W>,
-) -> Result<u8, Stop> {
-    let status = do_seen(
-        rt,
-        threads,
-        words,
-        course,
-        Inputs::NONE,
-        MergeJob,
-        found,
-        out,
-    )?;
-    let folder = words.get_str("DIR").unwrap_or("");
-    tell_merge(rt, causes_asked(words), folder, course);
-    Ok(status)
-}
-
-/// The programs that only read a store: `ckpt restore`, `list`, `verify`, `history` and `diff`.
-fn reader_program<R: Clock + Wait, W: Write>(
-    rt: &HostRuntime,
-    threads: &R,
-    query: Query,
-    words: &ArgMatches<'_>,
-    found: &Found,
-    out: &mut Output<W>,
-) -> Result<u8, Stop> {
-    let causes = causes_asked(words);
-    let log = logger_for(rt, words);
-    let asked = ReadAsked {
-        seen: seen_by(rt, &log, words, is_watched(rt, causes)),
-        causes,
-        query,
-        folder: words.get_str("DIR").unwrap_or(""),
-        found,
-    };
-    let (disk, status) = read_store(rt, threads, asked, out)?;
-    asked.tell_lack(rt, disk, status, out);
-    Ok(status)
 }
 
 /// Runs the program that the words ask for, and returns the exit status.
 fn run_matches<R: Clock + Threads + Wait + Sync, W: Write>(
-    rt: &HostRuntime,
+    called: Called<'_>,
     threads: &R,
-    matches: &ArgMatches<'_>,
-    course: &Course<'_>,
-    found: &Found,
+    work: Work,
+    words: &ArgMatches<'_>,
     out: &mut Output<W>,
 ) -> Result<u8, Stop> {
-    let Some((work, words)) = asked_of(matches) else {
-        return Ok(exit(&Ok(()), out));
-    };
     match work {
-        Work::Run => run_program(rt, threads, words, course, found, out),
-        Work::Shell => shell_program(rt, threads, words, course, found, out),
-        Work::Merge => merge_program(rt, threads, words, course, found, out),
-        Work::Mutate => mutate_program(rt, threads, words, found, out),
-        Work::Read(reader) => {
-            reader_program(rt, threads, query_asked(reader, words), words, found, out)
+        Work::Run => run_or_check(called, threads, words, out),
+        Work::Shell => shell_program(called, threads, out),
+        Work::Merge => merge_program(called, threads, counts_asked(words), out),
+        Work::Import => {
+            let names = words.get_strs("CORE").unwrap_or(&[]);
+            import_program(called, threads, names, import_asked(words), out)
         }
-        Work::History => reader_program(rt, threads, history_asked(words), words, found, out),
-        Work::Diff => reader_program(rt, threads, difference_asked(words), words, found, out),
-        Work::Drop => drop::drop_program(rt, threads, words, found, out),
-        Work::Show => show::show_program(rt, threads, causes_asked(words), words, found, out),
-        Work::Export => export::export_program(rt, threads, words, found, out),
-        Work::Import => import::import_program(rt, threads, words, course, found, out),
+        Work::Mutate => {
+            let count = words.get_one::<usize>("THREADS").unwrap_or(1);
+            mutate_program(called, threads, count, out)
+        }
+        _ => read_by(called, threads, work, words, out),
+    }
+}
+
+/// Whether a program has `--json`. Its document says of a fault what a cause would.
+fn has_document(work: Work) -> bool {
+    matches!(
+        work,
+        Work::Read(_) | Work::History | Work::Diff | Work::Show
+    )
+}
+
+/// Reports what stands after the end of a program: after its exit status, and the fault that its last line told.
+fn tell_end(
+    called: Called<'_>,
+    work: Work,
+    words: &ArgMatches<'_>,
+    status: u8,
+    told: Option<Fault>,
+) {
+    let is_document = has_document(work) && words.get_flag("json");
+    if !is_document {
+        tell_damage(called, told);
+    }
+    let is_empty = told == Some(Fault::EmptyChain) && work != Work::Run;
+    let lists = matches!(
+        work,
+        Work::Read(Reader::List | Reader::Verify) | Work::History
+    );
+    if is_empty || lists && status == 0 {
+        tell_empty(called, is_empty && !is_document);
     }
 }
 
@@ -288,23 +133,33 @@ fn run_words<R: Clock + Threads + Wait + Sync, W: Write>(
     rt: &HostRuntime,
     threads: &R,
     words: &[String],
-    course: &Course<'_>,
     found: &Found,
     out: &mut Output<W>,
 ) -> Result<(Causes, u8), clap::Error> {
     let run_help = command_line::run_help(rt.alloc())?;
     let command = command_line::command(rt.alloc(), &run_help)?;
     let matches = command.try_get_matches_from(words)?;
-    let status = match run_matches(rt, threads, &matches, course, found, out) {
+    Ok(run_matched(rt, threads, &matches, found, out))
+}
+
+/// Runs the program that the words name, and returns its exit status and whether causes are told.
+fn run_matched<'a, R: Clock + Threads + Wait + Sync, W: Write>(
+    rt: &'a HostRuntime,
+    threads: &R,
+    matches: &ArgMatches<'a>,
+    found: &'a Found,
+    out: &mut Output<W>,
+) -> (Causes, u8) {
+    let Some((work, words)) = asked_of(matches) else {
+        return (Causes::Told, exit(&Ok(()), out));
+    };
+    let called = called_by(rt, words, found);
+    let status = match run_matches(called, threads, work, words, out) {
         Ok(status) => status,
         Err(stop) => exit(&Err(stop), out),
     };
-    let causes = match matches.subcommand() {
-        Some((_, words)) => causes_asked(words),
-        None => Causes::Told,
-    };
-    tell_end(rt, causes, &matches, found, status, out.fault());
-    Ok((causes, status))
+    tell_end(called, work, words, status, out.fault());
+    (called.causes, status)
 }
 
 /// What a fault of the standard output is told of.
@@ -326,10 +181,9 @@ fn run_command<R: Clock + Threads + Wait + Sync>(
     words: &[String],
     found: &Found,
 ) -> io::Result<u8> {
-    let course = Course::new(rt);
     let writer = BufWriter::new(rt.alloc(), Taken::new(io::writer(rt)))?;
     let mut out = Output::new(writer);
-    match run_words(rt, threads, words, &course, found, &mut out) {
+    match run_words(rt, threads, words, found, &mut out) {
         Ok((causes, status)) => {
             tell_refusal(rt, causes, out.error());
             Ok(status)

@@ -1,13 +1,8 @@
 //! `ckpt mutate`: threads that store into a memory while checkpoints are made.
 
-use crate::cause::{causes_asked, tell, tell_device};
-use crate::folders::make_store;
-use crate::verbose::logger_for;
-use clap::ArgMatches;
-use log::info;
-use sd_disk::Found;
 use sd_exit::{Output, Stop, exit};
 use sd_mutate::{MutateFault, Tally, mutate};
+use sd_program::{Called, log_info};
 use sd_run::unopened;
 use std::io::Write;
 use std::sync::Wait;
@@ -37,27 +32,23 @@ fn print_tally<W: Write>(tally: &Tally, out: &mut Output<W>) -> Result<(), Stop>
     }
 }
 
-/// `ckpt mutate`: files that are missing are made.
+/// `ckpt mutate`, by so many threads: files that are missing are made.
 pub fn mutate_program<R: Clock + Threads + Wait + Sync, W: Write>(
-    rt: &HostRuntime,
+    called: Called<'_>,
     threads: &R,
-    words: &ArgMatches<'_>,
-    found: &Found,
+    count: usize,
     out: &mut Output<W>,
 ) -> Result<u8, Stop> {
-    let folder = words.get_str("DIR").unwrap_or("");
-    let causes = causes_asked(words);
-    let count = words.get_one::<usize>("THREADS").unwrap_or(1);
-    let disk = make_store(rt, threads, causes, folder, found)?;
-    let log = logger_for(rt, words);
-    info!(log; target: "ckpt", "{count} threads begin");
-    let (disk, ended) = mutate(threads, rt.alloc(), disk, count);
-    info!(log; target: "ckpt", "the threads have ended");
+    let disk = called.make_store(threads)?;
+    let log = called.logger();
+    log_info(&log, &format_args!("{count} threads begin"));
+    let (disk, ended) = mutate(threads, called.rt.alloc(), disk, count);
+    log_info(&log, &"the threads have ended");
     if let Some(disk) = &disk {
-        tell_device(rt, causes, folder, disk);
+        called.tell_device(disk);
     }
     if matches!(ended, Err(MutateFault::NotEmpty)) {
-        tell(rt, causes, folder, &NOT_EMPTY);
+        called.tell(&NOT_EMPTY);
     }
     let tally = ended.map_err(stop_of)?;
     Ok(exit(&print_tally(&tally, out), out))

@@ -48,11 +48,11 @@ pub enum Refusal {
 }
 
 impl Refusal {
-    ghost use Rattle.sd_command.specs.Refusals.{refusal_number, refusal_name};
+    ghost use Rattle.sd_command.specs.Refusals.{refusal_row};
 
     /// The number under which the refusal is printed and documented.
     pub fn number(self) -> u8
-        ensures { result ≡ refusal_number self }
+        ensures { result ≡ (refusal_row self).0 }
     {
         match self {
             Refusal::Einval => 1,
@@ -79,7 +79,7 @@ impl Refusal {
 
     /// The name under which the refusal is printed and documented.
     pub fn name(self) -> &'static str
-        ensures { result.now ≡ refusal_name self }
+        ensures { result.now ≡ (refusal_row self).1 }
     {
         match self {
             Refusal::Einval => "EINVAL",

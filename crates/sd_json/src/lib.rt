@@ -8,8 +8,4 @@ mod memory;
 mod moment;
 mod verdict;
 
-pub use fault::{fault_document, lacks_document};
-pub use images::images_document;
-pub use memory::{memory_document, memory_document_at};
-pub use moment::{Document, steady_document};
-pub use verdict::{verdict_document, verdict_document_at};
+pub use moment::{Document, document_text, fault_text, lacks_text};

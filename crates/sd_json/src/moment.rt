@@ -1,6 +1,7 @@
 //! Documents that are of one moment of a store.
 ghost use Rattle.sd_disk.specs.Reads.{OnlyReads};
 
+use crate::fault::{fault_document, lacks_document};
 use crate::images::images_document;
 use crate::memory::{memory_document, memory_document_at};
 use crate::verdict::{verdict_document, verdict_document_at};
@@ -8,7 +9,7 @@ use sd_disk::Disk;
 use sd_readers::{Reader, ReaderAt, fronts};
 use sd_restore::Fault;
 use serde_json::Value;
-use std::alloc::Global;
+use std::alloc::{AllocError, Global};
 
 /// Which document of a store.
 #[derive(Clone, Copy)]
@@ -45,17 +46,22 @@ fn document_at<D: Disk>(
     }
 }
 
-/// A document of a store, or why it isn't read. Where its images changed meanwhile, the device failed: no document
-/// mixes two moments.
+/// A document as text on one line, without its end.
+fn text_of(alloc: Global, document: &Value) -> Result<String, AllocError> {
+    document.to_string(alloc)
+}
+
+/// A document of a store as text, or why it isn't read. Where its images changed meanwhile, the device failed: no
+/// document mixes two moments.
 ///
 /// # Errors
 ///
 /// Those of the document; `Device` and `OutOfMemory`.
-pub fn steady_document<D: Disk>(
+pub fn document_text<D: Disk>(
     alloc: Global,
     document: Document,
     disk: &mut D,
-) -> Result<Value, Fault>
+) -> Result<String, Fault>
     ensures reads { OnlyReads D.Disk disk.old disk.new }
 {
     let before = fronts(alloc, disk)?;
@@ -63,9 +69,18 @@ pub fn steady_document<D: Disk>(
         Document::Newest(reader) => newest_document(alloc, reader, disk),
         Document::At(reader, number) => document_at(alloc, reader, disk, number),
     };
-    if fronts(alloc, disk)? == before {
-        made
-    } else {
-        Err(Fault::Device)
+    if fronts(alloc, disk)? != before {
+        return Err(Fault::Device);
     }
+    Ok(text_of(alloc, &made?)?)
+}
+
+/// The document of why a store isn't read, as text.
+pub fn fault_text(alloc: Global, fault: &Fault) -> Result<String, AllocError> {
+    text_of(alloc, &fault_document(alloc, fault)?)
+}
+
+/// The document of a store without an image of the checkpoint with this number, as text.
+pub fn lacks_text(alloc: Global, number: u64) -> Result<String, AllocError> {
+    text_of(alloc, &lacks_document(alloc, number)?)
 }

@@ -1,11 +1,15 @@
 -- What a run of threads leaves of a store.
-use Rattle.std.specs.Prelude.{◌≡◌, ℕ, Bool, true, false, not, List, length, filter, Option, Some, None, Result, Ok, Err}
+use Rattle.std.specs.Prelude.{◌≡◌, ℕ, Bool, true, false, not, List, length, filter, reverse, Option, Some, None, Result}
+use Rattle.std.specs.Prelude.{Ok, Err}
 use Rattle.sd_command.specs.declared.refusal.Refusal.TheVariants.{Idle, OutOfMemory, StoreDown}
 use Rattle.sd_command.specs.declared.reply.Reply.{Reply}
 use Rattle.sd_command.specs.declared.reply.Reply.TheVariants as reply
 use Rattle.sd_disk.specs.declared.disk.Disk.{Ghosts}
 use Rattle.sd_disk.specs.Reads.{OnlyReads}
+use Rattle.sd_crash_safety.specs.View.{CoreView, history_of}
 use Rattle.sd_image.specs.Image.{is_open}
+use Rattle.sd_journal.specs.Receipts.{Accounts}
+use Rattle.sd_journal.specs.declared.receipt.Receipt.{Receipt}
 use Rattle.sd_mutate.specs.declared.fault.MutateFault.{MutateFault}
 use Rattle.sd_mutate.specs.declared.fault.MutateFault.TheVariants.{Store, NotEmpty, Open, Refused}
 use Rattle.sd_mutate.specs.declared.saving.Ended.{Ended}
@@ -42,6 +46,12 @@ lets_go _ = false
 abbrev pub lets_all_go : Ended → Bool
 lets_all_go (LetGo answer) = not (may_stand answer)
 lets_all_go (LeftStanding token) = true
+
+-- the journal of some core accounts for the receipts and the acknowledgements of a run
+abbrev pub WasClosed : Type 0
+WasClosed =
+    (core : CoreView) × (receipts : List Receipt) × (acks : List ℕ)
+    × Accounts core.base.folded (reverse (history_of core)) receipts acks
 
 -- how many images are open
 abbrev pub open_images : List (List ℕ) → ℕ

@@ -1,5 +1,5 @@
 //! The writers' threads.
-ghost use Rattle.std.specs.Prelude.{◌≡◌, ◌+◌, ◌<◌, [], MatchResult};
+ghost use Rattle.std.specs.Prelude.{◌≡◌, ◌+◌, ◌<◌, ◌++◌, ◌∷◌, [], MatchOption, MatchResult};
 ghost use Rattle.crossbeam_channel.specs.Claims.{view, IsSeatAt};
 ghost use Rattle.crossbeam_channel.specs.Ends.{sends_on, receives_on};
 ghost use Rattle.sd_relay.specs.Fronts.{hand_of, put_into};
@@ -9,6 +9,7 @@ use crate::feeder::Feeder;
 use crate::front::Front;
 use crate::hand::Hand;
 use crate::message::Message;
+use crate::owed_errand::OwedErrand;
 use crate::promised::Promised;
 use crate::rule::{Receiver, Takes};
 use crate::writer::Writer;
@@ -27,6 +28,19 @@ pub(crate) struct Room<R, W> {
     pub(crate) refused: AtomicUsize,
 }
 
+/// Takes an errand, which its pass knows from then on; none where nothing more comes.
+fn take<R: Wait>(rt: &R, receiver: &Receiver, pass: &mut Pass<Message, Hand>) -> Option<OwedErrand>
+    requires { IsSeatAt (receives_on receiver.now) pass.old × IsWriters (view pass.old) }
+    ensures seat { IsSeatAt (receives_on receiver.now) pass.new × IsWriters (view pass.new) }
+    ensures taken { MatchOption result ((view pass.new).taken ≡ (view pass.old).taken)
+        (λ owed. (view pass.new).taken ≡ (view pass.old).taken ++ owed.errand.request.id.ticket ∷ []) }
+{
+    match receiver.recv_as::<Takes, R>(rt, pass) {
+        Ok(Message::Errand(errand)) => Some(OwedErrand::new(errand)),
+        Ok(Message::End) | Err(_) => None,
+    }
+}
+
 /// Takes errands and writes each, until nothing more comes.
 fn serve<R: Wait, W: Writer>(
     rt: &R,
@@ -38,9 +52,9 @@ fn serve<R: Wait, W: Writer>(
     ensures { IsSeatAt (receives_on receiver.now) result × IsWriters (view result) }
 {
     for _ in rt.forever() {
-        match receiver.recv_as::<Takes, R>(rt, &mut pass) {
-            Ok(Message::Errand(errand)) => writer.write(errand),
-            Ok(Message::End) | Err(_) => return pass,
+        match take(rt, receiver, &mut pass) {
+            Some(owed) => owed.write(writer),
+            None => return pass,
         }
     }
     unreachable!()

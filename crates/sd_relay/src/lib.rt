@@ -7,6 +7,7 @@ mod feeder;
 mod front;
 mod hand;
 mod message;
+mod owed_errand;
 mod promised;
 mod putting;
 mod relayed;

@@ -1,6 +1,6 @@
 -- What one turn does: one hold of the lock on the core.
 use Rattle.std.specs.Prelude.{◌≡◌, ◌≢◌, ◌⊎◌, ℕ, ◌+◌, ◌≤◌, ◌%◌, ◌^◌, Bool, false, not, List, ◌&&◌, length, is_none}
-use Rattle.std.specs.Prelude.{is_some, if◌then◌else◌, Option, Some, None, Result, Err, ⊤}
+use Rattle.std.specs.Prelude.{◌<◌, is_some, if◌then◌else◌, Option, Some, None, Result, Err, ⊤}
 use Rattle.sd_command.specs.declared.command.Command.{Command}
 use Rattle.sd_command.specs.declared.refusal.Refusal.{Refusal}
 use Rattle.sd_command.specs.declared.refusal.Refusal.TheVariants as refusal
@@ -23,11 +23,10 @@ use Rattle.sd_core.specs.Refusals.{IsPageOut}
 use Rattle.sd_core.specs.Trims.{Trims, unfolded}
 use Rattle.sd_receipts.specs.declared.folded.Folded.{Folded}
 use Rattle.sd_settling.specs.Told.{told}
-use Rattle.sd_shared.specs.Told.{ends_job}
+use Rattle.sd_shared.specs.Told.{ends_job, is_refused}
 use Rattle.sd_shared.specs.declared.booked.Booked.{Booked}
 use Rattle.sd_shared.specs.declared.jobs.Jobs.{Jobs}
 use Rattle.sd_shared.specs.declared.next.Next.{Next}
-use Rattle.sd_shared.specs.declared.order_count.OrderCount.{OrderCount}
 use Rattle.sd_shared.specs.declared.seat.Seat.{Seat}
 use Rattle.sd_shared.specs.declared.next.Next.TheVariants as next
 use Rattle.sd_shared.specs.declared.thaw.Thaw.{Thaw}
@@ -60,17 +59,17 @@ IsOrder Opener rounds answer old new = IsReopenOrder answer old new
 
 -- ---- steps
 
--- what a step of the dumper is, whose calls may be made beside others
+-- what a step is, of which it is known whether its call may be made beside others
 abbrev pub taken_of : Next → Taken
 taken_of (next.Step answer) = taken.Step answer
-taken_of (next.PageWrite request) = taken.Call request
-taken_of (next.Call request) = taken.Call request
+taken_of (next.PageWrite owed) = taken.Call owed.request
+taken_of (next.Call owed) = taken.Call owed.request
 
 -- those are the writes of data pages
 abbrev pub IsSorted : Next → CoreView → Type 0
 IsSorted (next.Step answer) core = ⊤
-IsSorted (next.PageWrite request) core = IsPageOut core.outs request.id
-IsSorted (next.Call request) core = IsPageOut core.outs request.id → ⊥
+IsSorted (next.PageWrite owed) core = IsPageOut core.outs owed.request.id
+IsSorted (next.Call owed) core = IsPageOut core.outs owed.request.id → ⊥
 
 -- the journal was trimmed
 pub record IsTrimmed (result : Result Folded Refusal) (old new : CoreView) : Type 0 where
@@ -82,17 +81,26 @@ pub record IsTrimmed (result : Result Folded Refusal) (old new : CoreView) : Typ
 
 -- ---- the jobs of the workers
 
--- how many jobs of a worker were begun, modulo 2^64: the number of the one that runs
+-- how many drivers the jobs of a worker had, modulo 2^64: the number of the one that drives
 abbrev pub job_number : Jobs → Worker → ℕ
 job_number jobs Dumper = jobs.dumper
 job_number jobs Merger = jobs.merger
 job_number jobs Opener = jobs.opener
 
--- one more was
+-- one more drives
 abbrev pub counted : Worker → Jobs → Jobs
 counted Dumper jobs = record { dumper = (jobs.dumper + 1) % 2 ^ 64; merger = jobs.merger; opener = jobs.opener }
 counted Merger jobs = record { dumper = jobs.dumper; merger = (jobs.merger + 1) % 2 ^ 64; opener = jobs.opener }
 counted Opener jobs = record { dumper = jobs.dumper; merger = jobs.merger; opener = (jobs.opener + 1) % 2 ^ 64 }
+
+-- who goes on with a job drives it, unless the step is refused
+abbrev pub jobs_after : Worker → Taken → Jobs → Jobs
+jobs_after worker made jobs = if is_refused made then jobs else counted worker jobs
+
+-- waits that were ended are held again from the beginning of a checkpoint on
+abbrev pub ended_after : Worker → Reply → Bool → Bool
+ended_after Dumper answer ended = ends_job answer && ended
+ended_after worker answer ended = ended
 
 -- ---- what is known outside of the lock: there was a turn that did this, of some core
 
@@ -122,17 +130,20 @@ Cancels answer = (old : CoreView) × (new : CoreView) × IsCancelOrder answer ol
 abbrev pub TrimsOnce : Result Folded Refusal → Type 0
 TrimsOnce result = (old : CoreView) × (new : CoreView) × IsTrimmed result old new
 
--- a step of the job with this number was taken up; or another one was begun since, and it has ended
+-- a step was taken up for the driver with this number; or there was another one since
 abbrev pub TakesStep : Worker → ℕ → Taken → Type 0
 TakesStep worker number made =
     (old : Booked) × (new : Booked)
     × (((number ≢ job_number old.jobs worker) × (made ≡ taken.Step (reply.Refused refusal.Idle)))
     ⊎ ((number ≡ job_number old.jobs worker) × IsTakenUp worker old.core made new.core))
 
--- a step was taken up of the job that was begun last, which has this number
+-- a step was taken up of the job that was begun last, whose driver has this number: a new one, unless the step was
+-- refused
 abbrev pub Resumes : Worker → ℕ → Taken → Type 0
 Resumes worker number made =
-    (old : Booked) × (new : Booked) × (number ≡ job_number old.jobs worker) × IsTakenUp worker old.core made new.core
+    (old : Booked) × (new : Booked)
+    × (number ≡ job_number (jobs_after worker made old.jobs) worker)
+    × IsTakenUp worker old.core made new.core
 
 -- the outcome of a request was handed in
 abbrev pub WasHandedIn : RequestId → Reply → Type 0
@@ -176,20 +187,28 @@ ResumesJob contents worker answer =
 abbrev pub WasRefused : Refusal → Type 0
 WasRefused why = ∥ (why ≡ refusal.Device) ⊎ ((id : RequestId) × WasHandedIn id (reply.Refused why)) ∥₁
 
--- the last reply of a checkpoint with writers, or such a refusal
-abbrev pub IsLastOf : Reply → Reply → Type 0
-IsLastOf last answer = (answer ≡ last) ⊎ ((why : Refusal) × (answer ≡ reply.Refused why) × WasRefused why)
+-- the last reply of a checkpoint with writers: where it was refused, the refusal of a writer's outcome comes first
+abbrev pub last_of : Reply → Option Refusal → Reply
+last_of (reply.Refused own) (Some why) = reply.Refused why
+last_of last refused = last
 
--- A checkpoint of so many rounds was ordered, with writers, and this was its last reply; or it wasn't, for want of
--- writers or of memory.
+abbrev pub AreRefused : Option Refusal → Type 0
+AreRefused refused = (why : Refusal) → refused ≡ Some why → WasRefused why
+
+-- it is that of a job, and of what was refused to its writers
+abbrev pub IsLastOf : Reply → Reply → Type 0
+IsLastOf last answer = (refused : Option Refusal) × AreRefused refused × (answer ≡ last_of last refused)
+
+-- none, or over eight
+abbrev pub AreOutside : ℕ → Type 0
+AreOutside writers = (writers ≡ 0) ⊎ (8 < writers)
+
+-- A checkpoint of so many rounds was ordered, with writers, and this was its last reply; or it wasn't, for lack of
+-- memory.
 abbrev pub RelaysJob : {D : Type 0} → (D → List (List ℕ)) → ℕ → Reply → Type 0
 RelaysJob contents rounds answer =
-    (answer ≡ reply.Refused refusal.Einval) ⊎ ((answer ≡ reply.Refused refusal.OutOfMemory)
-    ⊎ ((last : Reply) × MakesJob contents Dumper rounds last × IsLastOf last answer))
-
--- one more order of a call
-abbrev pub ordered : OrderCount → OrderCount
-ordered count = record { made = (count.made + 1) % 2 ^ 64 }
+    (answer ≡ reply.Refused refusal.OutOfMemory)
+    ⊎ ((last : Reply) × MakesJob contents Dumper rounds last × IsLastOf last answer)
 
 -- one more turn of a seat
 abbrev pub turned : Seat → Seat

@@ -1,12 +1,13 @@
 //! The writers of a checkpoint.
 use crate::hold::Hold;
 use crate::next::Next;
-use crate::order_count::OrderCount;
+use crate::ordering::OneOrder;
+use crate::owed_call::OwedCall;
 use crate::reports::Reports;
 use crate::shared::Shared;
 use sd_command::{Refusal, Reply};
 use sd_disk::Disk;
-use sd_gate::{Request, Worker};
+use sd_gate::Worker;
 use sd_relay::{Errand, Writer};
 use std::sync::{Condvar, Mutex, Wait};
 
@@ -23,8 +24,7 @@ pub(crate) struct Crew<'a, R, D: Drop, H> {
 
 impl<'a, R: Wait, D: Disk + Drop, H: Hold> Crew<'a, R, D, H> {
     ghost use Rattle.sd_gate.specs.declared.worker.Worker.TheVariants as its;
-    ghost use Rattle.std.specs.Prelude.{◌≡◌, IfSome};
-    ghost use Rattle.sd_shared.specs.Turns.{IsAnsweredCall, Orders, TakesStep, WasRefused, ordered, taken_of};
+    ghost use Rattle.sd_shared.specs.Turns.{AreRefused, IsAnsweredCall, Orders, TakesStep, taken_of};
 
     /// Writers who have nothing to tell yet.
     pub(crate) fn new(rt: &'a R, shared: &'a Shared<D>, hold: &'a H) -> Self {
@@ -43,25 +43,24 @@ impl<'a, R: Wait, D: Disk + Drop, H: Hold> Crew<'a, R, D, H> {
     }
 
     /// Begins a checkpoint of so many rounds. Returns the reply, and its number among the jobs of the dumper.
-    pub(crate) fn begin(&self, count: &mut OrderCount, rounds: u64) -> (Reply, u64)
-        ensures turn { Orders its.Dumper rounds result.0 result.1 }
-        ensures once { count.new ≡ ordered count.old }
+    pub(crate) fn begin(&self, one: OneOrder, rounds: u64) -> (Reply, u64)
+        ensures { Orders its.Dumper rounds result.0 result.1 }
     {
-        self.shared.begin(self.rt, count, Worker::Dumper, rounds)
+        self.shared.begin(self.rt, one, Worker::Dumper, rounds)
     }
 
     /// What is next of the checkpoint with this number.
     pub(crate) fn take_up(&self, job: u64) -> Next
         ensures { TakesStep its.Dumper job (taken_of result) }
     {
-        self.shared.take_up_dumper(self.rt, job)
+        self.shared.take_up(self.rt, Worker::Dumper, job)
     }
 
     /// Makes a device call, the hold's with this number, and hands its outcome in.
-    pub(crate) fn call(&self, number: u64, request: Request) -> Reply
-        ensures { IsAnsweredCall D.contents request.id result }
+    pub(crate) fn call(&self, number: u64, owed: OwedCall) -> Reply
+        ensures { IsAnsweredCall D.contents owed.request.id result }
     {
-        self.shared.call_device(self.rt, self.hold, number, request)
+        self.shared.call_device(self.rt, self.hold, number, owed)
     }
 
     /// How many writes the writers have made.
@@ -80,7 +79,7 @@ impl<'a, R: Wait, D: Disk + Drop, H: Hold> Crew<'a, R, D, H> {
 
     /// Why the first write was refused that was.
     pub(crate) fn into_refused(self) -> Option<Refusal>
-        ensures { IfSome result WasRefused }
+        ensures { AreRefused result }
     {
         self.reports.into_inner().into_refused()
     }
@@ -93,7 +92,8 @@ impl<R: Wait, D: Disk + Drop, H: Hold> Writer for Crew<'_, R, D, H> {
     fn write(&self, errand: Errand)
         ensures called { (answer : Told) × IsAnsweredCall D.contents errand.request.id answer }
     {
-        let reply = self.call(errand.call, errand.request);
+        let Errand { call, request } = errand;
+        let reply = self.call(call, OwedCall::new(request));
         self.reports.lock(self.rt).take(&reply);
         self.reported.notify_one();
     }

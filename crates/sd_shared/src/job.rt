@@ -1,10 +1,11 @@
 use crate::hands::Hands;
 use crate::hold::Hold;
+use crate::next::Next;
+use crate::owed_call::OwedCall;
 use crate::shared::Shared;
 use sd_command::Reply;
-use sd_core::Taken;
 use sd_disk::Disk;
-use sd_gate::{Request, Worker};
+use sd_gate::Worker;
 use std::sync::Wait;
 
 /// A worker's job over a shared core and disk. Each method takes one lock at a time, and calls the hold with none.
@@ -21,9 +22,9 @@ pub(crate) struct Job<'a, R, D: Drop, H> {
 
 impl<'a, R: Wait, D: Disk + Drop, H: Hold> Job<'a, R, D, H> {
     ghost use Rattle.std.specs.Prelude.{◌≡◌};
-    ghost use Rattle.sd_shared.specs.Turns.{IsAnsweredCall, IsToldBy};
+    ghost use Rattle.sd_shared.specs.Turns.{IsAnsweredCall, IsToldBy, taken_of};
 
-    /// The job of a worker with this number, of which this was answered last.
+    /// The job of a worker, whose driver has this number, of which this was answered last.
     pub(crate) fn new(
         rt: &'a R,
         shared: &'a Shared<D>,
@@ -48,32 +49,33 @@ impl<'a, R: Wait, D: Disk + Drop, H: Hold> Job<'a, R, D, H> {
     }
 
     /// Makes a device call, and hands its outcome in.
-    fn call(&mut self, request: Request) -> Reply
+    fn call(&mut self, owed: OwedCall) -> Reply
         ensures same { (self.new.worker ≡ self.old.worker) × (self.new.number ≡ self.old.number) }
-        ensures called { IsAnsweredCall D.contents request.id result }
+        ensures called { IsAnsweredCall D.contents owed.request.id result }
     {
         self.calls = self.calls.saturating_add(1);
         self.shared
-            .call_device(self.rt, self.hold, self.calls, request)
+            .call_device(self.rt, self.hold, self.calls, owed)
     }
 
     /// What a step tells that was taken up, or the device call that it asks for, which is made.
-    fn told(&mut self, taken: Taken) -> Reply
+    fn told(&mut self, next: Next) -> Reply
         ensures same { (self.new.worker ≡ self.old.worker) × (self.new.number ≡ self.old.number) }
-        ensures told { IsToldBy D.contents taken result }
+        ensures told { IsToldBy D.contents (taken_of next) result }
     {
-        match taken {
-            Taken::Step(reply) => reply,
-            Taken::Call(request) => self.call(request),
+        match next {
+            Next::Step(reply) => reply,
+            Next::PageWrite(owed) => self.call(owed),
+            Next::Call(owed) => self.call(owed),
         }
     }
 
     /// Is told of a step that was taken up.
-    pub(crate) fn take(&mut self, taken: Taken)
+    pub(crate) fn take(&mut self, next: Next)
         ensures same { (self.new.worker ≡ self.old.worker) × (self.new.number ≡ self.old.number) }
-        ensures told { IsToldBy D.contents taken self.new.last }
+        ensures told { IsToldBy D.contents (taken_of next) self.new.last }
     {
-        self.last = self.told(taken);
+        self.last = self.told(next);
     }
 }
 
@@ -85,8 +87,8 @@ impl<R: Wait, D: Disk + Drop, H: Hold> Hands for Job<'_, R, D, H> {
     ghost last = { λ job. job.last };
 
     fn go_on(&mut self) {
-        let taken = self.shared.take_up(self.rt, self.worker, self.number);
-        self.take(taken);
+        let next = self.shared.take_up(self.rt, self.worker, self.number);
+        self.take(next);
     }
 
     fn last(&self) -> &Reply {

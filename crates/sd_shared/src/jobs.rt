@@ -3,7 +3,8 @@ ghost use Rattle.sd_shared.specs.Turns.{counted, job_number};
 
 use sd_gate::Worker;
 
-/// How many jobs of each worker were begun, modulo 2^64: a job's number among those of its worker.
+/// How many drivers the jobs of each worker had, modulo 2^64: a job has one when it is begun, and another one when it
+/// is gone on with.
 #[derive(Clone, Copy, PartialEq, Eq)]
 pub(crate) struct Jobs {
     pub(crate) dumper: u64,
@@ -12,7 +13,7 @@ pub(crate) struct Jobs {
 }
 
 impl Jobs {
-    /// None was begun yet.
+    /// No job was begun yet.
     pub(crate) fn none() -> Jobs {
         Jobs {
             dumper: 0,
@@ -21,7 +22,7 @@ impl Jobs {
         }
     }
 
-    /// The number of a worker's job that was begun last.
+    /// The number of the driver of a worker's job.
     pub(crate) fn of(&self, worker: Worker) -> u64
         ensures { result ≡ job_number self.now worker }
     {
@@ -32,7 +33,7 @@ impl Jobs {
         }
     }
 
-    /// One more was begun.
+    /// One more drives.
     pub(crate) fn count(&mut self, worker: Worker)
         ensures { self.new ≡ counted worker self.old }
     {

@@ -1,7 +1,7 @@
-ghost use Rattle.std.specs.Prelude.{◌≡◌, Some, IfSome};
+ghost use Rattle.std.specs.Prelude.{◌≡◌, Some};
 ghost use Rattle.sd_command.specs.declared.refusal.Refusal.{Refusal as Why};
 ghost use Rattle.sd_command.specs.declared.reply.Reply.TheVariants as reply;
-ghost use Rattle.sd_shared.specs.Turns.{WasRefused};
+ghost use Rattle.sd_shared.specs.Turns.{AreRefused, WasRefused};
 
 use sd_command::{Refusal, Reply};
 
@@ -36,7 +36,7 @@ impl Reports {
 
     /// Why the first outcome was refused that was.
     pub(crate) fn into_refused(self) -> Option<Refusal>
-        ensures { IfSome result WasRefused }
+        ensures { AreRefused result }
     {
         self.refused
     }

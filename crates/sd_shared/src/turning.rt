@@ -2,52 +2,108 @@
 ghost use Rattle.std.specs.Prelude.{◌≡◌, ◌⊎◌, Err, IfOk, IfErr, IfNone, IfSome};
 ghost use Rattle.sd_command.specs.declared.refusal.Refusal.TheVariants.{LockBusy};
 ghost use Rattle.sd_crash_safety.specs.Calls.{IsUnjournaled};
-ghost use Rattle.sd_gate.specs.declared.worker.Worker.TheVariants as its;
+ghost use Rattle.sd_settling.specs.Told.{told};
 ghost use Rattle.sd_shared.specs.Told.{IsRefusedAtOnce};
-ghost use Rattle.sd_shared.specs.Turns.{AwaitsThaw, Cancels, IsAnsweredCall, LacksSlot, MakesThawed, Orders, SeatMakes};
-ghost use Rattle.sd_shared.specs.Turns.{WasHandedIn};
-ghost use Rattle.sd_shared.specs.Turns.{Resumes, TakesStep, TrimsOnce, ordered, taken_of, turned};
+ghost use Rattle.sd_shared.specs.Turns.{AwaitsThaw, Cancels, IsAnsweredCall, LacksSlot, MakesThawed, Orders, Resumes};
+ghost use Rattle.sd_shared.specs.Turns.{SeatMakes, TakesStep, TrimsOnce, WasHandedIn, taken_of, turned};
 
 use crate::booked::Booked;
 use crate::hold::Hold;
 use crate::next::Next;
-use crate::order_count::OrderCount;
+use crate::ordering::OneOrder;
+use crate::owed_call::OwedCall;
 use crate::seat::Seat;
 use crate::shared::Shared;
 use crate::thaw::Thaw;
 use crate::waits_ended::WaitsEnded;
 use sd_command::{Command, Refusal, Reply};
-use sd_core::Taken;
 use sd_disk::Disk;
-use sd_gate::{Outcome, Request, Worker, perform};
+use sd_gate::{Outcome, Worker};
 use sd_journal::Receipt;
 use sd_receipts::Folded;
 use std::hint::spin_loop;
+use std::sync::atomic::AtomicU64;
 use std::sync::{MutexGuard, Wait};
+use std::time::Duration;
 
-/// How often a seat looks whether the core's lock is free before it sleeps: a turn is shorter than a sleep and a wake.
-const LOOKS: u32 = 64;
+/// How often a seat looks whether the core's lock is free before it naps, and how many pauses of the processor come
+/// after each look: a worker's turn is shorter.
+const LOOKS: u32 = 2;
 
-/// How many pauses of the processor lie between two looks. The thread that has the core at hand makes some turns
-/// meanwhile, which is faster than to hand it over for each.
-const PAUSES: u32 = 256;
+const PAUSES: u32 = 16;
 
-/// Lets the processor pause between two looks.
+/// How often a seat naps before it sleeps until the lock is left to it.
+const NAPS: u32 = 64;
+
+/// How long a nap is, in microseconds: the thread that has the core at hand makes some hundred turns meanwhile, which
+/// is faster than to hand it over for each. A longer nap leaves the lock free for longer where that thread ends.
+const NAP_MICROS: u64 = 50;
+
+/// Lets the processor pause after a look.
 fn pause() {
     for _ in 0..PAUSES {
         spin_loop();
     }
 }
 
+/// A copy of a command for the journal, where there is room for it: it is made before the core's lock is taken.
+fn copy_of(command: &Command) -> Option<Command>
+    ensures { IfSome result (λ copy. copy ≡ command.now) }
+{
+    match command.try_clone() {
+        Ok(copy) => Some(copy),
+        Err(_) => None,
+    }
+}
+
+/// The receipt of a seat's command, as it was answered.
+fn receipt_of(
+    seat: usize,
+    command: Command,
+    answered: Result<(u64, Reply), Refusal>,
+) -> Result<Receipt, Refusal>
+    requires refuses { IfErr answered IsUnjournaled }
+    ensures seat { IfOk result (λ receipt. receipt.seat ≡ seat) }
+    ensures command { IfOk result (λ receipt. receipt.command ≡ command) }
+    ensures told { told result ≡ answered }
+    ensures refuses { IfErr result IsUnjournaled }
+{
+    match answered {
+        Ok((number, reply)) => Ok(Receipt {
+            seat,
+            number,
+            command,
+            reply,
+        }),
+        Err(why) => Err(why),
+    }
+}
+
 impl<D: Disk + Drop> Shared<D> {
-    /// Takes the core's lock for a seat. Workers and orders sleep for it at once: it is then left to them in turn, so
-    /// that a cancel comes between two turns of a worker.
-    fn lock(&self, rt: &impl Wait) -> MutexGuard<'_, Booked> {
+    /// Looks whether the core's lock is free, and takes it.
+    fn look(&self) -> Option<MutexGuard<'_, Booked>> {
         for _ in 0..LOOKS {
+            if let Some(core) = self.core.try_lock() {
+                return Some(core);
+            }
+            pause();
+        }
+        None
+    }
+
+    /// Takes the core's lock for a seat. One that finds it taken naps, of which the thread that has it knows nothing.
+    /// Workers and orders sleep for the lock at once: it is then left to them in turn, so that a cancel comes between
+    /// two turns of a worker.
+    fn lock(&self, rt: &impl Wait) -> MutexGuard<'_, Booked> {
+        if let Some(core) = self.look() {
+            return core;
+        }
+        let never_woken = AtomicU64::new(0);
+        for _ in 0..NAPS {
+            never_woken.park_timeout(rt, 0, Duration::from_micros(NAP_MICROS));
             if let Some(core) = self.core.try_lock() {
                 return core;
             }
-            pause();
         }
         self.core.lock(rt)
     }
@@ -70,7 +126,10 @@ impl<D: Disk + Drop> Shared<D> {
         ensures same { seat.new.number ≡ seat.old.number }
         ensures once { seat.new ≡ turned seat.old }
     {
-        self.lock(rt).command(seat, command)
+        let number = seat.number;
+        let copy = copy_of(&command);
+        let answered = self.lock(rt).command(seat, &command, copy);
+        receipt_of(number, command, answered)
     }
 
     /// Makes a command of a seat once nothing is frozen, or the store is down, or waits are ended. It may wait for
@@ -92,10 +151,14 @@ impl<D: Disk + Drop> Shared<D> {
         ensures same { seat.new.number ≡ seat.old.number }
         ensures once { seat.new ≡ turned seat.old }
     {
+        let number = seat.number;
+        let copy = copy_of(&command);
         let mut core = self
             .thawed
             .wait_while(rt, self.lock(rt), |core| core.holds_waits());
-        core.command(seat, command)
+        let answered = core.command(seat, &command, copy);
+        drop(core);
+        receipt_of(number, command, answered)
     }
 
     /// Makes a command of a seat where the lock is free. It never waits.
@@ -107,13 +170,19 @@ impl<D: Disk + Drop> Shared<D> {
     pub fn try_call(&self, seat: &mut Seat, command: Command) -> Result<Receipt, Refusal>
         ensures seat { IfOk result (λ receipt. receipt.seat ≡ seat.old.number) }
         ensures command { IfOk result (λ receipt. receipt.command ≡ command) }
-        ensures turn { (result ≡ Err LockBusy) ⊎ SeatMakes seat.old.number command result }
+        ensures turn { ((seat.new ≡ turned seat.old) × SeatMakes seat.old.number command result)
+            ⊎ ((seat.new ≡ seat.old) × (result ≡ Err LockBusy)) }
         ensures refuses { IfErr result IsRefusedAtOnce }
         ensures same { seat.new.number ≡ seat.old.number }
-        ensures once { (seat.new ≡ turned seat.old) ⊎ ((seat.new ≡ seat.old) × (result ≡ Err LockBusy)) }
     {
+        let number = seat.number;
+        let copy = copy_of(&command);
         match self.core.try_lock() {
-            Some(mut core) => core.command(seat, command),
+            Some(mut core) => {
+                let answered = core.command(seat, &command, copy);
+                drop(core);
+                receipt_of(number, command, answered)
+            }
             None => Err(Refusal::LockBusy),
         }
     }
@@ -128,84 +197,62 @@ impl<D: Disk + Drop> Shared<D> {
         core.thaw()
     }
 
-    /// Ends all waits for a thaw, now and from now on: for who leaves a checkpoint that can't be gone on with or
-    /// cancelled.
+    /// Ends all waits for a thaw until the next checkpoint begins, from which on they are held again: for who leaves a
+    /// checkpoint that can't be gone on with or cancelled.
     pub fn end_waits(&self, rt: &impl Wait) -> WaitsEnded {
-        let waking = self.core.lock(rt).end_waits();
+        let (ended, waking) = self.core.lock(rt).end_waits();
         waking.wake(&self.thawed);
-        WaitsEnded::new()
+        ended
     }
 
-    /// Cancels the checkpoint that runs or is pending: the seats go on, and the next checkpoint is whole. Returns
-    /// `Cancelled` with its number.
-    ///
-    /// # Errors
-    ///
-    /// `Idle` where none runs or is pending; `Busy` while a device call of it is out or the gate of its dump may be
-    /// open, or an opener runs. Nothing changed: whoever runs it goes on with it.
-    pub fn cancel(&self, rt: &impl Wait) -> Reply
+    /// Cancels the checkpoint that runs or is pending, as [`Shared::cancel`].
+    pub(crate) fn cancel_once(&self, rt: &impl Wait, one: OneOrder) -> Reply
         ensures turn { Cancels result }
     {
-        let mut count = OrderCount::none();
-        let (reply, waking) = self.core.lock(rt).cancel(&mut count);
+        let (reply, waking) = self.core.lock(rt).cancel(one);
         waking.wake(&self.thawed);
-        count.end();
         reply
     }
 
-    /// Trims the journal, as `Core::trim`. It waits for the core's lock alone.
-    ///
-    /// # Errors
-    ///
-    /// `Idle` where no checkpoint was acknowledged, or named by a reopening, since the run started or the journal was
-    /// trimmed; `NumbersUsed` where over 2^62 entries would have been folded in all; `OutOfMemory` where a growth was
-    /// refused. Nothing changed.
-    pub fn trim(&self, rt: &impl Wait) -> Result<Folded, Refusal>
+    /// Trims the journal, as [`Shared::trim`].
+    pub(crate) fn trim_once(&self, rt: &impl Wait, one: OneOrder) -> Result<Folded, Refusal>
         ensures turn { TrimsOnce result }
     {
-        let mut count = OrderCount::none();
-        let folded = self.core.lock(rt).trim(&mut count);
-        count.end();
+        let (folded, waking) = self.core.lock(rt).trim(one);
+        waking.wake(&self.thawed);
         folded
     }
 
-    /// Orders a worker's job. Returns the reply, and the job's number, where it was begun.
+    /// Orders a worker's job. Returns the reply, and the number of the job's driver, where it was begun.
     pub(crate) fn begin(
         &self,
         rt: &impl Wait,
-        count: &mut OrderCount,
+        one: OneOrder,
         worker: Worker,
         rounds: u64,
     ) -> (Reply, u64)
         ensures turn { Orders worker rounds result.0 result.1 }
-        ensures once { count.new ≡ ordered count.old }
     {
-        self.core.lock(rt).order(count, worker, rounds)
-    }
-
-    /// The first step of the job of a worker that stands, or that it asks for a device call, and the job's number.
-    pub(crate) fn resume(&self, rt: &impl Wait, worker: Worker) -> (u64, Taken)
-        ensures turn { Resumes worker result.0 result.1 }
-    {
-        let (number, taken, waking) = self.core.lock(rt).resume(worker);
+        let (reply, number, waking) = self.core.lock(rt).order(one, worker, rounds);
         waking.wake(&self.thawed);
-        (number, taken)
+        (reply, number)
     }
 
-    /// The next step of a worker's job. One that ends the job may end a freeze.
-    pub(crate) fn take_up(&self, rt: &impl Wait, worker: Worker, job: u64) -> Taken
-        ensures turn { TakesStep worker job result }
+    /// The first step of the job of a worker that stands, or the device call that it asks for, and the number of the
+    /// job's driver.
+    pub(crate) fn resume(&self, rt: &impl Wait, worker: Worker) -> (u64, Next)
+        ensures turn { Resumes worker result.0 (taken_of result.1) }
     {
-        let (taken, waking) = self.core.lock(rt).take_up(worker, job);
+        let (number, next, waking) = self.core.lock(rt).resume(worker);
         waking.wake(&self.thawed);
-        taken
+        (number, next)
     }
 
-    /// What is next of the checkpoint with this number among the jobs of the dumper.
-    pub(crate) fn take_up_dumper(&self, rt: &impl Wait, job: u64) -> Next
-        ensures turn { TakesStep its.Dumper job (taken_of result) }
+    /// The next step of a worker's job, or its next device call. A step that ends the job may end a freeze.
+    pub(crate) fn take_up(&self, rt: &impl Wait, worker: Worker, job: u64) -> Next
+        ensures turn { TakesStep worker job (taken_of result) }
     {
-        let (next, waking) = self.core.lock(rt).take_up_dumper(job);
+        let (next, waking) = self.core.lock(rt).take_up(worker, job);
         waking.wake(&self.thawed);
         next
     }
@@ -216,12 +263,12 @@ impl<D: Disk + Drop> Shared<D> {
         rt: &impl Wait,
         hold: &impl Hold,
         number: u64,
-        request: Request,
+        owed: OwedCall,
     ) -> Reply
-        ensures called { IsAnsweredCall D.contents request.id result }
+        ensures called { IsAnsweredCall D.contents owed.request.id result }
     {
         hold.before(number);
-        match self.perform(rt, request) {
+        match self.perform(rt, owed) {
             Some(outcome) => self.hand_in(rt, outcome),
             None => Reply::Refused(Refusal::Device),
         }
@@ -229,14 +276,15 @@ impl<D: Disk + Drop> Shared<D> {
 
     /// Makes a device call, where its slot is one of the disk's. The core asks for no other, which no clause can say of
     /// a core behind a lock.
-    fn perform(&self, rt: &impl Wait, request: Request) -> Option<Outcome>
-        ensures id { IfSome result (λ made. made.request.id ≡ request.id) }
-        ensures none { IfNone result (LacksSlot D.contents request.id.slot) }
+    fn perform(&self, rt: &impl Wait, owed: OwedCall) -> Option<Outcome>
+        ensures id { IfSome result (λ made. made.request.id ≡ owed.request.id) }
+        ensures none { IfNone result (LacksSlot D.contents owed.request.id.slot) }
     {
         let mut disk = self.disk.lock(rt);
-        if request.id().slot < disk.slots() {
-            Some(perform(&mut *disk, request))
+        if owed.slot() < disk.slots() {
+            Some(owed.perform(&mut *disk))
         } else {
+            owed.give_up(&*disk);
             None
         }
     }

@@ -12,12 +12,12 @@ pub type Metered<'a, R, D> = Observed<Metering<'a, R>, D>;
 #[derive(Drop)]
 pub struct Metering<'a, R> {
     clock: &'a R,
-    meter: &'a RefCell<Meter>,
+    meter: &'a RefCell<Option<Meter>>,
 }
 
 impl<'a, R: Clock> Metering<'a, R> {
-    /// A meter sees the calls of a disk from now on.
-    pub fn new(clock: &'a R, meter: &'a RefCell<Meter>) -> Self {
+    /// A meter, if there is one, sees the calls of a disk from now on.
+    pub fn new(clock: &'a R, meter: &'a RefCell<Option<Meter>>) -> Self {
         Metering { clock, meter }
     }
 
@@ -40,10 +40,11 @@ fn tell(meter: &mut Meter, slot: usize, call: FileCall<'_>, now: Duration) {
 
 impl<R: Clock> Observer for Metering<'_, R> {
     fn made(&mut self, slot: usize, call: FileCall<'_>, is_done: bool) {
-        let now = self.now();
-        if let Ok(mut meter) = self.meter.try_borrow_mut() {
+        if let Ok(mut found) = self.meter.try_borrow_mut()
+            && let Some(meter) = found.as_mut()
+        {
             if is_done {
-                tell(&mut meter, slot, call, now);
+                tell(meter, slot, call, self.now());
             } else {
                 meter.called();
             }

@@ -351,6 +351,7 @@ module _ {D : Type 0} (g : Ghosts D) (old new : WorldView D) (pre_new : HasItsPr
             dump = a.dump;
             has = a.has;
             there = entered a.running a.dump a.dump.header.serial opens a.has.slot a.has.is_in;
+            stands = opens.stands;
             pre_dumps = subst (λ c. ArePreDumpsThere c (begun_as a.running) new.core.catalog (length a.running.pre_dumps) a.dump.header.parent) (sym still)
                 (there_still contents (begun_as a.running) old.core.catalog new.core.catalog (length a.running.pre_dumps) a.dump.header.parent keeps_each a.pre_dumps
                 (subst (ArePreDumpsThere contents (begun_as a.running) old.core.catalog (length a.running.pre_dumps)) (sym a.has.parent)

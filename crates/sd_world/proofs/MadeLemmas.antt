@@ -12,7 +12,7 @@ use Rattle.sd_crash_safety.specs.View.{CoreView, history_of}
 use Rattle.sd_world.specs.declared.event.Event.{Event}
 use Rattle.sd_world.specs.declared.event.Event.TheVariants.{Command, Begin, Work, TakeUp, HandInAt, Perform, PerformAt, Merge, Cancel, Reopen, Trim}
 use Rattle.sd_world.specs.Adds.{AddsToJournal}
-use Rattle.sd_world.specs.Made.{Counts, IsMade, IsSoundWorld, MadeTells}
+use Rattle.sd_world.specs.Made.{Counts, IsMade, IsSoundWorld, MadeCounts, MadeIsStep}
 use Rattle.sd_world.specs.Merges.{DoesMerge}
 use Rattle.sd_world.specs.Refused.{GoesOnUnless}
 use Rattle.sd_world.specs.Runs.{IsStep, ShowsReply}
@@ -110,5 +110,8 @@ module _ (law : WritesCommute) (left : LeftAsBelieved) (show : ContentsShow) {D 
       lowers_at = λ worker place is. hand_in_lowers g old new made.was.there.is worker place answer (by_event (HandInAt worker place) is);
     }
 
-  pub made_tells : MadeTells g
-  made_tells event old answer new made = (told event old answer new made, counts event old answer new made)
+  pub made_is_step : MadeIsStep g
+  made_is_step event old answer new made = told event old answer new made
+
+  pub made_counts : MadeCounts g
+  made_counts event old answer new made = counts event old answer new made

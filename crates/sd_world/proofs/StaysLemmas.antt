@@ -193,7 +193,7 @@ module _ {D : Type 0} (g : Ghosts D) (world : WorldView D) (is : IsWorld g world
       doing_has : (merge : merger.Running) (doing : Doing) → world.core.merger ≡ Some merge → merge.doing ≡ doing
           → IsMergeAt world.core.phases asked was.bodies world.core.numbers.serial was.believes.store was.believes.beliefs world.core.dumper.running merge.slot merge.source doing → OnTaken
       doing_has merge due runs doing its = absurd (none_asked request (sym at ∙ its.1))
-      doing_has merge (copying made) runs doing its = IsTaken.by_copy merge runs
+      doing_has merge (copying made) runs doing its = IsTaken.by_copy merge made runs doing
           (copy_on made.stage world.core.phases was.bodies was.believes.store was.believes.beliefs world.core.dumper.running merge.slot its.repeats.image made.taking request writes
           (subst (IsAskedIn made.stage world.core.phases was.bodies was.believes.store was.believes.beliefs world.core.dumper.running merge.slot its.repeats.image made.taking) (same_asked request its.copy.request (sym at ∙ its.copy.own)) its.copy.asked_in))
       doing_has merge (opened serial) runs doing its = absurd its

@@ -8,6 +8,7 @@ use Rattle.sd_disk.specs.Contents.{file_at}
 use Rattle.sd_disk.specs.declared.disk.Disk.{Ghosts}
 use Rattle.sd_image.specs.Image.{Image, IsImage}
 use Rattle.sd_rounds.specs.Dumper.{Running, is_last}
+use Rattle.sd_crash_safety.specs.declared.standing.Standing.TheVariants.{Open}
 use Rattle.sd_core.specs.Images.{HasImage, IsPreDump, begun_as}
 use Rattle.sd_world.specs.declared.event.Event.{Event}
 use Rattle.sd_world.specs.declared.event.Event.TheVariants.{Command, Begin, Work, TakeUp, HandInAt, Perform, PerformAt}
@@ -39,13 +40,14 @@ pub record IsWorldThere {D : Type 0} (g : Ghosts D) (world : WorldView D) : Type
   pub is : IsWorld g world
   pub pre_dumps : g.is_honest world.disk → HasPreDumpsThere g world
 
--- After the acknowledgement of n its dump and all its pre-dumps stand in their slots: the dump names the last pre-dump
--- as its parent.
+-- After the acknowledgement of n its dump and all its pre-dumps stand in their slots, and the store is open: the dump
+-- names the last pre-dump as its parent.
 pub record IsAckedThere {D : Type 0} (g : Ghosts D) (n : ℕ) (old new : WorldView D) : Type 0 where
   pub running : Running
   pub was : old.core.dumper.running ≡ Some running
   pub number : n ≡ running.number
   pub last : is_last running ≡ true
+  pub stands : new.core.standing ≡ Open
   pub dump : Opened
   pub has : HasImage running new.core.catalog dump
   pub there : IsThere (g.contents new.disk) dump

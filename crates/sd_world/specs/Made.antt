@@ -86,7 +86,12 @@ pub record Counts {D : Type 0} (g : Ghosts D) (event : Event) (old : WorldView D
   pub lowers_at : (worker : Worker) (place : ℕ) → event ≡ HandInAt worker place
       → LeavesLess answer (left_by old.core worker) (left_by new.core worker)
 
--- all that is said of an event that is made
-abbrev pub MadeTells : {D : Type 0} → Ghosts D → Type 0
-MadeTells {D} g = (event : Event) (old : WorldView D) (answer : Reply) (new : WorldView D)
-    → IsMade g event old answer new → IsStep g event old answer new × Counts g event old answer new
+-- an event that is made is a step
+abbrev pub MadeIsStep : {D : Type 0} → Ghosts D → Type 0
+MadeIsStep {D} g = (event : Event) (old : WorldView D) (answer : Reply) (new : WorldView D)
+    → IsMade g event old answer new → IsStep g event old answer new
+
+-- and has its effect on device calls, and on what is left of a job
+abbrev pub MadeCounts : {D : Type 0} → Ghosts D → Type 0
+MadeCounts {D} g = (event : Event) (old : WorldView D) (answer : Reply) (new : WorldView D)
+    → IsMade g event old answer new → Counts g event old answer new

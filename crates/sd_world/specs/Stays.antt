@@ -5,8 +5,9 @@ use Rattle.sd_disk.specs.declared.disk.Disk.{Ghosts}
 use Rattle.sd_gate.specs.Calls.{IsLook}
 use Rattle.sd_gate.specs.Requests.{Asked}
 use Rattle.sd_merge.specs.declared.retired.Retired.{Retired}
+use Rattle.sd_merge.specs.Copying.{Copying}
 use Rattle.sd_merge.specs.Merger as merger
-use Rattle.sd_merge.specs.Merger.{list_of}
+use Rattle.sd_merge.specs.Merger.{copying, list_of}
 use Rattle.sd_rounds.specs.Dumper.{Running}
 use Rattle.sd_rounds.specs.Making.{Making}
 use Rattle.sd_crash_safety.specs.View.{CoreView}
@@ -19,7 +20,8 @@ use Rattle.sd_world.specs.View.{WorldView}
 pub data IsTaken (core : CoreView) (slot : ℕ) : Type 0 where
   by_checkpoint : (running : Running) (image : Making) → core.dumper.running ≡ Some running
       → running.image ≡ Some image → image.order.slot ≡ slot → IsTaken core slot
-  by_copy : (merge : merger.Running) → core.merger ≡ Some merge → merge.slot ≡ slot → IsTaken core slot
+  by_copy : (merge : merger.Running) (copy : Copying) → core.merger ≡ Some merge → merge.doing ≡ copying copy
+      → merge.slot ≡ slot → IsTaken core slot
   by_list : (one : Retired) → Contains (list_of core.merger) one → one.slot ≡ slot → IsTaken core slot
 
 -- no request that is kept would change the file of a slot

@@ -15,7 +15,7 @@ ghost use Rattle.sd_crash_safety.specs.View.{history_of};
 ghost use Rattle.sd_world.specs.Acked.{HasPreDumpsThere};
 ghost use Rattle.sd_world.specs.Begun.{RunsAsBegun};
 ghost use Rattle.sd_world.specs.Lifetimes.{ImagesStay};
-ghost use Rattle.sd_world.specs.Made.{IsMade, MadeTells, MovesOn};
+ghost use Rattle.sd_world.specs.Made.{IsMade, MadeCounts, MadeIsStep, MovesOn};
 ghost use Rattle.sd_world.specs.Merged.{MergesStand};
 ghost use Rattle.sd_world.specs.Moments.{GoesLeave};
 ghost use Rattle.sd_world.specs.Points.{FirstStands, PointsFollow, StandsAt};
@@ -284,7 +284,8 @@ impl<D: Disk> World<D> {
     /// acknowledgement, a merge and a reopening leave on the disk, which files stay, why a job's step is refused, what
     /// a crash within it and after it leaves, and how many device calls are out then.
     pub fn made_tells(&self)
-        ensures { MadeTells D.Disk }
+        ensures step { MadeIsStep D.Disk }
+        ensures counts { MadeCounts D.Disk }
     {
         writes_commute();
         left_as_believed();

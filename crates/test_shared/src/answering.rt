@@ -13,10 +13,13 @@ use std::sync::atomic::{AtomicU64, Ordering};
 use std::test::Fail;
 use std::thread;
 use std::thread::Threads;
-use std::time::Clock;
+use std::time::{Clock, Duration};
 
 /// How many bytes a page has.
 const PAGE_BYTES: usize = 4096;
+
+/// Slots for the images of eight rounds, of a checkpoint before them, and of a merge.
+const SLOTS: usize = 16;
 
 /// Room in each slot for the one page, after 4,096 bytes of front and before a table.
 const ROOM: usize = 4_096 + PAGE_BYTES + 512;
@@ -29,6 +32,20 @@ struct Flags {
     missed: AtomicU64,
 }
 
+/// How many turns of a millisecond the device waits for the answer, which takes a thread two of them.
+const TURNS: u64 = 600;
+
+/// Waits until a command was answered. Returns whether it was.
+fn await_answer<R: Clock>(rt: &R, answered: &AtomicU64) -> bool {
+    for _ in 0..TURNS {
+        if answered.load(Ordering::SeqCst) != 0 {
+            return true;
+        }
+        thread::sleep(rt, Duration::from_millis(1));
+    }
+    false
+}
+
 /// Waits before the first write of a page until a command was answered.
 #[derive(Drop)]
 struct Answering<'a, R> {
@@ -39,7 +56,7 @@ struct Answering<'a, R> {
 impl<R: Clock> Observer for Answering<'_, R> {
     fn before_write(&mut self, bytes: &[u8]) {
         if bytes.len() == PAGE_BYTES && self.flags.begun.swap(1, Ordering::SeqCst) == 0 {
-            if !await_flag(self.rt, &self.flags.answered) {
+            if !await_answer(self.rt, &self.flags.answered) {
                 self.flags.missed.store(1, Ordering::SeqCst);
             }
         }
@@ -62,6 +79,20 @@ fn store_beside<R: Wait + Clock, D: Disk + Drop>(
     Ok(receipt.reply == Reply::Done)
 }
 
+/// Makes checkpoints of 0 to 8 rounds, of 1 to 8 writers, each with a merge after it. Returns whether all were
+/// acknowledged.
+fn relays_all<R: Threads + Wait + Sync, D: Disk + Drop + Send>(rt: &R, shared: &Shared<D>) -> bool {
+    for rounds in 0..9 {
+        let writers = 1 + rounds % 8;
+        let reply = shared.run_relay(rt, rounds, writers as usize, &Free);
+        drop(shared.run_merger(rt, &Free));
+        if !matches!(reply, Reply::Acked(_)) {
+            return false;
+        }
+    }
+    true
+}
+
 /// Makes a checkpoint of one round, while another thread stores. Returns whether that was answered
 /// while the page's write was under way.
 fn save_and_store<R: Threads + Wait + Clock + Sync, D: Disk + Drop + Send>(
@@ -81,7 +112,8 @@ fn save_and_store<R: Threads + Wait + Clock + Sync, D: Disk + Drop + Send>(
     Ok(stored? && reply == Reply::Acked(1) && flags.missed.load(Ordering::SeqCst) == 0)
 }
 
-/// While the device writes a page, a store into that page is answered: neither lock is held for the other's sake.
+/// While the device writes a page, a store into that page is answered within a second: no device call is made with the
+/// core's lock held, and no command with the disk's. Then any number of rounds and of writers is taken.
 #[test]
 fn a_device_call_holds_no_command_up(rt: HostRuntime) -> Result<(), Fail> {
     let alloc = rt.alloc();
@@ -94,7 +126,7 @@ fn a_device_call_holds_no_command_up(rt: HostRuntime) -> Result<(), Fail> {
         rt: &rt,
         flags: &flags,
     };
-    let disk = Observed::new(answering, MemDisk::new(alloc, 8, ROOM, 10_000)?);
+    let disk = Observed::new(answering, MemDisk::new(alloc, SLOTS, ROOM, 10_000)?);
     let Ok((shared, mut seats)) = Shared::start(alloc, disk, 64, 1) else {
         return Err(Fail::from("not started"));
     };
@@ -103,7 +135,8 @@ fn a_device_call_holds_no_command_up(rt: HostRuntime) -> Result<(), Fail> {
         return Err(Fail::from("no seat"));
     };
     let stored = save_and_store(&rt, alloc, &shared, seat, &flags);
+    let relayed = relays_all(&rt, &shared);
     shared.discard();
-    assert_eq!(rt; stored, Ok(true));
+    assert_eq!(rt; (stored, relayed), (Ok(true), true));
     Ok(())
 }

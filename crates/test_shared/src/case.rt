@@ -19,6 +19,8 @@ pub(crate) enum Case {
     Beside(Way),
     /// A checkpoint that is cancelled.
     Cancelled,
+    /// Checkpoints that two threads drive.
+    Driven,
     /// The device fails while all is frozen.
     Falls,
     /// A checkpoint on a disk that drops what it is given.

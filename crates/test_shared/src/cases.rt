@@ -3,13 +3,14 @@ use crate::beside::{Way, save_beside};
 use crate::cancelling::cancels_beside;
 use crate::case::Case;
 use crate::device::Device;
+use crate::driven::drives_beside;
 use crate::falling::falls;
 use crate::holds::{Free, merges_in_13_calls, saves_in_16_calls};
 use crate::jobs::Job;
 use crate::mutator::Mutator;
 use crate::told::Told;
 use crate::trimming::trims_beside;
-use crate::waiting::{loads_thawed, waits_asleep, wakes_by_a_cancel};
+use crate::waiting::{ends_waits, loads_thawed, waits_asleep, wakes_by_a_cancel};
 use crate::writers::{falls_beside, writes_beside, writes_twenty_pages};
 use sd_command::Reply;
 use sd_core::Core;
@@ -97,17 +98,19 @@ fn relays<R: Threads + Wait + Clock + Files + Alloc + Abort + Sync>(
     Ok(acks.push(2)?)
 }
 
-/// Checkpoints that a mutator waits for: to their end, to a thaw, and to a cancel.
+/// Checkpoints that a mutator waits for: until waits are ended, to a thaw, and to a cancel.
 fn awaits<R: Threads + Wait + Clock + Files + Alloc + Abort + Sync>(
     rt: &R,
     shared: &Shared<Store>,
     mutator: &mut Mutator<'_>,
     acks: &mut Vec<u64>,
 ) -> Result<(), AllocError> {
-    waits_asleep(rt, shared);
+    ends_waits(rt, shared);
     acks.push(1)?;
-    loads_thawed(rt, shared, mutator);
+    waits_asleep(rt, shared);
     acks.push(2)?;
+    loads_thawed(rt, shared, mutator);
+    acks.push(3)?;
     wakes_by_a_cancel(rt, shared, mutator, acks);
     Ok(())
 }
@@ -153,6 +156,10 @@ fn act<R: Threads + Wait + Clock + Files + Alloc + Abort + Sync>(
         }
         Case::Cancelled => {
             cancels_beside(rt, shared, mutators.0, acks);
+            Ok(())
+        }
+        Case::Driven => {
+            drives_beside(rt, shared, acks);
             Ok(())
         }
     }
@@ -313,6 +320,12 @@ fn threads_that_try(rt: HostRuntime) -> Result<(), Fail> {
 #[test]
 fn a_cancelled_dumper_is_idle(rt: HostRuntime) -> Result<(), Fail> {
     run(&rt, rt.alloc(), Case::Cancelled)
+}
+
+/// Two threads drive the same checkpoints: of each one is acknowledged, and the other idle.
+#[test]
+fn a_job_has_one_driver(rt: HostRuntime) -> Result<(), Fail> {
+    run(&rt, rt.alloc(), Case::Driven)
 }
 
 /// The device fails while all is frozen: whoever waits for the thaw is told that the store is down.

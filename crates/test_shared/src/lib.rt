@@ -14,6 +14,10 @@ mod cases;
 #[cfg(test)]
 mod device;
 #[cfg(test)]
+mod driven;
+#[cfg(test)]
+mod eight;
+#[cfg(test)]
 mod falling;
 #[cfg(test)]
 mod holds;

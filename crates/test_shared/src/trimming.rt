@@ -118,7 +118,10 @@ fn save_all(
 }
 
 /// Takes the receipts with lesser numbers from the front.
-fn take_below(receipts: &mut Vec<Receipt>, number: u64) -> Result<Vec<Receipt>, AllocError> {
+pub(crate) fn take_below(
+    receipts: &mut Vec<Receipt>,
+    number: u64,
+) -> Result<Vec<Receipt>, AllocError> {
     let count = receipts
         .iter()
         .take_while(|receipt| receipt.number < number)

@@ -92,7 +92,56 @@ fn load_kept<R: Wait + Clock>(
         && hold.ended.load(Ordering::SeqCst) != 0
 }
 
-/// A thread waits as long as all is frozen, and not longer, and uses next to none of a processor's time.
+/// A hold that keeps all frozen until a wait was ended.
+#[derive(Drop)]
+struct Standing<'a, R> {
+    rt: &'a R,
+    begun: &'a AtomicU64,
+    ended: &'a AtomicU64,
+}
+
+impl<R: Clock> Hold for Standing<'_, R> {
+    fn before(&self, call: u64) {
+        if call == FIRST_PAGE {
+            self.begun.store(1, Ordering::SeqCst);
+            let _ = await_flag(self.rt, self.ended);
+        }
+    }
+}
+
+/// Ends the waits while all is frozen, and then waits. Returns how that ended.
+fn end_and_wait<R: Wait + Clock>(
+    rt: &R,
+    shared: &Shared<Store>,
+    hold: &Standing<'_, R>,
+) -> Option<Thaw> {
+    if !await_flag(rt, hold.begun) {
+        return None;
+    }
+    drop(shared.end_waits(rt));
+    let thaw = shared.wait_thaw(rt);
+    hold.ended.store(1, Ordering::SeqCst);
+    Some(thaw)
+}
+
+/// Waits are ended while all is frozen for the first checkpoint: a wait ends as ended.
+pub(crate) fn ends_waits<R: Threads + Wait + Clock + Abort + Sync>(rt: &R, shared: &Shared<Store>) {
+    let (begun, ended) = (AtomicU64::new(0), AtomicU64::new(0));
+    let hold = Standing {
+        rt,
+        begun: &begun,
+        ended: &ended,
+    };
+    let told = thread::join(
+        rt,
+        || shared.run_dumper(rt, 0, &hold),
+        || end_and_wait(rt, shared, &hold),
+    );
+    assert_eq!(rt; told, (Reply::Acked(1), Some(Thaw::Ended)));
+}
+
+/// A thread waits as long as all is frozen, and not longer, and uses next to none of a processor's time. The checkpoint
+/// is the second one, before which waits were ended.
 pub(crate) fn waits_asleep<R: Threads + Wait + Clock + Files + Alloc + Abort + Sync>(
     rt: &R,
     shared: &Shared<Store>,
@@ -108,7 +157,7 @@ pub(crate) fn waits_asleep<R: Threads + Wait + Clock + Files + Alloc + Abort + S
         || shared.run_dumper(rt, 0, &hold),
         || wait_kept(rt, shared, &hold),
     );
-    assert_eq!(rt; reply, Reply::Acked(1));
+    assert_eq!(rt; reply, Reply::Acked(2));
     let Some((thaw, kept, nanos)) = waited else {
         panic!(rt; "nothing was frozen, or the thread's time can't be read");
     };
@@ -116,7 +165,7 @@ pub(crate) fn waits_asleep<R: Threads + Wait + Clock + Files + Alloc + Abort + S
     assert!(rt; nanos < MOST_NANOS, "{nanos} ns");
 }
 
-/// A command that waits for the thaw is made after it. The checkpoint is the second one.
+/// A command that waits for the thaw is made after it. The checkpoint is the third one.
 pub(crate) fn loads_thawed<R: Threads + Wait + Clock + Abort + Sync>(
     rt: &R,
     shared: &Shared<Store>,
@@ -133,7 +182,7 @@ pub(crate) fn loads_thawed<R: Threads + Wait + Clock + Abort + Sync>(
         || shared.run_dumper(rt, 0, &hold),
         || load_kept(rt, shared, mutator, &hold),
     );
-    assert_eq!(rt; told, (Reply::Acked(2), true));
+    assert_eq!(rt; told, (Reply::Acked(3), true));
 }
 
 /// What a thread that waits, and others, tell each other.

@@ -66,7 +66,7 @@ pub(crate) const THIRD_MERGED: Image = (
 );
 
 /// The header of an image with its digest, where it is of version 2.
-fn with_digest(image: &Image) -> Header {
+pub(crate) fn with_digest(image: &Image) -> Header {
     let (header, text, byte) = image;
     if header.version == Version::One {
         return *header;

@@ -8,6 +8,6 @@ loop-preserved g c =
     let stays = c.go_on.ensures.stays in
     let stayed = c.loop.invariant.0 in (
       (stays.0 ∙ stayed.0, stays.1 ∙ stayed.1, stays.2 ∙ stayed.2),
-      (c.go_on.ensures.same.0 ∙ c.loop.invariant.1.0, c.go_on.ensures.same.1 ∙ c.loop.invariant.1.1),
-      λ over. inr (subst (λ (number : ℕ). WorkerIsTold g.D.Disk.contents Dumper number c.go_on.new.self.last) c.loop.invariant.1.0 (c.go_on.ensures.told over)),
+      c.go_on.ensures.same ∙ c.loop.invariant.1,
+      λ over. inr (subst (λ (number : ℕ). WorkerIsTold g.D.Disk.contents Dumper number c.go_on.new.self.last) c.loop.invariant.1 (c.go_on.ensures.told over)),
     )

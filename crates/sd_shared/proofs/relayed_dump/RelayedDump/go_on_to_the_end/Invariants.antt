@@ -7,6 +7,6 @@ use Rattle.sd_shared.proofs.relayed_dump.RelayedDump.go_on_to_the_end.Given as g
 
 -- the front and the job stay, and what ends the job was there at first, or was told
 abbrev pub invariant-loop : goal.invariant-loop
-invariant-loop g l = StaysOnChannel l.initial.front l.front × ((l.self.number ≡ l.initial.self.number) × (l.self.count ≡ l.initial.self.count))
+invariant-loop g l = StaysOnChannel l.initial.front l.front × (l.self.number ≡ l.initial.self.number)
     × (ends_job l.self.last ≡ true
     → (l.self.last ≡ l.initial.self.last) ⊎ WorkerIsTold g.D.Disk.contents Dumper l.initial.self.number l.self.last)

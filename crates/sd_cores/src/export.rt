@@ -1,0 +1,375 @@
+//! `ckpt export`: the memory that a store shows, as ELF core files.
+
+use crate::cores::threads_of;
+use crate::parts::{Left, core_name, is_folder, is_there, make_part, part_name};
+use sd_areas::SpaceId;
+use sd_command::Refusal;
+use sd_disk::{DirDisk, Disk, FileLimit, lock_folder, make_folders};
+use sd_elf::{CoreFiles, HoleFile, WriteError, write_shown, write_shown_at};
+use sd_exit::{Output, Stop, exit};
+use sd_image::SpaceTable;
+use sd_program::{
+    Advised, BESIDE, Called, PAUSES, Seen, is_same_file, is_slot_file, may_change, slot_error,
+    tell, told_not_there, unseen,
+};
+use sd_readers::fronts;
+use sd_restore::Fault;
+use std::alloc::Global;
+use std::fs::File;
+use std::io::Write;
+use std::rt::Files;
+use std::sync::Wait;
+use std::time::{Clock, Duration};
+use std::{fs, io, thread};
+
+/// What is told of a folder of core files that is none.
+const IS_NO_FOLDER: &str = "; OUT is the folder of the core files";
+
+/// What is told of a folder that another export has locked.
+const IS_LOCKED: &str = "another export writes into this folder; try again when it has ended";
+
+/// The core files in a folder. Each is written under another name until all are whole.
+#[derive(Drop)]
+struct Export<'r, 'w, R> {
+    rt: &'r R,
+    alloc: Global,
+    folder: &'w str,
+    /// The folder of the store, whose files aren't replaced.
+    store: &'w str,
+    /// How long a file may be written.
+    limit: FileLimit,
+    /// The checkpoint that is asked for, in place of the newest.
+    checkpoint: Option<u64>,
+    /// The one space that is asked for.
+    wanted: Option<u64>,
+    /// Whether the store doesn't show it.
+    lacks: bool,
+    /// Whether files that are there are replaced.
+    replaces: bool,
+    /// The lock of the folder, while files are written there.
+    lock: Option<File>,
+    /// The spaces whose files were begun.
+    begun: Vec<SpaceId>,
+    /// How many of these files have their names.
+    named: usize,
+}
+
+impl<R: Files<File = File>> Export<'_, '_, R> {
+    /// Who has the lock of the folder, where it is taken: a run, where the folder is the store's.
+    fn has_lock(&self) -> &'static str {
+        if is_same_file(self.rt, self.folder, self.store) {
+            BESIDE
+        } else {
+            IS_LOCKED
+        }
+    }
+
+    fn is_wanted(&self, space: SpaceId) -> bool {
+        match self.wanted {
+            Some(number) => space.number() == number,
+            None => true,
+        }
+    }
+
+    /// Refuses a file that is there, but where it may be replaced, a folder, which never is, and a file of a slot of
+    /// the store, to which a link in its folder may lead.
+    fn check_free(&self, space: SpaceId) -> io::Result<()> {
+        let name = core_name(self.alloc, self.folder, space)?;
+        match fs::symlink_metadata(self.rt, &name) {
+            Ok(_) if !self.replaces => return Err(is_there(self.alloc, space)?),
+            Ok(found) if found.is_dir() => return Err(is_folder(self.alloc, space)?),
+            _ => {}
+        }
+        self.check_no_slot(&name)?;
+        self.check_no_slot(&part_name(self.alloc, self.folder, space)?)
+    }
+
+    /// Refuses a file that is that of a slot.
+    fn check_no_slot(&self, name: &str) -> io::Result<()> {
+        match fs::symlink_metadata(self.rt, name) {
+            Ok(found) if is_slot_file(self.rt, self.alloc, self.store, &found)? => {
+                Err(slot_error())
+            }
+            _ => Ok(()),
+        }
+    }
+
+    /// Refuses, before any file has its name, what would keep one of them from it.
+    fn check_all(&self) -> io::Result<()> {
+        for space in &self.begun {
+            self.check_free(*space)?;
+        }
+        Ok(())
+    }
+
+    /// Gives the file of a space its name.
+    fn name(&self, space: SpaceId) -> io::Result<()> {
+        let part = part_name(self.alloc, self.folder, space)?;
+        let name = core_name(self.alloc, self.folder, space)?;
+        fs::rename(self.rt, &part, &name)
+    }
+
+    /// Gives the files their names, once all are whole and nothing is seen that would keep one from it, and waits until
+    /// the names are on the device.
+    fn name_all(&mut self) -> io::Result<()> {
+        self.check_all()?;
+        let folder = File::open(self.rt, self.folder)?;
+        for number in 0..self.begun.len() {
+            self.name(self.begun[number])?;
+            self.named = number.saturating_add(1);
+        }
+        folder.sync_all()
+    }
+
+    /// Forgets what was tried before.
+    fn begin_anew(&mut self) {
+        self.begun.clear();
+        self.lock = None;
+        self.lacks = false;
+    }
+
+    /// Takes away what was written.
+    fn remove_all(&self) {
+        for space in &self.begun {
+            if let Ok(part) = part_name(self.alloc, self.folder, *space) {
+                let _ = fs::remove_file(self.rt, &part);
+            }
+        }
+    }
+}
+
+/// No contract says what the files of a folder hold.
+impl<R: Files<File = File>> CoreFiles for Export<'_, '_, R> {
+    ghost use Rattle.std.specs.Prelude.{None, true};
+
+    type Output = HoleFile;
+
+    ghost taken = { λ _. None };
+
+    ghost wanted = { λ _ _. true };
+
+    fn check(&mut self, spaces: &[SpaceTable]) -> io::Result<()> {
+        if !spaces.iter().any(|space| self.is_wanted(space.space)) {
+            self.lacks = true;
+            return Err(io::Error::from(io::ErrorKind::NotFound));
+        }
+        make_folders(self.rt, self.folder)?;
+        self.lock = Some(lock_folder(self.rt, self.folder, self.has_lock())?);
+        for space in spaces {
+            if self.is_wanted(space.space) {
+                self.check_free(space.space)?;
+            }
+        }
+        Ok(())
+    }
+
+    fn begin(&mut self, space: SpaceId) -> io::Result<Option<HoleFile>> {
+        if !self.is_wanted(space) {
+            return Ok(None);
+        }
+        let part = part_name(self.alloc, self.folder, space)?;
+        self.begun.push(space)?;
+        Ok(Some(HoleFile::new(make_part(self.rt, &part)?, self.limit)))
+    }
+
+    fn finish(&mut self, _space: SpaceId, file: HoleFile) -> io::Result<()> {
+        file.finish()
+    }
+}
+
+/// Writes the files of a store, with these notes of threads.
+fn write_some<D: Disk, R: Files<File = File>>(
+    disk: &mut D,
+    threads: &[u8],
+    export: &mut Export<'_, '_, R>,
+) -> Result<(), WriteError> {
+    match export.checkpoint {
+        Some(number) => write_shown_at(export.alloc, disk, number, threads, export)?,
+        None => {
+            write_shown(export.alloc, disk, threads, export)?;
+        }
+    }
+    Ok(())
+}
+
+/// Writes the files of a store whose images stay the same meanwhile, with these notes of threads.
+fn write_files<D: Disk, R: Files<File = File>>(
+    disk: &mut D,
+    threads: &[u8],
+    export: &mut Export<'_, '_, R>,
+) -> Result<(), WriteError> {
+    let before = fronts(export.alloc, disk)?;
+    write_some(disk, threads, export)?;
+    if fronts(export.alloc, disk)? != before {
+        return Err(WriteError::Fault(Fault::Device));
+    }
+    export.name_all()?;
+    Ok(())
+}
+
+/// A store that was exported, and how that ended.
+type Exported = (DirDisk, Result<(), WriteError>);
+
+/// The fault of the store with which an export ended, if it did.
+fn fault_of(ended: &Result<(), WriteError>) -> Option<Fault> {
+    match ended {
+        Err(WriteError::Fault(fault)) => Some(*fault),
+        _ => None,
+    }
+}
+
+/// Writes the files of a store once, as if nothing was tried before. Where that fails, those that were begun are taken
+/// away.
+fn export_once(
+    called: Called<'_>,
+    seen: Seen<'_>,
+    threads: &[u8],
+    export: &mut Export<'_, '_, HostRuntime>,
+) -> Result<Exported, Stop> {
+    export.begin_anew();
+    let mut disk = seen.disk("export", called.open_store()?);
+    let ended = write_files(&mut disk, threads, export);
+    if ended.is_err() {
+        export.remove_all();
+    }
+    Ok((unseen(disk), ended))
+}
+
+/// Writes the files of a store that a run is writing: again where that came between.
+fn export_beside<R: Clock + Wait>(
+    called: Called<'_>,
+    clock: &R,
+    seen: Seen<'_>,
+    threads: &[u8],
+    export: &mut Export<'_, '_, HostRuntime>,
+) -> Result<Exported, Stop> {
+    for pause in PAUSES {
+        let (disk, ended) = export_once(called, seen, threads, export)?;
+        if !may_change(fault_of(&ended)) {
+            return Ok((disk, ended));
+        }
+        thread::sleep(clock, Duration::from_millis(pause));
+    }
+    export_once(called, seen, threads, export)
+}
+
+/// Reports why files weren't written, and how many of them have their names all the same.
+fn tell_error<R: Eprint>(called: Called<'_>, export: &Export<'_, '_, R>, error: &io::Error) {
+    let advice = match error.kind() {
+        io::ErrorKind::NotADirectory => IS_NO_FOLDER,
+        _ => "",
+    };
+    let cause = error;
+    tell(
+        export.rt,
+        called.causes,
+        export.folder,
+        &Advised { cause, advice },
+    );
+    if export.named > 0 {
+        let left = Left {
+            named: export.named,
+            of: export.begun.len(),
+        };
+        tell(export.rt, called.causes, export.folder, &left);
+    }
+}
+
+/// How the program ends, and a line of why no file was made where the store isn't at fault.
+fn ended_with<R: Eprint, W: Write>(
+    called: Called<'_>,
+    export: &Export<'_, '_, R>,
+    ended: Result<(), WriteError>,
+    out: &mut Output<W>,
+) -> Result<(), Stop> {
+    match ended {
+        Ok(()) => Ok(()),
+        Err(WriteError::Fault(fault)) => Err(Stop::Fault(fault)),
+        Err(WriteError::File(_)) if export.lacks => Err(Stop::Order(Refusal::NoSuchSpace)),
+        Err(WriteError::File(error)) => {
+            tell_error(called, export, &error);
+            out.write_all(b"cannot write OUT\n")?;
+            Err(Stop::Refused)
+        }
+    }
+}
+
+/// What an export is asked for.
+#[derive(Clone, Copy)]
+pub struct ExportAsked<'a> {
+    /// The folder of the core files.
+    pub folder: &'a str,
+    /// The core whose notes are copied.
+    pub notes: Option<&'a str>,
+    /// The checkpoint that is written, in place of the newest.
+    pub checkpoint: Option<u64>,
+    /// The one space that is written.
+    pub space: Option<u64>,
+    /// Whether files that are there are replaced.
+    pub replaces: bool,
+}
+
+/// The export that is asked for, of which no file is begun.
+fn export_of<'a>(called: Called<'a>, asked: ExportAsked<'a>) -> Export<'a, 'a, HostRuntime> {
+    let rt = called.rt;
+    Export {
+        rt,
+        alloc: rt.alloc(),
+        folder: asked.folder,
+        store: called.folder,
+        limit: FileLimit::of_process(rt),
+        checkpoint: asked.checkpoint,
+        wanted: asked.space,
+        lacks: false,
+        replaces: asked.replaces,
+        lock: None,
+        begun: Vec::new(rt.alloc()),
+        named: 0,
+    }
+}
+
+/// Reports that a run may have disturbed an export, where one was writing the store as it began, or is now.
+fn tell_export_beside(called: Called<'_>, is_beside: bool) {
+    if is_beside {
+        called.tell(&BESIDE);
+    } else {
+        called.tell_beside();
+    }
+}
+
+/// `ckpt export`: it only reads the store.
+///
+/// # Errors
+///
+/// Those of a folder that isn't opened, and of a core whose notes aren't read.
+pub fn export_program<R: Clock + Wait, W: Write>(
+    called: Called<'_>,
+    clock: &R,
+    asked: ExportAsked<'_>,
+    out: &mut Output<W>,
+) -> Result<u8, Stop> {
+    let threads = threads_of(called.rt, called.causes, asked.notes, out)?;
+    let log = called.logger();
+    let seen = called.seen(&log, called.is_watched());
+    let mut export = export_of(called, asked);
+    let is_beside = called.is_beside();
+    let (disk, ended) = if is_beside {
+        export_beside(called, clock, seen, &threads, &mut export)?
+    } else {
+        export_once(called, seen, &threads, &mut export)?
+    };
+    called.tell_device(&disk);
+    if may_change(fault_of(&ended)) {
+        tell_export_beside(called, is_beside);
+    }
+    if let (Some(number), Some(Fault::EmptyChain)) = (export.checkpoint, fault_of(&ended)) {
+        let status = told_not_there(number, out);
+        called.tell_numbers(disk);
+        return Ok(status);
+    }
+    if let (Ok(()), Some(name)) = (&ended, asked.notes) {
+        let taken = format_args!("the threads and the mapped files are those of {name}");
+        tell(called.rt, called.causes, export.folder, &taken);
+    }
+    Ok(exit(&ended_with(called, &export, ended, out), out))
+}

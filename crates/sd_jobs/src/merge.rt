@@ -1,0 +1,39 @@
+//! `ckpt merge`: the chain of the newest checkpoint.
+
+use sd_exit::{Output, Stop};
+use sd_program::{Called, FewSlots, Inputs};
+use sd_run::merge_to;
+use sd_watching::{CountsAsked, Course, Session};
+use std::io::Write;
+use std::sync::Wait;
+use std::time::Clock;
+
+/// What is told of a merge of a store without a checkpoint.
+const NOTHING_TO_MERGE: &str = "it shows no checkpoint, so there is nothing to merge";
+
+/// `ckpt merge`.
+///
+/// # Errors
+///
+/// Those of a store that isn't opened.
+pub fn merge_program<R: Clock + Wait, W: Write>(
+    called: Called<'_>,
+    clock: &R,
+    counts: CountsAsked<'_>,
+    out: &mut Output<W>,
+) -> Result<u8, Stop> {
+    let session = Session::new(called);
+    let course = Course::none(called.rt);
+    let (disk, mut watch) = session.open(clock, counts, Inputs::NONE, course, out)?;
+    let (disk, status) = merge_to(called.rt.alloc(), disk, out, &mut watch);
+    let few = watch.course().few();
+    let was_idle = watch.course().was_idle();
+    let status = session.close(disk, watch, status);
+    if let Some(few) = few {
+        called.tell_few(FewSlots::of_merge(few.free));
+    }
+    if was_idle {
+        called.tell(&NOTHING_TO_MERGE);
+    }
+    Ok(status)
+}

@@ -1,0 +1,74 @@
+//! When a line of progress is written, and how far something is.
+
+use std::fmt;
+use std::time::{Clock, Duration, Instant};
+
+/// How many seconds a job takes before it is shown, and before its line is written anew.
+const PAUSE_SECS: u64 = 1;
+
+/// Goes to the start of a terminal's line, and clears it.
+pub const CLEAR: &str = "\r\x1b[K";
+
+/// How much of something is done.
+#[derive(Clone, Copy)]
+pub struct Done {
+    pub done: u128,
+    pub of: u128,
+    /// How long it took.
+    pub took: Duration,
+}
+
+impl Done {
+    /// How much of a hundred is done, less than a hundred before the end.
+    pub fn percent(self) -> u128 {
+        let hundredfold = self.done.saturating_mul(100);
+        hundredfold.checked_div(self.of).unwrap_or(0).min(100)
+    }
+
+    /// How many seconds are left, if the rest goes on as fast.
+    pub fn secs_left(self) -> u128 {
+        let rest = self.of.saturating_sub(self.done);
+        let millis = self.took.as_millis().saturating_mul(rest);
+        millis.checked_div(self.done).unwrap_or(0) / 1000
+    }
+}
+
+impl fmt::Display for Done {
+    fn fmt<W: fmt::Write>(&self, f: &mut fmt::Formatter<W>) -> fmt::Result {
+        write!(f, "{} %", self.percent())?;
+        if self.done > 0 {
+            write!(f, ", {} s left", self.secs_left())?;
+        }
+        Ok(())
+    }
+}
+
+/// When a line is to be written: a second after the beginning, and then each second.
+#[derive(Clone, Copy)]
+pub struct Pace {
+    begun: Option<Instant>,
+    last: Option<Instant>,
+}
+
+impl Pace {
+    /// Nothing has begun.
+    pub const IDLE: Pace = Pace {
+        begun: None,
+        last: None,
+    };
+
+    /// How long it took so far, where a line is due. The first call is the beginning.
+    pub fn due<R: Clock>(&mut self, clock: &R) -> Option<Duration> {
+        let now = Instant::now(clock).ok()?;
+        let (Some(begun), Some(last)) = (self.begun, self.last) else {
+            self.begun = Some(now);
+            self.last = Some(now);
+            return None;
+        };
+        if now.duration_since(last) < Duration::from_secs(PAUSE_SECS) {
+            return None;
+        }
+        self.last = Some(now);
+        Some(now.duration_since(begun))
+    }
+}

@@ -1,0 +1,276 @@
+//! What is asked of a store that is only read, and its answer.
+ghost use Rattle.std.specs.Prelude.{◌≡◌, false};
+ghost use Rattle.sd_disk.specs.Reads.{OnlyReads};
+ghost use Rattle.sd_readers.specs.declared.steady.Reader.{Reader};
+ghost use Rattle.sd_readers.specs.Reading.{ReaderEnds};
+ghost use Rattle.sd_queries.specs.declared.queries.Query.TheVariants as query;
+
+use crate::difference::{Compared, print_compared};
+use sd_disk::Disk;
+use sd_exit::{Output, Stop, exit, exit_told};
+use sd_history::{History, history_json, history_of, history_text};
+use sd_json::{Document, document_text, fault_text, lacks_text};
+use sd_program::{NOT_THERE, told_not_there};
+use sd_readers::{
+    Reader, ReaderAt, fronts, list_to, print_at, print_verdict, restore_to, verify_to,
+};
+use sd_restore::{Fault, Report, scan, verify};
+use std::alloc::{AllocError, Global};
+use std::io::Write;
+
+/// What is asked of a store.
+#[derive(Clone, Copy)]
+pub enum Query {
+    /// What a program prints of the newest checkpoint.
+    Newest(Reader),
+    /// What a program prints of the checkpoint with this number.
+    At(ReaderAt, u64),
+    /// Whether the newest checkpoint has this number or a greater one.
+    AtLeast(u64),
+    /// Which checkpoints can be restored, as lines.
+    History,
+    /// The same as one JSON document.
+    HistoryDocument,
+    /// What differs between two checkpoints.
+    Difference(Compared),
+    /// Another document.
+    Document(Document),
+}
+
+/// What is done with a store by a program that reads it.
+fn deed_of(reader: Reader) -> &'static str {
+    match reader {
+        Reader::Restore => "restore",
+        Reader::List => "list",
+        Reader::Verify => "verify",
+    }
+}
+
+/// What is done with a store by a program that reads a checkpoint of it.
+fn deed_at(reader: ReaderAt) -> &'static str {
+    match reader {
+        ReaderAt::Restore => "restore",
+        ReaderAt::Verify => "verify",
+    }
+}
+
+impl Query {
+    /// What is done with the store.
+    pub fn deed(self) -> &'static str {
+        match self {
+            Query::Newest(reader) | Query::Document(Document::Newest(reader)) => deed_of(reader),
+            Query::At(reader, _) | Query::Document(Document::At(reader, _)) => deed_at(reader),
+            Query::AtLeast(_) => "verify",
+            Query::History | Query::HistoryDocument => "history",
+            Query::Difference(_) => "diff",
+        }
+    }
+
+    /// Whether it is reported which checkpoints there are, where the one that is asked for isn't.
+    pub fn names_one(self) -> bool {
+        match self {
+            Query::At(_, _) | Query::Document(Document::At(_, _)) => true,
+            Query::Difference(compared) => !compared.is_document,
+            _ => false,
+        }
+    }
+
+    /// Whether the answer is one JSON document, which has a fault too.
+    pub fn is_document(self) -> bool
+        ensures newest { (reader : Reader) → self ≡ query.Newest reader → result ≡ false }
+    {
+        match self {
+            Query::HistoryDocument | Query::Document(_) => true,
+            Query::Difference(compared) => compared.is_document,
+            _ => false,
+        }
+    }
+
+    /// Prints what is asked of a store, or why there is no answer, flushes, and returns the exit status.
+    pub fn answer<D: Disk, W: Write>(self, alloc: Global, disk: &mut D, out: &mut Output<W>) -> u8
+        ensures newest { (reader : Reader) → self ≡ query.Newest reader
+            → ReaderEnds reader (D.is_honest disk.new) (D.contents disk.old)
+            (D.failed disk.old) (D.failed disk.new) (W.contents out.old.writer)
+            (W.contents out.new.writer) out.new.refused result }
+        ensures reads { (reader : Reader) → self ≡ query.Newest reader → OnlyReads D.Disk disk.old disk.new }
+    {
+        match self {
+            Query::Newest(reader) => read_to(alloc, reader, disk, out),
+            Query::At(reader, number) => print_one(alloc, reader, disk, number, out),
+            Query::AtLeast(least) => exit(&print_at_least(alloc, disk, least, out), out),
+            Query::History => exit(&print_history(alloc, disk, false, out), out),
+            Query::HistoryDocument => {
+                let ended = print_history(alloc, disk, true, out);
+                end_document(alloc, ended, out)
+            }
+            Query::Difference(compared) => print_compared(alloc, compared, disk, out),
+            Query::Document(document) => print_other(alloc, document, disk, out),
+        }
+    }
+}
+
+/// Reads a store, and prints what it shows.
+fn read_to<D: Disk, W: Write>(
+    alloc: Global,
+    reader: Reader,
+    disk: &mut D,
+    out: &mut Output<W>,
+) -> u8
+    ensures answers { ReaderEnds reader (D.is_honest disk.new) (D.contents disk.old)
+        (D.failed disk.old) (D.failed disk.new) (W.contents out.old.writer)
+        (W.contents out.new.writer) out.new.refused result }
+    ensures reads { OnlyReads D.Disk disk.old disk.new }
+{
+    match reader {
+        Reader::Restore => restore_to(alloc, disk, out),
+        Reader::List => list_to(alloc, disk, out),
+        Reader::Verify => verify_to(alloc, disk, out),
+    }
+}
+
+/// The fault of the store with which an answer ended, if it did.
+fn fault_of(ended: &Result<(), Stop>) -> Option<Fault> {
+    match ended {
+        Err(Stop::Fault(fault)) => Some(*fault),
+        _ => None,
+    }
+}
+
+/// The exit status of an answer, or of why there is none, which is printed then.
+pub fn status_or<W: Write>(ended: Result<u8, Stop>, out: &mut Output<W>) -> u8 {
+    match ended {
+        Ok(status) => status,
+        Err(stop) => exit(&Err(stop), out),
+    }
+}
+
+/// Prints what a program prints of one checkpoint, or that there is none.
+fn print_one<D: Disk, W: Write>(
+    alloc: Global,
+    reader: ReaderAt,
+    disk: &mut D,
+    number: u64,
+    out: &mut Output<W>,
+) -> u8 {
+    let ended = print_at(alloc, reader, disk, number, out);
+    match fault_of(&ended) {
+        Some(Fault::EmptyChain) => told_not_there(number, out),
+        _ => exit(&ended, out),
+    }
+}
+
+/// Ends a document: where a fault kept it from being printed, that of the fault stands in its place.
+fn end_document<W: Write>(alloc: Global, ended: Result<(), Stop>, out: &mut Output<W>) -> u8 {
+    match fault_of(&ended) {
+        Some(fault) => status_or(print_fault(alloc, fault, out), out),
+        None => exit(&ended, out),
+    }
+}
+
+/// Prints the document of a fault, and returns the exit status that the fault's line has.
+pub fn print_fault<W: Write>(alloc: Global, fault: Fault, out: &mut Output<W>) -> Result<u8, Stop> {
+    writeln!(out, "{}", fault_text(alloc, &fault)?)?;
+    Ok(exit_told(fault, out))
+}
+
+/// Prints a document of a store on one line.
+fn print_document<D: Disk, W: Write>(
+    alloc: Global,
+    document: Document,
+    disk: &mut D,
+    out: &mut Output<W>,
+) -> Result<(), Stop> {
+    writeln!(out, "{}", document_text(alloc, document, disk)?)?;
+    Ok(())
+}
+
+/// Prints another document of a store, or that of why there is none.
+fn print_other<D: Disk, W: Write>(
+    alloc: Global,
+    document: Document,
+    disk: &mut D,
+    out: &mut Output<W>,
+) -> u8 {
+    let ended = print_document(alloc, document, disk, out);
+    match (document, fault_of(&ended)) {
+        (Document::At(_, number), Some(Fault::EmptyChain)) => {
+            status_or(lacks_printed(alloc, number, out), out)
+        }
+        _ => end_document(alloc, ended, out),
+    }
+}
+
+/// Prints the document of a store without an image of a checkpoint, and returns the exit status.
+pub fn lacks_printed<W: Write>(
+    alloc: Global,
+    number: u64,
+    out: &mut Output<W>,
+) -> Result<u8, Stop> {
+    writeln!(out, "{}", lacks_text(alloc, number)?)?;
+    Ok(out.finish(NOT_THERE))
+}
+
+/// The history of a store that is read once.
+fn read_history<D: Disk>(alloc: Global, disk: &mut D) -> Result<History, Fault> {
+    let catalog = scan(alloc, disk)?;
+    Ok(history_of(alloc, &catalog)?)
+}
+
+/// The history of a store, of one moment.
+fn steady_history<D: Disk>(alloc: Global, disk: &mut D) -> Result<History, Fault> {
+    let before = fronts(alloc, disk)?;
+    let history = read_history(alloc, disk)?;
+    if fronts(alloc, disk)? == before {
+        Ok(history)
+    } else {
+        Err(Fault::Device)
+    }
+}
+
+/// A history as text, or as a document.
+fn text_of(alloc: Global, history: &History, is_document: bool) -> Result<String, AllocError> {
+    if is_document {
+        history_json(alloc, history)
+    } else {
+        history_text(alloc, history)
+    }
+}
+
+/// Prints the history of a store.
+fn print_history<D: Disk, W: Write>(
+    alloc: Global,
+    disk: &mut D,
+    is_document: bool,
+    out: &mut Output<W>,
+) -> Result<(), Stop> {
+    let history = steady_history(alloc, disk)?;
+    let text = text_of(alloc, &history, is_document)?;
+    out.write_all(text.as_bytes())?;
+    Ok(())
+}
+
+/// What `verify` finds in a store, of one moment.
+fn steady_report<D: Disk>(alloc: Global, disk: &mut D) -> Result<Report, Fault> {
+    let before = fronts(alloc, disk)?;
+    let report = verify(alloc, disk)?;
+    if fronts(alloc, disk)? == before {
+        Ok(report)
+    } else {
+        Err(Fault::Device)
+    }
+}
+
+/// Prints what `verify` prints. It is refused where the newest checkpoint is below a number, or there is none.
+fn print_at_least<D: Disk, W: Write>(
+    alloc: Global,
+    disk: &mut D,
+    least: u64,
+    out: &mut Output<W>,
+) -> Result<(), Stop> {
+    let report = steady_report(alloc, disk)?;
+    print_verdict(report, out)?;
+    match report.checkpoint {
+        Some(newest) if newest >= least => Ok(()),
+        _ => Err(Stop::Refused),
+    }
+}

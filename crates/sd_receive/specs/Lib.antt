@@ -1,0 +1,2 @@
+pub mod PlanRuns
+pub mod Arriving

@@ -1,4 +1,0 @@
-use Rattle.sd_shared.proofs.shared.Shared.take_up_dumper.Goals as goal
-
-pub returns : goal.returns
-returns g c = record { turn = (c.deref_mut.result.now, c.take_up_dumper-next.new.self, c.take_up_dumper-next.ensures.either) }

@@ -1,0 +1,10 @@
+//! The program `shell`: requests from the standard input, one by one, over a store.
+#![tactic(auto)]
+
+mod asking;
+mod bulk;
+mod explained;
+mod requests;
+mod shell;
+
+pub use shell::shell_program;
