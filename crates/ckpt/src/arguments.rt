@@ -240,3 +240,10 @@ pub const NEW: Item = Item {
     help: "The checkpoint to which they lead",
     ..OLD
 };
+
+/// The checkpoint that the receiver has.
+pub const SINCE: Item = Item {
+    name: "since",
+    help: "The checkpoint that the receiver shows, which the images that are sent continue; without it all are sent",
+    ..CHECKPOINT
+};

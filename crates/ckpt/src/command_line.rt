@@ -2,12 +2,12 @@
 
 use crate::arguments::{
     AT_LEAST, CHECK, CHECKPOINT, CORES, DIR, DIR_TO_RUN, FORCE, FORCE_DROP, Form, Item, JSON, NEW,
-    NOTES, Numbers, OLD, ONE_SPACE, OUT, QUIET, RESTORES, ROUNDS, SCRIPT, SLOT, SLOT_TO_DROP,
-    SPACE, STATS, STRICT, SUMMARY, THREADS, VERBOSE,
+    NOTES, Numbers, OLD, ONE_SPACE, OUT, QUIET, RESTORES, ROUNDS, SCRIPT, SINCE, SLOT,
+    SLOT_TO_DROP, SPACE, STATS, STRICT, SUMMARY, THREADS, VERBOSE,
 };
 use crate::help::{
     DIFF, DROP, EXPORT, HISTORY, IMPORT, LIMITS, LIST, MERGE, MUTATE, RESTORE, RUN_HEAD, RUN_TAIL,
-    SHELL, SHOW, VERIFY,
+    SEND, SHELL, SHOW, VERIFY,
 };
 use clap::builder::ValueParser;
 use clap::{Arg, ArgAction, ArgMatches, Command};
@@ -34,6 +34,7 @@ pub enum Work {
     Show,
     Export,
     Import,
+    Send,
 }
 
 /// One of the programs.
@@ -48,7 +49,7 @@ struct Program {
 }
 
 /// The programs, in the order of the help.
-const PROGRAMS: [Program; 13] = [
+const PROGRAMS: [Program; 14] = [
     Program {
         name: "run",
         work: Work::Run,
@@ -143,6 +144,13 @@ const PROGRAMS: [Program; 13] = [
         about: "Makes the memory of ELF core files that of a space, one after the other, and a checkpoint of each",
         items: &[DIR, CORES, SPACE, ROUNDS, STATS, SUMMARY, QUIET, VERBOSE],
         behind: Some(IMPORT),
+    },
+    Program {
+        name: "send",
+        work: Work::Send,
+        about: "Writes the images of a folder's store as a stream, which receive reads",
+        items: &[DIR, SINCE, QUIET, VERBOSE],
+        behind: Some(SEND),
     },
 ];
 

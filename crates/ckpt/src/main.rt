@@ -17,6 +17,7 @@ use sd_program::{Called, Causes, tell};
 use sd_queries::{drop_program, reader_program, show_program, tell_damage, tell_empty};
 use sd_readers::Reader;
 use sd_restore::Fault;
+use sd_send::send_program;
 use sd_shell::shell_program;
 use std::io;
 use std::io::{BufWriter, Write};
@@ -56,6 +57,7 @@ fn read_by<R: Clock + Wait, W: Write>(
             words.get_flag("force"),
             out,
         ),
+        Work::Send => send_program(called, words.get_one::<u64>("since"), out),
         _ => export_program(called, clock, export_asked(words), out),
     }
 }
