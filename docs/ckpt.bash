@@ -3,7 +3,7 @@
 _ckpt() {
   local word=${COMP_WORDS[COMP_CWORD]} program=${COMP_WORDS[1]} options=
   if [ "$COMP_CWORD" -eq 1 ]; then
-    mapfile -t COMPREPLY < <(compgen -W "run shell merge mutate restore list verify history diff drop show export import help --help --version" -- "$word")
+    mapfile -t COMPREPLY < <(compgen -W "run shell merge mutate restore list verify history diff drop show export import send help --help --version" -- "$word")
     return
   fi
   case $program in
@@ -13,9 +13,10 @@ _ckpt() {
     verify) options="--checkpoint --at-least --json --quiet --verbose --help" ;;
     export) options="--checkpoint --force --notes --space --quiet --verbose --help" ;;
     drop) options="--force --quiet --verbose --help" ;;
+    send) options="--since --quiet --verbose --help" ;;
     import) options="--rounds --space --stats --summary --quiet --verbose --help" ;;
     merge) options="--stats --summary --quiet --verbose --help" ;;
-    help) options="run shell merge mutate restore list verify history diff drop show export import" ;;
+    help) options="run shell merge mutate restore list verify history diff drop show export import send" ;;
     *) options="--quiet --verbose --help" ;;
   esac
   case ${COMP_WORDS[COMP_CWORD - 1]} in
@@ -23,7 +24,7 @@ _ckpt() {
       mapfile -t COMPREPLY < <(compgen -f -- "$word")
       return
       ;;
-    --checkpoint | --at-least | --space | --rounds)
+    --checkpoint | --at-least | --since | --space | --rounds)
       COMPREPLY=()
       return
       ;;

@@ -49,7 +49,7 @@ completion_offers_programs_options_and_folders() {
   for program in $(cat programs); do
     has "the programs" " $(offered "") " " $program " || return 1
   done
-  for program in run shell merge mutate restore list verify history diff drop show export import; do
+  for program in run shell merge mutate restore list verify history diff drop show export import send; do
     same "the options of $program" "$(offered "$program" -- | tr ' ' '\n' | sort)" "$(options_of "$program")" \
       || return 1
   done
@@ -63,7 +63,7 @@ completion_offers_nothing_for_numbers() {
   local words
   mkdir 1
   for words in "diff stores" "drop stores" "show --json stores" "mutate stores" "restore --checkpoint" \
-    "verify --at-least" "export --space" "import --rounds"; do
+    "verify --at-least" "export --space" "import --rounds" "send --since"; do
     same "$words" "$(offered $words "")" "" || return 1
   done
 }

@@ -56,7 +56,7 @@ folder_that_is_no_text() {
 
 help_has_examples_and_statuses() {
   local program
-  for program in run shell merge mutate restore list verify history diff drop show export import; do
+  for program in run shell merge mutate restore list verify history diff drop show export import send; do
     "$ckpt" $program --help > out || return 1
     has "$program" "$(cat out)" "ckpt $program store" || return 1
     has "$program" "$(cat out)" "Status: 0" || return 1

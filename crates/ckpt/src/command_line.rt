@@ -148,7 +148,7 @@ const PROGRAMS: [Program; 14] = [
     Program {
         name: "send",
         work: Work::Send,
-        about: "Writes the images of a folder's store as a stream, which receive reads",
+        about: "Writes the images of the newest checkpoint of a folder's store as a stream",
         items: &[DIR, SINCE, QUIET, VERBOSE],
         behind: Some(SEND),
     },

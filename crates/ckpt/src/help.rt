@@ -220,15 +220,14 @@ failed at the checkpoint's last step or acked N wasn't printed: verify tells the
 Only one of run, shell, merge, mutate, import and drop can have a store open at a time.";
 
 pub const SEND: &str = "Example:
-  ckpt send store | ssh host ckpt receive copy
-  ckpt send --since 5 store | ssh host ckpt receive copy
+  ckpt send store > stream
+  ckpt send --since 5 store > stream
 
 Writes the images of the newest checkpoint as a stream, parents first, with the number of each
 checkpoint after its last image, and at the end the SHA-256 of all of it; docs/FORMATS.md has its
 bytes. With --since N the images that lead from checkpoint N to the newest, for a receiver that
-shows N: ckpt receive --tip says which that is. It never writes into DIR. When all is sent, standard
-error has sent COUNT images BYTES bytes. Beside a run it fails where an image that it sends is
-closed meanwhile; the receiver keeps what was acknowledged before.
+has N. It never writes into DIR. When all is sent, standard error has sent COUNT images BYTES
+bytes. Beside a run it fails where an image that it sends is closed meanwhile.
 
 Status: 0 where all was sent; 3 where the store shows no checkpoint, or has no image of checkpoint
 N; 1 where the store, its device, memory or the writing failed, DIR isn't opened, or the standard

@@ -1,16 +1,21 @@
 -- The images of a stream, and the checkpoints that they make.
-use Rattle.std.proofs.Common.{◌≡◌, ℕ, ◌+◌, ◌<◌, List, [], ◌∷◌, ◌++◌, length, drop, map, slice_index_or, Option, None, Some, Bor, refl, sym, ap, ◌∙◌, subst, append_assoc, append-nil}
+use Rattle.std.proofs.Common.{◌≡◌, ℕ, ◌+◌, ◌-◌, ◌<◌, List, [], ◌∷◌, ◌++◌, length, take, drop, map, get_or, Option, Some, refl, sym, ap, ◌∙◌, subst, append_assoc, append-nil, arith}
+use Rattle.std.specs.Prelude.{slice_range}
+use Rattle.std.proofs.Math.Seq.{take-add}
+use Rattle.std.proofs.lemmas.List.{drop_more, get_or-map, length-map}
 use Rattle.std.specs.Io.KnownBytes.{Appends}
 use Rattle.sd_disk.specs.Contents.{file_at}
 use Rattle.sd_image.specs.declared.header.Kind.{Kind}
 use Rattle.sd_image.specs.declared.header.Kind.TheVariants.{PreDump, Dump, Merged}
-use Rattle.sd_chain.specs.Catalog.{Opened}
+use Rattle.sd_chain.specs.Catalog.{Opened, Places}
+use Rattle.sd_chain.specs.Store.{IsCatalogOf}
+use Rattle.sd_stream.specs.declared.base.Base.{Base}
 use Rattle.sd_stream.specs.declared.writer.StreamWriter.{StreamWriter}
-use Rattle.sd_stream.specs.Progress.{Progress, files_of}
-use Rattle.sd_stream.specs.Stream.{Group}
+use Rattle.sd_stream.specs.Progress.{Progress, files_of, started}
+use Rattle.sd_stream.specs.Stream.{IsStream, stream_text}
 use Rattle.sd_stream.specs.Writing.{HasWritten}
-use Rattle.sd_send.specs.Sent.{closes, grouped}
-use Rattle.sd_send.specs.Sending.{HasSent, with_file, with_kind, with_opened}
+use Rattle.sd_send.specs.Sent.{AreSince, IsBaseAt, IsStop, closes, grouped}
+use Rattle.sd_send.specs.Sending.{HasSent, SendsStream, with_file, with_kind, with_opened}
 
 -- an image more: its checkpoint is the next of those that were left, or its file is the first of the next one
 one_more : (kind : Kind) (q : Progress) (file : List ℕ) (number : ℕ) (contents : List (List ℕ)) (left : List Opened)
@@ -37,3 +42,39 @@ module _ {W : Type 0} (text : W → Option (List ℕ)) (before : Option (List �
     base = same_base i.header.kind (with_file sent.now (file_at contents i.slot)) i.header.checkpoint ∙ sent.base;
     groups = one_more i.header.kind sent.now (file_at contents i.slot) i.header.checkpoint contents left ∙ sent.groups;
   }
+
+  -- what is left after the images so far
+  pub next_left : {X : Type 0} (f : X → Opened) (xs : List X) (k : ℕ) (x : X) → k < length xs → x ≡ get_or xs k x → drop k (map f xs) ≡ f x ∷ drop (k + 1) (map f xs)
+  next_left f xs k x within is = drop_more (map f xs) k (f x) (let e = length-map f xs in omega (arith, e, within))
+      ∙ ap (λ y. y ∷ drop (k + 1) (map f xs)) (get_or-map f xs k x (f x) within ∙ ap f (sym is))
+
+  pub stream_of : (after : Option (List ℕ)) (since : Option ℕ) (places : Places) (stop : Option ℕ) (found : List Opened) (base : Option Base) (writer : StreamWriter W)
+      → p ≡ started base → IsBaseAt contents since base → IsCatalogOf contents places → IsStop places since stop → AreSince places stop found → HasSent text before p contents found [] writer
+      → ((q : Progress) → HasWritten text before q writer → Appends before after (stream_text q.base q.groups) × IsStream q.base q.groups) → SendsStream contents since before after
+  stream_of after since places stop found base writer begins at_base catalog stops reaches sent ended =
+      let whole = ended sent.now sent.written in
+      let same : sent.now.base ≡ base = sent.base ∙ ap (λ (q : Progress). q.base) begins in
+      let groups : sent.now.groups ≡ grouped contents [] found = sym (append-nil sent.now.groups) ∙ sent.groups ∙ ap (λ (q : Progress). q.groups ++ grouped contents (files_of q) found) begins in
+      record {
+        base = sent.now.base;
+        groups = sent.now.groups;
+        sent = record {
+          continues = subst (λ b. IsBaseAt contents since b) (sym same) at_base;
+          places = places;
+          catalog = catalog;
+          stop = stop;
+          stops = stops;
+          found = found;
+          reaches = reaches;
+          checkpoints = groups;
+        };
+        order = whole.1;
+        written = whole.0;
+      }
+
+-- a piece more of a file
+pub piece_more : (file : List ℕ) (done count : ℕ) → take done file ++ slice_range file done (done + count) ≡ take (done + count) file
+piece_more file done count = ap (λ k. take done file ++ take k (drop done file)) (let e : done + count - done ≡ count = omega arith in e) ∙ sym (take-add done count file)
+
+pub appended : (before after text : List ℕ) → before ≡ [] → Appends (Some before) (Some after) text → after ≡ text
+appended before after text none is = is ∙ ap (λ xs. xs ++ text) none

@@ -1,5 +1,5 @@
 -- What is sent of a store: the images of its newest checkpoint that the base doesn't have.
-use Rattle.std.specs.Prelude.{◌≡◌, ◌⊎◌, ℕ, ◌<◌, ⊥, List, [], ◌∷◌, ◌++◌, Option, None, Some, All, MatchOption}
+use Rattle.std.specs.Prelude.{◌≡◌, ◌⊎◌, ℕ, ◌<◌, List, [], ◌∷◌, ◌++◌, Option, None, Some, All, MatchOption}
 use Rattle.sha2.specs.Sha256.{sha256}
 use Rattle.sd_areas.specs.PlainMemory.{PlainMemory}
 use Rattle.sd_disk.specs.Contents.{file_at}
@@ -76,5 +76,5 @@ pub record IsSent (contents : List (List ℕ)) (since : Option ℕ) (base : Opti
   pub stop : Option ℕ
   pub stops : IsStop places since stop
   pub found : List Opened
-  pub since : AreSince places stop found
+  pub reaches : AreSince places stop found
   pub checkpoints : groups ≡ grouped contents [] found
