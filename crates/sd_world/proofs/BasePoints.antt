@@ -11,7 +11,7 @@ use Rattle.sd_gate.specs.declared.worker.Worker.{Worker}
 use Rattle.sd_gate.specs.declared.worker.Worker.TheVariants.{Dumper, Opener}
 use Rattle.sd_journal.specs.declared.entry.Entry.TheVariants.{Applied, Freeze, Acked, Cancelled, Reopened}
 use Rattle.sd_journal.specs.History.{Base, History, at_freeze}
-use Rattle.sd_journal.specs.Legal.{IsLegal}
+use Rattle.sd_journal.specs.Legal.{IsAbove, IsLegal}
 use Rattle.sd_crash_safety.specs.Calls.{running_number}
 use Rattle.sd_crash_safety.specs.Shown.{ShowsAllowed}
 use Rattle.sd_crash_safety.specs.View.{history_of}
@@ -36,11 +36,11 @@ AddsCommand seat command (reply.Refused JournalFull) old new = new ≡ old
 AddsCommand seat command (reply.Refused OutOfMemory) old new = new ≡ old
 AddsCommand seat command answer old new = new ≡ Applied seat command answer ∷ old
 
--- the memory is frozen for the checkpoint that was begun last, whose number no freeze had before
+-- the memory is frozen for the checkpoint that was begun last, whose number is above all
 pub record FreezesAtBase (base : Base) (begun : Option ℕ) (old new : History) : Type 0 where
   pub number : ℕ
   pub last : begun ≡ Some number
-  pub fresh : at_freeze base old number ≡ None
+  pub above : IsAbove base old number
   pub entry : new ≡ Freeze number ∷ old
 
 -- A worker's step, or an outcome that it hands in, adds what its reply tells: the dumper's an acknowledgement, the

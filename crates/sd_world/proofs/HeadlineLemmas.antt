@@ -1,11 +1,13 @@
 -- A step, as it is told by the fold over the journal.
-use Rattle.std.proofs.Common.{◌≡◌, ◌≢◌, ◌⊎◌, ◌==◌, ℕ, ◌<◌, ◌≤◌, Bool, true, false, cond, List, [], ◌∷◌, ◌++◌, Option, MatchOption, Some, None, refl, sym, ◌∙◌, ap, subst, inl, inr, append-nil, append_assoc, arith}
-use Rattle.std.proofs.lemmas.Bool.{eq-eqb, ne_eqb}
+use Rattle.std.proofs.Common.{◌≡◌, ◌≢◌, ◌⊎◌, ◌==◌, ℕ, ◌<◌, ◌≤◌, Bool, true, false, cond, List, [], ◌∷◌, ◌++◌, Option, MatchOption, Some, None, IfSome, refl, sym, ◌∙◌, ap, subst, inl, inr, append-nil, append_assoc, arith}
+use Rattle.std.proofs.Math.Nat.{lt_of_not-le}
+use Rattle.std.proofs.lemmas.Bool.{ne_eqb}
 use Rattle.std.proofs.lemmas.Option.{same_Some}
 use Rattle.std.specs.List.{AllByRecursion}
 use Rattle.std.specs.Option.{option_map}
 use Rattle.sd_areas.specs.PlainMemory.{PlainMemory}
 use Rattle.sd_command.specs.declared.command.Command.{Command}
+use Rattle.sd_command.specs.declared.refusal.Refusal.{Refusal}
 use Rattle.sd_command.specs.declared.refusal.Refusal.TheVariants as refusal
 use Rattle.sd_command.specs.declared.reply.Reply.{Reply}
 use Rattle.sd_command.specs.declared.reply.Reply.TheVariants as reply
@@ -23,7 +25,7 @@ use Rattle.sd_pagetable.specs.declared.access_error.AccessError.{AccessError}
 use Rattle.sd_journal.specs.declared.entry.Entry.TheVariants.{Applied, Freeze, Acked, Cancelled, Reopened}
 use Rattle.sd_journal.specs.Allowed.{IsAllowed, IsLastPair, Shown, shown_number}
 use Rattle.sd_journal.specs.History.{Base, History, at_base, at_freeze, last, memory_after}
-use Rattle.sd_journal.specs.Legal.{IsLegal}
+use Rattle.sd_journal.specs.Legal.{IsAbove, IsLegal}
 use Rattle.sd_journal.specs.Marked.{Marked, entries_of}
 use Rattle.sd_journal.specs.Trimming.{TrimLaws}
 use Rattle.sd_crash_safety.specs.Calls.{AddsByCancel, AddsByOrder, running_number}
@@ -35,7 +37,7 @@ use Rattle.sd_world.specs.Acked.{DoesAck, IsAckedThere}
 use Rattle.sd_world.specs.Adds.{AddsByPerform, AddsByTrim, AddsByWork, AddsToJournal}
 use Rattle.sd_world.specs.Opens.{bare_memory}
 use Rattle.sd_world.specs.Points.{FirstStands, Folds, PointsFollow, StandsAt, first_point}
-use Rattle.sd_world.specs.Promise.{Freezes, IsNewNumber, IsOf, Moves, Point, ShowsAnswer, ShowsTold, told_by}
+use Rattle.sd_world.specs.Promise.{Freezes, IsNextNumber, IsOf, Moves, Point, ShowsAnswer, ShowsTold, told_by}
 use Rattle.sd_world.specs.Runs.{IsStep, ShowsFreeze, ShowsReply}
 use Rattle.sd_world.specs.Steps.{Does}
 use Rattle.sd_world.proofs.BasePoints.{AddsByReply, AddsCancelled, AddsCommand, AddsEntry, BasePoint, Enters, FreezesAtBase, StandsAtBase}
@@ -44,7 +46,7 @@ use Rattle.sd_journal.specs.TellLaws.{Agrees, IsPendingAs, StartsAs}
 use Rattle.sd_world.specs.View.{WorldView}
 use Rattle.sd_journal.proofs.HistoryLemmas.{same}
 use Rattle.sd_world.proofs.FoldLemmas.{legal_back}
-use Rattle.sd_world.proofs.NumberLemmas.{begun_number}
+use Rattle.sd_world.proofs.NumberLemmas.{begun_or, merge_begins_none, reopen_begins_none}
 use Rattle.sd_world.proofs.PromiseLemmas.{enters_follow}
 use Rattle.sd_journal.proofs.TellLemmas.{last_is, tell_laws}
 
@@ -88,26 +90,34 @@ first_stands opened empty idle numbers bare = record {
 
 -- ---- what an event adds
 
--- no freeze of a number that has no memory at its freeze
-not_frozen : (base : Base) (history : History) (n : ℕ) → at_freeze base history n ≡ None → AllByRecursion (λ (entry : Entry). entry ≢ Freeze n) history
-not_frozen base [] n none = tt
-not_frozen base (Applied seat command reply ∷ earlier) n none = (λ e. absurd (let f : Applied seat command reply ≡ Freeze n = e in cc), not_frozen base earlier n none)
-not_frozen base (Acked m ∷ earlier) n none = (λ e. absurd (let f : Acked m ≡ Freeze n = e in cc), not_frozen base earlier n none)
-not_frozen base (Cancelled m ∷ earlier) n none = (λ e. absurd (let f : Cancelled m ≡ Freeze n = e in cc), not_frozen base earlier n none)
-not_frozen base (Reopened m ∷ earlier) n none = (λ e. absurd (let f : Reopened m ≡ Freeze n = e in cc), not_frozen base earlier n none)
-not_frozen base (Freeze m ∷ earlier) n none = by (m == n) refl none (not_frozen base earlier n)
+-- where no freeze has this number or a greater one, each has a lesser one
+some_is_none : {A : Type 0} {fact : Type 0} (a : A) → (let s : Option A = Some a in s ≡ None) → fact
+some_is_none a e = cc
+
+lesser : (base : Base) (history : History) (n : ℕ) → ((k : ℕ) → n ≤ k → at_freeze base history k ≡ None)
+    → AllByRecursion (λ (entry : Entry). (m : ℕ) → entry ≡ Freeze m → m < n) history
+lesser base [] n none = tt
+lesser base (Applied seat command reply ∷ earlier) n none = (λ m e. absurd (let f : Applied seat command reply ≡ Freeze m = e in cc), lesser base earlier n none)
+lesser base (Acked a ∷ earlier) n none = (λ m e. absurd (let f : Acked a ≡ Freeze m = e in cc), lesser base earlier n none)
+lesser base (Cancelled a ∷ earlier) n none = (λ m e. absurd (let f : Cancelled a ≡ Freeze m = e in cc), lesser base earlier n none)
+lesser base (Reopened a ∷ earlier) n none = (λ m e. absurd (let f : Reopened a ≡ Freeze m = e in cc), lesser base earlier n none)
+lesser base (Freeze a ∷ earlier) n none = (λ m e. subst (λ k. k < n) (same_number m e) below, lesser base earlier n (λ k least. rest k (none k least)))
   where
-    some_is_none : {A : Type 0} (a : A) → (let s : Option A = Some a in s ≡ None) → ⊥
-    some_is_none a e = cc
+    same_number : (m : ℕ) → Freeze a ≡ Freeze m → a ≡ m
+    same_number m e = cc
 
-    same_number : Freeze m ≡ Freeze n → m ≡ n
-    same_number e = cc
+    own : at_freeze base (Freeze a ∷ earlier) a ≡ Some (memory_after base earlier)
+    own = rw (same a) refl
 
-    by : (b : Bool) → (m == n) ≡ b → cond b (Some (memory_after base earlier)) (at_freeze base earlier n) ≡ None
-        → (at_freeze base earlier n ≡ None → AllByRecursion (λ (entry : Entry). entry ≢ Freeze n) earlier)
-        → AllByRecursion (λ (entry : Entry). entry ≢ Freeze n) (Freeze m ∷ earlier)
-    by true e h rest = absurd (some_is_none (memory_after base earlier) h)
-    by false e h rest = (λ f. absurd (let g : true ≡ false = sym (eq-eqb m n (same_number f)) ∙ e in cc), rest h)
+    below : a < n
+    below = lt_of_not-le (λ least. some_is_none (memory_after base earlier) (sym own ∙ none a least))
+
+    rest : (k : ℕ) → at_freeze base (Freeze a ∷ earlier) k ≡ None → at_freeze base earlier k ≡ None
+    rest k = by (a == k)
+      where
+        by : (b : Bool) → cond b (Some (memory_after base earlier)) (at_freeze base earlier k) ≡ None → at_freeze base earlier k ≡ None
+        by true e = some_is_none (memory_after base earlier) e
+        by false e = e
 
 -- nor is it the base's
 not_first : (base : Base) (history : History) (n : ℕ) → at_freeze base history n ≡ None → base.number ≡ Some n → ⊥
@@ -131,10 +141,44 @@ not_first base (Freeze m ∷ earlier) n none is = by (m == n) none (λ h. not_fi
     by true h rest = some_is_none (memory_after base earlier) h
     by false h rest = rest h
 
--- so it is new
-new_number : (base : Base) (first : Shown) → base.number ≡ shown_number first → (history : History) (n : ℕ) → at_freeze base history n ≡ None
-    → IsNewNumber n first history
-new_number base first number history n none = (not_frozen base history n none, λ e. not_first base history n none (number ∙ e))
+-- nor is the base's so great
+start_lesser : (base : Base) (start : Shown) → base.number ≡ shown_number start → (n : ℕ) → ((m : ℕ) → base.number ≡ Some m → m < n)
+    → (m : ℕ) (memory : PlainMemory) → start ≡ Some (m, memory) → m < n
+start_lesser base start number n below m memory is = below m (number ∙ ap shown_number is)
+
+next_number : (base : Base) (start : Shown) → base.number ≡ shown_number start → (history : History) (n : ℕ)
+    → ((k : ℕ) → n ≤ k → at_freeze base history k ≡ None) → IsNextNumber n start history
+next_number base start number history n none = (
+  lesser base history n none,
+  start_lesser base start number n (λ m is. lt_of_not-le (λ least. not_first base history m (none m least) is)),
+)
+
+-- so it is of a number above all
+freezes_below : (base : Base) (history : History) (n : ℕ) → IsAbove base history n → AllByRecursion (λ (entry : Entry). (m : ℕ) → entry ≡ Freeze m → m < n) history
+freezes_below base [] n above = tt
+freezes_below base (Applied seat command reply ∷ earlier) n above = (λ m e. absurd (let f : Applied seat command reply ≡ Freeze m = e in cc), freezes_below base earlier n above)
+freezes_below base (Acked a ∷ earlier) n above = (λ m e. absurd (let f : Acked a ≡ Freeze m = e in cc), freezes_below base earlier n above.1)
+freezes_below base (Cancelled a ∷ earlier) n above = (λ m e. absurd (let f : Cancelled a ≡ Freeze m = e in cc), freezes_below base earlier n above.1)
+freezes_below base (Reopened a ∷ earlier) n above = (λ m e. absurd (let f : Reopened a ≡ Freeze m = e in cc), freezes_below base earlier n above.1)
+freezes_below base (Freeze a ∷ earlier) n above = (λ m e. subst (λ k. k < n) (same_number m e) above.0, freezes_below base earlier n above.1)
+  where
+    same_number : (m : ℕ) → Freeze a ≡ Freeze m → a ≡ m
+    same_number m e = cc
+
+base_below : (base : Base) (history : History) (n : ℕ) → IsAbove base history n → IfSome base.number (λ own. own < n)
+base_below base [] n above = above
+base_below base (Applied seat command reply ∷ earlier) n above = base_below base earlier n above
+base_below base (Freeze m ∷ earlier) n above = base_below base earlier n above.1
+base_below base (Acked m ∷ earlier) n above = base_below base earlier n above.1
+base_below base (Cancelled m ∷ earlier) n above = base_below base earlier n above.1
+base_below base (Reopened m ∷ earlier) n above = base_below base earlier n above.1
+
+next_above : (base : Base) (start : Shown) → base.number ≡ shown_number start → (history : History) (n : ℕ) → IsAbove base history n
+    → IsNextNumber n start history
+next_above base start number history n above = (
+  freezes_below base history n above,
+  start_lesser base start number n (λ m is. subst (λ o. IfSome o (λ own. own < n)) is (base_below base history n above)),
+)
 
 told_command : (seat : ℕ) (command : Command) (answer : Reply) (old new : History) → AddsCommand seat command answer old new
     → new ≡ told_by (CommandEvent seat command) answer ++ old
@@ -173,7 +217,7 @@ module _ (base : Base) (begun : Option ℕ) (first : Shown) (number : base.numbe
     worked = refl;
     number = is.1.number;
     last = is.1.last;
-    is_new = new_number base first number old is.1.number is.1.fresh;
+    next = next_above base first number old is.1.number is.1.above;
     entry = is.1.entry;
   })
 
@@ -230,6 +274,7 @@ entries_told Trim answer before after base begun first number old new adds entry
 
 -- a reply that tells of a checkpoint
 abbrev IsOfJob : Reply → Type 0
+IsOfJob (reply.Begun n) = Unit {0}
 IsOfJob (reply.Acked n) = Unit {0}
 IsOfJob (reply.Cancelled n) = Unit {0}
 IsOfJob (reply.Reopened m) = Unit {0}
@@ -263,6 +308,7 @@ no_command base event answer old history legal is e seat command same =
     illegal _ _ command answer is (subst (IsLegal base) entry legal).0
   where
     command_tells : (seat : ℕ) (command : Command) (answer : Reply) → IsOfJob answer → told_by (CommandEvent seat command) answer ≡ Applied seat command answer ∷ []
+    command_tells seat command (reply.Begun n) is = refl
     command_tells seat command (reply.Acked n) is = refl
     command_tells seat command (reply.Cancelled n) is = refl
     command_tells seat command (reply.Reopened m) is = refl
@@ -344,6 +390,21 @@ cancelled_by Merge n one other never adds = absurd adds
 cancelled_by Cancel n one other never adds = refl
 cancelled_by Reopen n one other never adds = absurd adds
 cancelled_by Trim n one other never adds = absurd adds
+
+-- only an order to begin is answered so
+begun_by : {D : Type 0} (g : Ghosts D) (event : Event) (n : ℕ) (old new : WorldView D) → NoCommand event → Does g event old (reply.Begun n) new
+    → AddsToJournal event (reply.Begun n) old.core new.core → (rounds : ℕ) × (event ≡ Begin rounds)
+begun_by g (CommandEvent seat command) n old new never does adds = absurd (never seat command refl)
+begun_by g (Begin rounds) n old new never does adds = (rounds, refl)
+begun_by g (Work worker) n old new never does adds = absurd adds
+begun_by g (TakeUp worker) n old new never does adds = absurd adds
+begun_by g (HandInAt worker place) n old new never does adds = absurd adds
+begun_by g (Perform worker) n old new never does adds = absurd adds
+begun_by g (PerformAt worker place) n old new never does adds = absurd adds
+begun_by g Merge n old new never does adds = absurd (merge_begins_none old.core n new.core does.1)
+begun_by g Cancel n old new never does adds = absurd adds
+begun_by g Reopen n old new never does adds = absurd (reopen_begins_none old.core n new.core does.1)
+begun_by g Trim n old new never does adds = absurd adds
 
 no_worked : (answer : Reply) → IsOfJob answer → answer ≡ reply.Worked → ⊥
 no_worked answer is e = grind arith
@@ -455,16 +516,19 @@ module _ (laws : TrimLaws) {D : Type 0} (g : Ghosts D) (event : Event) (old : Wo
   told_point : BasePoint D → Shown → Point D
   told_point point shown = record { disk = point.disk; start = shown; entries = point.entries; begun = point.begun }
 
-  -- an order to begin has a new number
-  begins_anew : (first : BasePoint D) (shown : Shown) → StartsAs first.base shown → StandsAtBase old first → (rounds n : ℕ) → event ≡ Begin rounds
-      → answer ≡ reply.Begun n → IsNewNumber n shown first.entries
-  begins_anew first shown starts stands rounds n is_begin is_begun =
-      let does : IsBegun rounds (reply.Begun n) old.core new.core =
-          subst (λ a. IsBegun rounds a old.core new.core) is_begun (subst (λ e. Does g e old answer new) is_begin step.does).1 in
-      let next = (begun_number old.core rounds n new.core does).next in
-      let counted = stands.counted in
-      let none : at_freeze first.base first.entries n ≡ None = stands.used n (omega (arith, next, counted)) in
-      new_number first.base shown starts.number first.entries n none
+  -- an order to begin is answered by the next number, or refused
+  begins_next : (first : BasePoint D) (shown : Shown) → StartsAs first.base shown → StandsAtBase old first → (rounds : ℕ) → event ≡ Begin rounds
+      → ((n : ℕ) × (answer ≡ reply.Begun n) × IsNextNumber n shown first.entries) ⊎ ((why : Refusal) × (answer ≡ reply.Refused why))
+  begins_next first shown starts stands rounds is_begin =
+      let does : IsBegun rounds answer old.core new.core = (subst (λ e. Does g e old answer new) is_begin step.does).1 in
+      elim (begun_or old.core rounds answer new.core does) [
+        | inl begun ↦
+            let next = begun.2.next in
+            let counted = stands.counted in
+            inl (begun.0, begun.1, next_number first.base shown starts.number first.entries begun.0
+            (λ k least. stands.used k (omega (arith, next, counted, least))))
+        | inr refused ↦ inr refused
+      ]
 
   never_command : (history : History) {base : Base} (legal : IsLegal base history) (first : BasePoint D) (shown : Shown) (entries : History)
       → Tells event answer first.begun shown entries history → (is : Reply) → IsOfJob is → answer ≡ is → NoCommand event
@@ -497,7 +561,9 @@ module _ (laws : TrimLaws) {D : Type 0} (g : Ghosts D) (event : Event) (old : Wo
       record {
         start = refl;
         entries = told;
-        begins = λ rounds n is_begin is_begun. begins_anew first shown starts stands rounds n is_begin is_begun;
+        begins = λ rounds is_begin. begins_next first shown starts stands rounds is_begin;
+        begun_by = λ n is. begun_by g event n old new (never_command last.entries after first shown first.entries told (reply.Begun n) tt is)
+            (subst (λ a. Does g event old a new) is step.does) (subst (λ a. AddsToJournal event a old.core new.core) is step.adds);
         acks = λ n is. acks_pending first last shown starts stands after told n is honest;
         reopens = λ m is. reopened_by event m old.core new.core (never_command last.entries after first shown first.entries told (reply.Reopened m) tt is)
             (subst (λ a. AddsToJournal event a old.core new.core) is step.adds);

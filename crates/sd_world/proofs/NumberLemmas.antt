@@ -19,12 +19,12 @@ use Rattle.sd_core.specs.declared.taken.Taken.{Taken}
 use Rattle.sd_core.specs.declared.taken.Taken.TheVariants.{Step, Call}
 use Rattle.sd_core.specs.Beginning.{Begins, BeginsAs, begin_refusal}
 use Rattle.sd_core.specs.Beside.{LeavesOthers}
-use Rattle.sd_core.specs.Called.{IsBegun, IsHandedIn, IsTakenUp}
+use Rattle.sd_core.specs.Called.{IsBegun, IsHandedIn, IsMergeOrder, IsReopenOrder, IsTakenUp}
 use Rattle.sd_core.specs.Flags.{FindsNumbers, FlagsByBegin, FlagsByCancel, FlagsByOutcome, FlagsByReply, FlagsByStep, HasFlags, begins_image, commits, numbers_asked}
 use Rattle.sd_core.specs.Images.{job_of}
 use Rattle.sd_core.specs.Merging.{MergesAs, merge_refusal}
 use Rattle.sd_core.specs.Orders.{IsCancelled}
-use Rattle.sd_core.specs.Refusals.{cancel_refusal, work_refusal}
+use Rattle.sd_core.specs.Refusals.{cancel_refusal, reopen_refusal, work_refusal}
 use Rattle.sd_core.specs.Working.{HasFallen, LeavesByOutcome, LeavesByStep, LeavesByWork}
 use Rattle.sd_world.specs.declared.event.Event.{Event}
 use Rattle.sd_world.specs.declared.event.Event.TheVariants.{Command as CommandEvent, Begin, Work, TakeUp, HandInAt, Merge, Cancel, Reopen, Trim}
@@ -258,6 +258,40 @@ begun_number old rounds n new is = by (begin_refusal old rounds) refl
     by : (o : Option Refusal) → begin_refusal old rounds ≡ o → HasNextNumber n old new
     by None due = next_number old new rounds n (is.begins due) is.flags
     by (Some why) due = not_refused why (is.refused why due).0
+
+-- an order to begin is answered so, or refused
+pub begun_or : (old : CoreView) (rounds : ℕ) (answer : Reply) (new : CoreView) → IsBegun rounds answer old new
+    → ((n : ℕ) × (answer ≡ reply.Begun n) × HasNextNumber n old new) ⊎ ((why : Refusal) × (answer ≡ reply.Refused why))
+begun_or old rounds answer new is = by (begin_refusal old rounds) refl
+  where
+    begins : (told : Reply) → answer ≡ told → BeginsAs old rounds told new → FlagsByBegin old told new
+        → ((n : ℕ) × (answer ≡ reply.Begun n) × HasNextNumber n old new) ⊎ ((why : Refusal) × (answer ≡ reply.Refused why))
+    begins (reply.Begun n) same does flags = inl (n, same, next_number old new rounds n does flags)
+    begins (reply.Refused why) same does flags = inr (why, same)
+    begins _ same does flags = absurd does
+
+    by : (o : Option Refusal) → begin_refusal old rounds ≡ o
+        → ((n : ℕ) × (answer ≡ reply.Begun n) × HasNextNumber n old new) ⊎ ((why : Refusal) × (answer ≡ reply.Refused why))
+    by None due = begins answer refl (is.begins due) is.flags
+    by (Some why) due = inr (why, (is.refused why due).0)
+
+not_begun : (n : ℕ) (why : Refusal) → reply.Begun n ≡ reply.Refused why → ⊥
+not_begun n why e = absurd (let no : reply.Begun n ≡ reply.Refused why = e in cc)
+
+-- no other order is
+pub merge_begins_none : (old : CoreView) (n : ℕ) (new : CoreView) → IsMergeOrder (reply.Begun n) old new → ⊥
+merge_begins_none old n new is = by (merge_refusal old) refl
+  where
+    by : (o : Option Refusal) → merge_refusal old ≡ o → ⊥
+    by None due = is.merges due
+    by (Some why) due = not_begun n why (is.refused why due).0
+
+pub reopen_begins_none : (old : CoreView) (n : ℕ) (new : CoreView) → IsReopenOrder (reply.Begun n) old new → ⊥
+reopen_begins_none old n new is = by (reopen_refusal old) refl
+  where
+    by : (o : Option Refusal) → reopen_refusal old ≡ o → ⊥
+    by None due = is.begun due
+    by (Some why) due = not_begun n why (is.refused why due).0
 
 cancel_count : (old : CoreView) (answer : Reply) (new : CoreView) → FlagsByCancel old answer new → CountGoes old new
 cancel_count old (reply.Cancelled n) new flags = kept_numbers old new false false flags

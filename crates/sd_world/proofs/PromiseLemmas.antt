@@ -11,7 +11,7 @@ use Rattle.sd_disk.specs.declared.disk.Disk.{Ghosts}
 use Rattle.sd_gate.specs.declared.worker.Worker.{Worker}
 use Rattle.sd_journal.specs.declared.entry.Entry.TheVariants.{Applied, Freeze}
 use Rattle.sd_journal.specs.History.{Base, History, at_freeze, memory_after}
-use Rattle.sd_journal.specs.Legal.{IsLegal}
+use Rattle.sd_journal.specs.Legal.{IsAbove, IsLegal}
 use Rattle.sd_journal.specs.Marked.{Marked, Noted, Told, entries_of}
 use Rattle.sd_journal.specs.Trimming.{TrimLaws}
 use Rattle.sd_crash_safety.specs.Calls.{AddsByCancel, AddsByOrder, IsJournaled, IsUnjournaled, running_number}
@@ -28,7 +28,7 @@ use Rattle.sd_world.specs.Steps.{Does}
 use Rattle.sd_world.specs.Trims.{TrimsJournal}
 use Rattle.sd_world.specs.View.{WorldView}
 use Rattle.sd_world.proofs.BasePoints.{AddsByReply, AddsCancelled, AddsCommand, AddsEntry, BasePoint, EntersFollow, FreezesAtBase, StandsAtBase}
-use Rattle.sd_world.proofs.FoldLemmas.{fresh_back, legal_behind, shows_back, told_back}
+use Rattle.sd_world.proofs.FoldLemmas.{above_back, legal_behind, shows_back, told_back}
 use Rattle.sd_world.proofs.NumberLemmas.{IsCounted, begun_is, begun_number, count_goes, number_goes}
 use Rattle.sd_world.proofs.ReplyLemmas.{marked_legal}
 use Rattle.sd_world.proofs.TrimLemmas.{trim_cases}
@@ -47,7 +47,7 @@ module _ (old new gone : History) where
 
   adds_work : (worker : Worker) (core : CoreView) (base : Base) (begun : Option ℕ) (answer : Reply)
       → ((n : ℕ) → running_number core.dumper.running ≡ Some n → begun ≡ Some n)
-      → ((n : ℕ) → new ≡ Freeze n ∷ old → at_freeze base (old ++ gone) n ≡ None)
+      → ((n : ℕ) → new ≡ Freeze n ∷ old → IsAbove base (old ++ gone) n)
       → AddsByWork worker core answer old new → AddsByReply worker answer base begun (old ++ gone) (new ++ gone)
   adds_work worker core base begun answer last fresh adds = grind arith
 
@@ -65,7 +65,7 @@ module _ (old new gone : History) where
 
 adds_entry : (event : Event) (answer : Reply) (old new : CoreView) (base : Base) (begun : Option ℕ) (gone : History) → event ≢ Trim
     → ((n : ℕ) → running_number old.dumper.running ≡ Some n → begun ≡ Some n)
-    → ((n : ℕ) → history_of new ≡ Freeze n ∷ history_of old → at_freeze base (history_of old ++ gone) n ≡ None)
+    → ((n : ℕ) → history_of new ≡ Freeze n ∷ history_of old → IsAbove base (history_of old ++ gone) n)
     → AddsToJournal event answer old new → AddsEntry event answer base begun (history_of old ++ gone) (history_of new ++ gone)
 adds_entry event answer old new base begun gone other last fresh adds = grind arith
 
@@ -119,7 +119,7 @@ went_by_trim answer begun old new base gone folds legal trims = elim (trim_cases
 
 went_by_other : (event : Event) (answer : Reply) (begun : Option ℕ) (old new : CoreView) (base : Base) (gone : History) → event ≢ Trim
     → Folds base gone old.base → new.base ≡ old.base → ((n : ℕ) → running_number old.dumper.running ≡ Some n → begun ≡ Some n)
-    → ((n : ℕ) → history_of new ≡ Freeze n ∷ history_of old → at_freeze base (history_of old ++ gone) n ≡ None)
+    → ((n : ℕ) → history_of new ≡ Freeze n ∷ history_of old → IsAbove base (history_of old ++ gone) n)
     → AddsToJournal event answer old new → Went event answer begun base (history_of old ++ gone) new
 went_by_other event answer begun old new base gone other folds same last fresh adds = record {
   gone = gone;
@@ -184,9 +184,9 @@ module _ (laws : TrimLaws) {D : Type 0} (g : Ghosts D) where
     | inl is ↦ subst (λ e. Went e answer first.begun first.base (history_of old.core ++ stands.gone) new.core) (sym is)
         (went_by_trim answer first.begun old.core new.core first.base stands.gone stands.folds stands.legal (trims_of g event answer old new step.does is))
     | inr other ↦ went_by_other event answer first.begun old.core new.core first.base stands.gone other stands.folds (step.base other) stands.begun
-        (λ n is. fresh_back laws first.base stands.gone (history_of old.core) old.core.base n stands.folds
-        (subst (λ b. IsLegal b (Freeze n ∷ history_of old.core)) (step.base other)
-        (subst (IsLegal new.core.base) is (marked_legal new.core.base new.core.items step.tracked.marked)))) step.adds
+        (λ n is. let legal = subst (λ b. IsLegal b (Freeze n ∷ history_of old.core)) (step.base other)
+            (subst (IsLegal new.core.base) is (marked_legal new.core.base new.core.items step.tracked.marked)) in
+            above_back laws first.base stands.gone (history_of old.core) old.core.base n stands.folds legal.1 legal.0.1) step.adds
   ]
 
   -- the number that was begun last is within the numbers that were

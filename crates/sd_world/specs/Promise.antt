@@ -1,8 +1,9 @@
 -- What is promised of a run, of its events, their replies, its journal and its disk alone.
-use Rattle.std.specs.Prelude.{◌≡◌, ◌≢◌, ◌⊎◌, ℕ, List, [], ◌∷◌, ◌++◌, Option, Some, None}
+use Rattle.std.specs.Prelude.{◌≡◌, ◌⊎◌, ℕ, ◌<◌, List, [], ◌∷◌, ◌++◌, Option, Some, None}
 use Rattle.std.specs.List.{AllByRecursion}
 use Rattle.std.specs.Option.{option_map}
 use Rattle.sd_areas.specs.PlainMemory.{PlainMemory}
+use Rattle.sd_command.specs.declared.refusal.Refusal.{Refusal}
 use Rattle.sd_command.specs.declared.refusal.Refusal.TheVariants.{JournalFull, OutOfMemory}
 use Rattle.sd_command.specs.declared.reply.Reply.{Reply}
 use Rattle.sd_command.specs.declared.reply.Reply.TheVariants as reply
@@ -45,20 +46,20 @@ told_by event answer = []
 abbrev pub IsOf : Worker → Event → Type 0
 IsOf worker event = (event ≡ Work worker) ⊎ ((event ≡ TakeUp worker) ⊎ ((place : ℕ) × (event ≡ HandInAt worker place)))
 
--- no freeze of the run had this number, nor the checkpoint that it started from
-abbrev pub IsNewNumber : ℕ → Shown → List Entry → Type 0
-IsNewNumber n start entries = AllByRecursion (λ entry. entry ≢ Freeze n) entries
-    × (option_map (λ (pair : ℕ × PlainMemory). pair.0) start ≢ Some n)
+-- each freeze of the run had a lesser number, and so had the checkpoint that it started from
+abbrev pub IsNextNumber : ℕ → Shown → List Entry → Type 0
+IsNextNumber n start entries = AllByRecursion (λ entry. (m : ℕ) → entry ≡ Freeze m → m < n) entries
+    × ((m : ℕ) (memory : PlainMemory) → start ≡ Some (m, memory) → m < n)
 
 -- The freeze, which no reply names: a step of the dumper that only worked may have frozen the memory, for the
--- checkpoint that was begun last, under a new number.
+-- checkpoint that was begun last, under the next number.
 pub record Freezes (event : Event) (answer : Reply) (begun : Option ℕ) (start : Shown)
     (old new : List Entry) : Type 0 where
   pub dumper : IsOf Dumper event
   pub worked : answer ≡ reply.Worked
   pub number : ℕ
   pub last : begun ≡ Some number
-  pub is_new : IsNewNumber number start old
+  pub next : IsNextNumber number start old
   pub entry : new ≡ Freeze number ∷ old
 
 -- the number of the checkpoint that was begun last, until it is cancelled
@@ -91,8 +92,11 @@ pub record Moves {D : Type 0} (g : Ghosts D) (event : Event) (answer : Reply) (o
   pub start : new.start ≡ old.start
   pub entries : (new.entries ≡ told_by event answer ++ old.entries)
       ⊎ Freezes event answer old.begun old.start old.entries new.entries
-  -- an order to begin is answered by a new number
-  pub begins : (rounds n : ℕ) → event ≡ Begin rounds → answer ≡ reply.Begun n → IsNewNumber n old.start old.entries
+  -- an order to begin is answered by the next number, or refused; no other event is answered `begun`
+  pub begins : (rounds : ℕ) → event ≡ Begin rounds
+      → ((n : ℕ) × (answer ≡ reply.Begun n) × IsNextNumber n old.start old.entries)
+      ⊎ ((why : Refusal) × (answer ≡ reply.Refused why))
+  pub begun_by : (n : ℕ) → answer ≡ reply.Begun n → (rounds : ℕ) × (event ≡ Begin rounds)
   -- only the dumper acknowledges: the checkpoint that was begun last, and is being written
   pub acks : (n : ℕ) → answer ≡ reply.Acked n → IsOf Dumper event × (old.begun ≡ Some n)
       × ((memory : PlainMemory) × ((tell old.start old.entries).pending ≡ Some (n, memory)))
