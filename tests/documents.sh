@@ -50,7 +50,8 @@ sys.exit(1 if wrong else 0)
 PYTHON
 }
 
-# Each name in the second column of a Proved table stands in the sources of the crate, or of one that the cell names.
+# Each name in the second column of a Proved table stands in the sources of the crate, or of one that the cell names; and
+# each of a third column is a planted bug of the crate.
 proved_tables_name_what_is_there() {
   needs_python || return
   python3 - "$here/../crates" << 'PYTHON'
@@ -71,9 +72,12 @@ wrong, rows = [], 0
 for page in sorted(crates.glob("sd_*/README.md")):
     for line in page.read_text().splitlines():
         cells = line.split("|")
-        if len(cells) != 4 or cells[1].strip().startswith("`"):
+        if len(cells) not in (4, 5) or cells[1].strip().startswith("`"):
             continue
         rows += 1
+        plants = re.findall(r"`(\w+)`", cells[3])
+        wrong += [f"{page.parent.name} has no plant {plant}" for plant in plants
+                  if not any(page.parent.glob(f"*/{plant}.edit"))]
         spans = [span for span in re.findall(r"`([^`]+)`", cells[2]) if "/" not in span and ".." not in span]
         there = {page.parent.name, *(span for span in spans if (crates / span).is_dir())}
         wrong += [f"{there} has no {word}: {line}" for span in spans if span not in there

@@ -91,7 +91,7 @@ pub const RESTORES: Item = Item {
 
 pub const STRICT: Item = Item {
     name: "strict",
-    help: "Ends at the first request that is refused or answered segv, and reports its line on standard error: status 1",
+    help: "Ends with status 1 at the first request that is refused or answered segv; its line is on standard error",
     ..FLAG
 };
 

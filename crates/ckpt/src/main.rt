@@ -127,8 +127,8 @@ fn tell_end(
     }
 }
 
-/// Runs the program that the words ask for, and returns its exit status and whether causes are reported. The outer error is
-/// a fault of the words.
+/// Runs the program that the words ask for, and returns its exit status and whether causes are reported. The outer
+/// error is a fault of the words.
 fn run_words<R: Clock + Threads + Wait + Sync, W: Write>(
     rt: &HostRuntime,
     threads: &R,
