@@ -1,5 +1,5 @@
 -- A step, as it is told by the fold over the journal.
-use Rattle.std.proofs.Common.{◌≡◌, ◌≢◌, ◌⊎◌, ◌==◌, ℕ, ◌<◌, ◌≤◌, Bool, true, false, cond, List, [], ◌∷◌, ◌++◌, Option, MatchOption, Some, None, IfSome, refl, sym, ◌∙◌, ap, subst, inl, inr, append-nil, append_assoc, arith}
+use Rattle.std.proofs.Common.{◌≡◌, ◌⊎◌, ◌==◌, ℕ, ◌<◌, ◌≤◌, Bool, true, false, cond, List, [], ◌∷◌, ◌++◌, Option, MatchOption, Some, None, IfSome, refl, sym, ◌∙◌, ap, subst, inl, inr, append-nil, append_assoc, arith}
 use Rattle.std.proofs.Math.Nat.{lt_of_not-le}
 use Rattle.std.proofs.lemmas.Bool.{ne_eqb}
 use Rattle.std.proofs.lemmas.Option.{same_Some}
@@ -15,7 +15,7 @@ use Rattle.sd_command.specs.Replies.{Accepts, IsLegalReply, denial_in, reply_of}
 use Rattle.sd_core.specs.Called.{IsBegun}
 use Rattle.sd_core.specs.Flags.{number_or_zero}
 use Rattle.sd_core.specs.Starts.{shown_base}
-use Rattle.sd_disk.specs.Spans.{LeavesOnly, span_widened}
+use Rattle.sd_disk.specs.Spans.{span_widened}
 use Rattle.sd_disk.specs.declared.disk.Disk.{Ghosts}
 use Rattle.sd_gate.specs.declared.worker.Worker.{Worker}
 use Rattle.sd_gate.specs.declared.worker.Worker.TheVariants.{Dumper, Opener}
@@ -23,7 +23,7 @@ use Rattle.sd_image.specs.Shows.{Shows}
 use Rattle.sd_journal.specs.declared.entry.Entry.{Entry}
 use Rattle.sd_pagetable.specs.declared.access_error.AccessError.{AccessError}
 use Rattle.sd_journal.specs.declared.entry.Entry.TheVariants.{Applied, Freeze, Acked, Cancelled, Reopened}
-use Rattle.sd_journal.specs.Allowed.{IsAllowed, IsLastPair, Shown, shown_number}
+use Rattle.sd_journal.specs.Allowed.{IsLastPair, Shown, shown_number}
 use Rattle.sd_journal.specs.History.{Base, History, at_base, at_freeze, last, memory_after}
 use Rattle.sd_journal.specs.Legal.{IsAbove, IsLegal}
 use Rattle.sd_journal.specs.Marked.{Marked, entries_of}
@@ -36,13 +36,13 @@ use Rattle.sd_world.specs.declared.event.Event.TheVariants.{Command as CommandEv
 use Rattle.sd_world.specs.Acked.{DoesAck, IsAckedThere}
 use Rattle.sd_world.specs.Adds.{AddsByPerform, AddsByTrim, AddsByWork, AddsToJournal}
 use Rattle.sd_world.specs.Opens.{bare_memory}
-use Rattle.sd_world.specs.Points.{FirstStands, Folds, PointsFollow, StandsAt, first_point}
+use Rattle.sd_world.specs.Points.{FirstStands, Folds, PointsFollow, StandsAt}
 use Rattle.sd_world.specs.Promise.{Freezes, IsNextNumber, IsOf, Moves, Point, ShowsAnswer, ShowsTold, told_by}
 use Rattle.sd_world.specs.Runs.{IsStep, ShowsFreeze, ShowsReply}
 use Rattle.sd_world.specs.Steps.{Does}
 use Rattle.sd_world.proofs.BasePoints.{AddsByReply, AddsCancelled, AddsCommand, AddsEntry, BasePoint, Enters, FreezesAtBase, StandsAtBase}
-use Rattle.sd_journal.specs.Tell.{MayShow, Told, tell}
-use Rattle.sd_journal.specs.TellLaws.{Agrees, IsPendingAs, StartsAs}
+use Rattle.sd_journal.specs.Tell.{tell}
+use Rattle.sd_journal.specs.TellLaws.{IsPendingAs, StartsAs}
 use Rattle.sd_world.specs.View.{WorldView}
 use Rattle.sd_journal.proofs.HistoryLemmas.{same}
 use Rattle.sd_world.proofs.FoldLemmas.{legal_back}
@@ -525,14 +525,18 @@ module _ (laws : TrimLaws) {D : Type 0} (g : Ghosts D) (event : Event) (old : Wo
         | inl begun ↦
             let next = begun.2.next in
             let counted = stands.counted in
-            inl (begun.0, begun.1, next_number first.base shown starts.number first.entries begun.0
-            (λ k least. stands.used k (omega (arith, next, counted, least))))
+            inl (
+              begun.0,
+              begun.1,
+              next_number first.base shown starts.number first.entries begun.0
+                  (λ k least. stands.used k (omega (arith, next, counted, least))),
+            )
         | inr refused ↦ inr refused
       ]
 
-  never_command : (history : History) {base : Base} (legal : IsLegal base history) (first : BasePoint D) (shown : Shown) (entries : History)
+  never_command : (history : History) (base : Base) (legal : IsLegal base history) (first : BasePoint D) (shown : Shown) (entries : History)
       → Tells event answer first.begun shown entries history → (is : Reply) → IsOfJob is → answer ≡ is → NoCommand event
-  never_command history {base} legal first shown entries told is of_job e =
+  never_command history base legal first shown entries told is of_job e =
       never base history legal event first.begun shown entries is of_job (subst (λ a. Tells event a first.begun shown entries history) e told)
 
   -- what is acknowledged is the checkpoint that was begun last, and was being written
@@ -542,7 +546,7 @@ module _ (laws : TrimLaws) {D : Type 0} (g : Ghosts D) (event : Event) (old : Wo
   acks_pending first last shown starts stands legal told n is honest =
       let adds : AddsToJournal event (reply.Acked n) old.core new.core = subst (λ a. AddsToJournal event a old.core new.core) is step.adds in
       let tells : Tells event (reply.Acked n) first.begun shown first.entries last.entries =
-          subst (λ a. Tells event a first.begun shown first.entries last.entries) is told in
+      subst (λ a. Tells event a first.begun shown first.entries last.entries) is told in
       let by_dumper = acked_by event n old.core new.core (never first.base last.entries legal event first.begun shown first.entries (reply.Acked n) tt tells) adds in
       let entry = acked_entry first.base last.entries legal event n first.begun shown first.entries old.core new.core adds tells in (
         by_dumper,
@@ -562,12 +566,12 @@ module _ (laws : TrimLaws) {D : Type 0} (g : Ghosts D) (event : Event) (old : Wo
         start = refl;
         entries = told;
         begins = λ rounds is_begin. begins_next first shown starts stands rounds is_begin;
-        begun_by = λ n is. begun_by g event n old new (never_command last.entries after first shown first.entries told (reply.Begun n) tt is)
+        begun_by = λ n is. begun_by g event n old new (never_command last.entries base after first shown first.entries told (reply.Begun n) tt is)
             (subst (λ a. Does g event old a new) is step.does) (subst (λ a. AddsToJournal event a old.core new.core) is step.adds);
         acks = λ n is. acks_pending first last shown starts stands after told n is honest;
-        reopens = λ m is. reopened_by event m old.core new.core (never_command last.entries after first shown first.entries told (reply.Reopened m) tt is)
+        reopens = λ m is. reopened_by event m old.core new.core (never_command last.entries base after first shown first.entries told (reply.Reopened m) tt is)
             (subst (λ a. AddsToJournal event a old.core new.core) is step.adds);
-        cancels = λ n is. cancelled_by event n old.core new.core (never_command last.entries after first shown first.entries told (reply.Cancelled n) tt is)
+        cancels = λ n is. cancelled_by event n old.core new.core (never_command last.entries base after first shown first.entries told (reply.Cancelled n) tt is)
             (subst (λ a. AddsToJournal event a old.core new.core) is step.adds);
         begun = enters.begun;
         any_moment = span_widened g first.disk last.disk (ShowsAllowed base first.entries) (ShowsTold (tell shown first.entries))

@@ -364,6 +364,6 @@ module _ {D : Type 0} (g : Ghosts D) where
 -- ---- the number that was begun last
 
 -- it is as it was, or the event began it
-begun_is : (event : Event) (answer : Reply) (before : Option ℕ) (n : ℕ) → begun_after event answer before ≡ Some n
+pub begun_is : (event : Event) (answer : Reply) (before : Option ℕ) (n : ℕ) → begun_after event answer before ≡ Some n
     → (before ≡ Some n) ⊎ ((rounds : ℕ) × (event ≡ Begin rounds) × (answer ≡ reply.Begun n))
 begun_is event answer before n is = grind arith

@@ -1,5 +1,5 @@
 -- From each point at which a world stands a step goes to one at which it stands then; by the base of its journal.
-use Rattle.std.proofs.Common.{◌≡◌, ◌≢◌, ◌⊎◌, ◌==◌, ℕ, ◌<◌, ◌≤◌, Bool, true, false, cond, List, [], ◌∷◌, ◌++◌, Option, Some, None, refl, sym, ◌∙◌, ap, subst, inl, inr, arith}
+use Rattle.std.proofs.Common.{◌≡◌, ◌≢◌, ◌⊎◌, ◌==◌, ℕ, ◌≤◌, Bool, true, false, cond, [], ◌∷◌, ◌++◌, Option, Some, None, refl, sym, ◌∙◌, ap, subst, inl, inr, arith}
 use Rattle.std.proofs.lemmas.Bool.{ne_eqb}
 use Rattle.std.proofs.lemmas.List.{append_assoc}
 use Rattle.sd_command.specs.declared.command.Command.{Command}
@@ -185,8 +185,8 @@ module _ (laws : TrimLaws) {D : Type 0} (g : Ghosts D) where
         (went_by_trim answer first.begun old.core new.core first.base stands.gone stands.folds stands.legal (trims_of g event answer old new step.does is))
     | inr other ↦ went_by_other event answer first.begun old.core new.core first.base stands.gone other stands.folds (step.base other) stands.begun
         (λ n is. let legal = subst (λ b. IsLegal b (Freeze n ∷ history_of old.core)) (step.base other)
-            (subst (IsLegal new.core.base) is (marked_legal new.core.base new.core.items step.tracked.marked)) in
-            above_back laws first.base stands.gone (history_of old.core) old.core.base n stands.folds legal.1 legal.0.1) step.adds
+        (subst (IsLegal new.core.base) is (marked_legal new.core.base new.core.items step.tracked.marked)) in
+        above_back laws first.base stands.gone (history_of old.core) old.core.base n stands.folds legal.1 legal.0.1) step.adds
   ]
 
   -- the number that was begun last is within the numbers that were
