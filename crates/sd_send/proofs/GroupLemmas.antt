@@ -43,11 +43,6 @@ module _ {W : Type 0} (text : W → Option (List ℕ)) (before : Option (List �
     groups = one_more i.header.kind sent.now (file_at contents i.slot) i.header.checkpoint contents left ∙ sent.groups;
   }
 
-  -- what is left after the images so far
-  pub next_left : {X : Type 0} (f : X → Opened) (xs : List X) (k : ℕ) (x : X) → k < length xs → x ≡ get_or xs k x → drop k (map f xs) ≡ f x ∷ drop (k + 1) (map f xs)
-  next_left f xs k x within is = drop_more (map f xs) k (f x) (let e = length-map f xs in omega (arith, e, within))
-      ∙ ap (λ y. y ∷ drop (k + 1) (map f xs)) (get_or-map f xs k x (f x) within ∙ ap f (sym is))
-
   pub stream_of : (after : Option (List ℕ)) (since : Option ℕ) (places : Places) (stop : Option ℕ) (found : List Opened) (base : Option Base) (writer : StreamWriter W)
       → p ≡ started base → IsBaseAt contents since base → IsCatalogOf contents places → IsStop places since stop → AreSince places stop found → HasSent text before p contents found [] writer
       → ((q : Progress) → HasWritten text before q writer → Appends before after (stream_text q.base q.groups) × IsStream q.base q.groups) → SendsStream contents since before after
@@ -71,6 +66,11 @@ module _ {W : Type 0} (text : W → Option (List ℕ)) (before : Option (List �
         order = whole.1;
         written = whole.0;
       }
+
+-- what is left after the images so far
+pub next_left : {X : Type 0} (f : X → Opened) (xs : List X) (k : ℕ) (x : X) → k < length xs → x ≡ get_or xs k x → drop k (map f xs) ≡ f x ∷ drop (k + 1) (map f xs)
+next_left f xs k x within is = drop_more (map f xs) k (f x) (let e = length-map xs f in omega (arith, e, within))
+    ∙ ap (λ y. y ∷ drop (k + 1) (map f xs)) (get_or-map f xs k x (f x) within ∙ ap f (sym is))
 
 -- a piece more of a file
 pub piece_more : (file : List ℕ) (done count : ℕ) → take done file ++ slice_range file done (done + count) ≡ take (done + count) file

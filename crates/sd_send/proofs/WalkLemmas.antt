@@ -1,5 +1,5 @@
 -- The walk from the newest image to the first that is sent.
-use Rattle.std.proofs.Common.{◌≡◌, ◌⊎◌, ◌<◌, ℕ, length, slice_index_or, List, [], ◌∷◌, map, Option, Some, None, MatchOption, All, Contains, Bor, refl, sym, subst, inl, inr}
+use Rattle.std.proofs.Common.{◌<◌, ℕ, slice_index_or, List, [], ◌∷◌, map, Option, Some, None, MatchOption, All, Contains, Bor, refl, sym, subst, inl, inr}
 use Rattle.std.specs.Prelude.{IfSome, IsNone}
 use Rattle.std.proofs.lemmas.List.Elements.{All-contains, Contains-get_or}
 use Rattle.sd_image.proofs.Members.{contains_cases, contains_map, contains_none}

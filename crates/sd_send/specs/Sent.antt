@@ -69,7 +69,8 @@ grouped contents before (i ∷ others) =
     (grouped contents (before ++ file_at contents i.slot ∷ []) others) (grouped contents [] others)
 
 -- What is sent: the images of the newest checkpoint, back to the base's.
-pub record IsSent (contents : List (List ℕ)) (since : Option ℕ) (base : Option Base) (groups : List Group) : Type 0 where
+pub record IsSent (contents : List (List ℕ)) (since : Option ℕ) (base : Option Base)
+    (groups : List Group) : Type 0 where
   pub continues : IsBaseAt contents since base
   pub places : Places
   pub catalog : IsCatalogOf contents places

@@ -28,11 +28,7 @@ fn digest_of(text: &[u8]) -> [u8; 32]
 /// # Errors
 ///
 /// Those of a restore of the checkpoint: `EmptyChain` where the store has none of that number.
-pub fn memory_digest<D: Disk>(
-    alloc: Global,
-    disk: &mut D,
-    number: u64,
-) -> Result<[u8; 32], Fault>
+pub fn memory_digest<D: Disk>(alloc: Global, disk: &mut D, number: u64) -> Result<[u8; 32], Fault>
     ensures digest { D.is_honest disk.new
         → IfOk result (λ digest. IsDigestAt (D.contents disk.old) number digest) }
     ensures empty { D.is_honest disk.new → result ≡ Err fault.EmptyChain

@@ -26,7 +26,11 @@ const PIECE: usize = 65_536;
 const FRONT: usize = 96;
 
 /// The base of a stream that continues a checkpoint: its number, and the digest of its memory.
-fn base_of<D: Disk>(alloc: Global, disk: &mut D, since: Option<u64>) -> Result<Option<Base>, SendError>
+fn base_of<D: Disk>(
+    alloc: Global,
+    disk: &mut D,
+    since: Option<u64>,
+) -> Result<Option<Base>, SendError>
     ensures base { D.is_honest disk.new → IfOk result (λ base. IsBaseAt (D.contents disk.old) since base) }
     ensures reads { OnlyReads D.Disk disk.old disk.new }
 {
@@ -124,7 +128,10 @@ fn send_images<D: Disk, W: Write>(
         let len = send_image(disk, image, writer, buffer)?;
         bytes = bytes.saturating_add(len);
     }
-    Ok(Sent { images: images.len(), bytes })
+    Ok(Sent {
+        images: images.len(),
+        bytes,
+    })
 }
 
 /// The slot of the base's image, at which the images that are sent begin.

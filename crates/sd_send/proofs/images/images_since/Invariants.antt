@@ -1,8 +1,5 @@
-use Rattle.std.proofs.Common.{ℕ, suc, ◌<◌, Option, Some, None, All, Bor, map}
-use Rattle.std.specs.Prelude.{IfSome}
-use Rattle.std.specs.Prelude.{option_map}
-use Rattle.sd_chain.specs.Catalog.{Opened, images}
-use Rattle.sd_send.specs.Sent.{IsTipOrNone, Leads}
+use Rattle.std.proofs.Common.{ℕ, suc, Option, Some, None, Bor, map}
+use Rattle.sd_chain.specs.Catalog.{Opened}
 use Rattle.sd_send.proofs.WalkLemmas.{IsWalked}
 use Rattle.sd_send.proofs.images.images_since.Given as goal
 

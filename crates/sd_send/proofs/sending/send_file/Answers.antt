@@ -1,9 +1,8 @@
-use Rattle.std.proofs.Common.{◌≡◌, ℕ, List, ◌++◌, take, drop, length, Option, sym, ap, ◌∙◌, subst, arith}
+use Rattle.std.proofs.Common.{◌≡◌, ◌+◌, ℕ, List, ◌++◌, take, drop, length, ap, ◌∙◌, subst, arith}
 use Rattle.std.specs.Prelude.{slice_range}
 use Rattle.std.proofs.lemmas.List.{length-append, length-drop, length-take-le, take_at}
 use Rattle.sd_disk.specs.Contents.{file_at}
 use Rattle.sd_disk.specs.Reads.{reads_join}
-use Rattle.sd_stream.specs.Progress.{with_bytes}
 use Rattle.sd_stream.specs.Writing.{HasWritten}
 use Rattle.sd_send.specs.Sending.{with_file}
 use Rattle.sd_send.proofs.GroupLemmas.{piece_more}
@@ -32,8 +31,8 @@ loop-done-preserved g c =
       whole = λ honest. was.whole (now.reads.honest honest);
       sent = λ honest before p begun.
           let bytes : read ≡ slice_range file done (done + count) =
-            now.bytes honest ∙ ap (λ n. slice_range (file_at (g.D.Disk.contents c.loop-done.disk) c.args.slot) done (done + n)) asked
-            ∙ ap (λ contents. slice_range (file_at contents c.args.slot) done (done + count)) was.reads.same in
+          now.bytes honest ∙ ap (λ n. slice_range (file_at (g.D.Disk.contents c.loop-done.disk) c.args.slot) done (done + n)) asked
+          ∙ ap (λ contents. slice_range (file_at contents c.args.slot) done (done + count)) was.reads.same in
           let piece : take count (read ++ drop count old) ≡ slice_range file done (done + count) = take_at read (drop count old) count long ∙ bytes in
           subst (λ xs. HasWritten g.W.Write.contents before (with_file p xs) c.bytes.new.self)
           (ap (λ xs. take done file ++ xs) piece ∙ piece_more file done count)

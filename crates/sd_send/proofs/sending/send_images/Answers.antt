@@ -1,7 +1,6 @@
-use Rattle.std.proofs.Common.{ℕ, List, Option, drop, map, Bor, ◌∙◌, ap, subst, ◌+◌}
+use Rattle.std.proofs.Common.{ℕ, List, drop, map, Bor, ◌∙◌, subst, ◌+◌}
 use Rattle.sd_disk.specs.Reads.{reads_join}
 use Rattle.sd_chain.specs.Catalog.{Opened}
-use Rattle.sd_stream.specs.Progress.{Progress}
 use Rattle.sd_stream.specs.Writing.{HasWritten}
 use Rattle.sd_send.specs.Sending.{HasSent, with_opened}
 use Rattle.sd_send.proofs.GroupLemmas.{next_left, sent_more}
@@ -20,7 +19,7 @@ loop-image-preserved g c =
       sent = λ honest before p begun.
           sent_more g.W.Write.contents before p contents all (drop (k + 1) all) c.image-item.result.now c.loop-image.writer c.send_image.new.writer
           (subst (λ left. HasSent g.W.Write.contents before p contents all left c.loop-image.writer)
-          (next_left g.W.Write.contents before p contents (λ (i : Bor Opened). i.now) c.args.images.now k c.image-item.result c.loop-image-test.true c.image-item.is)
+          (next_left (λ (i : Bor Opened). i.now) c.args.images.now k c.image-item.result c.loop-image-test.true c.image-item.is)
           (was.sent (now.reads.honest honest) before p begun))
           (λ q is. subst (λ files. HasWritten g.W.Write.contents before (with_opened files q c.image-item.result.now) c.send_image.new.writer) was.reads.same
           (now.sent honest before q is));
