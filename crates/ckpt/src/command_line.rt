@@ -145,8 +145,8 @@ const PROGRAMS: [Program; 14] = [
         name: "send",
         work: Work::Send,
         about: "Writes the images of the newest checkpoint of a folder's store as a stream",
-        items: &[DIR, SINCE, QUIET, VERBOSE],
-        behind: Some(SEND),
+        items: &[DIR, SINCE],
+        after: Some(SEND),
     },
 ];
 
