@@ -1,56 +1,72 @@
 # Completion of ckpt for bash: source docs/ckpt.bash
 
+# The place of the program's name among the words before the one that is typed: the first that is no option. 0: none.
+_ckpt_program() {
+  local place
+  for ((place = 1; place < COMP_CWORD; place++)); do
+    [[ ${COMP_WORDS[place]} == -* ]] || { echo "$place"; return; }
+  done
+  echo 0
+}
+
+# Whether DIR stands among the words after the program's name: a word that is no option and no option's value.
+_ckpt_has_dir() {  # _ckpt_has_dir PLACE-OF-PROGRAM
+  local place
+  for ((place = $1 + 1; place < COMP_CWORD; place++)); do
+    case ${COMP_WORDS[place - 1]} in
+      --check | --stats | --notes | --checkpoint | --at-least | --space | --rounds) continue ;;
+    esac
+    [[ ${COMP_WORDS[place]} == -* ]] || return 0
+  done
+  return 1
+}
+
+# Offers the words of a list, files or folders that begin as the word that is typed.
+_ckpt_offer() {  # _ckpt_offer OPTION-OF-COMPGEN..
+  mapfile -t COMPREPLY < <(compgen "$@" -- "${COMP_WORDS[COMP_CWORD]}")
+}
+
 _ckpt() {
-  local word=${COMP_WORDS[COMP_CWORD]} program=${COMP_WORDS[1]} options=
-  if [ "$COMP_CWORD" -eq 1 ]; then
-    mapfile -t COMPREPLY < <(compgen -W "run shell merge mutate restore list verify history diff drop show export import help --help --version" -- "$word")
+  local word=${COMP_WORDS[COMP_CWORD]} before=${COMP_WORDS[COMP_CWORD - 1]} program options=
+  local programs="run shell merge mutate restore list verify history diff drop show export import"
+  local place
+  place=$(_ckpt_program)
+  COMPREPLY=()
+  if [ "$place" -eq 0 ]; then
+    _ckpt_offer -W "$programs help --quiet --verbose --help --version"
     return
   fi
+  program=${COMP_WORDS[place]}
   case $program in
-    run) options="--restore --strict --stats --summary --check --quiet --verbose --help" ;;
-    show | list | history | diff) options="--json --quiet --verbose --help" ;;
-    restore) options="--checkpoint --json --quiet --verbose --help" ;;
-    verify) options="--checkpoint --at-least --json --quiet --verbose --help" ;;
-    export) options="--checkpoint --force --notes --space --quiet --verbose --help" ;;
-    drop) options="--force --quiet --verbose --help" ;;
-    import) options="--rounds --space --stats --summary --quiet --verbose --help" ;;
-    merge) options="--stats --summary --quiet --verbose --help" ;;
-    help) options="run shell merge mutate restore list verify history diff drop show export import" ;;
-    *) options="--quiet --verbose --help" ;;
-  esac
-  case ${COMP_WORDS[COMP_CWORD - 1]} in
-    --stats | --notes)
-      mapfile -t COMPREPLY < <(compgen -f -- "$word")
-      return
-      ;;
-    --checkpoint | --at-least | --space | --rounds)
-      COMPREPLY=()
+    run) options="--restore --strict --stats --summary --check" ;;
+    show | list | history | diff) options="--json" ;;
+    restore) options="--checkpoint --json" ;;
+    verify) options="--checkpoint --at-least --json" ;;
+    export) options="--checkpoint --force --notes --space" ;;
+    drop) options="--force" ;;
+    import) options="--rounds --space --stats --summary" ;;
+    merge) options="--stats --summary" ;;
+    help)
+      _ckpt_offer -W "$programs"
       return
       ;;
   esac
-  # After DIR these take numbers, for which nothing is offered.
-  case $program-$word in
-    *--*) ;;
-    mutate-* | drop-* | show-* | diff-*)
-      if printf '%s\n' "${COMP_WORDS[@]:2:COMP_CWORD-2}" | grep -q '^[^-]'; then
-        COMPREPLY=()
-        return
-      fi
-      ;;
+  case $before in
+    --stats | --notes | --check) _ckpt_offer -f; return ;;
+    --checkpoint | --at-least | --space | --rounds) return ;;
   esac
-  case $word in
-    -*) mapfile -t COMPREPLY < <(compgen -W "$options" -- "$word") ;;
-    *)
-      if [ "$program" = help ]; then
-        mapfile -t COMPREPLY < <(compgen -W "$options" -- "$word")
-      elif [ "$program" = import ] && [ "$COMP_CWORD" -gt 2 ]; then
-        mapfile -t COMPREPLY < <(compgen -f -- "$word")
-      elif [ "$program" = run ] && { [ "$COMP_CWORD" -gt 2 ] || [ "${COMP_WORDS[2]}" = --check ]; }; then
-        mapfile -t COMPREPLY < <(compgen -f -- "$word")
-      else
-        mapfile -t COMPREPLY < <(compgen -d -- "$word")
-      fi
-      ;;
+  if [[ $word == -* ]]; then
+    _ckpt_offer -W "$options --quiet --verbose --help"
+    return
+  fi
+  if ! _ckpt_has_dir "$place"; then
+    _ckpt_offer -d
+    return
+  fi
+  # After DIR come files, a folder, numbers or nothing.
+  case $program in
+    run | import) _ckpt_offer -f ;;
+    export) _ckpt_offer -d ;;
   esac
 }
 

@@ -3,7 +3,7 @@
 
 # A damaged slot in words, by each program that opens the store; and nothing with --quiet.
 damage_is_told_in_words() {
-  local told="ckpt: store: img-000 is damaged: the digest is not that of the file; ckpt show store 0 tells more; \
+  local told="ckpt: store: img-000 is damaged: the digest is not that of the file; ckpt show store 0 says more; \
 the newest checkpoint needs it, and an older copy of the file may help"
   hello_store 2 || return 1
   flip 5000
@@ -19,7 +19,7 @@ the newest checkpoint needs it, and an older copy of the file may help"
 broken_chains_are_told() {
   store_of "2 2 2 2 1 1 parent"
   ends_with 1 "damaged 000 18" "ckpt: store: img-000 is damaged: a page is in a parent that does not have it; \
-ckpt show store 0 tells more, ckpt list store has the images that are there; the newest checkpoint needs it, and an \
+ckpt show store 0 says more, ckpt list store has the images that are there; the newest checkpoint needs it, and an \
 older copy of the file may help" \
     "$ckpt" verify store
 }
@@ -151,7 +151,7 @@ mistakes="\
 run file script|cannot open DIR|file: not a directory; DIR is the folder of a store, with the files img-000 to img-063
 shell file/x|cannot open DIR|file/x: not a directory; DIR is the folder of a store, with the files img-000 to img-063
 import file core|cannot open DIR|file: not a directory; DIR is the folder of a store, with the files img-000 to img-063
-run script store|cannot read SCRIPT|store: Is a directory (os error 21); SCRIPT is a file, and stands behind DIR
+run script store|cannot read SCRIPT|store: Is a directory (os error 21); SCRIPT is a file, and stands after DIR
 run store missing|cannot read SCRIPT|missing: No such file or directory (os error 2)
 export store file|cannot write OUT|file: not a directory; OUT is the folder of the core files
 export store cores|cannot write OUT|cores: space-1.core is there already; with --force it is replaced

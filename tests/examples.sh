@@ -54,10 +54,11 @@ make_tree() {
 launcher_reads_by_the_kept_program() {
   local words told="ckpt: run by out/ckpt-checked, which isn't proved; ./ckpt --build makes the proved program"
   make_tree
-  for words in "list store" "restore store" "verify store" "show store" "history store" --help --version; do
+  for words in "list store" "restore store" "verify store" "show store" "history store" \
+    "-q list store" --help --version; do
     ends_with 0 "checked $words" "$told" tree/ckpt $words || return 1
   done
-  same "the status of a run" "$(PATH=$PWD/tools:$PATH ends tree/ckpt run store script)" 1 || return 1
+  same "the status of a run" "$(PATH=$PWD/tools:$PATH ends tree/ckpt -v run store script)" 1 || return 1
   has "a run" "$(cat err)" "ckpt: the program was not built" || return 1
   mkdir -p tree/crates/ckpt/out
   printf '#!/bin/sh\necho proved "$@"\n' > tree/crates/ckpt/out/ckpt

@@ -55,20 +55,36 @@ completion_offers_programs_options_and_folders() {
   done
   mkdir stores
   same "a folder" "$(offered restore st)" stores || return 1
-  same "a folder after an option" "$(offered show --json st)" stores
+  same "a folder after an option" "$(offered show --json st)" stores || return 1
+  same "a folder of core files" "$(offered export stores st)" stores
+}
+
+# An option that each program has stands before its name or after it.
+completion_passes_options_before_the_name() {
+  . "$here/../docs/ckpt.bash"
+  mkdir stores
+  touch script
+  has "the programs" " $(offered -q "") " " list " || return 1
+  same "a program" "$(offered --verbose ver)" verify || return 1
+  same "a folder" "$(offered -q list st)" stores || return 1
+  same "an option" "$(offered -q -v show --j)" --json || return 1
+  same "a script" "$(offered -q run stores scr)" script || return 1
+  same "a number" "$(offered -q show stores "")" ""
 }
 
 completion_offers_nothing_for_numbers() {
   . "$here/../docs/ckpt.bash"
   local words
   mkdir 1
-  for words in "diff stores" "drop stores" "show --json stores" "mutate stores" "restore --checkpoint" \
-    "verify --at-least" "export --space" "import --rounds"; do
+  for words in "diff stores" "diff stores 1" "drop stores" "show --json stores" "mutate stores" "restore --checkpoint" \
+    "restore --checkpoint 2 stores" "verify --at-least" "export --space" "import --rounds"; do
     same "$words" "$(offered $words "")" "" || return 1
   done
+  same "a folder after a number" "$(offered restore --checkpoint 1 "")" 1
 }
 
 try manual_is_shown_without_a_warning
 try manual_has_each_program_and_option
 try completion_offers_programs_options_and_folders
 try completion_offers_nothing_for_numbers
+try completion_passes_options_before_the_name

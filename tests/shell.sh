@@ -9,7 +9,7 @@ shell_answers_as_run_does() {
   same "the stores" "$(sums piped)" "$(sums run)"
 }
 
-shell_goes_on_behind_a_line_that_does_not_fit() {
+shell_goes_on_after_a_line_that_does_not_fit() {
   printf 'load 1\nmmap 1 0x10000 4096 rw\n\n# a comment\nfork 1 2\nstore 1 0x10000 68\n' > lines
   ends_with 0 "reopened none
 script line 1
@@ -134,8 +134,8 @@ PYTHON
   same "the images" "$(sums first)" "$(sums second)"
 }
 
-# Behind a failed device call one request opens the store again, whatever else is out.
-shell_reopens_behind_a_failed_call() {
+# After a failed device call one request opens the store again, whatever else is out.
+shell_reopens_after_a_failed_call() {
   calls_can_fail || return
   local number
   { printf 'mmap 1 0x10000 40960 rw\nput 1 0x10000 40960\n'
@@ -201,10 +201,33 @@ shell_helps_on_a_terminal() {
   printf 'help\ncheckpoint 9\nquit\n' > lines
   same "the status" "$(ends python3 "$here/on_terminal.py" 01 "$ckpt" shell store < lines)" 0 || return 1
   has "a request" "$(cat out)" "store SPACE ADDRESS HEX: stores 1 to 64 bytes, with the fault that it may need" || return 1
-  has "a put" "$(cat out)" "put SPACE ADDRESS LENGTH: stores the LENGTH bytes behind the line, 1 to 1048576" || return 1
+  has "a put" "$(cat out)" "put SPACE ADDRESS LENGTH: stores the LENGTH bytes after the line, 1 to 1048576" || return 1
   same "the last answer" "$(tail -n 2 out)" "> refused 1 EINVAL
 > " || return 1
   same "the cause" "$(cat err)" "ckpt: store: a checkpoint has 0 to 8 rounds, not 9"
+}
+
+# Where nobody types, `help` is answered as each line that is no request, and its cause says where the requests are.
+shell_points_to_its_requests() {
+  needs_python || return
+  local long list="ckpt run --help lists the requests, and ckpt shell --help put and get"
+  long=$(printf 'a%.0s' {1..81})
+  printf 'help\nLoad 1 2 3\n load 1\n%s\nfork 1\n' "$long" > lines
+  ends_with 0 "reopened none
+script line 1
+script line 2
+script line 3
+script line 4
+child 2" "ckpt: -: line 1: no request is named \"help\"; $list
+ckpt: -: line 2: no request is named \"Load\"; $list
+ckpt: -: line 3: no request is named \"\"; the line begins with a space; $list
+ckpt: -: line 4: no request is named so; $list" "$ckpt" shell store < lines || return 1
+  has "the requests" "$("$ckpt" run --help)" "store SPACE ADDRESS HEX" || return 1
+  has "the others" "$("$ckpt" shell --help)" "put SPACE ADDRESS LENGTH" || return 1
+  printf 'Load 1 2 3\nquit\n' > lines
+  ends_with 0 'reopened none
+> script line 1: no request is named "Load"; help lists the requests
+> ' "" python3 "$here/on_terminal.py" 01 "$ckpt" shell store < lines
 }
 
 # Where the end of the input is typed, the line of the last prompt is ended.
@@ -280,7 +303,7 @@ client_that_is_killed_loses_nothing() {
 }
 
 try shell_answers_as_run_does
-try shell_goes_on_behind_a_line_that_does_not_fit
+try shell_goes_on_after_a_line_that_does_not_fit
 try shell_names_a_carriage_return
 try shell_answers_the_last_line
 try shell_answers_one_by_one
@@ -289,8 +312,9 @@ try shell_tells_at_once_what_is_saved
 try shell_puts_and_gets_bytes
 try shell_puts_nothing_that_did_not_come
 try shell_puts_as_it_stores
-try shell_reopens_behind_a_failed_call
+try shell_reopens_after_a_failed_call
 try shell_helps_on_a_terminal
+try shell_points_to_its_requests
 try shell_ends_with_quit
 try shell_needs_a_store
 try shell_into_a_full_device

@@ -231,7 +231,7 @@ records_that_find_no_room_are_told() {
     grep -q '^growth refused$' err || break
     if [ "$(tail -n 1 out)" = "acked 1" ] && [ "$status" -le 1 ]; then
       lines=$(wc -l < counts)
-      told=$(sed -n 's/^ckpt: the counts: records left out for want of memory: //p' err)
+      told=$(sed -n 's/^ckpt: the counts: records left out for lack of memory: //p' err)
       [ -z "$told" ] || left_out=$((left_out + 1))
       [ "$((lines + ${told:-0}))" -eq 2 ] || grep -q '^ckpt: the counts: ' err \
         || { echo "growth $number: $lines lines"; cat err; return 1; }

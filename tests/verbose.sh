@@ -62,7 +62,22 @@ quiet_and_verbose_exclude_each_other() {
   same "the output" "$(cat out)" ""
 }
 
+# Both stand before the name of the program too.
+quiet_and_verbose_may_stand_first() {
+  make_store store || return 1
+  "$ckpt" list store > wanted || return 1
+  ends_with 0 "$(cat wanted)" "[INFO  ckpt] img-000: open, 8264 bytes" "$ckpt" -v list store || return 1
+  ends_with 0 "$(cat wanted)" "" "$ckpt" -q list store || return 1
+  ends_with 1 "cannot open DIR" "" "$ckpt" --quiet list missing || return 1
+  same "the status of -vv" "$(ends "$ckpt" -vv verify store)" 0 || return 1
+  has "its calls" "$(cat err)" "[DEBUG ckpt] img-000: read " || return 1
+  same "the status of both" "$(ends "$ckpt" -q -v list store)" 2 || return 1
+  same "the status of an option of another program" "$(ends "$ckpt" --json list store)" 2 || return 1
+  has "the help" "$("$ckpt" --help)" "-q, --quiet"
+}
+
 try jobs_images_and_slots_are_logged
 try device_calls_are_logged
 try shell_and_mutate_are_logged
 try quiet_and_verbose_exclude_each_other
+try quiet_and_verbose_may_stand_first

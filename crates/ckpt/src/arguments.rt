@@ -13,7 +13,7 @@ pub enum Form {
     Unless(&'static str),
     /// An option without a value.
     Flag,
-    /// An option without a value that this letter stands for too.
+    /// An option without a value that this letter stands for too, and which each program has.
     Letter(char),
     /// The same, which may be given several times.
     Counted(char),
@@ -79,7 +79,7 @@ pub const CHECK: Item = Item {
     name: "check",
     form: Form::Value("SCRIPT"),
     conflicts: &["DIR", "restore", "strict", "stats", "summary"],
-    help: "Only tells whether a script fits the language, and opens no folder: prints ok N requests",
+    help: "Only checks whether a script fits the language, and opens no folder: prints ok N requests",
     ..WORD
 };
 
@@ -91,7 +91,7 @@ pub const RESTORES: Item = Item {
 
 pub const STRICT: Item = Item {
     name: "strict",
-    help: "Ends at the first request that is refused or answered segv, and tells its line on standard error: status 1",
+    help: "Ends with status 1 at the first request that is refused or answered segv; its line is on standard error",
     ..FLAG
 };
 
@@ -111,7 +111,7 @@ pub const SUMMARY: Item = Item {
 pub const QUIET: Item = Item {
     name: "quiet",
     form: Form::Letter('q'),
-    help: "Tells no causes and shows no progress on standard error",
+    help: "Reports no causes and shows no progress on standard error",
     ..WORD
 };
 

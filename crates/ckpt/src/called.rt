@@ -12,7 +12,7 @@ const UNFIT: u8 = 2;
 /// The device of nothing.
 pub const NOTHING: &str = "/dev/null";
 
-/// What a fault of the words is told of.
+/// Where a fault of the words is met, as its cause says.
 const COMMAND_LINE: &str = "the command line";
 
 /// The words that the program was called with, or the status where they can't be taken.

@@ -44,7 +44,7 @@ struct Program {
     about: &'static str,
     items: &'static [Item],
     /// What stands at the end of its help. That of `run` is made of the language.
-    behind: Option<&'static str>,
+    after: Option<&'static str>,
 }
 
 /// The programs, in the order of the help.
@@ -53,98 +53,97 @@ const PROGRAMS: [Program; 13] = [
         name: "run",
         work: Work::Run,
         about: "Runs a script over the store in a folder, which is made where it is missing",
-        items: &[
-            DIR_TO_RUN, SCRIPT, CHECK, RESTORES, STRICT, STATS, SUMMARY, QUIET, VERBOSE,
-        ],
-        behind: None,
+        items: &[DIR_TO_RUN, SCRIPT, CHECK, RESTORES, STRICT, STATS, SUMMARY],
+        after: None,
     },
     Program {
         name: "shell",
         work: Work::Shell,
         about: "Answers requests from the standard input over the store in a folder, one by one",
-        items: &[DIR, QUIET, VERBOSE],
-        behind: Some(SHELL),
+        items: &[DIR],
+        after: Some(SHELL),
     },
     Program {
         name: "merge",
         work: Work::Merge,
         about: "Merges the chain of the newest checkpoint in a folder's store into one image",
-        items: &[DIR, STATS, SUMMARY, QUIET, VERBOSE],
-        behind: Some(MERGE),
+        items: &[DIR, STATS, SUMMARY],
+        after: Some(MERGE),
     },
     Program {
         name: "mutate",
         work: Work::Mutate,
         about: "Stores by threads into an empty store while checkpoints are made",
-        items: &[DIR, THREADS, QUIET, VERBOSE],
-        behind: Some(MUTATE),
+        items: &[DIR, THREADS],
+        after: Some(MUTATE),
     },
     Program {
         name: "restore",
         work: Work::Read(Reader::Restore),
         about: "Prints the memory that the store in a folder shows, or had at an older checkpoint",
-        items: &[DIR, CHECKPOINT, JSON, QUIET, VERBOSE],
-        behind: Some(RESTORE),
+        items: &[DIR, CHECKPOINT, JSON],
+        after: Some(RESTORE),
     },
     Program {
         name: "list",
         work: Work::Read(Reader::List),
         about: "Prints the open images of the store in a folder, and which of them is the newest",
-        items: &[DIR, JSON, QUIET, VERBOSE],
-        behind: Some(LIST),
+        items: &[DIR, JSON],
+        after: Some(LIST),
     },
     Program {
         name: "verify",
         work: Work::Read(Reader::Verify),
         about: "Checks that the store in a folder can be restored",
-        items: &[DIR, CHECKPOINT, AT_LEAST, JSON, QUIET, VERBOSE],
-        behind: Some(VERIFY),
+        items: &[DIR, CHECKPOINT, AT_LEAST, JSON],
+        after: Some(VERIFY),
     },
     Program {
         name: "history",
         work: Work::History,
         about: "Prints the checkpoints to which the store in a folder goes back",
-        items: &[DIR, JSON, QUIET, VERBOSE],
-        behind: Some(HISTORY),
+        items: &[DIR, JSON],
+        after: Some(HISTORY),
     },
     Program {
         name: "diff",
         work: Work::Diff,
         about: "Prints what differs between two checkpoints of the store in a folder",
-        items: &[DIR, OLD, NEW, JSON, QUIET, VERBOSE],
-        behind: Some(DIFF),
+        items: &[DIR, OLD, NEW, JSON],
+        after: Some(DIFF),
     },
     Program {
         name: "drop",
         work: Work::Drop,
         about: "Closes an image of the store in a folder that the newest checkpoint doesn't need",
-        items: &[DIR, SLOT_TO_DROP, FORCE_DROP, QUIET, VERBOSE],
-        behind: Some(DROP),
+        items: &[DIR, SLOT_TO_DROP, FORCE_DROP],
+        after: Some(DROP),
     },
     Program {
         name: "show",
         work: Work::Show,
         about: "Prints what stands in the image files of a folder's store",
-        items: &[DIR, SLOT, JSON, QUIET, VERBOSE],
-        behind: Some(SHOW),
+        items: &[DIR, SLOT, JSON],
+        after: Some(SHOW),
     },
     Program {
         name: "export",
         work: Work::Export,
         about: "Writes the memory that the store in a folder shows as ELF core files",
-        items: &[
-            DIR, OUT, CHECKPOINT, ONE_SPACE, NOTES, FORCE, QUIET, VERBOSE,
-        ],
-        behind: Some(EXPORT),
+        items: &[DIR, OUT, CHECKPOINT, ONE_SPACE, NOTES, FORCE],
+        after: Some(EXPORT),
     },
     Program {
         name: "import",
         work: Work::Import,
         about: "Makes the memory of ELF core files that of a space, one after the other, and a checkpoint of each",
-        items: &[DIR, CORES, SPACE, ROUNDS, STATS, SUMMARY, QUIET, VERBOSE],
-        behind: Some(IMPORT),
+        items: &[DIR, CORES, SPACE, ROUNDS, STATS, SUMMARY],
+        after: Some(IMPORT),
     },
 ];
+
+/// The options of each program, which stand before its name or after it.
+const OPTIONS: [Item; 2] = [QUIET, VERBOSE];
 
 /// An argument as its form has it, without its numbers and conflicts.
 fn formed<'a>(alloc: Global, item: &Item) -> Result<Arg<'a>, AllocError> {
@@ -155,8 +154,18 @@ fn formed<'a>(alloc: Global, item: &Item) -> Result<Arg<'a>, AllocError> {
         Form::Optional => Ok(arg),
         Form::Unless(other) => arg.required_unless_present(other),
         Form::Flag => Ok(arg.long(item.name).action(ArgAction::SetTrue)),
-        Form::Letter(letter) => Ok(arg.long(item.name).short(letter).action(ArgAction::SetTrue)),
-        Form::Counted(letter) => Ok(arg.long(item.name).short(letter).action(ArgAction::Count)),
+        Form::Letter(letter) => Ok(
+            arg.long(item.name)
+                .short(letter)
+                .action(ArgAction::SetTrue)
+                .global(true),
+        ),
+        Form::Counted(letter) => Ok(
+            arg.long(item.name)
+                .short(letter)
+                .action(ArgAction::Count)
+                .global(true),
+        ),
         Form::Value(value) => Ok(arg.long(item.name).value_name(value)),
     }
 }
@@ -184,11 +193,11 @@ fn args_of<'a>(alloc: Global, items: &[Item]) -> Result<Vec<Arg<'a>>, AllocError
 fn program_of<'a>(
     alloc: Global,
     program: &Program,
-    behind: &'a str,
+    after: &'a str,
 ) -> Result<Command<'a>, AllocError> {
     Command::new(alloc, program.name)
         .about(program.about)
-        .after_help(behind)
+        .after_help(after)
         .args(args_of(alloc, program.items)?)
 }
 
@@ -196,8 +205,8 @@ fn program_of<'a>(
 fn programs<'a>(alloc: Global, run_help: &'a str) -> Result<Vec<Command<'a>>, AllocError> {
     let mut programs = Vec::with_capacity(alloc, PROGRAMS.len())?;
     for program in PROGRAMS.iter() {
-        let behind = program.behind.unwrap_or(run_help);
-        programs.push(program_of(alloc, program, behind)?)?;
+        let after = program.after.unwrap_or(run_help);
+        programs.push(program_of(alloc, program, after)?)?;
     }
     Ok(programs)
 }
@@ -224,6 +233,7 @@ pub fn command<'a>(alloc: Global, run_help: &'a str) -> Result<Command<'a>, Allo
         .about("Saves modelled memories into image files, and restores them")
         .version(VERSION)
         .after_help(LIMITS)
+        .args(args_of(alloc, &OPTIONS)?)?
         .subcommand_required(true)
         .subcommands(programs(alloc, run_help)?)
 }
@@ -249,5 +259,5 @@ fn push_form(text: &mut String, form: &LineForm) -> Result<(), AllocError> {
     writeln!(text, "{}", form.does)
 }
 
-/// The column in which the help tells what a line does.
+/// The column in which the help says what a line does.
 const FORM_WIDTH: usize = 38;

@@ -4,8 +4,8 @@ pub const LIMITS: &str =
     "Limits: 16 spaces, 1,024 areas of a space, 65,536 mapped pages of 4,096 bytes in all,
 addresses below 2^47, 1 to 64 bytes a load or store, 64 images a store; a checkpoint
 needs two free slots, and one more a round; a merge needs one. A run's journal has 1,048,576
-entries: one a command, two a checkpoint. Behind that many both are answered refused 7
-journal-full; trim makes room up to the last checkpoint. The cause of a failure is told on
+entries: one a command, two a checkpoint. After that many both are answered refused 7
+journal-full; trim makes room up to the last checkpoint. The cause of a failure is reported on
 standard error.";
 
 pub const RUN_HEAD: &str = "Example:
@@ -32,15 +32,15 @@ pub const SHELL: &str = "Example:
 
 Answers the lines of the standard input, which are those of a script, one by one; all answers are
 written before it waits for more. A line that doesn't fit the language is answered with script
-line N and changes nothing; what is wrong with it is told on standard error. It ends with the
+line N and changes nothing; what is wrong with it is reported on standard error. It ends with the
 input, or with the line quit. Where input and output are a terminal it asks for each line, and
 help lists the requests. Beside the lines of scripts it takes
 
-  put SPACE ADDRESS LENGTH   and LENGTH raw bytes behind the line, 1 to 1,048,576: stores them
+  put SPACE ADDRESS LENGTH   and LENGTH raw bytes after the line, 1 to 1,048,576: stores them
   get SPACE ADDRESS LENGTH   answers bytes LENGTH, a newline and the raw bytes
 
 as stores and loads of at most 64 bytes; the first that is refused ends it, and its address
-stands in the answer. Behind a device call that failed, reopen opens the store again.
+stands in the answer. After a device call that failed, reopen opens the store again.
 
 Status: 0 at the end of the input, also where requests were refused; 1 where the store, its
 device, memory, the input or the printing failed (damaged SSS WHY, device, out-of-memory,
@@ -67,7 +67,7 @@ pub const LIST: &str = "Example:
 
 Prints for each open image, rising by serial, slot SSS KIND serial N stands N parent N
 checkpoint N pages N; and then tip N, the serial of the newest dump or merged image, or tip
-none. Whether the tip can be restored isn't checked: verify tells.
+none. Whether the tip can be restored isn't checked: verify does that.
 
 Status: 0; 1 where an open slot is no image, or the device, memory or the printing failed
 (damaged SSS WHY, device, out-of-memory, cannot open DIR); 2 for a fault of the command line.";
@@ -77,7 +77,7 @@ pub const VERIFY: &str = "Example:
 
 Makes all checks of a restore, the digest of each image among them. Prints ok checkpoint N images K,
 with the number of open images, or ok empty where the store shows no checkpoint. An image whose gate
-byte was lost reads as closed, and an older checkpoint is then the newest: --at-least N tells.
+byte was lost reads as closed, and an older checkpoint is then the newest: --at-least N finds it.
 
 Status: 0 where it printed ok; 3 where the store has no image of checkpoint N (no checkpoint N);
 1 where the newest checkpoint is below that of --at-least; 1 where the store can't be restored, or the device, memory or
@@ -90,7 +90,7 @@ pub const HISTORY: &str = "Example:
 
 Prints for each checkpoint that can be restored, newest first, checkpoint N slot SSS serial N
 images N pages N own N: the slot and the serial of its image, how many images it needs, its mapped
-pages, and the bytes of the files that no other checkpoint needs; and newest behind the one that
+pages, and the bytes of the files that no other checkpoint needs; and newest after the one that
 restore prints. Then it prints for each image that none of them needs, rising by serial,
 unneeded slot SSS KIND serial N checkpoint N. A checkpoint lives until a merge closes its images, or a
 later one takes their slots after the store was opened again.
@@ -104,7 +104,7 @@ pub const DIFF: &str = "Example:
 Prints, rising by space and address, a line for each run of pages that differ alike between the
 memories at checkpoints OLD and NEW: + SPACE FIRST-END PROT pages that are mapped in NEW alone, -
 SPACE FIRST-END PROT in OLD alone, ~ SPACE FIRST-END PROT PROT in both with other permissions, and
-* SPACE FIRST-END PAGES in both with other bytes. END is the address behind the last page. Then it
+* SPACE FIRST-END PAGES in both with other bytes. END is the address after the last page. Then it
 prints came N went N protected N written N, with numbers of pages. Pages that both checkpoints take
 from one place of one image aren't read, but for the digest of that image.
 
@@ -161,7 +161,7 @@ pub const MUTATE: &str = "Example:
 Needs a store without an image. Each thread stores the numbers 1 to 1,000 at the start of a page
 of its own, from 0x100000 on in space 1, and loads each back. Meanwhile two checkpoints of two
 rounds are made, the second beside a merge, and a third one when all have ended. Prints threads T
-stores S acked N, and then close ok where the journal accounts for what each thread was told, or
+stores S acked N, and then close ok where the journal accounts for what each thread was answered, or
 close failed.
 
 Status: 0 where all was done and accounted for; 1 where a checkpoint or a thread was refused, or
@@ -215,6 +215,6 @@ core, core too large, cannot read CORE), another program changed it meanwhile (c
 was refused (refused N NAME), or the store, its device, memory or the printing failed
 (damaged SSS WHY, device, out-of-memory, cannot open DIR); 2 for a fault of the command
 line. With status 1 nothing is saved of that core and of those after it, but where the device
-failed at the checkpoint's last step or acked N wasn't printed: verify tells then.
+failed at the checkpoint's last step or acked N wasn't printed: verify then says what is saved.
 
 Only one of run, shell, merge, mutate, import and drop can have a store open at a time.";

@@ -105,7 +105,7 @@ fn has_document(work: Work) -> bool {
     )
 }
 
-/// Reports what stands after the end of a program: after its exit status, and the fault that its last line told.
+/// Reports what stands after the end of a program: after its exit status, and the fault that its last line has.
 fn tell_end(
     called: Called<'_>,
     work: Work,
@@ -127,8 +127,8 @@ fn tell_end(
     }
 }
 
-/// Runs the program that the words ask for, and returns its exit status and whether causes are told. The outer error is
-/// a fault of the words.
+/// Runs the program that the words ask for, and returns its exit status and whether causes are reported. The outer
+/// error is a fault of the words.
 fn run_words<R: Clock + Threads + Wait + Sync, W: Write>(
     rt: &HostRuntime,
     threads: &R,
@@ -142,7 +142,7 @@ fn run_words<R: Clock + Threads + Wait + Sync, W: Write>(
     Ok(run_matched(rt, threads, &matches, found, out))
 }
 
-/// Runs the program that the words name, and returns its exit status and whether causes are told.
+/// Runs the program that the words name, and returns its exit status and whether causes are reported.
 fn run_matched<'a, R: Clock + Threads + Wait + Sync, W: Write>(
     rt: &'a HostRuntime,
     threads: &R,
@@ -162,10 +162,10 @@ fn run_matched<'a, R: Clock + Threads + Wait + Sync, W: Write>(
     (called.causes, status)
 }
 
-/// What a fault of the standard output is told of.
+/// Where a fault of the standard output is met, as its cause says.
 const PRINTED: &str = "standard output";
 
-/// Tells why something wasn't printed. Who closed the other end of a pipe, as `head` does, isn't told.
+/// Reports why something wasn't printed. Who closed the other end of a pipe, as `head` does, needs no report.
 fn tell_refusal(rt: &impl Eprint, causes: Causes, error: Option<&io::Error>) {
     if let Some(error) = error
         && error.kind() != io::ErrorKind::BrokenPipe

@@ -9,7 +9,7 @@ use std::sync::Wait;
 use std::thread::Threads;
 use std::time::Clock;
 
-/// What is told of a store with an image.
+/// What is reported of a store with an image.
 const NOT_EMPTY: &str = "it has an image; name a folder that is missing, or has none";
 
 /// Why a run of threads stops the program.

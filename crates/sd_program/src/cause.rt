@@ -4,7 +4,7 @@
 use std::fmt;
 use std::fmt::Display;
 
-/// Whether causes are told.
+/// Whether causes are reported.
 #[derive(Clone, Copy, PartialEq, Eq)]
 pub enum Causes {
     Told,
@@ -25,7 +25,7 @@ impl<C: Display> Display for Advised<'_, C> {
     }
 }
 
-/// Tells the cause of a fault, after what it was met at.
+/// Reports the cause of a fault, after the place where it was met.
 pub fn tell<C: Display>(rt: &impl Eprint, causes: Causes, place: &str, cause: &C) {
     if causes == Causes::Told {
         let place = if place.is_empty() { NO_NAME } else { place };
@@ -33,5 +33,5 @@ pub fn tell<C: Display>(rt: &impl Eprint, causes: Causes, place: &str, cause: &C
     }
 }
 
-/// What is told of an empty name.
+/// What stands in the place of an empty name.
 const NO_NAME: &str = "an empty name";

@@ -65,10 +65,10 @@ pub fn open_store(
     disk_over(rt, causes, folder, opened, IS_MISSING, found)
 }
 
-/// What is told of a folder that is missing, where none is made.
+/// What is reported of a folder that is missing, where none is made.
 const IS_MISSING: &str = "; is it the folder that is meant? ckpt run makes one";
 
-/// What is told of a folder that is none.
+/// What is reported of a folder that is none.
 const IS_NO_FOLDER: &str = "; DIR is the folder of a store, with the files img-000 to img-063";
 
 /// What may help where a folder isn't opened. Of one that is missing it is what the caller gives.

@@ -57,7 +57,7 @@ impl Pace {
         last: None,
     };
 
-    /// How long it took so far, where a line is due. The first call is the beginning.
+    /// How long it took so far, where it is time for a line. The first call is the beginning.
     pub fn due<R: Clock>(&mut self, clock: &R) -> Option<Duration> {
         let now = Instant::now(clock).ok()?;
         let (Some(begun), Some(last)) = (self.begun, self.last) else {

@@ -11,10 +11,10 @@ use std::rt::Files;
 /// The name of the standard input, as a script.
 pub const STANDARD_INPUT: &str = "-";
 
-/// What is told of a script that is a folder.
-const IS_FOLDER: &str = "; SCRIPT is a file, and stands behind DIR";
+/// What is reported of a script that is a folder.
+const IS_FOLDER: &str = "; SCRIPT is a file, and stands after DIR";
 
-/// What is told of a file of counts that is the script.
+/// What is reported of a file of counts that is the script.
 const IS_SCRIPT: &str = "the script that is to be run, which isn't written over: name another";
 
 /// The bytes of a script, which is the standard input where it is named so.
@@ -50,7 +50,7 @@ pub fn unread(rt: &impl Eprint, causes: Causes, script: &str, error: &io::Error)
 #[derive(Clone, Copy)]
 pub struct Inputs<'a> {
     pub paths: &'a [&'a str],
-    /// What is told of a file of counts that is one of them.
+    /// What is reported of a file of counts that is one of them.
     pub cause: &'a str,
 }
 

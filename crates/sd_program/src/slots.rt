@@ -8,7 +8,7 @@ use std::path::PathBuf;
 use std::rt::Files;
 use std::{fs, io};
 
-/// What is told of a slot's file that was to be written as another.
+/// What is reported of a slot's file that was to be written as another.
 const IS_SLOT: &str = "a slot's file of the store, which isn't written over: name another";
 
 /// How many symbolic links of a path are followed.

@@ -41,7 +41,7 @@ struct DropAsked<'a> {
 }
 
 impl DropAsked<'_> {
-    /// Closes the image, and tells what the system answered where that failed.
+    /// Closes the image, and reports what the system answered where that failed.
     fn close<R: Clock + Wait>(&self, clock: &R) -> Result<Result<(), DropError>, Stop> {
         let called = self.called;
         let mut disk = self.seen.disk("drop", called.make_store(clock)?);

@@ -39,7 +39,7 @@ impl fmt::Display for Damage<'_> {
         let words = reason_phrase(*reason);
         write!(
             f,
-            "img-{slot:03} is damaged: {words}; ckpt show {folder} {slot} tells more"
+            "img-{slot:03} is damaged: {words}; ckpt show {folder} {slot} says more"
         )?;
         if *reason == Reason::Chain {
             write!(f, ", ckpt list {folder} has the images that are there")?;
@@ -57,7 +57,7 @@ impl fmt::Display for Damage<'_> {
     }
 }
 
-/// Reports what is damaged, if a program's last line told that.
+/// Reports what is damaged, if a program's last line says so.
 pub fn tell_damage(called: Called<'_>, told: Option<Fault>) {
     if called.causes == Causes::Kept {
         return;
@@ -84,9 +84,9 @@ pub fn tell_empty(called: Called<'_>, tells_fault: bool) {
     }
 }
 
-/// What is told of a store without a checkpoint.
+/// What is reported of a store without a checkpoint.
 const NOTHING_SAVED: &str = "it shows no checkpoint; run, shell, mutate and import make one";
 
-/// What is told of a folder without files of slots.
+/// What is reported of a folder without files of slots.
 const NO_FILES: &str =
     "it has none of the files img-000 to img-063; is it the folder that is meant?";

@@ -1,18 +1,62 @@
-//! What a shell tells beside its answers: what is wrong with a line, which requests there are, and limits.
+//! What a shell reports beside its answers: what is wrong with a line, which requests there are, and limits.
 
 use crate::asking::Asking;
 use crate::bulk::{MOST_BYTES, blame_explained, explained_by};
 use crate::shell::Asked;
 use sd_exit::{Output, Stop};
 use sd_program::{Causes, STANDARD_INPUT};
-use sd_script::LINE_FORMS;
+use sd_script::{Blame, LINE_FORMS, LineFault};
 use std::io::Write;
 use std::{fmt, io};
 
 /// The most rounds of a checkpoint.
 const MOST_ROUNDS: u64 = 8;
 
-/// Answers a line that doesn't fit, and tells what is wrong with it: on a terminal beside the answer, and else on the
+/// The most bytes of a word that is quoted.
+const MOST_QUOTED: usize = 80;
+
+/// What is wrong with a line, and where the requests are listed if its first word names none.
+#[derive(Clone, Copy)]
+struct Explained<'a> {
+    blame: Blame<'a>,
+    asking: Asking,
+}
+
+impl Explained<'_> {
+    /// Where the requests are listed.
+    fn list(self) -> &'static str {
+        match self.asking {
+            Asking::Prompts => "help lists the requests",
+            Asking::Silent => {
+                "ckpt run --help lists the requests, and ckpt shell --help put and get"
+            }
+        }
+    }
+
+    /// Says that no request has the first word, which is quoted unless it is long.
+    fn write_unknown<W: fmt::Write>(self, f: &mut fmt::Formatter<W>) -> fmt::Result {
+        f.write_str("no request is named ")?;
+        match self.blame.field {
+            Some(word) if word.len() <= MOST_QUOTED => write!(f, "{word:?}")?,
+            _ => f.write_str("so")?,
+        }
+        if let Some(blank) = self.blame.blank {
+            write!(f, "; {blank}")?;
+        }
+        write!(f, "; {}", self.list())
+    }
+}
+
+impl fmt::Display for Explained<'_> {
+    fn fmt<W: fmt::Write>(&self, f: &mut fmt::Formatter<W>) -> fmt::Result {
+        match self.blame.fault {
+            LineFault::UnknownRequest => self.write_unknown(f),
+            _ => write!(f, "{}", self.blame),
+        }
+    }
+}
+
+/// Answers a line that doesn't fit, and reports what is wrong with it: on a terminal beside the answer, and else on the
 /// standard error.
 pub(crate) fn refuse_line<W: Write>(
     asked: Asked<'_>,
@@ -22,14 +66,17 @@ pub(crate) fn refuse_line<W: Write>(
 ) -> Result<(), Stop> {
     let alloc = asked.called.rt.alloc();
     let explained = explained_by(alloc, line)?;
-    let blame = blame_explained(alloc, &explained)?;
+    let cause = Explained {
+        blame: blame_explained(alloc, &explained)?,
+        asking: asked.asking,
+    };
     if asked.asking == Asking::Prompts {
-        writeln!(out, "script line {number}: {blame}")?;
+        writeln!(out, "script line {number}: {cause}")?;
         return Ok(());
     }
     writeln!(out, "script line {number}")?;
     if asked.called.causes == Causes::Told {
-        let _ = eprintln!(asked.called.rt; "ckpt: {STANDARD_INPUT}: line {number}: {blame}");
+        let _ = eprintln!(asked.called.rt; "ckpt: {STANDARD_INPUT}: line {number}: {cause}");
     }
     Ok(())
 }
@@ -48,7 +95,7 @@ impl fmt::Display for TooManyRounds {
     }
 }
 
-/// Tells how many rounds a checkpoint has at most, where more were asked for.
+/// Reports how many rounds a checkpoint has at most, where more were asked for.
 pub(crate) fn tell_rounds(asked: Asked<'_>, rounds: Option<u64>) {
     if let Some(rounds) = rounds
         && rounds > MOST_ROUNDS
@@ -64,7 +111,7 @@ pub(crate) fn print_requests<W: Write>(out: &mut Output<W>) -> io::Result<()> {
     }
     writeln!(
         out,
-        "put SPACE ADDRESS LENGTH: stores the LENGTH bytes behind the line, 1 to {MOST_BYTES}"
+        "put SPACE ADDRESS LENGTH: stores the LENGTH bytes after the line, 1 to {MOST_BYTES}"
     )?;
     writeln!(
         out,

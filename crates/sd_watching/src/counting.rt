@@ -29,7 +29,7 @@ pub(crate) struct LeftOut(pub(crate) u64);
 impl fmt::Display for LeftOut {
     fn fmt<W: fmt::Write>(&self, f: &mut fmt::Formatter<W>) -> fmt::Result {
         let LeftOut(count) = self;
-        write!(f, "records left out for want of memory: {count}")
+        write!(f, "records left out for lack of memory: {count}")
     }
 }
 
@@ -212,7 +212,7 @@ fn log_left_out(log: &Logger<'_>, count: u64) {
     if count > 0 {
         log_info(
             log,
-            &format_args!("records left out for want of memory: {count}"),
+            &format_args!("records left out for lack of memory: {count}"),
         );
     }
 }

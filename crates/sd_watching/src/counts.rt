@@ -11,7 +11,7 @@ use std::{fs, io};
 /// The name of the standard error, as a file of counts.
 const STANDARD_ERROR: &str = "-";
 
-/// What is told of a file of counts that can't be made since its folder is missing.
+/// What is reported of a file of counts that can't be made since its folder is missing.
 const IS_IN_NO_FOLDER: &str = "; the folder in which it is to stand has to be there";
 
 /// The file to which the standard output goes, by the name that the system has for it.
@@ -77,8 +77,8 @@ fn open_counts(rt: &HostRuntime, folder: &str, inputs: Inputs<'_>, name: &str) -
     open_beside_slots(rt, folder, name)
 }
 
-/// Where the lines go. A file that can't be made is told, and so is one of a slot of the store. What stands in it stays
-/// until the run begins.
+/// Where the lines go. A file that can't be made is reported, and so is one of a slot of the store. What stands in it
+/// stays until the run begins.
 fn lines_to<W: Write>(
     called: Called<'_>,
     inputs: Inputs<'_>,

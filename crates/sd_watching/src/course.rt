@@ -43,7 +43,7 @@ pub struct Failure {
     pub answer: Vec<u8>,
 }
 
-/// How far the run of a script is, as it is told.
+/// How far the run of a script is, as it is reported.
 #[derive(Drop)]
 pub struct Course<'a> {
     rt: &'a HostRuntime,
@@ -133,7 +133,7 @@ impl<'a> Course<'a> {
         }
     }
 
-    /// Keeps how many slots the next request found free. A count that finds no room isn't told.
+    /// Keeps how many slots the next request found free. A count that finds no room is left out.
     fn note_few(&mut self, core: &Core) {
         if let Ok(free) = core.free_slots() {
             self.few = Some(FewAt {
@@ -143,7 +143,7 @@ impl<'a> Course<'a> {
         }
     }
 
-    /// Keeps the answer of a request that failed. One that finds no room isn't told.
+    /// Keeps the answer of a request that failed. One that finds no room is left out.
     fn note_failure(&mut self, request: usize, given: &Answer) {
         let mut answer = Vec::new(self.rt.alloc());
         if print_answer(given, &mut answer).is_ok() {
@@ -151,7 +151,7 @@ impl<'a> Course<'a> {
         }
     }
 
-    /// Looks at the clock, and writes the script's line where it is due.
+    /// Looks at the clock, and writes the script's line where it is time for it.
     fn look(&mut self) {
         if let Some(took) = self.pace.due(self.rt) {
             // A line that can't be written is no fault of the run.

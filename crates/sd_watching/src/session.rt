@@ -19,7 +19,7 @@ use std::time::Clock;
 /// The disk of a store whose calls are counted, logged, and shown while it is opened.
 pub type CountedDisk<'a> = Meters<'a, HostRuntime, SeenDisk<'a>>;
 
-/// What is told of counts that are missing.
+/// Where missing counts are met, as their cause says.
 const COUNTS: &str = "the counts";
 
 /// The exit status where counts are missing.
