@@ -197,12 +197,13 @@ fn work_by_two<R: Threads + Wait + Clock + Files + Alloc + Abort + Sync>(
     case: Case,
     told: &mut Told,
 ) {
+    let (low, high) = seats;
     let mut first = Mutator {
-        seat: seats.0,
+        seat: low,
         receipts: Vec::new(alloc),
     };
     let mut last = Mutator {
-        seat: seats.1,
+        seat: high,
         receipts: Vec::new(alloc),
     };
     assert!(rt; first.prepare(rt, alloc, shared, case.pages()));
