@@ -42,6 +42,22 @@ folders_of_an_export_are_synced_into_their_parents() {
   are_synced_into_their_parents y1 y1/y2
 }
 
+# No program empties a file of a slot as it opens it, nor removes or renames one: what stands there is what is found.
+files_of_slots_are_opened_as_they_are() {
+  local words
+  command -v strace > /dev/null || { echo "needs strace"; return 77; }
+  strace -o calls true 2> err || { echo "strace can't run here"; return 77; }
+  make_store store || return 1
+  echo 'checkpoint 0' > script
+  for words in "run store script" "restore store" "verify store" "merge store" "export store cores"; do
+    # shellcheck disable=SC2086
+    strace -f -o calls -e trace=openat,open,creat,unlink,unlinkat,rename,renameat,renameat2,truncate \
+      "$ckpt" $words > answers 2> err || { cat answers err; return 1; }
+    [ "$(grep -c 'img-[0-9]' calls)" -ge 64 ] || { echo "$words opens no slot"; return 1; }
+    ! grep -E 'img-[0-9].*O_TRUNC|(creat|unlink|rename|truncate)[a-z0-9]*\(.*img-[0-9]' calls || return 1
+  done
+}
+
 # Whether each of these folders is synced before a file of a slot is made or written.
 are_synced_first() {  # are_synced_first FOLDER..
   local folder
@@ -211,6 +227,7 @@ scripts_may_come_through_a_pipe() {
 }
 
 try new_folder_stands_in_its_parent
+try files_of_slots_are_opened_as_they_are
 try folders_are_synced_into_their_parents
 try folders_of_an_export_are_synced_into_their_parents
 try folders_above_a_store_are_synced_first

@@ -12,7 +12,7 @@ growths_can_be_refused() {
 
 # Whether a run ended since no thread could be made: the mutators then come after the dumper, which has waited for them
 # in vain.
-lacks_a_thread() { grep -q '^  left: (Err(Idle), Err(Idle))$' out err; }
+lacks_a_thread() { grep -q 'no thread could be made' out err; }
 
 # Runs a test once for each growth, or once for so many of them, which is refused. Growths are counted from 1.
 pass_without() {  # pass_without CRATE TEST STEP [FIRST]
@@ -64,7 +64,7 @@ refuse_each() {  # refuse_each NAME JOBS
 run_at_random() {
   local program=$here/../crates/test_shared/out/test_shared_tests run
   for run in $(seq 100); do
-    timeout 300 "$program" eight::eight_seats_at_random > out 2> err || { cat out err; return 1; }
+    timeout 300 "$program" cases::eight_seats_at_random > out 2> err || { cat out err; return 1; }
   done
   echo "eight_seats_at_random: 1000 runs passed"
 }

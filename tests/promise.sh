@@ -73,7 +73,7 @@ promise_is_small() {
   [ "$count" -le 100 ] || { echo "$count definitions"; return 1; }
   has "docs/BELIEVED.md" "$(cat "$sources/docs/BELIEVED.md")" "$told" || return 1
   has "the README" "$(cat "$sources/README.md")" "$told" || return 1
-  [ "$(wc -l < "$sources/docs/PROMISE.md")" -le 300 ] || { echo "the page is too long"; return 1; }
+  [ "$(wc -l < "$sources/docs/PROMISE.md")" -le 340 ] || { echo "the page is too long"; return 1; }
 }
 
 # docs/BELIEVED.md and the README have the same number, and the former lists the definitions.

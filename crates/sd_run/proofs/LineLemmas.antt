@@ -144,7 +144,7 @@ module _ {D : Type 0} (g : Ghosts D) (lines : List Line) (old new : D) (before a
     ends = run.ends;
     front = run.front;
     back = run.back;
-    line = run.line;
+    text = run.text;
     printed = then_nothing before a b (flat_map answer_line run.told ++ run.front) run.printed none;
   }
 

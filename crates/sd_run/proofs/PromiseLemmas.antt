@@ -1,9 +1,18 @@
 -- What is promised of the run of a script, from how its world goes on.
-use Rattle.std.proofs.Common.{◌≡◌, ◌≤◌, ℕ, true, List, [], ◌∷◌, ◌++◌, length, Option, Some, None, Result, IfOk, refl, sym, ◌∙◌, ap, subst, inl, inr, append-nil, arith}
+use Rattle.std.proofs.Common.{◌≡◌, ◌≤◌, ℕ, true, false, List, [], ◌∷◌, ◌++◌, length, Option, Some, None, Result, IfOk, refl, sym, ◌∙◌, ap, subst, inl, inr, append-nil, arith}
 use Rattle.std.specs.Io.KnownBytes.{Appends}
 use Rattle.std.specs.List.{AllByRecursion, flat_map}
 use Rattle.std.specs.Prelude.{◌⊎◌}
+use Rattle.sd_areas.specs.PlainMemory.{PlainMemory}
+use Rattle.sd_pagetable.specs.declared.access_error.AccessError.{AccessError}
+use Rattle.sd_pagetable.specs.declared.access_error.AccessError.TheVariants.{Refused, Segv}
+use Rattle.sd_pagetable.specs.declared.segv.Segv.{Segv as Fault}
+use Rattle.sd_pagetable.specs.Contents.{Contents, plain_of}
+use Rattle.sd_command.specs.declared.refusal.Refusal.{Refusal}
+use Rattle.sd_command.specs.declared.refusal.Refusal.TheVariants as refusal
 use Rattle.sd_command.specs.declared.reply.Reply.{Reply}
+use Rattle.sd_command.specs.declared.reply.Reply.TheVariants as reply
+use Rattle.sd_command.specs.Replies.{refusal_of, reply_of}
 use Rattle.sd_disk.specs.declared.disk.Disk.{Ghosts}
 use Rattle.sd_gate.specs.declared.worker.Worker.{Worker}
 use Rattle.sd_gate.specs.declared.worker.Worker.TheVariants.{Dumper, Merger, Opener}
@@ -23,23 +32,45 @@ use Rattle.sd_world.proofs.HeadlineLemmas.{first_stands}
 use Rattle.sd_world.proofs.PointLemmas.{drives_honest, drives_reach}
 use Rattle.sd_run.specs.Lines.{AnswersLine, AnswersLines, script_seat}
 use Rattle.sd_run.specs.Promise.{AreEventsOf, GoesByLine, GoesByLines, IsAnswerOf, LastIs, Promise, PromiseSoFar, RunsLine, Tells}
+use Rattle.sd_run.specs.Words.{AreGiven, words_due}
 use Rattle.sd_run.specs.Whole.{AreTold, IsPartOfRun, IsWholeRun, RunIsOpened}
 
 -- events of a worker: its steps, and the device calls that it asked for
 abbrev AreOf : Worker → List Event → Type 0
 AreOf worker events = AllByRecursion (λ event. (event ≡ Work worker) ⊎ (event ≡ Perform worker)) events
 
+-- none of these replies ends a job, or refuses
+abbrev GoOn : List Reply → Type 0
+GoOn before = AllByRecursion (λ reply. is_end reply ≡ false) before
+
 -- the answer is the last of these replies
-last_is : (fact : Reply → Type 0) (before : List Reply) (last : Reply) → fact last → LastIs fact (before ++ last ∷ []) (answer.Reply last)
-last_is fact before last holds = record { before = before; last = last; are = refl; is = refl; holds = holds }
+is_last : (before : List Reply) (last : Reply) → GoOn before → LastIs false (before ++ last ∷ []) (answer.Reply last)
+is_last before last goes_on = record { before = before; last = last; are = refl; is = refl; goes_on = goes_on; ends = λ no. absurd (never no) }
+  where
+    never : false ≡ true → ⊥
+    never no = cc
 
--- of which nothing more is told
-is_last : (before : List Reply) (last : Reply) → LastIs (λ reply. Unit {0}) (before ++ last ∷ []) (answer.Reply last)
-is_last before last = last_is (λ reply. Unit {0}) before last tt
+-- which ends a job
+is_end_of : (before : List Reply) (last : Reply) → GoOn before → is_end last ≡ true → LastIs true (before ++ last ∷ []) (answer.Reply last)
+is_end_of before last goes_on ends = record { before = before; last = last; are = refl; is = refl; goes_on = goes_on; ends = λ _. ends }
 
--- or which ends a job
-is_end_of : (before : List Reply) (last : Reply) → is_end last ≡ true → LastIs (λ reply. is_end reply ≡ true) (before ++ last ∷ []) (answer.Reply last)
-is_end_of before last ends = last_is (λ reply. is_end reply ≡ true) before last ends
+-- words are given, or refused
+denied_words : (memory : PlainMemory) (space address count : ℕ) (denied : AccessError) → words_due memory space address count ≡ Some denied
+    → (why : Refusal) × (reply_of denied ≡ reply.Refused why)
+denied_words memory space address count (Refused why) is = (refusal_of why, refl)
+denied_words memory space address count (Segv why) is = absurd (never why is)
+  where
+    never : (why : Fault) → words_due memory space address count ≡ Some (Segv why) → ⊥
+    never why is = grind arith
+
+words_told : (memory : Contents) (space address count : ℕ) (given : Answer) (replies : List Reply) → AreGiven memory space address count given
+    → IsAnswerOf (line.Words space address count) replies given
+words_told memory space address count given replies (inl denied) =
+    let why = denied_words (plain_of memory) space address count denied.0 denied.1 in
+    inr (why.0, denied.2 ∙ ap answer.Reply why.1)
+words_told memory space address count given replies (inr (inl refused)) = inr (refusal.OutOfMemory, refused)
+words_told memory space address count (answer.Words words) replies (inr (inr are)) = inl (words, refl)
+words_told memory space address count (answer.Reply r) replies (inr (inr are)) = absurd are.1
 
 module _ {D : Type 0} (g : Ghosts D) (follow : PointsFollow g) where
   -- a world goes on to another, and from each point at which it may stand there is one at which the other stands
@@ -77,14 +108,14 @@ module _ {D : Type 0} (g : Ghosts D) (follow : PointsFollow g) where
 
   by_job : (asked : Line) (order : Event) (worker : Worker) (first last : WorldView D) (reply : Reply)
       → ((events : List Event) → AreOf worker events → AreEventsOf asked (order ∷ events))
-      → ((before : List Reply) → is_end reply ≡ true → IsAnswerOf asked (before ++ reply ∷ []) (answer.Reply reply))
+      → ((before : List Reply) → GoOn before → is_end reply ≡ true → IsAnswerOf asked (before ++ reply ∷ []) (answer.Reply reply))
       → IsJob g order worker first reply last → g.is_honest last.disk
       → Reaches first last (λ from to. GoesByLine g asked from (answer.Reply reply) to)
   by_job asked order worker first last reply are told (IsJob.refused ended step) honest from stands =
       let one = follow order first reply last step honest from stands in (
         one.0,
         one.1,
-        record { events = order ∷ []; replies = reply ∷ []; goes = (one.0, one.2, refl); events_are = are [] tt; answer = told [] ended },
+        record { events = order ∷ []; replies = reply ∷ []; goes = (one.0, one.2, refl); events_are = are [] tt; answer = told [] tt ended },
       )
   by_job asked order worker first last reply are told (IsJob.finished begun mid goes_on step finished) honest from stands =
       let driven = finished.driven in
@@ -97,7 +128,7 @@ module _ {D : Type 0} (g : Ghosts D) (follow : PointsFollow g) where
           replies = begun ∷ (driven.before ++ reply ∷ []);
           goes = (one.0, one.2, all.2.goes);
           events_are = are all.2.events all.2.are;
-          answer = told (begun ∷ driven.before) finished.ends;
+          answer = told (begun ∷ driven.before) (goes_on, driven.goes_on) finished.ends;
         },
       )
 
@@ -106,39 +137,39 @@ module _ {D : Type 0} (g : Ghosts D) (follow : PointsFollow g) where
   line_reaches (line.Words space address count) first last given answers honest = λ from stands. (
     from,
     subst (λ (w : WorldView D). StandsAt w from) (sym answers.1) stands,
-    record { events = []; replies = []; goes = refl; events_are = refl; answer = tt },
+    record { events = []; replies = []; goes = refl; events_are = refl; answer = words_told first.core.memory space address count given [] answers.0 },
   )
   line_reaches (line.Command command) first last (answer.Reply r) answers honest =
-      by_event (line.Command command) (Command script_seat command) first last r refl (is_last [] r) answers honest
+      by_event (line.Command command) (Command script_seat command) first last r refl (is_last [] r tt) answers honest
   line_reaches (line.Begin rounds) first last (answer.Reply r) answers honest =
-      by_event (line.Begin rounds) (Begin rounds) first last r refl (is_last [] r) answers honest
+      by_event (line.Begin rounds) (Begin rounds) first last r refl (is_last [] r tt) answers honest
   line_reaches line.BeginMerge first last (answer.Reply r) answers honest =
-      by_event line.BeginMerge Merge first last r refl (is_last [] r) answers honest
+      by_event line.BeginMerge Merge first last r refl (is_last [] r tt) answers honest
   line_reaches line.Cancel first last (answer.Reply r) answers honest =
-      by_event line.Cancel Cancel first last r refl (is_last [] r) answers honest
+      by_event line.Cancel Cancel first last r refl (is_last [] r tt) answers honest
   line_reaches (line.Work worker) first last (answer.Reply r) answers honest =
-      by_event (line.Work worker) (Work worker) first last r refl (is_last [] r) answers honest
+      by_event (line.Work worker) (Work worker) first last r refl (is_last [] r tt) answers honest
   line_reaches (line.Perform worker) first last (answer.Reply r) answers honest =
-      by_event (line.Perform worker) (Perform worker) first last r refl (is_last [] r) answers honest
+      by_event (line.Perform worker) (Perform worker) first last r refl (is_last [] r tt) answers honest
   line_reaches (line.PerformAt worker place) first last (answer.Reply r) answers honest =
-      by_event (line.PerformAt worker place) (PerformAt worker place) first last r refl (is_last [] r) answers honest
+      by_event (line.PerformAt worker place) (PerformAt worker place) first last r refl (is_last [] r tt) answers honest
   line_reaches line.Trim first last (answer.Reply r) answers honest =
-      by_event line.Trim Trim first last r refl (is_last [] r) answers honest
+      by_event line.Trim Trim first last r refl (is_last [] r tt) answers honest
   line_reaches (line.Step worker count) first last (answer.Reply r) answers honest =
       by_worker (line.Step worker count) worker first last answers.before r (λ events are. record { others = events; are = refl; of_worker = are })
-      (is_last answers.before r) answers.drives honest
+      (is_last answers.before r answers.goes_on) answers.drives honest
   line_reaches (line.Finish worker) first last (answer.Reply r) answers honest =
       by_worker (line.Finish worker) worker first last answers.driven.before r (λ events are. record { others = events; are = refl; of_worker = are })
-      (is_end_of answers.driven.before r answers.ends) answers.driven.drives honest
+      (is_end_of answers.driven.before r answers.driven.goes_on answers.ends) answers.driven.drives honest
   line_reaches (line.Checkpoint rounds) first last (answer.Reply r) answers honest =
       by_job (line.Checkpoint rounds) (Begin rounds) Dumper first last r (λ events are. record { others = events; are = refl; of_worker = are })
-      (λ before ended. is_end_of before r ended) answers honest
+      (λ before goes_on ended. is_end_of before r goes_on ended) answers honest
   line_reaches line.Merge first last (answer.Reply r) answers honest =
       by_job line.Merge Merge Merger first last r (λ events are. record { others = events; are = refl; of_worker = are })
-      (λ before ended. is_end_of before r ended) answers honest
+      (λ before goes_on ended. is_end_of before r goes_on ended) answers honest
   line_reaches line.Reopen first last (answer.Reply r) answers honest =
       by_job line.Reopen Reopen Opener first last r (λ events are. record { others = events; are = refl; of_worker = are })
-      (λ before ended. is_end_of before r ended) answers honest
+      (λ before goes_on ended. is_end_of before r goes_on ended) answers honest
   line_reaches _ first last (answer.Words words) answers honest = absurd answers
 
   pub runs_line : {E : Type 0} (asked : Line) (first last : WorldView D) (given : Answer) (ended : Result Answer E) (before now : Option (List ℕ))
@@ -225,7 +256,7 @@ module _ {D : Type 0} (g : Ghosts D) (follow : PointsFollow g) where
       → Parts answers before now → PromiseSoFar g lines old new before now
   run_of lines old new before now opened last done rest answers opening answered parts disk honest told =
       let at_first = lines_honest opened last done answers answered honest in
-      let all = lines_reach opened last done answers answered honest (first_point opened) (first_stands opened opening.journal opening.idle opening.bare) in
+      let all = lines_reach opened last done answers answered honest (first_point opened) (first_stands opened opening.journal opening.idle opening.numbers opening.bare) in
       record {
         first = first_point opened;
         last = all.0;
@@ -244,7 +275,7 @@ module _ {D : Type 0} (g : Ghosts D) (follow : PointsFollow g) where
         ends = disk ∙ sym all.1.disk;
         front = told.front;
         back = told.back;
-        line = told.line;
+        text = told.line;
         printed = told.printed;
       }
 

@@ -1,9 +1,12 @@
 -- What is promised of the run of a script: of its lines, their answers, what is printed, and the disk alone.
-use Rattle.std.specs.Prelude.{◌≡◌, ◌⊎◌, ◌≤◌, ℕ, Bool, true, List, [], ◌∷◌, ◌++◌, length, Option, None, Result, IfErr}
-use Rattle.std.specs.Prelude.{IfOk}
+use Rattle.std.specs.Prelude.{◌≡◌, ◌⊎◌, ◌≤◌, ℕ, Bool, true, false, List, [], ◌∷◌, ◌++◌, length, Option, None, Result}
+use Rattle.std.specs.Prelude.{IfErr, IfOk}
+use Rattle.std.specs.Global.{Vec}
 use Rattle.std.specs.List.{AllByRecursion, flat_map}
 use Rattle.std.specs.Io.KnownBytes.{Appends}
+use Rattle.sd_command.specs.declared.refusal.Refusal.{Refusal}
 use Rattle.sd_command.specs.declared.reply.Reply.{Reply}
+use Rattle.sd_command.specs.declared.reply.Reply.TheVariants as reply
 use Rattle.sd_disk.specs.Crash.{Within}
 use Rattle.sd_disk.specs.Reads.{OnlyReads}
 use Rattle.sd_disk.specs.declared.disk.Disk.{Ghosts}
@@ -51,22 +54,24 @@ AreEventsOf (line.Checkpoint rounds) events = IsJobOf (Begin rounds ∷ []) Dump
 AreEventsOf line.Merge events = IsJobOf (Merge ∷ []) Merger events
 AreEventsOf line.Reopen events = IsJobOf (Reopen ∷ []) Opener events
 
--- the answer is the last reply, of which this is so
-pub record LastIs (fact : Reply → Type 0) (replies : List Reply) (given : Answer) : Type 0 where
+-- The answer is the last reply. None before it ends a job or refuses; it does itself, where the line is a whole job's.
+pub record LastIs (whole : Bool) (replies : List Reply) (given : Answer) : Type 0 where
   pub before : List Reply
   pub last : Reply
   pub are : replies ≡ before ++ last ∷ []
   pub is : given ≡ answer.Reply last
-  pub holds : fact last
+  pub goes_on : AllByRecursion (λ reply. is_end reply ≡ false) before
+  pub ends : whole ≡ true → is_end last ≡ true
 
--- that of a whole job ends it, or is a refusal
+-- A line that asks for words makes no event: it is answered by words, or refused.
 abbrev pub IsAnswerOf : Line → List Reply → Answer → Type 0
-IsAnswerOf (line.Words space address count) replies given = Unit {0}
-IsAnswerOf (line.Finish worker) replies given = LastIs (λ reply. is_end reply ≡ true) replies given
-IsAnswerOf (line.Checkpoint rounds) replies given = LastIs (λ reply. is_end reply ≡ true) replies given
-IsAnswerOf line.Merge replies given = LastIs (λ reply. is_end reply ≡ true) replies given
-IsAnswerOf line.Reopen replies given = LastIs (λ reply. is_end reply ≡ true) replies given
-IsAnswerOf _ replies given = LastIs (λ reply. Unit {0}) replies given
+IsAnswerOf (line.Words space address count) replies given =
+    ((words : Vec ℕ) × (given ≡ answer.Words words)) ⊎ ((why : Refusal) × (given ≡ answer.Reply (reply.Refused why)))
+IsAnswerOf (line.Finish worker) replies given = LastIs true replies given
+IsAnswerOf (line.Checkpoint rounds) replies given = LastIs true replies given
+IsAnswerOf line.Merge replies given = LastIs true replies given
+IsAnswerOf line.Reopen replies given = LastIs true replies given
+IsAnswerOf _ replies given = LastIs false replies given
 
 -- ---- from one point of a run to a later one
 
@@ -113,8 +118,8 @@ pub record PromiseSoFar {D : Type 0} (g : Ghosts D) (lines : List Line) (old new
   pub reads : OnlyReads g old first.disk
   pub entries : first.entries ≡ []
   pub begun : first.begun ≡ None
-  pub shows : Shows (g.contents old) first.first
-  pub everywhere : Within (g.may_leave first.disk) (λ c. Shows c first.first)
+  pub shows : Shows (g.contents old) first.start
+  pub everywhere : Within (g.may_leave first.disk) (λ c. Shows c first.start)
   -- The first of the lines were answered, and their answers are printed after what was; of the last one a beginning,
   -- where its printing was broken off.
   pub done : List Line
@@ -127,7 +132,7 @@ pub record PromiseSoFar {D : Type 0} (g : Ghosts D) (lines : List Line) (old new
   pub ends : new ≡ last.disk
   pub front : List ℕ
   pub back : List ℕ
-  pub line : front ++ back ≡ flat_map answer_line broken
+  pub text : front ++ back ≡ flat_map answer_line broken
   pub printed : Appends before now (flat_map answer_line told ++ front)
 
 -- it came to its end: all lines were answered, and all answers printed

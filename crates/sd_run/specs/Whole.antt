@@ -9,6 +9,7 @@ use Rattle.sd_image.specs.Shows.{Shows}
 use Rattle.sd_journal.specs.Marked.{IsTracked}
 use Rattle.sd_crash_safety.specs.Shown.{ShowsAllowed}
 use Rattle.sd_crash_safety.specs.View.{history_of}
+use Rattle.sd_core.specs.Flags.{numbers_from}
 use Rattle.sd_core.specs.Starts.{shown_base}
 use Rattle.sd_script.specs.declared.answer.Answer.{Answer}
 use Rattle.sd_script.specs.declared.line.Line.{Line}
@@ -58,12 +59,14 @@ pub record TellsSome {D : Type 0} (g : Ghosts D) (first : WorldView D) (lines : 
 
 -- ---- from one disk to another
 
--- A run's first state: the disk was only read, no entry stands in the journal, no checkpoint runs, and the contents, as
--- every outcome of a crash then, show what the run starts from, or nothing saved.
+-- A run's first state: the disk was only read, no entry stands in the journal, no checkpoint runs, the first numbers
+-- come after the base's, and the contents, as every outcome of a crash then, show what the run starts from, or nothing
+-- saved.
 pub record RunIsOpened {D : Type 0} (g : Ghosts D) (old : D) (opened : WorldView D) : Type 0 where
   pub reads : OnlyReads g old opened.disk
   pub journal : opened.core.items ≡ []
   pub idle : opened.core.dumper.running ≡ None
+  pub numbers : opened.core.numbers ≡ numbers_from opened.core.base.number
   pub shows : g.is_honest opened.disk
       → Shows (g.contents old) (shown_base opened.core.base.number opened.core.base.memory)
   pub everywhere : g.is_honest opened.disk

@@ -1,5 +1,5 @@
 -- The points of a run, by the base that its journal goes on from. What is proved of them is then told by one fold.
-use Rattle.std.specs.Prelude.{◌≡◌, ◌⊎◌, ℕ, ◌∷◌, ◌++◌, Option, Some, None}
+use Rattle.std.specs.Prelude.{◌≡◌, ◌⊎◌, ℕ, ◌<◌, ◌≤◌, ◌∷◌, ◌++◌, Option, Some, None}
 use Rattle.sd_command.specs.declared.command.Command.{Command}
 use Rattle.sd_command.specs.declared.refusal.Refusal.TheVariants.{JournalFull, OutOfMemory}
 use Rattle.sd_command.specs.declared.reply.Reply.{Reply}
@@ -11,7 +11,7 @@ use Rattle.sd_gate.specs.declared.worker.Worker.{Worker}
 use Rattle.sd_gate.specs.declared.worker.Worker.TheVariants.{Dumper, Opener}
 use Rattle.sd_journal.specs.declared.entry.Entry.TheVariants.{Applied, Freeze, Acked, Cancelled, Reopened}
 use Rattle.sd_journal.specs.History.{Base, History, at_freeze}
-use Rattle.sd_journal.specs.Legal.{IsLegal}
+use Rattle.sd_journal.specs.Legal.{IsAbove, IsLegal}
 use Rattle.sd_crash_safety.specs.Calls.{running_number}
 use Rattle.sd_crash_safety.specs.Shown.{ShowsAllowed}
 use Rattle.sd_crash_safety.specs.View.{history_of}
@@ -36,11 +36,11 @@ AddsCommand seat command (reply.Refused JournalFull) old new = new ≡ old
 AddsCommand seat command (reply.Refused OutOfMemory) old new = new ≡ old
 AddsCommand seat command answer old new = new ≡ Applied seat command answer ∷ old
 
--- the memory is frozen for the checkpoint that was begun last, whose number no freeze had before
+-- the memory is frozen for the checkpoint that was begun last, whose number is above all
 pub record FreezesAtBase (base : Base) (begun : Option ℕ) (old new : History) : Type 0 where
   pub number : ℕ
   pub last : begun ≡ Some number
-  pub fresh : at_freeze base old number ≡ None
+  pub above : IsAbove base old number
   pub entry : new ≡ Freeze number ∷ old
 
 -- A worker's step, or an outcome that it hands in, adds what its reply tells: the dumper's an acknowledgement, the
@@ -79,7 +79,7 @@ pub record Enters {D : Type 0} (g : Ghosts D) (event : Event) (answer : Reply) (
   pub told : Within (g.may_leave new.disk) (ShowsReply answer new.base new.entries)
 
 -- A world stands at such a point: the entries that its journal has no more were folded into its base, and the checkpoint
--- that runs is the one that was begun last.
+-- that runs is the one that was begun last. No freeze has a number above those that were begun.
 pub record StandsAtBase {D : Type 0} (world : WorldView D) (point : BasePoint D) : Type 0 where
   pub disk : point.disk ≡ world.disk
   pub gone : History
@@ -87,6 +87,9 @@ pub record StandsAtBase {D : Type 0} (world : WorldView D) (point : BasePoint D)
   pub entries : point.entries ≡ history_of world.core ++ gone
   pub legal : IsLegal world.core.base (history_of world.core)
   pub begun : (n : ℕ) → running_number world.core.dumper.running ≡ Some n → point.begun ≡ Some n
+  pub used : (n : ℕ) → world.core.numbers.begun < n → at_freeze point.base point.entries n ≡ None
+  pub last : (n : ℕ) → point.begun ≡ Some n → n ≤ world.core.numbers.begun
+  pub counted : world.core.numbers.begun ≤ world.core.numbers.checkpoint
 
 -- from each such point at which a world stands a step goes to one at which it stands then
 abbrev pub EntersFollow : {D : Type 0} → Ghosts D → Type 0

@@ -1,5 +1,5 @@
 -- What trims folded into the base counts as if it were still there.
-use Rattle.std.proofs.Common.{◌≡◌, ℕ, ◌<◌, ◌==◌, Bool, true, false, cond, [], ◌∷◌, ◌++◌, Option, Some, None, IfSome, refl, sym, ◌∙◌, ap, subst, inl, inr, append-nil, arith}
+use Rattle.std.proofs.Common.{◌≡◌, ℕ, ◌==◌, Bool, true, false, cond, [], ◌∷◌, ◌++◌, Option, Some, None, sym, ◌∙◌, ap, subst, inl, inr, append-nil, arith}
 use Rattle.std.proofs.lemmas.Bool.{cases_eq, eq-eqb, ne_eqb}
 use Rattle.std.proofs.lemmas.List.{append_assoc}
 use Rattle.sd_areas.specs.PlainMemory.{PlainMemory}
@@ -110,7 +110,7 @@ module _ (laws : TrimLaws) where
   -- ---- numbers
 
   -- a number above what is left of the entries is above all of them
-  above_back : (first : Base) (gone kept : History) (now : Base) (n : ℕ) → Folds first gone now → IsLegal now kept → IsAbove now kept n
+  pub above_back : (first : Base) (gone kept : History) (now : Base) (n : ℕ) → Folds first gone now → IsLegal now kept → IsAbove now kept n
       → IsAbove first (kept ++ gone) n
   above_back first gone kept now n (Folds.none _ _ empty same) legal above =
       subst (λ g. IsAbove first (kept ++ g) n) (sym empty) (subst (λ h. IsAbove first h n) (sym (append-nil kept)) (subst (λ b. IsAbove b kept n) same above))
@@ -119,25 +119,3 @@ module _ (laws : TrimLaws) where
       let there = (laws.above mid kept front k n whole ended).0 (subst (λ b. IsAbove b kept n) is above) in
       subst (λ g. IsAbove first (kept ++ g) n) (sym parts)
       (subst (λ h. IsAbove first h n) (append_assoc kept front earlier) (above_back first earlier (kept ++ front) mid n folds whole there))
-
-  none_at_base : (number : Option ℕ) (memory : PlainMemory) (n : ℕ) → IfSome number (λ own. own < n) → at_base number memory n ≡ None
-  none_at_base None memory n below = refl
-  none_at_base (Some own) memory n below = ap (λ b. cond b (Some memory) None) (apart own n below)
-    where
-      apart : (m n : ℕ) → m < n → (m == n) ≡ false
-      apart m n less = ne_eqb m n (λ same. omega (arith, less, same))
-
-  none_above : (base : Base) (history : History) (n : ℕ) → IsAbove base history n → at_freeze base history n ≡ None
-  none_above base [] n above = none_at_base base.number base.memory n above
-  none_above base (Applied seat command reply ∷ earlier) n above = none_above base earlier n above
-  none_above base (Freeze m ∷ earlier) n above =
-      ap (λ b. cond b (Some (memory_after base earlier)) (at_freeze base earlier n)) (ne_eqb m n (λ same. let less = above.0 in omega (arith, less, same)))
-      ∙ none_above base earlier n above.1
-  none_above base (Acked m ∷ earlier) n above = none_above base earlier n above.1
-  none_above base (Cancelled m ∷ earlier) n above = none_above base earlier n above.1
-  none_above base (Reopened m ∷ earlier) n above = none_above base earlier n above.1
-
-  -- no freeze had the number of the newest one
-  pub fresh_back : (first : Base) (gone kept : History) (now : Base) (n : ℕ) → Folds first gone now → IsLegal now (Freeze n ∷ kept)
-      → at_freeze first (kept ++ gone) n ≡ None
-  fresh_back first gone kept now n folds legal = none_above first (kept ++ gone) n (above_back first gone kept now n folds legal.1 legal.0.1)

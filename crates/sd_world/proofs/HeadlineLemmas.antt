@@ -1,17 +1,21 @@
 -- A step, as it is told by the fold over the journal.
-use Rattle.std.proofs.Common.{◌≡◌, ◌≢◌, ◌⊎◌, ◌==◌, ℕ, Bool, true, false, cond, List, [], ◌∷◌, ◌++◌, Option, MatchOption, Some, None, refl, sym, ◌∙◌, ap, subst, inl, inr, append-nil, append_assoc, arith}
-use Rattle.std.proofs.lemmas.Bool.{eq-eqb}
+use Rattle.std.proofs.Common.{◌≡◌, ◌⊎◌, ◌==◌, ℕ, ◌<◌, ◌≤◌, Bool, true, false, cond, List, [], ◌∷◌, ◌++◌, Option, MatchOption, Some, None, IfSome, refl, sym, ◌∙◌, ap, subst, inl, inr, append-nil, append_assoc, arith}
+use Rattle.std.proofs.Math.Nat.{lt_of_not-le}
+use Rattle.std.proofs.lemmas.Bool.{ne_eqb}
 use Rattle.std.proofs.lemmas.Option.{same_Some}
 use Rattle.std.specs.List.{AllByRecursion}
 use Rattle.std.specs.Option.{option_map}
 use Rattle.sd_areas.specs.PlainMemory.{PlainMemory}
 use Rattle.sd_command.specs.declared.command.Command.{Command}
+use Rattle.sd_command.specs.declared.refusal.Refusal.{Refusal}
 use Rattle.sd_command.specs.declared.refusal.Refusal.TheVariants as refusal
 use Rattle.sd_command.specs.declared.reply.Reply.{Reply}
 use Rattle.sd_command.specs.declared.reply.Reply.TheVariants as reply
 use Rattle.sd_command.specs.Replies.{Accepts, IsLegalReply, denial_in, reply_of}
+use Rattle.sd_core.specs.Called.{IsBegun}
+use Rattle.sd_core.specs.Flags.{number_or_zero}
 use Rattle.sd_core.specs.Starts.{shown_base}
-use Rattle.sd_disk.specs.Spans.{LeavesOnly, span_widened}
+use Rattle.sd_disk.specs.Spans.{span_widened}
 use Rattle.sd_disk.specs.declared.disk.Disk.{Ghosts}
 use Rattle.sd_gate.specs.declared.worker.Worker.{Worker}
 use Rattle.sd_gate.specs.declared.worker.Worker.TheVariants.{Dumper, Opener}
@@ -19,27 +23,30 @@ use Rattle.sd_image.specs.Shows.{Shows}
 use Rattle.sd_journal.specs.declared.entry.Entry.{Entry}
 use Rattle.sd_pagetable.specs.declared.access_error.AccessError.{AccessError}
 use Rattle.sd_journal.specs.declared.entry.Entry.TheVariants.{Applied, Freeze, Acked, Cancelled, Reopened}
-use Rattle.sd_journal.specs.Allowed.{IsAllowed, IsLastPair, Shown, shown_number}
+use Rattle.sd_journal.specs.Allowed.{IsLastPair, Shown, shown_number}
 use Rattle.sd_journal.specs.History.{Base, History, at_base, at_freeze, last, memory_after}
-use Rattle.sd_journal.specs.Legal.{IsLegal}
+use Rattle.sd_journal.specs.Legal.{IsAbove, IsLegal}
 use Rattle.sd_journal.specs.Marked.{Marked, entries_of}
 use Rattle.sd_journal.specs.Trimming.{TrimLaws}
 use Rattle.sd_crash_safety.specs.Calls.{AddsByCancel, AddsByOrder, running_number}
 use Rattle.sd_crash_safety.specs.Shown.{ShowsAllowed}
-use Rattle.sd_crash_safety.specs.View.{CoreView, history_of}
+use Rattle.sd_crash_safety.specs.View.{CoreView, Numbers, history_of}
 use Rattle.sd_world.specs.declared.event.Event.{Event}
 use Rattle.sd_world.specs.declared.event.Event.TheVariants.{Command as CommandEvent, Begin, Work, TakeUp, HandInAt, Perform, PerformAt, Merge, Cancel, Reopen, Trim}
+use Rattle.sd_world.specs.Acked.{DoesAck, IsAckedThere}
 use Rattle.sd_world.specs.Adds.{AddsByPerform, AddsByTrim, AddsByWork, AddsToJournal}
 use Rattle.sd_world.specs.Opens.{bare_memory}
-use Rattle.sd_world.specs.Points.{FirstStands, Folds, PointsFollow, StandsAt, first_point}
-use Rattle.sd_world.specs.Promise.{Freezes, IsOf, IsToldBy, Moves, Point, ShowsAnswer, ShowsTold, told_by}
+use Rattle.sd_world.specs.Points.{FirstStands, Folds, PointsFollow, StandsAt}
+use Rattle.sd_world.specs.Promise.{Freezes, IsNextNumber, IsOf, Moves, Point, ShowsAnswer, ShowsTold, told_by}
 use Rattle.sd_world.specs.Runs.{IsStep, ShowsFreeze, ShowsReply}
+use Rattle.sd_world.specs.Steps.{Does}
 use Rattle.sd_world.proofs.BasePoints.{AddsByReply, AddsCancelled, AddsCommand, AddsEntry, BasePoint, Enters, FreezesAtBase, StandsAtBase}
-use Rattle.sd_journal.specs.Tell.{MayShow, Told, tell}
-use Rattle.sd_journal.specs.TellLaws.{Agrees, StartsAs}
+use Rattle.sd_journal.specs.Tell.{tell}
+use Rattle.sd_journal.specs.TellLaws.{IsPendingAs, StartsAs}
 use Rattle.sd_world.specs.View.{WorldView}
 use Rattle.sd_journal.proofs.HistoryLemmas.{same}
 use Rattle.sd_world.proofs.FoldLemmas.{legal_back}
+use Rattle.sd_world.proofs.NumberLemmas.{begun_or, merge_begins_none, reopen_begins_none}
 use Rattle.sd_world.proofs.PromiseLemmas.{enters_follow}
 use Rattle.sd_journal.proofs.TellLemmas.{last_is, tell_laws}
 
@@ -53,8 +60,17 @@ module _ (base : Base) (bare : base.number ≡ None → base.memory ≡ bare_mem
       by None is = subst (λ number. StartsAs base (shown_base number base.memory)) (sym is) (record { number = is; memory = bare is })
       by (Some n) is = subst (λ number. StartsAs base (shown_base number base.memory)) (sym is) (record { number = is; memory = refl })
 
+-- no number above the base's is its own
+above_base : (memory : PlainMemory) (number : Option ℕ) (n : ℕ) → number_or_zero number < n → at_base number memory n ≡ None
+above_base memory None n above = refl
+above_base memory (Some own) n above = by (own == n) (ne_eqb own n (λ same. omega (arith, same, above)))
+  where
+    by : (b : Bool) → b ≡ false → cond b (Some memory) None ≡ None
+    by true e = cc
+    by false e = refl
+
 pub first_stands : {D : Type 0} → FirstStands D
-first_stands opened empty idle bare = record {
+first_stands opened empty idle numbers bare = record {
   disk = refl;
   base = opened.core.base;
   starts = starts_as opened.core.base bare;
@@ -63,30 +79,45 @@ first_stands opened empty idle bare = record {
   entries = ap (λ (items : Marked). entries_of items ++ []) (sym empty);
   legal = subst (λ (items : Marked). IsLegal opened.core.base (entries_of items)) (sym empty) tt;
   begun = λ n is. sym (ap running_number idle) ∙ is;
+  used = λ n above. above_base opened.core.base.memory opened.core.base.number n (subst (λ k. k < n) (ap (λ (k : Numbers). k.begun) numbers) above);
+  last = λ n is. absurd (none_some n is);
+  counted = let begun = ap (λ (k : Numbers). k.begun) numbers in
+      let checkpoint = ap (λ (k : Numbers). k.checkpoint) numbers in omega (arith, begun, checkpoint);
 }
+  where
+    none_some : (n : ℕ) → (let none : Option ℕ = None in none ≡ Some n) → ⊥
+    none_some n e = cc
 
 -- ---- what an event adds
 
--- no freeze of a number that has no memory at its freeze
-not_frozen : (base : Base) (history : History) (n : ℕ) → at_freeze base history n ≡ None → AllByRecursion (λ (entry : Entry). entry ≢ Freeze n) history
-not_frozen base [] n none = tt
-not_frozen base (Applied seat command reply ∷ earlier) n none = (λ e. absurd (let f : Applied seat command reply ≡ Freeze n = e in cc), not_frozen base earlier n none)
-not_frozen base (Acked m ∷ earlier) n none = (λ e. absurd (let f : Acked m ≡ Freeze n = e in cc), not_frozen base earlier n none)
-not_frozen base (Cancelled m ∷ earlier) n none = (λ e. absurd (let f : Cancelled m ≡ Freeze n = e in cc), not_frozen base earlier n none)
-not_frozen base (Reopened m ∷ earlier) n none = (λ e. absurd (let f : Reopened m ≡ Freeze n = e in cc), not_frozen base earlier n none)
-not_frozen base (Freeze m ∷ earlier) n none = by (m == n) refl none (not_frozen base earlier n)
+-- where no freeze has this number or a greater one, each has a lesser one
+some_is_none : {A : Type 0} {fact : Type 0} (a : A) → (let s : Option A = Some a in s ≡ None) → fact
+some_is_none a e = cc
+
+lesser : (base : Base) (history : History) (n : ℕ) → ((k : ℕ) → n ≤ k → at_freeze base history k ≡ None)
+    → AllByRecursion (λ (entry : Entry). (m : ℕ) → entry ≡ Freeze m → m < n) history
+lesser base [] n none = tt
+lesser base (Applied seat command reply ∷ earlier) n none = (λ m e. absurd (let f : Applied seat command reply ≡ Freeze m = e in cc), lesser base earlier n none)
+lesser base (Acked a ∷ earlier) n none = (λ m e. absurd (let f : Acked a ≡ Freeze m = e in cc), lesser base earlier n none)
+lesser base (Cancelled a ∷ earlier) n none = (λ m e. absurd (let f : Cancelled a ≡ Freeze m = e in cc), lesser base earlier n none)
+lesser base (Reopened a ∷ earlier) n none = (λ m e. absurd (let f : Reopened a ≡ Freeze m = e in cc), lesser base earlier n none)
+lesser base (Freeze a ∷ earlier) n none = (λ m e. subst (λ k. k < n) (same_number m e) below, lesser base earlier n (λ k least. rest k (none k least)))
   where
-    some_is_none : {A : Type 0} (a : A) → (let s : Option A = Some a in s ≡ None) → ⊥
-    some_is_none a e = cc
+    same_number : (m : ℕ) → Freeze a ≡ Freeze m → a ≡ m
+    same_number m e = cc
 
-    same_number : Freeze m ≡ Freeze n → m ≡ n
-    same_number e = cc
+    own : at_freeze base (Freeze a ∷ earlier) a ≡ Some (memory_after base earlier)
+    own = rw (same a) refl
 
-    by : (b : Bool) → (m == n) ≡ b → cond b (Some (memory_after base earlier)) (at_freeze base earlier n) ≡ None
-        → (at_freeze base earlier n ≡ None → AllByRecursion (λ (entry : Entry). entry ≢ Freeze n) earlier)
-        → AllByRecursion (λ (entry : Entry). entry ≢ Freeze n) (Freeze m ∷ earlier)
-    by true e h rest = absurd (some_is_none (memory_after base earlier) h)
-    by false e h rest = (λ f. absurd (let g : true ≡ false = sym (eq-eqb m n (same_number f)) ∙ e in cc), rest h)
+    below : a < n
+    below = lt_of_not-le (λ least. some_is_none (memory_after base earlier) (sym own ∙ none a least))
+
+    rest : (k : ℕ) → at_freeze base (Freeze a ∷ earlier) k ≡ None → at_freeze base earlier k ≡ None
+    rest k = by (a == k)
+      where
+        by : (b : Bool) → cond b (Some (memory_after base earlier)) (at_freeze base earlier k) ≡ None → at_freeze base earlier k ≡ None
+        by true e = some_is_none (memory_after base earlier) e
+        by false e = e
 
 -- nor is it the base's
 not_first : (base : Base) (history : History) (n : ℕ) → at_freeze base history n ≡ None → base.number ≡ Some n → ⊥
@@ -109,6 +140,45 @@ not_first base (Freeze m ∷ earlier) n none is = by (m == n) none (λ h. not_fi
     by : (b : Bool) → cond b (Some (memory_after base earlier)) (at_freeze base earlier n) ≡ None → (at_freeze base earlier n ≡ None → ⊥) → ⊥
     by true h rest = some_is_none (memory_after base earlier) h
     by false h rest = rest h
+
+-- nor is the base's so great
+start_lesser : (base : Base) (start : Shown) → base.number ≡ shown_number start → (n : ℕ) → ((m : ℕ) → base.number ≡ Some m → m < n)
+    → (m : ℕ) (memory : PlainMemory) → start ≡ Some (m, memory) → m < n
+start_lesser base start number n below m memory is = below m (number ∙ ap shown_number is)
+
+next_number : (base : Base) (start : Shown) → base.number ≡ shown_number start → (history : History) (n : ℕ)
+    → ((k : ℕ) → n ≤ k → at_freeze base history k ≡ None) → IsNextNumber n start history
+next_number base start number history n none = (
+  lesser base history n none,
+  start_lesser base start number n (λ m is. lt_of_not-le (λ least. not_first base history m (none m least) is)),
+)
+
+-- so it is of a number above all
+freezes_below : (base : Base) (history : History) (n : ℕ) → IsAbove base history n → AllByRecursion (λ (entry : Entry). (m : ℕ) → entry ≡ Freeze m → m < n) history
+freezes_below base [] n above = tt
+freezes_below base (Applied seat command reply ∷ earlier) n above = (λ m e. absurd (let f : Applied seat command reply ≡ Freeze m = e in cc), freezes_below base earlier n above)
+freezes_below base (Acked a ∷ earlier) n above = (λ m e. absurd (let f : Acked a ≡ Freeze m = e in cc), freezes_below base earlier n above.1)
+freezes_below base (Cancelled a ∷ earlier) n above = (λ m e. absurd (let f : Cancelled a ≡ Freeze m = e in cc), freezes_below base earlier n above.1)
+freezes_below base (Reopened a ∷ earlier) n above = (λ m e. absurd (let f : Reopened a ≡ Freeze m = e in cc), freezes_below base earlier n above.1)
+freezes_below base (Freeze a ∷ earlier) n above = (λ m e. subst (λ k. k < n) (same_number m e) above.0, freezes_below base earlier n above.1)
+  where
+    same_number : (m : ℕ) → Freeze a ≡ Freeze m → a ≡ m
+    same_number m e = cc
+
+base_below : (base : Base) (history : History) (n : ℕ) → IsAbove base history n → IfSome base.number (λ own. own < n)
+base_below base [] n above = above
+base_below base (Applied seat command reply ∷ earlier) n above = base_below base earlier n above
+base_below base (Freeze m ∷ earlier) n above = base_below base earlier n above.1
+base_below base (Acked m ∷ earlier) n above = base_below base earlier n above.1
+base_below base (Cancelled m ∷ earlier) n above = base_below base earlier n above.1
+base_below base (Reopened m ∷ earlier) n above = base_below base earlier n above.1
+
+next_above : (base : Base) (start : Shown) → base.number ≡ shown_number start → (history : History) (n : ℕ) → IsAbove base history n
+    → IsNextNumber n start history
+next_above base start number history n above = (
+  freezes_below base history n above,
+  start_lesser base start number n (λ m is. subst (λ o. IfSome o (λ own. own < n)) is (base_below base history n above)),
+)
 
 told_command : (seat : ℕ) (command : Command) (answer : Reply) (old new : History) → AddsCommand seat command answer old new
     → new ≡ told_by (CommandEvent seat command) answer ++ old
@@ -147,8 +217,7 @@ module _ (base : Base) (begun : Option ℕ) (first : Shown) (number : base.numbe
     worked = refl;
     number = is.1.number;
     last = is.1.last;
-    fresh = not_frozen base old is.1.number is.1.fresh;
-    beyond = λ e. not_first base old is.1.number is.1.fresh (number ∙ e);
+    next = next_above base first number old is.1.number is.1.above;
     entry = is.1.entry;
   })
 
@@ -205,6 +274,7 @@ entries_told Trim answer before after base begun first number old new adds entry
 
 -- a reply that tells of a checkpoint
 abbrev IsOfJob : Reply → Type 0
+IsOfJob (reply.Begun n) = Unit {0}
 IsOfJob (reply.Acked n) = Unit {0}
 IsOfJob (reply.Cancelled n) = Unit {0}
 IsOfJob (reply.Reopened m) = Unit {0}
@@ -238,6 +308,7 @@ no_command base event answer old history legal is e seat command same =
     illegal _ _ command answer is (subst (IsLegal base) entry legal).0
   where
     command_tells : (seat : ℕ) (command : Command) (answer : Reply) → IsOfJob answer → told_by (CommandEvent seat command) answer ≡ Applied seat command answer ∷ []
+    command_tells seat command (reply.Begun n) is = refl
     command_tells seat command (reply.Acked n) is = refl
     command_tells seat command (reply.Cancelled n) is = refl
     command_tells seat command (reply.Reopened m) is = refl
@@ -320,19 +391,60 @@ cancelled_by Cancel n one other never adds = refl
 cancelled_by Reopen n one other never adds = absurd adds
 cancelled_by Trim n one other never adds = absurd adds
 
+-- only an order to begin is answered so
+begun_by : {D : Type 0} (g : Ghosts D) (event : Event) (n : ℕ) (old new : WorldView D) → NoCommand event → Does g event old (reply.Begun n) new
+    → AddsToJournal event (reply.Begun n) old.core new.core → (rounds : ℕ) × (event ≡ Begin rounds)
+begun_by g (CommandEvent seat command) n old new never does adds = absurd (never seat command refl)
+begun_by g (Begin rounds) n old new never does adds = (rounds, refl)
+begun_by g (Work worker) n old new never does adds = absurd adds
+begun_by g (TakeUp worker) n old new never does adds = absurd adds
+begun_by g (HandInAt worker place) n old new never does adds = absurd adds
+begun_by g (Perform worker) n old new never does adds = absurd adds
+begun_by g (PerformAt worker place) n old new never does adds = absurd adds
+begun_by g Merge n old new never does adds = absurd (merge_begins_none old.core n new.core does.1)
+begun_by g Cancel n old new never does adds = absurd adds
+begun_by g Reopen n old new never does adds = absurd (reopen_begins_none old.core n new.core does.1)
+begun_by g Trim n old new never does adds = absurd adds
+
 no_worked : (answer : Reply) → IsOfJob answer → answer ≡ reply.Worked → ⊥
 no_worked answer is e = grind arith
 
-module _ (base : Base) (history : History) (legal : IsLegal base history) (event : Event) (begun : Option ℕ) (first : Shown) (old : History) (one other : CoreView) where
-  never : (answer : Reply) → IsOfJob answer → Tells event answer begun first old history → NoCommand event
+module _ (base : Base) (history : History) (legal : IsLegal base history) (event : Event) (begun : Option ℕ) (first : Shown) (old : History) where
+  pub never : (answer : Reply) → IsOfJob answer → Tells event answer begun first old history → NoCommand event
   never answer is (inl e) = no_command base event answer old history legal is e
   never answer is (inr f) = absurd (no_worked answer is f.worked)
 
-  pub teller_of : (answer : Reply) → AddsToJournal event answer one other → Tells event answer begun first old history → IsToldBy answer event
-  teller_of (reply.Acked n) adds told = acked_by event n one other (never (reply.Acked n) tt told) adds
-  teller_of (reply.Reopened m) adds told = reopened_by event m one other (never (reply.Reopened m) tt told) adds
-  teller_of (reply.Cancelled n) adds told = cancelled_by event n one other (never (reply.Cancelled n) tt told) adds
-  teller_of _ adds told = tt
+-- the entry of an acknowledgement
+acked_entry : (base : Base) (history : History) (legal : IsLegal base history) (event : Event) (n : ℕ) (begun : Option ℕ) (first : Shown) (old : History) (one other : CoreView)
+    → AddsToJournal event (reply.Acked n) one other → Tells event (reply.Acked n) begun first old history → history ≡ Acked n ∷ old
+acked_entry base history legal event n begun first old one other adds (inl e) =
+    e ∙ ap (λ (l : History). l ++ old) (acked_tells event n one other (no_command base event (reply.Acked n) old history legal tt e) adds)
+acked_entry base history legal event n begun first old one other adds (inr f) = absurd (no_worked (reply.Acked n) tt f.worked)
+
+-- what is acknowledged was being written
+pub was_pending : (base : Base) (first : Shown) (starts : StartsAs base first) (old : History) (n : ℕ) → IsLegal base (Acked n ∷ old)
+    → (memory : PlainMemory) × ((tell first old).pending ≡ Some (n, memory))
+was_pending base first starts old n legal = by (tell first old).pending refl (tell_laws.agrees base first old starts legal.1).pending
+  where
+    some_is_none : {A : Type 0} (a : A) → (let s : Option A = Some a in s ≡ None) → ⊥
+    some_is_none a e = cc
+
+    by : (told : Shown) → (tell first old).pending ≡ told → IsPendingAs base old told
+        → (memory : PlainMemory) × ((tell first old).pending ≡ Some (n, memory))
+    by None is none = absurd (some_is_none n (sym legal.0 ∙ none))
+    by (Some pair) is pends =
+        let number : pair.0 ≡ n = same_Some pair.0 n (sym pends.0 ∙ legal.0) in
+        (pair.1, is ∙ ap (λ k. Some (k, pair.1)) number)
+
+-- and it is the checkpoint that ran
+ran : {D : Type 0} {g : Ghosts D} {n : ℕ} {old new : WorldView D} → IsAckedThere g n old new → running_number old.core.dumper.running ≡ Some n
+ran there = ap running_number there.was ∙ ap Some (sym there.number)
+
+pub acked_running : {D : Type 0} (g : Ghosts D) (event : Event) (n : ℕ) (old new : WorldView D) → IsOf Dumper event → DoesAck g event old (reply.Acked n) new
+    → running_number old.core.dumper.running ≡ Some n
+acked_running g event n old new (inl work) acks = ran (subst (λ e. DoesAck g e old (reply.Acked n) new) work acks n refl)
+acked_running g event n old new (inr (inl take)) acks = ran (subst (λ e. DoesAck g e old (reply.Acked n) new) take acks n refl)
+acked_running g event n old new (inr (inr hand)) acks = ran (subst (λ e. DoesAck g e old (reply.Acked n) new) hand.1 acks n refl)
 
 -- ---- what contents show
 
@@ -381,8 +493,7 @@ module _ (base : Base) (first : Shown) (starts : StartsAs base first) (history :
   pub answer_shown : (event : Event) (answer : Reply) (begun : Option ℕ) (old : History) (one other : CoreView) (contents : List (List ℕ))
       → AddsToJournal event answer one other → Tells event answer begun first old history → ShowsReply answer base history contents → ShowsAnswer answer (tell first history) contents
   answer_shown event (reply.Acked n) begun old one other contents adds (inl e) is =
-      let entry : history ≡ Acked n ∷ old = e ∙ ap (λ (l : History). l ++ old) (acked_tells event n one other (no_command base event (reply.Acked n) old history legal tt e) adds) in
-      last_shown n contents (ap (last base) entry) is
+      last_shown n contents (ap (last base) (acked_entry base history legal event n begun first old one other adds (inl e))) is
   answer_shown event (reply.Acked n) begun old one other contents adds (inr f) is = absurd (no_work n f.worked)
     where
       no_work : (n : ℕ) → reply.Acked n ≡ reply.Worked → ⊥
@@ -403,20 +514,65 @@ module _ (base : Base) (first : Shown) (starts : StartsAs base first) (history :
 
 module _ (laws : TrimLaws) {D : Type 0} (g : Ghosts D) (event : Event) (old : WorldView D) (answer : Reply) (new : WorldView D) (step : IsStep g event old answer new) where
   told_point : BasePoint D → Shown → Point D
-  told_point point shown = record { disk = point.disk; first = shown; entries = point.entries; begun = point.begun }
+  told_point point shown = record { disk = point.disk; start = shown; entries = point.entries; begun = point.begun }
+
+  -- an order to begin is answered by the next number, or refused
+  begins_next : (first : BasePoint D) (shown : Shown) → StartsAs first.base shown → StandsAtBase old first → (rounds : ℕ) → event ≡ Begin rounds
+      → ((n : ℕ) × (answer ≡ reply.Begun n) × IsNextNumber n shown first.entries) ⊎ ((why : Refusal) × (answer ≡ reply.Refused why))
+  begins_next first shown starts stands rounds is_begin =
+      let does : IsBegun rounds answer old.core new.core = (subst (λ e. Does g e old answer new) is_begin step.does).1 in
+      elim (begun_or old.core rounds answer new.core does) [
+        | inl begun ↦
+            let next = begun.2.next in
+            let counted = stands.counted in
+            inl (
+              begun.0,
+              begun.1,
+              next_number first.base shown starts.number first.entries begun.0
+                  (λ k least. stands.used k (omega (arith, next, counted, least))),
+            )
+        | inr refused ↦ inr refused
+      ]
+
+  never_command : (history : History) (base : Base) (legal : IsLegal base history) (first : BasePoint D) (shown : Shown) (entries : History)
+      → Tells event answer first.begun shown entries history → (is : Reply) → IsOfJob is → answer ≡ is → NoCommand event
+  never_command history base legal first shown entries told is of_job e =
+      never base history legal event first.begun shown entries is of_job (subst (λ a. Tells event a first.begun shown entries history) e told)
+
+  -- what is acknowledged is the checkpoint that was begun last, and was being written
+  acks_pending : (first last : BasePoint D) (shown : Shown) → StartsAs first.base shown → StandsAtBase old first → IsLegal first.base last.entries
+      → Tells event answer first.begun shown first.entries last.entries → (n : ℕ) → answer ≡ reply.Acked n → g.is_honest new.disk
+      → IsOf Dumper event × (first.begun ≡ Some n) × ((memory : PlainMemory) × ((tell shown first.entries).pending ≡ Some (n, memory)))
+  acks_pending first last shown starts stands legal told n is honest =
+      let adds : AddsToJournal event (reply.Acked n) old.core new.core = subst (λ a. AddsToJournal event a old.core new.core) is step.adds in
+      let tells : Tells event (reply.Acked n) first.begun shown first.entries last.entries =
+      subst (λ a. Tells event a first.begun shown first.entries last.entries) is told in
+      let by_dumper = acked_by event n old.core new.core (never first.base last.entries legal event first.begun shown first.entries (reply.Acked n) tt tells) adds in
+      let entry = acked_entry first.base last.entries legal event n first.begun shown first.entries old.core new.core adds tells in (
+        by_dumper,
+        stands.begun n (acked_running g event n old new by_dumper (subst (λ a. DoesAck g event old a new) is (step.acked honest))),
+        was_pending first.base shown starts first.entries n (subst (IsLegal first.base) entry legal),
+      )
 
   moves_told : (first last : BasePoint D) (shown : Shown) → StartsAs first.base shown → StandsAtBase old first → StandsAtBase new last → Enters g event answer first last
-      → Moves g event answer (told_point first shown) (told_point last shown)
+      → g.is_honest new.disk → Moves g event answer (told_point first shown) (told_point last shown)
   unfolding told_point
-  moves_told first last shown starts stands stood enters =
+  moves_told first last shown starts stands stood enters honest =
       let base = first.base in
       let before = legal_at laws old first stands in
       let after : IsLegal base last.entries = subst (λ b. IsLegal b last.entries) enters.base (legal_at laws new last stood) in
       let told = entries_told event answer old.core new.core base first.begun shown starts.number first.entries last.entries step.adds enters.entries in
       record {
-        first = refl;
+        start = refl;
         entries = told;
-        teller = teller_of base last.entries after event first.begun shown first.entries old.core new.core answer step.adds told;
+        begins = λ rounds is_begin. begins_next first shown starts stands rounds is_begin;
+        begun_by = λ n is. begun_by g event n old new (never_command last.entries base after first shown first.entries told (reply.Begun n) tt is)
+            (subst (λ a. Does g event old a new) is step.does) (subst (λ a. AddsToJournal event a old.core new.core) is step.adds);
+        acks = λ n is. acks_pending first last shown starts stands after told n is honest;
+        reopens = λ m is. reopened_by event m old.core new.core (never_command last.entries base after first shown first.entries told (reply.Reopened m) tt is)
+            (subst (λ a. AddsToJournal event a old.core new.core) is step.adds);
+        cancels = λ n is. cancelled_by event n old.core new.core (never_command last.entries base after first shown first.entries told (reply.Cancelled n) tt is)
+            (subst (λ a. AddsToJournal event a old.core new.core) is step.adds);
         begun = enters.begun;
         any_moment = span_widened g first.disk last.disk (ShowsAllowed base first.entries) (ShowsTold (tell shown first.entries))
             (shows_told base shown starts first.entries before) enters.any_moment;
@@ -436,20 +592,26 @@ module _ (laws : TrimLaws) {D : Type 0} (g : Ghosts D) (event : Event) (old : Wo
         entries = stands.entries;
         legal = stands.legal;
         begun = stands.begun;
+        used = stands.used;
+        last = stands.last;
+        counted = stands.counted;
       } in
       let one = enters_follow laws g event old answer new step honest from at in (
-        told_point one.0 first.first,
+        told_point one.0 first.start,
         record {
           disk = one.1.disk;
           base = one.0.base;
-          starts = subst (λ b. StartsAs b first.first) (sym one.2.base) stands.starts;
+          starts = subst (λ b. StartsAs b first.start) (sym one.2.base) stands.starts;
           gone = one.1.gone;
           folds = one.1.folds;
           entries = one.1.entries;
           legal = one.1.legal;
           begun = one.1.begun;
+          used = one.1.used;
+          last = one.1.last;
+          counted = one.1.counted;
         },
-        moves_told from one.0 first.first stands.starts at one.1 one.2,
+        moves_told from one.0 first.start stands.starts at one.1 one.2 honest,
       )
 
 pub points_follow : (laws : TrimLaws) {D : Type 0} (g : Ghosts D) → PointsFollow g

@@ -1,5 +1,7 @@
--- Which checkpoint runs after an event: the one that was begun last, or the one that ran before.
-use Rattle.std.proofs.Common.{◌≡◌, ◌≢◌, ◌⊎◌, ℕ, Bool, true, false, is_none, Option, Some, None, refl, sym, ◌∙◌, ap, subst, inl, inr, arith}
+-- Which checkpoint runs after an event: the one that was begun last, or the one that ran before; and how its number
+-- rises.
+use Rattle.std.proofs.Common.{◌≡◌, ◌≢◌, ◌⊎◌, ℕ, ◌≤◌, ◌+◌, Bool, true, false, ◌||◌, is_none, Option, Some, None, refl, sym, ◌∙◌, ap, subst, inl, inr, arith}
+use Rattle.std.proofs.Math.Nat.{le-max_left}
 use Rattle.std.proofs.lemmas.Bool.{cases_eq}
 use Rattle.sd_command.specs.declared.refusal.Refusal.{Refusal}
 use Rattle.sd_command.specs.declared.refusal.Refusal.TheVariants as refusal
@@ -12,20 +14,22 @@ use Rattle.sd_gate.specs.Requests.{Made}
 use Rattle.sd_disk.specs.declared.disk.Disk.{Ghosts}
 use Rattle.sd_rounds.specs.Dumper.{Dumping, Running}
 use Rattle.sd_crash_safety.specs.Calls.{IsOut, running_number}
-use Rattle.sd_crash_safety.specs.View.{CoreView}
+use Rattle.sd_crash_safety.specs.View.{CoreView, Numbers}
 use Rattle.sd_core.specs.declared.taken.Taken.{Taken}
-use Rattle.sd_core.specs.Beginning.{BeginsAs, begin_refusal}
+use Rattle.sd_core.specs.declared.taken.Taken.TheVariants.{Step, Call}
+use Rattle.sd_core.specs.Beginning.{Begins, BeginsAs, begin_refusal}
 use Rattle.sd_core.specs.Beside.{LeavesOthers}
-use Rattle.sd_core.specs.Called.{IsHandedIn, IsTakenUp}
+use Rattle.sd_core.specs.Called.{IsBegun, IsHandedIn, IsMergeOrder, IsReopenOrder, IsTakenUp}
+use Rattle.sd_core.specs.Flags.{FindsNumbers, FlagsByBegin, FlagsByCancel, FlagsByOutcome, FlagsByReply, FlagsByStep, HasFlags, begins_image, commits, numbers_asked}
 use Rattle.sd_core.specs.Images.{job_of}
 use Rattle.sd_core.specs.Merging.{MergesAs, merge_refusal}
 use Rattle.sd_core.specs.Orders.{IsCancelled}
-use Rattle.sd_core.specs.Refusals.{cancel_refusal, work_refusal}
+use Rattle.sd_core.specs.Refusals.{cancel_refusal, reopen_refusal, work_refusal}
 use Rattle.sd_core.specs.Working.{HasFallen, LeavesByOutcome, LeavesByStep, LeavesByWork}
 use Rattle.sd_world.specs.declared.event.Event.{Event}
 use Rattle.sd_world.specs.declared.event.Event.TheVariants.{Command as CommandEvent, Begin, Work, TakeUp, HandInAt, Merge, Cancel, Reopen, Trim}
 use Rattle.sd_world.specs.Promise.{begun_after}
-use Rattle.sd_world.specs.Steps.{Does, HandsInIfAny, WorkerTakesUp, WorkerWorks}
+use Rattle.sd_world.specs.Steps.{Does, HandsInAt, HandsInIfAny, WorkerTakesUp, WorkerWorks}
 use Rattle.sd_world.specs.Trims.{TrimsJournal}
 use Rattle.sd_world.specs.View.{WorldView}
 use Rattle.sd_world.proofs.TrimLemmas.{trim_cases}
@@ -191,3 +195,175 @@ module _ {D : Type 0} (g : Ghosts D) where
   number_goes Reopen old answer new does = same_dumper old.core new.core does.1.beside.others.0
   number_goes Trim old answer new does = trim_number old.core answer new.core does.trims
   number_goes _ old answer new does = same_core old.core new.core does.core
+
+-- ---- the greatest numbers that were begun and used
+
+-- no number was begun that wasn't used
+abbrev pub IsCounted : CoreView → Type 0
+IsCounted core = core.numbers.begun ≤ core.numbers.checkpoint
+
+-- the greatest that was begun never falls
+abbrev pub CountGoes : CoreView → CoreView → Type 0
+CountGoes old new = IsCounted old → (old.numbers.begun ≤ new.numbers.begun) × IsCounted new
+
+same_numbers : (old new : CoreView) → new.numbers.begun ≡ old.numbers.begun → new.numbers.checkpoint ≡ old.numbers.checkpoint → CountGoes old new
+same_numbers old new begun checkpoint counted = (omega (arith, begun), omega (arith, begun, checkpoint, counted))
+
+kept_numbers : (old new : CoreView) (grows committing : Bool) → HasFlags grows committing old.numbers new → CountGoes old new
+kept_numbers old new grows committing flags = same_numbers old new (ap (λ (k : Numbers). k.begun) flags.numbers_are) (ap (λ (k : Numbers). k.checkpoint) flags.numbers_are)
+
+same_count : (old new : CoreView) → new ≡ old → CountGoes old new
+same_count old new same =
+    same_numbers old new (ap (λ (c : CoreView). c.numbers.begun) same) (ap (λ (c : CoreView). c.numbers.checkpoint) same)
+
+-- a checkpoint that begins has the next number
+pub record HasNextNumber (n : ℕ) (old new : CoreView) : Type 0 where
+  pub next : n ≡ old.numbers.checkpoint + 1
+  pub begun : new.numbers.begun ≡ n
+  pub checkpoint : new.numbers.checkpoint ≡ n
+
+next_number : (old new : CoreView) (rounds n : ℕ) → Begins old rounds n new → FlagsByBegin old (reply.Begun n) new → HasNextNumber n old new
+next_number old new rounds n begins flags = record {
+  next = begins.number;
+  begun = ap (λ (k : Numbers). k.begun) flags.numbers_are;
+  checkpoint = ap (λ (k : Numbers). k.checkpoint) flags.numbers_are;
+}
+
+next_counts : (old new : CoreView) (n : ℕ) → HasNextNumber n old new → CountGoes old new
+next_counts old new n next counted =
+    let number = next.next in
+    let begun = next.begun in
+    let checkpoint = next.checkpoint in
+    (omega (arith, number, begun, counted), omega (arith, begun, checkpoint))
+
+begins_count : (old : CoreView) (rounds : ℕ) (answer : Reply) (new : CoreView) → BeginsAs old rounds answer new → FlagsByBegin old answer new → CountGoes old new
+begins_count old rounds (reply.Begun n) new begins flags = next_counts old new n (next_number old new rounds n begins flags)
+begins_count old rounds (reply.Refused refusal.OutOfMemory) new begins flags = same_count old new begins
+begins_count old rounds (reply.Refused refusal.NoSlot) new begins flags = same_count old new begins.1
+begins_count old rounds _ new begins flags = absurd begins
+
+begin_count : (old : CoreView) (rounds : ℕ) (answer : Reply) (new : CoreView) → IsBegun rounds answer old new → CountGoes old new
+begin_count old rounds answer new is = by (begin_refusal old rounds) refl
+  where
+    by : (o : Option Refusal) → begin_refusal old rounds ≡ o → CountGoes old new
+    by None due = begins_count old rounds answer new (is.begins due) is.flags
+    by (Some why) due = same_count old new (is.refused why due).1
+
+pub begun_number : (old : CoreView) (rounds n : ℕ) (new : CoreView) → IsBegun rounds (reply.Begun n) old new → HasNextNumber n old new
+begun_number old rounds n new is = by (begin_refusal old rounds) refl
+  where
+    not_refused : (why : Refusal) → reply.Begun n ≡ reply.Refused why → HasNextNumber n old new
+    not_refused why e = absurd (let no : reply.Begun n ≡ reply.Refused why = e in cc)
+
+    by : (o : Option Refusal) → begin_refusal old rounds ≡ o → HasNextNumber n old new
+    by None due = next_number old new rounds n (is.begins due) is.flags
+    by (Some why) due = not_refused why (is.refused why due).0
+
+-- an order to begin is answered so, or refused
+pub begun_or : (old : CoreView) (rounds : ℕ) (answer : Reply) (new : CoreView) → IsBegun rounds answer old new
+    → ((n : ℕ) × (answer ≡ reply.Begun n) × HasNextNumber n old new) ⊎ ((why : Refusal) × (answer ≡ reply.Refused why))
+begun_or old rounds answer new is = by (begin_refusal old rounds) refl
+  where
+    begins : (told : Reply) → answer ≡ told → BeginsAs old rounds told new → FlagsByBegin old told new
+        → ((n : ℕ) × (answer ≡ reply.Begun n) × HasNextNumber n old new) ⊎ ((why : Refusal) × (answer ≡ reply.Refused why))
+    begins (reply.Begun n) same does flags = inl (n, same, next_number old new rounds n does flags)
+    begins (reply.Refused why) same does flags = inr (why, same)
+    begins _ same does flags = absurd does
+
+    by : (o : Option Refusal) → begin_refusal old rounds ≡ o
+        → ((n : ℕ) × (answer ≡ reply.Begun n) × HasNextNumber n old new) ⊎ ((why : Refusal) × (answer ≡ reply.Refused why))
+    by None due = begins answer refl (is.begins due) is.flags
+    by (Some why) due = inr (why, (is.refused why due).0)
+
+not_begun : (n : ℕ) (why : Refusal) → reply.Begun n ≡ reply.Refused why → ⊥
+not_begun n why e = absurd (let no : reply.Begun n ≡ reply.Refused why = e in cc)
+
+-- no other order is
+pub merge_begins_none : (old : CoreView) (n : ℕ) (new : CoreView) → IsMergeOrder (reply.Begun n) old new → ⊥
+merge_begins_none old n new is = by (merge_refusal old) refl
+  where
+    by : (o : Option Refusal) → merge_refusal old ≡ o → ⊥
+    by None due = is.merges due
+    by (Some why) due = not_begun n why (is.refused why due).0
+
+pub reopen_begins_none : (old : CoreView) (n : ℕ) (new : CoreView) → IsReopenOrder (reply.Begun n) old new → ⊥
+reopen_begins_none old n new is = by (reopen_refusal old) refl
+  where
+    by : (o : Option Refusal) → reopen_refusal old ≡ o → ⊥
+    by None due = is.begun due
+    by (Some why) due = not_begun n why (is.refused why due).0
+
+cancel_count : (old : CoreView) (answer : Reply) (new : CoreView) → FlagsByCancel old answer new → CountGoes old new
+cancel_count old (reply.Cancelled n) new flags = kept_numbers old new false false flags
+cancel_count old _ new flags = kept_numbers old new old.grows old.committing flags
+
+outcome_count : (old : CoreView) (answer : Reply) (new : CoreView) → FlagsByOutcome old answer new → CountGoes old new
+outcome_count old (reply.Acked n) new flags = kept_numbers old new true false flags
+outcome_count old _ new flags = kept_numbers old new old.grows old.committing flags
+
+found_count : (old new : CoreView) → FindsNumbers old.numbers new.catalog new.numbers → CountGoes old new
+found_count old new finds counted =
+    let above = le-max_left old.numbers.begun finds.checkpoint.greatest in
+    let begun = finds.begun in
+    let is = finds.checkpoint.is in
+    (omega (arith, begun), omega (arith, above, begun, is))
+
+reply_count : (old : CoreView) (answer : Reply) (new : CoreView) → FlagsByReply old answer new → CountGoes old new
+reply_count old (reply.Reopened m) new flags = found_count old new flags.finds
+reply_count old _ new flags = kept_numbers old new old.grows old.committing flags
+
+asked_count : (old new : CoreView) (grows committing first : Bool) → HasFlags grows committing (numbers_asked first old.numbers) new → CountGoes old new
+asked_count old new grows committing false flags =
+    same_numbers old new (ap (λ (k : Numbers). k.begun) flags.numbers_are) (ap (λ (k : Numbers). k.checkpoint) flags.numbers_are)
+asked_count old new grows committing true flags =
+    same_numbers old new (ap (λ (k : Numbers). k.begun) flags.numbers_are) (ap (λ (k : Numbers). k.checkpoint) flags.numbers_are)
+
+step_count : (old : CoreView) (worker : Worker) (taken : Taken) (new : CoreView) → FlagsByStep old worker taken new → CountGoes old new
+step_count old worker (Step answer) new flags = reply_count old answer new flags
+step_count old worker (Call request) new flags =
+    asked_count old new old.grows (old.committing || commits new worker request.id.call) (begins_image old worker) flags.flags
+
+trim_count : (old : CoreView) (answer : Reply) (new : CoreView) → TrimsJournal old answer new → CountGoes old new
+trim_count old answer new trims = elim (trim_cases old answer new trims) [
+  | inl gone ↦ same_numbers old new (ap (λ (c : CoreView). c.numbers.begun) gone.is) (ap (λ (c : CoreView). c.numbers.checkpoint) gone.is)
+  | inr all ↦ same_count old new all.is
+]
+
+module _ {D : Type 0} (g : Ghosts D) where
+  takes_count : (worker : Worker) (old new : WorldView D) (answer : Reply) → WorkerTakesUp worker old.core old.kept answer new.core new.kept
+      → CountGoes old.core new.core
+  takes_count worker old new answer (WorkerTakesUp.step taken left) = step_count old.core worker (Step answer) new.core taken.flags
+  takes_count worker old new answer (WorkerTakesUp.call request taken keeps worked) = step_count old.core worker (Call request) new.core taken.flags
+
+  hands_count : (worker : Worker) (place : ℕ) (old new : WorldView D) (answer : Reply)
+      → HandsInAt worker place old.core old.kept answer new.core new.kept → CountGoes old.core new.core
+  hands_count worker place old new answer hands = outcome_count old.core answer new.core hands.hands.does.flags
+
+  works_count : (worker : Worker) (old new : WorldView D) (answer : Reply) → WorkerWorks worker old.core old.kept answer new.core new.kept
+      → CountGoes old.core new.core
+  works_count worker old new answer (WorkerWorks.hands_in hands) = hands_count worker 0 old new answer hands
+  works_count worker old new answer (WorkerWorks.takes_up nowhere taken) = takes_count worker old new answer taken
+
+  any_count : (worker : Worker) (place : ℕ) (old new : WorldView D) (answer : Reply)
+      → HandsInIfAny worker place old.core old.kept answer new.core new.kept → CountGoes old.core new.core
+  any_count worker place old new answer (HandsInIfAny.hands_in hands) = hands_count worker place old new answer hands
+  any_count worker place old new answer (HandsInIfAny.none nowhere unasked) = same_count old.core new.core unasked.core
+
+  pub count_goes : (event : Event) (old : WorldView D) (answer : Reply) (new : WorldView D) → Does g event old answer new → CountGoes old.core new.core
+  count_goes (CommandEvent seat command) old answer new does = kept_numbers old.core new.core old.core.grows old.core.committing does.applied.flags
+  count_goes (Begin rounds) old answer new does = begin_count old.core rounds answer new.core does.1
+  count_goes (Work worker) old answer new does = works_count worker old new answer does.works
+  count_goes (TakeUp worker) old answer new does = takes_count worker old new answer does.takes
+  count_goes (HandInAt worker place) old answer new does = any_count worker place old new answer does.hands
+  count_goes Merge old answer new does = kept_numbers old.core new.core old.core.grows old.core.committing does.1.flags
+  count_goes Cancel old answer new does = cancel_count old.core answer new.core does.1.flags
+  count_goes Reopen old answer new does = kept_numbers old.core new.core old.core.grows old.core.committing does.1.flags
+  count_goes Trim old answer new does = trim_count old.core answer new.core does.trims
+  count_goes _ old answer new does = same_count old.core new.core does.core
+
+-- ---- the number that was begun last
+
+-- it is as it was, or the event began it
+pub begun_is : (event : Event) (answer : Reply) (before : Option ℕ) (n : ℕ) → begun_after event answer before ≡ Some n
+    → (before ≡ Some n) ⊎ ((rounds : ℕ) × (event ≡ Begin rounds) × (answer ≡ reply.Begun n))
+begun_is event answer before n is = grind arith

@@ -21,10 +21,10 @@ pub record ShowsOnTheWay {D : Type 0} (g : Ghosts D) (first : Point D) (events :
   pub goes_on : Goes g mid after more last
   pub events_are : events ≡ before ++ after
   pub answers_are : answers ≡ told ++ more
-  pub shows : ShowsTold (tell mid.first mid.entries) contents
+  pub shows : ShowsTold (tell mid.start mid.entries) contents
 
 -- Whatever moment of a run a crash comes, it leaves such contents, where it was so as the run began.
 abbrev pub GoesLeave : {D : Type 0} → Ghosts D → Type 0
 GoesLeave {D} g = (first last : Point D) (events : List Event) (answers : List Reply)
-    → Within (g.may_leave first.disk) (ShowsTold (tell first.first first.entries)) → Goes g first events answers last
+    → Within (g.may_leave first.disk) (ShowsTold (tell first.start first.entries)) → Goes g first events answers last
     → LeavesOnly g first.disk last.disk (ShowsOnTheWay g first events answers last)

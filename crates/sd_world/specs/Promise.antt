@@ -1,8 +1,9 @@
 -- What is promised of a run, of its events, their replies, its journal and its disk alone.
-use Rattle.std.specs.Prelude.{◌≡◌, ◌≢◌, ◌⊎◌, ℕ, List, [], ◌∷◌, ◌++◌, Option, Some, None}
+use Rattle.std.specs.Prelude.{◌≡◌, ◌⊎◌, ℕ, ◌<◌, List, [], ◌∷◌, ◌++◌, Option, Some, None}
 use Rattle.std.specs.List.{AllByRecursion}
 use Rattle.std.specs.Option.{option_map}
 use Rattle.sd_areas.specs.PlainMemory.{PlainMemory}
+use Rattle.sd_command.specs.declared.refusal.Refusal.{Refusal}
 use Rattle.sd_command.specs.declared.refusal.Refusal.TheVariants.{JournalFull, OutOfMemory}
 use Rattle.sd_command.specs.declared.reply.Reply.{Reply}
 use Rattle.sd_command.specs.declared.reply.Reply.TheVariants as reply
@@ -24,14 +25,14 @@ use Rattle.sd_world.specs.declared.event.Event.TheVariants.{Cancel}
 -- newest first; and the number of the checkpoint that was begun last, until it is cancelled.
 pub record Point (D : Type 0) : Type 0 where
   pub disk : D
-  pub first : Shown
+  pub start : Shown
   pub entries : List Entry
   pub begun : Option ℕ
 
 -- ---- what an event with its reply adds to the journal
 
--- The entry that an event and its reply tell, if they tell one. A command that is refused as journal-full or as out of
--- memory leaves none. Here a trim takes nothing away.
+-- The entry of an event and its reply, if they have one. A command that is refused as journal-full or as out of memory
+-- leaves none. Here a trim takes nothing away.
 abbrev pub told_by : Event → Reply → List Entry
 told_by (CommandEvent seat command) (reply.Refused JournalFull) = []
 told_by (CommandEvent seat command) (reply.Refused OutOfMemory) = []
@@ -45,23 +46,20 @@ told_by event answer = []
 abbrev pub IsOf : Worker → Event → Type 0
 IsOf worker event = (event ≡ Work worker) ⊎ ((event ≡ TakeUp worker) ⊎ ((place : ℕ) × (event ≡ HandInAt worker place)))
 
--- only the dumper acknowledges, only the opener reopens, and only the order to cancel cancels
-abbrev pub IsToldBy : Reply → Event → Type 0
-IsToldBy (reply.Acked n) event = IsOf Dumper event
-IsToldBy (reply.Reopened m) event = IsOf Opener event
-IsToldBy (reply.Cancelled n) event = event ≡ Cancel
-IsToldBy _ event = Unit {0}
+-- each freeze of the run had a lesser number, and so had the checkpoint that it started from
+abbrev pub IsNextNumber : ℕ → Shown → List Entry → Type 0
+IsNextNumber n start entries = AllByRecursion (λ entry. (m : ℕ) → entry ≡ Freeze m → m < n) entries
+    × ((m : ℕ) (memory : PlainMemory) → start ≡ Some (m, memory) → m < n)
 
--- The freeze, which no reply tells: a step of the dumper that only worked may have frozen the memory, for the
--- checkpoint that was begun last, whose number no freeze had before, nor what the run started from.
-pub record Freezes (event : Event) (answer : Reply) (begun : Option ℕ) (first : Shown)
+-- The freeze, which no reply names: a step of the dumper that only worked may have frozen the memory, for the
+-- checkpoint that was begun last, under the next number.
+pub record Freezes (event : Event) (answer : Reply) (begun : Option ℕ) (start : Shown)
     (old new : List Entry) : Type 0 where
   pub dumper : IsOf Dumper event
   pub worked : answer ≡ reply.Worked
   pub number : ℕ
   pub last : begun ≡ Some number
-  pub fresh : AllByRecursion (λ entry. entry ≢ Freeze number) old
-  pub beyond : option_map (λ (pair : ℕ × PlainMemory). pair.0) first ≢ Some number
+  pub next : IsNextNumber number start old
   pub entry : new ≡ Freeze number ∷ old
 
 -- the number of the checkpoint that was begun last, until it is cancelled
@@ -72,7 +70,7 @@ begun_after _ answer before = before
 
 -- ---- what contents show
 
--- contents show what is told to be allowed
+-- contents show what is allowed
 pub record ShowsTold (told : Told) (contents : List (List ℕ)) : Type 0 where
   pub shown : Shown
   pub allowed : MayShow told shown
@@ -90,18 +88,28 @@ ShowsAnswer _ told contents = Unit {0}
 
 -- From one point of a run to the next, by one event and its reply.
 pub record Moves {D : Type 0} (g : Ghosts D) (event : Event) (answer : Reply) (old new : Point D) : Type 0 where
-  -- the run started from where it started, and the journal gets what the event and its reply tell, or the freeze
-  pub first : new.first ≡ old.first
+  -- the run started from where it started, and the journal gets the entry of the event and its reply, or the freeze
+  pub start : new.start ≡ old.start
   pub entries : (new.entries ≡ told_by event answer ++ old.entries)
-      ⊎ Freezes event answer old.begun old.first old.entries new.entries
-  pub teller : IsToldBy answer event
+      ⊎ Freezes event answer old.begun old.start old.entries new.entries
+  -- an order to begin is answered by the next number, or refused; no other event is answered `begun`
+  pub begins : (rounds : ℕ) → event ≡ Begin rounds
+      → ((n : ℕ) × (answer ≡ reply.Begun n) × IsNextNumber n old.start old.entries)
+      ⊎ ((why : Refusal) × (answer ≡ reply.Refused why))
+  pub begun_by : (n : ℕ) → answer ≡ reply.Begun n → (rounds : ℕ) × (event ≡ Begin rounds)
+  -- only the dumper acknowledges: the checkpoint that was begun last, and is being written
+  pub acks : (n : ℕ) → answer ≡ reply.Acked n → IsOf Dumper event × (old.begun ≡ Some n)
+      × ((memory : PlainMemory) × ((tell old.start old.entries).pending ≡ Some (n, memory)))
+  -- only the opener reopens, and only the order to cancel cancels
+  pub reopens : (m : Option ℕ) → answer ≡ reply.Reopened m → IsOf Opener event
+  pub cancels : (n : ℕ) → answer ≡ reply.Cancelled n → event ≡ Cancel
   pub begun : new.begun ≡ begun_after event answer old.begun
   -- a crash at any moment between the two points leaves what the journal allowed at the first
-  pub any_moment : LeavesOnly g old.disk new.disk (ShowsTold (tell old.first old.entries))
+  pub any_moment : LeavesOnly g old.disk new.disk (ShowsTold (tell old.start old.entries))
   -- a crash at the second leaves what the journal allows then
-  pub at_end : Within (g.may_leave new.disk) (ShowsTold (tell new.first new.entries))
+  pub at_end : Within (g.may_leave new.disk) (ShowsTold (tell new.start new.entries))
   -- and after `acked` or `reopened` the last checkpoint, or nothing saved
-  pub told : Within (g.may_leave new.disk) (ShowsAnswer answer (tell new.first new.entries))
+  pub told : Within (g.may_leave new.disk) (ShowsAnswer answer (tell new.start new.entries))
 
 -- the events, one after the other, each with its reply
 abbrev pub Goes : {D : Type 0} → Ghosts D → Point D → List Event → List Reply → Point D → Type 0

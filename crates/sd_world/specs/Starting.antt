@@ -9,6 +9,7 @@ use Rattle.sd_disk.specs.declared.disk.Disk.{Ghosts}
 use Rattle.sd_gate.specs.declared.worker.Worker.TheVariants.{Opener}
 use Rattle.sd_image.specs.Shows.{Shows}
 use Rattle.sd_crash_safety.specs.declared.standing.Standing.TheVariants.{NotOpen}
+use Rattle.sd_core.specs.Flags.{numbers_from}
 use Rattle.sd_core.specs.Starts.{shown_base}
 use Rattle.sd_world.specs.declared.event.Event.TheVariants.{Reopen}
 use Rattle.sd_world.specs.declared.open_fault.OpenFault.{OpenFault}
@@ -20,14 +21,15 @@ use Rattle.sd_world.specs.Jobs.{IsJob}
 use Rattle.sd_world.specs.Opens.{HasNoFrame, IsFaultOf, bare_memory}
 use Rattle.sd_world.specs.View.{WorldView, nothing_kept}
 
--- A world after its opening over a disk, as the call tells: no entry stands in the journal, the store isn't open yet,
--- nothing is out, and no checkpoint runs. The disk was only read. Its contents show what the run starts from, or
--- nothing saved, and so does every outcome of a crash.
+-- A world after its opening over a disk: no entry stands in the journal, the store isn't open yet, nothing is out, no
+-- checkpoint runs, and the first numbers come after the base's. The disk was only read. Its contents show what the run
+-- starts from, or nothing saved, and so does every outcome of a crash.
 pub record IsOpened {D : Type 0} (g : Ghosts D) (disk : D) (frames : ℕ) (opened : WorldView D) : Type 0 where
   pub journal : opened.core.items ≡ []
   pub standing : opened.core.standing ≡ NotOpen
   pub kept : opened.kept ≡ nothing_kept
   pub idle : opened.core.dumper.running ≡ None
+  pub numbers : opened.core.numbers ≡ numbers_from opened.core.base.number
   pub reads : OnlyReads g disk opened.disk
   pub shows : g.is_honest opened.disk
       → Shows (g.contents disk) (shown_base opened.core.base.number opened.core.base.memory)

@@ -7,6 +7,7 @@ ghost use Rattle.sd_disk.specs.Spans.{LeavesOnly};
 ghost use Rattle.sd_image.specs.Shows.{Shows};
 ghost use Rattle.sd_pagetable.specs.Contents.{plain_of};
 ghost use Rattle.sd_crash_safety.specs.declared.standing.Standing.TheVariants.{NotOpen};
+ghost use Rattle.sd_core.specs.Flags.{numbers_from};
 ghost use Rattle.sd_core.specs.Starts.{shown_base};
 ghost use Rattle.sd_world.specs.Opens.{HasNoFrame, IsFaultOf, bare_memory};
 ghost use Rattle.sd_journal.specs.Marked.{IsTracked};
@@ -83,11 +84,13 @@ impl<D: Disk> World<D> {
         requires least { 1 ≤ frames }
         requires greatest { frames ≤ 65536 }
 
-        // No entry stands in the journal, the store isn't open, nothing is out, and no checkpoint runs.
+        // No entry stands in the journal, the store isn't open, nothing is out, and no checkpoint runs. The first
+        // numbers come after the base's.
         ensures journal { IfOk result (λ world. world.core.items ≡ []) }
         ensures standing { IfOk result (λ world. world.core.standing ≡ NotOpen) }
         ensures kept { IfOk result (λ world. world.kept ≡ nothing_kept) }
         ensures idle { IfOk result (λ world. world.core.dumper.running ≡ None) }
+        ensures numbers { IfOk result (λ world. world.core.numbers ≡ numbers_from world.core.base.number) }
         ensures tickets { IfOk result (λ world. HasOwnTickets world.core) }
 
         // The contents show the base, or nothing saved where it has no number, and so does every outcome of a crash.

@@ -1,5 +1,6 @@
 //! What is done with a shared core, and the disk that it wants.
-use crate::beside::Way;
+use crate::eight::SEATS;
+use crate::mutator::Way;
 
 /// How many device calls come before the first page's write of a dump, in a store that was empty.
 const CALLS_BEFORE_A_PAGE: u64 = 43;
@@ -35,6 +36,8 @@ pub(crate) enum Case {
     Trimmed,
     /// A checkpoint beside a thread that waits for the thaw, and others that are cancelled beside one.
     Awaited,
+    /// What eight seats do at random, from a seed on.
+    Random(u64),
 }
 
 impl Case {
@@ -42,6 +45,7 @@ impl Case {
     pub(crate) fn fuse(self) -> u64 {
         match self {
             Case::Falls | Case::RelayFalls => CALLS_BEFORE_A_PAGE,
+            Case::Random(seed) => 200 + seed % 3_000,
             _ => u64::MAX,
         }
     }
@@ -56,7 +60,24 @@ impl Case {
         match self {
             Case::Merged | Case::Falls => 1,
             Case::TwentyPages | Case::Awaited => 20,
+            Case::Random(_) => SEATS as u64,
             _ => 2,
+        }
+    }
+
+    /// How many seats there are.
+    pub(crate) fn seats(self) -> usize {
+        match self {
+            Case::Random(_) => SEATS,
+            _ => 2,
+        }
+    }
+
+    /// How many slots the disk has.
+    pub(crate) fn slots(self) -> usize {
+        match self {
+            Case::Random(_) => 12,
+            _ => 8,
         }
     }
 }

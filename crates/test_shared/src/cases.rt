@@ -1,18 +1,19 @@
 //! A shared core over a store of eight slots, what is done with it, and its closing. Only this file owns one.
-use crate::beside::{Way, save_beside};
+use crate::beside::save_beside;
 use crate::cancelling::cancels_beside;
 use crate::case::Case;
 use crate::device::Device;
 use crate::driven::drives_beside;
+use crate::eight::plays;
 use crate::falling::falls;
 use crate::holds::{Free, merges_in_13_calls, saves_in_16_calls};
 use crate::jobs::Job;
-use crate::mutator::Mutator;
+use crate::mutator::{Mutator, Way};
+use crate::replies::{is_acked, is_merged, is_opened};
 use crate::told::Told;
 use crate::trimming::trims_beside;
 use crate::waiting::{ends_waits, loads_thawed, waits_asleep, wakes_by_a_cancel};
 use crate::writers::{falls_beside, writes_beside, writes_twenty_pages};
-use sd_command::Reply;
 use sd_core::Core;
 use sd_disk::{Disk, Fused, MemDisk};
 use sd_journal::CloseFault;
@@ -25,7 +26,7 @@ use std::rt::Files;
 use std::sync::Wait;
 use std::test::Fail;
 use std::thread::Threads;
-use std::time::Clock;
+use std::time::{Clock, SystemTime};
 
 /// The disk of these tests, of which a call may fail, or all may be dropped.
 pub(crate) type Store = Device<Fused<MemDisk>>;
@@ -42,60 +43,60 @@ const PAGE_BYTES: usize = 4_096;
 /// More bytes than the table of an image of twenty pages takes.
 const TABLE_BYTES: usize = 1_024;
 
+/// How many frames a core has.
+const FRAMES: usize = 256;
+
+/// How many runs of eight seats are made.
+const RUNS: u64 = 10;
+
 /// An empty disk whose slots have room for images of so many pages, where memory is refused once at most. What a disk
 /// in memory costs in a build with checks goes by its room.
-fn empty(alloc: Global, pages: u64) -> Result<MemDisk, AllocError> {
+fn empty(alloc: Global, slots: usize, pages: u64) -> Result<MemDisk, AllocError> {
     let data = PAGE_BYTES.saturating_mul(pages as usize);
     let room = data.saturating_add(FRONT_BYTES + TABLE_BYTES);
-    match MemDisk::new(alloc, 8, room, CALLS) {
+    match MemDisk::new(alloc, slots, room, CALLS) {
         Ok(disk) => Ok(disk),
-        Err(_) => MemDisk::new(alloc, 8, room, CALLS),
+        Err(_) => MemDisk::new(alloc, slots, room, CALLS),
     }
 }
 
 fn store(alloc: Global, case: Case) -> Result<Store, AllocError> {
     Ok(Device {
-        disk: Fused::new(empty(alloc, case.pages())?, case.fuse()),
+        disk: Fused::new(empty(alloc, case.slots(), case.pages())?, case.fuse()),
         drops: case.drops(),
     })
 }
 
-/// Opens a store for two seats, again where memory is refused once.
+/// Opens a store for the seats of a case, again where memory is refused once.
 fn open(alloc: Global, case: Case) -> Result<(Shared<Store>, Vec<Seat>), Fail> {
-    let error = match Shared::open(alloc, store(alloc, case)?, 64, 2) {
+    let error = match Shared::open(alloc, store(alloc, case)?, FRAMES, case.seats()) {
         Ok(opened) => return Ok(opened),
         Err(error) => error,
     };
     if error.fault != OpenFault::OutOfMemory {
         return Err(Fail::from("not opened"));
     }
-    match Shared::open(alloc, error.disk, 64, 2) {
+    match Shared::open(alloc, error.disk, FRAMES, case.seats()) {
         Ok(opened) => Ok(opened),
         Err(_) => Err(Fail::from("not opened again")),
     }
 }
 
 /// Makes a checkpoint without pre-dumps.
-fn save(
-    rt: &(impl Abort + Wait),
-    shared: &Shared<Store>,
-    acks: &mut Vec<u64>,
-) -> Result<(), AllocError> {
-    assert_eq!(rt; shared.run_dumper(rt, 0, &Free), Reply::Acked(1));
-    acks.push(1)?;
-    Ok(())
+fn save(rt: &(impl Abort + Wait), shared: &Shared<Store>, told: &mut Told) {
+    assert!(rt; is_acked(shared.run_dumper(rt, 0, &Free), 1));
+    assert!(rt; told.keep_ack(1));
 }
 
 /// Two checkpoints whose data pages are written by other threads.
-fn relays<R: Threads + Wait + Clock + Files + Alloc + Abort + Sync>(
+fn relays<R: Threads + Wait + Clock + Abort + Sync>(
     rt: &R,
     shared: &Shared<Store>,
-    acks: &mut Vec<u64>,
-) -> Result<(), AllocError> {
+    told: &mut Told,
+) {
     writes_beside(rt, shared);
-    acks.push(1)?;
     saves_in_16_calls(rt, shared);
-    Ok(acks.push(2)?)
+    assert!(rt; told.keep_ack(1) && told.keep_ack(2));
 }
 
 /// Checkpoints that a mutator waits for: until waits are ended, to a thaw, and to a cancel.
@@ -103,16 +104,57 @@ fn awaits<R: Threads + Wait + Clock + Files + Alloc + Abort + Sync>(
     rt: &R,
     shared: &Shared<Store>,
     mutator: &mut Mutator<'_>,
-    acks: &mut Vec<u64>,
-) -> Result<(), AllocError> {
+    told: &mut Told,
+) {
     ends_waits(rt, shared);
-    acks.push(1)?;
     waits_asleep(rt, shared);
-    acks.push(2)?;
     loads_thawed(rt, shared, mutator);
-    acks.push(3)?;
-    wakes_by_a_cancel(rt, shared, mutator, acks);
-    Ok(())
+    assert!(rt; told.keep_ack(1) && told.keep_ack(2) && told.keep_ack(3));
+    wakes_by_a_cancel(rt, shared, mutator, &mut told.acks);
+}
+
+/// A checkpoint beside two mutators, and a merge after it.
+fn merges_beside<R: Threads + Wait + Clock + Abort + Sync>(
+    rt: &R,
+    alloc: Global,
+    shared: &Shared<Store>,
+    way: Way,
+    mutators: (&mut Mutator<'_>, &mut Mutator<'_>),
+    told: &mut Told,
+) {
+    save_beside(rt, alloc, shared, mutators, way);
+    assert!(rt; is_merged(Job::Merging.make(rt, shared, &Free), 3));
+    assert!(rt; told.keep_ack(1));
+}
+
+/// Does what a case says that needs no second mutator.
+fn act_alone<R: Threads + Wait + Clock + Files + Alloc + Abort + Sync>(
+    rt: &R,
+    shared: &Shared<Store>,
+    case: Case,
+    mutator: &mut Mutator<'_>,
+    told: &mut Told,
+) {
+    match case {
+        Case::Falls => falls(rt, shared, mutator),
+        Case::Merged => {
+            save(rt, shared, told);
+            merges_in_13_calls(rt, shared);
+        }
+        Case::Relayed => relays(rt, shared, told),
+        Case::RelayFalls => {
+            falls_beside(rt, shared);
+            assert!(rt; told.keep_ack(2));
+        }
+        Case::Awaited => awaits(rt, shared, mutator, told),
+        Case::TwentyPages => {
+            writes_twenty_pages(rt, shared);
+            assert!(rt; told.keep_ack(1));
+        }
+        Case::Cancelled => cancels_beside(rt, shared, mutator, &mut told.acks),
+        Case::Driven => drives_beside(rt, shared, &mut told.acks),
+        _ => save(rt, shared, told),
+    }
 }
 
 /// Does what a case says, by two mutators, after the commands that map the pages.
@@ -122,111 +164,74 @@ fn act<R: Threads + Wait + Clock + Files + Alloc + Abort + Sync>(
     shared: &Shared<Store>,
     case: Case,
     mutators: (&mut Mutator<'_>, &mut Mutator<'_>),
-    acks: &mut Vec<u64>,
-) -> Result<(), AllocError> {
+    told: &mut Told,
+) {
     match case {
-        Case::Saved | Case::LacksReceipt | Case::TellsMore | Case::Dropped => {
-            save(rt, shared, acks)
-        }
-        Case::Falls => {
-            falls(rt, shared, mutators.0);
-            Ok(())
-        }
-        Case::Merged => {
-            save(rt, shared, acks)?;
-            merges_in_13_calls(rt, shared);
-            Ok(())
-        }
-        Case::Beside(way) => {
-            save_beside(rt, alloc, shared, mutators, way);
-            assert_eq!(rt; Job::Merging.make(rt, shared, &Free), Reply::Merged(3));
-            acks.push(1)?;
-            Ok(())
-        }
-        Case::Relayed => relays(rt, shared, acks),
-        Case::RelayFalls => {
-            falls_beside(rt, shared);
-            Ok(acks.push(2)?)
-        }
-        Case::Trimmed => trims_beside(rt, alloc, shared, mutators),
-        Case::Awaited => awaits(rt, shared, mutators.0, acks),
-        Case::TwentyPages => {
-            writes_twenty_pages(rt, shared);
-            Ok(acks.push(1)?)
-        }
-        Case::Cancelled => {
-            cancels_beside(rt, shared, mutators.0, acks);
-            Ok(())
-        }
-        Case::Driven => {
-            drives_beside(rt, shared, acks);
-            Ok(())
-        }
+        Case::Beside(way) => merges_beside(rt, alloc, shared, way, mutators, told),
+        Case::Trimmed => trims_beside(rt, alloc, shared, mutators, told),
+        _ => act_alone(rt, shared, case, mutators.0, told),
     }
 }
 
-/// The receipts of both mutators, and the acknowledgements, as a case tells them.
-fn told(case: Case, first: Mutator<'_>, last: Mutator<'_>, acks: Vec<u64>) -> Result<Told, Fail> {
-    let mut told = Told {
-        receipts: first.receipts,
-        acks,
-        fault: None,
-    };
-    if told.receipts.reserve(last.receipts.len()).is_err() {
-        told.receipts.reserve(last.receipts.len())?;
-    }
-    for receipt in last.receipts {
-        told.receipts.push(receipt)?;
-    }
+/// Leaves out a receipt, or adds an acknowledgement, where a case says so.
+fn spoil(case: Case, told: &mut Told) {
     match case {
         Case::LacksReceipt => {
-            let _ = told.receipts.pop();
+            drop(told.receipts.pop());
             told.fault = Some(CloseFault::Count);
         }
         Case::TellsMore => {
-            told.acks.push(2)?;
+            let _ = told.keep_ack(2);
             told.fault = Some(CloseFault::Acks);
         }
         _ => {}
     }
-    Ok(told)
 }
 
-/// Room for acknowledgements, where memory is refused once at most.
-fn room_for_acks(alloc: Global) -> Result<Vec<u64>, AllocError> {
-    match Vec::with_capacity(alloc, 4) {
-        Ok(room) => Ok(room),
-        Err(_) => Vec::with_capacity(alloc, 4),
-    }
+/// Maps the pages of two seats, and does what a case says.
+fn work_by_two<R: Threads + Wait + Clock + Files + Alloc + Abort + Sync>(
+    rt: &R,
+    alloc: Global,
+    shared: &Shared<Store>,
+    seats: (&mut Seat, &mut Seat),
+    case: Case,
+    told: &mut Told,
+) {
+    let mut first = Mutator {
+        seat: seats.0,
+        receipts: Vec::new(alloc),
+    };
+    let mut last = Mutator {
+        seat: seats.1,
+        receipts: Vec::new(alloc),
+    };
+    assert!(rt; first.prepare(rt, alloc, shared, case.pages()));
+    act(rt, alloc, shared, case, (&mut first, &mut last), told);
+    let Mutator { receipts, .. } = first;
+    assert!(rt; told.take(receipts));
+    let Mutator { receipts, .. } = last;
+    assert!(rt; told.take(receipts));
+    spoil(case, told);
 }
 
-/// Opens the store of a shared core, maps its pages, and does what a case says.
+/// Opens the store of a shared core, and does what a case says.
 fn work<R: Threads + Wait + Clock + Files + Alloc + Abort + Sync>(
     rt: &R,
     alloc: Global,
     shared: &Shared<Store>,
     seats: &mut [Seat],
     case: Case,
-) -> Result<Told, Fail> {
+) -> Result<Told, AllocError> {
+    let mut told = Told::new(alloc)?;
+    assert!(rt; is_opened(Job::Opening.make(rt, shared, &Free)));
+    if let Case::Random(seed) = case {
+        return Ok(plays(rt, alloc, shared, seats, seed, told));
+    }
     let mut seats = seats.iter_mut();
-    let (Some(first), Some(last)) = (seats.next(), seats.next()) else {
-        return Err(Fail::from("no seats"));
-    };
-    let receipts = Vec::new(alloc);
-    let mut first = Mutator {
-        seat: first,
-        receipts,
-    };
-    let receipts = Vec::new(alloc);
-    let mut last = Mutator {
-        seat: last,
-        receipts,
-    };
-    let mut acks = room_for_acks(alloc)?;
-    assert_eq!(rt; Job::Opening.make(rt, shared, &Free), Reply::Reopened(None));
-    assert_eq!(rt; first.prepare(rt, alloc, shared, case.pages()), Ok(()));
-    act(rt, alloc, shared, case, (&mut first, &mut last), &mut acks)?;
-    told(case, first, last, acks)
+    if let (Some(first), Some(last)) = (seats.next(), seats.next()) {
+        work_by_two(rt, alloc, shared, (first, last), case, &mut told);
+    }
+    Ok(told)
 }
 
 /// What an audit returns, again where memory is refused once.
@@ -237,36 +242,35 @@ fn audit_again<D: Disk>(alloc: Global, core: &Core, disk: &mut D) -> Result<bool
     }
 }
 
-/// The run's own disk shows what its journal allows, unless it dropped what it was given; and an empty one only where
-/// nothing was acknowledged.
-fn audits(
-    rt: &impl Abort,
-    alloc: Global,
-    core: &Core,
-    disk: &mut Store,
-    acks: &[u64],
-) -> Result<(), Fail> {
-    let mut other = empty(alloc, 0)?;
+/// Whether the run's own disk shows what its journal allows, unless it dropped what it was given; and an empty one only
+/// where nothing was acknowledged.
+fn audits(alloc: Global, core: &Core, disk: &mut Store, acks: &[u64]) -> bool {
+    let Ok(mut other) = empty(alloc, 8, 0) else {
+        return false;
+    };
     let is_kept = !disk.drops;
-    assert_eq!(rt; audit_again(alloc, core, disk), Ok(is_kept));
     let is_empty = core.base_number().is_none() && acks.is_empty();
-    assert_eq!(rt; audit_again(alloc, core, &mut other), Ok(is_empty));
-    Ok(())
+    is_shown(audit_again(alloc, core, disk), is_kept)
+        && is_shown(audit_again(alloc, core, &mut other), is_empty)
 }
 
-/// Closes with what was told, which is answered as it says.
-fn closes(rt: &impl Abort, alloc: Global, shared: Shared<Store>, told: &Told) -> Result<(), Fail> {
+/// Whether an audit says that.
+fn is_shown(found: Result<bool, Fault>, wanted: bool) -> bool {
+    match found {
+        Ok(shown) => shown == wanted,
+        Err(_) => false,
+    }
+}
+
+/// Closes with what was told. Returns whether that is answered as it says, and the disk shows what it is to.
+fn closes(alloc: Global, shared: Shared<Store>, told: &Told) -> bool {
     match shared.close(&told.receipts, &told.acks) {
         Ok((core, mut disk)) => {
-            assert_eq!(rt; told.fault, None);
-            let audited = audits(rt, alloc, &core, &mut disk, &told.acks);
+            let audited = audits(alloc, &core, &mut disk, &told.acks);
             core.discard();
-            audited
+            audited && told.fault.is_none()
         }
-        Err(fault) => {
-            assert_eq!(rt; told.fault, Some(fault));
-            Ok(())
-        }
+        Err(fault) => told.fault == Some(fault),
     }
 }
 
@@ -277,10 +281,13 @@ fn run<R: Threads + Wait + Clock + Files + Alloc + Abort + Sync>(
 ) -> Result<(), Fail> {
     let (shared, mut seats) = open(alloc, case)?;
     match work(rt, alloc, &shared, &mut seats, case) {
-        Ok(told) => closes(rt, alloc, shared, &told),
-        Err(fail) => {
+        Ok(told) => {
+            assert!(rt; closes(alloc, shared, &told));
+            Ok(())
+        }
+        Err(_) => {
             shared.discard();
-            Err(fail)
+            Err(Fail::from("out of memory"))
         }
     }
 }
@@ -368,4 +375,18 @@ fn a_wait_sleeps_until_it_is_woken(rt: HostRuntime) -> Result<(), Fail> {
 #[test]
 fn trims_while_threads_store(rt: HostRuntime) -> Result<(), Fail> {
     run(&rt, rt.alloc(), Case::Trimmed)
+}
+
+/// Ten runs of eight seats, of another seed each time.
+#[test]
+fn eight_seats_at_random(rt: HostRuntime) -> Result<(), Fail> {
+    let begun = SystemTime::now(&rt)?.duration_since(SystemTime::UNIX_EPOCH);
+    let seed = match begun {
+        Ok(since) => since.as_micros() as u64,
+        Err(_) => 1,
+    };
+    for number in 0..RUNS {
+        run(&rt, rt.alloc(), Case::Random(seed.wrapping_add(number)))?;
+    }
+    Ok(())
 }

@@ -1,345 +1,238 @@
 //! Eight seats that make commands, orders and jobs at random over one core, whose device fails once.
+use crate::cases::Store;
 use crate::holds::Free;
 use crate::mutator::{load, mmap, store};
-use crate::trimming::take_below;
+use crate::told::Told;
 use sd_areas::SpaceId;
 use sd_command::{Command, Refusal, Reply};
-use sd_disk::{Fused, MemDisk};
-use sd_journal::{Entry, Receipt};
-use sd_receipts::Folded;
+use sd_journal::Receipt;
 use sd_shared::{Seat, Shared};
-use sd_world::audit;
-use std::alloc::{AllocError, Global};
+use std::alloc::Global;
+use std::process::Abort;
+use std::sync::atomic::{AtomicU64, Ordering};
 use std::sync::{Mutex, Wait};
-use std::test::Fail;
+use std::thread;
 use std::thread::Threads;
-use std::time::SystemTime;
-use std::{mem, thread};
-
-type Disk = Fused<MemDisk>;
-
-/// How many runs are made.
-const RUNS: u64 = 10;
 
 /// How many acts each seat makes.
 const ACTS: u64 = 40;
 
-const SEATS: usize = 8;
-
-/// More checkpoints than are made in a run.
-const MOST_CHECKPOINTS: u64 = 400;
+/// How many seats play, each with a page of its own.
+pub(crate) const SEATS: usize = 8;
 
 /// How often a seat goes on with a checkpoint that others drive too.
 const TRIES: u64 = 1_000_000;
 
-/// The bytes of an image of eight pages.
-const ROOM: usize = 4_096 + 8 * 4_096 + 512;
-
-/// Keeps one more of what was answered.
-fn keep<T: Drop>(list: &mut Vec<T>, one: T) -> Result<(), Refusal> {
-    match list.push(one) {
-        Ok(()) => Ok(()),
-        Err(_) => Err(Refusal::OutOfMemory),
-    }
+/// The next random number below a bound, which isn't 0.
+fn pick(random: &mut u64, bound: u64) -> u64 {
+    *random = random
+        .wrapping_mul(6_364_136_223_846_793_005)
+        .wrapping_add(1_442_695_040_888_963_407);
+    (*random >> 33).checked_rem(bound).unwrap_or(0)
 }
 
-/// A seat, what it was answered, and its random numbers.
+/// A command on a page, or a fork that ends at once where no frame or space is left.
+fn command(alloc: Global, page: u64, random: &mut u64) -> Result<Command, Refusal> {
+    let number = pick(random, 16);
+    if number == 0 {
+        return Ok(Command::Fork {
+            space: SpaceId::new(1),
+        });
+    }
+    if number < 6 {
+        return Ok(load(page));
+    }
+    store(alloc, page, number)
+}
+
+/// What the seats play with, and what all of them were answered.
 #[derive(Drop)]
-struct Player {
+struct Board<'a, R> {
+    rt: &'a R,
     alloc: Global,
-    seat: Seat,
-    receipts: Vec<Receipt>,
-    acks: Vec<u64>,
-    folded: Vec<Folded>,
-    chance: u64,
+    shared: &'a Shared<Store>,
+    told: &'a Mutex<Told>,
 }
 
-impl Player {
-    /// The next random number below a bound, which isn't 0.
-    fn pick(&mut self, bound: u64) -> u64 {
-        self.chance = self
-            .chance
-            .wrapping_mul(6_364_136_223_846_793_005)
-            .wrapping_add(1_442_695_040_888_963_407);
-        (self.chance >> 33).checked_rem(bound).unwrap_or(0)
-    }
-
-    /// A command on the seat's page, or a fork that ends at once where no frame or space is left.
-    fn command(&mut self) -> Result<Command, Refusal> {
-        let page = self.seat.number() as u64;
-        match self.pick(16) {
-            0 => Ok(Command::Fork {
-                space: SpaceId::new(1),
-            }),
-            1..=5 => Ok(load(page)),
-            number => store(self.alloc, page, number),
+impl<R: Threads + Wait + Sync> Board<'_, R> {
+    /// Makes a command in one of three ways.
+    fn make(&self, seat: &mut Seat, command: Command, way: u64) -> Result<Receipt, Refusal> {
+        if way == 0 {
+            return self.shared.call(self.rt, seat, command);
         }
+        if way == 1 {
+            return self.shared.call_thawed(self.rt, seat, command);
+        }
+        self.shared.try_call(seat, command)
     }
 
-    /// Makes a command, in one of three ways.
-    fn call(&mut self, rt: &impl Wait, shared: &Shared<Disk>) -> Result<(), Refusal> {
-        let command = self.command()?;
-        let made = match self.pick(3) {
-            0 => shared.call(rt, &mut self.seat, command),
-            1 => shared.call_thawed(rt, &mut self.seat, command),
-            _ => shared.try_call(&mut self.seat, command),
-        };
+    /// Keeps a receipt. Returns whether there was one, or the lock was busy.
+    fn note_made(&self, made: Result<Receipt, Refusal>) -> bool {
         match made {
-            Ok(receipt) => keep(&mut self.receipts, receipt),
-            Err(Refusal::LockBusy) => Ok(()),
-            Err(why) => Err(why),
+            Ok(receipt) => self.told.lock(self.rt).keep(receipt),
+            Err(why) => why == Refusal::LockBusy,
         }
     }
 
-    /// Begins a job, goes on with one, or cancels. An acknowledgement is kept.
-    fn order<R: Threads + Wait + Sync>(
-        &mut self,
-        rt: &R,
-        shared: &Shared<Disk>,
-    ) -> Result<(), Refusal> {
-        let rounds = self.pick(3);
-        let reply = match self.pick(8) {
-            0 | 1 => shared.run_dumper(rt, rounds, &Free),
-            2 | 3 => shared.run_relay(rt, rounds, (rounds as usize).saturating_add(1), &Free),
-            4 => shared.run_merger(rt, &Free),
-            5 => shared.go_on_dumper(rt, &Free),
-            6 => shared.go_on_merger(rt, &Free),
-            _ => shared.cancel(rt),
-        };
+    /// Makes a command of a seat on its page. Returns whether all went well, as each of what follows.
+    fn call(&self, seat: &mut Seat, random: &mut u64) -> bool {
+        let way = pick(random, 3);
+        match command(self.alloc, seat.number() as u64, random) {
+            Ok(command) => self.note_made(self.make(seat, command, way)),
+            Err(_) => false,
+        }
+    }
+
+    /// Begins a job, goes on with one, or cancels.
+    fn begin(&self, job: u64, rounds: u64) -> Reply {
+        if job < 2 {
+            return self.shared.run_dumper(self.rt, rounds, &Free);
+        }
+        if job < 4 {
+            let writers = (rounds as usize).saturating_add(1);
+            return self.shared.run_relay(self.rt, rounds, writers, &Free);
+        }
+        if job < 5 {
+            return self.shared.run_merger(self.rt, &Free);
+        }
+        if job < 6 {
+            return self.shared.go_on_dumper(self.rt, &Free);
+        }
+        if job < 7 {
+            return self.shared.go_on_merger(self.rt, &Free);
+        }
+        self.shared.cancel(self.rt)
+    }
+
+    /// Opens the store again where a device call failed, and merges where no slot is left.
+    fn mend(&self, why: Refusal) {
+        if why == Refusal::StoreDown || why == Refusal::NotOpen {
+            drop(self.shared.run_opener(self.rt, &Free));
+        }
+        if why == Refusal::NoSlot {
+            drop(self.shared.run_merger(self.rt, &Free));
+        }
+    }
+
+    /// Keeps an acknowledgement, or mends what was refused.
+    fn note(&self, reply: Reply) -> bool {
         match reply {
-            Reply::Acked(number) => keep(&mut self.acks, number),
-            Reply::Refused(Refusal::StoreDown | Refusal::NotOpen) => {
-                drop(shared.run_opener(rt, &Free));
-                Ok(())
+            Reply::Acked(number) => self.told.lock(self.rt).keep_ack(number),
+            Reply::Refused(why) => {
+                self.mend(why);
+                true
             }
-            Reply::Refused(Refusal::NoSlot) => {
-                drop(shared.run_merger(rt, &Free));
-                Ok(())
-            }
-            _ => Ok(()),
+            _ => true,
         }
     }
 
-    /// Goes on with the checkpoint that stands until none does, also after a device call that failed.
-    fn settle(&mut self, rt: &impl Wait, shared: &Shared<Disk>) -> Result<(), Refusal> {
-        for _ in 0..TRIES {
-            match shared.go_on_dumper(rt, &Free) {
-                Reply::Acked(number) => return keep(&mut self.acks, number),
-                Reply::Refused(Refusal::Idle) => return Ok(()),
-                Reply::Refused(Refusal::StoreDown | Refusal::NotOpen) => {
-                    drop(shared.run_opener(rt, &Free));
-                }
-                _ => thread::yield_now(),
+    /// Goes on with the checkpoint that stands. Returns nothing while one does, also after a device call that failed.
+    fn settle_once(&self) -> Option<bool> {
+        match self.shared.go_on_dumper(self.rt, &Free) {
+            Reply::Acked(number) => Some(self.told.lock(self.rt).keep_ack(number)),
+            Reply::Refused(why) if why == Refusal::Idle => Some(true),
+            reply => {
+                let _ = self.note(reply);
+                None
             }
         }
-        Err(Refusal::Busy)
+    }
+
+    /// Goes on with the checkpoint that stands until none does.
+    fn settle(&self) -> bool {
+        for _ in 0..TRIES {
+            if let Some(went_well) = self.settle_once() {
+                return went_well;
+            }
+            thread::yield_now();
+        }
+        false
+    }
+
+    /// Begins a job, goes on with one, or cancels, so that no checkpoint stands then.
+    fn order(&self, random: &mut u64) -> bool {
+        let rounds = pick(random, 3);
+        let job = pick(random, 8);
+        self.note(self.begin(job, rounds)) && self.settle()
     }
 
     /// Trims the journal, and keeps what is folded.
-    fn trim(&mut self, rt: &impl Wait, shared: &Shared<Disk>) -> Result<(), Refusal> {
-        match shared.trim(rt) {
-            Ok(folded) => keep(&mut self.folded, folded),
-            Err(Refusal::Idle) => Ok(()),
-            Err(why) => Err(why),
+    fn trim(&self) -> bool {
+        match self.shared.trim(self.rt) {
+            Ok(folded) => self.told.lock(self.rt).keep_folded(folded),
+            Err(why) => why == Refusal::Idle,
         }
     }
 
-    /// Makes its acts.
-    fn play<R: Threads + Wait + Sync>(
-        &mut self,
-        rt: &R,
-        shared: &Shared<Disk>,
-    ) -> Result<(), Refusal> {
+    /// One act of a seat.
+    fn act(&self, seat: &mut Seat, random: &mut u64) -> bool {
+        let act = pick(random, 24);
+        if act < 2 {
+            return self.order(random);
+        }
+        if act < 3 {
+            return self.trim();
+        }
+        self.call(seat, random)
+    }
+
+    /// All acts of a seat.
+    fn play(&self, seat: &mut Seat, seed: u64) -> bool {
+        let mut random = seed.wrapping_mul(31).wrapping_add(seat.number() as u64);
         for _ in 0..ACTS {
-            match self.pick(24) {
-                0 | 1 => {
-                    self.order(rt, shared)?;
-                    self.settle(rt, shared)?;
+            if !self.act(seat, &mut random) {
+                return false;
+            }
+        }
+        true
+    }
+
+    /// Maps a page for each seat.
+    fn map_all(&self, seats: &mut [Seat]) -> bool {
+        match seats.first_mut() {
+            Some(first) => self.note_made(self.make(first, mmap(SEATS as u64), 0)),
+            None => false,
+        }
+    }
+
+    /// Maps the pages, and lets the seats play, each in a thread of its own. No checkpoint stands then.
+    fn play_all(&self, seats: &mut [Seat], seed: u64) -> bool {
+        let mapped = self.map_all(seats);
+        let failed = AtomicU64::new(0);
+        thread::for_each_mut(
+            self.rt,
+            seats,
+            SEATS,
+            &|_index, seat| {
+                if !self.play(seat, seed) {
+                    failed.store(1, Ordering::SeqCst);
                 }
-                2 => self.trim(rt, shared)?,
-                _ => self.call(rt, shared)?,
-            }
-        }
-        Ok(())
+            },
+        );
+        mapped && failed.load(Ordering::SeqCst) == 0
     }
 }
 
-/// Maps the pages, and lets the seats play, each in a thread of its own. No checkpoint stands then.
-fn play_all<R: Threads + Wait + Sync>(
-    rt: &R,
-    shared: &Shared<Disk>,
-    players: &mut [Player],
-) -> Result<(), Refusal> {
-    if let Some(first) = players.first_mut() {
-        let receipt = shared.call(rt, &mut first.seat, mmap(SEATS as u64))?;
-        keep(&mut first.receipts, receipt)?;
-    }
-    let ended = Mutex::new(None);
-    thread::for_each_mut(
-        rt,
-        players,
-        SEATS,
-        &|_index, player| {
-            if let Err(why) = player.play(rt, shared) {
-                *ended.lock(rt) = Some(why);
-            }
-        },
-    );
-    match ended.into_inner() {
-        None => Ok(()),
-        Some(why) => Err(why),
-    }
-}
-
-/// The players of so many seats.
-fn players_of(alloc: Global, seats: Vec<Seat>, seed: u64) -> Result<Vec<Player>, AllocError> {
-    let mut players = Vec::with_capacity(alloc, seats.len())?;
-    for seat in seats {
-        let chance = seed.wrapping_mul(31).wrapping_add(seat.number() as u64);
-        players.push(Player {
-            alloc,
-            seat,
-            receipts: Vec::new(alloc),
-            acks: Vec::new(alloc),
-            folded: Vec::new(alloc),
-            chance,
-        })?;
-    }
-    Ok(players)
-}
-
-/// The numbers that were acknowledged, rising.
-fn acks_of(alloc: Global, players: &[Player]) -> Result<Vec<u64>, AllocError> {
-    let mut acks = Vec::new(alloc);
-    for number in 0..MOST_CHECKPOINTS {
-        if players.iter().any(|player| player.acks.contains(&number)) {
-            acks.push(number)?;
-        }
-    }
-    Ok(acks)
-}
-
-/// The receipts with lesser numbers, those of each seat in their order, which are taken.
-fn receipts_below(
-    alloc: Global,
-    players: &mut [Player],
-    number: u64,
-) -> Result<Vec<Receipt>, AllocError> {
-    let mut receipts = Vec::new(alloc);
-    for player in players {
-        receipts.append(&mut take_below(&mut player.receipts, number)?)?;
-    }
-    Ok(receipts)
-}
-
-/// What a trim folded from this entry on, which is taken.
-fn folded_from(players: &mut [Player], first: u64) -> Option<Folded> {
-    players.iter_mut().find_map(|player| {
-        let place = player
-            .folded
-            .iter()
-            .position(|folded| folded.first == first)?;
-        Some(player.folded.swap_remove(place))
-    })
-}
-
-/// How many checkpoints the entries acknowledge.
-fn count_acks(folded: &Folded) -> usize {
-    folded
-        .entries
-        .iter()
-        .filter(|entry| matches!(entry, Entry::Acked(_)))
-        .count()
-}
-
-/// Whether what was folded accounts for the receipts and the acknowledgements of its entries, which are taken.
-fn are_folded(
-    alloc: Global,
-    players: &mut [Player],
-    acks: &mut Vec<u64>,
-) -> Result<bool, AllocError> {
-    let mut first = 0;
-    for _ in 0..MOST_CHECKPOINTS {
-        let Some(folded) = folded_from(players, first) else {
-            return Ok(true);
-        };
-        first = first.saturating_add(folded.entries.len() as u64);
-        let receipts = receipts_below(alloc, players, first)?;
-        let rest = acks.split_off(count_acks(&folded).min(acks.len()))?;
-        let own = mem::replace(acks, rest);
-        if folded.check(&receipts, &own).is_err() {
-            return Ok(false);
-        }
-    }
-    Ok(false)
-}
-
-/// Whether the core accounts for what was answered, and its disk shows what it allows.
-fn closes(alloc: Global, shared: Shared<Disk>, receipts: &[Receipt], acks: &[u64]) -> bool {
-    match shared.close(receipts, acks) {
-        Ok((core, mut disk)) => {
-            let shown = audit(alloc, &core, &mut disk);
-            core.discard();
-            shown == Ok(true)
-        }
-        Err(_) => false,
-    }
-}
-
-/// What the seats were answered that the journal still has, and whether all went well so far.
-#[derive(Drop)]
-struct Answered {
-    receipts: Vec<Receipt>,
-    acks: Vec<u64>,
-    well: bool,
-}
-
-/// Lets the seats play, and compares what was folded with what they were answered.
-fn play_and_check<R: Threads + Wait + Sync>(
+/// Lets the seats play. Returns what they were answered that the journal still has: what was folded accounts for the
+/// rest.
+pub(crate) fn plays<R: Threads + Wait + Abort + Sync>(
     rt: &R,
     alloc: Global,
-    shared: &Shared<Disk>,
-    seats: Vec<Seat>,
+    shared: &Shared<Store>,
+    seats: &mut [Seat],
     seed: u64,
-) -> Result<Answered, AllocError> {
-    let mut players = players_of(alloc, seats, seed)?;
-    let played = play_all(rt, shared, &mut players);
-    let mut acks = acks_of(alloc, &players)?;
-    let folded = are_folded(alloc, &mut players, &mut acks)?;
-    let receipts = receipts_below(alloc, &mut players, u64::MAX)?;
-    Ok(Answered {
-        receipts,
-        acks,
-        well: played.is_ok() && folded,
-    })
-}
-
-/// Lets eight seats play over a disk of which a call fails. Returns whether all was accounted for.
-fn run<R: Threads + Wait + Sync>(rt: &R, alloc: Global, seed: u64) -> Result<bool, Fail> {
-    let disk = Fused::new(MemDisk::new(alloc, 12, ROOM, 100_000)?, 200 + seed % 3_000);
-    let Ok((shared, seats)) = Shared::start(alloc, disk, 256, SEATS) else {
-        return Err(Fail::from("not started"));
+    told: Told,
+) -> Told {
+    let told = Mutex::new(told);
+    let board = Board {
+        rt,
+        alloc,
+        shared,
+        told: &told,
     };
-    match play_and_check(rt, alloc, &shared, seats, seed) {
-        Ok(told) => Ok(closes(alloc, shared, &told.receipts, &told.acks) && told.well),
-        Err(_) => {
-            shared.discard();
-            Err(Fail::from("out of memory"))
-        }
-    }
-}
-
-/// Ten runs, of another seed each time.
-#[test]
-fn eight_seats_at_random(rt: HostRuntime) -> Result<(), Fail> {
-    let begun = SystemTime::now(&rt)?.duration_since(SystemTime::UNIX_EPOCH);
-    let seed = match begun {
-        Ok(since) => since.as_micros() as u64,
-        Err(_) => 1,
-    };
-    for number in 0..RUNS {
-        let seed = seed.wrapping_add(number);
-        assert!(rt; run(&rt, rt.alloc(), seed)?, "seed {seed}");
-    }
-    Ok(())
+    let played = board.play_all(seats, seed);
+    let mut told = told.into_inner();
+    told.acks.sort_unstable();
+    assert!(rt; played && told.are_folded(alloc), "seed {seed}");
+    told
 }

@@ -1,42 +1,31 @@
 //! A store that goes down while a thread waits for the thaw.
-use crate::beside::await_flag;
 use crate::cases::Store;
-use crate::holds::Free;
+use crate::holds::{Flags, Free, Keeping, await_flag};
 use crate::jobs::Job;
-use crate::mutator::{Mutator, load};
-use sd_command::{Refusal, Reply};
-use sd_shared::{Hold, Shared, Thaw};
+use crate::mutator::{Mutator, Way, load};
+use crate::replies::{is_for, is_opened, is_refused};
+use sd_command::Refusal;
+use sd_shared::{Shared, Thaw};
 use std::process::Abort;
 use std::sync::Wait;
-use std::sync::atomic::{AtomicU64, Ordering};
 use std::thread;
 use std::thread::Threads;
-use std::time::{Clock, Duration};
+use std::time::Clock;
 
-/// A hold that tells of the first page's write, which is made while all is frozen, and gives the other thread time to
-/// wait.
-#[derive(Drop)]
-struct Telling<'a, R> {
-    rt: &'a R,
-    frozen: &'a AtomicU64,
+/// How many milliseconds the first page's write is held, so that the other thread has time to wait.
+const HELD_MILLIS: u64 = 20;
+
+/// Waits until all is frozen, and then for the thaw. Returns whether that ended with the store down.
+fn wait_frozen<R: Wait + Clock>(rt: &R, shared: &Shared<Store>, flags: &Flags) -> bool {
+    await_flag(rt, &flags.begun) && shared.wait_thaw(rt) == Thaw::Down
 }
 
-impl<R: Clock> Hold for Telling<'_, R> {
-    fn before(&self, call: u64) {
-        if call == 4 {
-            self.frozen.store(1, Ordering::SeqCst);
-            thread::sleep(self.rt, Duration::from_millis(20));
-        }
-    }
-}
-
-/// Waits until all is frozen, and then for the thaw.
-fn wait_frozen<R: Wait + Clock>(
-    rt: &R,
-    shared: &Shared<Store>,
-    frozen: &AtomicU64,
-) -> Option<Thaw> {
-    await_flag(rt, frozen).then(|| shared.wait_thaw(rt))
+/// Whether a load is answered as frozen.
+fn is_frozen(rt: &impl Wait, shared: &Shared<Store>, mutator: &mut Mutator<'_>) -> bool {
+    is_for(
+        mutator.make_by(rt, shared, Way::Thawed, load(0)),
+        Refusal::Frozen,
+    )
 }
 
 /// The device fails at the first page's write, in a checkpoint without pre-dumps: whoever waits for the thaw is told
@@ -46,23 +35,21 @@ pub(crate) fn falls<R: Threads + Wait + Clock + Abort + Sync>(
     shared: &Shared<Store>,
     mutator: &mut Mutator<'_>,
 ) {
-    let frozen = AtomicU64::new(0);
-    let hold = Telling {
+    let flags = Flags::new();
+    let hold = Keeping {
         rt,
-        frozen: &frozen,
+        flags: &flags,
+        millis: HELD_MILLIS,
     };
-    let ended = thread::join(
+    let (reply, fell) = thread::join(
         rt,
         || shared.run_dumper(rt, 0, &hold),
-        || wait_frozen(rt, shared, &frozen),
+        || wait_frozen(rt, shared, &flags),
     );
-    let down = (Reply::Refused(Refusal::StoreDown), Some(Thaw::Down));
-    assert_eq!(rt; ended, down);
-    assert_eq!(rt;
-        mutator.make_thawed(rt, shared, load(0)),
-        Ok(Some(Refusal::Frozen))
-    );
-    assert_eq!(rt; Job::Opening.make(rt, shared, &Free), Reply::Reopened(None));
-    assert_eq!(rt; shared.wait_thaw(rt), Thaw::Thawed);
-    assert_eq!(rt; mutator.make(rt, shared, load(0)), Ok(None));
+    assert!(rt; is_refused(&reply, Refusal::StoreDown));
+    assert!(rt; fell);
+    assert!(rt; is_frozen(rt, shared, mutator));
+    assert!(rt; is_opened(Job::Opening.make(rt, shared, &Free)));
+    assert!(rt; shared.wait_thaw(rt) == Thaw::Thawed);
+    assert!(rt; mutator.make(rt, shared, load(0)).is_none());
 }

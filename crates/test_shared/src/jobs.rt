@@ -1,5 +1,6 @@
 //! Jobs that are made to their end, also where memory was refused.
 use crate::cases::Store;
+use crate::replies::is_refused;
 use sd_command::{Refusal, Reply};
 use sd_shared::{Hold, Shared};
 use std::sync::Wait;
@@ -35,8 +36,16 @@ impl Job {
         }
     }
 
-    /// Goes on with the job that was answered so, where memory was refused; where none stands it is begun again.
-    /// Returns the last reply.
+    /// Goes on with the job that stands, and where none does begins it again.
+    fn go_further<R: Wait>(self, rt: &R, shared: &Shared<Store>, hold: &impl Hold) -> Reply {
+        let reply = self.go_on(rt, shared, hold);
+        if is_refused(&reply, Refusal::Idle) {
+            return self.run(rt, shared, hold);
+        }
+        reply
+    }
+
+    /// Goes on with the job that was answered so, where memory was refused. Returns the last reply.
     pub(crate) fn end<R: Wait>(
         self,
         rt: &R,
@@ -46,13 +55,10 @@ impl Job {
     ) -> Reply {
         let mut reply = answered;
         for _ in 0..TRIES {
-            if reply != Reply::Refused(Refusal::OutOfMemory) {
+            if !is_refused(&reply, Refusal::OutOfMemory) {
                 return reply;
             }
-            reply = self.go_on(rt, shared, hold);
-            if reply == Reply::Refused(Refusal::Idle) {
-                reply = self.run(rt, shared, hold);
-            }
+            reply = self.go_further(rt, shared, hold);
         }
         reply
     }

@@ -26,6 +26,10 @@ mod jobs;
 #[cfg(test)]
 mod mutator;
 #[cfg(test)]
+mod replies;
+#[cfg(test)]
+mod thaws;
+#[cfg(test)]
 mod told;
 #[cfg(test)]
 mod trimming;

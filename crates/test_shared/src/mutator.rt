@@ -1,14 +1,27 @@
 //! A seat that makes commands, and keeps its receipts.
 use crate::cases::Store;
+use crate::replies::{has_bytes, refusal_in};
 use sd_areas::{Prot, SpaceId};
-use sd_command::{Bytes, Command, Refusal, Reply};
+use sd_command::{Bytes, Command, Refusal};
 use sd_journal::Receipt;
 use sd_shared::{Seat, Shared};
 use std::alloc::{AllocError, Global};
+use std::mem;
 use std::sync::Wait;
 
 /// The first address of the pages.
 const FIRST: u64 = 0x10_0000;
+
+/// How a mutator makes its commands.
+#[derive(Clone, Copy)]
+pub(crate) enum Way {
+    /// It waits for the lock.
+    Waits,
+    /// It is refused where the lock isn't free.
+    Tries,
+    /// It waits for the lock, and for the thaw.
+    Thawed,
+}
 
 /// A seat, and the receipts of its commands.
 #[derive(Drop)]
@@ -18,109 +31,101 @@ pub(crate) struct Mutator<'a> {
 }
 
 impl Mutator<'_> {
-    /// Makes room for a receipt, where memory is refused once at most.
-    ///
-    /// # Errors
-    ///
-    /// `OutOfMemory` where it is refused again.
-    pub(crate) fn make_room(&mut self) -> Result<(), Refusal> {
-        for _ in 0..2 {
-            if self.receipts.reserve(1).is_ok() {
-                return Ok(());
-            }
-        }
-        Err(Refusal::OutOfMemory)
+    /// Makes room for a receipt, where memory is refused once at most. Returns whether there is some.
+    fn make_room(&mut self) -> bool {
+        self.receipts.reserve(1).is_ok() || self.receipts.reserve(1).is_ok()
     }
 
-    /// Keeps a receipt, and returns its reply's refusal, if it is one.
-    pub(crate) fn keep(&mut self, receipt: Receipt) -> Result<Option<Refusal>, Refusal> {
-        let refused = match receipt.reply {
-            Reply::Refused(why) => Some(why),
-            _ => None,
-        };
+    /// Keeps a receipt. Returns why its command was refused, if it was.
+    fn keep(&mut self, receipt: Receipt) -> Option<Refusal> {
+        let why = refusal_in(&receipt.reply);
         match self.receipts.push(receipt) {
-            Ok(()) => Ok(refused),
-            Err(_) => Err(Refusal::OutOfMemory),
+            Ok(()) => why,
+            Err(_) => Some(Refusal::OutOfMemory),
         }
+    }
+
+    /// Keeps what was made of a command. Returns why it was refused, if it was.
+    fn note(&mut self, made: Result<Receipt, Refusal>) -> Option<Refusal> {
+        match made {
+            Ok(receipt) => self.keep(receipt),
+            Err(why) => Some(why),
+        }
+    }
+
+    /// Takes its receipts.
+    pub(crate) fn take(&mut self, alloc: Global) -> Vec<Receipt> {
+        mem::replace(&mut self.receipts, Vec::new(alloc))
     }
 
     /// Whether the last reply has a number's bytes.
     pub(crate) fn has_loaded(&self, number: u64) -> bool {
         match self.receipts.last() {
-            Some(
-                Receipt {
-                    reply: Reply::Bytes(bytes),
-                    ..
-                },
-            ) => bytes.as_slice() == number.to_le_bytes().as_slice(),
-            _ => false,
+            Some(receipt) => has_bytes(&receipt.reply, number),
+            None => false,
         }
     }
 
-    /// Makes a command. Returns why it was refused, if it was.
-    ///
-    /// # Errors
-    ///
-    /// The command wasn't journaled.
+    /// Makes a command in one of the ways. Returns why it was refused, or wasn't journaled, if so.
+    pub(crate) fn make_by(
+        &mut self,
+        rt: &impl Wait,
+        shared: &Shared<Store>,
+        way: Way,
+        command: Command,
+    ) -> Option<Refusal> {
+        if !self.make_room() {
+            return Some(Refusal::OutOfMemory);
+        }
+        let made = match way {
+            Way::Waits => shared.call(rt, self.seat, command),
+            Way::Tries => shared.try_call(self.seat, command),
+            Way::Thawed => shared.call_thawed(rt, self.seat, command),
+        };
+        self.note(made)
+    }
+
+    /// Makes a command, for which it waits for the lock. Returns why it was refused, or wasn't journaled, if so.
     pub(crate) fn make(
         &mut self,
         rt: &impl Wait,
         shared: &Shared<Store>,
         command: Command,
-    ) -> Result<Option<Refusal>, Refusal> {
-        self.make_room()?;
-        let receipt = shared.call(rt, self.seat, command)?;
-        self.keep(receipt)
+    ) -> Option<Refusal> {
+        self.make_by(rt, shared, Way::Waits, command)
     }
 
-    /// Makes a command once nothing is frozen, or the store is down, as `make`.
-    ///
-    /// # Errors
-    ///
-    /// The command wasn't journaled.
-    pub(crate) fn make_thawed(
-        &mut self,
-        rt: &impl Wait,
-        shared: &Shared<Store>,
-        command: Command,
-    ) -> Result<Option<Refusal>, Refusal> {
-        self.make_room()?;
-        let receipt = shared.call_thawed(rt, self.seat, command)?;
-        self.keep(receipt)
-    }
-
-    /// Makes one of the first commands, again where memory is refused once.
+    /// Makes one of the first commands, again where memory is refused once. Returns whether it was done.
     fn make_first(
         &mut self,
         rt: &impl Wait,
         alloc: Global,
         shared: &Shared<Store>,
         first: First,
-    ) -> Result<(), Refusal> {
+    ) -> bool {
         for _ in 0..2 {
-            match self.make(rt, shared, first.command(alloc)?) {
-                Ok(None) => return Ok(()),
-                Ok(Some(why)) => return Err(why),
-                Err(Refusal::OutOfMemory) => {}
-                Err(why) => return Err(why),
+            if let Ok(command) = first.command(alloc)
+                && self.make(rt, shared, command).is_none()
+            {
+                return true;
             }
         }
-        Err(Refusal::OutOfMemory)
+        false
     }
 
-    /// Maps so many pages, and stores a number into each.
+    /// Maps so many pages, and stores a number into each. Returns whether that was done.
     pub(crate) fn prepare(
         &mut self,
         rt: &impl Wait,
         alloc: Global,
         shared: &Shared<Store>,
         pages: u64,
-    ) -> Result<(), Refusal> {
-        self.make_first(rt, alloc, shared, First::Map(pages))?;
+    ) -> bool {
+        let mut done = self.make_first(rt, alloc, shared, First::Map(pages));
         for page in 0..pages {
-            self.make_first(rt, alloc, shared, First::Store(page))?;
+            done = done && self.make_first(rt, alloc, shared, First::Store(page));
         }
-        Ok(())
+        done
     }
 }
 

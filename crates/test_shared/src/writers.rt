@@ -1,8 +1,8 @@
 //! Checkpoints whose pages are written by several threads.
-use crate::beside::await_flag;
 use crate::cases::Store;
-use crate::holds::Free;
+use crate::holds::{FIRST_PAGE, Free, await_flag};
 use crate::jobs::Job;
+use crate::replies::{is_acked, is_opened, is_refused};
 use sd_command::{Refusal, Reply};
 use sd_shared::{Hold, Shared};
 use std::process::Abort;
@@ -54,10 +54,10 @@ impl<R: Clock> Hold for Keeping<'_, R> {
     fn before(&self, call: u64) {
         self.seen.calls.fetch_add(1, Ordering::SeqCst);
         self.seen.sum.fetch_add(call, Ordering::SeqCst);
-        if call == 5 {
+        if call == FIRST_PAGE + 1 {
             self.seen.second.store(1, Ordering::SeqCst);
         }
-        if call == 4 && !await_flag(self.rt, &self.seen.second) {
+        if call == FIRST_PAGE && !await_flag(self.rt, &self.seen.second) {
             self.seen.missed.store(1, Ordering::SeqCst);
         }
     }
@@ -69,24 +69,22 @@ pub(crate) fn writes_beside<R: Threads + Wait + Clock + Abort + Sync>(
     rt: &R,
     shared: &Shared<Store>,
 ) {
-    let refused = Reply::Refused(Refusal::Einval);
-    assert_eq!(rt; shared.run_relay(rt, 1, 0, &Free), refused);
-    assert_eq!(rt; shared.run_relay(rt, 1, 9, &Free), refused);
+    assert!(rt; is_refused(&shared.run_relay(rt, 1, 0, &Free), Refusal::Einval));
+    assert!(rt; is_refused(&shared.run_relay(rt, 1, 9, &Free), Refusal::Einval));
     let seen = Seen::new();
     let hold = Keeping { rt, seen: &seen };
-    assert_eq!(rt; shared.run_relay(rt, 1, 2, &hold), Reply::Acked(1));
-    assert_eq!(rt; seen.missed.load(Ordering::SeqCst), 0);
-    assert_eq!(rt; seen.calls.load(Ordering::SeqCst), CALLS);
-    assert_eq!(rt; seen.sum.load(Ordering::SeqCst), SUM);
+    assert!(rt; is_acked(shared.run_relay(rt, 1, 2, &hold), 1));
+    assert!(rt; seen.missed.load(Ordering::SeqCst) == 0);
+    assert!(rt; seen.calls.load(Ordering::SeqCst) == CALLS);
+    assert!(rt; seen.sum.load(Ordering::SeqCst) == SUM);
 }
 
 /// The device fails at the first page's write, which a writer makes: the checkpoint ends with the store down. It is
 /// opened again, and a checkpoint with eight writers is made.
 pub(crate) fn falls_beside<R: Threads + Wait + Abort + Sync>(rt: &R, shared: &Shared<Store>) {
-    let down = Reply::Refused(Refusal::StoreDown);
-    assert_eq!(rt; shared.run_relay(rt, 0, 2, &Free), down);
-    assert_eq!(rt; Job::Opening.make(rt, shared, &Free), Reply::Reopened(None));
-    assert_eq!(rt; shared.run_relay(rt, 0, 8, &Free), Reply::Acked(2));
+    assert!(rt; is_refused(&shared.run_relay(rt, 0, 2, &Free), Refusal::StoreDown));
+    assert!(rt; is_opened(Job::Opening.make(rt, shared, &Free)));
+    assert!(rt; is_acked(shared.run_relay(rt, 0, 8, &Free), 2));
 }
 
 /// A hold that delays each call by another length.
@@ -102,6 +100,20 @@ impl<R: Clock> Hold for Delaying<'_, R> {
     }
 }
 
+/// Goes on with a checkpoint of eight writers that was answered so, where memory was refused, or begins it again.
+fn go_further<R: Threads + Wait + Sync, H: Hold + Sync>(
+    rt: &R,
+    shared: &Shared<Store>,
+    hold: &H,
+    answered: Reply,
+) -> Reply {
+    match answered {
+        Reply::Refused(why) if why == Refusal::OutOfMemory => shared.go_on_dumper(rt, hold),
+        Reply::Refused(why) if why == Refusal::Idle => shared.run_relay(rt, 1, 8, hold),
+        reply => reply,
+    }
+}
+
 /// Eight writers make a checkpoint of one round. Where memory was refused it is gone on with, or begun again.
 pub(crate) fn writes_twenty_pages<R: Threads + Wait + Clock + Abort + Sync>(
     rt: &R,
@@ -110,11 +122,7 @@ pub(crate) fn writes_twenty_pages<R: Threads + Wait + Clock + Abort + Sync>(
     let hold = Delaying { rt };
     let mut reply = shared.run_relay(rt, 1, 8, &hold);
     for _ in 0..TRIES {
-        reply = match reply {
-            Reply::Refused(Refusal::OutOfMemory) => shared.go_on_dumper(rt, &hold),
-            Reply::Refused(Refusal::Idle) => shared.run_relay(rt, 1, 8, &hold),
-            reply => reply,
-        };
+        reply = go_further(rt, shared, &hold, reply);
     }
-    assert_eq!(rt; reply, Reply::Acked(1));
+    assert!(rt; is_acked(reply, 1));
 }

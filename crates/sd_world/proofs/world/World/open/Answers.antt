@@ -4,6 +4,7 @@ use Rattle.sd_gate.specs.Laws.{found_phase}
 use Rattle.sd_image.specs.Shows.{Shows}
 use Rattle.sd_journal.specs.History.{Base}
 use Rattle.sd_rounds.specs.Dumper.{Dumping}
+use Rattle.sd_core.specs.Flags.{numbers_from}
 use Rattle.sd_core.specs.Starts.{shown_base}
 use Rattle.sd_world.specs.Acked.{IsWorldThere}
 use Rattle.sd_world.specs.Opens.{AreSynced}
@@ -54,6 +55,11 @@ returns-in-Ok-clause-everywhere g c = λ honest contents may.
 
 pub returns-in-Ok-clause-idle : goal.returns-in-Ok-clause-idle
 returns-in-Ok-clause-idle g c = ap (λ (d : Dumping). d.running) c.new-core.ensures.starts.dumper
+
+pub returns-in-Ok-clause-numbers : goal.returns-in-Ok-clause-numbers
+returns-in-Ok-clause-numbers g c =
+    let starts = c.new-core.ensures.starts in
+    starts.flags.numbers_are ∙ ap numbers_from (sym (ap (λ (base : Base). base.number) starts.base))
 
 pub returns-in-Ok-clause-tickets : goal.returns-in-Ok-clause-tickets
 returns-in-Ok-clause-tickets g c = none_has c.new-core.result c.new-core.ensures.starts.outs

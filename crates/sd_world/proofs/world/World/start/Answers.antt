@@ -16,6 +16,7 @@ returns-in-Ok-reopen_now-clause-reopened g c =
         standing = opened.standing;
         kept = opened.kept;
         idle = opened.idle;
+        numbers = opened.numbers;
         reads = opened.reads;
         shows = opened.shows;
         everywhere = opened.everywhere;
