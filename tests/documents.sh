@@ -50,6 +50,32 @@ sys.exit(1 if wrong else 0)
 PYTHON
 }
 
+# Each link to a heading of a page leads to one.
+links_lead_to_headings() {
+  needs_python || return
+  python3 - "$here/.." << 'PYTHON'
+import re, sys
+from pathlib import Path
+
+top = Path(sys.argv[1]).resolve()
+pages = [*top.glob("*.md"), *top.glob("docs/*.md"), *top.glob("crates/*/README.md"), *top.glob("clients/*/README.md")]
+
+def name_of(heading):
+    return re.sub(r"[^\w\- ]", "", heading.strip().lower()).replace(" ", "-")
+
+headings = {page: {name_of(found[1]) for found in re.finditer(r"^#+ (.*)$", page.read_text(), re.M)} for page in pages}
+wrong, links = [], 0
+for page in pages:
+    for file, name in re.findall(r"\]\(([^)\s#]*)#([^)\s]+)\)", page.read_text()):
+        to = (page.parent / file).resolve() if file else page
+        links += to in headings
+        if to in headings and name not in headings[to]:
+            wrong.append(f"{page.relative_to(top)}: {file}#{name}")
+print("\n".join(wrong))
+sys.exit(1 if wrong or links < 20 else 0)
+PYTHON
+}
+
 # Each name in the second column of a Proved table stands in the sources of the crate, or of one that the cell names; and
 # each of a third column is a planted bug of the crate.
 proved_tables_name_what_is_there() {
@@ -153,6 +179,7 @@ try calls_are_up_to_date
 try laws_are_up_to_date
 try generated_pages_say_so
 try documents_name_files_that_are_there
+try links_lead_to_headings
 try proved_tables_name_what_is_there
 try documents_are_in_plain_words
 try documents_are_short

@@ -115,7 +115,8 @@ mutate_is_refused_memory() {
 }
 
 # Runs four threads once for each thread that is refused, so many from there on: what can't be done beside the rest is
-# done after it.
+# done after it. A run makes eleven: four for the mutators, two for the writers of each of three checkpoints, and one
+# for the second checkpoint beside the merge.
 mutate_with_fewer_threads() {  # mutate_with_fewer_threads COUNT
   local number=1
   while :; do
@@ -128,7 +129,7 @@ close ok" && is_whole 4 || return 1
     grep -q '^thread refused$' err || break
     number=$((number + 1))
   done
-  [ "$number" -gt 10 ] || { echo "only $((number - 1)) threads were refused"; return 1; }
+  same "the threads of a run" $((number - 1)) 11
 }
 
 mutate_is_refused_threads() {

@@ -5,7 +5,7 @@ readme_shows_what_is_printed() {
   ln -s "$ckpt" ckpt
   ln -s "$here/../examples" examples
   grep '^\$ ' block | sed 's/^\$ //' > commands
-  [ "$(wc -l < commands)" = 6 ] || { cat block; return 1; }
+  [ "$(wc -l < commands)" = 5 ] || { cat block; return 1; }
   while IFS= read -r words; do
     echo "$ $words"
     bash -c "$words" < /dev/null 2> told

@@ -1,6 +1,7 @@
 -- What a run of threads leaves of a store.
 use Rattle.std.specs.Prelude.{◌≡◌, ℕ, Bool, true, false, not, List, length, filter, reverse, Option, Some, None, Result}
-use Rattle.std.specs.Prelude.{Ok, Err}
+use Rattle.std.specs.Prelude.{Ok, Err, ◌-◌, slice_get}
+use Rattle.std.specs.Int.{to_le_bytes, w64}
 use Rattle.sd_command.specs.declared.refusal.Refusal.TheVariants.{Idle, OutOfMemory, StoreDown}
 use Rattle.sd_command.specs.declared.reply.Reply.{Reply}
 use Rattle.sd_command.specs.declared.reply.Reply.TheVariants as reply
@@ -52,6 +53,12 @@ abbrev pub WasClosed : Type 0
 WasClosed =
     (core : CoreView) × (receipts : List Receipt) × (acks : List ℕ)
     × Accounts core.base.folded (reverse (history_of core)) receipts acks
+
+-- the last receipt is that of a load which read a number's bytes
+abbrev pub LoadedLast : List Receipt → ℕ → Type 0
+LoadedLast receipts number =
+    (receipt : Receipt) × (slice_get receipts (length receipts - 1) ≡ Some receipt)
+    × (receipt.reply ≡ reply.Bytes (to_le_bytes w64 number))
 
 -- how many images are open
 abbrev pub open_images : List (List ℕ) → ℕ

@@ -1,4 +1,10 @@
 //! One thread that stores numbers into a page, and loads each back.
+ghost use Rattle.std.specs.Prelude.{◌≡◌, ◌≢◌, ◌↔◌, IsTrue, OnOk};
+ghost use Rattle.std.specs.Int.{to_le_bytes, w64};
+ghost use Rattle.sd_command.specs.declared.reply.Reply.TheVariants as reply;
+ghost use Rattle.sd_mutate.specs.Ending.{LoadedLast};
+ghost use Rattle.sd_shared.specs.Turns.{turned};
+
 use crate::tally::STORES;
 use sd_areas::{PAGE_BYTES, Prot, SpaceId};
 use sd_command::{Bytes, Command, Refusal, Reply};
@@ -47,6 +53,23 @@ fn bytes_of(alloc: Global, number: u64) -> Result<Bytes, AllocError> {
     Ok(Bytes::new(bytes))
 }
 
+/// Whether these are the eight bytes of a number.
+fn are_bytes_of(bytes: &[u8], number: u64) -> bool
+    ensures { IsTrue result ↔ (bytes.now ≡ to_le_bytes w64 number) }
+{
+    bytes == number.to_le_bytes().as_slice()
+}
+
+/// Whether a load was answered with a number's bytes.
+fn is_loaded(told: &Reply, number: u64) -> bool
+    ensures { IsTrue result → told.now ≡ reply.Bytes (to_le_bytes w64 number) }
+{
+    match told {
+        Reply::Bytes(bytes) => are_bytes_of(bytes.as_slice(), number),
+        _ => false,
+    }
+}
+
 impl Mutator {
     /// The mutator of a seat, whose page is that of its number.
     pub(crate) fn new(alloc: Global, seat: Seat) -> Mutator {
@@ -82,7 +105,10 @@ impl Mutator {
         rt: &impl Wait,
         shared: &Shared<D>,
         command: Command,
-    ) -> Result<(), Refusal> {
+    ) -> Result<(), Refusal>
+        ensures once { OnOk result (self.new.seat ≡ turned self.old.seat) }
+        ensures same { self.new.stores ≡ self.old.stores }
+    {
         let Ok(()) = self.receipts.try_reserve(1) else {
             return Err(Refusal::OutOfMemory);
         };
@@ -117,30 +143,38 @@ impl Mutator {
     }
 
     /// Whether the last reply has a number's bytes.
-    fn has_loaded(&self, number: u64) -> bool {
+    fn has_loaded(&self, number: u64) -> bool
+        ensures { IsTrue result → LoadedLast self.now.receipts.items number }
+    {
         match self.receipts.last() {
-            Some(
-                Receipt {
-                    reply: Reply::Bytes(bytes),
-                    ..
-                },
-            ) => bytes.as_slice() == number.to_le_bytes().as_slice(),
-            _ => false,
+            Some(receipt) => is_loaded(&receipt.reply, number),
+            None => false,
         }
     }
 
-    /// Stores a number, and loads it back.
+    /// Counts a number whose bytes the last reply has.
+    fn count(&mut self, number: u64)
+        ensures seat { self.new.seat ≡ self.old.seat }
+        ensures compares { self.new.stores ≢ self.old.stores → LoadedLast self.new.receipts.items number }
+    {
+        if self.has_loaded(number) {
+            self.stores = self.stores.saturating_add(1);
+        }
+    }
+
+    /// Stores a number once, loads it back, and counts it where it came back.
     fn store<D: Disk + Drop>(
         &mut self,
         rt: &impl Wait,
         shared: &Shared<D>,
         number: u64,
-    ) -> Result<(), Refusal> {
+    ) -> Result<(), Refusal>
+        ensures twice { OnOk result (self.new.seat ≡ turned (turned self.old.seat)) }
+        ensures compares { self.new.stores ≢ self.old.stores → LoadedLast self.new.receipts.items number }
+    {
         self.call(rt, shared, self.store_command(number)?)?;
         self.call(rt, shared, self.load_command())?;
-        if self.has_loaded(number) {
-            self.stores = self.stores.saturating_add(1);
-        }
+        self.count(number);
         Ok(())
     }
 

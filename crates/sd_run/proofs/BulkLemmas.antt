@@ -1,5 +1,5 @@
 -- Stores side by side, and one more.
-use Rattle.std.proofs.Common.{◌≡◌, ◌+◌, ◌^◌, ◌%◌, ◌∙◌, ℕ, List, [], ◌∷◌, ◌++◌, length, map, refl, sym, ap, append_assoc, append-nil, Option, Some, None, Result, Ok, Err, subst, arith}
+use Rattle.std.proofs.Common.{◌≡◌, ◌+◌, ◌^◌, ◌%◌, ◌∙◌, ℕ, List, [], ◌∷◌, ◌++◌, refl, sym, ap, append_assoc, append-nil, Option, Some, None, Result, Ok, Err, subst, arith}
 use Rattle.std.specs.List.{concat}
 use Rattle.std.specs.Result.{IsErr}
 use Rattle.sd_run.specs.Bulk.{Gets, Loaded, Puts, all_bytes, asked_by, behind, behind_all, bytes_told, dones, load_of, loads_of, past_loads, store_of, stores_of}

@@ -4,8 +4,6 @@ use Rattle.std.specs.Io.KnownBytes.{Appends}
 use Rattle.sd_exit.specs.declared.stop.Stop.{Stop}
 use Rattle.sd_exit.specs.declared.stop.Stop.TheVariants as stop
 use Rattle.sd_exit.specs.Ending.{Exits, OnWriter, end_status, end_text, status_of}
-use Rattle.sd_image.specs.declared.reason.Reason.{Reason}
-use Rattle.sd_restore.specs.declared.fault.Fault.TheVariants as fault
 use Rattle.sd_script.specs.declared.script_error.ScriptError.{ScriptError}
 use Rattle.sd_script.specs.declared.script_error.ScriptError.TheVariants as error
 use Rattle.sd_script.specs.declared.script.Script.{Script}

@@ -1,5 +1,5 @@
 -- What is promised of the run of a script, from how its world goes on.
-use Rattle.std.proofs.Common.{◌≡◌, ◌≤◌, ℕ, true, false, List, [], ◌∷◌, ◌++◌, length, Option, Some, None, Result, IfOk, refl, sym, ◌∙◌, ap, subst, inl, inr, append-nil, arith}
+use Rattle.std.proofs.Common.{◌≡◌, ◌≤◌, ℕ, true, false, List, [], ◌∷◌, ◌++◌, length, Option, Some, Result, IfOk, refl, sym, ◌∙◌, ap, subst, inl, inr, append-nil, arith}
 use Rattle.std.specs.Io.KnownBytes.{Appends}
 use Rattle.std.specs.List.{AllByRecursion, flat_map}
 use Rattle.std.specs.Prelude.{◌⊎◌}
@@ -24,7 +24,7 @@ use Rattle.sd_script.specs.Texts.{answer_line}
 use Rattle.sd_world.specs.declared.event.Event.{Event}
 use Rattle.sd_world.specs.declared.event.Event.TheVariants.{Command, Begin, Work, Perform, PerformAt, Merge, Cancel, Reopen, Trim}
 use Rattle.sd_world.specs.Points.{PointsFollow, StandsAt, first_point}
-use Rattle.sd_world.specs.Promise.{Goes, Point}
+use Rattle.sd_world.specs.Promise.{Point}
 use Rattle.sd_world.specs.Runs.{IsStep}
 use Rattle.sd_world.specs.View.{WorldView}
 use Rattle.sd_world.specs.Jobs.{Drives, IsJob, is_end}
@@ -45,10 +45,10 @@ GoOn before = AllByRecursion (λ reply. is_end reply ≡ false) before
 
 -- the answer is the last of these replies
 is_last : (before : List Reply) (last : Reply) → GoOn before → LastIs false (before ++ last ∷ []) (answer.Reply last)
-is_last before last goes_on = record { before = before; last = last; are = refl; is = refl; goes_on = goes_on; ends = λ no. absurd (never no) }
+is_last before last goes_on = record { before = before; last = last; are = refl; is = refl; goes_on = goes_on; ends = λ claimed. absurd (never claimed) }
   where
     never : false ≡ true → ⊥
-    never no = cc
+    never claimed = cc
 
 -- which ends a job
 is_end_of : (before : List Reply) (last : Reply) → GoOn before → is_end last ≡ true → LastIs true (before ++ last ∷ []) (answer.Reply last)

@@ -25,7 +25,6 @@ const TRIES: u64 = 100_000;
 pub(crate) struct Place<'a, R> {
     pub(crate) rt: &'a R,
     pub(crate) shared: &'a Shared<Store>,
-    pub(crate) flags: &'a Flags,
     pub(crate) way: Way,
     pub(crate) alloc: Global,
     pub(crate) page: u64,
@@ -75,11 +74,11 @@ impl<R: Wait + Clock> Place<'_, R> {
     }
 
     /// Stores a number into the page, and loads it back: `Damaged` where other bytes are loaded.
-    fn turn(&self, mutator: &mut Mutator<'_>, number: u64) -> Option<Refusal> {
+    fn turn(&self, mutator: &mut Mutator<'_>, flags: &Flags, number: u64) -> Option<Refusal> {
         if let Some(why) = self.make(mutator, Some(number)) {
             return Some(why);
         }
-        self.flags.ended.store(1, Ordering::SeqCst);
+        flags.ended.store(1, Ordering::SeqCst);
         if let Some(why) = self.make(mutator, None) {
             return Some(why);
         }
@@ -92,12 +91,12 @@ impl<R: Wait + Clock> Place<'_, R> {
 
     /// Waits for the beginning, and then stores each number into the page, and loads it back. Returns why it ended
     /// early, if so: `Idle` where nothing begins.
-    pub(crate) fn mutate(&self, mutator: &mut Mutator<'_>) -> Option<Refusal> {
-        if !await_flag(self.rt, &self.flags.begun) {
+    pub(crate) fn mutate(&self, mutator: &mut Mutator<'_>, flags: &Flags) -> Option<Refusal> {
+        if !await_flag(self.rt, &flags.begun) {
             return Some(Refusal::Idle);
         }
         for number in 1..=self.stores {
-            if let Some(why) = self.turn(mutator, number) {
+            if let Some(why) = self.turn(mutator, flags, number) {
                 return Some(why);
             }
         }
@@ -127,7 +126,13 @@ fn run_beside<R: Threads + Wait + Clock + Sync>(
     thread::join(
         rt,
         || save(rt, shared, flags),
-        || { thread::join(rt, || places.0.mutate(first), || places.1.mutate(last)) },
+        || {
+            thread::join(
+                rt,
+                || places.0.mutate(first, flags),
+                || places.1.mutate(last, flags),
+            )
+        },
     )
 }
 
@@ -144,7 +149,6 @@ pub(crate) fn save_beside<R: Threads + Wait + Clock + Abort + Sync>(
     let place = |page| Place {
         rt,
         shared,
-        flags: &flags,
         way,
         alloc,
         page,

@@ -1,4 +1,6 @@
 //! What is done with a shared core, and the disk that it wants.
+ghost use Rattle.std.specs.Prelude.{◌≤◌};
+
 use crate::eight::SEATS;
 use crate::mutator::Way;
 
@@ -74,7 +76,10 @@ impl Case {
     }
 
     /// How many slots the disk has.
-    pub(crate) fn slots(self) -> usize {
+    pub(crate) fn slots(self) -> usize
+        ensures some { 1 ≤ result }
+        ensures few { result ≤ 1000 }
+    {
         match self {
             Case::Random(_) => 12,
             _ => 8,

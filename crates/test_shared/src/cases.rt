@@ -1,4 +1,6 @@
 //! A shared core over a store of eight slots, what is done with it, and its closing. Only this file owns one.
+ghost use Rattle.std.specs.Prelude.{◌≤◌};
+
 use crate::beside::save_beside;
 use crate::cancelling::cancels_beside;
 use crate::case::Case;
@@ -51,7 +53,10 @@ const RUNS: u64 = 10;
 
 /// An empty disk whose slots have room for images of so many pages, where memory is refused once at most. What a disk
 /// in memory costs in a build with checks goes by its room.
-fn empty(alloc: Global, slots: usize, pages: u64) -> Result<MemDisk, AllocError> {
+fn empty(alloc: Global, slots: usize, pages: u64) -> Result<MemDisk, AllocError>
+    requires some { 1 ≤ slots }
+    requires few { slots ≤ 1000 }
+{
     let data = PAGE_BYTES.saturating_mul(pages as usize);
     let room = data.saturating_add(FRONT_BYTES + TABLE_BYTES);
     match MemDisk::new(alloc, slots, room, CALLS) {
@@ -197,12 +202,13 @@ fn work_by_two<R: Threads + Wait + Clock + Files + Alloc + Abort + Sync>(
     case: Case,
     told: &mut Told,
 ) {
+    let (low, high) = seats;
     let mut first = Mutator {
-        seat: seats.0,
+        seat: low,
         receipts: Vec::new(alloc),
     };
     let mut last = Mutator {
-        seat: seats.1,
+        seat: high,
         receipts: Vec::new(alloc),
     };
     assert!(rt; first.prepare(rt, alloc, shared, case.pages()));

@@ -60,7 +60,6 @@ pub(crate) fn trims_beside<R: Threads + Wait + Clock + Abort + Sync>(
     let place = |page| Place {
         rt,
         shared,
-        flags: &flags,
         way: Way::Waits,
         alloc,
         page,
@@ -71,7 +70,13 @@ pub(crate) fn trims_beside<R: Threads + Wait + Clock + Abort + Sync>(
     let (saved, ended) = thread::join(
         rt,
         || save_all(rt, shared, told),
-        || { thread::join(rt, || low.mutate(first), || high.mutate(last)) },
+        || {
+            thread::join(
+                rt,
+                || low.mutate(first, &flags),
+                || high.mutate(last, &flags),
+            )
+        },
     );
     assert!(rt; saved && ended.0.is_none() && ended.1.is_none());
     assert!(rt; told.take(first.take(alloc)) && told.take(last.take(alloc)));

@@ -192,8 +192,7 @@ fn cancel_and_look<R: Wait + Clock>(rt: &R, shared: &Shared<Store>, thaws: &Thaw
     woken
 }
 
-/// Cancels a checkpoint while a thread waits for its thaw. Returns whether that thread went on, and the dumper was
-/// idle.
+/// Cancels a checkpoint while a thread waits for its thaw. Returns whether that thread went on, with the dumper idle.
 fn is_woken<R: Threads + Wait + Clock + Sync>(
     rt: &R,
     shared: &Shared<Store>,

@@ -2,7 +2,7 @@
 use Rattle.std.proofs.Common.{◌≡◌, ◌∙◌, ◌++◌, ◌∷◌, ◌+◌, ◌%◌, ◌^◌, [], append-nil, append_assoc, sym, ap, refl, arith}
 use Rattle.sd_world.proofs.GoesOnLemmas.{goes_further, goes_nowhere}
 use Rattle.sd_run.specs.Bulk.{Gets, Loaded, all_bytes, asked_by}
-use Rattle.sd_run.specs.Lines.{AnswersLine, AnswersLines}
+use Rattle.sd_run.specs.Lines.{AnswersLines}
 use Rattle.sd_run.proofs.BulkLemmas.{all_bytes_more, asked_more, load_more, loaded_more, no_room_to_load, past_more}
 use Rattle.sd_run.proofs.bulk.get_pieces.Goals as goal
 

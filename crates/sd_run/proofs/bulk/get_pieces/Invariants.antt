@@ -1,5 +1,5 @@
 -- The loads so far were answered bytes, which stand after those that were there.
-use Rattle.std.proofs.Common.{◌≡◌, ◌+◌, ◌++◌, List, ℕ}
+use Rattle.std.proofs.Common.{◌≡◌, ◌+◌, ◌++◌, List}
 use Rattle.sd_world.specs.Goes.{GoesOn}
 use Rattle.sd_run.specs.Bulk.{Loaded, all_bytes, asked_by, bytes_told, loads_of, past_loads}
 use Rattle.sd_run.specs.Lines.{AnswersLines}
