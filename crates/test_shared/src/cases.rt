@@ -388,7 +388,7 @@ fn trims_while_threads_store(rt: HostRuntime) -> Result<(), Fail> {
 fn eight_seats_at_random(rt: HostRuntime) -> Result<(), Fail> {
     let begun = SystemTime::now(&rt)?.duration_since(SystemTime::UNIX_EPOCH);
     let seed = match begun {
-        Ok(since) => since.as_micros() as u64,
+        Ok(since) => u64::from(since.subsec_nanos()),
         Err(_) => 1,
     };
     for number in 0..RUNS {
