@@ -28,7 +28,7 @@ use std::rt::Files;
 use std::sync::Wait;
 use std::test::Fail;
 use std::thread::Threads;
-use std::time::{Clock, Duration, SystemTime};
+use std::time::{Clock, SystemTime};
 
 /// The disk of these tests, of which a call may fail, or all may be dropped.
 pub(crate) type Store = Device<Fused<MemDisk>>;
@@ -298,12 +298,6 @@ fn run<R: Threads + Wait + Clock + Files + Alloc + Abort + Sync>(
     }
 }
 
-/// Microseconds, modulo 2^64.
-fn micros_of(time: &Duration) -> u64 {
-    let seconds = time.as_secs().wrapping_mul(1_000_000);
-    seconds.wrapping_add(time.subsec_micros() as u64)
-}
-
 /// What one seat and the dumper were told closes; the audit of the run's disk is true, and that of another isn't.
 #[test]
 fn what_was_told_closes(rt: HostRuntime) -> Result<(), Fail> {
@@ -394,7 +388,7 @@ fn trims_while_threads_store(rt: HostRuntime) -> Result<(), Fail> {
 fn eight_seats_at_random(rt: HostRuntime) -> Result<(), Fail> {
     let begun = SystemTime::now(&rt)?.duration_since(SystemTime::UNIX_EPOCH);
     let seed = match begun {
-        Ok(since) => micros_of(&since),
+        Ok(since) => u64::from(since.subsec_nanos()),
         Err(_) => 1,
     };
     for number in 0..RUNS {
