@@ -5,7 +5,7 @@ use crate::sending::send_to;
 use crate::sent::Sent;
 use sd_disk::DirDisk;
 use sd_exit::{Output, Stop, exit_told};
-use sd_program::{BESIDE, Called, Causes, NOT_THERE, unseen};
+use sd_program::{Called, Causes, NOT_THERE, unseen};
 use sd_restore::Fault;
 use sd_stream::WriteError;
 use std::io::{IsTerminal, Write};
@@ -53,15 +53,11 @@ fn told<W: Write>(
 fn tell_fault(called: Called<'_>, disk: &DirDisk, fault: Fault) {
     called.tell_device(disk);
     match fault {
-        Fault::Device => called.tell(&BESIDE_OR_DEVICE),
-        Fault::Damaged { .. } => called.tell_beside(),
+        Fault::Device | Fault::Damaged { .. } => called.tell_beside(),
         Fault::OutOfMemory => called.tell(&fault),
         Fault::EmptyChain => {}
     }
 }
-
-/// What is told where an image was closed meanwhile, or the device failed.
-const BESIDE_OR_DEVICE: &str = BESIDE;
 
 /// `ckpt send`. It only reads the store, and writes the stream to the standard output, which is no terminal.
 ///
