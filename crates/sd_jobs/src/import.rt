@@ -19,10 +19,10 @@ use std::io::Write;
 use std::sync::Wait;
 use std::time::Clock;
 
-/// What is told of a core file that another program changed while it was imported.
+/// What is reported of a core file that another program changed while it was imported.
 const CHANGED: &str = "it was changed while it was imported; nothing of it is saved";
 
-/// What is told of a file of counts that is a core.
+/// What is reported of a file of counts that is a core.
 const IS_CORE: &str = "a core that is to be imported, which isn't written over: name another";
 
 /// What an import is asked for.
@@ -133,7 +133,7 @@ fn refused<W: Write>(alloc: Global, reply: Reply, out: &mut Output<W>) -> Stop {
     }
 }
 
-/// Prints why an import ended early, and tells its cause.
+/// Prints why an import ended early, and reports its cause.
 fn ended_with<W: Write>(
     called: Called<'_>,
     name: &str,

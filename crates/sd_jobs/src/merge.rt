@@ -8,7 +8,7 @@ use std::io::Write;
 use std::sync::Wait;
 use std::time::Clock;
 
-/// What is told of a merge of a store without a checkpoint.
+/// What is reported of a merge of a store without a checkpoint.
 const NOTHING_TO_MERGE: &str = "it shows no checkpoint, so there is nothing to merge";
 
 /// `ckpt merge`.

@@ -49,7 +49,7 @@ fn writes<D: Disk>(disk: &mut D, slot: usize, at: usize, bytes: &[u8]) -> bool {
     slot < disk.slots() && !bytes.is_empty() && disk.write_at(slot, at, bytes).is_ok()
 }
 
-/// Makes a call, and tells whether it succeeded.
+/// Makes a call, and says whether it succeeded.
 fn makes<D: Disk>(disk: &mut D, slot: usize, call: Call) -> bool {
     match call {
         Call::Write(at, bytes) => writes(disk, slot, at, bytes),

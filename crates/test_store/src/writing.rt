@@ -1,4 +1,4 @@
-//! Writers that tell what they were given.
+//! Writers that report what they were given.
 use sd_relay::{Errand, Writer};
 use std::sync::atomic::{AtomicU64, Ordering};
 use std::thread;
