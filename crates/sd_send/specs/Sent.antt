@@ -1,5 +1,6 @@
 -- What is sent of a store: the images of its newest checkpoint that the base doesn't have.
-use Rattle.std.specs.Prelude.{◌≡◌, ◌⊎◌, ℕ, ◌<◌, List, [], ◌∷◌, ◌++◌, Option, None, Some, All, MatchOption}
+use Rattle.std.specs.Prelude.{◌≡◌, ◌≢◌, ◌⊎◌, Contains, ℕ, ◌<◌, List, [], ◌∷◌, ◌++◌, Option, None, Some, All}
+use Rattle.std.specs.Prelude.{MatchOption}
 use Rattle.sha2.specs.Sha256.{sha256}
 use Rattle.sd_areas.specs.PlainMemory.{PlainMemory}
 use Rattle.sd_disk.specs.Contents.{file_at}
@@ -42,13 +43,15 @@ IsTipOrNone places tip = MatchOption tip (All (λ i. IsDumpOrMerged i → ⊥) (
 abbrev pub EndsAt : Option ℕ → Option Opened → Type 0
 EndsAt stop next = (next ≡ None) ⊎ ((i : Opened) × (next ≡ Some i) × (stop ≡ Some i.slot))
 
--- the images, parents first, that lead to the newest from the one in this slot, or from the first
+-- The images, parents first, that lead to the newest from the one in this slot, or from the first. That one isn't among
+-- them.
 pub record AreSince (places : Places) (stop : Option ℕ) (found : List Opened) : Type 0 where
   pub tip : Option Opened
   pub newest : IsTipOrNone places tip
   pub next : Option Opened
   pub leads : Leads places tip found next
   pub ends : EndsAt stop next
+  pub apart : (i : Opened) → Contains found i → stop ≢ Some i.slot
 
 -- the slot of the image of the base's checkpoint
 abbrev pub IsStop : Places → Option ℕ → Option ℕ → Type 0

@@ -5,7 +5,7 @@ use Rattle.sd_send.proofs.images.images_since.Given as goal
 
 -- the images so far lead from the tip to the next one
 abbrev pub invariant-loop-next : goal.invariant-loop-next
-invariant-loop-next l = IsWalked l.fn.catalog (map (λ i. i.now) l.found.items) l.next
+invariant-loop-next l = IsWalked l.fn.catalog l.fn.stop (map (λ i. i.now) l.found.items) l.next
 
 abbrev rank : Option (Bor Opened) → ℕ
 rank None = 0
