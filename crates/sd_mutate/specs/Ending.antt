@@ -1,5 +1,5 @@
 -- What a run of threads leaves of a store.
-use Rattle.std.specs.Prelude.{◌≡◌, ℕ, Bool, true, false, not, List, length, filter, reverse, Option, Some, None, Result}
+use Rattle.std.specs.Prelude.{◌≡◌, ℕ, Bool, true, false, not, List, length, filter, Option, Some, None, Result}
 use Rattle.std.specs.Prelude.{Ok, Err, ◌-◌, slice_get}
 use Rattle.std.specs.Int.{to_le_bytes, w64}
 use Rattle.sd_command.specs.declared.refusal.Refusal.TheVariants.{Idle, OutOfMemory, StoreDown}
@@ -7,9 +7,7 @@ use Rattle.sd_command.specs.declared.reply.Reply.{Reply}
 use Rattle.sd_command.specs.declared.reply.Reply.TheVariants as reply
 use Rattle.sd_disk.specs.declared.disk.Disk.{Ghosts}
 use Rattle.sd_disk.specs.Reads.{OnlyReads}
-use Rattle.sd_crash_safety.specs.View.{CoreView, history_of}
 use Rattle.sd_image.specs.Image.{is_open}
-use Rattle.sd_journal.specs.Receipts.{Accounts}
 use Rattle.sd_journal.specs.declared.receipt.Receipt.{Receipt}
 use Rattle.sd_mutate.specs.declared.fault.MutateFault.{MutateFault}
 use Rattle.sd_mutate.specs.declared.fault.MutateFault.TheVariants.{Store, NotEmpty, Open, Refused}
@@ -47,12 +45,6 @@ lets_go _ = false
 abbrev pub lets_all_go : Ended → Bool
 lets_all_go (LetGo answer) = not (may_stand answer)
 lets_all_go (LeftStanding token) = true
-
--- the journal of some core accounts for the receipts and the acknowledgements of a run
-abbrev pub WasClosed : Type 0
-WasClosed =
-    (core : CoreView) × (receipts : List Receipt) × (acks : List ℕ)
-    × Accounts core.base.folded (reverse (history_of core)) receipts acks
 
 -- the last receipt is that of a load which read a number's bytes
 abbrev pub LoadedLast : List Receipt → ℕ → Type 0

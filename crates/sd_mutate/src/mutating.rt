@@ -1,7 +1,7 @@
 //! A whole run: threads that store, checkpoints beside them, and what the journal says of both.
-ghost use Rattle.std.specs.Prelude.{◌≡◌, ◌<◌, false, length, Err, IfOk, IfErr, IfSome, is_some};
+ghost use Rattle.std.specs.Prelude.{◌≡◌, ◌<◌, false, length, Err, IfOk, IfErr, is_some};
 ghost use Rattle.sd_disk.specs.Reads.{OnlyReads};
-ghost use Rattle.sd_mutate.specs.Ending.{LeavesStore, WasClosed, is_early, open_images};
+ghost use Rattle.sd_mutate.specs.Ending.{LeavesStore, is_early, open_images};
 
 use crate::fault::MutateFault;
 use crate::mutator::Mutator;
@@ -40,7 +40,6 @@ pub fn mutate<R: Threads + Wait + Sync, D: Disk + Drop + Send>(
     ensures left { LeavesStore D.Disk disk result.0 result.1 }
     ensures threads { IfOk result.1 (λ tally. tally.threads ≡ threads) }
     ensures closes { IfOk result.1 (λ tally. tally.closes ≡ is_some result.0) }
-    ensures accounts { IfOk result.1 (λ _. IfSome result.0 (λ _. WasClosed)) }
 {
     if let Err(fault) = check_empty(alloc, &mut disk) {
         return (Some(disk), Err(fault));
@@ -195,9 +194,7 @@ fn disk_alone<D>(core: Core, disk: D) -> D {
 }
 
 /// Compares the journal with what was told. Returns the disk, where it accounts for that.
-fn close<D: Disk + Drop>(shared: Shared<D>, told: &Told) -> Option<D>
-    ensures { IfSome result (λ _. WasClosed) }
-{
+fn close<D: Disk + Drop>(shared: Shared<D>, told: &Told) -> Option<D> {
     match shared.close(&told.receipts, &told.acks) {
         Ok((core, disk)) => Some(disk_alone(core, disk)),
         Err(_) => None,
@@ -222,7 +219,6 @@ fn mutate_shared<R: Threads + Wait + Sync, D: Disk + Drop + Send>(
     ensures late { IfErr result.1 (λ fault. is_early fault ≡ false) }
     ensures threads { IfOk result.1 (λ tally. tally.threads ≡ length seats.items) }
     ensures closes { IfOk result.1 (λ tally. tally.closes ≡ is_some result.0) }
-    ensures accounts { IfOk result.1 (λ _. IfSome result.0 (λ _. WasClosed)) }
 {
     let threads = seats.len();
     match run_seats(rt, alloc, &shared, seats) {
