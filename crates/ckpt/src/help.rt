@@ -226,9 +226,9 @@ pub const SEND: &str = "Example:
 Writes the images of the newest checkpoint as a stream, parents first, with the number of each
 checkpoint after its last image, and at the end the SHA-256 of all of it; docs/FORMATS.md has its
 bytes. With --since N the images that lead from checkpoint N to the newest, for a receiver that
-has N; all of them where N doesn't lead there, as after a merge. It never writes into DIR. When
-all is sent, standard error has sent COUNT images BYTES bytes. Beside a run it fails where an image
-that it sends is closed meanwhile.
+has N; all of them where its image doesn't lead there. It never writes into DIR. When all is sent,
+standard error has sent COUNT images BYTES bytes. Beside a run it fails where an image that it
+sends is closed meanwhile.
 
 Status: 0 where all was sent; 3 where the store shows no checkpoint, or has no image of checkpoint
 N; 1 where the store, its device, memory or the writing failed, DIR isn't opened, or the standard
