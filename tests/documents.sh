@@ -135,6 +135,26 @@ sys.exit(1 if wrong else 0)
 PYTHON
 }
 
+# So do the comments of sources, specifications and proofs. What stands in backticks isn't read. A frame may be in use, and
+# what a lock or a reference guards is behind it.
+comments_are_in_plain_words() {
+  needs_python || return
+  python3 - "$here/../crates" << 'PYTHON'
+import re, sys
+from pathlib import Path
+
+crates = Path(sys.argv[1]).resolve()
+COMMENT = re.compile(r"(?:^|(?<= ))(?://[/!]?|--) (.*)$", re.M)
+COINED = re.compile(r"\b(?:tells?|told|wants?|wanted|by chance|wrong bod(?:y|ies)|(?:is|are) due|swept|harmless|twins?|deeds?"
+                    r")\b|\b(?:store|image|memory)s? in use\b|^(?!.*\b(?:lock|gate|reference|core|disk)s?\b).*?\bbehind\b", re.I)
+files = [*crates.glob("*/src/**/*.rt"), *crates.glob("*/specs/**/*.antt"), *crates.glob("*/proofs/**/*.antt")]
+wrong = [f"{path.relative_to(crates)}: {comment}" for path in sorted(files) for comment in COMMENT.findall(path.read_text())
+         if COINED.search(re.sub(r"`[^`]*`", "", comment))]
+print("\n".join(wrong))
+sys.exit(1 if wrong else 0)
+PYTHON
+}
+
 # Who adds words takes others away.
 documents_are_short() {
   needs_python || return
@@ -182,6 +202,7 @@ try documents_name_files_that_are_there
 try links_lead_to_headings
 try proved_tables_name_what_is_there
 try documents_are_in_plain_words
+try comments_are_in_plain_words
 try documents_are_short
 try each_crate_is_named
 try planted_bugs_fit_their_files

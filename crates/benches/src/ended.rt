@@ -1,6 +1,6 @@
 use std::alloc::{AllocError, Global};
 
-/// How a case ended, and what is told of it.
+/// How a case ended, and what is said of it.
 #[derive(Drop)]
 pub(crate) enum Ended {
     Done(String),
@@ -10,7 +10,7 @@ pub(crate) enum Ended {
     Unnamed(String),
 }
 
-/// A case that came to its end, and of which there is nothing else to tell.
+/// A case that came to its end, and of which there is nothing else to say.
 pub(crate) fn done(alloc: Global) -> Result<Ended, AllocError> {
     Ok(Ended::Done(format!(in alloc; "done")?))
 }

@@ -32,7 +32,7 @@ fn fill(alloc: Global) -> Result<u64, AllocError> {
     Ok(journal.next_number())
 }
 
-/// Fills a journal, and tells how many entries it has.
+/// Fills a journal, and says how many entries it has.
 pub(crate) fn timed(alloc: Global) -> Result<Ended, AllocError> {
     let count = fill(alloc)?;
     Ok(Ended::Done(format!(in alloc; "{count} entries")?))

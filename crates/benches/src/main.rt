@@ -66,7 +66,7 @@ fn number(words: &[String], place: usize) -> Option<u64> {
     word(words, place).parse::<u64>().ok()
 }
 
-/// Prints what is told of a case, on the standard error where it wasn't made. Returns the exit status.
+/// Prints what is said of a case, on the standard error where it wasn't made. Returns the exit status.
 fn tell(rt: &(impl Print + Eprint), ended: Result<Ended, AllocError>) -> io::Result<u8> {
     match ended {
         Ok(Ended::Done(told)) => {

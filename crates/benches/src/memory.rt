@@ -117,7 +117,7 @@ fn child(memory: &mut Memory) -> Result<(), MemoryError> {
     store(memory, child, MANY_PAGES, MANY_PAGES)
 }
 
-/// The first address of one of all the pages, by chance.
+/// The first address of one of all the pages, at random.
 fn by_chance(seed: &mut u64) -> u64 {
     *seed = seed
         .wrapping_mul(6_364_136_223_846_793_005)
@@ -266,7 +266,7 @@ fn make(alloc: Global, case: Case) -> Result<(), MemoryError> {
     act(&mut memory, case)
 }
 
-/// Makes the calls that a word names, and tells how they ended.
+/// Makes the calls that a word names, and says how they ended.
 pub(crate) fn timed(alloc: Global, word: &str) -> Result<Ended, AllocError> {
     let Some(case) = named(&CASES, word) else {
         return unnamed(alloc, USAGE);

@@ -138,7 +138,7 @@ fn make(alloc: Global, case: Case, images: u64) -> Result<(), Fault>
     Ok(())
 }
 
-/// Makes what a word names over 1 to 64 images, and tells how it ended.
+/// Makes what a word names over 1 to 64 images, and says how it ended.
 pub(crate) fn timed(alloc: Global, word: &str, images: Option<u64>) -> Result<Ended, AllocError> {
     let (Some(case), Some(images)) = (named(&CASES, word), images) else {
         return unnamed(alloc, USAGE);

@@ -112,7 +112,7 @@ fn make(alloc: Global, case: Case) -> Result<(), BenchError> {
     act(alloc, &mut bench, case)
 }
 
-/// Does what a word names, and tells how it ended.
+/// Does what a word names, and says how it ended.
 pub(crate) fn timed(alloc: Global, word: &str) -> Result<Ended, AllocError> {
     let Some(case) = named(&CASES, word) else {
         return unnamed(alloc, USAGE);

@@ -36,7 +36,7 @@ const CASES: [(&str, Case); 4] = [
 const USAGE: &str =
     "usage: benches shared calls N, benches shared steps N, benches shared beside, or benches shared writers N";
 
-/// Makes what a case says, so many, and tells how it went.
+/// Makes what a case says, so many, and says how it went.
 fn make<R: Threads + Wait + Clock + Sync>(
     rt: &R,
     alloc: Global,
@@ -64,7 +64,7 @@ fn asked(word: &str, count: Option<u64>) -> Option<(Case, u64)> {
     Some((case, count?))
 }
 
-/// Makes what a word names, and tells how it went, or why it didn't.
+/// Makes what a word names, and says how it went, or why it didn't.
 pub(crate) fn timed<R: Threads + Wait + Clock + Sync>(
     rt: &R,
     alloc: Global,

@@ -1,4 +1,4 @@
-//! Lists of events by chance, with a crash after each of their device calls.
+//! Random lists of events, with a crash after each of their device calls.
 use crate::ended::Ended;
 use std::alloc::{AllocError, Global};
 use world_trials::{Figures, Trouble, try_by_chance};
@@ -17,7 +17,7 @@ fn search(alloc: Global, first: u64, lists: u64) -> Result<(Figures, Option<u64>
     Ok((figures, wrong))
 }
 
-/// Runs so many lists, from a seed on, and tells whether all went right, with what was counted where that is asked for.
+/// Runs so many lists, from a seed on, and says whether all went right, with what was counted where that is asked for.
 pub(crate) fn timed(
     alloc: Global,
     first: u64,

@@ -14,7 +14,7 @@ use sd_disk::Found;
 use sd_exit::{Output, Stop, Taken, exit};
 use sd_jobs::{check_program, import_program, merge_program, run_program};
 use sd_program::{Called, Causes, tell};
-use sd_queries::{drop_program, reader_program, show_program, tell_damage, tell_empty};
+use sd_queries::{drop_program, reader_program, report_damage, report_empty, show_program};
 use sd_readers::Reader;
 use sd_restore::Fault;
 use sd_send::send_program;
@@ -108,7 +108,7 @@ fn has_document(work: Work) -> bool {
 }
 
 /// Reports what stands after the end of a program: after its exit status, and the fault that its last line has.
-fn tell_end(
+fn report_end(
     called: Called<'_>,
     work: Work,
     words: &ArgMatches<'_>,
@@ -117,7 +117,7 @@ fn tell_end(
 ) {
     let is_document = has_document(work) && words.get_flag("json");
     if !is_document {
-        tell_damage(called, told);
+        report_damage(called, told);
     }
     let is_empty = told == Some(Fault::EmptyChain) && work != Work::Run;
     let lists = matches!(
@@ -125,7 +125,7 @@ fn tell_end(
         Work::Read(Reader::List | Reader::Verify) | Work::History
     );
     if is_empty || lists && status == 0 {
-        tell_empty(called, is_empty && !is_document);
+        report_empty(called, is_empty && !is_document);
     }
 }
 
@@ -160,7 +160,7 @@ fn run_matched<'a, R: Clock + Threads + Wait + Sync, W: Write>(
         Ok(status) => status,
         Err(stop) => exit(&Err(stop), out),
     };
-    tell_end(called, work, words, status, out.fault());
+    report_end(called, work, words, status, out.fault());
     (called.causes, status)
 }
 
@@ -168,7 +168,7 @@ fn run_matched<'a, R: Clock + Threads + Wait + Sync, W: Write>(
 const PRINTED: &str = "standard output";
 
 /// Reports why something wasn't printed. Who closed the other end of a pipe, as `head` does, needs no report.
-fn tell_refusal(rt: &impl Eprint, causes: Causes, error: Option<&io::Error>) {
+fn report_refusal(rt: &impl Eprint, causes: Causes, error: Option<&io::Error>) {
     if let Some(error) = error
         && error.kind() != io::ErrorKind::BrokenPipe
     {
@@ -187,7 +187,7 @@ fn run_command<R: Clock + Threads + Wait + Sync>(
     let mut out = Output::new(writer);
     match run_words(rt, threads, words, found, &mut out) {
         Ok((causes, status)) => {
-            tell_refusal(rt, causes, out.error());
+            report_refusal(rt, causes, out.error());
             Ok(status)
         }
         Err(error) => print_words_fault(rt, &error),
@@ -208,7 +208,7 @@ fn status_of<R: Clock + Threads + Wait + Sync>(rt: &HostRuntime, threads: &R, fo
     match run_command(rt, threads, &words, found) {
         Ok(status) => status,
         Err(error) => {
-            tell_refusal(rt, Causes::Told, Some(&error));
+            report_refusal(rt, Causes::Told, Some(&error));
             FAILED
         }
     }

@@ -45,7 +45,7 @@ pub fn mutate_program<R: Clock + Threads + Wait + Sync, W: Write>(
     let (disk, ended) = mutate(threads, called.rt.alloc(), disk, count);
     log_info(&log, &"the threads have ended");
     if let Some(disk) = &disk {
-        called.tell_device(disk);
+        called.report_device(disk);
     }
     if matches!(ended, Err(MutateFault::NotEmpty)) {
         called.tell(&NOT_EMPTY);

@@ -1,6 +1,6 @@
 //! `example_threads DIR`: eight threads fill a table in the memory of a space, each a row of its own, while another one
 //! makes checkpoints of that memory, and merges the images of the first. Afterwards the journal is compared with what
-//! each thread was told, and what the store shows with the table. The store stands in DIR, and is made where it is
+//! each thread was answered, and what the store shows with the table. The store stands in DIR, and is made where it is
 //! missing; without an argument it is in memory.
 #![tactic(auto)]
 
@@ -22,7 +22,7 @@ use std::thread;
 use std::thread::Threads;
 use table::{COLUMNS, ROWS, TOTAL, has_table};
 
-/// What the threads were told.
+/// What the threads were answered.
 #[derive(Drop)]
 struct Told {
     receipts: Vec<Receipt>,
@@ -78,7 +78,7 @@ fn fill_and_save<R: Threads + Wait + Sync, D: Disk + Drop + Send>(
     Ok(acks)
 }
 
-/// Lets the threads of all seats work, and gathers what they were told.
+/// Lets the threads of all seats work, and gathers what they were answered.
 fn work<R: Threads + Wait + Sync, D: Disk + Drop + Send>(
     rt: &R,
     alloc: Global,
@@ -109,7 +109,7 @@ fn shows_table(alloc: Global, disk: &mut impl Disk) -> Result<()> {
     Ok(())
 }
 
-/// Compares the journal with what the threads were told, and what the store shows with the table.
+/// Compares the journal with what the threads were answered, and what the store shows with the table.
 fn check<D: Disk + Drop>(
     rt: &(impl Print + AllocGlobal),
     shared: Shared<D>,

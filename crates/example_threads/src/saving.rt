@@ -13,7 +13,7 @@ const ROUNDS: u64 = 2;
 /// How often a checkpoint is gone on with where memory is refused, before it is given up.
 const TRIES: u64 = 100;
 
-/// A hold is told of each device call before it is made. This one does nothing.
+/// A hold sees each device call before it is made. This one does nothing.
 struct Free;
 
 impl Hold for Free {

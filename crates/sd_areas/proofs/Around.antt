@@ -10,7 +10,7 @@ use Rattle.std.proofs.lemmas.List.Quantifiers.{position-Some}
 use Rattle.sd_areas.specs.declared.area.Area.{Area}
 use Rattle.sd_areas.specs.Pages.{is_within, pages_from}
 use Rattle.sd_areas.specs.Areas.{PageMap, prot_in, AreMaximal, page_map_of}
-use Rattle.sd_areas.specs.Calls.{AllHave, has_hole, set_pages, remove_pages, within_areas, RefusesAsDue}
+use Rattle.sd_areas.specs.Calls.{AllHave, has_hole, set_pages, remove_pages, within_areas, RefusesInOrder}
 use Rattle.sd_areas.specs.declared.errno.Errno.{Errno}
 use Rattle.sd_areas.specs.declared.errno.Errno.TheVariants.{Enomem}
 use Rattle.sd_areas.specs.declared.errno.AreaError.{AreaError}
@@ -155,7 +155,7 @@ pub hole_around_at : (xs seen part : List Area) (from to first count : ℕ) → 
     → has_hole (page_map_of (slice_range part from to)) first count ≡ has_hole (page_map_of xs) first count
 hole_around_at xs seen part from to first count e f m l h below above = grind (arith, hole_around)
 
--- what the searches tell
+-- what the searches say
 pub below_by : (xs : List Area) (i begin first : ℕ) → IsPartitionPoint (λ y. ends_by begin y ≡ true) (λ y. ends_by begin y ≡ false) xs i → begin ≡ first
     → AllWithin (λ (area : Area). area.first + area.count < first) xs 0 i
 below_by xs i begin first point e k d low high = omega (arith, e, ltb-true _ _ (point.0 k d low high))
@@ -191,15 +191,15 @@ same_gap_fits areas first count m few all =
     gap_fits areas areas areas first count
     (record { maximal = m; same = λ page. as_before (is_within first count page) _ _ (λ e. sym (get-pages_of areas page) ∙ all page e) }) refl few
 
-refused_by : (r : Result PageMap Errno) (e : AreaError) (long : Type 0) → (long → r ≡ Err Enomem) → (e ≡ OutOfMemory) ⊎ ((e ≡ Refused Enomem) × long) → RefusesAsDue r e
+refused_by : (r : Result PageMap Errno) (e : AreaError) (long : Type 0) → (long → r ≡ Err Enomem) → (e ≡ OutOfMemory) ⊎ ((e ≡ Refused Enomem) × long) → RefusesInOrder r e
 refused_by r e long full given = grind arith
 
 pub run_refused : (old placed : List Area) (area : Area) (e : AreaError) → HasRun old placed area → (e ≡ OutOfMemory) ⊎ ((e ≡ Refused Enomem) × (1024 < length placed))
-    → RefusesAsDue (within_areas (set_pages (page_map_of old) area.first area.count area.prot)) e
+    → RefusesInOrder (within_areas (set_pages (page_map_of old) area.first area.count area.prot)) e
 run_refused old placed area e run why = refused_by _ e (1024 < length placed) (λ many. ap within_areas (run_is old placed area run) ∙ within_err placed run.maximal many) why
 
 pub gap_refused : (old placed : List Area) (first count : ℕ) (e : AreaError) → HasGap old placed first count → (e ≡ OutOfMemory) ⊎ ((e ≡ Refused Enomem) × (1024 < length placed))
-    → RefusesAsDue (within_areas (remove_pages (page_map_of old) first count)) e
+    → RefusesInOrder (within_areas (remove_pages (page_map_of old) first count)) e
 gap_refused old placed first count e gap why = refused_by _ e (1024 < length placed) (λ many. ap within_areas (gap_is old placed first count gap) ∙ within_err placed gap.maximal many) why
 
 pub on_ok_both : {A E : Type 0} {P Q S : Type 0} (r : Result A E) → (P → Q → S) → OnOk r P → OnOk r Q → OnOk r S

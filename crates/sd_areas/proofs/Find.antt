@@ -45,7 +45,7 @@ at_place before (x ∷ xs) (suc i) d page m l h g =
     let past = later_begins (Some x) xs i d m.1 (omega arith) in
     cond-false _ _ _ (above x.first x.count page (omega arith)) ∙ at_place (Some x) xs i d page m.1 (omega arith) h (λ k. g (omega arith))
 
--- what a partition of the areas by a page tells
+-- what a partition of the areas by a page says
 pub none_by_place : (xs : List Area) (i page : ℕ) → AreMaximal None xs → IsPartitionPoint (λ y. begins_by page y ≡ true) (λ y. begins_by page y ≡ false) xs i → i ≡ 0 → None ≡ prot_in xs page
 none_by_place [] i page m point e = refl
 none_by_place (x ∷ xs) i page m point e = sym (none_at_start None (x ∷ xs) x page m (λ h. leb-false _ _ (point.1 0 x (omega arith) h)))

@@ -7,7 +7,7 @@ use Rattle.sd_areas.specs.declared.prot.Prot.{Prot}
 use Rattle.sd_areas.specs.Pages.{is_within, pages_from}
 use Rattle.sd_areas.specs.Areas.{AreMaximal, PageMap, page_map_of}
 use Rattle.sd_areas.specs.Runs.{last_after, IsMappedUpTo}
-use Rattle.sd_areas.proofs.Maximal.{FollowsOn, last_after-append, prot_in-append, none_behind, inside, inside_parts}
+use Rattle.sd_areas.proofs.Maximal.{FollowsOn, last_after-append, prot_in-append, none_stands_after, inside, inside_parts}
 use Rattle.std.proofs.Math.Seq.{take-length}
 use Rattle.std.specs.FinMap as finmap
 use Rattle.sd_areas.specs.Calls.{has_hole}
@@ -39,7 +39,7 @@ some_over b p o h = grind arith
 -- with the next area the cover reaches the end of that, if it has the page
 covered_more : (front : List Area) (x : Area) (first next : ℕ) → AreMaximal None front → AreMaximal None (front ++ x ∷ []) → FollowsOn (last_after None front) x → IsMappedUpTo front first next →
     IsMappedUpTo (front ++ x ∷ []) first (cond (is_within x.first x.count next) (x.first + x.count) next)
-covered_more front x first next m all f h = grind (arith, prot_in-append, cases_Bool, inside_parts, cases_lt, some_over, inside, none_behind, last_after-append)
+covered_more front x first next m all f h = grind (arith, prot_in-append, cases_Bool, inside_parts, cases_lt, some_over, inside, none_stands_after, last_after-append)
 
 pub covered_step : (xs : List Area) (i : ℕ) (x : Area) (first next : ℕ) → AreMaximal None xs → i < length xs → x ≡ get_or xs i x → IsMappedUpTo (take i xs) first next →
     IsMappedUpTo (take (i + 1) xs) first (cond (is_within x.first x.count next) (x.first + x.count) next)

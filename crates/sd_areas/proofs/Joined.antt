@@ -9,7 +9,7 @@ use Rattle.sd_areas.specs.Pages.{is_within}
 use Rattle.sd_areas.specs.Prot.{prot_bits}
 use Rattle.sd_areas.specs.Areas.{prot_in, is_area_after, AreMaximal}
 use Rattle.sd_areas.specs.Runs.{last_after, area_end}
-use Rattle.sd_areas.proofs.Maximal.{follows_on, same_prot, touching, comes_after, first_area, touches_after, above, inside_parts, end_grows, none_before, none_behind}
+use Rattle.sd_areas.proofs.Maximal.{follows_on, same_prot, touching, comes_after, first_area, touches_after, above, inside_parts, end_grows, none_before, none_stands_after}
 use Rattle.sd_areas.proofs.Unique.{at_head, below_head, after_differs}
 
 -- ---- a list in two parts
@@ -163,7 +163,7 @@ replaced_are front middle new back first count around n same =
 -- the others have no page of the run
 none_in_front : (front middle back : List Area) (first count page : ℕ) → AreAround front middle back first count → first ≤ page → prot_in front page ≡ None
 none_in_front front middle back first count page around l =
-    none_behind None front page (parts_are None front (middle ++ back) around.maximal).0 (omega (arith, l, end_below (last_after None front) first around.below))
+    none_stands_after None front page (parts_are None front (middle ++ back) around.maximal).0 (omega (arith, l, end_below (last_after None front) first around.below))
 
 none_in_back : (front middle back : List Area) (first count page : ℕ) → AreAround front middle back first count → page < first + count → prot_in back page ≡ None
 none_in_back front middle back first count page around l =

@@ -85,11 +85,11 @@ none_before before (x ∷ xs) page m l =
     cond-false _ _ _ (below x.first x.count page (omega arith)) ∙ none_before (Some x) xs page m.1 (omega arith)
 
 -- nor one at the end of the last
-pub none_behind : (before : Option Area) (xs : List Area) (page : ℕ) → AreMaximal before xs → area_end (last_after before xs) ≤ page → prot_in xs page ≡ None
-none_behind before [] page m l = refl
-none_behind before (x ∷ xs) page m l =
+pub none_stands_after : (before : Option Area) (xs : List Area) (page : ℕ) → AreMaximal before xs → area_end (last_after before xs) ≤ page → prot_in xs page ≡ None
+none_stands_after before [] page m l = refl
+none_stands_after before (x ∷ xs) page m l =
     let g = end_grows (Some x) xs m.1 in
-    cond-false _ _ _ (above x.first x.count page (omega arith)) ∙ none_behind (Some x) xs page m.1 l
+    cond-false _ _ _ (above x.first x.count page (omega arith)) ∙ none_stands_after (Some x) xs page m.1 l
 
 -- the last area's pages are no other's
 pub prot_in-append : (before : Option Area) (xs : List Area) (y : Area) (page : ℕ) → AreMaximal before xs → area_end (last_after before xs) ≤ y.first →

@@ -15,7 +15,7 @@ use Rattle.sd_areas.specs.Pages.{is_within}
 use Rattle.sd_areas.specs.Areas.{prot_in, AreMaximal, AreAreasOf}
 use Rattle.sd_areas.specs.Runs.{end_of_all}
 use Rattle.sd_areas.specs.Memory.{snapshot_prots}
-use Rattle.sd_areas.proofs.Maximal.{none_behind}
+use Rattle.sd_areas.proofs.Maximal.{none_stands_after}
 use Rattle.sd_areas.proofs.Entries.{one_page}
 
 abbrev pub FirstFrom : ℕ → List (ℕ × SnapshotPage) → Type 0
@@ -73,7 +73,7 @@ built_next all rest left areas new page found h e m ends same =
       rises = rest_rises (page, found) left rises;
       same = λ q.
           h.same q ∙ ap (λ es. or_else (prot_in areas q) (find nat_cmp q (prot_entries es))) e
-          ∙ moved (eq_by_cmp nat_cmp q page) (prot_in areas q) (find nat_cmp q (prot_entries left)) found.prot (λ t. none_behind None areas q h.maximal (omega (arith, tie_le q page t)))
+          ∙ moved (eq_by_cmp nat_cmp q page) (prot_in areas q) (find nat_cmp q (prot_entries left)) found.prot (λ t. none_stands_after None areas q h.maximal (omega (arith, tie_le q page t)))
           ∙ ap (λ b. or_else (cond b (Some found.prot) (prot_in areas q)) (find nat_cmp q (prot_entries left))) (sym (one_page page q))
           ∙ ap (λ o. or_else o (find nat_cmp q (prot_entries left))) (sym (same q));
     }

@@ -6,7 +6,7 @@ use Rattle.sd_areas.specs.declared.area.Area.{Area}
 use Rattle.sd_areas.specs.declared.prot.Prot.{Prot}
 use Rattle.sd_areas.specs.Areas.{AreMaximal}
 use Rattle.sd_areas.specs.Runs.{last_after, end_of_all, HasPart, HasParts}
-use Rattle.sd_areas.proofs.Maximal.{FollowsOn, follows_on, last_after-append, AreMaximal-front, prot_in-append, none_behind}
+use Rattle.sd_areas.proofs.Maximal.{FollowsOn, follows_on, last_after-append, AreMaximal-front, prot_in-append, none_stands_after}
 
 pub AreMaximal-prefix : (before : Option Area) (xs ys : List Area) → AreMaximal before (xs ++ ys) → AreMaximal before xs
 AreMaximal-prefix before [] ys m = tt
@@ -25,7 +25,7 @@ next_follows i xs x m l e =
     follows_on (last_after None (take i xs)) x (AreMaximal-front None (take i xs) x (subst (AreMaximal None) (take_next i xs x l e) (AreMaximal-take (i + 1) xs m))).1
 
 pub parts_none : (old : List Area) (from to : ℕ) → AreMaximal None old → end_of_all old ≤ from → HasParts old old [] from to
-parts_none old from to m l = grind (arith, cases_Bool, none_behind, leb-true, and_parts, cond-true, cond-false)
+parts_none old from to m l = grind (arith, cases_Bool, none_stands_after, leb-true, and_parts, cond-true, cond-false)
 
 both : (r w : Bool) (s f o : Option Prot) → cond (r && w) s (cond r f o) ≡ cond r (cond w s f) o
 both r w s f o = grind arith

@@ -55,7 +55,7 @@ protect_result pages address bytes prot =
     else if has_hole pages (page_of address) (pages_for bytes) then Err Enomem
     else within_areas (set_pages pages (page_of address) (pages_for bytes) prot)
 
--- a refusal is the one that was due; out of memory says nothing of the call
-abbrev pub RefusesAsDue : Result PageMap Errno → AreaError → Type 0
-RefusesAsDue due (Refused e) = due ≡ Err e
-RefusesAsDue due OutOfMemory = Unit {0}
+-- a refusal is the one that applied; out of memory says nothing of the call
+abbrev pub RefusesInOrder : Result PageMap Errno → AreaError → Type 0
+RefusesInOrder due (Refused e) = due ≡ Err e
+RefusesInOrder due OutOfMemory = Unit {0}

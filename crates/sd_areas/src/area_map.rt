@@ -47,7 +47,7 @@ impl Model for AreaMap {
 impl AreaMap {
     ghost use Rattle.sd_areas.specs.Areas.{AreAreasOf, AreMaximal, areas_of, page_map_of};
     ghost use Rattle.sd_areas.specs.Calls.{map_result, unmap_result, protect_result, within_areas, has_hole};
-    ghost use Rattle.sd_areas.specs.Calls.{RefusesAsDue, AllHave};
+    ghost use Rattle.sd_areas.specs.Calls.{RefusesInOrder, AllHave};
     ghost use Rattle.sd_areas.specs.Memory.{snapshot_prots};
     ghost use Rattle.sd_areas.specs.declared.errno.AreaError.TheVariants.{Refused, OutOfMemory};
     ghost use Rattle.sd_areas.specs.declared.errno.Errno.TheVariants.{Einval, Enomem};
@@ -73,7 +73,7 @@ impl AreaMap {
         pages: &BTreeMap<PageNo, SnapshotPage>,
     ) -> Result<Self, AreaError>
         ensures ok { IfOk result (λ map. within_areas (snapshot_prots pages.now.entries) ≡ Ok map) }
-        ensures refused { IfErr result (RefusesAsDue (within_areas (snapshot_prots pages.now.entries))) }
+        ensures refused { IfErr result (RefusesInOrder (within_areas (snapshot_prots pages.now.entries))) }
         ensures some { result ≡ Err OutOfMemory → pages.now.entries ≢ [] }
     {
         let areas = areas_in(alloc, pages)?;
@@ -110,7 +110,7 @@ impl AreaMap {
     /// permissions yet. An error changes nothing.
     pub fn map(&mut self, address: u64, bytes: u64, prot: Prot) -> Result<(), AreaError>
         ensures ok { OnOk result (map_result self.old address bytes prot ≡ Ok self.new) }
-        ensures refused { IfErr result (RefusesAsDue (map_result self.old address bytes prot)) }
+        ensures refused { IfErr result (RefusesInOrder (map_result self.old address bytes prot)) }
         ensures invalid { IsTrue (is_invalid address bytes) → result ≡ Err (Refused Einval) }
         ensures outside { IsFalse (is_invalid address bytes) → IsTrue (is_outside address bytes)
             → result ≡ Err (Refused Enomem) }
@@ -134,7 +134,7 @@ impl AreaMap {
     /// changes nothing.
     pub fn unmap(&mut self, address: u64, bytes: u64) -> Result<(), AreaError>
         ensures ok { OnOk result (unmap_result self.old address bytes ≡ Ok self.new) }
-        ensures refused { IfErr result (RefusesAsDue (unmap_result self.old address bytes)) }
+        ensures refused { IfErr result (RefusesInOrder (unmap_result self.old address bytes)) }
         ensures invalid { IsTrue (is_invalid address bytes) → result ≡ Err (Refused Einval) }
         ensures outside { IsFalse (is_invalid address bytes) → IsTrue (is_outside address bytes)
             → result ≡ Err (Refused Einval) }
@@ -158,7 +158,7 @@ impl AreaMap {
     /// permissions yet. An error changes nothing.
     pub fn protect(&mut self, address: u64, bytes: u64, prot: Prot) -> Result<(), AreaError>
         ensures ok { OnOk result (protect_result self.old address bytes prot ≡ Ok self.new) }
-        ensures refused { IfErr result (RefusesAsDue (protect_result self.old address bytes prot)) }
+        ensures refused { IfErr result (RefusesInOrder (protect_result self.old address bytes prot)) }
         ensures invalid { IsFalse (address % 4096 == 0) → result ≡ Err (Refused Einval) }
         ensures nothing { IsTrue (address % 4096 == 0) → bytes ≡ 0 → result ≡ Ok tt }
         ensures outside { IsFalse (is_invalid address bytes) → IsTrue (is_outside address bytes)
@@ -194,7 +194,7 @@ impl AreaMap {
     fn from_areas(alloc: Global, areas: Vec<Area>) -> Result<Self, AreaError>
         requires { AreMaximal None areas.items }
         ensures ok { IfOk result (λ map. within_areas (page_map_of areas.items) ≡ Ok map) }
-        ensures refused { IfErr result (RefusesAsDue (within_areas (page_map_of areas.items))) }
+        ensures refused { IfErr result (RefusesInOrder (within_areas (page_map_of areas.items))) }
         ensures granted { result ≢ Err OutOfMemory }
     {
         if AREA_LIMIT < areas.len() {

@@ -4,7 +4,7 @@ ghost use Rattle.std.specs.Prelude.{◌≡◌, ◌⊎◌, ◌+◌, ◌<◌, ◌�
 ghost use Rattle.std.specs.Prelude.{None, Some};
 ghost use Rattle.std.specs.List.{splice, AllWithin, position};
 ghost use Rattle.sd_areas.specs.Areas.{AreMaximal, page_map_of};
-ghost use Rattle.sd_areas.specs.Calls.{set_pages, remove_pages, within_areas, RefusesAsDue, AllHave};
+ghost use Rattle.sd_areas.specs.Calls.{set_pages, remove_pages, within_areas, RefusesInOrder, AllHave};
 ghost use Rattle.sd_areas.specs.declared.errno.AreaError.TheVariants.{Refused, OutOfMemory};
 ghost use Rattle.sd_areas.specs.declared.errno.Errno.TheVariants.{Enomem};
 
@@ -113,7 +113,7 @@ pub(crate) fn set_between(
     ensures ok { OnOk result
         (within_areas (set_pages (page_map_of areas.old.items) area.first area.count area.prot)
         ≡ Ok (page_map_of areas.new.items)) }
-    ensures refused { IfErr result (RefusesAsDue
+    ensures refused { IfErr result (RefusesInOrder
         (within_areas (set_pages (page_map_of areas.old.items) area.first area.count area.prot))) }
     ensures some { OnErr result
         (AllHave (page_map_of areas.old.items) area.first area.count (Some area.prot) → ⊥) }
@@ -142,7 +142,7 @@ pub(crate) fn set_run(alloc: Global, areas: &mut Vec<Area>, area: Area) -> Resul
     ensures ok { OnOk result
         (within_areas (set_pages (page_map_of areas.old.items) area.first area.count area.prot)
         ≡ Ok (page_map_of areas.new.items)) }
-    ensures refused { IfErr result (RefusesAsDue
+    ensures refused { IfErr result (RefusesInOrder
         (within_areas (set_pages (page_map_of areas.old.items) area.first area.count area.prot))) }
     ensures some { OnErr result
         (AllHave (page_map_of areas.old.items) area.first area.count (Some area.prot) → ⊥) }
@@ -176,7 +176,7 @@ pub(crate) fn remove_run(
     ensures ok { OnOk result
         (within_areas (remove_pages (page_map_of areas.old.items) range.first range.count)
         ≡ Ok (page_map_of areas.new.items)) }
-    ensures refused { IfErr result (RefusesAsDue
+    ensures refused { IfErr result (RefusesInOrder
         (within_areas (remove_pages (page_map_of areas.old.items) range.first range.count))) }
     ensures some { OnErr result
         (AllHave (page_map_of areas.old.items) range.first range.count None → ⊥) }

@@ -13,7 +13,7 @@ told_apart never = ((λ e. absurd (let f : false ≡ true = e in cc)), λ p. abs
 pub told_same : {P : Type 0} → P → (IsTrue true → P) × (P → IsTrue true)
 told_same p = ((λ _. p), λ _. refl)
 
--- two numbers that a test tells apart
+-- two numbers that a test distinguishes
 pub differ_by_test : (b : Bool) (k q : ℕ) → b ≡ not (nat_eq k q) → b ≡ true → k ≡ q → ⊥
 differ_by_test b k q test told e = absurd (grind (arith, nat_tests))
 

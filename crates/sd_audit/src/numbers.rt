@@ -1,4 +1,4 @@
-//! The numbers of the last and of the pending checkpoint, as a run's entries tell them.
+//! The numbers of the last and of the pending checkpoint, as a run's entries give them.
 ghost use Rattle.std.specs.Prelude.{◌≡◌, ◌↔◌, ◌⊎◌, ◌∷◌, reverse, IsTrue};
 ghost use Rattle.sd_journal.specs.History.{Base, History, last, pending, unless_it_is};
 

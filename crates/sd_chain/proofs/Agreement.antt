@@ -1,4 +1,4 @@
--- A catalog and the images that it tells agree.
+-- A catalog and the images that it lists agree.
 use Rattle.std.proofs.Common.{◌≡◌, ◌≢◌, ◌⊎◌, ◌<◌, ◌+◌, ◌*◌, ℕ, Bool, true, false, nat_eq, not, cond, List, slice_index_or, Contains, Option, Some, None, refl, sym, ◌∙◌, ap, subst, inl, inr, arith}
 use Rattle.std.specs.Prelude.{All, replicate, slice_get}
 use Rattle.std.proofs.lemmas.Bool.{eq-eqb, ne_eqb, cases_eq, false≢true}
@@ -16,30 +16,30 @@ use Rattle.sd_chain.specs.Catalog.{Opened, Places, AreInOrder, Changes, images, 
 use Rattle.sd_chain.specs.Catalog as catalog
 use Rattle.sd_chain.specs.Ways.{HasPage, LiesAt}
 use Rattle.sd_chain.specs.Ways as ways
-use Rattle.sd_chain.specs.Tells.{AddedImageIsTold, Agrees, CatalogLists, HaveDataPages, HeldPlacesTellNothing, IsStoredAt, IsToldAs, RemovedSlotIsUntold, RemovedSlotWasTold}
+use Rattle.sd_chain.specs.Recorded.{AddedImageIsRecorded, Agrees, CatalogLists, HaveDataPages, HeldPlacesRecordNothing, IsStoredAt, IsRecordedAs, RemovedSlotIsUnrecorded, RemovedSlotWasRecorded}
 use Rattle.sd_chain.proofs.Members.{open_place}
 use Rattle.sd_chain.proofs.Walks.{member_of}
 
 -- the numbers of an image and of its entry are the same
-serials : (i : Opened) (image : Image) → IsToldAs i image → image.header.serial ≡ i.header.serial
+serials : (i : Opened) (image : Image) → IsRecordedAs i image → image.header.serial ≡ i.header.serial
 serials i image told = ap (λ (h : Header). h.serial) told.header
 
-checkpoints : (i : Opened) (image : Image) → IsToldAs i image → image.header.checkpoint ≡ i.header.checkpoint
+checkpoints : (i : Opened) (image : Image) → IsRecordedAs i image → image.header.checkpoint ≡ i.header.checkpoint
 checkpoints i image told = ap (λ (h : Header). h.checkpoint) told.header
 
-numbers : (i : Opened) (image : Image) → IsToldAs i image → image.header.stands_for ≡ i.header.stands_for
+numbers : (i : Opened) (image : Image) → IsRecordedAs i image → image.header.stands_for ≡ i.header.stands_for
 numbers i image told = ap (λ (h : Header). h.stands_for) told.header
 
-parents : (i : Opened) (image : Image) → IsToldAs i image → image.header.parent ≡ i.header.parent
+parents : (i : Opened) (image : Image) → IsRecordedAs i image → image.header.parent ≡ i.header.parent
 parents i image told = ap (λ (h : Header). h.parent) told.header
 
-kinds : (i : Opened) (image : Image) → IsToldAs i image → image.header.kind ≡ i.header.kind
+kinds : (i : Opened) (image : Image) → IsRecordedAs i image → image.header.kind ≡ i.header.kind
 kinds i image told = ap (λ (h : Header). h.kind) told.header
 
 module _ (places : Places) (all : List Image) (order : AreInOrder places) (tells : CatalogLists places all) where
   -- ---- what a number names, and the newest
 
-  named_there : (number : ℕ) (i : Opened) (image : Image) → Contains all image → IsToldAs i image → catalog.Names places number i → IsNamed all number image
+  named_there : (number : ℕ) (i : Opened) (image : Image) → Contains all image → IsRecordedAs i image → catalog.Names places number i → IsNamed all number image
   named_there number i image c told names = record {
     member = c;
     stands = numbers i image told ∙ names.stands;
@@ -49,7 +49,7 @@ module _ (places : Places) (all : List Image) (order : AreInOrder places) (tells
         omega (arith, le, serials j.0 other j.2, serials i image told);
   }
 
-  named_back : (number : ℕ) (i : Opened) (image : Image) → Contains (images places) i → IsToldAs i image → IsNamed all number image → catalog.Names places number i
+  named_back : (number : ℕ) (i : Opened) (image : Image) → Contains (images places) i → IsRecordedAs i image → IsNamed all number image → catalog.Names places number i
   named_back number i image c told named = record {
     member = c;
     stands = sym (numbers i image told) ∙ named.stands;
@@ -59,13 +59,13 @@ module _ (places : Places) (all : List Image) (order : AreInOrder places) (tells
         omega (arith, le, serials j other.0 other.2, serials i image told);
   }
 
-  after_there : (i j : Opened) (a b : Image) → IsToldAs i a → IsToldAs j b → catalog.IsNotNewer i j → IsNotAfter a b
+  after_there : (i j : Opened) (a b : Image) → IsRecordedAs i a → IsRecordedAs j b → catalog.IsNotNewer i j → IsNotAfter a b
   after_there i j a b ta tb given = grind arith
 
-  after_back : (i j : Opened) (a b : Image) → IsToldAs i a → IsToldAs j b → IsNotAfter a b → catalog.IsNotNewer i j
+  after_back : (i j : Opened) (a b : Image) → IsRecordedAs i a → IsRecordedAs j b → IsNotAfter a b → catalog.IsNotNewer i j
   after_back i j a b ta tb given = grind arith
 
-  tip_there : (i : Opened) (image : Image) → Contains all image → IsToldAs i image → catalog.IsTip places i → IsTip all image
+  tip_there : (i : Opened) (image : Image) → Contains all image → IsRecordedAs i image → catalog.IsTip places i → IsTip all image
   tip_there i image c told tip = record {
     member = c;
     restorable = λ pre. tip.restored (sym (kinds i image told) ∙ pre);
@@ -74,7 +74,7 @@ module _ (places : Places) (all : List Image) (order : AreInOrder places) (tells
         after_there j.0 i other image j.2 told (tip.greatest j.0 j.1 (λ pre. restorable (kinds j.0 other j.2 ∙ pre)));
   }
 
-  tip_back : (i : Opened) (image : Image) → Contains (images places) i → IsToldAs i image → IsTip all image → catalog.IsTip places i
+  tip_back : (i : Opened) (image : Image) → Contains (images places) i → IsRecordedAs i image → IsTip all image → catalog.IsTip places i
   tip_back i image c told tip = record {
     member = c;
     restored = λ pre. tip.restorable (kinds i image told ∙ pre);
@@ -85,7 +85,7 @@ module _ (places : Places) (all : List Image) (order : AreInOrder places) (tells
 
   -- ---- where pages lie
 
-  held_there : (page : ℕ × ℕ) (bytes : List ℕ) (i : Opened) (image : Image) → Contains (images places) i → Contains all image → IsToldAs i image
+  held_there : (page : ℕ × ℕ) (bytes : List ℕ) (i : Opened) (image : Image) → Contains (images places) i → Contains all image → IsRecordedAs i image
       → Holds all page.0 page.1 bytes image → (there : Found) × LiesAt places page there i × IsStoredAt places all there bytes
   held_there page bytes i image ci c told (Holds.by_data _ place at is) = (
     found.Data i.slot (4096 + 4096 * place),
@@ -103,7 +103,7 @@ module _ (places : Places) (all : List Image) (order : AreInOrder places) (tells
         rest.2,
       )
 
-  lies_there : HaveDataPages all → (page : ℕ × ℕ) (there : Found) (i : Opened) (image : Image) → Contains (images places) i → Contains all image → IsToldAs i image
+  lies_there : HaveDataPages all → (page : ℕ × ℕ) (there : Found) (i : Opened) (image : Image) → Contains (images places) i → Contains all image → IsRecordedAs i image
       → LiesAt places page there i → (bytes : List ℕ) × Holds all page.0 page.1 bytes image × IsStoredAt places all there bytes
   lies_there have page there i image ci c told (ways.by_data _ place has is) =
       let at : slice_get (pages_of Data image.spaces) place ≡ Some page = subst (λ (spaces : List Listed). HasPage spaces page (way.Data place)) (sym told.spaces) has in
@@ -176,8 +176,8 @@ held_other : (old : Places) (serial other : ℕ) (place : Option (Option Opened)
     → place_of old other ≡ Some (Some i) → cond (nat_eq serial other) place (place_of old other) ≡ Some (Some i)
 held_other old serial other place i none e = grind arith
 
-pub held_places_tell_nothing : HeldPlacesTellNothing
-held_places_tell_nothing old new serial place all before after none held changes =
+pub held_places_record_nothing : HeldPlacesRecordNothing
+held_places_record_nothing old new serial place all before after none held changes =
     let there : (other : ℕ) (i : Opened) → place_of old other ≡ Some (Some i) → place_of new other ≡ Some (Some i) = λ other i e. changes other ∙ held_other old serial other place i none e in
     let back : (other : ℕ) (i : Opened) → place_of new other ≡ Some (Some i) → place_of old other ≡ Some (Some i) =
     λ other i e. other_stays (nat_eq serial other) place (place_of old other) i held (sym (changes other) ∙ e) in
@@ -199,15 +199,15 @@ old_place : (old new : Places) (i j : Opened) → ((other : Opened) → place_of
     → place_of old j.header.serial ≡ Some (Some j) → place_of new j.header.serial ≡ Some (Some j)
 old_place old new i j none changes e = changes j.header.serial ∙ held_other old i.header.serial j.header.serial (Some (Some i)) j none e
 
-pub added_image_is_told : AddedImageIsTold
-added_image_is_told old new i image all before after none changes told = (
+pub added_image_is_recorded : AddedImageIsRecorded
+added_image_is_recorded old new i image all before after none changes told = (
   λ tells. record {
     image = λ j c. elim (now_at old new i j changes (open_place new j after c)) [
-      | inl same ↦ (image, contains_front image all, subst (λ (k : Opened). IsToldAs k image) (sym same) told)
+      | inl same ↦ (image, contains_front image all, subst (λ (k : Opened). IsRecordedAs k image) (sym same) told)
       | inr was ↦ let found = tells.image j (member_of old j.header.serial j was) in (found.0, contains_later image found.0 all found.1, found.2)
     ];
     opened = λ other c. elim (contains_cases image other all c) [
-      | inl same ↦ (i, member_of new i.header.serial i (own_place old new i changes), subst (IsToldAs i) (sym same) told)
+      | inl same ↦ (i, member_of new i.header.serial i (own_place old new i changes), subst (IsRecordedAs i) (sym same) told)
       | inr later ↦
           let j = tells.opened other later in
           (j.0, member_of new j.0.header.serial j.0 (old_place old new i j.0 none changes (open_place old j.0 before j.1)), j.2)
@@ -243,8 +243,8 @@ left_place slot (Some (Some k)) j e = by (nat_eq k.slot slot) refl e
     by true is e = absurd (let no : None ≡ Some (Some j) = e in cc)
     by false is e = (e, λ same. false≢true (sym is ∙ eq-eqb k.slot slot ((let both : Some (Some k) ≡ Some (Some j) = e in let is : k ≡ j = cc in ap (λ (i : Opened). i.slot) is) ∙ same)))
 
-pub removed_slot_is_untold : RemovedSlotIsUntold
-removed_slot_is_untold old new slot all left before after changes elsewhere tells = record {
+pub removed_slot_is_unrecorded : RemovedSlotIsUnrecorded
+removed_slot_is_unrecorded old new slot all left before after changes elsewhere tells = record {
   image = λ j c.
       let was = left_place slot (place_of old j.header.serial) j (sym (changes j.header.serial) ∙ open_place new j after c) in
       let found = tells.image j (member_of old j.header.serial j was.0) in
@@ -265,8 +265,8 @@ was_place : (slot : ℕ) (old new : Places) (j : Opened) → ((serial : ℕ) →
     → Contains (images new) j → place_of old j.header.serial ≡ Some (Some j)
 was_place slot old new j changes after c = (left_place slot (place_of old j.header.serial) j (sym (changes j.header.serial) ∙ open_place new j after c)).0
 
-pub removed_slot_was_told : RemovedSlotWasTold
-removed_slot_was_told old new slot all left before after changes elsewhere told tells = record {
+pub removed_slot_was_recorded : RemovedSlotWasRecorded
+removed_slot_was_recorded old new slot all left before after changes elsewhere told tells = record {
   image = λ i c. elim (cases_eq i.slot slot) [
     | inl here ↦ told.image i c here
     | inr other ↦
@@ -279,12 +279,12 @@ removed_slot_was_told old new slot all left before after changes elsewhere told 
   where
     -- no image of the slot has its serial, so it is left
     stays : (image : Image) → Contains all image → ((i : Opened) → place_of old image.header.serial ≡ Some (Some i) → i.slot ≢ slot)
-        → (i : Opened) × Contains (images old) i × IsToldAs i image
+        → (i : Opened) × Contains (images old) i × IsRecordedAs i image
     stays image c other =
         let j = tells.opened image ((elsewhere image).1 (c, other)) in
         (j.0, member_of old j.0.header.serial j.0 (was_place slot old new j.0 changes after j.1), j.2)
 
-    by : (image : Image) → Contains all image → (place : Option (Option Opened)) → place_of old image.header.serial ≡ place → (i : Opened) × Contains (images old) i × IsToldAs i image
+    by : (image : Image) → Contains all image → (place : Option (Option Opened)) → place_of old image.header.serial ≡ place → (i : Opened) × Contains (images old) i × IsRecordedAs i image
     by image c None at = stays image c (λ i is. absurd (let no : None ≡ Some (Some i) = sym at ∙ is in cc))
     by image c (Some None) at = stays image c (λ i is. absurd (let no : Some None ≡ Some (Some i) = sym at ∙ is in cc))
     by image c (Some (Some i)) at = elim (cases_eq i.slot slot) [

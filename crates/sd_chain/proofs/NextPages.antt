@@ -16,7 +16,7 @@ use Rattle.sd_image.specs.Shows.{pages_of}
 use Rattle.sd_image.specs.Table.{AreRuns, AreSpaces, IsTable, Listed, run_begins_after, has_source, listing_of}
 use Rattle.sd_image.proofs.Members.{contains_cases, contains_front, contains_later}
 use Rattle.sd_chain.specs.declared.way.Way.TheVariants as way
-use Rattle.sd_chain.specs.Passes.{HasPageInRuns, HasSpace, IsBefore, IsBehind, IsFirstPageFrom, IsFrom, IsLeastFrom, IsListed, IsNextOrNone, from_within, start_of}
+use Rattle.sd_chain.specs.Passes.{HasPageInRuns, HasSpace, IsBefore, IsAfterPlace, IsFirstPageFrom, IsFrom, IsLeastFrom, IsListed, IsNextOrNone, from_within, start_of}
 use Rattle.sd_chain.proofs.Runs.{apart, within_from, within_high, within_low}
 use Rattle.sd_chain.proofs.TablePages.{had, has_in_run}
 use Rattle.sd_chain.proofs.Ways.{among_kind, kind_of, later_space, runs_of}
@@ -273,10 +273,10 @@ had_listed items page has =
     (has_in_run has.3.0.kind (map listing_of items) (listing_of has.0) has.3.0 page.1 (listed_in items has.0 has.1) has.3.1 refl has.3.2))
 
 -- from the place after a page on is after it
-start_on : (after : Option (ℕ × ℕ)) (page : ℕ × ℕ) → IsBehind after page → IsFrom (start_of after) page
+start_on : (after : Option (ℕ × ℕ)) (page : ℕ × ℕ) → IsAfterPlace after page → IsFrom (start_of after) page
 start_on after page behind = grind arith
 
-start_back : (after : Option (ℕ × ℕ)) (page : ℕ × ℕ) → IsFrom (start_of after) page → IsBehind after page
+start_back : (after : Option (ℕ × ℕ)) (page : ℕ × ℕ) → IsFrom (start_of after) page → IsAfterPlace after page
 start_back after page from = grind arith
 
 pub next_of : (items : List SpaceTable) (after next : Option (ℕ × ℕ)) → IsFirstPageFrom items (start_of after) next → IsNextOrNone (map listing_of items) after next

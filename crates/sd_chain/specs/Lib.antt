@@ -5,6 +5,6 @@ pub mod Ways
 pub mod Chains
 pub mod Store
 pub mod Laws
-pub mod Tells
+pub mod Recorded
 pub mod Passes
 pub mod Checkpoints

@@ -18,19 +18,19 @@ abbrev pub IsBefore : ℕ × ℕ → ℕ × ℕ → Type 0
 IsBefore a b = (a.0 < b.0) ⊎ ((a.0 ≡ b.0) × (a.1 < b.1))
 
 -- a page is after a place, where one is given
-abbrev pub IsBehind : Option (ℕ × ℕ) → ℕ × ℕ → Type 0
-IsBehind after page = MatchOption after (Unit {0}) (λ place. IsBefore place page)
+abbrev pub IsAfterPlace : Option (ℕ × ℕ) → ℕ × ℕ → Type 0
+IsAfterPlace after page = MatchOption after (Unit {0}) (λ place. IsBefore place page)
 
 -- the first page that a table lists after a place
 pub record IsNextOf (spaces : List Listed) (after : Option (ℕ × ℕ)) (page : ℕ × ℕ) : Type 0 where
   pub listed : IsListed spaces page
-  pub behind : IsBehind after page
-  pub first : (other : ℕ × ℕ) → IsListed spaces other → IsBehind after other → IsBefore other page → ⊥
+  pub behind : IsAfterPlace after page
+  pub first : (other : ℕ × ℕ) → IsListed spaces other → IsAfterPlace after other → IsBefore other page → ⊥
 
 -- the first that a table lists after a place, or it lists none there
 abbrev pub IsNextOrNone : List Listed → Option (ℕ × ℕ) → Option (ℕ × ℕ) → Type 0
 IsNextOrNone spaces after next =
-    MatchOption next ((page : ℕ × ℕ) → IsListed spaces page → IsBehind after page → ⊥) (IsNextOf spaces after)
+    MatchOption next ((page : ℕ × ℕ) → IsListed spaces page → IsAfterPlace after page → ⊥) (IsNextOf spaces after)
 
 -- the same of the image of a serial; where no image has it there is none
 abbrev pub IsNextPageOfImage : Places → ℕ → Option (ℕ × ℕ) → Option (ℕ × ℕ) → Type 0

@@ -7,7 +7,7 @@ ghost use Rattle.sd_chain.specs.Store.{IsCatalogOf, FindsNamed, FindsTip, HasThe
 ghost use Rattle.sd_chain.specs.Catalog.{Opened, place_of, images, IsHeld, Changes, is_elsewhere, without_slot, Names};
 ghost use Rattle.sd_chain.specs.Catalog.{IsTip, IsDumpOrMerged, IsGreatest, IsSoundCatalog, serial_of};
 ghost use Rattle.sd_chain.specs.Catalog.{checkpoint_number};
-ghost use Rattle.sd_chain.specs.Tells.{Agrees, CatalogLists};
+ghost use Rattle.sd_chain.specs.Recorded.{Agrees, CatalogLists};
 
 use crate::choice::{Places, greatest_checkpoint, greatest_serial, images_of, named_of, newest_of};
 use crate::error::CatalogError;

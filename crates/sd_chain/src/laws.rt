@@ -1,6 +1,6 @@
 //! Laws about the catalog of a store's slots that the layers above use.
-ghost use Rattle.sd_chain.specs.Tells.{AddedImageIsTold, HeldPlacesTellNothing, RemovedSlotIsUntold};
-ghost use Rattle.sd_chain.specs.Tells.{RemovedSlotWasTold};
+ghost use Rattle.sd_chain.specs.Recorded.{AddedImageIsRecorded, HeldPlacesRecordNothing, RemovedSlotIsUnrecorded};
+ghost use Rattle.sd_chain.specs.Recorded.{RemovedSlotWasRecorded};
 ghost use Rattle.sd_chain.specs.Laws.{ClosedSlotAddsNothing, EmptyCatalog, OpenSlotAddsItsImage};
 
 /// The catalog of no slots has no images.
@@ -20,22 +20,22 @@ pub fn open_slot()
 {}
 
 /// Holding and releasing places leave the images of a catalog.
-pub fn held_places_tell_nothing()
-    ensures { HeldPlacesTellNothing }
+pub fn held_places_record_nothing()
+    ensures { HeldPlacesRecordNothing }
 {}
 
 /// Adding an image to a catalog adds it to its images.
-pub fn added_image_is_told()
-    ensures { AddedImageIsTold }
+pub fn added_image_is_recorded()
+    ensures { AddedImageIsRecorded }
 {}
 
 /// Removing a slot leaves the images that are in other slots.
-pub fn removed_slot_is_untold()
-    ensures { RemovedSlotIsUntold }
+pub fn removed_slot_is_unrecorded()
+    ensures { RemovedSlotIsUnrecorded }
 {}
 
-/// Where the images of a slot that was removed are told by some images, these and those in other slots are the
+/// Where the images of a slot that was removed are recorded by some images, these and those in other slots are the
 /// catalog's before.
-pub fn removed_slot_was_told()
-    ensures { RemovedSlotWasTold }
+pub fn removed_slot_was_recorded()
+    ensures { RemovedSlotWasRecorded }
 {}

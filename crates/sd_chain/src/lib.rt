@@ -24,8 +24,8 @@ pub use error::CatalogError;
 pub use found::Found;
 pub use image::OpenImage;
 pub use laws::{
-    added_image_is_told, closed_slot, empty_catalog, held_places_tell_nothing, open_slot,
-    removed_slot_is_untold, removed_slot_was_told,
+    added_image_is_recorded, closed_slot, empty_catalog, held_places_record_nothing, open_slot,
+    removed_slot_is_unrecorded, removed_slot_was_recorded,
 };
 pub use placed::PlacedTable;
 pub use trace::Trace;

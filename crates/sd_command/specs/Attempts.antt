@@ -1,4 +1,4 @@
--- What one call on a memory returns for a command, before it is told as a reply.
+-- What one call on a memory returns for a command, before it is answered as a reply.
 use Rattle.std.specs.Prelude.{◌≡◌, ◌⊎◌, ◌%◌, ◌+◌, ℕ, length, slice_range, Option, IfSome, Result, Ok, Err}
 use Rattle.sd_areas.specs.Pages.{page_of, pages_for}
 use Rattle.sd_pagetable.specs.declared.access_error.AccessError.{AccessError}
@@ -6,7 +6,7 @@ use Rattle.sd_pagetable.specs.declared.memory_error.MemoryError.{MemoryError}
 use Rattle.sd_pagetable.specs.declared.store_outcome.StoreOutcome.{StoreOutcome}
 use Rattle.sd_pagetable.specs.declared.store_outcome.StoreOutcome.TheVariants as outcome
 use Rattle.sd_pagetable.specs.Contents.{Contents, plain_of}
-use Rattle.sd_pagetable.specs.Due.{fault_due, store_due, try_outcome}
+use Rattle.sd_pagetable.specs.RefusalOrder.{fault_refusal, store_refusal, try_outcome}
 use Rattle.sd_pagetable.specs.Effects.{IsLeastFree}
 use Rattle.sd_pagetable.specs.Page.{PageState}
 use Rattle.sd_pagetable.specs.Tracking.{Step, Mapped, Unmapped, Protected, Forked, Exited, Faulted, Tried, Stored}
@@ -19,8 +19,8 @@ use Rattle.sd_command.specs.Events.{page_under}
 
 -- what a command is denied by the memory with its frames, if anything
 abbrev pub denial : Contents → Command → Option AccessError
-denial memory (command.Fault space address) = fault_due memory space address
-denial memory (command.Store space address bytes) = store_due memory space address (length bytes)
+denial memory (command.Fault space address) = fault_refusal memory space address
+denial memory (command.Store space address bytes) = store_refusal memory space address (length bytes)
 denial memory (command.Mmap space address bytes prot) =
     denial_in (plain_of memory) (command.Mmap space address bytes prot)
 denial memory (command.Munmap space address bytes) = denial_in (plain_of memory) (command.Munmap space address bytes)

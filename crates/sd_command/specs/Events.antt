@@ -3,7 +3,8 @@ use Rattle.std.specs.Prelude.{◌≡◌, ◌≢◌, ◌↔◌, ◌≤◌, ◌%�
 use Rattle.sd_areas.specs.Pages.{page_of, pages_for}
 use Rattle.sd_areas.specs.Calls.{has_hole, AllHave}
 use Rattle.sd_pagetable.specs.Contents.{Contents, page_at, page_count, plain_of}
-use Rattle.sd_pagetable.specs.Due.{access_due, fault_due, fork_due, frame_due, needs_frame, prots_in, store_due}
+use Rattle.sd_pagetable.specs.RefusalOrder.{access_refusal, fault_refusal, fork_refusal, frame_refusal, needs_frame}
+use Rattle.sd_pagetable.specs.RefusalOrder.{prots_in, store_refusal}
 use Rattle.sd_pagetable.specs.Effects.{after_mmap}
 use Rattle.sd_pagetable.specs.Nested.{inside, is_alive}
 use Rattle.sd_pagetable.specs.RangeCalls.{IsRangeIn}
@@ -37,7 +38,7 @@ abbrev pub page_under : Contents → ℕ → ℕ → Option PageState
 page_under memory space address = page_at memory space (page_of address)
 
 -- What a legal reply leaves open: a try needs a fault exactly where the page isn't writable; a fault or a store is
--- refused a frame exactly where one is due and none is left.
+-- refused a frame exactly where one is needed and none is left.
 abbrev pub Chooses : Contents → Command → Reply → Type 0
 Chooses memory (command.TryStore space address bytes) answer =
     denial_in (plain_of memory) (command.TryStore space address bytes) ≡ None
@@ -45,10 +46,10 @@ Chooses memory (command.TryStore space address bytes) answer =
     (λ (page : PageState). page.writable ≡ false)
 Chooses memory (command.Fault space address) answer =
     denial_in (plain_of memory) (command.Fault space address) ≡ None
-    → (answer ≡ reply.Refused refusal.NoFrame) ↔ (frame_due memory (page_under memory space address) ≢ None)
+    → (answer ≡ reply.Refused refusal.NoFrame) ↔ (frame_refusal memory (page_under memory space address) ≢ None)
 Chooses memory (command.Store space address bytes) answer =
     denial_in (plain_of memory) (command.Store space address bytes) ≡ None
-    → (answer ≡ reply.Refused refusal.NoFrame) ↔ (frame_due memory (page_under memory space address) ≢ None)
+    → (answer ≡ reply.Refused refusal.NoFrame) ↔ (frame_refusal memory (page_under memory space address) ≢ None)
 Chooses memory _ answer = Unit {0}
 
 -- Where a command takes memory, and so may find none: after all that is tested before. An exit and a try of a store
@@ -66,14 +67,14 @@ TakesMemory memory (command.Mprotect space address bytes prot) =
     IsRangeIn (is_alive memory.spaces space ≡ true) address bytes
     × (has_hole (prots_in (inside (plain_of memory) space)) (page_of address) (pages_for bytes) ≡ false)
     × (AllHave (prots_in (inside (plain_of memory) space)) (page_of address) (pages_for bytes) (Some prot) → ⊥)
-TakesMemory memory (command.Fork space) = fork_due (plain_of memory) space ≡ None
+TakesMemory memory (command.Fork space) = fork_refusal (plain_of memory) space ≡ None
 TakesMemory memory (command.Exit space) = ⊥
-TakesMemory memory (command.Load space address count) = access_due (plain_of memory) space address count Read ≡ None
+TakesMemory memory (command.Load space address count) = access_refusal (plain_of memory) space address count Read ≡ None
 TakesMemory memory (command.TryStore space address bytes) = ⊥
 TakesMemory memory (command.Fault space address) =
-    (fault_due memory space address ≡ None) × (needs_frame memory (page_under memory space address) ≡ true)
+    (fault_refusal memory space address ≡ None) × (needs_frame memory (page_under memory space address) ≡ true)
 TakesMemory memory (command.Store space address bytes) =
-    (store_due memory space address (length bytes) ≡ None)
+    (store_refusal memory space address (length bytes) ≡ None)
     × (needs_frame memory (page_under memory space address) ≡ true)
 
 -- the event of a command and its reply makes of the plain memory what the command makes of it

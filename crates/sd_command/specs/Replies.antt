@@ -7,8 +7,9 @@ use Rattle.sd_pagetable.specs.declared.access_error.AccessError.{AccessError}
 use Rattle.sd_pagetable.specs.declared.access_error.AccessError.TheVariants.{Refused, Segv}
 use Rattle.sd_pagetable.specs.declared.memory_refusal.MemoryRefusal.{MemoryRefusal}
 use Rattle.sd_pagetable.specs.declared.memory_refusal.MemoryRefusal.TheVariants as due
-use Rattle.sd_pagetable.specs.Due.{in_space, page_due, access_due, mmap_due, munmap_due, mprotect_due, fork_due}
-use Rattle.sd_pagetable.specs.Due.{exit_due}
+use Rattle.sd_pagetable.specs.RefusalOrder.{in_space, page_refusal, access_refusal, mmap_refusal, munmap_refusal}
+use Rattle.sd_pagetable.specs.RefusalOrder.{mprotect_refusal, fork_refusal}
+use Rattle.sd_pagetable.specs.RefusalOrder.{exit_refusal}
 use Rattle.sd_pagetable.specs.Effects.{after_mmap, after_munmap, after_mprotect, after_fork, after_exit, after_store}
 use Rattle.sd_pagetable.specs.Effects.{IsLeastFree}
 use Rattle.sd_pagetable.specs.Nested.{value_at}
@@ -46,16 +47,16 @@ reply_of (Segv why) = reply.Segv why
 
 -- what a command is denied by the plain memory alone, if anything
 abbrev pub denial_in : PlainMemory → Command → Option AccessError
-denial_in memory (command.Mmap space address bytes prot) = mmap_due memory space address bytes prot
-denial_in memory (command.Munmap space address bytes) = munmap_due memory space address bytes
-denial_in memory (command.Mprotect space address bytes prot) = mprotect_due memory space address bytes prot
-denial_in memory (command.Fork space) = fork_due memory space
-denial_in memory (command.Exit space) = exit_due memory space
-denial_in memory (command.Load space address count) = access_due memory space address count Read
-denial_in memory (command.TryStore space address bytes) = access_due memory space address (length bytes) Write
+denial_in memory (command.Mmap space address bytes prot) = mmap_refusal memory space address bytes prot
+denial_in memory (command.Munmap space address bytes) = munmap_refusal memory space address bytes
+denial_in memory (command.Mprotect space address bytes prot) = mprotect_refusal memory space address bytes prot
+denial_in memory (command.Fork space) = fork_refusal memory space
+denial_in memory (command.Exit space) = exit_refusal memory space
+denial_in memory (command.Load space address count) = access_refusal memory space address count Read
+denial_in memory (command.TryStore space address bytes) = access_refusal memory space address (length bytes) Write
 denial_in memory (command.Fault space address) =
-    in_space memory space (page_due Write (value_at memory space (page_of address)))
-denial_in memory (command.Store space address bytes) = access_due memory space address (length bytes) Write
+    in_space memory space (page_refusal Write (value_at memory space (page_of address)))
+denial_in memory (command.Store space address bytes) = access_refusal memory space address (length bytes) Write
 
 -- The replies to a command that isn't denied. Whether a try needs a fault, and whether a frame is left, is open here.
 abbrev pub Accepts : Command → PlainMemory → Reply → Type 0

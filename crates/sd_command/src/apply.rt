@@ -1,7 +1,7 @@
 //! Commands on a memory.
 ghost use Rattle.std.specs.Prelude.{◌≡◌, false, None, Err, OnErr, IfOk};
 ghost use Rattle.sd_pagetable.specs.Contents.{plain_of};
-ghost use Rattle.sd_pagetable.specs.Due.{Answers, access_due};
+ghost use Rattle.sd_pagetable.specs.RefusalOrder.{Answers, access_refusal};
 ghost use Rattle.sd_pagetable.specs.Tracking.{Step};
 ghost use Rattle.sd_pagetable.specs.declared.access.Access.TheVariants.{Read};
 ghost use Rattle.sd_command.specs.Attempts.{CommandDoes, HasLoadedBytes, denial, done_reply, try_reply};
@@ -124,9 +124,9 @@ fn load(
     address: u64,
     count: u64,
 ) -> Result<Reply, MemoryError>
-    ensures due { Answers (access_due (plain_of memory.now) space address count Read) result }
+    ensures due { Answers (access_refusal (plain_of memory.now) space address count Read) result }
     ensures tested { result ≡ Err MemoryError.OutOfMemory
-        → access_due (plain_of memory.now) space address count Read ≡ None }
+        → access_refusal (plain_of memory.now) space address count Read ≡ None }
     ensures bytes { IfOk result (HasLoadedBytes memory.now space address count) }
 {
     let mut buffer = [0; TOO_MANY];

@@ -29,7 +29,7 @@ pub enum Refusal {
     NotOpen,
     /// Something else runs.
     Busy,
-    /// Too few free slots: a checkpoint of R rounds wants R + 2, a merge one.
+    /// Too few free slots: a checkpoint of R rounds needs R + 2, a merge one.
     NoSlot,
     /// A device call failed, and the store wasn't opened again since.
     StoreDown,

@@ -12,14 +12,14 @@ use Rattle.sd_crash_safety.specs.View.{CoreView}
 use Rattle.sd_free_slots.specs.Taken.{FreeSlotsLaw, IsReservedBy}
 use Rattle.sd_core.specs.declared.numbers.Numbers.{Numbers}
 use Rattle.sd_core.specs.Beginning.{AreReserved}
-use Rattle.sd_core.specs.Sound.{IsDoing, MergeRuns, due_serials}
+use Rattle.sd_core.specs.Sound.{IsDoing, MergeRuns, serials_to_come}
 use Rattle.sd_core.proofs.SlotLemmas.{filled_free, free_unreserved, own_free}
 
-pub few_due : (merge : Option merger.Running) → due_serials merge ≤ 1
+pub few_due : (merge : Option merger.Running) → serials_to_come merge ≤ 1
 few_due None = omega arith
 few_due (Some merge) = by merge.doing
   where
-    by : (doing : Doing) → due_serials (Some (record merge { doing = doing })) ≤ 1
+    by : (doing : Doing) → serials_to_come (Some (record merge { doing = doing })) ≤ 1
     by due = omega arith
     by (copying copy) = omega arith
     by (opened serial) = omega arith

@@ -19,7 +19,7 @@ use Rattle.sd_crash_safety.specs.declared.standing.Standing.TheVariants.{Open}
 use Rattle.sd_core.specs.declared.numbers.Numbers.{Numbers}
 use Rattle.sd_core.specs.Images.{begun_as}
 use Rattle.sd_core.specs.Merging.{IsMergedImage}
-use Rattle.sd_core.specs.Sound.{AreOuts, CheckpointRuns, CheckpointsAreCounted, ClosesWithHeader, IsCore, IsDoing, IsImageInMaking, IsOpening, MergeRuns, Parts, begun_images, due_serials}
+use Rattle.sd_core.specs.Sound.{AreOuts, CheckpointRuns, CheckpointsAreCounted, ClosesWithHeader, IsCore, IsDoing, IsImageInMaking, IsOpening, MergeRuns, Parts, begun_images, serials_to_come}
 use Rattle.sd_core.proofs.MergeLemmas.{image_stays}
 use Rattle.sd_core.proofs.OutsLemmas.{DumperOuts, IsOfDumper, dumper_none, dumper_outs, no_write, on_slot, open_outs}
 use Rattle.sd_core.proofs.OwnLemmas.{own_has, spared_of}
@@ -107,7 +107,7 @@ pub record LeavesWork (core : Parts) (places : Places) (numbers : Numbers) (merg
   pub given : core.numbers.given ≤ numbers.given
   pub checkpoint : numbers.checkpoint ≡ core.numbers.checkpoint
   pub above : numbers.given ≤ numbers.serial
-  pub serials : (running : Running) → core.dumper.running ≡ Some running → numbers.serial + due_serials merge ≤ 2 ^ 63 + begun_images running running.image
+  pub serials : (running : Running) → core.dumper.running ≡ Some running → numbers.serial + serials_to_come merge ≤ 2 ^ 63 + begun_images running running.image
   pub held : (running : Running) (image : Making) → core.dumper.running ≡ Some running → running.image ≡ Some image → IsHeld core.places image.order.serial
       → IsHeld places image.order.serial
   pub stay : (serial : ℕ) (o : Opened) → place_of core.places serial ≡ Some (Some o) → HasSlot core.dumper.running o.slot → place_of places serial ≡ Some (Some o)
@@ -175,7 +175,7 @@ core_beside core outs phases places room numbers merge sound stands closed count
       };
   counted = counted;
   rests = sound.rests;
-  swept_is = sound.swept_is;
+  visited_is = sound.visited_is;
   flags_are = sound.flags_are;
   gated = sound.gated;
   work = work_beside core phases places numbers merge sound count l;
@@ -224,7 +224,7 @@ other_above core serial sound above = by core.dumper.running refl
     by running is = grind arith
 
 -- nothing of the checkpoint changes, nor what the merge takes of serials
-pub leaves_same : (core : Parts) (numbers : Numbers) (merge next : merger.Running) → IsCore core → core.merger ≡ Some merge → due_serials (Some next) ≤ due_serials (Some merge)
+pub leaves_same : (core : Parts) (numbers : Numbers) (merge next : merger.Running) → IsCore core → core.merger ≡ Some merge → serials_to_come (Some next) ≤ serials_to_come (Some merge)
     → SameNumbers core.numbers numbers → LeavesWork core core.places numbers (Some next)
 leaves_same core numbers merge next sound is fewer same = grind arith
 

@@ -94,7 +94,7 @@ fallen_core core journal stands phases outs dumper merge room place sound closed
   numbers_are = subst (λ all. AreSoundNumbers core.base all core.frozen core.newest core.numbers) (sym items) sound.numbers_are;
   counted = sound.counted;
   rests = λ resting open_. absurd (let no : Down ≡ Open = sym is_down ∙ open_ in cc);
-  swept_is = sound.swept_is;
+  visited_is = sound.visited_is;
   flags_are = subst (λ all. AreFlags core.base all core.swept core.grows core.committing) (sym items) sound.flags_are;
   gated = subst (λ r. IfSome r (IsGated core.swept)) (sym idle) tt;
   work = subst (λ r. IfSome r (CheckpointRuns core.base journal.items core.frozen stands phases core.places merge core.opener core.numbers)) (sym idle) tt;

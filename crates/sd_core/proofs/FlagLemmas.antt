@@ -19,11 +19,11 @@ use Rattle.sd_journal.specs.Trimming.{Ends, IsEnded, IsFolded, MarkedTrimLaws, T
 use Rattle.sd_rounds.specs.declared.image_order.ImageOrder.{ImageOrder}
 use Rattle.sd_rounds.specs.declared.stage.Stage.{Stage}
 use Rattle.sd_rounds.specs.Dumper.{Running, is_last}
-use Rattle.sd_rounds.specs.Making.{IsReadyFor, IsWritten, Making, PlanGoesOn, plan_of, stage_after, stage_behind, with_plan}
+use Rattle.sd_rounds.specs.Making.{IsReadyFor, IsWritten, Making, PlanGoesOn, plan_of, stage_after, stage_when_done, with_plan}
 use Rattle.sd_rounds.specs.Pass.{Pass}
 use Rattle.sd_rounds.specs.Sound.{IsSoundImage}
 use Rattle.sd_crash_safety.specs.DumperSteps.{opens_gate}
-use Rattle.sd_core.specs.Grown.{AreFlags, HasNoOpen, IsGated, IsGatedImage, IsGatedStage, has_grown, has_swept}
+use Rattle.sd_core.specs.Grown.{AreFlags, HasNoOpen, IsGated, IsGatedImage, IsGatedStage, has_grown, has_visited_all}
 
 -- ---- by the journal
 
@@ -49,17 +49,17 @@ pub same_flags : (base : Base) (items now : Marked) (swept grows committing : Bo
 same_flags base items now swept grows committing same was = subst (λ all. AreFlags base all swept grows committing) (sym same) was
 
 -- nothing was committed
-pub set_flags : (base : Base) (items : Marked) (swept grows committing : Bool) → grows ≡ has_grown base (entries_of items) → committing ≡ false → swept ≡ has_swept items
+pub set_flags : (base : Base) (items : Marked) (swept grows committing : Bool) → grows ≡ has_grown base (entries_of items) → committing ≡ false → swept ≡ has_visited_all items
     → AreFlags base items swept grows committing
-set_flags base items swept grows committing grown none by = record { grown = grown; swept_by = by; sure = λ is. no_true (sym none ∙ is) }
+set_flags base items swept grows committing grown none by = record { grown = grown; visited_by = by; sure = λ is. no_true (sym none ∙ is) }
 
--- whether the pending checkpoint was swept stays so over a trim
-ends_unswept : (n : ℕ) (entry : Entry) (earlier : Marked) → Ends n (entries_of earlier) entry → has_swept (Told entry ∷ earlier) ≡ false
+-- whether the pending checkpoint had visited all pages stays so over a trim
+ends_unswept : (n : ℕ) (entry : Entry) (earlier : Marked) → Ends n (entries_of earlier) entry → has_visited_all (Told entry ∷ earlier) ≡ false
 ends_unswept n entry earlier is = grind arith
 
-pub swept_trims : TrimLaws → MarkedTrimLaws → (kept front : Marked) (n : ℕ) → IsFolded n front → has_swept (kept ++ front) ≡ has_swept kept
+pub swept_trims : TrimLaws → MarkedTrimLaws → (kept front : Marked) (n : ℕ) → IsFolded n front → has_visited_all (kept ++ front) ≡ has_visited_all kept
 swept_trims laws marked [] front n f =
-    ap has_swept f.newest.2 ∙ ends_unswept n f.newest.0 f.newest.1 (subst (λ all. IsEnded n (entries_of all)) f.newest.2 f.ended)
+    ap has_visited_all f.newest.2 ∙ ends_unswept n f.newest.0 f.newest.1 (subst (λ all. IsEnded n (entries_of all)) f.newest.2 f.ended)
 swept_trims laws marked (Told (Applied seat command reply) ∷ kept) front n f = swept_trims laws marked kept front n f
 swept_trims laws marked (Told (Freeze m) ∷ kept) front n f = refl
 swept_trims laws marked (Told (Acked m) ∷ kept) front n f = refl
@@ -70,7 +70,7 @@ swept_trims laws marked (Noted (Visit serial space page) ∷ kept) front n f = s
 swept_trims laws marked (Noted (Table serial) ∷ kept) front n f =
     ap (λ all. is_some (pending all)) (marked.entries kept front) ∙ ap is_some (sym (laws.pending_stays (entries_of kept) (entries_of front) n f.ended))
 
--- after the table of the pending checkpoint's dump it is swept
+-- after the table of the pending checkpoint's dump it has visited all pages
 pub table_swept_by : (swept last : Bool) (frozen : Option ℕ) → (swept ≡ true → IsSome frozen) → is_some frozen ≡ last → (swept || last) ≡ is_some frozen
 table_swept_by swept last frozen some is = grind arith
 
@@ -102,7 +102,7 @@ pub sure_asked : (committing last opens swept : Bool) → (committing ≡ true �
 sure_asked committing last opens swept sure new is = grind arith
 
 -- an outcome comes, and the plan goes on or the next stage begins
-gated_behind : (last swept : Bool) (kind : Kind) (stage : Stage) → IsGatedStage last swept (stage_behind kind stage)
+gated_behind : (last swept : Bool) (kind : Kind) (stage : Stage) → IsGatedStage last swept (stage_when_done kind stage)
 gated_behind last swept kind stage = grind arith
 
 calls_kept : (calls : Calls) (answer : Answer) (buffer : Option (List ℕ)) → HasNoOpen calls → HasNoOpen (calls_then calls nothing answer buffer).0

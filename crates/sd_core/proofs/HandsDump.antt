@@ -19,7 +19,7 @@ use Rattle.sd_journal.specs.declared.entry.Entry.TheVariants.{Acked}
 use Rattle.sd_journal.specs.History.{last, pending, unless_it_is}
 use Rattle.sd_journal.specs.Kept.{JournalView}
 use Rattle.sd_journal.specs.Marked.{IsTracked, Told, entries_of}
-use Rattle.sd_journal.specs.TrackedLaws.{DueLaws, TrackedLaws, before_freeze}
+use Rattle.sd_journal.specs.TrackedLaws.{MustDumpLaws, TrackedLaws, before_freeze}
 use Rattle.sd_merge.specs.Merger as merger
 use Rattle.sd_pagetable.specs.Contents.{IsSound}
 use Rattle.sd_pagetable.specs.Law.{PlainLaw}
@@ -38,11 +38,11 @@ use Rattle.sd_crash_safety.specs.Merges.{IsOtherImage, IsSpared, MakesOther}
 use Rattle.sd_crash_safety.specs.View.{CoreView, page_lane}
 use Rattle.sd_crash_safety.specs.declared.standing.Standing.TheVariants.{Open}
 use Rattle.sd_core.specs.Following.{FollowsOutcome}
-use Rattle.sd_core.specs.Grown.{IsGated, has_grown, has_swept}
+use Rattle.sd_core.specs.Grown.{IsGated, has_grown, has_visited_all}
 use Rattle.sd_core.specs.Images.{HasImage, HasPreDumps, IsAcked, begun_as}
-use Rattle.sd_core.specs.LittleWork.{HasLittle, IsLittleDump, IsLittlePreDump, OpensPreDump, TakesLittle, visits_of, way_due}
+use Rattle.sd_core.specs.LittleWork.{HasLittle, IsLittleDump, IsLittlePreDump, OpensPreDump, TakesLittle, visits_of, right_way}
 use Rattle.sd_core.specs.Rounds.{OpensItsGate, SameRound}
-use Rattle.sd_core.specs.Sound.{AreOuts, AreSoundNumbers, CheckpointRuns, CheckpointsAreCounted, HasWrites, IsCore, IsHeaderOf, IsImageInMaking, IsOpening, IsStageOfImage, MergeRuns, Parts, begun_images, due_serials, held_for}
+use Rattle.sd_core.specs.Sound.{AreOuts, AreSoundNumbers, CheckpointRuns, CheckpointsAreCounted, HasWrites, IsCore, IsHeaderOf, IsImageInMaking, IsOpening, IsStageOfImage, MergeRuns, Parts, begun_images, serials_to_come, held_for}
 use Rattle.sd_core.specs.Visited.{is_closing}
 use Rattle.sd_core.proofs.CoreParts.{seen_of}
 use Rattle.sd_core.proofs.EnteredLemmas.{entered_held, entered_image, left_image}
@@ -142,7 +142,7 @@ module _ {core : Parts} {seen : CoreView} {lane : ℕ} {made : Made} {phases : L
     phases = now_phases ∙ h.follows.phases;
   })
 
-  -- as the calls of a core tell it
+  -- as the calls of a core say it
   pub handed_as : (new : Parts) (at : ℕ) (answer : Reply) → lane ≡ at → IsDumpersOutcome (seen_of core) at made h.follows.phase (seen_of new)
       → ((asked : List (Option Asked)) (bodies files : List (List ℕ)) → slice_get asked at ≡ Some (Some made.request) → Believes (seen_of core) asked bodies files
       → Believes (seen_of new) (slice_set asked at None) (bodies_after bodies made.request.id made.request.bytes) files)
@@ -208,7 +208,7 @@ module _ {core : Parts} {seen : CoreView} {lane : ℕ} {made : Made} {phases : L
         held = refl;
         journal_is = g.hands.sound.journal_is;
         numbers_are = g.hands.sound.numbers_are;
-        swept_is = g.hands.sound.swept_is;
+        visited_is = g.hands.sound.visited_is;
         flags_are = g.hands.sound.flags_are;
         gated = gated_more (is_last g.running) core.swept g.image g.next made (good g.hands) g.goes
             (gated_of core.swept core.dumper.running g.running g.image g.hands.sound.gated g.hands.was g.hands.making);
@@ -409,7 +409,7 @@ module _ {core : Parts} {seen : CoreView} {lane : ℕ} {made : Made} {phases : L
         (dumper_outs phases now (within (slot_of now) (record { place = o.running.opened + 1; from = omega arith; is = refl })) tt tt tt) (merger_stays o.hands)
         (λ other one is at same. elim is [ inl plan ↦ (let no : None ≡ Some other = plan in cc) | inr page ↦ no_write page.0 other page.1 ]));
     numbers_are = o.hands.sound.numbers_are;
-    swept_is = o.hands.sound.swept_is;
+    visited_is = o.hands.sound.visited_is;
     flags_are = o.hands.sound.flags_are;
     gated = tt;
     counted = counted o;
@@ -421,7 +421,7 @@ module _ {core : Parts} {seen : CoreView} {lane : ℕ} {made : Made} {phases : L
       some = w.some;
       number = w.number;
       few = w.few;
-      serials = subst (λ i. core.numbers.serial + due_serials core.merger ≤ 2 ^ 63 + begun_images o.running i) o.hands.making w.serials;
+      serials = subst (λ i. core.numbers.serial + serials_to_come core.merger ≤ 2 ^ 63 + begun_images o.running i) o.hands.making w.serials;
       within = λ slot reserved. within slot (record { place = reserved.place; from = (let from = reserved.from in omega (arith, from)); is = reserved.is });
       apart = w.apart;
       pre_dumps = pre_dump_entered o.running core.places places (image_of opened) (has o) o.last_is (stay o) w.pre_dumps;
@@ -505,8 +505,8 @@ module _ {core : Parts} {seen : CoreView} {lane : ℕ} {made : Made} {phases : L
       checkpoints = numbers.checkpoints;
       serials = numbers.serials;
     });
-    swept_is = not_swept false None core.memory refl;
-    flags_are = set_flags core.base journal.items false true false (ap (λ all. has_grown core.base (entries_of all)) (sym items)) refl (ap has_swept (sym items));
+    visited_is = not_swept false None core.memory refl;
+    flags_are = set_flags core.base journal.items false true false (ap (λ all. has_grown core.base (entries_of all)) (sym items)) refl (ap has_visited_all (sym items));
     gated = subst (λ r. IfSome r (IsGated false)) (sym o.is) tt;
     counted = counted o;
     rests = λ none open_. refl;
@@ -569,8 +569,8 @@ module _ {core : Parts} {seen : CoreView} {lane : ℕ} {made : Made} {phases : L
     counted = counted;
   }
 
-  -- it has exactly the pages that are due
-  pub dump_little : LittleLaws → PlainLaw → DueLaws → (journal : JournalView) (n : ℕ) → core.numbers.begun ≡ n
+  -- it has exactly the pages that must be dumped
+  pub dump_little : LittleLaws → PlainLaw → MustDumpLaws → (journal : JournalView) (n : ℕ) → core.numbers.begun ≡ n
       → IsLittleDump n seen (seen_of (acked_core (handed_core core phases outs places dumper) journal))
   dump_little laws plain due journal n named =
       let d = (little_so o.hands).dump (frozen_so o) in
@@ -584,8 +584,8 @@ module _ {core : Parts} {seen : CoreView} {lane : ℕ} {made : Made} {phases : L
         frozen = d.frozen;
         before = before;
         freeze = freeze_memory seen.base seen.items d.frozen n before;
-        ways = λ kind at. subst (λ (v : CoreView). Contains (pages_of kind opened.table) at ↔ way_due (opened.header.parent == 0) v.base d.frozen at ≡ Some kind) o.hands.seen_is
+        ways = λ kind at. subst (λ (v : CoreView). Contains (pages_of kind opened.table) at ↔ right_way (opened.header.parent == 0) v.base d.frozen at ≡ Some kind) o.hands.seen_is
             (subst (λ way. Contains (pages_of kind opened.table) at ↔ way ≡ Some kind)
-            (due_is_way plain due core.base d.frozen d.cut d.tracked o.image.pass.takes_all at ∙ ap (λ b. way_due b core.base d.frozen at) (whole_is o))
+            (due_is_way plain due core.base d.frozen d.cut d.tracked o.image.pass.takes_all at ∙ ap (λ b. right_way b core.base d.frozen at) (whole_is o))
             (laws.opens d.cut o.image made opened core.memory o.opens (good o.hands).rising d.takes kind at));
       }

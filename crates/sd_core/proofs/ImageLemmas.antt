@@ -23,7 +23,7 @@ use Rattle.sd_core.specs.Sound.{IsImageInMaking, IsStageOfImage, IsVisiting, IsV
 use Rattle.sd_core.specs.Visited.{is_begun}
 use Rattle.sd_rounds.proofs.DumperLemmas.{past_with as frozen_asked}
 use Rattle.sd_rounds.proofs.VisitLemmas.{cursor as visited_after}
-use Rattle.sd_core.proofs.StageLemmas.{IsAskedIn, IsBehind, asked_in, behind, copied_after, visiting_asked}
+use Rattle.sd_core.proofs.StageLemmas.{IsAskedIn, IsAfterPlace, asked_in, behind, copied_after, visiting_asked}
 use Rattle.sd_core.proofs.WorkLemmas.{SameNumbers, same_numbers}
 
 -- the image in another stage, with its request that is out then
@@ -83,7 +83,7 @@ pub image_table : (items : Marked) (places : Places) (old new : Numbers) (image 
     → IsImageInMaking items places old image → WritesTable image memory request next → IsTurned (Noted (Table image.order.serial) ∷ items) places new image next (Some request.id)
 image_table items places old new image next memory request same is writes = grind arith
 
--- a page was visited: the journal's mark tells the cursor
+-- a page was visited: the journal's mark has the cursor
 pub image_visited : (items : Marked) (places : Places) (numbers : Numbers) (image next : Making) (before after : Contents) (visit : PageVisit)
     → IsImageInMaking items places numbers image → Visits image before visit next after
     → IsTurned (Noted (Visit image.order.serial visit.space visit.page) ∷ items) places numbers image next None
@@ -132,7 +132,7 @@ plan_more items places after numbers image next made is held goes = subst (λ m.
   slot = tt;
 })
   where
-    on : IsBehind items image.order image.pass image.stage (stage_after image.order.kind image.stage (plan_after goes.plan made) (plan_after goes.plan made).calls)
+    on : IsAfterPlace items image.order image.pass image.stage (stage_after image.order.kind image.stage (plan_after goes.plan made) (plan_after goes.plan made).calls)
     on = behind items image.order image.pass image.stage goes.plan (plan_after goes.plan made) (plan_after goes.plan made).calls goes.awaited.was refl refl goes.closes
 
 -- a data page was written

@@ -1,4 +1,4 @@
--- A journal tells its memory, what is pending and what is last.
+-- A journal gives its memory, what is pending and what is last.
 use Rattle.std.proofs.Common.{◌≡◌, ◌≢◌, ◌⊎◌, ℕ, ◌<◌, ◌≤◌, Bool, true, false, if◌then◌else◌, ◌∷◌, Option, Some, None, IfSome, IsSome, is_some, refl, sym, ◌∙◌, ap, subst, inl, inr, arith}
 use Rattle.sd_command.specs.declared.command.Command.{Command}
 use Rattle.sd_command.specs.declared.reply.Reply.{Reply}
@@ -13,7 +13,7 @@ use Rattle.sd_pagetable.specs.Law.{PlainLaw}
 use Rattle.sd_core.specs.Answering.{IsAnswered}
 use Rattle.sd_core.specs.declared.numbers.Numbers.{Numbers}
 use Rattle.sd_core.specs.Sound.{AreSoundNumbers, IsJournal}
-use Rattle.sd_core.specs.Visited.{HasSettled, HasSwept}
+use Rattle.sd_core.specs.Visited.{HasSettled, HasVisitedAll}
 use Rattle.sd_core.proofs.ApplyLemmas.{tracked_on}
 use Rattle.sd_core.proofs.SettledLemmas.{settled_more, settled_now}
 
@@ -44,7 +44,7 @@ expected_may frozen newest found swept given = grind arith
 -- the store was opened again
 pub reopened_journal : TrackedLaws → PlainLaw → (base : Base) (old new : JournalView) (memory : Contents) (frozen newest found : Option ℕ) (swept : Bool)
     → new.items ≡ Told (Reopened found) ∷ old.items → new.first ≡ old.first → new.limit ≡ old.limit
-    → (found ≡ newest) ⊎ ((frozen ≢ None) × (found ≡ frozen) × (swept ≡ true)) → IsSound memory → HasSwept swept frozen memory
+    → (found ≡ newest) ⊎ ((frozen ≢ None) × (found ≡ frozen) × (swept ≡ true)) → IsSound memory → HasVisitedAll swept frozen memory
     → IsJournal base old memory frozen newest → IsJournal base new memory None found × MayFollow base (entries_of old.items) (Reopened found)
 reopened_journal laws law base old new memory frozen newest found swept items first limit expected sound was_swept was = (
   record {

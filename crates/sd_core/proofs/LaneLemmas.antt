@@ -68,7 +68,7 @@ out_is stage plan was = grind arith
 
 -- ---- what is out then
 
--- ---- as the calls of a core tell it
+-- ---- as the calls of a core say it
 
 pub handed_at : (old new : CoreView) (lane k : ℕ) (made : Made) (answer : Reply) → lane ≡ k → HandedIn old k made answer new → HandedIn old lane made answer new
 handed_at old new lane k made answer same h = subst (λ n. HandedIn old n made answer new) (sym same) h

@@ -17,8 +17,8 @@ use Rattle.sd_command.specs.declared.reply.Reply.{Reply}
 use Rattle.sd_journal.specs.declared.entry.Entry.TheVariants.{Acked, Applied, Cancelled, Freeze, Reopened}
 use Rattle.sd_journal.specs.declared.mark.Mark.TheVariants.{Start, Table, Visit}
 use Rattle.sd_journal.specs.History.{Base, at_freeze, memory_after}
-use Rattle.sd_journal.specs.Marked.{IsTracked, Marked, Noted, Told, entries_of, is_due, is_of, memory_at}
-use Rattle.sd_journal.specs.TrackedLaws.{DueLaws, before_freeze}
+use Rattle.sd_journal.specs.Marked.{IsTracked, Marked, Noted, Told, entries_of, must_dump, is_of, memory_at}
+use Rattle.sd_journal.specs.TrackedLaws.{MustDumpLaws, before_freeze}
 use Rattle.sd_pagetable.specs.Contents.{Contents, page_at}
 use Rattle.sd_pagetable.specs.Law.{PlainLaw}
 use Rattle.sd_pagetable.specs.Nested.{value_at}
@@ -29,14 +29,14 @@ use Rattle.sd_rounds.specs.declared.image_step.ImageStep.TheVariants.{Call, Page
 use Rattle.sd_rounds.specs.declared.stage.Stage.{Stage}
 use Rattle.sd_rounds.specs.declared.stage.Stage.TheVariants.{Format, Freeze as FreezeStage, Pass as PassStage}
 use Rattle.sd_rounds.specs.declared.visit.Visit.{Visit as PageVisit}
-use Rattle.sd_rounds.specs.Dump.{kind_due, kind_of_bytes}
+use Rattle.sd_rounds.specs.Dump.{right_kind, kind_of_bytes}
 use Rattle.sd_rounds.specs.Dumper.{Running, is_frozen_image}
 use Rattle.sd_rounds.specs.ImageVisits.{visits_after}
-use Rattle.sd_rounds.specs.LittleWork.{IsTaking, LittleLaws, TakesDue, TakesDueIn, TakesVisited}
-use Rattle.sd_rounds.specs.Making.{IsWritten, Making, PlanGoesOn, Steps, Visits, begun_image, is_frozen_dump, is_past_freeze, stage_after, stage_behind, with_plan}
+use Rattle.sd_rounds.specs.LittleWork.{IsTaking, LittleLaws, TakesAsItMust, TakesAsItMustIn, TakesVisited}
+use Rattle.sd_rounds.specs.Making.{IsWritten, Making, PlanGoesOn, Steps, Visits, begun_image, is_frozen_dump, is_past_freeze, stage_after, stage_when_done, with_plan}
 use Rattle.sd_rounds.specs.Pass.{Place}
 use Rattle.sd_rounds.specs.Rises.{IsRising}
-use Rattle.sd_core.specs.LittleWork.{HasLittle, IsFrozenFor, TakesLittle, visits_of, way_due}
+use Rattle.sd_core.specs.LittleWork.{HasLittle, IsFrozenFor, TakesLittle, visits_of, right_way}
 use Rattle.sd_core.specs.Answering.{IsAnswered}
 use Rattle.sd_core.specs.Sound.{IsCore, Parts}
 use Rattle.sd_core.specs.Visited.{IsClean, is_closing}
@@ -51,12 +51,12 @@ no_visits base (Told entry ∷ items) serial none = no_visits base items serial 
 no_visits base (Noted (Start s) ∷ items) serial none = no_visits base items serial (or_parts (s == serial) (list_any (is_of serial) items) none).1
 no_visits base (Noted (Visit s space page) ∷ items) serial none =
     let both = or_parts (s == serial) (list_any (is_of serial) items) none in
-    ap (λ b. if b then visits_of base items serial ++ (record { place = (space, page); soft_dirty = is_due base items space page }) ∷ [] else visits_of base items serial) both.0
+    ap (λ b. if b then visits_of base items serial ++ (record { place = (space, page); soft_dirty = must_dump base items space page }) ∷ [] else visits_of base items serial) both.0
     ∙ no_visits base items serial both.1
 no_visits base (Noted (Table s) ∷ items) serial none = no_visits base items serial (or_parts (s == serial) (list_any (is_of serial) items) none).1
 
--- a visit finds whether the page is due
-pub visit_more : DueLaws → (base : Base) (items : Marked) (before after : Contents) (image next : Making) (visit : PageVisit) (serial : ℕ) → IsTracked base items before
+-- a visit finds whether the page must be dumped
+pub visit_more : MustDumpLaws → (base : Base) (items : Marked) (before after : Contents) (image next : Making) (visit : PageVisit) (serial : ℕ) → IsTracked base items before
     → Visits image before visit next after
     → visits_of base (Noted (Visit serial visit.space visit.page) ∷ items) serial ≡ visits_after (Visited visit) (visits_of base items serial)
 visit_more laws base items before after image next visit serial tracked v = grind arith
@@ -82,7 +82,7 @@ closed_step base items number ticket image next before after (Call request) s du
     subst IsClean (sym s.2) (was (sym (ap (λ (m : Making). is_closing m.stage) s.0.is ∙ same_closing image.stage s.0.next) ∙ closing))
 closed_step base items number ticket image next before after (PageCall lane request) s dump was closing = not_closing next.stage s.0.still closing
 closed_step base items number ticket image next before after (TableCall request) s dump was closing = subst IsClean (sym s.2) (λ space number page there.
-    let taking : IsTaking dump.cut image.pass before = subst (λ stage. TakesDueIn stage dump.cut image.pass before) s.0.stage dump.takes in
+    let taking : IsTaking dump.cut image.pass before = subst (λ stage. TakesAsItMustIn stage dump.cut image.pass before) s.0.stage dump.takes in
     taking.dumping.behind (space, number) page (ap not (s.0.over space number (subst IsSome (sym there) refl))) there)
 closed_step base items number ticket image next before after Frozen s dump was closing = not_closing next.stage (ap (λ (m : Making). m.stage) s.0.is) closing
 closed_step base items number ticket image next before after (Visited visit) s dump was closing = not_closing next.stage (ap (λ (m : Making). m.stage) s.passes.1 ∙ s.passes.0) closing
@@ -144,7 +144,7 @@ begun_little laws base items before after number ticket order next request s fre
     same : next.order ≡ order
     same = same_order ticket (begun_image order) next before after (Call request) s
 
-behind_closing : {P : Type 0} (kind : Kind) (stage : Stage) → is_closing (stage_behind kind stage) ≡ true → P
+behind_closing : {P : Type 0} (kind : Kind) (stage : Stage) → is_closing (stage_when_done kind stage) ≡ true → P
 behind_closing Dump (Format plan) closing = absurd (let no : false ≡ true = closing in cc)
 behind_closing PreDump (Format plan) closing = absurd (let no : false ≡ true = closing in cc)
 behind_closing Merged (Format plan) closing = absurd (let no : false ≡ true = closing in cc)
@@ -186,7 +186,7 @@ applied_image base items old new number image seat command reply same was = reco
   round = λ kind. was.round kind;
   dump = λ is.
       let d = was.dump is in
-      record { frozen = d.frozen; before = d.before; cut = d.cut; tracked = d.tracked; takes = subst (λ m. TakesDue d.cut image m) (sym (same is)) d.takes };
+      record { frozen = d.frozen; before = d.before; cut = d.cut; tracked = d.tracked; takes = subst (λ m. TakesAsItMust d.cut image m) (sym (same is)) d.takes };
   closed = λ is closing. subst IsClean (sym (same is)) (was.closed is closing);
 }
 
@@ -214,16 +214,16 @@ still_while_frozen core new command reply sound answered running making was is f
 
 -- ---- the image that is open
 
--- the way in which a page is due at the freeze, by the marked journal
-pub due_is_way : PlainLaw → DueLaws → (base : Base) (frozen : Marked) (cut : Contents) → IsTracked base frozen cut → (whole : Bool) (at : Place)
-    → kind_due whole (page_at cut at.0 at.1) ≡ way_due whole base frozen at
+-- the way in which a page must be dumped at the freeze, by the marked journal
+pub due_is_way : PlainLaw → MustDumpLaws → (base : Base) (frozen : Marked) (cut : Contents) → IsTracked base frozen cut → (whole : Bool) (at : Place)
+    → right_kind whole (page_at cut at.0 at.1) ≡ right_way whole base frozen at
 due_is_way law dues base frozen cut tracked whole at =
     by (page_at cut at.0 at.1) refl
-    ∙ ap (option_map (λ (page : plain.Page). if whole || is_due base frozen at.0 at.1 then kind_of_bytes page.bytes else Parent))
+    ∙ ap (option_map (λ (page : plain.Page). if whole || must_dump base frozen at.0 at.1 then kind_of_bytes page.bytes else Parent))
     (sym (law.pages cut at.0 at.1) ∙ ap (λ m. value_at m at.0 at.1) tracked.memory)
   where
     by : (o : Option PageState) → page_at cut at.0 at.1 ≡ o
-        → kind_due whole o ≡ option_map (λ (page : plain.Page). if whole || is_due base frozen at.0 at.1 then kind_of_bytes page.bytes else Parent) (option_map plain_page o)
+        → right_kind whole o ≡ option_map (λ (page : plain.Page). if whole || must_dump base frozen at.0 at.1 then kind_of_bytes page.bytes else Parent) (option_map plain_page o)
     by None there = refl
     by (Some page) there = ap (λ b. Some (if whole || b then kind_of_bytes page.bytes else Parent)) (dues.bit base frozen cut at.0 at.1 page tracked there)
 

@@ -32,7 +32,7 @@ pub record MayMerge (core : CoreView) : Type 0 where
 pub may_merge : (core : CoreView) → merge_refusal core ≡ None → MayMerge core
 may_merge core is = grind arith
 
--- ---- what stands in the merged image's slot isn't called for
+-- ---- what stands in the merged image's slot isn't referenced
 
 pub free_uncalled : FreeSlotsLaw → (core : CoreView) (slots : List ℕ) (slot : ℕ) → FreeSlots core slots → IsFreeAt slots slot → IsSoundCatalog core.catalog → ParentsFall core.catalog
     → IsUncalled core.catalog core.dumper.running slot

@@ -11,14 +11,14 @@ use Rattle.sd_crash_safety.specs.declared.standing.Standing.TheVariants.{Open}
 use Rattle.sd_crash_safety.specs.Merges.{IsSpared, MakesOther}
 use Rattle.sd_core.specs.declared.numbers.Numbers.{Numbers}
 use Rattle.sd_core.specs.Merging.{IsMergedImage}
-use Rattle.sd_core.specs.Sound.{IsCore, IsDoing, MergeRuns, Parts, due_serials_in}
+use Rattle.sd_core.specs.Sound.{IsCore, IsDoing, MergeRuns, Parts, serials_to_come_in}
 
 -- what the dumper, and what else goes on, leaves of a merge
 pub record MergeStays (core : Parts) (phases : List Phase) (places : Places) (numbers : Numbers) (running : Option Running) : Type 0 where
   pub count : length phases ≡ length core.phases
   pub given : core.numbers.given ≤ numbers.given
   pub checkpoint : core.numbers.checkpoint ≤ numbers.checkpoint
-  pub serials : (merge : merger.Running) → core.merger ≡ Some merge → due_serials_in merge.doing ≡ 1 → core.numbers.serial < 2 ^ 63 + 9 → numbers.serial < 2 ^ 63 + 9
+  pub serials : (merge : merger.Running) → core.merger ≡ Some merge → serials_to_come_in merge.doing ≡ 1 → core.numbers.serial < 2 ^ 63 + 9 → numbers.serial < 2 ^ 63 + 9
   pub has : (slot : ℕ) → HasSlot running slot → HasSlot core.dumper.running slot
   pub fills : (slot : ℕ) → IsSpared core.dumper.running slot → IsSpared running slot
   pub other : (serial : ℕ) → serial ≤ core.numbers.given → MakesOther core.dumper.running serial → MakesOther running serial
@@ -34,7 +34,7 @@ module _ {core : Parts} {phases : List Phase} {places : Places} {numbers : Numbe
     (merge : merger.Running) (was : core.merger ≡ Some merge) where
   doing_stays : (doing : Doing) → merge.doing ≡ doing → (HasSlot core.dumper.running merge.slot → ⊥) → IsDoing core.phases core.places core.numbers core.room core.dumper.running merge doing
       → IsDoing phases places numbers core.room running merge doing
-  doing_stays due is spared d = (s.serials merge was (ap due_serials_in is) d.0, d.1 ∙ sym s.count)
+  doing_stays due is spared d = (s.serials merge was (ap serials_to_come_in is) d.0, d.1 ∙ sym s.count)
   doing_stays (copying copy) is spared d =
       let given = d.0.given in
       let more = s.given in (

@@ -19,7 +19,7 @@ use Rattle.sd_crash_safety.specs.Merges.{IsSpared}
 use Rattle.sd_crash_safety.specs.View.{CoreView}
 use Rattle.sd_core.specs.declared.numbers.Numbers.{Numbers}
 use Rattle.sd_core.specs.Merging.{IsStepOf, MayRead, StepsAt}
-use Rattle.sd_core.specs.Sound.{ClosesWithHeader, IsCore, IsDoing, MergeRuns, Parts, due_serials}
+use Rattle.sd_core.specs.Sound.{ClosesWithHeader, IsCore, IsDoing, MergeRuns, Parts, serials_to_come}
 use Rattle.sd_core.proofs.BesideLemmas.{copy_goes_on, core_asks, free_asked, leaves_same, merger_works, retiring_goes_on}
 use Rattle.sd_core.proofs.CoreParts.{seen_of}
 use Rattle.sd_core.proofs.MergerSteps.{AsksOwn, asks_header, asks_own, tables_header, tables_own, writes_header, writes_own}
@@ -36,7 +36,7 @@ pub record AsksBeside (core : Parts) (numbers : Numbers) (merge : merger.Running
   pub worker : request.id.worker ≡ its.Merger
   pub within : request.id.slot < length core.phases
   pub spared : IsSpared core.dumper.running request.id.slot
-  pub fewer : due_serials (Some (record merge { doing = doing })) ≤ due_serials (Some merge)
+  pub fewer : serials_to_come (Some (record merge { doing = doing })) ≤ serials_to_come (Some merge)
   pub merging : MergeRuns core.standing core.phases core.places core.opener numbers core.room core.dumper.running (record merge { doing = doing })
 
 -- ---- on the slot of the merged image
@@ -81,7 +81,7 @@ asks_on_listed core numbers merge r ticket request doing sound is was same retir
       worker = ap (λ (a : Asked). a.id.worker) (sym own) ∙ goes.asked.worker;
       within = subst (λ s. s < length core.phases) (sym at) e.within;
       spared = spared_of core.dumper.running request.id.slot (λ has. e.spared (subst (HasSlot core.dumper.running) at has));
-      fewer = subst (λ k. due_serials (Some (record merge { doing = k })) ≤ due_serials (Some merge)) (sym goes.is) (omega arith);
+      fewer = subst (λ k. serials_to_come (Some (record merge { doing = k })) ≤ serials_to_come (Some merge)) (sym goes.is) (omega arith);
       merging = subst (λ k. MergeRuns core.standing core.phases core.places core.opener numbers core.room core.dumper.running (record merge { doing = k })) (sym goes.is)
           (retiring_goes_on core core.phases core.places numbers merge r (record r { plan = goes.next }) sound is was (refl, refl) refl same (λ o there at. there)
           (λ id id_out. (r.ended, one, there, ap (λ (i : RequestId). i.slot) (sym (same_Some request.id id (sym out ∙ id_out))) ∙ at)));

@@ -27,7 +27,7 @@ use Rattle.sd_crash_safety.specs.MergerSteps.{OnlyMerges}
 use Rattle.sd_crash_safety.specs.Merges.{IsSpared}
 use Rattle.sd_crash_safety.specs.View.{CoreView}
 use Rattle.sd_core.specs.Following.{FollowsOutcome}
-use Rattle.sd_core.specs.Sound.{ClosesWithHeader, IsCore, IsDoing, MergeRuns, Parts, due_serials}
+use Rattle.sd_core.specs.Sound.{ClosesWithHeader, IsCore, IsDoing, MergeRuns, Parts, serials_to_come}
 use Rattle.sd_core.proofs.BesideLemmas.{LeavesWork, copy_goes_on, core_beside, free_spared, jobs_out, merger_works, retiring_goes_on}
 use Rattle.sd_core.proofs.CoreParts.{seen_of}
 use Rattle.sd_core.proofs.EnteredLemmas.{left_image}
@@ -105,7 +105,7 @@ module _ {core : Parts} {seen : CoreView} {made : Made} {phases : List Phase} {o
     makes = makes_in core.dumper.since_freeze core.dumper.running h.makes;
   }
 
-  -- as the calls of a core tell it
+  -- as the calls of a core say it
   pub merge_handed : (new : Parts) (answer : Reply) → IsMergersOutcome (seen_of core) made h.follows.phase (seen_of new) → new.base ≡ core.base → OutcomeIsBelieved (seen_of core) (seen_of new) made
       → AddsByOutcome made.request.id.worker answer (entries_of core.journal.items) (entries_of new.journal.items) → HandedIn seen 1 made answer (seen_of new)
   merge_handed new answer o base goes adds = subst (λ old. HandedIn old 1 made answer (seen_of new)) h.seen_is
@@ -150,19 +150,19 @@ pub record LeavesMerge (core : Parts) (seen : CoreView) (made : Made) (phases : 
 pub record RestsBeside (core : Parts) (phases : List Phase) (places : Places) (merge : merger.Running)
     (now : Option merger.Running) : Type 0 where
   pub rests : merger.out_of_merge now ≡ None
-  pub fewer : due_serials now ≤ due_serials (Some merge)
+  pub fewer : serials_to_come now ≤ serials_to_come (Some merge)
   pub merging : IfSome now (MergeRuns core.standing phases places core.opener core.numbers core.room core.dumper.running)
 
 module _ {core : Parts} {seen : CoreView} {made : Made} {phases : List Phase} {outs : List (Option RequestId)}
     {places : Places} {now : Option merger.Running} (l : LeavesMerge core seen made phases outs places now) where
   -- the images of the checkpoint stay
-  leaves_work : due_serials now ≤ due_serials (Some l.merge) → LeavesWork core places core.numbers now
+  leaves_work : serials_to_come now ≤ serials_to_come (Some l.merge) → LeavesWork core places core.numbers now
   leaves_work fewer = record {
     begun = refl;
     given = omega arith;
     checkpoint = refl;
     above = l.hands.sound.numbers_are.serials;
-    serials = λ running runs. (let before = (at_work core running l.hands.sound runs).serials in let due_is = ap due_serials l.hands.was in omega (arith, before, due_is, fewer));
+    serials = λ running runs. (let before = (at_work core running l.hands.sound runs).serials in let due_is = ap serials_to_come l.hands.was in omega (arith, before, due_is, fewer));
     held = λ running image runs making held. left_held l.closed made.request.id.slot core.places places image.order.serial l.leaves held;
     stay = λ serial o there has. by l.closed refl l.leaves serial o there has;
   }

@@ -29,7 +29,7 @@ use Rattle.sd_crash_safety.specs.Merges.{IsOtherImage, MakesOther}
 use Rattle.sd_crash_safety.specs.View.{CoreView}
 use Rattle.sd_free_slots.specs.Taken.{IsLeftOver, IsListOf, NamesParent}
 use Rattle.sd_core.specs.Merging.{FixesList, IsMergedImage, opened_merge, retires_as}
-use Rattle.sd_core.specs.Sound.{CheckpointsAreCounted, ClosesWithHeader, IsCopyOf, IsCore, IsDoing, IsMergedHeader, MergeRuns, Parts, due_serials}
+use Rattle.sd_core.specs.Sound.{CheckpointsAreCounted, ClosesWithHeader, IsCopyOf, IsCore, IsDoing, IsMergedHeader, MergeRuns, Parts, serials_to_come}
 use Rattle.sd_core.proofs.BesideLemmas.{LeavesWork, core_beside}
 use Rattle.sd_core.proofs.EnteredLemmas.{entered_held, entered_image}
 use Rattle.sd_core.proofs.CoreParts.{seen_of}
@@ -148,7 +148,7 @@ module _ {core : Parts} {seen : CoreView} {made : Made} {phases : List Phase} {o
   -- ---- the core
 
   -- the checkpoint beside it
-  opened_work : (next : Option merger.Running) → due_serials next ≡ 0 → LeavesWork core places core.numbers next
+  opened_work : (next : Option merger.Running) → serials_to_come next ≡ 0 → LeavesWork core places core.numbers next
   opened_work next none = record {
     begun = refl;
     given = omega arith;
@@ -208,7 +208,7 @@ module _ {core : Parts} {seen : CoreView} {made : Made} {phases : List Phase} {o
       opened_as : (a b : ℕ) → opened a ≡ opened b → a ≡ b
       opened_as a b e = cc
 
-      with_merge : (next : Option merger.Running) → now ≡ next → due_serials next ≡ 0 → merger.out_of_merge next ≡ None
+      with_merge : (next : Option merger.Running) → now ≡ next → serials_to_come next ≡ 0 → merger.out_of_merge next ≡ None
           → IfSome next (MergeRuns core.standing phases places core.opener core.numbers room core.dumper.running) → IsCore opened_core
       with_merge next is none rests merging = subst (λ k. IsCore (merged_core core phases outs places room k)) (sym is)
           (core_beside core outs phases places room core.numbers next o.hands.sound (work o.hands).stands (work o.hands).closed o.hands.follows.count (opened_work next none) counted

@@ -1,4 +1,4 @@
--- The opener's steps, as the calls of a core tell them.
+-- The opener's steps, as the calls of a core say them.
 use Rattle.std.proofs.Common.{◌≡◌, ℕ, suc, Bool, List, [], ◌∷◌, length, map, Option, Some, None, slice_get, slice_set, refl, sym, ◌∙◌, ap, subst, inl, inr, arith}
 use Rattle.std.proofs.lemmas.Option.{same_Some}
 use Rattle.sd_gate.specs.declared.phase.Phase.{Phase}

@@ -15,7 +15,7 @@ use Rattle.sd_core.specs.declared.numbers.Numbers.{Numbers}
 use Rattle.sd_core.specs.Sound.{CheckpointsAreCounted}
 use Rattle.sd_core.proofs.ApplyLemmas.{same_phases}
 
--- ---- as the calls of a core tell it
+-- ---- as the calls of a core say it
 
 pub handed_dumper : (old new : CoreView) (lane : ℕ) (made : Made) (phase : Phase) (answer : Reply) → IsDumpersOutcome old lane made phase new
     → length new.phases ≡ length old.phases

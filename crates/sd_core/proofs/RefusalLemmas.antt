@@ -10,7 +10,7 @@ use Rattle.sd_crash_safety.specs.declared.standing.Standing.TheVariants as stand
 use Rattle.sd_crash_safety.specs.OpenerSteps.{nobody}
 use Rattle.sd_crash_safety.specs.View.{CoreView, history_of}
 use Rattle.sd_core.specs.Beginning.{free_entries}
-use Rattle.sd_core.specs.Refusals.{are_resting, cancel_refusal, is_in_use, is_page_out, is_store_open, none_at, reopen_refusal, wants_entry}
+use Rattle.sd_core.specs.Refusals.{are_resting, cancel_refusal, is_store_busy, is_page_out, is_store_open, none_at, reopen_refusal, needs_entry}
 use Rattle.sd_core.specs.Sound.{IsCore, Parts}
 use Rattle.sd_core.proofs.BeginLemmas.{first_no, none_some}
 use Rattle.sd_core.proofs.OutsLemmas.{nobody_of}
@@ -53,8 +53,8 @@ pub record MayReopen (core : CoreView) : Type 0 where
 
 pub may_reopen : (core : CoreView) → reopen_refusal core ≡ None → MayReopen core
 may_reopen core is =
-    let one = first_no (is_in_use core) refusal.Busy _ is in
-    let two = first_no (wants_entry core) refusal.JournalFull _ one.1 in
+    let one = first_no (is_store_busy core) refusal.Busy _ is in
+    let two = first_no (needs_entry core) refusal.JournalFull _ one.1 in
     let out = or_parts (is_store_open core.standing || is_some core.opener) (not (are_resting core.outs)) one.0 in
     let open_is = or_parts (is_store_open core.standing) (is_some core.opener) out.0 in
     record {

@@ -21,7 +21,7 @@ use Rattle.sd_rounds.specs.Pass.{Place}
 use Rattle.sd_store_laws.specs.Beliefs.{Belief}
 use Rattle.sd_store_laws.specs.Store.{Store}
 use Rattle.sd_crash_safety.specs.Believes.{Believes}
-use Rattle.sd_crash_safety.specs.InUse.{id_of, ids_of}
+use Rattle.sd_crash_safety.specs.LiveImages.{id_of, ids_of}
 use Rattle.sd_crash_safety.specs.Merges.{IsAskedIn, IsMergeAt, IsMergeOn}
 use Rattle.sd_crash_safety.specs.View.{CoreView}
 use Rattle.sd_core.specs.Rounds.{HasFewOpen, IsNextRound, IsSameRound, OpensImage, SameRound, TurnsRound}

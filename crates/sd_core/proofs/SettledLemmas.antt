@@ -7,14 +7,14 @@ use Rattle.sd_command.specs.declared.command.Command.{Command}
 use Rattle.sd_command.specs.declared.reply.Reply.{Reply}
 use Rattle.sd_journal.specs.declared.entry.Entry.{Entry}
 use Rattle.sd_journal.specs.History.{Base}
-use Rattle.sd_journal.specs.Marked.{Item, IsTracked, Marked, Told, entries_of, events_of, is_due, is_mapped, memory_at}
+use Rattle.sd_journal.specs.Marked.{Item, IsTracked, Marked, Told, entries_of, events_of, must_dump, is_mapped, memory_at}
 use Rattle.sd_journal.specs.Trimming.{Ends, HasVisited, IsEnded}
 use Rattle.sd_pagetable.specs.Contents.{Contents, IsSound, page_at}
 use Rattle.sd_pagetable.specs.Law.{ClearLaw, IsClearedAt, PlainLaw}
 use Rattle.sd_pagetable.specs.Page.{PageState, cleared_page, plain_page}
 use Rattle.sd_pagetable.specs.Tracking.{Cleared, Step, is_page, is_writable}
 use Rattle.sd_core.specs.Answering.{IsAnswered}
-use Rattle.sd_core.specs.Visited.{HasSettled, HasSwept, IsClean}
+use Rattle.sd_core.specs.Visited.{HasSettled, HasVisitedAll, IsClean}
 
 -- ---- the front that ended the last checkpoint
 
@@ -46,7 +46,7 @@ visited_now law base items memory tracked sound clean = record {
     there : (space page : ℕ) → is_mapped (memory_at base items) space page ≡ true → is_some (option_map plain_page (page_at memory space page)) ≡ true
     there space page mapped = ap is_some (sym (law.pages memory space page)) ∙ ap (λ m. is_mapped m space page) tracked.memory ∙ mapped
 
-    due : (space page : ℕ) (o : Option PageState) → page_at memory space page ≡ o → is_some (option_map plain_page o) ≡ true → is_due base items space page ≡ false
+    due : (space page : ℕ) (o : Option PageState) → page_at memory space page ≡ o → is_some (option_map plain_page o) ≡ true → must_dump base items space page ≡ false
     due space page o is some = grind arith
 
     still : (space page : ℕ) (o : Option PageState) → page_at memory space page ≡ o → is_some (option_map plain_page o) ≡ true → is_writable (events_of items) space page ≡ false
@@ -78,7 +78,7 @@ settled_now law base items now memory n entry is ends tracked sound clean = inr 
 -- ---- the pass of the pending checkpoint's dump
 
 -- nothing changed
-pub swept_same : (swept now : Bool) (frozen after : Option ℕ) (memory new : Contents) → now ≡ swept → after ≡ frozen → new ≡ memory → HasSwept swept frozen memory → HasSwept now after new
+pub swept_same : (swept now : Bool) (frozen after : Option ℕ) (memory new : Contents) → now ≡ swept → after ≡ frozen → new ≡ memory → HasVisitedAll swept frozen memory → HasVisitedAll now after new
 swept_same swept now frozen after memory new same pends still was is =
     let had = was (sym same ∙ is) in
     (subst IsSome (sym after_is) had.0, subst IsClean (sym still) had.1)
@@ -87,19 +87,19 @@ swept_same swept now frozen after memory new same pends still was is =
     after_is = pends
 
 -- it isn't over
-pub not_swept : (now : Bool) (frozen : Option ℕ) (memory : Contents) → now ≡ false → HasSwept now frozen memory
+pub not_swept : (now : Bool) (frozen : Option ℕ) (memory : Contents) → now ≡ false → HasVisitedAll now frozen memory
 not_swept now frozen memory none is = no_true (sym none ∙ is)
 
 -- while nothing is pending it isn't over
-pub unswept : (swept : Bool) (frozen : Option ℕ) (memory : Contents) → frozen ≡ None → HasSwept swept frozen memory → swept ≡ false
+pub unswept : (swept : Bool) (frozen : Option ℕ) (memory : Contents) → frozen ≡ None → HasVisitedAll swept frozen memory → swept ≡ false
 unswept swept frozen memory none was = grind arith
 
-pub none_swept : (swept : Bool) (frozen after : Option ℕ) (memory new : Contents) → frozen ≡ None → HasSwept swept frozen memory → HasSwept swept after new
+pub none_swept : (swept : Bool) (frozen after : Option ℕ) (memory new : Contents) → frozen ≡ None → HasVisitedAll swept frozen memory → HasVisitedAll swept after new
 none_swept swept frozen after memory new none was is = no_true (subst IsSome none (was is).0)
 
 -- a command that comes then changes nothing
 pub swept_answered : (swept : Bool) (frozen : Option ℕ) (command : Command) (reply : Reply) (memory new : Contents) → IsAnswered (is_some frozen) command reply memory new
-    → HasSwept swept frozen memory → HasSwept swept frozen new
+    → HasVisitedAll swept frozen memory → HasVisitedAll swept frozen new
 swept_answered swept frozen command reply memory new answered was is = grind arith
 
 same_space : (s p space page : ℕ) → is_page s p space page ≡ true → s ≡ space

@@ -1,4 +1,4 @@
--- The checkpoint that a catalog's tip tells is the one that its contents show.
+-- The checkpoint that a catalog's tip says is the one that its contents show.
 use Rattle.std.proofs.Common.{◌≡◌, ℕ, List, Option, Some, None, refl, sym, ◌∙◌, ap, subst}
 use Rattle.std.specs.Borrow.{Bor}
 use Rattle.sd_chain.specs.Catalog.{Opened}

@@ -12,7 +12,7 @@ use Rattle.sd_rounds.specs.declared.copied.Copied.{Copied}
 use Rattle.sd_rounds.specs.declared.image_order.ImageOrder.{ImageOrder}
 use Rattle.sd_rounds.specs.declared.stage.Stage.{Stage}
 use Rattle.sd_rounds.specs.declared.stage.Stage.TheVariants.{Format, Close}
-use Rattle.sd_rounds.specs.Making.{closing_outcomes, is_past_freeze, out_of, plan_of, stage_after, stage_behind, with_plan}
+use Rattle.sd_rounds.specs.Making.{closing_outcomes, is_past_freeze, out_of, plan_of, stage_after, stage_when_done, with_plan}
 use Rattle.sd_rounds.specs.Pass.{Pass}
 use Rattle.sd_rounds.specs.Rounds.{Copies}
 use Rattle.sd_core.specs.Sound.{IsStageOfImage, IsVisitingIn}
@@ -44,7 +44,7 @@ visiting_asked items serial pass stage next is = grind arith
 
 -- ---- an outcome with which it goes on
 
-pub record IsBehind (items : Marked) (order : ImageOrder) (pass : Pass) (stage new : Stage) : Type 0 where
+pub record IsAfterPlace (items : Marked) (order : ImageOrder) (pass : Pass) (stage new : Stage) : Type 0 where
   pub stage_is : IsStageOfImage order stage → IsStageOfImage order new
   pub rests : out_of new ≡ None
   pub frozen : ((kind_number order.kind == 2) && is_past_freeze new) ≡ ((kind_number order.kind == 2) && is_past_freeze stage)
@@ -54,11 +54,11 @@ slot_on : (p plan next : Planned) (slot : ℕ) → Some p ≡ Some plan → next
 slot_on p plan next slot was same is = same ∙ ap (λ (q : Planned). q.slot) (sym (same_Some p plan was)) ∙ is
 
 format_behind : (items : Marked) (order : ImageOrder) (pass : Pass) (plan : Planned) (kind : Kind) → order.kind ≡ kind
-    → IsBehind items order pass (Format plan) (stage_behind kind (Format plan))
+    → IsAfterPlace items order pass (Format plan) (stage_when_done kind (Format plan))
 format_behind items order pass plan kind is = grind arith
 
 pub behind : (items : Marked) (order : ImageOrder) (pass : Pass) (stage : Stage) (plan next : Planned) (calls : Calls) → plan_of stage ≡ Some plan
-    → next.slot ≡ plan.slot → next.out ≡ None → (closing_outcomes stage ≢ 0 → calls ≢ []) → IsBehind items order pass stage (stage_after order.kind stage next calls)
+    → next.slot ≡ plan.slot → next.out ≡ None → (closing_outcomes stage ≢ 0 → calls ≢ []) → IsAfterPlace items order pass stage (stage_after order.kind stage next calls)
 behind items order pass stage plan next calls was same rests closes = grind arith
 
 -- ---- its cursor

@@ -11,12 +11,12 @@ use Rattle.sd_journal.specs.Allowed.{IsLastPair}
 use Rattle.sd_journal.specs.History.{Base}
 use Rattle.sd_journal.specs.Kept.{JournalView}
 use Rattle.sd_journal.specs.Legal.{IsAbove}
-use Rattle.sd_journal.specs.Marked.{Marked, entries_of, is_due, is_of, is_opened}
+use Rattle.sd_journal.specs.Marked.{Marked, entries_of, must_dump, is_of, is_opened}
 use Rattle.sd_pagetable.specs.Contents.{Contents, plain_of}
 use Rattle.sd_pagetable.specs.Tracking.{IsBeginning, clears, is_dirty, since, touches}
 use Rattle.sd_core.specs.declared.numbers.Numbers.{Numbers}
 use Rattle.sd_core.specs.Sound.{AreSoundNumbers, IsJournal}
-use Rattle.sd_crash_safety.specs.InUse.{id_of, ids_of}
+use Rattle.sd_crash_safety.specs.LiveImages.{id_of, ids_of}
 use Rattle.sd_core.specs.Starts.{nothing_asked, shown_base}
 use Rattle.sd_core.proofs.OutsLemmas.{nobody_out}
 
@@ -35,7 +35,7 @@ base_is_last number base = grind arith
 
 -- ---- its invariant
 
-due_at_first : (base : Base) → base.origin ≡ origins.Opened → (space page : ℕ) → is_due base [] space page ≡ true
+due_at_first : (base : Base) → base.origin ≡ origins.Opened → (space page : ℕ) → must_dump base [] space page ≡ true
 due_at_first base opened space page =
     ap (λ (o : Origin). if is_opened o then is_dirty [] space page else list_any (touches space page) (since (clears space page) [])) opened
 

@@ -1,4 +1,4 @@
--- The dumper's steps, as the calls of a core tell them.
+-- The dumper's steps, as the calls of a core say them.
 use Rattle.std.proofs.Common.{◌≡◌, ℕ, ◌<◌, List, length, Option, Some, slice_get, slice_set, refl, sym, ◌∙◌, ap, subst, inl, inr, arith}
 use Rattle.sd_gate.specs.declared.request_id.RequestId.{RequestId}
 use Rattle.sd_gate.specs.declared.phase.Phase.{Phase}

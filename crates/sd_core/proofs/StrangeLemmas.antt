@@ -11,14 +11,14 @@ use Rattle.sd_restore.specs.Faulty.{FaultNames, IsDamage}
 use Rattle.sd_crash_safety.specs.Laws.{OpenerFinds}
 use Rattle.sd_crash_safety.specs.View.{CoreView, history_of}
 use Rattle.sd_core.specs.declared.taken.Taken.{Taken}
-use Rattle.sd_core.specs.Grown.{has_swept}
+use Rattle.sd_core.specs.Grown.{has_visited_all}
 use Rattle.sd_core.specs.Opening.{IsDamaged, IsExpected, IsOwnStore, OpensBelieved, RefusesRightly, awaited_checkpoint}
 
 pub same_own : (last pending other_last other : Option ℕ) (files : List (List ℕ)) → ((found : Option ℕ) → IsExpected last pending found → IsExpected other_last other found)
     → IsOwnStore last pending files → IsOwnStore other_last other files
 same_own last pending other_last other files more own = record { images = own.images; store = own.store; number = own.number; tip = own.tip; expected = more own.number own.expected }
 
-is_own : (core : CoreView) (files : List (List ℕ)) (shown : Shown) → (core.committing ≡ true → has_swept core.items ≡ true) → Shows files shown
+is_own : (core : CoreView) (files : List (List ℕ)) (shown : Shown) → (core.committing ≡ true → has_visited_all core.items ≡ true) → Shows files shown
     → IsLastPair core.base (history_of core) shown ⊎ ((core.committing ≡ true) × IsPendingPair core.base (history_of core) shown)
     → IsOwnStore (last core.base (history_of core)) (awaited_checkpoint core) files
 is_own core files None sure shows (inl is) = record { images = shows.images; store = shows.store; number = None; tip = shows.newest; expected = inl (sym is) }
@@ -45,7 +45,7 @@ failed_damage files (Err Device) failed named empty device memory = absurd (devi
 failed_damage files (Err OutOfMemory) failed named empty device memory = absurd (memory refl)
 
 -- a store that is as it is believed to be isn't refused
-pub believed_opens : OpenerFinds → (core : CoreView) (made : Taken) (opener : Looking) → (core.committing ≡ true → has_swept core.items ≡ true) → core.opener ≡ Some opener → slice_get core.outs 2 ≡ Some None → RefusesRightly core made
+pub believed_opens : OpenerFinds → (core : CoreView) (made : Taken) (opener : Looking) → (core.committing ≡ true → has_visited_all core.items ≡ true) → core.opener ≡ Some opener → slice_get core.outs 2 ≡ Some None → RefusesRightly core made
     → OpensBelieved core made
 believed_opens finds core made opener sure is rests refuses asked bodies files b left same =
     let s = finds.shows core asked bodies files files b left in

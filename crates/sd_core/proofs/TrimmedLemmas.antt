@@ -8,7 +8,7 @@ use Rattle.sd_journal.specs.declared.mark.Mark.TheVariants.{Start, Table, Visit}
 use Rattle.sd_journal.specs.History.{Base, last, pending, unless_it_is}
 use Rattle.sd_journal.specs.Kept.{JournalView}
 use Rattle.sd_journal.specs.Legal.{IsAbove, IsLegal}
-use Rattle.sd_journal.specs.Marked.{IsMarked, IsTracked, Marked, Noted, Told, entries_of, is_due, is_of, starts, visiting}
+use Rattle.sd_journal.specs.Marked.{IsMarked, IsTracked, Marked, Noted, Told, entries_of, must_dump, is_of, starts, visiting}
 use Rattle.sd_journal.specs.TrackedLaws.{TrackedLaws, before_freeze}
 use Rattle.sd_journal.specs.Trimming.{HasVisited, IsFolded, MarkedTrimLaws, TrimLaws, base_after}
 use Rattle.sd_rounds.specs.declared.stage.Stage.{Stage}
@@ -18,7 +18,7 @@ use Rattle.sd_rounds.specs.LittleWork.{TakesVisited}
 use Rattle.sd_rounds.specs.Making.{Making, is_frozen_dump}
 use Rattle.sd_rounds.specs.Pass.{Pass}
 use Rattle.sd_core.proofs.FlagLemmas.{grown_trims, swept_trims}
-use Rattle.sd_core.specs.Grown.{has_grown, has_swept}
+use Rattle.sd_core.specs.Grown.{has_grown, has_visited_all}
 use Rattle.sd_core.specs.LittleWork.{HasLittle, IsFrozenFor, TakesLittle, visits_of}
 use Rattle.sd_core.specs.Sound.{AreSoundNumbers, CheckpointRuns, IsCore, IsImageInMaking, IsVisiting, IsVisitingIn, Parts}
 use Rattle.sd_core.specs.Visited.{HasSettled, is_begun}
@@ -68,9 +68,9 @@ started (Noted (Start s) ∷ kept) serial is = by (s == serial) is (started kept
 started (Noted (Visit s space page) ∷ kept) serial is = started kept serial is
 started (Noted (Table s) ∷ kept) serial is = started kept serial is
 
--- ---- what the marks tell of it
+-- ---- what the marks say of it
 
--- its visits found the pages due that were
+-- its visits found the pages to be dumped that had to be
 visits_kept : MarkedTrimLaws → (base : Base) (kept front : Marked) (n serial : ℕ) → IsMarked base (kept ++ front) → IsFolded n front → HasVisited base front
     → list_any (is_of serial) front ≡ false → visits_of base (kept ++ front) serial ≡ visits_of (base_after base n (entries_of front)) kept serial
 visits_kept laws base [] front n serial marked f visited none = no_visits base front serial none
@@ -79,8 +79,8 @@ visits_kept laws base (Noted (Start s) ∷ kept) front n serial marked f visited
 visits_kept laws base (Noted (Table s) ∷ kept) front n serial marked f visited none = visits_kept laws base kept front n serial marked.1 f visited none
 visits_kept laws base (Noted (Visit s space page) ∷ kept) front n serial marked f visited none =
     ap (λ d. if s == serial then visits_of base (kept ++ front) serial ++ (record { place = (space, page); soft_dirty = d }) ∷ [] else visits_of base (kept ++ front) serial)
-    (sym (laws.due_stays base kept front n space page f visited marked.0.1))
-    ∙ ap (λ all. if s == serial then all ++ (record { place = (space, page); soft_dirty = is_due (base_after base n (entries_of front)) kept space page }) ∷ [] else all)
+    (sym (laws.must_dump_stays base kept front n space page f visited marked.0.1))
+    ∙ ap (λ all. if s == serial then all ++ (record { place = (space, page); soft_dirty = must_dump (base_after base n (entries_of front)) kept space page }) ∷ [] else all)
     (visits_kept laws base kept front n serial marked.1 f visited none)
 
 unless_some : (k m : ℕ) (o : Option ℕ) → unless_it_is k o ≡ Some m → o ≡ Some m
@@ -296,11 +296,11 @@ trimmed_core laws marked_laws tracked_laws core base journal n front sound t = r
   little = subst (λ b. IfSome core.dumper.running (HasLittle b journal.items core.memory)) (sym t.base_is)
       (has_little laws marked_laws tracked_laws core journal.items front n sound t.newest t.other t.parts t.ended core.dumper.running refl sound.little);
   merging = sound.merging;
-  swept_is = sound.swept_is;
+  visited_is = sound.visited_is;
   flags_are = record {
     grown = sound.flags_are.grown ∙ ap (has_grown core.base) (history laws marked_laws tracked_laws core journal.items front n sound t.newest t.other t.parts t.ended)
         ∙ sym (grown_trims core.base (entries_of journal.items) (entries_of front) n t.ended.ended) ∙ ap (λ b. has_grown b (entries_of journal.items)) (sym t.base_is);
-    swept_by = sound.flags_are.swept_by ∙ ap has_swept t.parts ∙ swept_trims laws marked_laws journal.items front n t.ended;
+    visited_by = sound.flags_are.visited_by ∙ ap has_visited_all t.parts ∙ swept_trims laws marked_laws journal.items front n t.ended;
     sure = sound.flags_are.sure;
   };
   gated = sound.gated;

@@ -30,14 +30,14 @@ use Rattle.sd_crash_safety.specs.declared.standing.Standing.TheVariants.{Open}
 use Rattle.sd_crash_safety.specs.Merges.{IsOtherImage, IsSpared, MakesOther}
 use Rattle.sd_core.specs.Grown.{AreFlags, IsGated}
 use Rattle.sd_core.specs.declared.numbers.Numbers.{Numbers}
-use Rattle.sd_core.specs.Visited.{HasSwept}
+use Rattle.sd_core.specs.Visited.{HasVisitedAll}
 use Rattle.sd_core.proofs.MergeLemmas.{asks_apart, fills_same, merging_stays}
 use Rattle.sd_core.proofs.OutsLemmas.{dumper_outs, lane_at, no_write, on_slot, open_outs}
 use Rattle.sd_core.proofs.PreDumpLemmas.{TheyStay, pre_dumps_stay}
 use Rattle.sd_core.proofs.SettledLemmas.{settled_more}
 use Rattle.sd_core.specs.Images.{begun_as}
 use Rattle.sd_core.specs.LittleWork.{HasLittle, TakesLittle}
-use Rattle.sd_core.specs.Sound.{AreOuts, AreSoundNumbers, CheckpointRuns, CheckpointsAreCounted, HasWrites, IsCore, IsImageInMaking, IsJournal, IsVisiting, IsVisitingIn, MergeRuns, Parts, begun_images, due_serials, frozen_by, held_for}
+use Rattle.sd_core.specs.Sound.{AreOuts, AreSoundNumbers, CheckpointRuns, CheckpointsAreCounted, HasWrites, IsCore, IsImageInMaking, IsJournal, IsVisiting, IsVisitingIn, MergeRuns, Parts, begun_images, serials_to_come, frozen_by, held_for}
 
 -- ---- where none runs
 
@@ -85,7 +85,7 @@ pub record IsWorking (core : Parts) (running : Running) : Type 0 where
   pub work : CheckpointRuns core.base core.journal.items core.frozen core.standing core.phases core.places core.merger core.opener core.numbers running
   pub little : HasLittle core.base core.journal.items core.memory running
   pub merging : IfSome core.merger (MergeRuns core.standing core.phases core.places core.opener core.numbers core.room (Some running))
-  pub swept_is : HasSwept core.swept core.frozen core.memory
+  pub visited_is : HasVisitedAll core.swept core.frozen core.memory
   pub flags_are : AreFlags core.base core.journal.items core.swept core.grows core.committing
   pub gated : IsGated core.swept running
 
@@ -187,7 +187,7 @@ pub record Turns (core : Parts) (journal : JournalView) (memory : Contents) (pha
   pub image_is : IsImageInMaking journal.items places numbers next
   pub still : is_frozen_dump next ≡ is_frozen_dump image
   pub little : TakesLittle core.base journal.items memory running.number next
-  pub swept_is : HasSwept swept core.frozen memory
+  pub visited_is : HasVisitedAll swept core.frozen memory
   pub flags_are : AreFlags core.base journal.items swept core.grows committing
   pub gated : IsGated swept (record running { image = Some next })
 
@@ -205,7 +205,7 @@ held_same frozen one other opener = grind arith
 pub held_at_work : (core : Parts) (running : Running) → IsCore core → core.dumper.running ≡ Some running → core.journal.held ≡ held_for core.frozen (Some running) None
 held_at_work core running sound is = sound.held ∙ ap (λ r. held_for core.frozen r core.opener) is ∙ ap (held_for core.frozen (Some running)) (at_work core running sound is).closed
 
--- whether an image is the frozen memory's tells what is pending
+-- whether an image is the frozen memory's says what is pending
 pub pends_so : (running : Running) (image next : Making) → running.image ≡ Some image → is_frozen_dump next ≡ is_frozen_dump image
     → frozen_by (record running { image = Some next }) ≡ frozen_by running
 pends_so running image next making still =
@@ -234,7 +234,7 @@ pub turned : {core : Parts} {journal : JournalView} {memory : Contents} {phases 
 turned {core} {journal} {memory} {phases} {outs} {places} {dumper} {numbers} {committing} {swept} running image next sound t =
     let w = at_work core running sound t.was in
     let serial = t.same.serial in
-    let serials : core.numbers.serial + due_serials core.merger ≤ 2 ^ 63 + (running.opened + 1) = subst (λ i. core.numbers.serial + due_serials core.merger ≤ 2 ^ 63 + begun_images running i) t.making w.serials in
+    let serials : core.numbers.serial + serials_to_come core.merger ≤ 2 ^ 63 + (running.opened + 1) = subst (λ i. core.numbers.serial + serials_to_come core.merger ≤ 2 ^ 63 + begun_images running i) t.making w.serials in
     record {
       journal_is = t.journal_is;
       held = t.held ∙ held_at_work core running sound t.was ∙ held_same core.frozen running (record running { image = Some next }) None;
@@ -264,7 +264,7 @@ turned {core} {journal} {memory} {phases} {outs} {places} {dumper} {numbers} {co
         image = t.image_is;
       };
       little = t.little;
-      swept_is = t.swept_is;
+      visited_is = t.visited_is;
       flags_are = t.flags_are;
       gated = t.gated;
       merging = merging_turned core phases places numbers running image next sound t.was t.making t.serial t.places_stay t.count t.same;
@@ -303,7 +303,7 @@ pub slot_within : (core : Parts) (running : Running) → IsCore core → core.du
 slot_within core running sound was =
     (at_work core running sound was).within (slot_of running) (record { place = running.opened; from = omega arith; is = refl })
 
--- the serial that the dumper tells is the image's
+-- the serial that the dumper says is the image's
 pub its_serial : (running : Option Running) (now : Running) (image : Making) (told : Option ℕ) (serial : ℕ) → running ≡ Some (record now { image = Some image }) → told ≡ serial_of_running running
     → told ≡ Some serial → serial ≡ image.order.serial
 its_serial running now image told serial is tells some = same_Some serial image.order.serial (sym some ∙ tells ∙ ap serial_of_running is)

@@ -28,22 +28,22 @@ has_grown base (Cancelled n ∷ earlier) = false
 has_grown base (Reopened m ∷ earlier) = false
 
 -- The pass of the pending checkpoint's dump is over: after the freeze a table was begun, which visited each page.
-abbrev pub has_swept : Marked → Bool
-has_swept [] = false
-has_swept (Told (Applied seat command reply) ∷ earlier) = has_swept earlier
-has_swept (Told (Freeze n) ∷ earlier) = false
-has_swept (Told (Acked n) ∷ earlier) = false
-has_swept (Told (Cancelled n) ∷ earlier) = false
-has_swept (Told (Reopened m) ∷ earlier) = false
-has_swept (Noted (Start serial) ∷ earlier) = has_swept earlier
-has_swept (Noted (Visit serial space page) ∷ earlier) = has_swept earlier
-has_swept (Noted (Table serial) ∷ earlier) = is_some (pending (entries_of earlier))
+abbrev pub has_visited_all : Marked → Bool
+has_visited_all [] = false
+has_visited_all (Told (Applied seat command reply) ∷ earlier) = has_visited_all earlier
+has_visited_all (Told (Freeze n) ∷ earlier) = false
+has_visited_all (Told (Acked n) ∷ earlier) = false
+has_visited_all (Told (Cancelled n) ∷ earlier) = false
+has_visited_all (Told (Reopened m) ∷ earlier) = false
+has_visited_all (Noted (Start serial) ∷ earlier) = has_visited_all earlier
+has_visited_all (Noted (Visit serial space page) ∷ earlier) = has_visited_all earlier
+has_visited_all (Noted (Table serial) ∷ earlier) = is_some (pending (entries_of earlier))
 
 -- The next checkpoint goes on from the tip where one was acknowledged; and a gate's opening was taken up only after
 -- the pass of the pending checkpoint's dump.
 pub record AreFlags (base : Base) (items : Marked) (swept grows committing : Bool) : Type 0 where
   pub grown : grows ≡ has_grown base (entries_of items)
-  pub swept_by : swept ≡ has_swept items
+  pub visited_by : swept ≡ has_visited_all items
   pub sure : committing ≡ true → swept ≡ true
 
 -- none of these calls opens a gate

@@ -10,13 +10,13 @@ use Rattle.sd_image.specs.declared.run.RunKind.TheVariants.{Parent}
 use Rattle.sd_image.specs.Shows.{pages_of}
 use Rattle.sd_journal.specs.declared.mark.Mark.TheVariants.{Visit}
 use Rattle.sd_journal.specs.History.{Base, at_freeze}
-use Rattle.sd_journal.specs.Marked.{IsTracked, Marked, Noted, is_due, memory_at}
+use Rattle.sd_journal.specs.Marked.{IsTracked, Marked, Noted, must_dump, memory_at}
 use Rattle.sd_journal.specs.TrackedLaws.{before_freeze}
 use Rattle.sd_pagetable.specs.Contents.{Contents}
 use Rattle.sd_pagetable.specs.Nested.{value_at}
 use Rattle.sd_rounds.specs.Dump.{kind_of_bytes}
 use Rattle.sd_rounds.specs.Dumper.{Running, is_last}
-use Rattle.sd_rounds.specs.LittleWork.{TakesDue, TakesVisited, TookVisited}
+use Rattle.sd_rounds.specs.LittleWork.{TakesAsItMust, TakesVisited, TookVisited}
 use Rattle.sd_rounds.specs.Making.{Making, is_frozen_dump}
 use Rattle.sd_rounds.specs.Pass.{Place}
 use Rattle.sd_rounds.specs.Visits as visits
@@ -29,12 +29,12 @@ use Rattle.sd_core.specs.Visited.{IsClean, is_closing}
 -- How a dump is to have a page that is mapped at the freeze: where it has no parent, or where something since the
 -- page's last visit touched it or it had no visit, as zeros or data, by its bytes; and else in its parent. No other
 -- page.
-abbrev pub way_due : Bool → Base → Marked → Place → Option RunKind
-way_due whole base frozen at = option_map
-    (λ (page : plain.Page). if whole || is_due base frozen at.0 at.1 then kind_of_bytes page.bytes else Parent)
+abbrev pub right_way : Bool → Base → Marked → Place → Option RunKind
+right_way whole base frozen at = option_map
+    (λ (page : plain.Page). if whole || must_dump base frozen at.0 at.1 then kind_of_bytes page.bytes else Parent)
     (value_at (memory_at base frozen) at.0 at.1)
 
--- The dump's table has exactly the pages that were mapped at the freeze of this number, each in the way that is due by
+-- The dump's table has exactly the pages that were mapped at the freeze of this number, each in the right way by
 -- what stood in the marked journal before.
 pub record IsLittleDump (n : ℕ) (old new : CoreView) : Type 0 where
   pub running : Running
@@ -47,7 +47,7 @@ pub record IsLittleDump (n : ℕ) (old new : CoreView) : Type 0 where
   -- what that makes is the memory at the freeze
   pub freeze : at_freeze old.base (history_of old) n ≡ Some (memory_at old.base frozen)
   pub ways : (kind : RunKind) (at : Place)
-      → Contains (pages_of kind dump.spaces) at ↔ way_due (dump.header.parent == 0) old.base frozen at ≡ Some kind
+      → Contains (pages_of kind dump.spaces) at ↔ right_way (dump.header.parent == 0) old.base frozen at ≡ Some kind
 
 -- ---- a pre-dump
 
@@ -57,7 +57,7 @@ abbrev pub visits_of : Base → Marked → ℕ → List visits.Visit
 visits_of base [] serial = []
 visits_of base (Noted (Visit s space page) ∷ earlier) serial =
     if s == serial then visits_of base earlier serial ++
-    (record { place = (space, page); soft_dirty = is_due base earlier space page }) ∷ []
+    (record { place = (space, page); soft_dirty = must_dump base earlier space page }) ∷ []
     else visits_of base earlier serial
 visits_of base (_ ∷ earlier) serial = visits_of base earlier serial
 
@@ -77,13 +77,13 @@ pub record OpensPreDump (running : Running) (old new : CoreView) : Type 0 where
 
 -- ---- what holds of the image in the making
 
--- the memory was frozen for it, and of that it has so far the pages that are due
+-- the memory was frozen for it, and of that it has so far the pages that must be dumped
 pub record IsFrozenFor (base : Base) (items : Marked) (memory : Contents) (number : ℕ) (image : Making) : Type 0 where
   pub frozen : Marked
   pub before : before_freeze items number ≡ Some frozen
   pub cut : Contents
   pub tracked : IsTracked base frozen cut
-  pub takes : TakesDue cut image memory
+  pub takes : TakesAsItMust cut image memory
 
 pub record TakesLittle (base : Base) (items : Marked) (memory : Contents) (number : ℕ) (image : Making) : Type 0 where
   pub round : image.order.kind ≡ PreDump → TakesVisited (visits_of base items image.order.serial) image

@@ -93,7 +93,7 @@ pub record BeginsCopy (serial : ℕ) (state : SlotState) (ticket : ℕ) (places 
     (request : Asked) (new : Option merger.Running) : Type 0 where
   pub merge : merger.Running
   pub was : old ≡ Some merge
-  pub is_due : merge.doing ≡ due
+  pub must_dump : merge.doing ≡ due
   pub copy : Copying
   pub steps : Steps ticket places (begun_copy (merger.order_of merge serial state)) (Call request) copy
   pub is : new ≡ Some (record merge { doing = copying copy })

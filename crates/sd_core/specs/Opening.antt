@@ -22,13 +22,13 @@ use Rattle.sd_opener.specs.declared.opened.Opened.{Opened}
 use Rattle.sd_opener.specs.declared.opener_step.OpenerStep.{OpenerStep}
 use Rattle.sd_opener.specs.Left.{LowersByStep, LowersLooking}
 use Rattle.sd_opener.specs.Looking.{IsDoneAsAsked, Looking, LooksFurther, StepMoves, out_of_look}
-use Rattle.sd_opener.specs.Sees.{IsToldOf, Sees, SeesAfter, StepNames, StoreIsRead}
+use Rattle.sd_opener.specs.Sees.{IsLookOf, Sees, SeesAfter, StepNames, StoreIsRead}
 use Rattle.sd_restore.specs.Faulty.{IsDamage, IsFirstFaulty}
 use Rattle.sd_restore.specs.Reading.{AreRightlyDigested}
 use Rattle.sd_crash_safety.specs.Believes.{Believes}
 use Rattle.sd_crash_safety.specs.View.{CoreView, history_of}
 use Rattle.sd_core.specs.declared.taken.Taken.{Taken}
-use Rattle.sd_core.specs.Grown.{has_swept}
+use Rattle.sd_core.specs.Grown.{has_visited_all}
 use Rattle.sd_core.specs.declared.taken.Taken.TheVariants.{Step, Call}
 
 -- a step of the opener
@@ -126,7 +126,7 @@ SawDamage opener last pending =
 
 -- the pending checkpoint, once the pass of its dump is over: only then the store may show it
 abbrev pub awaited_checkpoint : CoreView → Option ℕ
-awaited_checkpoint core = if has_swept core.items then pending (history_of core) else None
+awaited_checkpoint core = if has_visited_all core.items then pending (history_of core) else None
 
 -- A store is refused as damaged only where it isn't one that shows the last checkpoint or the one that is awaited.
 abbrev pub RefusesStrange : CoreView → Reply → Type 0
@@ -176,7 +176,7 @@ pub record OpenerGoesOn (old : Looking) (made : Made) (new : Looking) : Type 0 w
   pub slots : new.slots ≡ old.slots
   pub free : out_of_look old.stage ≡ Some made.request.id → out_of_look new.stage ≡ None
   pub lowers : out_of_look old.stage ≡ Some made.request.id → LowersLooking old new
-  pub sees : (files : List (List ℕ)) → IsToldOf (file_at files (length old.told)) made.request made
+  pub sees : (files : List (List ℕ)) → IsLookOf (file_at files (length old.told)) made.request made
       → Sees files (Some made.request) old → Sees files None new
 
 abbrev pub TeachesOpener : Option Looking → Made → Bool → Option Looking → Type 0

@@ -56,16 +56,16 @@ abbrev pub cancel_refusal : CoreView → Option Refusal
 cancel_refusal core = first_of ((not (has_checkpoint core), refusal.Idle) ∷ (cant_cancel core, refusal.Busy) ∷ [])
 
 -- the store is open, an opener runs, or a request is out
-abbrev pub is_in_use : CoreView → Bool
-is_in_use core = is_store_open core.standing || is_some core.opener || not (are_resting core.outs)
+abbrev pub is_store_busy : CoreView → Bool
+is_store_busy core = is_store_open core.standing || is_some core.opener || not (are_resting core.outs)
 
 -- no entry is held for a pending checkpoint, and none is free
-abbrev pub wants_entry : CoreView → Bool
-wants_entry core = is_none (pending (history_of core)) && (free_entries core == 0)
+abbrev pub needs_entry : CoreView → Bool
+needs_entry core = is_none (pending (history_of core)) && (free_entries core == 0)
 
 -- why a store can't be opened again
 abbrev pub reopen_refusal : CoreView → Option Refusal
-reopen_refusal core = first_of ((is_in_use core, refusal.Busy) ∷ (wants_entry core, refusal.JournalFull) ∷ [])
+reopen_refusal core = first_of ((is_store_busy core, refusal.Busy) ∷ (needs_entry core, refusal.JournalFull) ∷ [])
 
 -- a worker has no job
 abbrev pub is_idle : CoreView → Worker → Bool

@@ -41,7 +41,7 @@ use Rattle.sd_core.specs.Grown.{AreFlags, IsGated}
 use Rattle.sd_core.specs.Images.{HasPreDumps, JobSlotsDiffer, begun_as}
 use Rattle.sd_core.specs.LittleWork.{HasLittle}
 use Rattle.sd_core.specs.Merging.{IsMergedImage}
-use Rattle.sd_core.specs.Visited.{HasSettled, HasSwept, is_begun}
+use Rattle.sd_core.specs.Visited.{HasSettled, HasVisitedAll, is_begun}
 
 -- how many entries are held: two for a checkpoint before its freeze, one while it is pending, and one for an opener
 -- with none pending
@@ -99,7 +99,7 @@ pub record AreOuts (standing : Standing) (outs : List (Option RequestId)) (phase
       → slice_get outs other ≡ Some (Some b) → a.slot ≡ b.slot
       → (one ≡ other) ⊎ AreInPages one other a b
 
--- its journal makes its memory, and tells what is pending and what is last
+-- its journal makes its memory, and says what is pending and what is last
 pub record IsJournal (base : Base) (journal : JournalView) (memory : Contents) (frozen newest : Option ℕ) : Type 0 where
   pub tracked : IsTracked base journal.items memory
   pub first : journal.first ≡ base.folded
@@ -141,7 +141,7 @@ IsStageOfImage order Freeze = Unit {0}
 IsStageOfImage order PassStage = Unit {0}
 IsStageOfImage order (Close plan header tables) = (plan.slot ≡ order.slot) × IsHeaderOf order header
 
--- up to its table the journal's marks tell which page it visited last
+-- up to its table the journal's marks say which page it visited last
 pub record IsVisiting (items : Marked) (serial : ℕ) (pass : Pass) : Type 0 where
   pub started : visiting items ≡ Some serial
   pub cursor : last_visit items serial ≡ pass.after
@@ -169,16 +169,16 @@ abbrev pub begun_images : Running → Option Making → ℕ
 begun_images running None = running.opened
 begun_images running (Some image) = running.opened + 1
 
-abbrev pub due_serials_in : Doing → ℕ
-due_serials_in due = 1
-due_serials_in (copying copy) = 0
-due_serials_in (opened serial) = 0
-due_serials_in (retiring r) = 0
+abbrev pub serials_to_come_in : Doing → ℕ
+serials_to_come_in due = 1
+serials_to_come_in (copying copy) = 0
+serials_to_come_in (opened serial) = 0
+serials_to_come_in (retiring r) = 0
 
 -- a merged image that is to come takes a serial
-abbrev pub due_serials : Option merger.Running → ℕ
-due_serials None = 0
-due_serials (Some merge) = due_serials_in merge.doing
+abbrev pub serials_to_come : Option merger.Running → ℕ
+serials_to_come None = 0
+serials_to_come (Some merge) = serials_to_come_in merge.doing
 
 -- the writes of data pages that are out are on its slot, and none is while a plan is made
 abbrev pub HasWrites : Running → Option Making → Type 0
@@ -198,7 +198,7 @@ pub record CheckpointRuns (base : Base) (items : Marked) (frozen : Option ℕ) (
   pub some : 0 < running.number
   pub number : running.number ≡ numbers.begun
   pub few : length running.pre_dumps ≤ 8
-  pub serials : numbers.serial + due_serials merge ≤ 2 ^ 63 + begun_images running running.image
+  pub serials : numbers.serial + serials_to_come merge ≤ 2 ^ 63 + begun_images running running.image
   pub within : (slot : ℕ) → IsReserved running slot → slot < length phases
   pub apart : JobSlotsDiffer running
   pub pre_dumps : HasPreDumps (begun_as running) places running.opened running.parent
@@ -310,6 +310,6 @@ pub record IsCore (core : Parts) : Type 0 where
   pub little : IfSome core.dumper.running (HasLittle core.base core.journal.items core.memory)
   pub merging : IfSome core.merger
       (MergeRuns core.standing core.phases core.places core.opener core.numbers core.room core.dumper.running)
-  pub swept_is : HasSwept core.swept core.frozen core.memory
+  pub visited_is : HasVisitedAll core.swept core.frozen core.memory
   pub flags_are : AreFlags core.base core.journal.items core.swept core.grows core.committing
   pub gated : IfSome core.dumper.running (IsGated core.swept)

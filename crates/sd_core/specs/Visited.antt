@@ -16,8 +16,8 @@ IsClean memory =
     (space number : ℕ) (page : PageState) → page_at memory space number ≡ Some page → page.soft_dirty ≡ false
 
 -- the pass of the pending checkpoint's dump is over: it visited each page, and nothing was touched since
-abbrev pub HasSwept : Bool → Option ℕ → Contents → Type 0
-HasSwept swept frozen memory = swept ≡ true → IsSome frozen × IsClean memory
+abbrev pub HasVisitedAll : Bool → Option ℕ → Contents → Type 0
+HasVisitedAll swept frozen memory = swept ≡ true → IsSome frozen × IsClean memory
 
 -- the front of the journal that ended the pending of a checkpoint, and that each page was visited then
 pub record IsSettledBy (base : Base) (items : Marked) (n : ℕ) : Type 0 where

@@ -151,7 +151,7 @@ pub(crate) fn is_committing(committing: bool, dumper: &Dumper, call: Call) -> bo
 }
 
 /// Whether the pass of the pending checkpoint's dump is over, once a table is written.
-pub(crate) fn is_swept(swept: bool, dumper: &Dumper) -> bool
+pub(crate) fn has_ended_its_pass(swept: bool, dumper: &Dumper) -> bool
     ensures { result ≡ (swept || is_dumping dumper.now.running) }
 {
     swept || dumper.is_dumping()

@@ -1,6 +1,6 @@
 //! What the steps and the outcomes of a core's workers rest on. Each function does nothing: a caller learns its laws.
 ghost use Rattle.sd_pagetable.specs.Law.{PlainLaw};
-ghost use Rattle.sd_journal.specs.TrackedLaws.{DueLaws, TrackedLaws};
+ghost use Rattle.sd_journal.specs.TrackedLaws.{MustDumpLaws, TrackedLaws};
 ghost use Rattle.sd_rounds.specs.Dumper.{AreRunning as MakesInOrder};
 ghost use Rattle.sd_rounds.specs.Left.{LeftLaws};
 ghost use Rattle.sd_rounds.specs.LittleWork.{LittleLaws};
@@ -11,7 +11,7 @@ ghost use Rattle.sd_crash_safety.specs.DumperOutcomes.{DumperOutcomes};
 ghost use Rattle.sd_crash_safety.specs.DumperSteps.{DumperSteps};
 
 use sd_crash_safety::{core_steps, dumper_outcomes, dumper_steps};
-use sd_journal::{due_laws, tracked_laws};
+use sd_journal::{must_dump_laws, tracked_laws};
 use sd_merge::Merger;
 use sd_pagetable::plain_law;
 use sd_rounds::{Dumper, little_law};
@@ -22,13 +22,13 @@ pub(crate) fn step_laws()
     ensures core { CoreSteps }
     ensures steps { DumperSteps }
     ensures tracked { TrackedLaws }
-    ensures due { DueLaws }
+    ensures due { MustDumpLaws }
     ensures little { LittleLaws }
 {
     core_steps();
     dumper_steps();
     tracked_laws();
-    due_laws();
+    must_dump_laws();
     little_law();
 }
 
@@ -37,14 +37,14 @@ pub(crate) fn step_laws()
 pub(crate) fn outcome_laws()
     ensures outcomes { DumperOutcomes }
     ensures tracked { TrackedLaws }
-    ensures due { DueLaws }
+    ensures due { MustDumpLaws }
     ensures little { LittleLaws }
     ensures left { LeftLaws }
     ensures plain { PlainLaw }
 {
     dumper_outcomes();
     tracked_laws();
-    due_laws();
+    must_dump_laws();
     little_law();
     sd_rounds::left_law();
     plain_law();

@@ -188,7 +188,7 @@ fn is_expected(found: Option<u64>, last: Option<u64>, pending: Option<u64>) -> b
 }
 
 /// The pending checkpoint, where its dump visited each page: only then can the store show it.
-pub(crate) fn swept_checkpoint(swept: bool, pending: Option<u64>) -> Option<u64>
+pub(crate) fn visited_checkpoint(swept: bool, pending: Option<u64>) -> Option<u64>
     ensures { result ≡ (if swept then pending else None) }
 {
     if swept { pending } else { None }

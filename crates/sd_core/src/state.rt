@@ -128,7 +128,7 @@ impl Core {
         requires begins { IsBeginning start.memory }
         requires same { plain_of start.memory ≡ memory_of start.base }
         ensures starts { IsStart start.number (memory_of start.base) start.memory start.phases.items result }
-        // Where each slot is in the phase that its file tells, and the files show the base, the core believes so.
+        // Where each slot is in the phase that its file shows, and the files show the base, the core believes so.
         ensures believes { (files : List (List ℕ)) → start.phases.items ≡ map found_phase files
             → Shows files (shown_base start.number (memory_of start.base))
             → Believes result nothing_asked (map (drop 1) files) files }

@@ -59,7 +59,7 @@ pub(crate) fn fold_front(
     ensures journal { OnErr result (journal.new ≡ journal.old) }
 {
     marked_trim_laws();
-    let room = journal.room_behind(alloc, count)?;
+    let room = journal.room_after(alloc, count)?;
     fold(alloc, &mut base.memory, &journal.entries()[..count])?;
     let entries = journal.take_front(room, count);
     base.number = Some(checkpoint);

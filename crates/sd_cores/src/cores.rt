@@ -10,10 +10,10 @@ use std::io::Write;
 use std::os::unix::fs::FileTypeExt;
 use std::{fs, io};
 
-/// What is told of a core without a segment of memory.
+/// What is said of a core without a segment of memory.
 const NO_MEMORY: &str = "no memory in it: it has no segment that is loaded";
 
-/// What is told of a core that is to be read from a pipe.
+/// What is said of a core that is to be read from a pipe.
 const IS_PIPE: &str = "a pipe, of which no place can be read twice: write the core into a file";
 
 /// A core file whose headers were read.
@@ -124,7 +124,7 @@ const NO_CORE: &[u8] = b"not a core\n";
 /// What is printed of a core that has more than a space can have.
 const TOO_LARGE: &[u8] = b"core too large\n";
 
-/// Prints why a core isn't read, and tells its cause.
+/// Prints why a core isn't read, and says its cause.
 pub fn unread<W: Write>(
     rt: &impl Eprint,
     causes: Causes,

@@ -9,8 +9,8 @@ use sd_elf::{CoreFiles, HoleFile, WriteError, write_shown, write_shown_at};
 use sd_exit::{Output, Stop, exit};
 use sd_image::SpaceTable;
 use sd_program::{
-    Advised, BESIDE, Called, PAUSES, Seen, is_same_file, is_slot_file, may_change, slot_error,
-    tell, told_not_there, unseen,
+    Advised, BESIDE, Called, PAUSES, Seen, is_same_file, is_slot_file, may_change, print_not_there,
+    slot_error, tell, unseen,
 };
 use sd_readers::fronts;
 use sd_restore::Fault;
@@ -22,10 +22,10 @@ use std::sync::Wait;
 use std::time::{Clock, Duration};
 use std::{fs, io, thread};
 
-/// What is told of a folder of core files that is none.
+/// What is said of a folder of core files that is none.
 const IS_NO_FOLDER: &str = "; OUT is the folder of the core files";
 
-/// What is told of a folder that another export has locked.
+/// What is said of a folder that another export has locked.
 const IS_LOCKED: &str = "another export writes into this folder; try again when it has ended";
 
 /// The core files in a folder. Each is written under another name until all are whole.
@@ -254,7 +254,7 @@ fn export_beside<R: Clock + Wait>(
 }
 
 /// Reports why files weren't written, and how many of them have their names all the same.
-fn tell_error<R: Eprint>(called: Called<'_>, export: &Export<'_, '_, R>, error: &io::Error) {
+fn report_error<R: Eprint>(called: Called<'_>, export: &Export<'_, '_, R>, error: &io::Error) {
     let advice = match error.kind() {
         io::ErrorKind::NotADirectory => IS_NO_FOLDER,
         _ => "",
@@ -287,7 +287,7 @@ fn ended_with<R: Eprint, W: Write>(
         Err(WriteError::Fault(fault)) => Err(Stop::Fault(fault)),
         Err(WriteError::File(_)) if export.lacks => Err(Stop::Order(Refusal::NoSuchSpace)),
         Err(WriteError::File(error)) => {
-            tell_error(called, export, &error);
+            report_error(called, export, &error);
             out.write_all(b"cannot write OUT\n")?;
             Err(Stop::Refused)
         }
@@ -329,11 +329,11 @@ fn export_of<'a>(called: Called<'a>, asked: ExportAsked<'a>) -> Export<'a, 'a, H
 }
 
 /// Reports that a run may have disturbed an export, where one was writing the store as it began, or is now.
-fn tell_export_beside(called: Called<'_>, is_beside: bool) {
+fn report_export_beside(called: Called<'_>, is_beside: bool) {
     if is_beside {
         called.tell(&BESIDE);
     } else {
-        called.tell_beside();
+        called.report_beside();
     }
 }
 
@@ -358,13 +358,13 @@ pub fn export_program<R: Clock + Wait, W: Write>(
     } else {
         export_once(called, seen, &threads, &mut export)?
     };
-    called.tell_device(&disk);
+    called.report_device(&disk);
     if may_change(fault_of(&ended)) {
-        tell_export_beside(called, is_beside);
+        report_export_beside(called, is_beside);
     }
     if let (Some(number), Some(Fault::EmptyChain)) = (export.checkpoint, fault_of(&ended)) {
-        let status = told_not_there(number, out);
-        called.tell_numbers(disk);
+        let status = print_not_there(number, out);
+        called.report_numbers(disk);
         return Ok(status);
     }
     if let (Ok(()), Some(name)) = (&ended, asked.notes) {

@@ -14,10 +14,10 @@ use Rattle.sd_rounds.specs.Dumper.{IsReserved, Running, writes_of_image}
 use Rattle.sd_rounds.specs.Making.{Making, is_frozen_dump, plan_of, with_plan}
 use Rattle.sd_rounds.specs.Writes.{no_writes}
 use Rattle.sd_store_laws.specs.Beliefs.{Belief, Kept, Closing, image_at, image_in}
-use Rattle.sd_store_laws.specs.InUse.{CatalogFollows, SlotHasImage}
+use Rattle.sd_store_laws.specs.LiveImages.{CatalogFollows, SlotHasImage}
 use Rattle.sd_store_laws.specs.Needs.{IsNeededIn}
 use Rattle.sd_store_laws.specs.Store.{Store}
-use Rattle.sd_crash_safety.specs.InUse.{ArePagesOf, IsFrozenAs, IsInUseOn, IsMakingOn, IsRunningOn, IsSlotFor, NoneAt, body_written, chain_of, ids_of, lanes_of}
+use Rattle.sd_crash_safety.specs.LiveImages.{ArePagesOf, IsFrozenAs, IsLiveOn, IsMakingOn, IsRunningOn, IsSlotFor, NoneAt, body_written, chain_of, ids_of, lanes_of}
 use Rattle.sd_rounds.proofs.DumperLemmas.{past_with}
 use Rattle.sd_rounds.proofs.FileLemmas.{asked_files as files_with, asked_areas as areas_with}
 use Rattle.sd_rounds.proofs.MakingLemmas.{asked_dumps as dumps_with}
@@ -72,7 +72,7 @@ image_here beliefs then slot new changed = ap (λ o. option_and_then image_in o)
 
 module _ (follows : CatalogFollows) (base : Base) (history : History) (places : Places) (grows : Bool) (memory : Contents) (phases : List Phase) (asked : List (Option Asked)) (bodies : List (List ℕ))
     (last : ℕ) (store : Store) (dump dump_now : Option Image) (beliefs then : List Belief) (running : Running) (image : Making) (request : Asked) (belief_now : Belief)
-    (u : IsInUseOn base history places grows memory phases asked bodies last store dump beliefs (Some running))
+    (u : IsLiveOn base history places grows memory phases asked bodies last store dump beliefs (Some running))
     (m : IsMakingOn base history memory phases asked bodies last store dump beliefs running.parent running.number image)
     (lane : ℕ) (free : slice_get asked lane ≡ Some None) (on : request.id.slot ≡ image.order.slot)
     (changed : IsChangedAt beliefs image.order.slot belief_now then) (same : (i : Image) → HasIt m.belief i ↔ HasIt belief_now i)
@@ -98,7 +98,7 @@ module _ (follows : CatalogFollows) (base : Base) (history : History) (places : 
   else_where k none its = none lane request own_now (on ∙ sym its)
 
   pub in_use_from : (later_image : Making) → ids_of (lanes_of asked_now) ≡ later_image.writes → IsMakingOn base history memory phases asked_now bodies last store dump_now then running.parent running.number later_image
-      → IsInUseOn base history places grows memory phases asked_now bodies last store dump_now then (Some (record running { image = Some later_image }))
+      → IsLiveOn base history places grows memory phases asked_now bodies last store dump_now then (Some (record running { image = Some later_image }))
   in_use_from later_image writes_now making_it =
       let w : IsRunningOn base history memory phases asked bodies last store dump beliefs running = u.job in
       record {
@@ -131,7 +131,7 @@ module _ (follows : CatalogFollows) (base : Base) (history : History) (places : 
 
 module _ (follows : CatalogFollows) (base : Base) (history : History) (places : Places) (grows : Bool) (memory : Contents) (phases : List Phase) (asked : List (Option Asked)) (bodies : List (List ℕ))
     (last : ℕ) (store : Store) (dump dump_now : Option Image) (beliefs then : List Belief) (running : Running) (image : Making) (request : Asked) (belief_now : Belief)
-    (u : IsInUseOn base history places grows memory phases asked bodies last store dump beliefs (Some running))
+    (u : IsLiveOn base history places grows memory phases asked bodies last store dump beliefs (Some running))
     (m : IsMakingOn base history memory phases asked bodies last store dump beliefs running.parent running.number image)
     (free : slice_get asked 0 ≡ Some None) (on : request.id.slot ≡ image.order.slot)
     (changed : IsChangedAt beliefs image.order.slot belief_now then) (same : (i : Image) → HasIt m.belief i ↔ HasIt belief_now i)
@@ -199,7 +199,7 @@ module _ (follows : CatalogFollows) (base : Base) (history : History) (places : 
   }
 
   pub in_use_then : (plan p : Planned) → plan_of image.stage ≡ Some plan → IsSlotFor (with_plan image.stage p) image.order m.pages m.phase (file_at bodies its_slot) (Some request) belief_now dump_now
-      → IsInUseOn base history places grows memory phases asked_call bodies last store dump_now then (Some (record running { image = Some (next p) }))
+      → IsLiveOn base history places grows memory phases asked_call bodies last store dump_now then (Some (record running { image = Some (next p) }))
   in_use_then plan p was slot_is =
       in_use_from follows base history places grows memory phases asked bodies last store dump dump_now beliefs then running image request belief_now u m 0 free on changed same few unneeded
       (next p) (ap ids_of lanes_call ∙ u.writes ∙ ap writes_of_image making) (making_then plan p was slot_is)

@@ -21,7 +21,7 @@ use Rattle.sd_rounds.specs.Pass.{Pass}
 use Rattle.sd_rounds.specs.Keeps.{Chain}
 use Rattle.sd_store_laws.specs.Beliefs.{Belief}
 use Rattle.sd_store_laws.specs.Makers.{HasMemory, HasOver}
-use Rattle.sd_crash_safety.specs.InUse.{IsSlotFor}
+use Rattle.sd_crash_safety.specs.LiveImages.{IsSlotFor}
 
 -- ---- a plan that goes on leaves what is known of the image
 

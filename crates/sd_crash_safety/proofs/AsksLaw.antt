@@ -24,7 +24,7 @@ use Rattle.sd_rounds.specs.Made.{MadeLaws}
 use Rattle.sd_rounds.specs.Making.{Asks, Making, is_frozen_dump, is_past_freeze, with_plan}
 use Rattle.sd_rounds.specs.MakingLaws.{image_of}
 use Rattle.sd_store_laws.specs.Beliefs.{Belief, Closed, Kept, Closing, Opening, image_in}
-use Rattle.sd_store_laws.specs.InUse.{CatalogFollows}
+use Rattle.sd_store_laws.specs.LiveImages.{CatalogFollows}
 use Rattle.sd_store_laws.specs.Makers.{DumpShows, HasMemory}
 use Rattle.sd_store_laws.specs.Needs.{IsNeededIn}
 use Rattle.sd_store_laws.specs.SlotSteps.{with_belief}
@@ -32,7 +32,7 @@ use Rattle.sd_store_laws.specs.Store.{IsFresh, IsNext, IsNextDump, jobs}
 use Rattle.sd_crash_safety.specs.Believes.{Believes, HasStore}
 use Rattle.sd_crash_safety.specs.DumperSteps.{AsksFor, commits_dump}
 use Rattle.sd_crash_safety.specs.GateSteps.{GateSteps}
-use Rattle.sd_crash_safety.specs.InUse.{IsFrozenAs, IsImageOn, IsInUseOn, IsMakingOn, IsRunningOn, IsSlotFor, chain_of, pending_dump}
+use Rattle.sd_crash_safety.specs.LiveImages.{IsFrozenAs, IsImageOn, IsLiveOn, IsMakingOn, IsRunningOn, IsSlotFor, chain_of, pending_dump}
 use Rattle.sd_crash_safety.specs.StoreSteps.{MayAsk, MayOpen, QuietSteps}
 use Rattle.sd_crash_safety.specs.View.{CoreView, history_of}
 use Rattle.sd_crash_safety.proofs.Asks.{HasIt, IsChangedAt, changed_by, in_use_then, unchanged_at}
@@ -65,8 +65,8 @@ module _ (quiet : QuietSteps) (gates : GateSteps) (made : MadeLaws) (follows : C
   abbrev asked_now : List (Option Asked)
   asked_now = slice_set asked 0 (Some request)
 
-  u : IsInUseOn old.base history old.catalog old.grows old.memory old.phases asked bodies old.numbers.serial b.store b.dump b.beliefs (Some running)
-  u = subst (λ r. IsInUseOn old.base history old.catalog old.grows old.memory old.phases asked bodies old.numbers.serial b.store b.dump b.beliefs r) s.was (b.knows.in_use s.rest.stands)
+  u : IsLiveOn old.base history old.catalog old.grows old.memory old.phases asked bodies old.numbers.serial b.store b.dump b.beliefs (Some running)
+  u = subst (λ r. IsLiveOn old.base history old.catalog old.grows old.memory old.phases asked bodies old.numbers.serial b.store b.dump b.beliefs r) s.was (b.knows.is_live s.rest.stands)
 
   w : IsRunningOn old.base history old.memory old.phases asked bodies old.numbers.serial b.store b.dump b.beliefs running
   w = u.job
@@ -111,10 +111,10 @@ module _ (quiet : QuietSteps) (gates : GateSteps) (made : MadeLaws) (follows : C
 
   -- the new core, with these beliefs
   believes_with : (dump_now : Option Image) (later : List Belief) → (new.committing ≡ false → dump_now ≡ None) → HasStore old.base history old.phases asked_now bodies b.store dump_now later
-      → IsInUseOn old.base history old.catalog old.grows old.memory old.phases asked_now bodies old.numbers.serial b.store dump_now later (Some (record running { image = Some (record image { stage = with_plan image.stage asks.next }) }))
+      → IsLiveOn old.base history old.catalog old.grows old.memory old.phases asked_now bodies old.numbers.serial b.store dump_now later (Some (record running { image = Some (record image { stage = with_plan image.stage asks.next }) }))
       → ChangesAt old.numbers.serial b.store running (slots_at old.phases bodies b.beliefs) b.store (Some (record running { image = Some (record image { stage = with_plan image.stage asks.next }) })) (slots_at old.phases bodies later) slot
       → Believes new asked_now bodies files
-  believes_with dump_now later sure has in_use changes = believes_parts new old.base history old.catalog old.grows old.memory old.phases old.numbers.serial
+  believes_with dump_now later sure has is_live changes = believes_parts new old.base history old.catalog old.grows old.memory old.phases old.numbers.serial
       (Some (record running { image = Some (record image { stage = with_plan image.stage asks.next }) })) old.merger
       (record {
         base_is = s.rest.base;
@@ -129,7 +129,7 @@ module _ (quiet : QuietSteps) (gates : GateSteps) (made : MadeLaws) (follows : C
         closed = s.rest.closed;
       })
       asked_now bodies files b.store dump_now later sure b.knows.count
-      (ids_set asked 0 (Some request) ∙ ap (λ ids. slice_set ids 0 (Some request.id)) b.knows.out ∙ sym s.outs) has in_use
+      (ids_set asked 0 (Some request) ∙ ap (λ ids. slice_set ids 0 (Some request.id)) b.knows.out ∙ sym s.outs) has is_live
       (merge_then old.numbers.serial b.store (Some running) (slots_at old.phases bodies b.beliefs) old.numbers.serial b.store (Some later_running) (slots_at old.phases bodies later)
       (leaves_at old.numbers.serial b.store running (slots_at old.phases bodies b.beliefs) b.store (Some later_running) (slots_at old.phases bodies later) slot changes)
       asked asked_now (own_beside asked (Some request)) old.merger (b.knows.merging s.rest.stands).spelled (merging_of old asked bodies files (Some running) s.rest.stands s.was b))

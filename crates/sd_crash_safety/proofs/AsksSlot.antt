@@ -22,7 +22,7 @@ use Rattle.sd_rounds.specs.Making.{plan_of, with_plan}
 use Rattle.sd_rounds.specs.MakingLaws.{Pages, image_of}
 use Rattle.sd_store_laws.specs.Beliefs.{Belief, Closed, Kept, Closing, Opening}
 use Rattle.sd_store_laws.specs.Gates.{IsBelievedAs}
-use Rattle.sd_crash_safety.specs.InUse.{AreLeft, ClosesBody, IsFormatted, IsFormatting, IsSlotFor, calls_left, is_opening_at, kind_of_call, pending_dump}
+use Rattle.sd_crash_safety.specs.LiveImages.{AreLeft, ClosesBody, IsFormatted, IsFormatting, IsSlotFor, calls_left, is_opening_at, kind_of_call, pending_dump}
 use Rattle.sd_crash_safety.proofs.Leads.{leads_end, leads_head}
 
 -- the image that a stage writes into its slot

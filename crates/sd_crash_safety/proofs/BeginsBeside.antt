@@ -4,7 +4,7 @@ use Rattle.sd_image.specs.Image.{Image}
 use Rattle.sd_image.specs.Shows.{IsNamed}
 use Rattle.sd_image.proofs.Members.{contains_at}
 use Rattle.sd_chain.specs.Catalog.{Places}
-use Rattle.sd_chain.specs.Tells.{CatalogLists}
+use Rattle.sd_chain.specs.Recorded.{CatalogLists}
 use Rattle.sd_gate.specs.declared.phase.Phase.{Phase}
 use Rattle.sd_gate.specs.Requests.{Asked}
 use Rattle.sd_merge.specs.declared.retired.Retired.{Retired}
@@ -17,20 +17,20 @@ use Rattle.sd_merge.specs.Merger as merger
 use Rattle.sd_rounds.specs.Dumper.{IsReserved, Running}
 use Rattle.sd_rounds.specs.Pass.{Place}
 use Rattle.sd_store_laws.specs.Beliefs.{Belief, Kept}
-use Rattle.sd_store_laws.specs.InUse.{IsCatalogInUse, SlotHasImage, ToldReachesSo}
+use Rattle.sd_store_laws.specs.LiveImages.{IsLiveCatalog, SlotHasImage, RecordedReachesSo}
 use Rattle.sd_store_laws.specs.Reached.{Reaches, beyond, itself}
 use Rattle.sd_store_laws.specs.Store.{Store}
 use Rattle.sd_crash_safety.specs.CheckpointSteps.{IsUnread, LeavesMerge}
 use Rattle.sd_crash_safety.specs.Merges.{IsAskedIn, IsCopyOfSource, IsMergeAt, IsMergeOn, IsOtherImage, IsRepeating, IsRetiringOn, MakesOther}
 
-module _ (places : Places) (store : Store) (beliefs : List Belief) (in_use : IsCatalogInUse places beliefs) (told : CatalogLists places store.catalog) (reaches : ToldReachesSo places)
+module _ (places : Places) (store : Store) (beliefs : List Belief) (is_live : IsLiveCatalog places beliefs) (told : CatalogLists places store.catalog) (reaches : RecordedReachesSo places)
     (members : (i : Image) → Contains beliefs (Kept i) → Contains store.catalog i) (phases : List Phase) (asked : List (Option Asked)) (bodies : List (List ℕ)) (last : ℕ) (running : Running) where
   -- what the source reaches stands in none of these slots
   module _ (source : Source) (image : Image) (serial_is : source.serial ≡ image.header.serial) (there : Contains store.catalog image)
       (unread : (k : ℕ) → IsReserved running k → IsUnread places (Some source) k) where
     pub unreserved : (k : ℕ) (i : Image) → SlotHasImage beliefs k i → Reaches store.catalog i image → IsReserved running k → ⊥
     unreserved k i has way r =
-        let o = in_use.opened k i has in
+        let o = is_live.opened k i has in
         unread k r i.header.serial o.0 o.1 o.3 ((reaches store.catalog told source.serial i.header.serial).1 (image, i, there, sym serial_is, way, refl))
 
   -- ---- what is read
@@ -183,7 +183,7 @@ module _ (places : Places) (store : Store) (beliefs : List Belief) (in_use : IsC
     by_source at origin m unread number start member names way =
         let s = m.source in
         let is = only number (subst (λ work. Contains work number) s.work member) in
-        let o = in_use.opened k i has in
+        let o = is_live.opened k i has in
         let there = members m.image (contains_at beliefs s.slot (Kept m.image) s.kept) in
         unread i.header.serial o.0 o.1 o.3 ((reaches store.catalog told origin.serial i.header.serial).1
         (m.image, i, there, sym s.serial, beyond m.image start (subst (λ n. IsNamed store.catalog n start) is names) way, refl))

@@ -13,13 +13,13 @@ use Rattle.sd_rounds.specs.Dumper.{Running, order_of, slot_of, writes_of_image}
 use Rattle.sd_rounds.specs.Making.{Making, begun_image}
 use Rattle.sd_rounds.specs.MakingLaws.{MakingLaws}
 use Rattle.sd_store_laws.specs.Beliefs.{Belief, image_at}
-use Rattle.sd_store_laws.specs.InUse.{IsCatalogInUse, SlotHasImage}
+use Rattle.sd_store_laws.specs.LiveImages.{IsLiveCatalog, SlotHasImage}
 use Rattle.sd_store_laws.specs.Makers.{IsAboveStore}
 use Rattle.sd_store_laws.specs.Store.{Store, jobs}
 use Rattle.sd_crash_safety.specs.Believes.{Believes}
 use Rattle.sd_crash_safety.specs.Calls.{IsFree}
 use Rattle.sd_crash_safety.specs.DumperSteps.{BeginsImage}
-use Rattle.sd_crash_safety.specs.InUse.{AreUsed, IsBetween, IsImageOn, IsInUseOn, IsMakingOn, IsNewNumber, IsRunningOn, NoneAt, chain_of, ids_of, IsFormatting, lanes_of}
+use Rattle.sd_crash_safety.specs.LiveImages.{AreUsed, IsBetween, IsImageOn, IsLiveOn, IsMakingOn, IsNewNumber, IsRunningOn, NoneAt, chain_of, ids_of, IsFormatting, lanes_of}
 use Rattle.sd_crash_safety.specs.View.{CoreView, history_of}
 use Rattle.sd_crash_safety.proofs.MergeStays.{merge_beside, spares_with}
 use Rattle.sd_crash_safety.proofs.OpenCore.{believes_parts}
@@ -54,7 +54,7 @@ used_more last store beliefs used = record {
 -- ---- a place that is held
 
 pub held_in_use : (old new : Places) (beliefs : List Belief) (serial : ℕ) → Changes old new serial (Some None)
-    → ((slot : ℕ) (i : Image) → SlotHasImage beliefs slot i → i.header.serial ≢ serial) → IsCatalogInUse old beliefs → IsCatalogInUse new beliefs
+    → ((slot : ℕ) (i : Image) → SlotHasImage beliefs slot i → i.header.serial ≢ serial) → IsLiveCatalog old beliefs → IsLiveCatalog new beliefs
 held_in_use old new beliefs serial held others use_old = record {
   image = λ other o at. use_old.image other o (was other o at);
   opened = λ slot i has.
@@ -105,7 +105,7 @@ never_frozen k is = grind arith
 
 begun_on : MakingLaws → PlansLead → (old : CoreView) (running : Running) (phase : Phase) (asked : List (Option Asked)) (bodies : List (List ℕ)) (store : Store) (dump : Option Image) (beliefs : List Belief)
     → slice_get old.phases (slot_of running) ≡ Some phase → NoneAt asked (slot_of running) → length beliefs ≡ length old.phases
-    → IsInUseOn old.base (history_of old) old.catalog old.grows old.memory old.phases asked bodies old.numbers.serial store dump beliefs (Some running)
+    → IsLiveOn old.base (history_of old) old.catalog old.grows old.memory old.phases asked bodies old.numbers.serial store dump beliefs (Some running)
     → ids_of (lanes_of asked) ≡ no_writes → IsBetween old.memory asked store dump running.parent → Contains (jobs store) running.parent
     → IsMakingOn old.base (history_of old) old.memory old.phases asked bodies (old.numbers.serial + 1) store dump beliefs running.parent running.number
     (begun_image (order_of running (old.numbers.serial + 1) (state_of phase)))
@@ -151,8 +151,8 @@ between_of old running asked bodies store dump beliefs image none m =
 pub begins_image_lem : MakingLaws → PlansLead → (old new : CoreView) (running : Running) (phase : Phase) (asked : List (Option Asked)) (bodies files : List (List ℕ))
     → BeginsImage old running phase new → Believes old asked bodies files → Believes new asked bodies files
 begins_image_lem making plans old new running phase asked bodies files s b =
-    let u : IsInUseOn old.base (history_of old) old.catalog old.grows old.memory old.phases asked bodies old.numbers.serial b.store b.dump b.beliefs (Some running) =
-    subst (λ r. IsInUseOn old.base (history_of old) old.catalog old.grows old.memory old.phases asked bodies old.numbers.serial b.store b.dump b.beliefs r) s.was (b.knows.in_use s.rest.stands) in
+    let u : IsLiveOn old.base (history_of old) old.catalog old.grows old.memory old.phases asked bodies old.numbers.serial b.store b.dump b.beliefs (Some running) =
+    subst (λ r. IsLiveOn old.base (history_of old) old.catalog old.grows old.memory old.phases asked bodies old.numbers.serial b.store b.dump b.beliefs r) s.was (b.knows.is_live s.rest.stands) in
     let w : IsRunningOn old.base (history_of old) old.memory old.phases asked bodies old.numbers.serial b.store b.dump b.beliefs running = u.job in
     let free = none_at asked old (slot_of running) b.knows.out s.free in
     let begun = begun_image (order_of running (old.numbers.serial + 1) (state_of phase)) in

@@ -7,14 +7,14 @@ use Rattle.sd_image.proofs.Members.{place_in}
 use Rattle.sd_chain.specs.Catalog.{Opened, Places}
 use Rattle.sd_chain.specs.Catalog as catalog
 use Rattle.sd_chain.specs.Reaches.{ReachesSerial}
-use Rattle.sd_chain.specs.Tells.{Agrees, CatalogLists, IsToldAs}
+use Rattle.sd_chain.specs.Recorded.{Agrees, CatalogLists, IsRecordedAs}
 use Rattle.sd_gate.specs.Requests.{Asked}
 use Rattle.sd_journal.specs.History.{History}
 use Rattle.sd_rounds.specs.Dumper.{IsReserved, Running, writes_of_image}
 use Rattle.sd_rounds.specs.Keeps.{Rests}
 use Rattle.sd_rounds.specs.Making.{Making}
 use Rattle.sd_store_laws.specs.Beliefs.{Kept, image_at, image_in}
-use Rattle.sd_store_laws.specs.InUse.{CatalogInUseTells, ToldReachesSo}
+use Rattle.sd_store_laws.specs.LiveImages.{LiveCatalogAgrees, RecordedReachesSo}
 use Rattle.sd_store_laws.specs.Makers.{IsAboveStore}
 use Rattle.sd_store_laws.specs.Needed.{IsNeeded, NeededIsReached}
 use Rattle.sd_store_laws.specs.Reached.{Reaches}
@@ -24,22 +24,22 @@ use Rattle.sd_store_laws.specs.Store.{jobs}
 use Rattle.sd_crash_safety.specs.Believes.{Believes, HasStore}
 use Rattle.sd_crash_safety.specs.CheckpointSteps.{BeginningIsBelieved, BeginsCheckpoint}
 use Rattle.sd_crash_safety.specs.GateSteps.{GateSteps}
-use Rattle.sd_crash_safety.specs.InUse.{IsAtRest, IsImageOn, IsInUseOn, chain_of}
+use Rattle.sd_crash_safety.specs.LiveImages.{IsAtRest, IsImageOn, IsLiveOn, chain_of}
 use Rattle.sd_crash_safety.specs.View.{CoreView, history_of}
 use Rattle.sd_crash_safety.specs.Merges.{IsMergeOn}
 use Rattle.sd_crash_safety.proofs.BeginsBeside.{merge_on_beside, uncalled_by_work}
 use Rattle.sd_crash_safety.proofs.MergeStays.{LeavesMerge, holds_same, merge_then, merging_of, slots_at}
 use Rattle.sd_crash_safety.proofs.OpenCore.{believes_parts}
 
-module _ (gates : GateSteps) (needs : NeedsNoMore) (reached : NeededIsReached) (places : Places) (tells : CatalogInUseTells places) (reaches : ToldReachesSo places)
+module _ (gates : GateSteps) (needs : NeedsNoMore) (reached : NeededIsReached) (places : Places) (tells : LiveCatalogAgrees places) (reaches : RecordedReachesSo places)
     (agrees : (all : List Image) → CatalogLists places all → Agrees places all) (old new : CoreView) (running : Running)
     (asked : List (Option Asked)) (bodies files : List (List ℕ)) (s : BeginsCheckpoint places old running new) (b : Believes old asked bodies files) where
   abbrev history : History
   history = history_of old
 
-  u : IsInUseOn old.base history places old.grows old.memory old.phases asked bodies old.numbers.serial b.store b.dump b.beliefs None
-  u = subst (λ p. IsInUseOn old.base history p old.grows old.memory old.phases asked bodies old.numbers.serial b.store b.dump b.beliefs None) s.its_catalog
-      (subst (λ r. IsInUseOn old.base history old.catalog old.grows old.memory old.phases asked bodies old.numbers.serial b.store b.dump b.beliefs r) s.was (b.knows.in_use s.rest.stands))
+  u : IsLiveOn old.base history places old.grows old.memory old.phases asked bodies old.numbers.serial b.store b.dump b.beliefs None
+  u = subst (λ p. IsLiveOn old.base history p old.grows old.memory old.phases asked bodies old.numbers.serial b.store b.dump b.beliefs None) s.its_catalog
+      (subst (λ r. IsLiveOn old.base history old.catalog old.grows old.memory old.phases asked bodies old.numbers.serial b.store b.dump b.beliefs r) s.was (b.knows.is_live s.rest.stands))
 
   rest : IsAtRest old.grows old.memory asked b.store b.dump
   rest = u.job
@@ -112,7 +112,7 @@ module _ (gates : GateSteps) (needs : NeedsNoMore) (reached : NeededIsReached) (
     low = u.used.above.stands tip image.1;
   })
     where
-      image : (image : Image) × Contains b.store.catalog image × IsToldAs t image
+      image : (image : Image) × Contains b.store.catalog image × IsRecordedAs t image
       image = told.image t is.member
 
       tip : Image
@@ -210,7 +210,7 @@ module _ (gates : GateSteps) (needs : NeedsNoMore) (reached : NeededIsReached) (
         is = merge_on_beside places b.store b.beliefs u.catalog told reaches members old.phases asked bodies old.numbers.serial running s.fresh.0 old.merger (s.merge (so.fall.1 b.has.sound.fall)) merge;
       }))
 
-pub beginning_lem : GateSteps → NeedsNoMore → NeededIsReached → (places : Places) → CatalogInUseTells places → ToldReachesSo places
+pub beginning_lem : GateSteps → NeedsNoMore → NeededIsReached → (places : Places) → LiveCatalogAgrees places → RecordedReachesSo places
     → ((all : List Image) → CatalogLists places all → Agrees places all) → BeginningIsBelieved places
 beginning_lem gates needs reached places tells reaches agrees old new running asked bodies files s b =
     begins_lem gates needs reached places tells reaches agrees old new running asked bodies files s b

@@ -8,7 +8,7 @@ use Rattle.sd_image.specs.Table.{Listed}
 use Rattle.sd_image.proofs.Members.{contains_at, place_in}
 use Rattle.sd_chain.specs.Catalog.{Opened, Places, place_of}
 use Rattle.sd_chain.specs.Reaches.{ReachesSerial}
-use Rattle.sd_chain.specs.Tells.{Agrees, CatalogLists, IsToldAs}
+use Rattle.sd_chain.specs.Recorded.{Agrees, CatalogLists, IsRecordedAs}
 use Rattle.sd_gate.specs.declared.phase.Phase.{Phase}
 use Rattle.sd_gate.specs.Laws.{PlansLead}
 use Rattle.sd_gate.specs.Phases.{state_of}
@@ -24,7 +24,7 @@ use Rattle.sd_rounds.specs.Dumper.{Running}
 use Rattle.sd_rounds.specs.Making.{Making}
 use Rattle.sd_rounds.specs.MakingLaws.{MakingLaws}
 use Rattle.sd_store_laws.specs.Beliefs.{Kept, Opening, IsAdded, image_at, image_in}
-use Rattle.sd_store_laws.specs.InUse.{CatalogInUseTells, ToldReachesSo}
+use Rattle.sd_store_laws.specs.LiveImages.{LiveCatalogAgrees, RecordedReachesSo}
 use Rattle.sd_store_laws.specs.Makers.{IsAboveStore}
 use Rattle.sd_store_laws.specs.Needed.{NeededIsReached}
 use Rattle.sd_store_laws.specs.Needs.{IsNeededIn, NeedsNoMore}
@@ -33,7 +33,7 @@ use Rattle.sd_store_laws.specs.Steps.{merging}
 use Rattle.sd_store_laws.specs.Store.{IsNextDump, Store, jobs}
 use Rattle.sd_crash_safety.specs.Believes.{Believes}
 use Rattle.sd_crash_safety.specs.GateSteps.{GateSteps}
-use Rattle.sd_crash_safety.specs.InUse.{IsAtWork, IsImageOn, IsInUseOn}
+use Rattle.sd_crash_safety.specs.LiveImages.{IsAtWork, IsImageOn, IsLiveOn}
 use Rattle.sd_crash_safety.specs.MergerSteps.{BeginsMerge, BeginsMerged, IsUncalled, MergeBeginningIsBelieved}
 use Rattle.sd_crash_safety.specs.Merges.{IsCopyOfSource, IsMergeAt, IsMergeOn, IsOtherImage, IsRepeating, IsSilent, IsUnmerged, MakesOther}
 use Rattle.sd_crash_safety.specs.View.{CoreView, history_of}
@@ -61,7 +61,7 @@ pub begins_merged_lem : MergeLaws → MakingLaws → PlansLead → (old new : Co
     → BeginsMerged old merge phase new → Believes old asked bodies files → Believes new asked bodies files
 begins_merged_lem merge_laws making plans old new merge phase asked bodies files s b =
     let last = old.numbers.serial in
-    let u : IsInUseOn old.base (history_of old) old.catalog old.grows old.memory old.phases asked bodies last b.store b.dump b.beliefs old.dumper.running = b.knows.in_use s.rest.stands in
+    let u : IsLiveOn old.base (history_of old) old.catalog old.grows old.memory old.phases asked bodies last b.store b.dump b.beliefs old.dumper.running = b.knows.is_live s.rest.stands in
     let m : IsRepeating old.phases b.store b.beliefs old.dumper.running merge.slot merge.source × IsSilent asked =
     subst (IsMergeAt old.phases asked bodies last b.store b.beliefs old.dumper.running merge.slot merge.source) s.due
     (subst (λ x. IsMergeOn old.phases asked bodies last b.store b.beliefs old.dumper.running x) s.was (b.knows.merging s.rest.stands).is) in
@@ -140,7 +140,7 @@ begins_merged_lem merge_laws making plans old new merge phase asked bodies files
 
 -- ---- a merge begins
 
-module _ (gates : GateSteps) (needs : NeedsNoMore) (making : MakingLaws) (reached : NeededIsReached) (places : Places) (tells : CatalogInUseTells places) (reaches : ToldReachesSo places)
+module _ (gates : GateSteps) (needs : NeedsNoMore) (making : MakingLaws) (reached : NeededIsReached) (places : Places) (tells : LiveCatalogAgrees places) (reaches : RecordedReachesSo places)
     (agrees : (all : List Image) → CatalogLists places all → Agrees places all)
     (old new : CoreView) (t : Opened) (slot : ℕ) (before : List ℕ)
     (asked : List (Option Asked)) (bodies files : List (List ℕ)) (s : BeginsMerge places old t slot before new) (b : Believes old asked bodies files) where
@@ -153,8 +153,8 @@ module _ (gates : GateSteps) (needs : NeedsNoMore) (making : MakingLaws) (reache
   abbrev running : Option Running
   running = old.dumper.running
 
-  u : IsInUseOn old.base history places old.grows old.memory old.phases asked bodies last b.store b.dump b.beliefs running
-  u = subst (λ p. IsInUseOn old.base history p old.grows old.memory old.phases asked bodies last b.store b.dump b.beliefs running) s.its_catalog (b.knows.in_use s.rest.stands)
+  u : IsLiveOn old.base history places old.grows old.memory old.phases asked bodies last b.store b.dump b.beliefs running
+  u = subst (λ p. IsLiveOn old.base history p old.grows old.memory old.phases asked bodies last b.store b.dump b.beliefs running) s.its_catalog (b.knows.is_live s.rest.stands)
 
   m : IsUnmerged b.store × IsSilent asked
   m = subst (λ x. IsMergeOn old.phases asked bodies last b.store b.beliefs running x) s.was (b.knows.merging s.rest.stands).is
@@ -165,7 +165,7 @@ module _ (gates : GateSteps) (needs : NeedsNoMore) (making : MakingLaws) (reache
   so : Agrees places b.store.catalog
   so = agrees b.store.catalog told
 
-  image : (image : Image) × Contains b.store.catalog image × IsToldAs t image
+  image : (image : Image) × Contains b.store.catalog image × IsRecordedAs t image
   image = told.image t s.is_tip.member
 
   abbrev tip : Image
@@ -187,7 +187,7 @@ module _ (gates : GateSteps) (needs : NeedsNoMore) (making : MakingLaws) (reache
     its : kept.0 ≡ slot
     its = b.has.slots.serials kept.0 slot i i (ap (λ o. option_and_then image_in o) kept.1) has refl
 
-    opened : (o : Opened) × (place_of places i.header.serial ≡ Some (Some o)) × IsToldAs o i × (o.slot ≡ slot)
+    opened : (o : Opened) × (place_of places i.header.serial ≡ Some (Some o)) × IsRecordedAs o i × (o.slot ≡ slot)
     opened = u.catalog.opened slot i (inl (ap (slice_get b.beliefs) (sym its) ∙ kept.1))
 
     -- what an image reaches is reached by serial
@@ -339,7 +339,7 @@ module _ (gates : GateSteps) (needs : NeedsNoMore) (making : MakingLaws) (reache
       })
       (record { spelled = (b.knows.merging s.rest.stands).spelled; is = (repeats, m.1) })
 
-pub begins_merge_lem : GateSteps → NeedsNoMore → MakingLaws → NeededIsReached → (places : Places) → CatalogInUseTells places → ToldReachesSo places
+pub begins_merge_lem : GateSteps → NeedsNoMore → MakingLaws → NeededIsReached → (places : Places) → LiveCatalogAgrees places → RecordedReachesSo places
     → ((all : List Image) → CatalogLists places all → Agrees places all) → MergeBeginningIsBelieved places
 begins_merge_lem gates needs making reached places tells reaches agrees old new t slot before asked bodies files s b =
     begins_merge_at gates needs making reached places tells reaches agrees old new t slot before asked bodies files s b

@@ -6,7 +6,7 @@ use Rattle.sd_gate.specs.Requests.{Asked}
 use Rattle.sd_journal.specs.declared.entry.Entry.TheVariants.{Cancelled}
 use Rattle.sd_journal.specs.Marked.{entries_of}
 use Rattle.sd_store_laws.specs.Beliefs.{Belief}
-use Rattle.sd_store_laws.specs.InUse.{IsCatalogInUse}
+use Rattle.sd_store_laws.specs.LiveImages.{IsLiveCatalog}
 use Rattle.sd_store_laws.specs.Makers.{IsAboveStore}
 use Rattle.sd_store_laws.specs.Needs.{NeedsNoMore}
 use Rattle.sd_store_laws.specs.Steps.{cancelled}
@@ -22,7 +22,7 @@ use Rattle.sd_crash_safety.proofs.OpenCore.{HasParts, in_use_parts, merging_part
 use Rattle.sd_crash_safety.proofs.Places.{free_there}
 
 same_images : (old new : Places) (beliefs : List Belief) → ((serial : ℕ) (o : Opened) → place_of new serial ≡ Some (Some o) ↔ place_of old serial ≡ Some (Some o))
-    → IsCatalogInUse old beliefs → IsCatalogInUse new beliefs
+    → IsLiveCatalog old beliefs → IsLiveCatalog new beliefs
 same_images old new beliefs same u = record {
   image = λ serial o at. u.image serial o ((same serial o).0 at);
   opened = λ slot i has. (let o = u.opened slot i has in (o.0, (same i.header.serial o.0).1 o.1, o.2, o.3));
@@ -77,10 +77,10 @@ module _ (quiet : QuietSteps) (gates : GateSteps) (needs : NeedsNoMore) (old new
       out = b.knows.out ∙ sym s.outs;
       sees = subst (λ o. IfSome o (SeesStore files new.phases asked)) (sym s.closed) tt;
       sure = λ is. refl;
-      in_use = λ stands. in_use_parts new old.base (Cancelled n ∷ history_of old) new.catalog false old.memory old.phases old.numbers.serial None old.merger
+      is_live = λ stands. in_use_parts new old.base (Cancelled n ∷ history_of old) new.catalog false old.memory old.phases old.numbers.serial None old.merger
           parts
           asked bodies files (cancelled b.store) None b.beliefs
-          (let u = b.knows.in_use (sym s.standing ∙ stands) in record {
+          (let u = b.knows.is_live (sym s.standing ∙ stands) in record {
             catalog = same_images old.catalog new.catalog b.beliefs s.images u.catalog;
             grows_is = refl;
             used = record { above = above_idle b.store (old.numbers.serial + 1) u.used.above; slots = u.used.slots };

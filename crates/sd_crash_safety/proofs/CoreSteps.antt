@@ -20,9 +20,9 @@ use Rattle.sd_store_laws.specs.Store.{Store}
 use Rattle.sd_crash_safety.specs.declared.standing.Standing.TheVariants.{Open}
 use Rattle.sd_crash_safety.specs.Believes.{Believes, HasStore}
 use Rattle.sd_crash_safety.specs.CoreSteps.{CoreSteps, IsCommanded, JournalsCommand, SameCore, SameStore}
-use Rattle.sd_crash_safety.specs.InUse.{IsAtWork, IsImageOn, IsInUseOn, chain_of}
+use Rattle.sd_crash_safety.specs.LiveImages.{IsAtWork, IsImageOn, IsLiveOn, chain_of}
 use Rattle.sd_crash_safety.specs.Knows.{Knows}
-use Rattle.sd_crash_safety.specs.Merges.{IsMergeInUse}
+use Rattle.sd_crash_safety.specs.Merges.{IsLiveMerge}
 use Rattle.sd_crash_safety.specs.StoreSteps.{QuietSteps}
 use Rattle.sd_crash_safety.specs.View.{CoreView, history_of}
 use Rattle.sd_crash_safety.proofs.NoClear.{no_clear}
@@ -32,28 +32,28 @@ use Rattle.sd_crash_safety.proofs.NoClear.{no_clear}
 -- what is known of a store that is open, in another core with the same store
 module _ (old new : CoreView) (same : SameStore old new) (asked : List (Option Asked)) (bodies files : List (List ℕ)) (store : Store) (dump : Option Image) (beliefs : List Belief) where
   open_in : (history : History) (memory : Contents)
-      → IsInUseOn old.base history old.catalog old.grows memory old.phases asked bodies old.numbers.serial store dump beliefs old.dumper.running
-      → IsInUseOn new.base history new.catalog new.grows memory new.phases asked bodies new.numbers.serial store dump beliefs new.dumper.running
+      → IsLiveOn old.base history old.catalog old.grows memory old.phases asked bodies old.numbers.serial store dump beliefs old.dumper.running
+      → IsLiveOn new.base history new.catalog new.grows memory new.phases asked bodies new.numbers.serial store dump beliefs new.dumper.running
   open_in history memory u =
-      subst (λ x. IsInUseOn x history new.catalog new.grows memory new.phases asked bodies new.numbers.serial store dump beliefs new.dumper.running) (sym same.base)
-      (subst (λ x. IsInUseOn old.base history x new.grows memory new.phases asked bodies new.numbers.serial store dump beliefs new.dumper.running) (sym same.catalog)
-      (subst (λ x. IsInUseOn old.base history old.catalog x memory new.phases asked bodies new.numbers.serial store dump beliefs new.dumper.running) (sym same.grows)
-      (subst (λ x. IsInUseOn old.base history old.catalog old.grows memory x asked bodies new.numbers.serial store dump beliefs new.dumper.running) (sym same.phases)
-      (subst (λ x. IsInUseOn old.base history old.catalog old.grows memory old.phases asked bodies x store dump beliefs new.dumper.running) (sym same.serial)
+      subst (λ x. IsLiveOn x history new.catalog new.grows memory new.phases asked bodies new.numbers.serial store dump beliefs new.dumper.running) (sym same.base)
+      (subst (λ x. IsLiveOn old.base history x new.grows memory new.phases asked bodies new.numbers.serial store dump beliefs new.dumper.running) (sym same.catalog)
+      (subst (λ x. IsLiveOn old.base history old.catalog x memory new.phases asked bodies new.numbers.serial store dump beliefs new.dumper.running) (sym same.grows)
+      (subst (λ x. IsLiveOn old.base history old.catalog old.grows memory x asked bodies new.numbers.serial store dump beliefs new.dumper.running) (sym same.phases)
+      (subst (λ x. IsLiveOn old.base history old.catalog old.grows memory old.phases asked bodies x store dump beliefs new.dumper.running) (sym same.serial)
       (ap_running history memory u)))))
     where
       ap_running : (h : History) (m : Contents)
-          → IsInUseOn old.base h old.catalog old.grows m old.phases asked bodies old.numbers.serial store dump beliefs old.dumper.running
-          → IsInUseOn old.base h old.catalog old.grows m old.phases asked bodies old.numbers.serial store dump beliefs new.dumper.running
-      ap_running h m = subst (λ d. IsInUseOn old.base h old.catalog old.grows m old.phases asked bodies old.numbers.serial store dump beliefs d.running) (sym same.dumper)
+          → IsLiveOn old.base h old.catalog old.grows m old.phases asked bodies old.numbers.serial store dump beliefs old.dumper.running
+          → IsLiveOn old.base h old.catalog old.grows m old.phases asked bodies old.numbers.serial store dump beliefs new.dumper.running
+      ap_running h m = subst (λ d. IsLiveOn old.base h old.catalog old.grows m old.phases asked bodies old.numbers.serial store dump beliefs d.running) (sym same.dumper)
 
-  merging_in : IsMergeInUse old.phases asked bodies old.numbers.serial store beliefs old.dumper.running old.merger
-      → IsMergeInUse new.phases asked bodies new.numbers.serial store beliefs new.dumper.running new.merger
+  merging_in : IsLiveMerge old.phases asked bodies old.numbers.serial store beliefs old.dumper.running old.merger
+      → IsLiveMerge new.phases asked bodies new.numbers.serial store beliefs new.dumper.running new.merger
   merging_in m = grind arith
 
-  knows_in : ((stands : old.standing ≡ Open) → IsInUseOn old.base (history_of new) old.catalog old.grows new.memory old.phases asked bodies old.numbers.serial store dump beliefs old.dumper.running)
+  knows_in : ((stands : old.standing ≡ Open) → IsLiveOn old.base (history_of new) old.catalog old.grows new.memory old.phases asked bodies old.numbers.serial store dump beliefs old.dumper.running)
       → Knows old asked bodies files store dump beliefs → Knows new asked bodies files store dump beliefs
-  knows_in in_use knows = grind arith
+  knows_in is_live knows = grind arith
 
   has_in : (history : History) → HasStore old.base history old.phases asked bodies store dump beliefs → HasStore new.base history new.phases asked bodies store dump beliefs
   has_in history has = grind arith
@@ -180,8 +180,8 @@ applied_lem quiet keeps making old new seat command told asked bodies files a b 
           (subst (λ h. HasStore old.base h old.phases asked bodies b.store b.dump b.beliefs) (sym history)
           (quiet.applied old.base (history_of old) old.phases asked bodies b.store b.dump b.beliefs seat command told b.has));
       knows = knows_in old new a.store asked bodies files b.store b.dump b.beliefs
-          (λ stands. subst (λ h. IsInUseOn old.base h old.catalog old.grows new.memory old.phases asked bodies old.numbers.serial b.store b.dump b.beliefs old.dumper.running) (sym history)
-          (let u = b.knows.in_use stands in record {
+          (λ stands. subst (λ h. IsLiveOn old.base h old.catalog old.grows new.memory old.phases asked bodies old.numbers.serial b.store b.dump b.beliefs old.dumper.running) (sym history)
+          (let u = b.knows.is_live stands in record {
             catalog = u.catalog;
             grows_is = u.grows_is;
             used = u.used;

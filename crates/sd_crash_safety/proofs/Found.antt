@@ -2,8 +2,8 @@
 use Rattle.std.proofs.Common.{◌≡◌, ℕ, suc, List, [], ◌∷◌, drop, length, map, None, IfSome, refl, sym, ◌∙◌, ap, subst}
 use Rattle.sd_gate.specs.Laws.{found_phase}
 use Rattle.sd_store_laws.specs.GateSteps.{FilesAreBelieved, FoundIsExact}
-use Rattle.sd_store_laws.specs.InUse.{CatalogIsFound}
-use Rattle.sd_crash_safety.proofs.FoundInUse.{found_in_use, found_merging}
+use Rattle.sd_store_laws.specs.LiveImages.{CatalogIsFound}
+use Rattle.sd_crash_safety.proofs.FoundLive.{found_in_use, found_merging}
 use Rattle.sd_store_laws.specs.Gates.{AreBelieved}
 use Rattle.sd_store_laws.specs.Opens.{OpenedIsSound}
 use Rattle.sd_store_laws.specs.SlotSteps.{SlotsAreFound}
@@ -40,7 +40,7 @@ found_lem files_are exact catalog_is is_sound slots_are core asked files shown p
         out = out;
         sees = subst (λ opener. IfSome opener (SeesStore files core.phases asked)) (sym closed) tt;
         sure = λ is. refl;
-        in_use = λ is. found_in_use exact catalog_is core asked files shows.images slots.0 phases none out (open_as is) slots.1 slots.2;
+        is_live = λ is. found_in_use exact catalog_is core asked files shows.images slots.0 phases none out (open_as is) slots.1 slots.2;
         merging = λ is. found_merging core asked files shows.images slots.0 out (open_as is) slots.1 slots.2;
       };
     }

@@ -22,8 +22,8 @@ use Rattle.sd_store_laws.specs.SlotSteps.{ClosingRetires, Lacks, SlotsDrop, Slot
 use Rattle.sd_store_laws.specs.Steps.{StepsKeep, added, cancelled, checkpoint_begun, committed, merging, replaced, retired}
 use Rattle.sd_store_laws.specs.Store.{IsNextDump, IsNextPreDump, IsSoundStore, Store}
 use Rattle.sd_crash_safety.specs.Believes.{HasStore, IsCovered, ShowsPending}
-use Rattle.sd_crash_safety.specs.GateSteps.{GateSteps, GateStepsAt, IsOnlyTwin, MayClose}
-use Rattle.sd_crash_safety.specs.InUse.{NoneAt}
+use Rattle.sd_crash_safety.specs.GateSteps.{GateSteps, GateStepsAt, IsOnlyMergedCopy, MayClose}
+use Rattle.sd_crash_safety.specs.LiveImages.{NoneAt}
 use Rattle.sd_crash_safety.specs.StoreSteps.{IsShut, MayOpen, SlotIsOpened}
 use Rattle.sd_image.proofs.ReadyLemmas.{image_opens}
 use Rattle.sd_store_laws.proofs.SlotSteps.{set_other}
@@ -237,7 +237,7 @@ module _ (laws : StoreLaws) (base : Base) (history : History) (phases : List Pha
           next = tt;
         }
 
-    replaces : (store : Store) (dump : Option Image) → IsOnlyTwin store dump beliefs i → Has asked store dump beliefs
+    replaces : (store : Store) (dump : Option Image) → IsOnlyMergedCopy store dump beliefs i → Has asked store dump beliefs
         → Has asked (replaced store (i ∷ store.catalog)) dump (with_belief beliefs slot (Kept i))
     replaces store dump only has =
         let more = in_front store.catalog i in

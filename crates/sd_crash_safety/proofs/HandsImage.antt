@@ -18,13 +18,13 @@ use Rattle.sd_rounds.specs.declared.image_order.ImageOrder.{ImageOrder}
 use Rattle.sd_rounds.specs.declared.stage.Stage.{Stage}
 use Rattle.sd_rounds.specs.declared.stage.Stage.TheVariants.{Format, Pass as PassStage, Close}
 use Rattle.sd_rounds.specs.Files.{HasAreasIn, IsFiledIn}
-use Rattle.sd_rounds.specs.Making.{is_past_freeze, plan_of, stage_after, stage_behind}
+use Rattle.sd_rounds.specs.Making.{is_past_freeze, plan_of, stage_after, stage_when_done}
 use Rattle.sd_rounds.specs.MakingLaws.{Pages, image_of}
 use Rattle.sd_rounds.specs.Pass.{Pass}
 use Rattle.sd_store_laws.specs.Beliefs.{Belief, Closed}
 use Rattle.sd_store_laws.specs.Gates.{IsBelievedAs}
 use Rattle.sd_crash_safety.specs.DumperOutcomes.{closes_for_sure}
-use Rattle.sd_crash_safety.specs.InUse.{IsFilledSlot, IsSlotFor}
+use Rattle.sd_crash_safety.specs.LiveImages.{IsFilledSlot, IsSlotFor}
 use Rattle.sd_crash_safety.proofs.HandsSlot.{belief_after, closes_more, formats_last, formats_more, formatted_then}
 
 -- ---- the plan
@@ -69,7 +69,7 @@ module _ (order : ImageOrder) (pages : Pages) (phase : Phase) (body : List ℕ) 
   then_belief = belief_after (closes_for_sure phase request.id.call) belief
 
   behind_format : (kind : Kind) (own : Planned) → IsSlotFor PassStage order pages then_phase then_body None then_belief dump
-      → IsSlotFor (stage_behind kind (Format own)) order pages then_phase then_body None then_belief dump
+      → IsSlotFor (stage_when_done kind (Format own)) order pages then_phase then_body None then_belief dump
   behind_format kind own is = grind arith
 
   format_goes_on : (own : Planned) (calls : Calls) → next.calls ≡ calls → next.calls ≡ own.calls → next.slot ≡ own.slot → pages ≡ []

@@ -30,7 +30,7 @@ use Rattle.sd_rounds.specs.Writes.{no_writes}
 use Rattle.sd_store_laws.specs.Beliefs.{Belief, Closed, Kept, Closing, Opening, image_at, image_in}
 use Rattle.sd_store_laws.specs.Below.{StepsGive}
 use Rattle.sd_store_laws.specs.Cut.{CutHoldsTheSame}
-use Rattle.sd_store_laws.specs.InUse.{CatalogFollows, IsCatalogInUse, SlotHasImage}
+use Rattle.sd_store_laws.specs.LiveImages.{CatalogFollows, IsLiveCatalog, SlotHasImage}
 use Rattle.sd_store_laws.specs.Gates.{IsBelievedAs, IsInDoubt, MayBelieve}
 use Rattle.sd_store_laws.specs.Makers.{IsAboveStore}
 use Rattle.sd_store_laws.specs.Needs.{IsNeededIn, NeedsNoMore}
@@ -42,7 +42,7 @@ use Rattle.sd_crash_safety.specs.Believes.{Believes, HasStore}
 use Rattle.sd_crash_safety.specs.Calls.{IsApart, WritesDataPage}
 use Rattle.sd_crash_safety.specs.DumperOutcomes.{GoesDown, ImageGoesOn, IsDumpersOutcome, LeavesCatalog, closes_for_sure}
 use Rattle.sd_crash_safety.specs.GateSteps.{GateSteps}
-use Rattle.sd_crash_safety.specs.InUse.{IsFrozenAs, IsImageOn, IsInUseOn, IsMakingOn, IsNewNumber, IsRunningOn, IsSlotFor, NoneAt, ArePagesOf, body_written, chain_of, ids_of, lanes_of}
+use Rattle.sd_crash_safety.specs.LiveImages.{IsFrozenAs, IsImageOn, IsLiveOn, IsMakingOn, IsNewNumber, IsRunningOn, IsSlotFor, NoneAt, ArePagesOf, body_written, chain_of, ids_of, lanes_of}
 use Rattle.sd_crash_safety.specs.Knows.{SeesStore}
 use Rattle.sd_crash_safety.specs.declared.standing.Standing.TheVariants as standing
 use Rattle.sd_crash_safety.specs.StoreSteps.{IsShut, QuietSteps}
@@ -100,7 +100,7 @@ fails_lem quiet old new lane made phase asked bodies files g at b = record {
     out = ids_then old new lane made phase asked bodies files g.outcome b;
     sees = subst (λ o. IfSome o (SeesStore files new.phases (slice_set asked lane None))) (sym g.outcome.closed) tt;
     sure = λ is. b.knows.sure (sym g.committing ∙ is);
-    in_use = λ stands. absurd (let no : standing.Down ≡ standing.Open = sym g.down ∙ stands in cc);
+    is_live = λ stands. absurd (let no : standing.Down ≡ standing.Open = sym g.down ∙ stands in cc);
     merging = λ stands. absurd (let no : standing.Down ≡ standing.Open = sym g.down ∙ stands in cc);
   };
 }
@@ -139,15 +139,15 @@ opening_before sure belief j is = grind arith
 
 -- a slot without an image of the catalog leaves the catalog as it is
 pub removed_none : (old new : Places) (beliefs : List Belief) (slot : ℕ) (i : Image) → slice_get beliefs slot ≡ Some (Opening i)
-    → ((serial : ℕ) → place_of new serial ≡ without_slot slot (place_of old serial)) → IsCatalogInUse old beliefs → IsCatalogInUse new (slice_set beliefs slot Closed)
-removed_none old new beliefs slot i at removes in_use = record {
+    → ((serial : ℕ) → place_of new serial ≡ without_slot slot (place_of old serial)) → IsLiveCatalog old beliefs → IsLiveCatalog new (slice_set beliefs slot Closed)
+removed_none old new beliefs slot i at removes is_live = record {
   image = λ serial o there.
       let before = was (place_of old serial) o (sym (removes serial) ∙ there) in
-      let it = in_use.image serial o before.0 in
+      let it = is_live.image serial o before.0 in
       (it.0, it.1, still it.0 o.slot before.1 it.2);
   opened = λ k j has.
       let other : k ≢ slot = (λ same. not_here j (subst (λ x. SlotHasImage (slice_set beliefs slot Closed) x j) same has)) in
-      let o = in_use.opened k j (before_has j k other has) in
+      let o = is_live.opened k j (before_has j k other has) in
       (o.0, removes j.header.serial ∙ ap (without_slot slot) o.1 ∙ left o.0 (λ same. other (sym o.3 ∙ same)), o.2, o.3);
 }
   where
@@ -197,8 +197,8 @@ module _ (making : MakingLaws) (old new : CoreView) (running : Running) (image n
   abbrev bodies_now : List (List ℕ)
   bodies_now = bodies_after bodies made.request.id made.request.bytes
 
-  u : IsInUseOn old.base history old.catalog old.grows old.memory old.phases asked bodies old.numbers.serial b.store b.dump b.beliefs (Some running)
-  u = subst (λ r. IsInUseOn old.base history old.catalog old.grows old.memory old.phases asked bodies old.numbers.serial b.store b.dump b.beliefs r) s.was (b.knows.in_use s.rest.stands)
+  u : IsLiveOn old.base history old.catalog old.grows old.memory old.phases asked bodies old.numbers.serial b.store b.dump b.beliefs (Some running)
+  u = subst (λ r. IsLiveOn old.base history old.catalog old.grows old.memory old.phases asked bodies old.numbers.serial b.store b.dump b.beliefs r) s.was (b.knows.is_live s.rest.stands)
 
   w : IsRunningOn old.base history old.memory old.phases asked bodies old.numbers.serial b.store b.dump b.beliefs running
   w = u.job
@@ -266,7 +266,7 @@ module _ (making : MakingLaws) (old new : CoreView) (running : Running) (image n
 
   module _ (places : Places) (store : Store) (later : List Belief)
       (f : StoreFollows b.store b.beliefs slot (belief_after (closes_for_sure phase made.request.id.call) m.belief) running.parent store later)
-      (in_use : IsCatalogInUse places later) (has : HasStore old.base history phases_now asked_now bodies_now store b.dump later) where
+      (is_live : IsLiveCatalog places later) (has : HasStore old.base history phases_now asked_now bodies_now store b.dump later) where
     abbrev belief_then : Belief
     belief_then = belief_after (closes_for_sure phase made.request.id.call) m.belief
 
@@ -403,7 +403,7 @@ module _ (making : MakingLaws) (old new : CoreView) (running : Running) (image n
         })
         asked_now bodies_now files store b.dump later (λ is. b.knows.sure (sym s.committing ∙ is)) (count_then old new 0 made phase asked bodies files s.outcome b) (ids_then old new 0 made phase asked bodies files s.outcome b) has
         (record {
-          catalog = in_use;
+          catalog = is_live;
           grows_is = f.grows ∙ u.grows_is;
           used = record { above = above_then (old.numbers.serial + 1) u.used.above; slots = λ k i there. u.used.slots k i (f.images k i there) };
           exact = exact_then;

@@ -23,7 +23,7 @@ use Rattle.sd_rounds.specs.MakingLaws.{Pages, image_of}
 use Rattle.sd_store_laws.specs.Beliefs.{Belief, Closed, Opening, FitsBelief}
 use Rattle.sd_store_laws.specs.Gates.{IsBelievedAs, IsInDoubt, MayBelieve}
 use Rattle.sd_crash_safety.specs.DumperOutcomes.{closes_for_sure, is_being_closed, is_sync}
-use Rattle.sd_crash_safety.specs.InUse.{ClosesBody, IsFilledSlot, IsFormatting, IsSlotFor, is_opening_at, kind_of_call, pending_dump}
+use Rattle.sd_crash_safety.specs.LiveImages.{ClosesBody, IsFilledSlot, IsFormatting, IsSlotFor, is_opening_at, kind_of_call, pending_dump}
 use Rattle.sd_crash_safety.proofs.Leads.{leads_end, leads_head}
 
 -- ---- what is closed is believed so in its phase

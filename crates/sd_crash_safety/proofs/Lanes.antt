@@ -10,7 +10,7 @@ use Rattle.sd_rounds.specs.declared.stage.Stage.{Stage}
 use Rattle.sd_rounds.specs.Making.{is_passing, plan_of}
 use Rattle.sd_gate.specs.Lanes.{is_any_out}
 use Rattle.sd_rounds.specs.Writes.{no_writes}
-use Rattle.sd_crash_safety.specs.InUse.{ArePagesOf, IsPageOf, body_written, ids_of, lanes_of}
+use Rattle.sd_crash_safety.specs.LiveImages.{ArePagesOf, IsPageOf, body_written, ids_of, lanes_of}
 use Rattle.sd_crash_safety.specs.View.{page_lane}
 
 -- ---- lanes of pages among all lanes

@@ -10,7 +10,7 @@ mod CancelLaw
 mod CoreSteps
 mod Finds
 mod Found
-mod FoundInUse
+mod FoundLive
 mod GateSteps
 mod HandsImage
 mod HandsLaw

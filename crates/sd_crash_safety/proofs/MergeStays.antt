@@ -23,7 +23,7 @@ use Rattle.sd_rounds.specs.Making.{Making}
 use Rattle.sd_rounds.specs.Pass.{Place}
 use Rattle.sd_store_laws.specs.Beliefs.{AreSlotsOf, Belief, Kept, Opening, image_at, image_in}
 use Rattle.sd_store_laws.specs.Cut.{CutHoldsTheSame}
-use Rattle.sd_store_laws.specs.Harmless.{IsUnused, UnusedIsUncalled}
+use Rattle.sd_store_laws.specs.ShownStays.{IsUnused, UnusedIsUncalled}
 use Rattle.sd_store_laws.specs.Needed.{IsCalled, IsNeeded, by_job, by_parent}
 use Rattle.sd_store_laws.specs.Needs.{IsNeededIn}
 use Rattle.sd_store_laws.specs.Reached.{Reaches, beyond, itself}
@@ -31,8 +31,8 @@ use Rattle.sd_store_laws.specs.Steps.{Adds, Retires}
 use Rattle.sd_store_laws.specs.Store.{IsFresh, IsMergeSource, IsSoundStore, Store, jobs}
 use Rattle.sd_crash_safety.specs.Believes.{Believes}
 use Rattle.sd_crash_safety.specs.declared.standing.Standing.TheVariants.{Open}
-use Rattle.sd_crash_safety.specs.InUse.{IsNewNumber, IsSlotFor, body_written}
-use Rattle.sd_crash_safety.specs.Merges.{AreSpelled, IsAskedIn, IsCopyOn, IsCutOn, IsListedOn, IsMergeAt, IsMergeInUse, IsMergeOn, IsRepeating, IsRetiredOn, IsSpared, IsUnmerged, IsOtherImage, MakesOther, lanes_in_slot, order_of_slot, request_in_slot, stage_in_slot}
+use Rattle.sd_crash_safety.specs.LiveImages.{IsNewNumber, IsSlotFor, body_written}
+use Rattle.sd_crash_safety.specs.Merges.{AreSpelled, IsAskedIn, IsCopyOn, IsCutOn, IsListedOn, IsMergeAt, IsLiveMerge, IsMergeOn, IsRepeating, IsRetiredOn, IsSpared, IsUnmerged, IsOtherImage, MakesOther, lanes_in_slot, order_of_slot, request_in_slot, stage_in_slot}
 use Rattle.sd_crash_safety.specs.View.{CoreView}
 use Rattle.sd_merge.proofs.MergingLemmas.{stays as copy_stays}
 use Rattle.sd_store_laws.proofs.SlotSteps.{set_other}
@@ -209,8 +209,8 @@ module _ (last : ℕ) (store : Store) (running : Option Running) (old : Slots) (
   merge_on_then None m = (unmerged_then m.0, own_same ∙ m.1)
   merge_on_then (Some merge) m = merge_at_then merge.slot merge.source merge.doing m
 
-  pub merge_then : (merge : Option merger.Running) → AreSpelled store_now → IsMergeInUse old.phases asked old.bodies last store old.beliefs running merge
-      → IsMergeInUse new.phases asked_now new.bodies last_now store_now new.beliefs running_now merge
+  pub merge_then : (merge : Option merger.Running) → AreSpelled store_now → IsLiveMerge old.phases asked old.bodies last store old.beliefs running merge
+      → IsLiveMerge new.phases asked_now new.bodies last_now store_now new.beliefs running_now merge
   merge_then merge spelled m = record { spelled = spelled; is = merge_on_then merge m.is }
 
 -- ---- nothing changed but the checkpoint itself
@@ -292,15 +292,15 @@ leaves_at last store running old store_now running_now new slot c = record {
 
 -- what is known of the merge beside the checkpoint that runs
 pub merging_of : (old : CoreView) (asked : List (Option Asked)) (bodies files : List (List ℕ)) (running : Option Running) → old.standing ≡ Open → old.dumper.running ≡ running
-    → (b : Believes old asked bodies files) → IsMergeInUse old.phases asked bodies old.numbers.serial b.store b.beliefs running old.merger
+    → (b : Believes old asked bodies files) → IsLiveMerge old.phases asked bodies old.numbers.serial b.store b.beliefs running old.merger
 merging_of old asked bodies files running stands was b =
-    subst (λ r. IsMergeInUse old.phases asked bodies old.numbers.serial b.store b.beliefs r old.merger) was (b.knows.merging stands)
+    subst (λ r. IsLiveMerge old.phases asked bodies old.numbers.serial b.store b.beliefs r old.merger) was (b.knows.merging stands)
 
 -- it stays where the checkpoint makes another image, and nothing else changed
 pub merge_beside : (old : CoreView) (asked now : List (Option Asked)) (bodies files : List (List ℕ)) (running : Running) (later : Making) (last : ℕ)
     → old.standing ≡ Open → old.dumper.running ≡ Some running → slice_get now 1 ≡ slice_get asked 1
     → SparesAsMuch old.numbers.serial last (Some running) (Some (record running { image = Some later })) → (b : Believes old asked bodies files)
-    → IsMergeInUse old.phases now bodies last b.store b.beliefs (Some (record running { image = Some later })) old.merger
+    → IsLiveMerge old.phases now bodies last b.store b.beliefs (Some (record running { image = Some later })) old.merger
 merge_beside old asked now bodies files running later last stands was own spares b =
     merge_then old.numbers.serial b.store (Some running) (slots_at old.phases bodies b.beliefs) last b.store (Some (record running { image = Some later })) (slots_at old.phases bodies b.beliefs)
     (leaves_same old.numbers.serial last b.store (Some running) (Some (record running { image = Some later })) (slots_at old.phases bodies b.beliefs) spares)

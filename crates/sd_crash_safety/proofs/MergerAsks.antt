@@ -29,14 +29,14 @@ use Rattle.sd_rounds.specs.MakingLaws.{MakingLaws, Pages, image_of}
 use Rattle.sd_rounds.specs.Pass.{ImageEntry, Place}
 use Rattle.sd_store_laws.specs.Beliefs.{Belief, Closed, Kept, Closing, Opening, image_at, image_in}
 use Rattle.sd_store_laws.specs.Cut.{Repeats}
-use Rattle.sd_store_laws.specs.InUse.{CatalogFollows}
+use Rattle.sd_store_laws.specs.LiveImages.{CatalogFollows}
 use Rattle.sd_store_laws.specs.Makers.{MergedRepeats}
 use Rattle.sd_store_laws.specs.Needs.{IsNeededIn}
 use Rattle.sd_store_laws.specs.SlotSteps.{with_belief}
-use Rattle.sd_store_laws.specs.Store.{IsTwin, Store, jobs}
+use Rattle.sd_store_laws.specs.Store.{IsMergedCopy, Store, jobs}
 use Rattle.sd_crash_safety.specs.Believes.{Believes, HasStore}
 use Rattle.sd_crash_safety.specs.GateSteps.{GateSteps}
-use Rattle.sd_crash_safety.specs.InUse.{IsInUseOn, IsSlotFor, body_written}
+use Rattle.sd_crash_safety.specs.LiveImages.{IsLiveOn, IsSlotFor, body_written}
 use Rattle.sd_crash_safety.specs.MergerSteps.{AsksForMerged}
 use Rattle.sd_crash_safety.specs.Merges.{IsAskedIn, IsCopyOfSource, IsCopyOn, IsMergeAt, IsMergeOn, MakesOther, lanes_in_slot, order_of_slot, request_in_slot, stage_in_slot}
 use Rattle.sd_crash_safety.specs.StoreSteps.{MayAsk, QuietSteps}
@@ -104,8 +104,8 @@ module _ (quiet : QuietSteps) (gates : GateSteps) (files_of : FileLaws) (repeats
   abbrev last : ℕ
   last = old.numbers.serial
 
-  u : IsInUseOn old.base history old.catalog old.grows old.memory old.phases asked bodies last b.store b.dump b.beliefs running
-  u = b.knows.in_use s.merges.rest.stands
+  u : IsLiveOn old.base history old.catalog old.grows old.memory old.phases asked bodies last b.store b.dump b.beliefs running
+  u = b.knows.is_live s.merges.rest.stands
 
   k : IsCopyOfSource old.phases asked bodies last b.store b.beliefs running merge.slot merge.source made
   k = subst (IsMergeAt old.phases asked bodies last b.store b.beliefs running merge.slot merge.source) s.merges.doing
@@ -327,7 +327,7 @@ module _ (quiet : QuietSteps) (gates : GateSteps) (files_of : FileLaws) (repeats
           | inr closing ↦ (let at = place_in b.beliefs (Closing j) closing in (at.0, ap (λ o. option_and_then image_in o) at.1))
         ]
 
-    twin : IsTwin b.store.catalog b.store.source i
+    twin : IsMergedCopy b.store.catalog b.store.source i
     twin = record {
       source = source;
       running = k.repeats.source.is;

@@ -26,7 +26,7 @@ use Rattle.sd_merge.specs.Copying as copies_of
 use Rattle.sd_merge.specs.Files.{FileLaws, IsFiledIn}
 use Rattle.sd_merge.specs.Merger.{copying}
 use Rattle.sd_merge.specs.Merger as merger
-use Rattle.sd_merge.specs.Merging.{KeepsCopy, MergeLaws, TellsIn}
+use Rattle.sd_merge.specs.Merging.{KeepsCopy, MergeLaws, ReadsSource}
 use Rattle.sd_rounds.specs.declared.image_order.ImageOrder.{ImageOrder}
 use Rattle.sd_rounds.specs.declared.stage.Stage.TheVariants.{Format, Pass as PassStage, Close}
 use Rattle.sd_rounds.specs.Dumper.{Running}
@@ -37,17 +37,17 @@ use Rattle.sd_image.specs.declared.header.Kind.TheVariants.{Merged}
 use Rattle.sd_store_laws.specs.Beliefs.{Belief, Closed, Kept, Opening}
 use Rattle.sd_store_laws.specs.Below.{StepsGive}
 use Rattle.sd_store_laws.specs.Cut.{CutHoldsTheSame}
-use Rattle.sd_store_laws.specs.InUse.{CatalogFollows, IsCatalogInUse}
+use Rattle.sd_store_laws.specs.LiveImages.{CatalogFollows, IsLiveCatalog}
 use Rattle.sd_store_laws.specs.Gates.{IsBelievedAs, MayBelieve}
 use Rattle.sd_store_laws.specs.Needs.{NeedsNoMore}
 use Rattle.sd_store_laws.specs.SlotSteps.{ClosingRetires}
 use Rattle.sd_store_laws.specs.Steps.{StepsKeep}
 use Rattle.sd_store_laws.specs.Store.{Store}
 use Rattle.sd_crash_safety.specs.Believes.{Believes, HasStore}
-use Rattle.sd_crash_safety.specs.Calls.{WasTold}
+use Rattle.sd_crash_safety.specs.Calls.{WasLookedAt}
 use Rattle.sd_crash_safety.specs.DumperOutcomes.{LeavesCatalog, closes_for_sure, is_being_closed}
 use Rattle.sd_crash_safety.specs.GateSteps.{GateSteps}
-use Rattle.sd_crash_safety.specs.InUse.{IsFilledSlot, IsInUseOn, IsSlotFor, body_written}
+use Rattle.sd_crash_safety.specs.LiveImages.{IsFilledSlot, IsLiveOn, IsSlotFor, body_written}
 use Rattle.sd_crash_safety.specs.Knows.{SeesStore}
 use Rattle.sd_crash_safety.specs.MergerOutcomes.{MergeGoesDown, MergedGoesOn, OutcomeIsBelieved}
 use Rattle.sd_crash_safety.specs.Merges.{IsAskedIn, IsCopyOfSource, IsCopyOn, IsMergeAt, IsMergeOn, IsReadOn, IsWriteOn, lanes_in_slot, order_of_slot, request_in_slot, stage_in_slot}
@@ -80,7 +80,7 @@ fails_lem quiet old new made phase g asked bodies files at told b = record {
     out = ids_handed old new made phase asked bodies files g.outcome at b;
     sees = subst (λ o. IfSome o (SeesStore files new.phases (asked_then asked))) (sym g.closed) tt;
     sure = λ is. b.knows.sure (sym g.committing ∙ is);
-    in_use = λ stands. absurd (let no : standing.Down ≡ standing.Open = sym g.down ∙ stands in cc);
+    is_live = λ stands. absurd (let no : standing.Down ≡ standing.Open = sym g.down ∙ stands in cc);
     merging = λ stands. absurd (let no : standing.Down ≡ standing.Open = sym g.down ∙ stands in cc);
   };
 }
@@ -137,7 +137,7 @@ own_closes (copy.Close p h t) own header tables is = same is
     same e = cc
 own_closes _ own header tables is = absurd (let no : PassStage ≡ Close own header tables = is in cc)
 
-own_tells : (stage : CopyStage) (catalog : List Image) (source : Image) (taking : Option Place) (made : Made) → IsOwn stage → TellsIn stage catalog source taking made
+own_tells : (stage : CopyStage) (catalog : List Image) (source : Image) (taking : Option Place) (made : Made) → IsOwn stage → ReadsSource stage catalog source taking made
 own_tells stage catalog source taking made own = grind arith
 
 no_pages : (pages : Pages) → length pages ≡ 0 → pages ≡ []
@@ -148,7 +148,7 @@ no_pages (p ∷ pages) none = absurd (let no : suc (length pages) ≡ 0 = none i
 
 module _ (quiet : QuietSteps) (making : MakingLaws) (merges : MergeLaws) (files_of : FileLaws)
     (old new : CoreView) (merge : merger.Running) (made : Copying) (next : Copying) (call : Made) (phase : Phase) (s : MergedGoesOn old merge made call phase next new)
-    (asked : List (Option Asked)) (bodies files : List (List ℕ)) (at : slice_get asked 1 ≡ Some (Some call.request)) (told : WasTold old.phases bodies files call) (b : Believes old asked bodies files) where
+    (asked : List (Option Asked)) (bodies files : List (List ℕ)) (at : slice_get asked 1 ≡ Some (Some call.request)) (told : WasLookedAt old.phases bodies files call) (b : Believes old asked bodies files) where
   abbrev target : ℕ
   target = merge.slot
 
@@ -187,7 +187,7 @@ module _ (quiet : QuietSteps) (making : MakingLaws) (merges : MergeLaws) (files_
   asked_was = subst (IsAskedIn made.stage old.phases bodies b.store b.beliefs running target source made.taking) out_is c.asked_in
 
   -- with the store and the beliefs as they are then, of which the slot is believed to be so
-  module _ (slot : ℕ) (belief_then : Belief) (h : SlotHandedIn old new call phase asked bodies files b slot belief_then) (tells : TellsIn made.stage b.store.catalog source made.taking call)
+  module _ (slot : ℕ) (belief_then : Belief) (h : SlotHandedIn old new call phase asked bodies files b slot belief_then) (tells : ReadsSource made.stage b.store.catalog source made.taking call)
       (source_there : slice_get h.later k.repeats.source.slot ≡ slice_get b.beliefs k.repeats.source.slot)
       (opens : (j : Image) → slice_get h.later slot ≡ Some (Opening j) → slice_get b.beliefs slot ≡ Some (Opening j))
       (phase_now : Phase) (phase_there : slice_get (phases_then old call phase) target ≡ Some phase_now) (belief_now : Belief) (belief_there : slice_get h.later target ≡ Some belief_now)
@@ -338,8 +338,8 @@ module _ (quiet : QuietSteps) (making : MakingLaws) (merges : MergeLaws) (files_
     not_closing : closes_for_sure phase call.request.id.call ≡ false
     not_closing = ap (λ p. closes_for_sure p call.request.id.call) phase_whole
 
-    u : IsInUseOn old.base (history_of old) old.catalog old.grows old.memory old.phases asked bodies last b.store b.dump b.beliefs running
-    u = b.knows.in_use s.rest.stands
+    u : IsLiveOn old.base (history_of old) old.catalog old.grows old.memory old.phases asked bodies last b.store b.dump b.beliefs running
+    u = b.knows.is_live s.rest.stands
 
     catalog_same : new.catalog ≡ old.catalog
     catalog_same = subst (λ sure. LeavesCatalog sure slot old.catalog new.catalog) not_closing s.catalog
@@ -349,14 +349,14 @@ module _ (quiet : QuietSteps) (making : MakingLaws) (merges : MergeLaws) (files_
       store = b.store;
       later = b.beliefs;
       has = has_handed old new call phase asked bodies files s.outcome at b quiet;
-      in_use = use_handed making old.base (history_of old) old.catalog new.catalog old.grows old.memory last b.store b.store b.dump (slots_at old.phases bodies b.beliefs)
+      is_live = use_handed making old.base (history_of old) old.catalog new.catalog old.grows old.memory last b.store b.store b.dump (slots_at old.phases bodies b.beliefs)
           (slots_at (phases_then old call phase) (bodies_then bodies call) b.beliefs) running asked slot call.request u at refl (record {
             count = set_count old.phases slot (after phase call.request.id.call (is_done call.answer));
             others = λ at_slot differs. others_handed old new call phase asked bodies files s.outcome at b b.beliefs at_slot differs refl;
             exact = λ p belief here of. subst (λ x. IsBelievedAs x (file_at (bodies_then bodies call) slot) belief) (same_Some Whole p (sym whole_then ∙ here))
                 (r.image, same_Some belief (Kept r.image) (sym of ∙ r.kept), subst (λ body. IsImage (gate ∷ body) r.image) (sym body_still) r.spelled);
             images = λ at_slot i has. has;
-          }) (store_same old.memory last running b.beliefs b.store) (subst (λ places. IsCatalogInUse places b.beliefs) (sym catalog_same) u.catalog) r.spared s.rest.makes;
+          }) (store_same old.memory last running b.beliefs b.store) (subst (λ places. IsLiveCatalog places b.beliefs) (sym catalog_same) u.catalog) r.spared s.rest.makes;
       there = r.kept;
       others = λ at_slot differs. refl;
       images = λ at_slot i has. has;
@@ -374,8 +374,8 @@ module _ (quiet : QuietSteps) (making : MakingLaws) (merges : MergeLaws) (files_
     bytes_are : call.request.bytes ≡ r.bytes
     bytes_are = page_told in_file (file_at files slot) r.image r.place r.bytes call (subst (λ file. IsImage file r.image) (sym file_is) r.spelled) r.stored r.call r.whole (told.told go.done)
 
-    tells : TellsIn made.stage b.store.catalog source made.taking call
-    tells = subst (λ stage. TellsIn stage b.store.catalog source made.taking call) (sym is) (λ page taken. (
+    tells : ReadsSource made.stage b.store.catalog source made.taking call
+    tells = subst (λ stage. ReadsSource stage b.store.catalog source made.taking call) (sym is) (λ page taken. (
       r.whole,
       subst (λ (x : Place). Holds b.store.catalog x.0 x.1 call.request.bytes source) (same_Some r.at page (sym r.taking ∙ taken))
           (subst (λ bytes. Holds b.store.catalog r.at.0 r.at.1 bytes source) (sym bytes_are) r.holds),
@@ -438,15 +438,15 @@ module _ (quiet : QuietSteps) (making : MakingLaws) (merges : MergeLaws) (files_
       store = b.store;
       later = b.beliefs;
       has = has_written;
-      in_use = use_handed making old.base (history_of old) old.catalog new.catalog old.grows old.memory last b.store b.store b.dump (slots_at old.phases bodies b.beliefs)
-          (slots_at (phases_then old call phase) (bodies_then bodies call) b.beliefs) running asked target call.request (b.knows.in_use s.rest.stands) at write.on (record {
+      is_live = use_handed making old.base (history_of old) old.catalog new.catalog old.grows old.memory last b.store b.store b.dump (slots_at old.phases bodies b.beliefs)
+          (slots_at (phases_then old call phase) (bodies_then bodies call) b.beliefs) running asked target call.request (b.knows.is_live s.rest.stands) at write.on (record {
             count = set_count old.phases call.request.id.slot (after phase call.request.id.call (is_done call.answer));
             others = λ at_slot differs. others_handed old new call phase asked bodies files s.outcome at b b.beliefs at_slot (λ same. differs (same ∙ write.on)) refl;
             exact = λ p belief here of. (let closed : belief ≡ Closed = same_Some belief Closed (sym of ∙ c.belief_is ∙ ap Some filled_was.closed) in
                 subst (IsBelievedAs p (file_at (bodies_then bodies call) target)) (sym closed)
                 (closed_exact p (file_at (bodies_then bodies call) target) (subst (MayBelieve p (file_at (bodies_then bodies call) target)) closed (has_written.believed.each target p belief here of))));
             images = λ at_slot i has. has;
-          }) (store_same old.memory last running b.beliefs b.store) (subst (λ places. IsCatalogInUse places b.beliefs) (sym catalog_still) (b.knows.in_use s.rest.stands).catalog) k.repeats.slot.spared s.rest.makes;
+          }) (store_same old.memory last running b.beliefs b.store) (subst (λ places. IsLiveCatalog places b.beliefs) (sym catalog_still) (b.knows.is_live s.rest.stands).catalog) k.repeats.slot.spared s.rest.makes;
       there = c.belief_is;
       others = λ at_slot differs. refl;
       images = λ at_slot i has. has;
@@ -463,7 +463,7 @@ module _ (quiet : QuietSteps) (making : MakingLaws) (merges : MergeLaws) (files_
     goes_on_written : Believes new (asked_then asked) (bodies_then bodies call) files
     unfolding written_handed
     goes_on_written = believes_copying target c.belief written_handed
-        (subst (λ stage. TellsIn stage b.store.catalog source made.taking call) (sym is) tt) refl (λ j opens. opens)
+        (subst (λ stage. ReadsSource stage b.store.catalog source made.taking call) (sym is) tt) refl (λ j opens. opens)
         Writing phase_written c.belief c.belief_is
         (subst (λ stage. IsAskedIn stage (phases_then old call phase) (bodies_then bodies call) b.store b.beliefs running target source made.taking None) (sym over) tt)
         (subst (λ stage. IsSlotFor (stage_in_slot stage) order c.pages Writing (file_at (bodies_then bodies call) target) None c.belief None) (sym over) (

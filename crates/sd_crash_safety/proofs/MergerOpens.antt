@@ -9,7 +9,7 @@ use Rattle.sd_image.specs.Image.{Image, IsImage, gate, image_text}
 use Rattle.sd_image.specs.Shows.{IsNamed, IsTip}
 use Rattle.sd_chain.specs.Catalog.{Changes, Names, Opened, Places, place_of}
 use Rattle.sd_chain.specs.Reaches.{ParentsFall, ReachesSerial}
-use Rattle.sd_chain.specs.Tells.{Agrees, CatalogLists, IsToldAs}
+use Rattle.sd_chain.specs.Recorded.{Agrees, CatalogLists, IsRecordedAs}
 use Rattle.sd_gate.specs.declared.phase.Phase.{Phase}
 use Rattle.sd_gate.specs.declared.phase.Phase.TheVariants.{Whole}
 use Rattle.sd_gate.specs.Calls.{is_done}
@@ -37,19 +37,19 @@ use Rattle.sd_rounds.specs.Pass.{Pass}
 use Rattle.sd_store_laws.specs.Beliefs.{Belief, Closing, Kept, Opening, image_at, image_in}
 use Rattle.sd_store_laws.specs.Below.{StepsGive}
 use Rattle.sd_store_laws.specs.Gates.{IsBelievedAs}
-use Rattle.sd_store_laws.specs.InUse.{CatalogFollows, CatalogInUseTells, IsCatalogInUse, SlotHasImage, ToldReachesSo}
+use Rattle.sd_store_laws.specs.LiveImages.{CatalogFollows, LiveCatalogAgrees, IsLiveCatalog, SlotHasImage, RecordedReachesSo}
 use Rattle.sd_store_laws.specs.Needed.{NeededIsReached}
 use Rattle.sd_store_laws.specs.Needs.{IsNeededIn, NeedsNoMore}
 use Rattle.sd_store_laws.specs.Reached.{Reaches}
 use Rattle.sd_store_laws.specs.SlotSteps.{with_belief}
 use Rattle.sd_store_laws.specs.Stays.{SourceReachesNeeded}
 use Rattle.sd_store_laws.specs.Steps.{Adds, StepsKeep, replaced}
-use Rattle.sd_store_laws.specs.Store.{IsNextDump, IsTwin, Store, jobs}
+use Rattle.sd_store_laws.specs.Store.{IsNextDump, IsMergedCopy, Store, jobs}
 use Rattle.sd_crash_safety.specs.Believes.{Believes, HasStore}
 use Rattle.sd_crash_safety.specs.Calls.{IsFree}
 use Rattle.sd_crash_safety.specs.Copies.{AreImagesOf, IsCopyAtRest, IsCopyThere, IsOrderly, StandsIn}
-use Rattle.sd_crash_safety.specs.GateSteps.{GateSteps, IsOnlyTwin}
-use Rattle.sd_crash_safety.specs.InUse.{ClosesBody, IsAtWork, IsImageOn, IsInUseOn, IsSlotFor, pending_dump}
+use Rattle.sd_crash_safety.specs.GateSteps.{GateSteps, IsOnlyMergedCopy}
+use Rattle.sd_crash_safety.specs.LiveImages.{ClosesBody, IsAtWork, IsImageOn, IsLiveOn, IsSlotFor, pending_dump}
 use Rattle.sd_crash_safety.specs.MergerOutcomes.{MayRetire, MergedOpens, OutcomeIsBelieved}
 use Rattle.sd_crash_safety.specs.MergerSteps.{IsUncalled}
 use Rattle.sd_crash_safety.specs.Merges.{IsAskedIn, IsCopyOfSource, IsCopyOn, IsListedOn, IsMergeAt, IsMergeOn, IsOtherImage, IsSpared, IsUnmerged, MakesOther, order_of_slot}
@@ -98,7 +98,7 @@ module _ (base : Base) (history : History) (grows : Bool) (memory : Contents) (p
 -- ---- the merged image
 
 module _ (quiet : QuietSteps) (gates : GateSteps) (making : MakingLaws) (keeps : StepsKeep) (gives : StepsGive) (needs : NeedsNoMore) (follows : CatalogFollows)
-    (plans : PlansLead) (reached : NeededIsReached) (places : Places) (tells : CatalogInUseTells places) (reaches : ToldReachesSo places)
+    (plans : PlansLead) (reached : NeededIsReached) (places : Places) (tells : LiveCatalogAgrees places) (reaches : RecordedReachesSo places)
     (agrees : (all : List Image) → CatalogLists places all → Agrees places all)
     (old new : CoreView) (merge : merger.Running) (made : Copying) (call : Made) (phase : Phase) (image : NewImage) (list : List Retired) (done : MergeProgress)
     (s : MergedOpens places old merge made call phase image list done new)
@@ -124,8 +124,8 @@ module _ (quiet : QuietSteps) (gates : GateSteps) (making : MakingLaws) (keeps :
   abbrev asked_now : List (Option Asked)
   asked_now = asked_then asked
 
-  u : IsInUseOn old.base history old.catalog old.grows old.memory old.phases asked bodies last b.store b.dump b.beliefs running
-  u = b.knows.in_use s.rest.stands
+  u : IsLiveOn old.base history old.catalog old.grows old.memory old.phases asked bodies last b.store b.dump b.beliefs running
+  u = b.knows.is_live s.rest.stands
 
   k : IsCopyOfSource old.phases asked bodies last b.store b.beliefs running merge.slot merge.source made
   k = subst (IsMergeAt old.phases asked bodies last b.store b.beliefs running merge.slot merge.source) s.doing
@@ -210,7 +210,7 @@ module _ (quiet : QuietSteps) (gates : GateSteps) (making : MakingLaws) (keeps :
   there : Contains b.store.catalog source
   there = (b.has.slots.catalog source).1 (inl (contains_at b.beliefs k.repeats.source.slot (Kept source) k.repeats.source.kept))
 
-  twin : IsTwin b.store.catalog b.store.source i
+  twin : IsMergedCopy b.store.catalog b.store.source i
   twin = elim (b.has.slots.opening i (contains_at b.beliefs target (Opening i) belief_at)) [
     | inl pre_dump ↦ absurd (let no : Merged ≡ PreDump = sym kind_is ∙ pre_dump.0 in cc)
     | inr others ↦ elim others [
@@ -221,7 +221,7 @@ module _ (quiet : QuietSteps) (gates : GateSteps) (making : MakingLaws) (keeps :
     ]
   ]
 
-  only : (j : Image) → Contains b.beliefs (Opening j) → IsTwin b.store.catalog b.store.source j → j ≡ i
+  only : (j : Image) → Contains b.beliefs (Opening j) → IsMergedCopy b.store.catalog b.store.source j → j ≡ i
   only j contains t =
       let here = place_in b.beliefs (Opening j) contains in
       elim (cases_eq here.0 target) [
@@ -236,7 +236,7 @@ module _ (quiet : QuietSteps) (gates : GateSteps) (making : MakingLaws) (keeps :
   no_dump : (dump : Option Image) → b.dump ≡ dump → IfSome dump (λ d. i.header.serial ≢ d.header.serial)
   no_dump dump is = grind arith
 
-  only_twin : IsOnlyTwin b.store b.dump b.beliefs i
+  only_twin : IsOnlyMergedCopy b.store b.dump b.beliefs i
   only_twin = record { twin = twin; only = only; serial = no_dump b.dump refl }
 
   abbrev store_now : Store
@@ -265,16 +265,16 @@ module _ (quiet : QuietSteps) (gates : GateSteps) (making : MakingLaws) (keeps :
     ],
   )
 
-  catalog_then : IsCatalogInUse places beliefs_now
+  catalog_then : IsLiveCatalog places beliefs_now
   catalog_then =
       let slot_is : image.slot ≡ target = s.opens.slot ∙ k.order.1 in
-      subst (λ n. IsCatalogInUse places (with_belief b.beliefs n (Kept i))) slot_is
+      subst (λ n. IsLiveCatalog places (with_belief b.beliefs n (Kept i))) slot_is
       (follows.adds old.catalog places b.beliefs (record { slot = image.slot; header = image.header; spaces = image.table }) i u.catalog
       (ap (slice_get b.beliefs) slot_is ∙ belief_at) (record { header = refl; spaces = refl })
       (λ other has. (let no : Some None ≡ Some (Some other) = sym s.held ∙ ap (place_of old.catalog) (sym serial_is) ∙ has in cc))
       (subst (λ n. Changes old.catalog places n (Some (Some (record { slot = image.slot; header = image.header; spaces = image.table })))) (sym serial_is) s.catalog))
 
-  use_now : IsInUseOn old.base history places old.grows old.memory phases_now asked_now bodies_now last store_now b.dump beliefs_now running
+  use_now : IsLiveOn old.base history places old.grows old.memory phases_now asked_now bodies_now last store_now b.dump beliefs_now running
   use_now = use_handed making old.base history old.catalog places old.grows old.memory last b.store store_now b.dump (slots_at old.phases bodies b.beliefs) (slots_at phases_now bodies_now beliefs_now)
       running asked target call.request u at on (record {
         count = set_count old.phases call.request.id.slot (after phase call.request.id.call (is_done call.answer));
@@ -399,7 +399,7 @@ module _ (quiet : QuietSteps) (gates : GateSteps) (making : MakingLaws) (keeps :
   }
 
   module _ (one : Retired) (m : MayRetire places old one) where
-    its : (j : Image) × IsToldAs m.opened j × SlotHasImage beliefs_now m.opened.slot j
+    its : (j : Image) × IsRecordedAs m.opened j × SlotHasImage beliefs_now m.opened.slot j
     its = catalog_then.image one.serial m.opened m.there
 
     abbrev j : Image
@@ -411,7 +411,7 @@ module _ (quiet : QuietSteps) (gates : GateSteps) (making : MakingLaws) (keeps :
     has : image_at beliefs_now one.slot ≡ Some j
     has = grind arith
 
-    at_it : (o : Opened) × (place_of places j.header.serial ≡ Some (Some o)) × IsToldAs o j × (o.slot ≡ one.slot)
+    at_it : (o : Opened) × (place_of places j.header.serial ≡ Some (Some o)) × IsRecordedAs o j × (o.slot ≡ one.slot)
     at_it = catalog_then.opened one.slot j here
 
     by_tip : (tip : Image) → IsTip store_now.catalog tip → Reaches store_now.catalog j tip → ⊥
@@ -498,14 +498,14 @@ module _ (quiet : QuietSteps) (gates : GateSteps) (making : MakingLaws) (keeps :
   opens_it = opens_by done s.retires
 
 pub opens_lem : QuietSteps → GateSteps → MakingLaws → StepsKeep → StepsGive → NeedsNoMore → CatalogFollows → PlansLead → NeededIsReached
-    → (places : Places) → CatalogInUseTells places → ToldReachesSo places → ((all : List Image) → CatalogLists places all → Agrees places all)
+    → (places : Places) → LiveCatalogAgrees places → RecordedReachesSo places → ((all : List Image) → CatalogLists places all → Agrees places all)
     → (old new : CoreView) (merge : merger.Running) (copy : Copying) (made : Made) (phase : Phase) (image : NewImage) (list : List Retired) (done : MergeProgress)
     → MergedOpens places old merge copy made phase image list done new → OutcomeIsBelieved old new made
 opens_lem quiet gates making keeps gives needs follows plans reached places tells reaches agrees old new merge copy made phase image list done s asked bodies files at reads b =
     opens_it quiet gates making keeps gives needs follows plans reached places tells reaches agrees old new merge copy made phase image list done s asked bodies files at b
 
 pub copies_lem : QuietSteps → GateSteps → MakingLaws → StepsKeep → StepsGive → NeedsNoMore → CatalogFollows → PlansLead → NeededIsReached → SourceReachesNeeded → FileLaws
-    → (places : Places) → CatalogInUseTells places → ToldReachesSo places → ((all : List Image) → CatalogLists places all → Agrees places all)
+    → (places : Places) → LiveCatalogAgrees places → RecordedReachesSo places → ((all : List Image) → CatalogLists places all → Agrees places all)
     → (old new : CoreView) (merge : merger.Running) (copy : Copying) (made : Made) (phase : Phase) (image : NewImage) (list : List Retired) (done : MergeProgress)
     (asked : List (Option Asked)) (bodies files : List (List ℕ)) → MergedOpens places old merge copy made phase image list done new
     → ((slot : ℕ) → IsSpared old.dumper.running slot → IsFree (slice_set old.outs 1 None) slot) → slice_get asked 1 ≡ Some (Some made.request) → Believes old asked bodies files
@@ -514,7 +514,7 @@ copies_lem quiet gates making keeps gives needs follows plans reached needed_of 
     is_copy quiet gates making keeps gives needs follows plans reached places tells reaches agrees old new merge copy made phase image list done s asked bodies files at b needed_of files_of free
 
 pub rests_lem : QuietSteps → GateSteps → MakingLaws → StepsKeep → StepsGive → NeedsNoMore → CatalogFollows → PlansLead → NeededIsReached → SourceReachesNeeded → FileLaws
-    → (places : Places) → CatalogInUseTells places → ToldReachesSo places → ((all : List Image) → CatalogLists places all → Agrees places all)
+    → (places : Places) → LiveCatalogAgrees places → RecordedReachesSo places → ((all : List Image) → CatalogLists places all → Agrees places all)
     → (old new : CoreView) (merge : merger.Running) (copy : Copying) (made : Made) (phase : Phase) (image : NewImage) (list : List Retired) (done : MergeProgress)
     (asked : List (Option Asked)) (bodies files : List (List ℕ)) → MergedOpens places old merge copy made phase image list done new
     → ((slot : ℕ) → IsSpared old.dumper.running slot → IsFree (slice_set old.outs 1 None) slot) → slice_get asked 1 ≡ Some (Some made.request) → Believes old asked bodies files
@@ -523,7 +523,7 @@ rests_lem quiet gates making keeps gives needs follows plans reached needed_of f
     is_at_rest quiet gates making keeps gives needs follows plans reached places tells reaches agrees old new merge copy made phase image list done s asked bodies files at b needed_of files_of free
 
 pub orderly_lem : QuietSteps → GateSteps → MakingLaws → StepsKeep → StepsGive → NeedsNoMore → CatalogFollows → PlansLead → NeededIsReached
-    → (places : Places) → CatalogInUseTells places → ToldReachesSo places → ((all : List Image) → CatalogLists places all → Agrees places all)
+    → (places : Places) → LiveCatalogAgrees places → RecordedReachesSo places → ((all : List Image) → CatalogLists places all → Agrees places all)
     → (old new : CoreView) (merge : merger.Running) (copy : Copying) (made : Made) (phase : Phase) (image : NewImage) (list : List Retired) (done : MergeProgress)
     (asked : List (Option Asked)) (bodies files : List (List ℕ)) → MergedOpens places old merge copy made phase image list done new
     → slice_get asked 1 ≡ Some (Some made.request) → Believes old asked bodies files → IsOrderly places

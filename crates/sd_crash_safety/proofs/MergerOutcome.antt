@@ -29,7 +29,7 @@ use Rattle.sd_rounds.specs.MakingLaws.{MakingLaws, Pages}
 use Rattle.sd_store_laws.specs.Beliefs.{Belief, Closed, Closing, Opening, image_at, image_in}
 use Rattle.sd_store_laws.specs.Below.{StepsGive}
 use Rattle.sd_store_laws.specs.Cut.{CutHoldsTheSame}
-use Rattle.sd_store_laws.specs.InUse.{CatalogFollows, IsCatalogInUse}
+use Rattle.sd_store_laws.specs.LiveImages.{CatalogFollows, IsLiveCatalog}
 use Rattle.sd_store_laws.specs.Gates.{IsBelievedAs, IsInDoubt, MayBelieve}
 use Rattle.sd_store_laws.specs.Makers.{IsAboveStore}
 use Rattle.sd_store_laws.specs.Needs.{IsNeededIn, NeedsNoMore}
@@ -41,7 +41,7 @@ use Rattle.sd_crash_safety.specs.Believes.{Believes, HasStore}
 use Rattle.sd_crash_safety.specs.Calls.{IsFree}
 use Rattle.sd_crash_safety.specs.DumperOutcomes.{LeavesCatalog, closes_for_sure}
 use Rattle.sd_crash_safety.specs.GateSteps.{GateSteps}
-use Rattle.sd_crash_safety.specs.InUse.{IsAtWork, IsInUseOn, IsNewNumber, IsSlotFor, NoneAt, chain_of, ids_of}
+use Rattle.sd_crash_safety.specs.LiveImages.{IsAtWork, IsLiveOn, IsNewNumber, IsSlotFor, NoneAt, chain_of, ids_of}
 use Rattle.sd_crash_safety.specs.MergerOutcomes.{IsMergersOutcome}
 use Rattle.sd_crash_safety.specs.MergerSteps.{MakesInItsSlot, OnlyMerges}
 use Rattle.sd_crash_safety.specs.Merges.{IsMergeOn, IsSpared}
@@ -122,9 +122,9 @@ pub record StoreThen (memory : Contents) (last : ℕ) (running : Option Running)
 
 module _ (making : MakingLaws) (base : Base) (history : History) (places places_now : Places) (grows : Bool) (memory : Contents) (last : ℕ) (store store_now : Store) (dump : Option Image)
     (old new : Slots) (running : Option Running) (asked : List (Option Asked)) (slot : ℕ) (request : Asked)
-    (u : IsInUseOn base history places grows memory old.phases asked old.bodies last store dump old.beliefs running)
+    (u : IsLiveOn base history places grows memory old.phases asked old.bodies last store dump old.beliefs running)
     (out : slice_get asked 1 ≡ Some (Some request)) (on : request.id.slot ≡ slot) (at : SlotThen old new slot) (s : StoreThen memory last running old.beliefs store store_now)
-    (in_use : IsCatalogInUse places_now new.beliefs) (spared : IsSpared running slot) (own : MakesInItsSlot running) where
+    (is_live : IsLiveCatalog places_now new.beliefs) (spared : IsSpared running slot) (own : MakesInItsSlot running) where
   -- a slot with no request out had none before, but for this one
   none_before : (k : ℕ) → k ≢ slot → NoneAt (asked_then asked) k → NoneAt asked k
   none_before k differs none worker r is same = elim (cases_eq worker 1) [
@@ -148,9 +148,9 @@ module _ (making : MakingLaws) (base : Base) (history : History) (places places_
     images = λ k j has. inl (at.images k j has);
   }
 
-  pub use_handed : IsInUseOn base history places_now grows memory new.phases (asked_then asked) new.bodies last store_now dump new.beliefs running
+  pub use_handed : IsLiveOn base history places_now grows memory new.phases (asked_then asked) new.bodies last store_now dump new.beliefs running
   use_handed = record {
-    catalog = in_use;
+    catalog = is_live;
     grows_is = s.grows ∙ u.grows_is;
     used = record { above = s.above u.used.above; slots = λ k i has. u.used.slots k i (at.images k i has) };
     exact = λ k phase belief here of none. elim (cases_eq k slot) [
@@ -201,8 +201,8 @@ module _ (keeps : StepsKeep) (gives : StepsGive) (needs : NeedsNoMore) (memory :
 
   -- were it after what is newest then, it would be the tip
   module _ (tip : Image) (is : IsTip gone tip) where
-    not_behind : IsRestorable i → IsNotAfter tip i → ⊥
-    not_behind restored behind = unneeded (inl (record {
+    stands_not_after : IsRestorable i → IsNotAfter tip i → ⊥
+    stands_not_after restored behind = unneeded (inl (record {
       member = member;
       restorable = restored;
       greatest = λ j there restorable. elim (cases_eq j.header.serial i.header.serial) [
@@ -221,10 +221,10 @@ module _ (keeps : StepsKeep) (gives : StepsGive) (needs : NeedsNoMore) (memory :
     before_it restored = elim (cases_lt i.header.checkpoint tip.header.checkpoint) [
       | inl less ↦ inl less
       | inr over ↦ elim (cases_lt tip.header.checkpoint i.header.checkpoint) [
-        | inl more ↦ absurd (not_behind restored (inl more))
+        | inl more ↦ absurd (stands_not_after restored (inl more))
         | inr under ↦ (let same : i.header.checkpoint ≡ tip.header.checkpoint = omega (arith, over, under) in
             elim (cases_lt tip.header.serial i.header.serial) [
-              | inl above ↦ absurd (not_behind restored (inr (sym same, omega (arith, above))))
+              | inl above ↦ absurd (stands_not_after restored (inr (sym same, omega (arith, above))))
               | inr below ↦ inr (same, below)
             ])
       ]
@@ -285,7 +285,7 @@ pub record SlotHandedIn (old new : CoreView) (made : Made) (phase : Phase) (aske
   pub store : Store
   pub later : List Belief
   pub has : HasStore old.base (history_of old) (phases_then old made phase) (asked_then asked) (bodies_then bodies made) store b.dump later
-  pub in_use : IsInUseOn old.base (history_of old) new.catalog old.grows old.memory (phases_then old made phase) (asked_then asked) (bodies_then bodies made) old.numbers.serial
+  pub is_live : IsLiveOn old.base (history_of old) new.catalog old.grows old.memory (phases_then old made phase) (asked_then asked) (bodies_then bodies made) old.numbers.serial
       store b.dump later old.dumper.running
   pub there : slice_get later slot ≡ Some belief_now
   pub others : (k : ℕ) → k ≢ slot → slice_get later k ≡ slice_get b.beliefs k
@@ -317,7 +317,7 @@ believes_handed old new made phase asked bodies files o rest last_is b slot beli
       closed = rest.closed;
     })
     (asked_then asked) (bodies_then bodies made) files h.store b.dump h.later (λ is. b.knows.sure (sym rest.committing ∙ is))
-    (count_handed old new made phase asked bodies files o at b) (ids_handed old new made phase asked bodies files o at b) h.has h.in_use
+    (count_handed old new made phase asked bodies files o at b) (ids_handed old new made phase asked bodies files o at b) h.has h.is_live
     (record { spelled = λ i member. (b.knows.merging rest.stands).spelled i (h.within i member); is = m })
 
 module _ (quiet : QuietSteps) (gates : GateSteps) (making : MakingLaws) (closing_retires : ClosingRetires) (keeps : StepsKeep) (gives : StepsGive) (needs : NeedsNoMore) (follows : CatalogFollows) (cut : CutHoldsTheSame)
@@ -347,8 +347,8 @@ module _ (quiet : QuietSteps) (gates : GateSteps) (making : MakingLaws) (closing
   abbrev belief_now : Belief
   belief_now = belief_after (closes_for_sure phase made.request.id.call) belief
 
-  u : IsInUseOn old.base history old.catalog old.grows old.memory old.phases asked bodies last b.store b.dump b.beliefs running
-  u = b.knows.in_use rest.stands
+  u : IsLiveOn old.base history old.catalog old.grows old.memory old.phases asked bodies last b.store b.dump b.beliefs running
+  u = b.knows.is_live rest.stands
 
   has_one : HasStore old.base history phases_now (asked_then asked) bodies_now b.store b.dump b.beliefs
   has_one = has_handed old new made phase asked bodies files o at b quiet
@@ -363,7 +363,7 @@ module _ (quiet : QuietSteps) (gates : GateSteps) (making : MakingLaws) (closing
   -- with the store and the beliefs as they are then
   module _ (store : Store) (later : List Belief) (there : slice_get later slot ≡ Some belief_now) (others : (k : ℕ) → k ≢ slot → slice_get later k ≡ slice_get b.beliefs k)
       (images : (k : ℕ) (i : Image) → image_at later k ≡ Some i → image_at b.beliefs k ≡ Some i)
-      (has : HasStore old.base history phases_now (asked_then asked) bodies_now store b.dump later) (in_use : IsCatalogInUse new.catalog later)
+      (has : HasStore old.base history phases_now (asked_then asked) bodies_now store b.dump later) (is_live : IsLiveCatalog new.catalog later)
       (s : StoreThen old.memory last running b.beliefs b.store store) where
     exact_here : (p : Phase) (x : Belief) → slice_get phases_now slot ≡ Some p → slice_get later slot ≡ Some x → IsBelievedAs p (file_at bodies_now slot) x
     exact_here p x here of =
@@ -377,14 +377,14 @@ module _ (quiet : QuietSteps) (gates : GateSteps) (making : MakingLaws) (closing
               (subst (λ body. IsBelievedAs (after phase made.request.id.call true) body belief_now) (sym handed_body) exact))
         ]
 
-    uses : IsInUseOn old.base history new.catalog old.grows old.memory phases_now (asked_then asked) bodies_now last store b.dump later running
+    uses : IsLiveOn old.base history new.catalog old.grows old.memory phases_now (asked_then asked) bodies_now last store b.dump later running
     uses = use_handed making old.base history old.catalog new.catalog old.grows old.memory last b.store store b.dump (slots_at old.phases bodies b.beliefs) (slots_at phases_now bodies_now later)
         running asked slot made.request u at on (record {
           count = set_count old.phases made.request.id.slot (after phase made.request.id.call (is_done made.answer));
           others = λ k differs. others_handed old new made phase asked bodies files o at b later k (λ same. differs (same ∙ on)) (others k differs);
           exact = exact_here;
           images = images;
-        }) s in_use spared rest.makes
+        }) s is_live spared rest.makes
 
   -- ---- nothing left the catalog
 
@@ -393,7 +393,7 @@ module _ (quiet : QuietSteps) (gates : GateSteps) (making : MakingLaws) (closing
     store = b.store;
     later = b.beliefs;
     has = has_one;
-    in_use = uses b.store b.beliefs there_still (λ k differs. refl) (λ k i has. has) has_one (subst (λ places. IsCatalogInUse places b.beliefs) (sym same) u.catalog)
+    is_live = uses b.store b.beliefs there_still (λ k differs. refl) (λ k i has. has) has_one (subst (λ places. IsLiveCatalog places b.beliefs) (sym same) u.catalog)
         (store_same old.memory last running b.beliefs b.store);
     there = there_still;
     others = λ k differs. refl;
@@ -448,7 +448,7 @@ module _ (quiet : QuietSteps) (gates : GateSteps) (making : MakingLaws) (closing
           store = retired b.store gone.0;
           later = later;
           has = gone.2;
-          in_use = uses (retired b.store gone.0) later (there_then (Closing i) there) others_then (images_then (Closing i) there) gone.2
+          is_live = uses (retired b.store gone.0) later (there_then (Closing i) there) others_then (images_then (Closing i) there) gone.2
               (follows.removes old.catalog new.catalog b.beliefs slot i u.catalog there leaves)
               (store_retired keeps gives needs old.memory last running b.beliefs b.store i gone.0 b.has.sound member gone.1 retired_ok
               (asks_for old.base history old.grows old.memory old.phases asked bodies last b.store b.dump b.beliefs running u.job));
@@ -470,7 +470,7 @@ module _ (quiet : QuietSteps) (gates : GateSteps) (making : MakingLaws) (closing
           store = b.store;
           later = later;
           has = has;
-          in_use = uses b.store later (there_then (Opening i) there) others_then (images_then (Opening i) there) has
+          is_live = uses b.store later (there_then (Opening i) there) others_then (images_then (Opening i) there) has
               (removed_none old.catalog new.catalog b.beliefs slot i there leaves u.catalog) (store_same old.memory last running b.beliefs b.store);
           there = there_then (Opening i) there;
           others = others_then;

@@ -8,7 +8,7 @@ use Rattle.sd_image.specs.Table.{table_text}
 use Rattle.sd_image.specs.declared.header.Header.{Header}
 use Rattle.sd_image.proofs.Members.{contains_at, place_in}
 use Rattle.sd_chain.specs.Catalog.{Opened, Places, place_of}
-use Rattle.sd_chain.specs.Tells.{CatalogLists}
+use Rattle.sd_chain.specs.Recorded.{CatalogLists}
 use Rattle.sd_gate.specs.declared.call.Call.TheVariants.{Read, Write, Close as CloseCall, Open}
 use Rattle.sd_gate.specs.declared.phase.Phase.{Phase}
 use Rattle.sd_gate.specs.declared.phase.Phase.TheVariants.{Whole, Closing as ClosingPhase, Opening as OpeningPhase, Doubt, DoubtSynced}
@@ -30,19 +30,19 @@ use Rattle.sd_rounds.specs.MakingLaws.{MakingLaws, Pages, image_of}
 use Rattle.sd_rounds.specs.Pass.{data_pages}
 use Rattle.sd_store_laws.specs.Beliefs.{Belief, Closed, Kept, Closing, Opening, image_at, image_in}
 use Rattle.sd_store_laws.specs.Gates.{IsBelievedAs, IsInDoubt}
-use Rattle.sd_store_laws.specs.InUse.{CatalogFollows, IsCatalogInUse}
+use Rattle.sd_store_laws.specs.LiveImages.{CatalogFollows, IsLiveCatalog}
 use Rattle.sd_store_laws.specs.Needs.{IsNeededIn}
 use Rattle.sd_store_laws.specs.Stays.{SourceReachesNeeded}
 use Rattle.sd_crash_safety.specs.Believes.{Believes, HasStore}
 use Rattle.sd_crash_safety.specs.Calls.{IsFree}
-use Rattle.sd_crash_safety.specs.InUse.{IsAtWork, IsFilledSlot, IsInUseOn, IsSlotFor, body_written, ids_of, kind_of_call}
+use Rattle.sd_crash_safety.specs.LiveImages.{IsAtWork, IsFilledSlot, IsLiveOn, IsSlotFor, body_written, ids_of, kind_of_call}
 use Rattle.sd_crash_safety.specs.MergerSteps.{AsksForMerged, MergesOn, TakesZeros}
 use Rattle.sd_crash_safety.specs.Merges.{IsAskedIn, IsCopyOfSource, IsCopyOn, IsMergeAt, IsMergeOn, IsSpared, MakesOther, lanes_in_slot, order_of_slot, request_in_slot, stage_in_slot}
 use Rattle.sd_crash_safety.specs.StoreSteps.{IsQuiet, QuietSteps}
 use Rattle.sd_crash_safety.specs.View.{CoreView, history_of}
 use Rattle.sd_crash_safety.proofs.Asks.{unchanged_at}
 use Rattle.sd_crash_safety.proofs.BeginsImage.{none_at}
-use Rattle.sd_crash_safety.proofs.FoundInUse.{numbers_fall}
+use Rattle.sd_crash_safety.proofs.FoundLive.{numbers_fall}
 use Rattle.sd_crash_safety.proofs.MergerSource.{KnowsCatalog, source_in}
 use Rattle.sd_crash_safety.proofs.MergerUse.{use_then}
 use Rattle.sd_crash_safety.proofs.Places.{has_too, ids_set, set_same}
@@ -101,8 +101,8 @@ module _ (quiet : QuietSteps) (merge_laws : MergeLaws) (files_of : FileLaws) (ne
   abbrev last : ℕ
   last = old.numbers.serial
 
-  u : IsInUseOn old.base history old.catalog old.grows old.memory old.phases asked bodies last b.store b.dump b.beliefs running
-  u = b.knows.in_use s.rest.stands
+  u : IsLiveOn old.base history old.catalog old.grows old.memory old.phases asked bodies last b.store b.dump b.beliefs running
+  u = b.knows.is_live s.rest.stands
 
   k : IsCopyOfSource old.phases asked bodies last b.store b.beliefs running merge.slot merge.source made
   k = subst (IsMergeAt old.phases asked bodies last b.store b.beliefs running merge.slot merge.source) s.doing
@@ -118,7 +118,7 @@ module _ (quiet : QuietSteps) (merge_laws : MergeLaws) (files_of : FileLaws) (ne
   there = (b.has.slots.catalog source).1 (inl (contains_at b.beliefs k.repeats.source.slot (Kept source) k.repeats.source.kept))
 
   told : CatalogLists places b.store.catalog
-  told = knows.tells b.store b.dump b.beliefs b.has.slots (subst (λ p. IsCatalogInUse p b.beliefs) its_catalog u.catalog)
+  told = knows.tells b.store b.dump b.beliefs b.has.slots (subst (λ p. IsLiveCatalog p b.beliefs) its_catalog u.catalog)
 
   source_is : IsSourceAt places b.store.catalog made.order.source.serial source
   source_is = subst (λ n. IsSourceAt places b.store.catalog n source) (sym k.repeats.source.serial ∙ ap (λ x. x.serial) (sym k.order.0))
@@ -159,9 +159,9 @@ module _ (quiet : QuietSteps) (merge_laws : MergeLaws) (files_of : FileLaws) (ne
 
   -- the new core
   believes_next : (asked_now : List (Option Asked)) → ids_of asked_now ≡ new.outs → HasStore old.base history old.phases asked_now bodies b.store b.dump b.beliefs
-      → IsInUseOn old.base history old.catalog old.grows old.memory old.phases asked_now bodies last b.store b.dump b.beliefs running
+      → IsLiveOn old.base history old.catalog old.grows old.memory old.phases asked_now bodies last b.store b.dump b.beliefs running
       → IsCopyOfSource old.phases asked_now bodies last b.store b.beliefs running merge.slot merge.source next → Believes new asked_now bodies files
-  believes_next asked_now out has in_use copying_it = grind arith
+  believes_next asked_now out has is_live copying_it = grind arith
 
   -- ---- in the pass
 
@@ -220,7 +220,7 @@ module _ (quiet : QuietSteps) (merge_laws : MergeLaws) (files_of : FileLaws) (ne
       let none0 = none_out quiet merge_laws files_of needed_of follows making plans bodies_fill places knows old new merge made next ticket Zero asked bodies files its_catalog s b stage in
       let filled0 = filled_slot quiet merge_laws files_of needed_of follows making plans bodies_fill places knows old new merge made next ticket Zero asked bodies files its_catalog s b stage in
       believes_next quiet merge_laws files_of needed_of follows making plans bodies_fill places knows old new merge made next ticket Zero asked bodies files its_catalog s b
-      asked (b.knows.out ∙ sym z.outs) b.has (b.knows.in_use s.rest.stands)
+      asked (b.knows.out ∙ sym z.outs) b.has (b.knows.is_live s.rest.stands)
       (copying_next quiet merge_laws files_of needed_of follows making plans bodies_fill places knows old new merge made next ticket Zero asked bodies files its_catalog s b
       c0.pages asked None (ap (λ (x : Copying). x.order) takes.takes.is)
       (keeps_next quiet merge_laws files_of needed_of follows making plans bodies_fill places knows old new merge made next ticket Zero asked bodies files its_catalog s b)

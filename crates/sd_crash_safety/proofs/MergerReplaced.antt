@@ -8,13 +8,13 @@ use Rattle.sd_rounds.specs.Dumper.{Running}
 use Rattle.sd_rounds.specs.Keeps.{Rests}
 use Rattle.sd_store_laws.specs.Beliefs.{Belief, image_at}
 use Rattle.sd_store_laws.specs.Below.{StepsGive}
-use Rattle.sd_store_laws.specs.Harmless.{IsSource}
+use Rattle.sd_store_laws.specs.ShownStays.{IsSource}
 use Rattle.sd_store_laws.specs.Makers.{IsAboveStore}
 use Rattle.sd_store_laws.specs.Needs.{NeedsNoMore}
 use Rattle.sd_store_laws.specs.Needed.{by_job}
 use Rattle.sd_store_laws.specs.Steps.{Adds, StepsKeep, checkpoint_begun, replaced}
-use Rattle.sd_store_laws.specs.Store.{IsMergeSource, IsSoundStore, IsTwin, Store, jobs}
-use Rattle.sd_crash_safety.specs.InUse.{IsNewNumber, chain_of}
+use Rattle.sd_store_laws.specs.Store.{IsMergeSource, IsSoundStore, IsMergedCopy, Store, jobs}
+use Rattle.sd_crash_safety.specs.LiveImages.{IsNewNumber, chain_of}
 use Rattle.sd_crash_safety.specs.Merges.{IsOtherImage, IsSpared, MakesOther}
 use Rattle.sd_crash_safety.proofs.BeginsImage.{in_front}
 use Rattle.sd_crash_safety.proofs.MergerOutcome.{StoreThen}
@@ -37,7 +37,7 @@ pub record IsRepeated (last : ℕ) (running : Option Running) (source i : Image)
   pub checkpoint : i.header.checkpoint ≡ source.header.checkpoint
 
 module _ (keeps : StepsKeep) (gives : StepsGive) (needs : NeedsNoMore) (memory : Contents) (last : ℕ) (running : Option Running) (beliefs : List Belief) (store : Store) (source i : Image) (slot : ℕ)
-    (sound : IsSoundStore store) (twin : IsTwin store.catalog store.source i) (is_source : store.source ≡ Some source) (there : Contains store.catalog source) (restorable : IsRestorable source)
+    (sound : IsSoundStore store) (twin : IsMergedCopy store.catalog store.source i) (is_source : store.source ≡ Some source) (there : Contains store.catalog source) (restorable : IsRestorable source)
     (its : IsRepeated last running source i) (adds : Adds store.catalog i (i ∷ store.catalog)) (spared : IsSpared running slot)
     (only_here : (k : ℕ) → image_at beliefs k ≡ Some i → k ≡ slot) (asks : (one : Running) → running ≡ Some one → store.chain ≡ one.parent ∷ [])
     (low : (number : ℕ) → IsMakingNumber running number → 0 < number) where

@@ -16,12 +16,12 @@ use Rattle.sd_rounds.specs.declared.stage.Stage.TheVariants.{Format}
 use Rattle.sd_rounds.specs.Dumper.{Running}
 use Rattle.sd_rounds.specs.MakingLaws.{MakingLaws}
 use Rattle.sd_store_laws.specs.Beliefs.{Belief, Kept, Closing, image_in}
-use Rattle.sd_store_laws.specs.InUse.{CatalogFollows}
+use Rattle.sd_store_laws.specs.LiveImages.{CatalogFollows}
 use Rattle.sd_store_laws.specs.Needs.{IsNeededIn}
 use Rattle.sd_store_laws.specs.SlotSteps.{with_belief}
 use Rattle.sd_crash_safety.specs.Believes.{Believes, HasStore}
 use Rattle.sd_crash_safety.specs.GateSteps.{GateSteps}
-use Rattle.sd_crash_safety.specs.InUse.{IsInUseOn, IsSlotFor}
+use Rattle.sd_crash_safety.specs.LiveImages.{IsLiveOn, IsSlotFor}
 use Rattle.sd_crash_safety.specs.MergerSteps.{AsksToRetire}
 use Rattle.sd_crash_safety.specs.Merges.{IsMergeAt, IsMergeOn, IsRetiredOn, IsRetiringOn, order_of_slot}
 use Rattle.sd_crash_safety.specs.StoreSteps.{MayAsk, QuietSteps}
@@ -55,8 +55,8 @@ module _ (quiet : QuietSteps) (gates : GateSteps) (follows : CatalogFollows) (ma
   abbrev asked_now : List (Option Asked)
   asked_now = slice_set asked 1 (Some request)
 
-  u : IsInUseOn old.base history old.catalog old.grows old.memory old.phases asked bodies last b.store b.dump b.beliefs running
-  u = b.knows.in_use s.rest.stands
+  u : IsLiveOn old.base history old.catalog old.grows old.memory old.phases asked bodies last b.store b.dump b.beliefs running
+  u = b.knows.is_live s.rest.stands
 
   m : IsRetiringOn old.phases asked bodies b.store b.beliefs running r
   m = subst (IsMergeAt old.phases asked bodies last b.store b.beliefs running merge.slot merge.source) s.doing

@@ -31,7 +31,7 @@ use Rattle.sd_store_laws.specs.Beliefs.{Belief, image_at, image_in}
 use Rattle.sd_store_laws.specs.Below.{StepsGive}
 use Rattle.sd_store_laws.specs.Cut.{CutHoldsTheSame}
 use Rattle.sd_store_laws.specs.Gates.{IsBelievedAs}
-use Rattle.sd_store_laws.specs.InUse.{CatalogFollows}
+use Rattle.sd_store_laws.specs.LiveImages.{CatalogFollows}
 use Rattle.sd_store_laws.specs.Needs.{IsNeededIn, NeedsNoMore}
 use Rattle.sd_store_laws.specs.SlotSteps.{ClosingRetires}
 use Rattle.sd_store_laws.specs.Steps.{StepsKeep}
@@ -39,7 +39,7 @@ use Rattle.sd_store_laws.specs.Store.{Store}
 use Rattle.sd_crash_safety.specs.Believes.{Believes}
 use Rattle.sd_crash_safety.specs.DumperOutcomes.{closes_for_sure}
 use Rattle.sd_crash_safety.specs.GateSteps.{GateSteps}
-use Rattle.sd_crash_safety.specs.InUse.{AreExact, IsSlotFor, NoneAt}
+use Rattle.sd_crash_safety.specs.LiveImages.{AreExact, IsSlotFor, NoneAt}
 use Rattle.sd_crash_safety.specs.MergerOutcomes.{OutcomeIsBelieved, RetiringGoesOn, goes_on_with}
 use Rattle.sd_crash_safety.specs.Merges.{IsCutOn, IsListedOn, IsMergeAt, IsMergeOn, IsRetiredOn, IsRetiringOn, IsUnmerged, order_of_slot}
 use Rattle.sd_crash_safety.specs.StoreSteps.{QuietSteps}
@@ -253,7 +253,7 @@ module _ (quiet : QuietSteps) (gates : GateSteps) (making : MakingLaws) (closing
     alone = alone;
     one = e.next;
     there = e.there;
-    closes = retired_begins plans (phases_then old made phase) (asked_then asked) (bodies_then bodies made) h.store h.later running h.has.believed.count h.in_use.exact silent
+    closes = retired_begins plans (phases_then old made phase) (asked_then asked) (bodies_then bodies made) h.store h.later running h.has.believed.count h.is_live.exact silent
         r.serial r.list (r.ended + 1) e.next (none_on old new made phase asked bodies files s.outcome at b e.next.slot (s.free e.next e.there))
         (listed (r.ended + 1) e.next (omega arith) e.there);
     before = cut_up_to l;

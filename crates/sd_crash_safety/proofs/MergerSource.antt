@@ -6,15 +6,15 @@ use Rattle.sd_image.specs.Image.{Image, IsImage}
 use Rattle.sd_image.specs.Laws.{HaveTables, PageInFile}
 use Rattle.sd_image.specs.Table.{IsTable}
 use Rattle.sd_chain.specs.Catalog.{IsSoundCatalog, Places, images}
-use Rattle.sd_chain.specs.Tells.{Agrees, CatalogLists, HaveDataPages}
+use Rattle.sd_chain.specs.Recorded.{Agrees, CatalogLists, HaveDataPages}
 use Rattle.sd_chain.specs.Ways.{AreImages}
 use Rattle.sd_merge.specs.Merging.{IsSourceAt}
-use Rattle.sd_store_laws.specs.InUse.{CatalogInUseTells}
+use Rattle.sd_store_laws.specs.LiveImages.{LiveCatalogAgrees}
 
--- what the catalog tells
+-- what the catalog says
 pub record KnowsCatalog (places : Places) : Type 0 where
   pub sound : IsSoundCatalog places
-  pub tells : CatalogInUseTells places
+  pub tells : LiveCatalogAgrees places
   pub agrees : (all : List Image) → CatalogLists places all → Agrees places all
   pub page : PageInFile
 

@@ -10,9 +10,9 @@ use Rattle.sd_pagetable.specs.Contents.{Contents}
 use Rattle.sd_rounds.specs.Dumper.{IsReserved, Running}
 use Rattle.sd_rounds.specs.MakingLaws.{MakingLaws}
 use Rattle.sd_store_laws.specs.Beliefs.{Belief, image_at, image_in}
-use Rattle.sd_store_laws.specs.InUse.{CatalogFollows}
+use Rattle.sd_store_laws.specs.LiveImages.{CatalogFollows}
 use Rattle.sd_store_laws.specs.Store.{Store}
-use Rattle.sd_crash_safety.specs.InUse.{IsInUseOn, NoneAt, ids_of}
+use Rattle.sd_crash_safety.specs.LiveImages.{IsLiveOn, NoneAt, ids_of}
 use Rattle.sd_crash_safety.specs.MergerSteps.{MakesInItsSlot}
 use Rattle.sd_crash_safety.specs.Merges.{IsSpared, MakesOther}
 use Rattle.sd_crash_safety.proofs.Asks.{HasIt, IsChangedAt, same_images}
@@ -28,7 +28,7 @@ other_slot running slot k spared one is r same = subst (λ x. IsSpared x slot) i
 
 module _ (follows : CatalogFollows) (making : MakingLaws) (base : Base) (history : History) (places : Places) (grows : Bool) (memory : Contents) (phases : List Phase) (asked : List (Option Asked)) (bodies : List (List ℕ))
     (last : ℕ) (store : Store) (dump : Option Image) (beliefs then : List Belief) (running : Option Running) (slot : ℕ) (belief belief_now : Belief) (request : Asked)
-    (u : IsInUseOn base history places grows memory phases asked bodies last store dump beliefs running)
+    (u : IsLiveOn base history places grows memory phases asked bodies last store dump beliefs running)
     (free : slice_get asked 1 ≡ Some None) (on : request.id.slot ≡ slot) (at : slice_get beliefs slot ≡ Some belief)
     (changed : IsChangedAt beliefs slot belief_now then) (same : (i : Image) → HasIt belief i ↔ HasIt belief_now i)
     (few : (i : Image) → image_in belief_now ≡ Some i → i.header.serial ≤ last)
@@ -55,7 +55,7 @@ module _ (follows : CatalogFollows) (making : MakingLaws) (base : Base) (history
   leaves : LeavesWork store running memory (slots_at phases bodies beliefs) last last store (slots_at phases bodies then)
   leaves = grind arith
 
-  pub use_then : IsInUseOn base history places grows memory phases asked_now bodies last store dump then running
+  pub use_then : IsLiveOn base history places grows memory phases asked_now bodies last store dump then running
   use_then = record {
     catalog = follows.stays places beliefs then (same_images beliefs then slot belief belief_now at changed same) u.catalog;
     grows_is = u.grows_is;

@@ -11,8 +11,8 @@ use Rattle.sd_rounds.specs.Dumper.{Running}
 use Rattle.sd_store_laws.specs.Beliefs.{Belief}
 use Rattle.sd_store_laws.specs.Store.{Store}
 use Rattle.sd_crash_safety.specs.Believes.{Believes, HasStore}
-use Rattle.sd_crash_safety.specs.InUse.{IsInUseOn, ids_of}
-use Rattle.sd_crash_safety.specs.Merges.{IsMergeInUse}
+use Rattle.sd_crash_safety.specs.LiveImages.{IsLiveOn, ids_of}
+use Rattle.sd_crash_safety.specs.Merges.{IsLiveMerge}
 use Rattle.sd_crash_safety.specs.View.{CoreView, history_of}
 
 -- the fields of a core
@@ -34,15 +34,15 @@ module _ (core : CoreView) (base : Base) (history : History) (places : Places) (
   has_parts : HasStore base history phases asked bodies store dump beliefs → HasStore core.base (history_of core) core.phases asked bodies store dump beliefs
   has_parts has = grind arith
 
-  pub in_use_parts : IsInUseOn base history places grows memory phases asked bodies last store dump beliefs running
-      → IsInUseOn core.base (history_of core) core.catalog core.grows core.memory core.phases asked bodies core.numbers.serial store dump beliefs core.dumper.running
+  pub in_use_parts : IsLiveOn base history places grows memory phases asked bodies last store dump beliefs running
+      → IsLiveOn core.base (history_of core) core.catalog core.grows core.memory core.phases asked bodies core.numbers.serial store dump beliefs core.dumper.running
   in_use_parts u = grind arith
 
-  pub merging_parts : IsMergeInUse phases asked bodies last store beliefs running merge
-      → IsMergeInUse core.phases asked bodies core.numbers.serial store beliefs core.dumper.running core.merger
+  pub merging_parts : IsLiveMerge phases asked bodies last store beliefs running merge
+      → IsLiveMerge core.phases asked bodies core.numbers.serial store beliefs core.dumper.running core.merger
   merging_parts m = grind arith
 
   pub believes_parts : (core.committing ≡ false → dump ≡ None) → length files ≡ length phases → ids_of asked ≡ core.outs → HasStore base history phases asked bodies store dump beliefs
-      → IsInUseOn base history places grows memory phases asked bodies last store dump beliefs running → IsMergeInUse phases asked bodies last store beliefs running merge
+      → IsLiveOn base history places grows memory phases asked bodies last store dump beliefs running → IsLiveMerge phases asked bodies last store beliefs running merge
       → Believes core asked bodies files
   believes_parts sure count out has u m = grind arith

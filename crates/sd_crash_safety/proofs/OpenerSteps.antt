@@ -8,7 +8,7 @@ use Rattle.sd_gate.specs.declared.call.Call.TheVariants.{Len, Close, Open, Sync}
 use Rattle.sd_gate.specs.declared.phase.Phase.{Phase}
 use Rattle.sd_gate.specs.declared.phase.Phase.TheVariants.{Raw}
 use Rattle.sd_gate.specs.Calls.{IsLook, is_done}
-use Rattle.sd_gate.specs.Looks.{IsCallAt, Look, calls_behind}
+use Rattle.sd_gate.specs.Looks.{IsCallAt, Look, calls_left_after}
 use Rattle.sd_gate.specs.Phases.{after, bodies_after, given_up, is_ready, phases_after, synced}
 use Rattle.sd_gate.specs.Plans.{Planned}
 use Rattle.sd_gate.specs.Requests.{Asked, Made}
@@ -17,11 +17,11 @@ use Rattle.sd_store_laws.specs.GateSteps.{GivenUpSyncs}
 use Rattle.sd_opener.specs.declared.stage.Stage.{Stage}
 use Rattle.sd_opener.specs.declared.stage.Stage.TheVariants.{Asking}
 use Rattle.sd_opener.specs.Looking.{IsAtNext, Looking, OpenerAsks}
-use Rattle.sd_opener.specs.Sees.{IsToldOf, Sees, SeesSlot}
+use Rattle.sd_opener.specs.Sees.{IsLookOf, Sees, SeesSlot}
 use Rattle.sd_crash_safety.specs.declared.standing.Standing.TheVariants as standing
 use Rattle.sd_crash_safety.specs.Believes.{Believes, HasStore}
-use Rattle.sd_crash_safety.specs.Calls.{NoneOut, WasTold}
-use Rattle.sd_crash_safety.specs.InUse.{ids_of}
+use Rattle.sd_crash_safety.specs.Calls.{NoneOut, WasLookedAt}
+use Rattle.sd_crash_safety.specs.LiveImages.{ids_of}
 use Rattle.sd_crash_safety.specs.Knows.{AreLooks, HasSynced, IsPastSync, IsRefound, Knows, SeesStore}
 use Rattle.sd_crash_safety.specs.OpenerSteps.{Decodes, GivesUpOpening, IsHandedToOpener, IsTaught, LooksOn, OnlyOpens, OpenerSteps, Reopens, opener_alone}
 use Rattle.sd_crash_safety.specs.StoreSteps.{IsOutcomeOf, MayAsk, QuietSteps}
@@ -61,7 +61,7 @@ look_closes_none call look same = subst IsLook same look
 is_look_at : (look : Look) (call : Call) (count : ℕ) → IsCallAt look call count → IsLook call
 is_look_at look call count is = grind arith
 
-behind_is_less : (look : Look) → calls_behind look ≢ first_looks
+behind_is_less : (look : Look) → calls_left_after look ≢ first_looks
 behind_is_less look is = grind arith
 
 pub record IsLooking (slot : ℕ) (request : Asked) (stage : Stage) : Type 0 where
@@ -131,7 +131,7 @@ reopens_lem quiet syncs old new opener asked bodies files r b =
         current = λ past. absurd (HasSynced.asked (subst IsPastSync r.stage past) refl);
       });
       sure = λ is. b.knows.sure (sym r.rest.committing ∙ is);
-      in_use = λ is. absurd (not_open old new r.rest is);
+      is_live = λ is. absurd (not_open old new r.rest is);
       merging = λ is. absurd (not_open old new r.rest is);
     })
 
@@ -176,7 +176,7 @@ looks_lem quiet old new opener next number request asked bodies files l b =
             current = λ past p at. s.current (was_past opener next past l.asked) p (ap (λ t. slice_get old.phases (length t)) (sym l.asked.told) ∙ at);
           }));
       sure = λ is. b.knows.sure (sym l.rest.committing ∙ is);
-      in_use = λ is. absurd (not_open old new l.rest is);
+      is_live = λ is. absurd (not_open old new l.rest is);
       merging = λ is. absurd (not_open old new l.rest is);
     })
   where
@@ -226,7 +226,7 @@ decodes_lem old new opener next asked bodies files d b =
             current = λ past. absurd (fresh_is_not_past opener next d.decoded.next past);
           }));
       sure = λ is. b.knows.sure (sym d.rest.committing ∙ is);
-      in_use = λ is. absurd (not_open old new d.rest is);
+      is_live = λ is. absurd (not_open old new d.rest is);
       merging = λ is. absurd (not_open old new d.rest is);
     })
 
@@ -266,11 +266,11 @@ module _ (old new : CoreView) (made : Made) (phase : Phase) (asked : List (Optio
     out = handed_ids;
     sees = subst (λ o. IfSome o (SeesStore files new.phases (slice_set asked 2 None))) (sym ended) tt;
     sure = λ is. b.knows.sure (sym h.rest.committing ∙ is);
-    in_use = λ is. absurd (not_open old new h.rest is);
+    is_live = λ is. absurd (not_open old new h.rest is);
     merging = λ is. absurd (not_open old new h.rest is);
   })
 
-  module _ (opener next : Looking) (t : IsTaught old opener made phase next new) (was_told : WasTold old.phases bodies files made) where
+  module _ (opener next : Looking) (t : IsTaught old opener made phase next new) (was_told : WasLookedAt old.phases bodies files made) where
     abbrev slot : ℕ
     slot = made.request.id.slot
 
@@ -283,7 +283,7 @@ module _ (old new : CoreView) (made : Made) (phase : Phase) (asked : List (Optio
     out : IsLooking (length opener.told) made.request opener.stage
     out = looks_out (length opener.told) (file_at files (length opener.told)) made.request opener.stage before.slot
 
-    told_of : IsToldOf (file_at files (length opener.told)) made.request made
+    told_of : IsLookOf (file_at files (length opener.told)) made.request made
     told_of = grind arith
 
     then_phases : handed_phases ≡ slice_set old.phases slot (after phase made.request.id.call true)
@@ -340,7 +340,7 @@ module _ (old new : CoreView) (made : Made) (phase : Phase) (asked : List (Optio
             current = current_then;
           }));
       sure = λ is. b.knows.sure (sym h.rest.committing ∙ is);
-      in_use = λ is. absurd (not_open old new h.rest is);
+      is_live = λ is. absurd (not_open old new h.rest is);
       merging = λ is. absurd (not_open old new h.rest is);
     })
 

@@ -18,7 +18,7 @@ use Rattle.sd_gate.specs.Requests.{Asked, Made}
 use Rattle.sd_gate.specs.Sequences.{body_calls}
 use Rattle.sd_rounds.specs.declared.image_order.ImageOrder.{ImageOrder}
 use Rattle.sd_store_laws.specs.Beliefs.{Belief, Kept, Opening, image_at, image_in}
-use Rattle.sd_crash_safety.specs.InUse.{AreExact, ClosesBody, IsImageOn, IsInUseOn, IsMakingOn, IsRunningOn, NoneAt, kind_of_call, chain_of, is_opening_at, pending_dump, ids_of, lanes_of}
+use Rattle.sd_crash_safety.specs.LiveImages.{AreExact, ClosesBody, IsImageOn, IsLiveOn, IsMakingOn, IsRunningOn, NoneAt, kind_of_call, chain_of, is_opening_at, pending_dump, ids_of, lanes_of}
 use Rattle.sd_chain.specs.Catalog.{Changes, place_of}
 use Rattle.sd_gate.specs.Calls.{is_done}
 use Rattle.sd_journal.specs.declared.entry.Entry.TheVariants.{Acked}
@@ -33,9 +33,9 @@ use Rattle.sd_rounds.specs.Making.{Making, is_past_freeze, plan_of}
 use Rattle.sd_rounds.specs.MakingLaws.{image_of}
 use Rattle.sd_store_laws.specs.Below.{StepsGive}
 use Rattle.sd_store_laws.specs.Cut.{CutHoldsTheSame}
-use Rattle.sd_store_laws.specs.Harmless.{UnusedIsUncalled}
+use Rattle.sd_store_laws.specs.ShownStays.{UnusedIsUncalled}
 use Rattle.sd_store_laws.specs.Gates.{IsBelievedAs}
-use Rattle.sd_store_laws.specs.InUse.{CatalogFollows, IsCatalogInUse}
+use Rattle.sd_store_laws.specs.LiveImages.{CatalogFollows, IsLiveCatalog}
 use Rattle.sd_store_laws.specs.Needed.{IsCalled, by_job}
 use Rattle.sd_store_laws.specs.Makers.{IsAboveStore}
 use Rattle.sd_store_laws.specs.Needs.{IsNeededIn, NeedsNoMore}
@@ -118,8 +118,8 @@ module _ (quiet : QuietSteps) (gates : GateSteps) (file : FileLaws) (gives : Ste
   abbrev bodies_now : List (List ℕ)
   bodies_now = bodies_after bodies made.request.id made.request.bytes
 
-  u : IsInUseOn old.base history old.catalog old.grows old.memory old.phases asked bodies old.numbers.serial b.store b.dump b.beliefs (Some running)
-  u = subst (λ r. IsInUseOn old.base history old.catalog old.grows old.memory old.phases asked bodies old.numbers.serial b.store b.dump b.beliefs r) s.was (b.knows.in_use s.stands)
+  u : IsLiveOn old.base history old.catalog old.grows old.memory old.phases asked bodies old.numbers.serial b.store b.dump b.beliefs (Some running)
+  u = subst (λ r. IsLiveOn old.base history old.catalog old.grows old.memory old.phases asked bodies old.numbers.serial b.store b.dump b.beliefs r) s.was (b.knows.is_live s.stands)
 
   w : IsRunningOn old.base history old.memory old.phases asked bodies old.numbers.serial b.store b.dump b.beliefs running
   w = u.job
@@ -299,8 +299,8 @@ module _ (quiet : QuietSteps) (gates : GateSteps) (file : FileLaws) (gives : Ste
       })
       (λ place bytes below. (gives.adds b.store i (i ∷ b.store.catalog) b.has.sound next_is adds_it running.parent place.0 place.1 bytes called).0 below) m.keeps)
 
-  catalog_then : IsCatalogInUse new.catalog beliefs_now
-  catalog_then = subst (λ k. IsCatalogInUse new.catalog (with_belief b.beliefs k (Kept i))) s.opens.slot
+  catalog_then : IsLiveCatalog new.catalog beliefs_now
+  catalog_then = subst (λ k. IsLiveCatalog new.catalog (with_belief b.beliefs k (Kept i))) s.opens.slot
       (follows.adds old.catalog new.catalog b.beliefs (record { slot = opened.slot; header = opened.header; spaces = opened.table }) i u.catalog
       (ap (slice_get b.beliefs) s.opens.slot ∙ belief_at) (record { header = refl; spaces = refl })
       (λ other there. (let no : Some None ≡ Some (Some other) = sym s.held ∙ ap (place_of old.catalog) (sym serial_is) ∙ there in cc))

@@ -19,7 +19,7 @@ use Rattle.sd_store_laws.specs.Beliefs.{Belief, Closed}
 use Rattle.sd_store_laws.specs.Gates.{IsBelievedAs, MayBelieve}
 use Rattle.sd_crash_safety.specs.Believes.{Believes, HasStore}
 use Rattle.sd_crash_safety.specs.DumperOutcomes.{PageIsWritten}
-use Rattle.sd_crash_safety.specs.InUse.{ArePagesOf, IsFilledSlot, IsFrozenAs, IsImageOn, IsInUseOn, IsMakingOn, IsPageOf, IsRunningOn, IsSlotFor, NoneAt, body_written, chain_of, ids_of, lanes_of}
+use Rattle.sd_crash_safety.specs.LiveImages.{ArePagesOf, IsFilledSlot, IsFrozenAs, IsImageOn, IsLiveOn, IsMakingOn, IsPageOf, IsRunningOn, IsSlotFor, NoneAt, body_written, chain_of, ids_of, lanes_of}
 use Rattle.sd_crash_safety.specs.StoreSteps.{QuietSteps}
 use Rattle.sd_crash_safety.specs.View.{CoreView, history_of, page_lane}
 use Rattle.sd_crash_safety.proofs.HandsLaw.{count_then, file_set, has_then, ids_then}
@@ -57,8 +57,8 @@ module _ (commutes : WritesCommute) (making : MakingLaws) (quiet : QuietSteps) (
   abbrev bodies_now : List (List ℕ)
   bodies_now = bodies_after bodies made.request.id made.request.bytes
 
-  u : IsInUseOn old.base history old.catalog old.grows old.memory old.phases asked bodies old.numbers.serial b.store b.dump b.beliefs (Some running)
-  u = subst (λ r. IsInUseOn old.base history old.catalog old.grows old.memory old.phases asked bodies old.numbers.serial b.store b.dump b.beliefs r) s.was (b.knows.in_use s.rest.stands)
+  u : IsLiveOn old.base history old.catalog old.grows old.memory old.phases asked bodies old.numbers.serial b.store b.dump b.beliefs (Some running)
+  u = subst (λ r. IsLiveOn old.base history old.catalog old.grows old.memory old.phases asked bodies old.numbers.serial b.store b.dump b.beliefs r) s.was (b.knows.is_live s.rest.stands)
 
   w : IsRunningOn old.base history old.memory old.phases asked bodies old.numbers.serial b.store b.dump b.beliefs running
   w = u.job

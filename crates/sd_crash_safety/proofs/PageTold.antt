@@ -7,7 +7,7 @@ use Rattle.sd_image.specs.Image.{Image, IsImage}
 use Rattle.sd_image.specs.Laws.{PageInFile}
 use Rattle.sd_image.specs.Shows.{pages_of}
 use Rattle.sd_gate.specs.declared.call.Call.TheVariants.{Read}
-use Rattle.sd_gate.specs.Looks.{IsTold}
+use Rattle.sd_gate.specs.Looks.{IsLookedUpAs}
 use Rattle.sd_gate.specs.Requests.{Made}
 use Rattle.sd_gate.specs.Sequences.{data_place}
 use Rattle.sd_image.proofs.PageBytes.{counted_spaces as pages_counted}
@@ -30,5 +30,5 @@ page_there law file i place bytes is there =
 
 -- a read that was done brings it
 pub page_told : PageInFile → (file : List ℕ) (i : Image) (place : ℕ) (bytes : List ℕ) (made : Made) → IsImage file i → slice_get i.pages place ≡ Some bytes
-    → made.request.id.call ≡ Read (data_place place) → length made.request.bytes ≡ 4096 → IsTold file made → made.request.bytes ≡ bytes
+    → made.request.id.call ≡ Read (data_place place) → length made.request.bytes ≡ 4096 → IsLookedUpAs file made → made.request.bytes ≡ bytes
 page_told law file i place bytes made is there call whole told = grind (arith, page_there)

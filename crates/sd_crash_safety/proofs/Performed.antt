@@ -42,7 +42,7 @@ use Rattle.sd_merge.specs.Merger.{Doing, Retiring, due, copying, opened, retirin
 use Rattle.sd_merge.specs.Merger as merger
 use Rattle.sd_crash_safety.specs.Merges.{IsAskedIn, IsCopyOn, IsMergeAt, IsMergeOn, IsReadOn, IsRetiredOn, lanes_in_slot, order_of_slot, request_in_slot, stage_in_slot}
 use Rattle.sd_store_laws.specs.Store.{Store}
-use Rattle.sd_crash_safety.specs.InUse.{AreLeft, ArePagesOf, IsAtWork, IsImageOn, IsInUseOn, IsPageOf, IsSlotFor, NoneAt, body_written, calls_left, kind_of_call, lanes_of}
+use Rattle.sd_crash_safety.specs.LiveImages.{AreLeft, ArePagesOf, IsAtWork, IsImageOn, IsLiveOn, IsPageOf, IsSlotFor, NoneAt, body_written, calls_left, kind_of_call, lanes_of}
 use Rattle.sd_crash_safety.specs.View.{CoreView, history_of}
 use Rattle.sd_opener.specs.declared.stage.Stage.{Stage}
 use Rattle.sd_opener.specs.Looking.{Looking}
@@ -297,8 +297,8 @@ module _ (asked : List (Option Asked)) (worker : ℕ) (request : Asked) (made : 
       image = image_made running.parent running.number running.image w.image;
     }
 
-    in_use_made : (places : Places) (grows : Bool) (running : Option Running) → IsInUseOn base history places grows memory phases asked bodies last store dump beliefs running
-        → IsInUseOn base history places grows memory phases after bodies last store dump beliefs running
+    in_use_made : (places : Places) (grows : Bool) (running : Option Running) → IsLiveOn base history places grows memory phases asked bodies last store dump beliefs running
+        → IsLiveOn base history places grows memory phases after bodies last store dump beliefs running
     in_use_made places grows running u = record {
       catalog = u.catalog;
       grows_is = u.grows_is;
@@ -411,8 +411,8 @@ module _ (asked : List (Option Asked)) (worker : ℕ) (request : Asked) (made : 
       out = ids_same asked worker made.request request at is.id ∙ b.knows.out;
       sees = sees core.phases core.opener b.knows.sees;
       sure = b.knows.sure;
-      in_use = λ stands. in_use_made core.base (history_of core) core.memory core.phases bodies core.numbers.serial b.store b.dump b.beliefs
-          core.catalog core.grows core.dumper.running (b.knows.in_use stands);
+      is_live = λ stands. in_use_made core.base (history_of core) core.memory core.phases bodies core.numbers.serial b.store b.dump b.beliefs
+          core.catalog core.grows core.dumper.running (b.knows.is_live stands);
       merging = λ stands. (let m = b.knows.merging stands in record {
         spelled = m.spelled;
         is = merge_made core.phases bodies core.numbers.serial b.store b.beliefs core.dumper.running core.merger m.is;

@@ -4,7 +4,7 @@ use Rattle.std.proofs.lemmas.Option.{slice_get_within}
 use Rattle.sd_disk.specs.Contents.{file_at}
 use Rattle.sd_gate.specs.Requests.{Asked}
 use Rattle.sd_crash_safety.specs.Calls.{NoneOut}
-use Rattle.sd_crash_safety.specs.InUse.{id_of, ids_of}
+use Rattle.sd_crash_safety.specs.LiveImages.{id_of, ids_of}
 use Rattle.sd_crash_safety.specs.OpenerSteps.{nobody}
 use Rattle.std.specs.Option.{option_map}
 use Rattle.sd_rounds.proofs.WriteLemmas.{none_at as none_in}

@@ -16,7 +16,7 @@ use Rattle.sd_rounds.specs.MakingLaws.{Pages}
 use Rattle.sd_store_laws.specs.Beliefs.{Belief}
 use Rattle.sd_store_laws.specs.Store.{Store}
 use Rattle.sd_crash_safety.specs.Believes.{Believes, HasStore, ShowsLast, ShowsPending}
-use Rattle.sd_crash_safety.specs.InUse.{IsAtWork, IsFrozenAs, IsImageOn, IsInUseOn, IsMakingOn, chain_of}
+use Rattle.sd_crash_safety.specs.LiveImages.{IsAtWork, IsFrozenAs, IsImageOn, IsLiveOn, IsMakingOn, chain_of}
 use Rattle.sd_crash_safety.specs.Trims.{trimmed}
 use Rattle.sd_crash_safety.specs.View.{CoreView, history_of}
 
@@ -83,8 +83,8 @@ module _ (laws : TrimLaws) (base : Base) (kept folded : History) (n : ℕ) (lega
       image = image_on running.parent running.number running.image w.image;
     }
 
-    pub in_use_on : (places : Places) (grows : Bool) (running : Option Running) → IsInUseOn base (kept ++ folded) places grows memory phases asked bodies last store dump beliefs running
-        → IsInUseOn (base_after base n folded) kept places grows memory phases asked bodies last store dump beliefs running
+    pub in_use_on : (places : Places) (grows : Bool) (running : Option Running) → IsLiveOn base (kept ++ folded) places grows memory phases asked bodies last store dump beliefs running
+        → IsLiveOn (base_after base n folded) kept places grows memory phases asked bodies last store dump beliefs running
     in_use_on places grows running u = record {
       catalog = u.catalog;
       grows_is = u.grows_is;
@@ -111,10 +111,10 @@ believes_trimmed laws marks core n kept folded asked bodies files parts was f b 
         out = b.knows.out;
         sees = b.knows.sees;
         sure = b.knows.sure;
-        in_use = λ stands. in_use_on laws core.base (entries_of kept) (entries_of folded) n legal f.ended core.memory core.phases asked bodies core.numbers.serial b.store b.dump b.beliefs
+        is_live = λ stands. in_use_on laws core.base (entries_of kept) (entries_of folded) n legal f.ended core.memory core.phases asked bodies core.numbers.serial b.store b.dump b.beliefs
             core.catalog core.grows core.dumper.running
-            (subst (λ h. IsInUseOn core.base h core.catalog core.grows core.memory core.phases asked bodies core.numbers.serial b.store b.dump b.beliefs core.dumper.running) all
-            (b.knows.in_use stands));
+            (subst (λ h. IsLiveOn core.base h core.catalog core.grows core.memory core.phases asked bodies core.numbers.serial b.store b.dump b.beliefs core.dumper.running) all
+            (b.knows.is_live stands));
         merging = b.knows.merging;
       };
     }

@@ -12,7 +12,7 @@ use Rattle.sd_rounds.specs.MakingLaws.{MakingLaws}
 use Rattle.sd_store_laws.specs.Beliefs.{image_at, image_in}
 use Rattle.sd_store_laws.specs.Needs.{IsNeededIn}
 use Rattle.sd_store_laws.specs.Store.{Store}
-use Rattle.sd_crash_safety.specs.InUse.{IsAtWork, IsFrozenAs, IsImageOn, IsMakingOn, IsNewNumber, IsRunningOn, IsSlotFor, chain_of, ArePagesOf, body_written, lanes_of}
+use Rattle.sd_crash_safety.specs.LiveImages.{IsAtWork, IsFrozenAs, IsImageOn, IsMakingOn, IsNewNumber, IsRunningOn, IsSlotFor, chain_of, ArePagesOf, body_written, lanes_of}
 use Rattle.sd_crash_safety.specs.MergerSteps.{MakesInItsSlot, MakesItInSlot}
 use Rattle.sd_crash_safety.specs.Merges.{IsOtherImage, MakesOther}
 use Rattle.sd_crash_safety.proofs.MergeStays.{IsSameSlot, Slots}

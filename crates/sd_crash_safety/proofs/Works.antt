@@ -20,7 +20,7 @@ use Rattle.sd_store_laws.specs.Beliefs.{Belief}
 use Rattle.sd_store_laws.specs.Store.{Store}
 use Rattle.sd_crash_safety.specs.Believes.{Believes}
 use Rattle.sd_crash_safety.specs.DumperSteps.{FreezesMemory, IsOnPages, WorksOnMemory}
-use Rattle.sd_crash_safety.specs.InUse.{IsImageOn, IsInUseOn, IsMakingOn, IsRunningOn, IsSlotFor, chain_of, body_written, lanes_of}
+use Rattle.sd_crash_safety.specs.LiveImages.{IsImageOn, IsLiveOn, IsMakingOn, IsRunningOn, IsSlotFor, chain_of, body_written, lanes_of}
 use Rattle.sd_crash_safety.specs.StoreSteps.{QuietSteps}
 use Rattle.sd_crash_safety.specs.View.{CoreView, history_of}
 use Rattle.sd_crash_safety.proofs.MergeStays.{merge_beside, spares_on}
@@ -54,8 +54,8 @@ no_pages step pages on = grind arith
 pub works_lem : MakingLaws → (old new : CoreView) (running : Running) (image next : Making) (number : ℕ) (step : ImageStep) (asked : List (Option Asked)) (bodies files : List (List ℕ))
     → IsOnPages step → WorksOnMemory old running image number step next new → Believes old asked bodies files → Believes new asked bodies files
 works_lem making old new running image next number step asked bodies files on s b =
-    let u : IsInUseOn old.base (history_of old) old.catalog old.grows old.memory old.phases asked bodies old.numbers.serial b.store b.dump b.beliefs (Some running) =
-    subst (λ r. IsInUseOn old.base (history_of old) old.catalog old.grows old.memory old.phases asked bodies old.numbers.serial b.store b.dump b.beliefs r) s.was (b.knows.in_use s.rest.stands) in
+    let u : IsLiveOn old.base (history_of old) old.catalog old.grows old.memory old.phases asked bodies old.numbers.serial b.store b.dump b.beliefs (Some running) =
+    subst (λ r. IsLiveOn old.base (history_of old) old.catalog old.grows old.memory old.phases asked bodies old.numbers.serial b.store b.dump b.beliefs r) s.was (b.knows.is_live s.rest.stands) in
     let w : IsRunningOn old.base (history_of old) old.memory old.phases asked bodies old.numbers.serial b.store b.dump b.beliefs running = u.job in
     let m : IsMakingOn old.base (history_of old) old.memory old.phases asked bodies old.numbers.serial b.store b.dump b.beliefs running.parent running.number image =
     subst (λ i. IsImageOn old.base (history_of old) old.memory old.phases asked bodies old.numbers.serial b.store b.dump b.beliefs running.parent running.number i) s.making w.image in
@@ -121,8 +121,8 @@ works_lem making old new running image next number step asked bodies files on s 
 pub freezes_lem : QuietSteps → MakingLaws → (old new : CoreView) (running : Running) (image next : Making) (number : ℕ) (asked : List (Option Asked)) (bodies files : List (List ℕ))
     → FreezesMemory old running image number next new → Believes old asked bodies files → Believes new asked bodies files
 freezes_lem quiet making old new running image next number asked bodies files s b =
-    let u : IsInUseOn old.base (history_of old) old.catalog old.grows old.memory old.phases asked bodies old.numbers.serial b.store b.dump b.beliefs (Some running) =
-    subst (λ r. IsInUseOn old.base (history_of old) old.catalog old.grows old.memory old.phases asked bodies old.numbers.serial b.store b.dump b.beliefs r) s.was (b.knows.in_use s.rest.stands) in
+    let u : IsLiveOn old.base (history_of old) old.catalog old.grows old.memory old.phases asked bodies old.numbers.serial b.store b.dump b.beliefs (Some running) =
+    subst (λ r. IsLiveOn old.base (history_of old) old.catalog old.grows old.memory old.phases asked bodies old.numbers.serial b.store b.dump b.beliefs r) s.was (b.knows.is_live s.rest.stands) in
     let w : IsRunningOn old.base (history_of old) old.memory old.phases asked bodies old.numbers.serial b.store b.dump b.beliefs running = u.job in
     let m : IsMakingOn old.base (history_of old) old.memory old.phases asked bodies old.numbers.serial b.store b.dump b.beliefs running.parent running.number image =
     subst (λ i. IsImageOn old.base (history_of old) old.memory old.phases asked bodies old.numbers.serial b.store b.dump b.beliefs running.parent running.number i) s.making w.image in

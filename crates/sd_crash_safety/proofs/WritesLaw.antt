@@ -29,11 +29,11 @@ use Rattle.sd_rounds.specs.MakingLaws.{AreItsNumbers, DumpsImage, KeepsImage, Ma
 use Rattle.sd_rounds.specs.Pass.{Pass, data_pages}
 use Rattle.sd_rounds.specs.Writes.{no_writes}
 use Rattle.sd_store_laws.specs.Beliefs.{image_in}
-use Rattle.sd_store_laws.specs.InUse.{CatalogFollows}
+use Rattle.sd_store_laws.specs.LiveImages.{CatalogFollows}
 use Rattle.sd_store_laws.specs.Needs.{IsNeededIn}
 use Rattle.sd_crash_safety.specs.Believes.{Believes}
 use Rattle.sd_crash_safety.specs.DumperSteps.{AsksFor, AsksToWrite, OnlyDumps}
-use Rattle.sd_crash_safety.specs.InUse.{ArePagesOf, ClosesBody, IsFilledSlot, IsFrozenAs, IsImageOn, IsInUseOn, IsMakingOn, IsPageOf, IsRunningOn, IsSlotFor, body_written, chain_of, ids_of, kind_of_call, lanes_of}
+use Rattle.sd_crash_safety.specs.LiveImages.{ArePagesOf, ClosesBody, IsFilledSlot, IsFrozenAs, IsImageOn, IsLiveOn, IsMakingOn, IsPageOf, IsRunningOn, IsSlotFor, body_written, chain_of, ids_of, kind_of_call, lanes_of}
 use Rattle.sd_crash_safety.specs.StoreSteps.{MayAsk, QuietSteps}
 use Rattle.sd_crash_safety.specs.View.{CoreView, history_of, page_lane}
 use Rattle.sd_crash_safety.proofs.Asks.{in_use_from, unchanged_at}
@@ -75,8 +75,8 @@ module _ (quiet : QuietSteps) (follows : CatalogFollows)
   abbrev asked_now : List (Option Asked)
   asked_now = slice_set asked lane (Some request)
 
-  u : IsInUseOn old.base history old.catalog old.grows old.memory old.phases asked bodies old.numbers.serial b.store b.dump b.beliefs (Some running)
-  u = subst (λ r. IsInUseOn old.base history old.catalog old.grows old.memory old.phases asked bodies old.numbers.serial b.store b.dump b.beliefs r) s.was (b.knows.in_use s.rest.stands)
+  u : IsLiveOn old.base history old.catalog old.grows old.memory old.phases asked bodies old.numbers.serial b.store b.dump b.beliefs (Some running)
+  u = subst (λ r. IsLiveOn old.base history old.catalog old.grows old.memory old.phases asked bodies old.numbers.serial b.store b.dump b.beliefs r) s.was (b.knows.is_live s.rest.stands)
 
   w : IsRunningOn old.base history old.memory old.phases asked bodies old.numbers.serial b.store b.dump b.beliefs running
   w = u.job

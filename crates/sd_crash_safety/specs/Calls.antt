@@ -15,7 +15,7 @@ use Rattle.sd_gate.specs.declared.worker.Worker.TheVariants.{Dumper, Opener}
 use Rattle.sd_gate.specs.Calls.{IsLook, is_done}
 use Rattle.sd_gate.specs.Fits.{DiskLeaves, PhaseReads}
 use Rattle.sd_gate.specs.Laws.{found_phase}
-use Rattle.sd_gate.specs.Looks.{IsTold}
+use Rattle.sd_gate.specs.Looks.{IsLookedUpAs}
 use Rattle.sd_gate.specs.Phases.{Waits, after, body_after, bodies_after, given_up, phases_after}
 use Rattle.sd_gate.specs.Requests.{Asked, Made}
 use Rattle.sd_gate.specs.Sequences.{data_place}
@@ -23,7 +23,7 @@ use Rattle.sd_journal.specs.declared.entry.Entry.TheVariants.{Applied, Freeze, A
 use Rattle.sd_journal.specs.History.{History}
 use Rattle.sd_rounds.specs.Dumper.{Running}
 use Rattle.sd_crash_safety.specs.Believes.{Believes}
-use Rattle.sd_crash_safety.specs.InUse.{IsPageOf}
+use Rattle.sd_crash_safety.specs.LiveImages.{IsPageOf}
 use Rattle.sd_crash_safety.specs.Knows.{IsRefound}
 use Rattle.sd_crash_safety.specs.View.{CoreView, history_of}
 
@@ -134,7 +134,7 @@ AddsByOrder _ old new = ⊥
 
 -- ---- commands
 
--- a reply that stands in the journal: neither a full journal nor want of memory
+-- a reply that stands in the journal: neither a full journal nor lack of memory
 abbrev pub IsJournaled : Reply → Type 0
 IsJournaled (reply.Refused JournalFull) = ⊥
 IsJournaled (reply.Refused OutOfMemory) = ⊥
@@ -176,14 +176,14 @@ pub record MakesStep (old : CoreView) (worker : Worker) (answer : Reply) (new : 
   pub keeps : Stays old new ⊎ StartsAnew old new
   pub adds : AddsByStep worker old answer (history_of old) (history_of new)
 
--- an outcome tells of its slot's file: after a call that only looks, what is read of the slot now; and where the call
+-- an outcome says of its slot's file: after a call that only looks, what is read of the slot now; and where the call
 -- was done, what it read
-pub record WasTold (phases : List Phase) (bodies files : List (List ℕ)) (made : Made) : Type 0 where
+pub record WasLookedAt (phases : List Phase) (bodies files : List (List ℕ)) (made : Made) : Type 0 where
   pub reads : IsLook made.request.id.call → (phase : Phase) → Waits phases made.request.id phase
       → PhaseReads (after phase made.request.id.call (is_done made.answer))
       (body_after (file_at bodies made.request.id.slot) made.request.id.call made.request.bytes)
       (file_at files made.request.id.slot)
-  pub told : is_done made.answer ≡ true → IsTold (file_at files made.request.id.slot) made
+  pub told : is_done made.answer ≡ true → IsLookedUpAs (file_at files made.request.id.slot) made
 
 -- The outcome of the request that is out in a lane is handed in.
 pub record HandedIn (old : CoreView) (lane : ℕ) (made : Made) (answer : Reply) (new : CoreView) : Type 0 where
@@ -194,7 +194,7 @@ pub record HandedIn (old : CoreView) (lane : ℕ) (made : Made) (answer : Reply)
       → AreGivenUp new.outs (phases_after old.phases made.request.id phase (is_done made.answer)) new.phases
   pub goes_on : (asked : List (Option Asked)) (bodies files : List (List ℕ))
       → slice_get asked lane ≡ Some (Some made.request)
-      → WasTold old.phases bodies files made → Believes old asked bodies files
+      → WasLookedAt old.phases bodies files made → Believes old asked bodies files
       → Believes new (slice_set asked lane None)
       (bodies_after bodies made.request.id made.request.bytes) files
   pub adds : AddsByOutcome made.request.id.worker answer (history_of old) (history_of new)

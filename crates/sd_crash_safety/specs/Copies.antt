@@ -4,7 +4,7 @@ use Rattle.sd_disk.specs.Contents.{file_at}
 use Rattle.sd_image.specs.Image.{Image, IsImage, gate}
 use Rattle.sd_chain.specs.Catalog.{Opened, Places, place_of}
 use Rattle.sd_chain.specs.Reaches.{ParentsFall}
-use Rattle.sd_chain.specs.Tells.{IsToldAs}
+use Rattle.sd_chain.specs.Recorded.{IsRecordedAs}
 use Rattle.sd_gate.specs.declared.phase.Phase.{Phase}
 use Rattle.sd_gate.specs.declared.phase.Phase.TheVariants.{Whole}
 use Rattle.sd_store_laws.specs.Makers.{IsMergedOf}
@@ -15,9 +15,9 @@ use Rattle.sd_crash_safety.specs.View.{CoreView}
 -- these are the images of a catalog, each at its serial
 pub record AreImagesOf (places : Places) (images : List Image) : Type 0 where
   pub image : (serial : ℕ) (o : Opened) → place_of places serial ≡ Some (Some o)
-      → (i : Image) × Contains images i × IsToldAs o i
+      → (i : Image) × Contains images i × IsRecordedAs o i
   pub opened : (i : Image) → Contains images i
-      → (o : Opened) × (place_of places i.header.serial ≡ Some (Some o)) × IsToldAs o i
+      → (o : Opened) × (place_of places i.header.serial ≡ Some (Some o)) × IsRecordedAs o i
 
 -- an image of a catalog stands in its slot: it is what is after the slot's open gate
 pub record StandsIn (places : Places) (phases : List Phase) (bodies : List (List ℕ)) (i : Image) : Type 0 where

@@ -14,9 +14,9 @@ use Rattle.sd_store_laws.specs.Beliefs.{Belief, Closed, Kept, Closing, Opening, 
 use Rattle.sd_store_laws.specs.Needed.{IsNeeded}
 use Rattle.sd_store_laws.specs.SlotSteps.{Lacks, with_belief}
 use Rattle.sd_store_laws.specs.Steps.{added, cancelled, checkpoint_begun, committed, merging, replaced, retired}
-use Rattle.sd_store_laws.specs.Store.{IsNextDump, IsNextPreDump, IsTwin, Store, jobs}
+use Rattle.sd_store_laws.specs.Store.{IsNextDump, IsNextPreDump, IsMergedCopy, Store, jobs}
 use Rattle.sd_crash_safety.specs.Believes.{HasStore, ShowsPending}
-use Rattle.sd_crash_safety.specs.InUse.{NoneAt}
+use Rattle.sd_crash_safety.specs.LiveImages.{NoneAt}
 use Rattle.sd_crash_safety.specs.StoreSteps.{IsShut, MayAsk, MayOpen, SlotIsOpened}
 
 -- a worker may ask for the gate of an image to be closed: its slot keeps it, and nobody needs it
@@ -30,9 +30,9 @@ pub record MayClose (phases : List Phase) (asked : List (Option Asked)) (store :
   pub unneeded : IsNeeded store.catalog (jobs store) i → ⊥
 
 -- the merged image that is being opened is the only one, and no dump
-pub record IsOnlyTwin (store : Store) (dump : Option Image) (beliefs : List Belief) (i : Image) : Type 0 where
-  pub twin : IsTwin store.catalog store.source i
-  pub only : (j : Image) → Contains beliefs (Opening j) → IsTwin store.catalog store.source j → j ≡ i
+pub record IsOnlyMergedCopy (store : Store) (dump : Option Image) (beliefs : List Belief) (i : Image) : Type 0 where
+  pub twin : IsMergedCopy store.catalog store.source i
+  pub only : (j : Image) → Contains beliefs (Opening j) → IsMergedCopy store.catalog store.source j → j ≡ i
   pub serial : IfSome dump (λ d. i.header.serial ≢ d.header.serial)
 
 module _ (base : Base) (history : History) (phases : List Phase) (asked : List (Option Asked))
@@ -66,7 +66,8 @@ module _ (base : Base) (history : History) (phases : List Phase) (asked : List (
         (with_belief beliefs slot (Kept i))
     -- a merged image is open for sure
     pub replaces : (store : Store) (dump : Option Image) (beliefs : List Belief) (slot : ℕ) (i : Image)
-        → SlotIsOpened phases asked beliefs slot i → IsOnlyTwin store dump beliefs i → Has asked store dump beliefs
+        → SlotIsOpened phases asked beliefs slot i → IsOnlyMergedCopy store dump beliefs i
+        → Has asked store dump beliefs
         → Has asked (replaced store (i ∷ store.catalog)) dump (with_belief beliefs slot (Kept i))
     -- an image is closed for sure, and leaves the catalog
     pub retires : (store : Store) (dump : Option Image) (beliefs : List Belief) (slot : ℕ) (i : Image)

@@ -18,15 +18,15 @@ use Rattle.sd_image.specs.Image.{Image}
 use Rattle.sd_store_laws.specs.Beliefs.{Belief}
 use Rattle.sd_store_laws.specs.Store.{Store}
 use Rattle.sd_crash_safety.specs.declared.standing.Standing.TheVariants.{Open}
-use Rattle.sd_crash_safety.specs.InUse.{IsInUseOn, ids_of}
-use Rattle.sd_crash_safety.specs.Merges.{IsMergeInUse}
+use Rattle.sd_crash_safety.specs.LiveImages.{IsLiveOn, ids_of}
+use Rattle.sd_crash_safety.specs.Merges.{IsLiveMerge}
 use Rattle.sd_crash_safety.specs.View.{CoreView, history_of}
 
 -- the calls that are out change no file
 abbrev pub AreLooks : List (Option Asked) → Type 0
 AreLooks asked = (worker : ℕ) (request : Asked) → slice_get asked worker ≡ Some (Some request) → IsLook request.id.call
 
--- a slot whose file tells its phase
+-- a slot whose file shows its phase
 abbrev pub IsRefound : Phase → Type 0
 IsRefound phase = (is_synced phase ≡ true) ⊎ (phase ≡ Raw)
 
@@ -40,8 +40,8 @@ IsPastSync (Asking plan) = HasSynced plan
 IsPastSync (Read header table) = Unit {0}
 IsPastSync (Broken reason) = Unit {0}
 
--- What an opener was told is so of the files, with the request of it that is out, and nobody else changes them. The
--- slots that it synced are in the phases that their files tell, and a sync brings each other there.
+-- What an opener was answered is so of the files, with the request of it that is out, and nobody else changes them. The
+-- slots that it synced are in the phases that their files show, and a sync brings each other there.
 pub record SeesStore (files : List (List ℕ)) (phases : List Phase) (asked : List (Option Asked))
     (opener : Looking) : Type 0 where
   pub looks : AreLooks asked
@@ -61,8 +61,8 @@ pub record Knows (core : CoreView) (asked : List (Option Asked)) (bodies files :
   pub out : ids_of asked ≡ core.outs
   pub sees : IfSome core.opener (SeesStore files core.phases asked)
   pub sure : core.committing ≡ false → dump ≡ None
-  pub in_use : core.standing ≡ Open
-      → IsInUseOn core.base (history_of core) core.catalog core.grows core.memory core.phases asked bodies
+  pub is_live : core.standing ≡ Open
+      → IsLiveOn core.base (history_of core) core.catalog core.grows core.memory core.phases asked bodies
       core.numbers.serial store dump beliefs core.dumper.running
   pub merging : core.standing ≡ Open
-      → IsMergeInUse core.phases asked bodies core.numbers.serial store beliefs core.dumper.running core.merger
+      → IsLiveMerge core.phases asked bodies core.numbers.serial store beliefs core.dumper.running core.merger

@@ -17,7 +17,7 @@ use Rattle.sd_opener.specs.Sees.{Sees}
 use Rattle.sd_crash_safety.specs.declared.standing.Standing.TheVariants.{Open}
 use Rattle.sd_crash_safety.specs.Believes.{Believes}
 use Rattle.sd_crash_safety.specs.Calls.{NoneOut}
-use Rattle.sd_crash_safety.specs.InUse.{ids_of}
+use Rattle.sd_crash_safety.specs.LiveImages.{ids_of}
 use Rattle.sd_crash_safety.specs.OpenerSteps.{nobody}
 use Rattle.sd_crash_safety.specs.Shown.{ShowsAllowed}
 use Rattle.sd_crash_safety.specs.View.{CoreView, history_of}
@@ -48,7 +48,7 @@ pub record IsOpenAs (core : CoreView) (files : List (List ℕ)) : Type 0 where
   pub unmerged : core.merger ≡ None
   pub outs : core.outs ≡ nobody
 
--- Files that show the last pair are believed, where each slot is in the phase that its file tells, nothing is out, and
+-- Files that show the last pair are believed, where each slot is in the phase that its file shows, nothing is out, and
 -- no opener runs: so a core begins, and so it is when a store was opened again.
 abbrev pub FoundIsBelieved : Type 0
 FoundIsBelieved = (core : CoreView) (asked : List (Option Asked)) (files : List (List ℕ)) (shown : Shown)
@@ -80,7 +80,7 @@ pub record OpenerFinds : Type 0 where
       → Believes core asked bodies files → DiskLeaves core.phases bodies left → ShowsAwaited core left
 
 -- a store was opened again: the journal has the checkpoint that its files show, and each slot is in the phase that its
--- file tells
+-- file shows
 pub record StoreIsReopened (old new : CoreView) (files : List (List ℕ)) (found : Option ℕ) : Type 0 where
   pub base : new.base ≡ old.base
   pub items : new.items ≡ Told (Reopened found) ∷ old.items

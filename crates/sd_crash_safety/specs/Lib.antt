@@ -6,7 +6,7 @@ pub mod CoreSteps
 pub mod DumperOutcomes
 pub mod DumperSteps
 pub mod GateSteps
-pub mod InUse
+pub mod LiveImages
 pub mod Knows
 pub mod Laws
 pub mod MergerOutcomes

@@ -17,7 +17,7 @@ use Rattle.sd_merge.specs.Merger as merger
 use Rattle.sd_rounds.specs.declared.new_image.NewImage.{NewImage}
 use Rattle.sd_crash_safety.specs.declared.standing.Standing.TheVariants as standing
 use Rattle.sd_crash_safety.specs.Believes.{Believes}
-use Rattle.sd_crash_safety.specs.Calls.{IsFree, WasTold}
+use Rattle.sd_crash_safety.specs.Calls.{IsFree, WasLookedAt}
 use Rattle.sd_crash_safety.specs.CheckpointSteps.{IsUnreached}
 use Rattle.sd_crash_safety.specs.Copies.{IsCopyAtRest, IsCopyThere, IsOrderly}
 use Rattle.sd_crash_safety.specs.DumperOutcomes.{LeavesCatalog, closes_for_sure}
@@ -116,7 +116,7 @@ goes_on_with merge (progress.Merged serial) next = None
 -- what an outcome of the merger leaves is believed
 abbrev pub OutcomeIsBelieved : CoreView → CoreView → Made → Type 0
 OutcomeIsBelieved old new made = (asked : List (Option Asked)) (bodies files : List (List ℕ))
-    → slice_get asked 1 ≡ Some (Some made.request) → WasTold old.phases bodies files made
+    → slice_get asked 1 ≡ Some (Some made.request) → WasLookedAt old.phases bodies files made
     → Believes old asked bodies files
     → Believes new (slice_set asked 1 None) (bodies_after bodies made.request.id made.request.bytes) files
 

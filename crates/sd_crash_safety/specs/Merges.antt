@@ -33,7 +33,7 @@ use Rattle.sd_store_laws.specs.Beliefs.{Belief, Kept, Opening, image_at}
 use Rattle.sd_store_laws.specs.Needs.{IsNeededIn}
 use Rattle.sd_store_laws.specs.Reached.{Reaches}
 use Rattle.sd_store_laws.specs.Store.{Store}
-use Rattle.sd_crash_safety.specs.InUse.{IsSlotFor, body_written}
+use Rattle.sd_crash_safety.specs.LiveImages.{IsSlotFor, body_written}
 
 -- the checkpoint that runs, if one does, doesn't fill this slot
 abbrev pub IsSpared : Option Running → ℕ → Type 0
@@ -264,7 +264,7 @@ IsMergeOn phases asked bodies last store beliefs running (Some merge) =
     IsMergeAt phases asked bodies last store beliefs running merge.slot merge.source merge.doing
 
 -- with these beliefs of this store
-pub record IsMergeInUse (phases : List Phase) (asked : List (Option Asked)) (bodies : List (List ℕ)) (last : ℕ)
+pub record IsLiveMerge (phases : List Phase) (asked : List (Option Asked)) (bodies : List (List ℕ)) (last : ℕ)
     (store : Store) (beliefs : List Belief)
     (running : Option Running) (merge : Option merger.Running) : Type 0 where
   pub spelled : AreSpelled store

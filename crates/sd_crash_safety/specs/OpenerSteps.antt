@@ -11,11 +11,11 @@ use Rattle.sd_gate.specs.Requests.{Asked, Made}
 use Rattle.sd_gate.specs.Sequences.{first_looks}
 use Rattle.sd_opener.specs.declared.stage.Stage.TheVariants.{Asking}
 use Rattle.sd_opener.specs.Looking.{IsDecoded, Looking, LooksFurther, OpenerAsks}
-use Rattle.sd_opener.specs.Sees.{IsToldOf, Sees}
+use Rattle.sd_opener.specs.Sees.{IsLookOf, Sees}
 use Rattle.sd_rounds.specs.Writes.{no_writes}
 use Rattle.sd_crash_safety.specs.declared.standing.Standing.TheVariants.{Open}
 use Rattle.sd_crash_safety.specs.Believes.{Believes}
-use Rattle.sd_crash_safety.specs.Calls.{NoneOut, WasTold}
+use Rattle.sd_crash_safety.specs.Calls.{NoneOut, WasLookedAt}
 use Rattle.sd_crash_safety.specs.Knows.{IsRefound}
 use Rattle.sd_crash_safety.specs.View.{CoreView}
 
@@ -82,7 +82,7 @@ pub record IsHandedToOpener (old : CoreView) (made : Made) (phase : Phase) (new 
   pub waits : Waits old.phases made.request.id phase
   pub phases : new.phases ≡ phases_after old.phases made.request.id phase (is_done made.answer)
 
--- it told the slot's file, and the opener goes on
+-- it gave the slot's file, and the opener goes on
 pub record IsTaught (old : CoreView) (opener : Looking) (made : Made) (phase : Phase) (next : Looking)
     (new : CoreView) : Type 0 where
   pub handed : IsHandedToOpener old made phase new
@@ -90,7 +90,7 @@ pub record IsTaught (old : CoreView) (opener : Looking) (made : Made) (phase : P
   pub was : old.opener ≡ Some opener
   pub is : new.opener ≡ Some next
   pub moves : LooksFurther opener next
-  pub sees : (files : List (List ℕ)) → IsToldOf (file_at files (length opener.told)) made.request made
+  pub sees : (files : List (List ℕ)) → IsLookOf (file_at files (length opener.told)) made.request made
       → Sees files (Some made.request) opener → Sees files None next
 
 -- the opener ends, and what is believed stays
@@ -113,7 +113,7 @@ pub record OpenerSteps : Type 0 where
   pub teaches : (old new : CoreView) (opener next : Looking) (made : Made) (phase : Phase) (asked : List (Option Asked))
       (bodies files : List (List ℕ))
       → IsTaught old opener made phase next new → slice_get asked 2 ≡ Some (Some made.request)
-      → WasTold old.phases bodies files made
+      → WasLookedAt old.phases bodies files made
       → Believes old asked bodies files
       → Believes new (slice_set asked 2 None) (bodies_after bodies made.request.id made.request.bytes) files
   -- its outcome failed, and it ends
@@ -124,7 +124,7 @@ pub record OpenerSteps : Type 0 where
       → Believes new (slice_set asked 2 None) (bodies_after bodies made.request.id made.request.bytes) files
   pub ends : (old new : CoreView) (asked : List (Option Asked)) (bodies files : List (List ℕ))
       → GivesUpOpening old new → Believes old asked bodies files → Believes new asked bodies files
-  -- once it was told every slot, each is in the phase that its file tells
+  -- once it has seen every slot, each is in the phase that its file shows
   pub refinds : (core : CoreView) (opener : Looking) (asked : List (Option Asked)) (bodies files : List (List ℕ))
       → core.opener ≡ Some opener → length opener.told ≡ opener.slots → NoneOut asked → Believes core asked bodies files
       → Sees files None opener

@@ -18,7 +18,7 @@ use Rattle.sd_store_laws.specs.Beliefs.{Belief, Closed, Opening, image_at}
 use Rattle.sd_store_laws.specs.Store.{Store}
 use Rattle.sd_crash_safety.specs.Believes.{HasStore}
 use Rattle.sd_crash_safety.specs.Calls.{WritesDataPage}
-use Rattle.sd_crash_safety.specs.InUse.{NoneAt}
+use Rattle.sd_crash_safety.specs.LiveImages.{NoneAt}
 
 -- a call may be asked for in a lane: none is out in it, and the slot is ready for the call
 pub record MayAsk (phases : List Phase) (asked : List (Option Asked)) (lane : ℕ) (request : Asked) : Type 0 where

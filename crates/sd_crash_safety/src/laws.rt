@@ -19,12 +19,12 @@ use sd_journal::{journal_laws, marked_trim_laws, trim_laws};
 use sd_merge::{merge_law, merged_file_law};
 use sd_rounds::{file_law, keeps_law, made_law, making_law};
 use sd_store_laws::{
-    beliefs_follow_calls, catalog_follows, catalog_in_use_tells, catalog_is_found, closing_retires,
-    contents_show, cut_holds_the_same, dump_shows, found_is_believed, found_is_exact,
-    given_up_syncs, left_as_believed, merged_repeats, needed_is_reached, needs_no_more,
-    one_belief_changes, opened_is_sound, pending_shows, slots_are_found, slots_drop,
-    slots_follow_calls, slots_follow_images, slots_follow_jobs, source_reaches_needed, steps_give,
-    steps_keep, steps_show, told_reaches_so, unused_is_uncalled,
+    beliefs_follow_calls, catalog_follows, catalog_is_found, closing_retires, contents_show,
+    cut_holds_the_same, dump_shows, found_is_believed, found_is_exact, given_up_syncs,
+    left_as_believed, live_catalog_agrees, merged_repeats, needed_is_reached, needs_no_more,
+    one_belief_changes, opened_is_sound, pending_shows, recorded_reaches_so, slots_are_found,
+    slots_drop, slots_follow_calls, slots_follow_images, slots_follow_jobs, source_reaches_needed,
+    steps_give, steps_keep, steps_show, unused_is_uncalled,
 };
 
 /// A device call that was made leaves what is believed: its request is still out, as its outcome wasn't handed in.
@@ -153,8 +153,8 @@ pub fn merger_outcomes(catalog: &Catalog)
     plans_lead();
     needed_is_reached();
     source_reaches_needed();
-    catalog_in_use_tells(catalog);
-    told_reaches_so(catalog);
+    live_catalog_agrees(catalog);
+    recorded_reaches_so(catalog);
     catalog.agrees();
 }
 
@@ -165,8 +165,8 @@ pub fn beginning_law(catalog: &Catalog)
     gate_steps();
     needs_no_more();
     needed_is_reached();
-    catalog_in_use_tells(catalog);
-    told_reaches_so(catalog);
+    live_catalog_agrees(catalog);
+    recorded_reaches_so(catalog);
     catalog.agrees();
 }
 
@@ -178,8 +178,8 @@ pub fn merge_beginning_law(catalog: &Catalog)
     needs_no_more();
     making_law();
     needed_is_reached();
-    catalog_in_use_tells(catalog);
-    told_reaches_so(catalog);
+    live_catalog_agrees(catalog);
+    recorded_reaches_so(catalog);
     catalog.agrees();
 }
 
@@ -199,7 +199,7 @@ pub fn merger_steps(catalog: &Catalog)
     plans_lead();
     bodies_fill();
     page_in_file();
-    catalog_in_use_tells(catalog);
+    live_catalog_agrees(catalog);
     catalog.sound();
     catalog.agrees();
 }

@@ -22,7 +22,7 @@ use Rattle.sd_chain.specs.Chains.{found_on}
 use Rattle.sd_chain.specs.Store.{bytes_at}
 use Rattle.sd_restore.specs.declared.placed_run.PlacedRun.{PlacedRun}
 use Rattle.sd_restore.specs.At.{LacksAt, ShowsAt}
-use Rattle.sd_restore.specs.Placed.{PlacedPage, page_behind, pages_in, placed_memory, placed_page, placed_pages, with_spaces}
+use Rattle.sd_restore.specs.Placed.{PlacedPage, page_of_run, pages_in, placed_memory, placed_page, placed_pages, with_spaces}
 use Rattle.sd_restore.proofs.MappedLemmas.{contains-pages_from, space_of}
 use Rattle.sd_restore.proofs.MemoryLemmas.{After, empty_bare, pages_are, spaces_bare}
 use Rattle.sd_diff.specs.Held.{AreRising, Held, held_at, held_by}
@@ -79,13 +79,13 @@ module _ (contents : List (List ℕ)) (spaces : List Listed) (runs : List Placed
       let high = r.3 in
       let k : ℕ = page - r.0.first in
       let number = contains-pages_from 0 r.0.count k (omega (arith, low, high)) in
-      let one : Contains (pages_in r.0) (page_behind r.0 k) = contains_map (page_behind r.0) (pages_from 0 r.0.count) k (subst (Contains (pages_from 0 r.0.count)) (let e : 0 + k ≡ k = omega arith in e) number) in
-      absurd (none (page_behind r.0 k) (into_parts pages_in runs r.0 (page_behind r.0 k) kept.0 one) (eqb-true r.0.space q kept.1, (let e : r.0.first + k ≡ page = omega (arith, low) in e)))
+      let one : Contains (pages_in r.0) (page_of_run r.0 k) = contains_map (page_of_run r.0) (pages_from 0 r.0.count) k (subst (Contains (pages_from 0 r.0.count)) (let e : 0 + k ≡ k = omega arith in e) number) in
+      absurd (none (page_of_run r.0 k) (into_parts pages_in runs r.0 (page_of_run r.0 k) kept.0 one) (eqb-true r.0.space q kept.1, (let e : r.0.first + k ≡ page = omega (arith, low) in e)))
 
   pub page_held : page_in memory q page ≡ option_map (page_of contents) (held_of runs q page)
   page_held = by (page_in memory q page) refl (pages_are contents (with_spaces finmap.empty spaces) (placed_pages runs) q page)
     where
-      of_run : (r : PlacedRun) (k : ℕ) → r.first + k ≡ page → placed_page contents (page_behind r k) ≡ page_of contents (held_by r page)
+      of_run : (r : PlacedRun) (k : ℕ) → r.first + k ≡ page → placed_page contents (page_of_run r k) ≡ page_of contents (held_by r page)
       of_run r k is = ap (λ n. record { prot = r.prot; bytes = bytes_at contents (found_on r.there n) }) (let e : k ≡ page - r.first = omega (arith, is) in e)
 
       same_number : (a b : ℕ) → a ≡ b → nat_eq a b ≡ true
@@ -96,7 +96,7 @@ module _ (contents : List (List ℕ)) (spaces : List Listed) (runs : List Placed
       by (Some found) is (inl before) = absurd (let e : None ≡ Some found = sym (spaces_bare finmap.empty spaces empty_bare q page) ∙ before in cc)
       by (Some found) is (inr put) =
           let r = from_parts pages_in runs put.one put.among in
-          let k = from_map (page_behind r.0) (pages_from 0 r.0.count) put.one r.2 in
+          let k = from_map (page_of_run r.0) (pages_from 0 r.0.count) put.one r.2 in
           let number = from_pages 0 r.0.count k.0 k.1 in
           let at : r.0.first + k.0 ≡ page = sym (ap (λ (p : PlacedPage). p.page) k.2) ∙ put.page_is in
           let space : r.0.space ≡ q = sym (ap (λ (p : PlacedPage). p.space) k.2) ∙ put.space_is in

@@ -19,7 +19,7 @@ use Rattle.sd_image.specs.Table.{Listed}
 use Rattle.sd_image.proofs.Members.{contains_cases, contains_front, contains_later, contains_map, contains_none, from_map, into_parts}
 use Rattle.sd_restore.specs.Fits.{prots_in}
 use Rattle.sd_restore.specs.declared.placed_run.PlacedRun.{PlacedRun}
-use Rattle.sd_restore.specs.Placed.{IsInSlots, IsLaidOut, IsWithin, PlacedPage, SpaceEntry, page_behind, pages_in, placed_entries, placed_memory, placed_page, placed_pages, with_spaces}
+use Rattle.sd_restore.specs.Placed.{IsInSlots, IsLaidOut, IsWithin, PlacedPage, SpaceEntry, page_of_run, pages_in, placed_entries, placed_memory, placed_page, placed_pages, with_spaces}
 use Rattle.sd_restore.proofs.MappedLemmas.{contains-pages_from}
 use Rattle.sd_restore.proofs.MemoryLemmas.{After, pages_are}
 use Rattle.sd_diff.specs.Held.{AreRising}
@@ -151,13 +151,13 @@ module _ (contents : List (List ℕ)) (q : ℕ) where
       ∙ map-append (λ (p : PlacedPage). (p.page, placed_page contents p)) (filter (λ (p : PlacedPage). nat_eq p.space q) (pages_in r)) (filter (λ (p : PlacedPage). nat_eq p.space q) (placed_pages runs))
 
   -- a page of a run of the space has its entry
-  entry_in : (runs : List PlacedRun) (s : PlacedRun) (k : ℕ) → Contains (runs_in q runs) s → k < s.count → Contains (placed_entries contents q (placed_pages runs)) (s.first + k, placed_page contents (page_behind s k))
+  entry_in : (runs : List PlacedRun) (s : PlacedRun) (k : ℕ) → Contains (runs_in q runs) s → k < s.count → Contains (placed_entries contents q (placed_pages runs)) (s.first + k, placed_page contents (page_of_run s k))
   entry_in runs s k c less =
       let kept = from_filter (λ (r : PlacedRun). nat_eq r.space q) runs s c in
-      let page : Contains (pages_in s) (page_behind s k) = contains_map (page_behind s) (pages_from 0 s.count) k (subst (Contains (pages_from 0 s.count)) (let e : 0 + k ≡ k = omega arith in e) (contains-pages_from 0 s.count k less)) in
-      let all : Contains (placed_pages runs) (page_behind s k) = into_parts pages_in runs s (page_behind s k) kept.0 page in
-      contains_map (λ (p : PlacedPage). (p.page, placed_page contents p)) (filter (λ (p : PlacedPage). nat_eq p.space q) (placed_pages runs)) (page_behind s k)
-      (in_filter (λ (p : PlacedPage). nat_eq p.space q) (placed_pages runs) (page_behind s k) all kept.1)
+      let page : Contains (pages_in s) (page_of_run s k) = contains_map (page_of_run s) (pages_from 0 s.count) k (subst (Contains (pages_from 0 s.count)) (let e : 0 + k ≡ k = omega arith in e) (contains-pages_from 0 s.count k less)) in
+      let all : Contains (placed_pages runs) (page_of_run s k) = into_parts pages_in runs s (page_of_run s k) kept.0 page in
+      contains_map (λ (p : PlacedPage). (p.page, placed_page contents p)) (filter (λ (p : PlacedPage). nat_eq p.space q) (placed_pages runs)) (page_of_run s k)
+      (in_filter (λ (p : PlacedPage). nat_eq p.space q) (placed_pages runs) (page_of_run s k) all kept.1)
 
   pub rising_at : (runs : List PlacedRun) → All IsWithin runs → T (is_sorted nat_cmp (placed_entries contents q (placed_pages runs))) → AreRising (runs_in q runs)
   rising_at [] within sorted = tt
@@ -172,10 +172,10 @@ module _ (contents : List (List ℕ)) (q : ℕ) where
       some : 0 < r.count
       some = (All-head IsWithin r runs within).some
 
-      last : nat_eq r.space q ≡ true → Contains {X = ℕ × Page} (map {B = ℕ × Page} (λ (p : PlacedPage). (p.page, placed_page contents p)) (filter (λ (p : PlacedPage). nat_eq p.space q) (pages_in r))) (r.first + (r.count - 1), placed_page contents (page_behind r (r.count - 1)))
-      last is = contains_map (λ (p : PlacedPage). (p.page, placed_page contents p)) (filter (λ (p : PlacedPage). nat_eq p.space q) (pages_in r)) (page_behind r (r.count - 1))
-          (in_filter (λ (p : PlacedPage). nat_eq p.space q) (pages_in r) (page_behind r (r.count - 1))
-          (contains_map (page_behind r) (pages_from 0 r.count) (r.count - 1) (subst (Contains (pages_from 0 r.count)) (let e : 0 + (r.count - 1) ≡ r.count - 1 = omega arith in e) (contains-pages_from 0 r.count (r.count - 1) (let s = some in omega (arith, s))))) is)
+      last : nat_eq r.space q ≡ true → Contains {X = ℕ × Page} (map {B = ℕ × Page} (λ (p : PlacedPage). (p.page, placed_page contents p)) (filter (λ (p : PlacedPage). nat_eq p.space q) (pages_in r))) (r.first + (r.count - 1), placed_page contents (page_of_run r (r.count - 1)))
+      last is = contains_map (λ (p : PlacedPage). (p.page, placed_page contents p)) (filter (λ (p : PlacedPage). nat_eq p.space q) (pages_in r)) (page_of_run r (r.count - 1))
+          (in_filter (λ (p : PlacedPage). nat_eq p.space q) (pages_in r) (page_of_run r (r.count - 1))
+          (contains_map (page_of_run r) (pages_from 0 r.count) (r.count - 1) (subst (Contains (pages_from 0 r.count)) (let e : 0 + (r.count - 1) ≡ r.count - 1 = omega arith in e) (contains-pages_from 0 r.count (r.count - 1) (let s = some in omega (arith, s))))) is)
 
       behind : nat_eq r.space q ≡ true → All (λ (s : PlacedRun). r.first + r.count ≤ s.first) (runs_in q runs)
       behind is k d less =
@@ -183,7 +183,7 @@ module _ (contents : List (List ℕ)) (q : ℕ) where
           let c : Contains (runs_in q runs) s = Contains-get_or (runs_in q runs) k d less in
           let kept = from_filter (λ (r : PlacedRun). nat_eq r.space q) runs s c in
           let within_s = All-contains IsWithin runs s (All-tail IsWithin r runs within) kept.0 in
-          let first = sorted_apart {X = Page} (map {B = ℕ × Page} (λ (p : PlacedPage). (p.page, placed_page contents p)) (filter (λ (p : PlacedPage). nat_eq p.space q) (pages_in r))) (placed_entries contents q (placed_pages runs)) (r.first + (r.count - 1), placed_page contents (page_behind r (r.count - 1))) (s.first + 0, placed_page contents (page_behind s 0)) both (last is) (entry_in runs s 0 c within_s.some) in
+          let first = sorted_apart {X = Page} (map {B = ℕ × Page} (λ (p : PlacedPage). (p.page, placed_page contents p)) (filter (λ (p : PlacedPage). nat_eq p.space q) (pages_in r))) (placed_entries contents q (placed_pages runs)) (r.first + (r.count - 1), placed_page contents (page_of_run r (r.count - 1))) (s.first + 0, placed_page contents (page_of_run s 0)) both (last is) (entry_in runs s 0 c within_s.some) in
           let one = some in
           omega (arith, first, one)
 

@@ -11,7 +11,7 @@ use Rattle.sd_restore.specs.declared.placed_run.PlacedRun.{PlacedRun}
 use Rattle.sd_restore.specs.Placed.{IsInSlots, IsWithin}
 use Rattle.sd_diff.specs.declared.difference.PageRun.{PageRun}
 use Rattle.sd_diff.specs.declared.part.Part.{Part}
-use Rattle.sd_diff.specs.Held.{AreRising, EndsBehind, held_at, held_by}
+use Rattle.sd_diff.specs.Held.{AreRising, EndsAfter, held_at, held_by}
 use Rattle.sd_diff.specs.Parts.{HasRest, IsPart, IsRest}
 
 within_is : (first count page : ℕ) → first ≤ page → page < first + count → is_within first count page ≡ true
@@ -64,13 +64,13 @@ held_on_rest r rest at page low from first prot there =
     ap (λ p. record { prot = p; there = found_on r.there (page - r.first) }) (sym prot)
     ∙ ap (λ t. record { prot = rest.prot; there = t }) (ap (found_on r.there) (sym e) ∙ sym (found_behind r.there (at - r.first) (page - rest.first)) ∙ ap (λ t. found_on t (page - rest.first)) (sym there))
 
-pub part_within : (runs others : List PlacedRun) (r rest : PlacedRun) (at : ℕ) → runs ≡ r ∷ others → All IsWithin runs → EndsBehind at runs → r.first ≤ at
+pub part_within : (runs others : List PlacedRun) (r rest : PlacedRun) (at : ℕ) → runs ≡ r ∷ others → All IsWithin runs → EndsAfter at runs → r.first ≤ at
     → IsWithin rest → rest.first ≡ r.first + (at - r.first) → rest.count ≡ r.count - (at - r.first) → rest.prot ≡ r.prot → rest.there ≡ found_on r.there (at - r.first)
     → ((count : ℕ) → IsInSlots count r.there → IsInSlots count rest.there) → IsPart runs at (record { until = r.first + r.count; run = Some rest })
 part_within runs others r rest at is within ahead low rest_within first count prot there slots =
     let inside = All-head IsWithin r others (subst (All IsWithin) is within) in
     let pages = inside.pages in
-    let behind = subst (EndsBehind at) is ahead in
+    let behind = subst (EndsAfter at) is ahead in
     record {
       some = behind;
       within = pages;
@@ -90,8 +90,8 @@ no_runs : (runs : List PlacedRun) → length runs ≡ 0 → runs ≡ []
 no_runs [] none = refl
 no_runs (r ∷ runs) none = absurd (omega (arith, none))
 
-pub none_ahead : (runs : List PlacedRun) (at : ℕ) → length runs ≡ 0 → EndsBehind at runs
-none_ahead runs at none = subst (EndsBehind at) (sym (no_runs runs none)) tt
+pub none_ahead : (runs : List PlacedRun) (at : ℕ) → length runs ≡ 0 → EndsAfter at runs
+none_ahead runs at none = subst (EndsAfter at) (sym (no_runs runs none)) tt
 
 pub no_part : (runs : List PlacedRun) (at : ℕ) → length runs ≡ 0 → at < 2 ^ 35 → IsPart runs at (record { until = 2 ^ 35; run = None })
 no_part runs at none less = subst (λ rs. IsPart rs at (record { until = 2 ^ 35; run = None })) (sym (no_runs runs none)) (record {
@@ -112,7 +112,7 @@ none_high (r ∷ runs) page within high =
 
 -- ---- a loop over parts
 
-pub ahead_of_none : (runs : List PlacedRun) → All IsWithin runs → EndsBehind 0 runs
+pub ahead_of_none : (runs : List PlacedRun) → All IsWithin runs → EndsAfter 0 runs
 ahead_of_none [] within = tt
 ahead_of_none (r ∷ runs) within = let some = (All-head IsWithin r runs within).some in omega (arith, some)
 

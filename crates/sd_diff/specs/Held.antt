@@ -31,6 +31,6 @@ AreRising [] = Unit {0}
 AreRising (r ∷ runs) = All (λ (s : PlacedRun). r.first + r.count ≤ s.first) runs × AreRising runs
 
 -- the first of these runs ends after a page
-abbrev pub EndsBehind : ℕ → List PlacedRun → Type 0
-EndsBehind page [] = Unit {0}
-EndsBehind page (r ∷ runs) = page < r.first + r.count
+abbrev pub EndsAfter : ℕ → List PlacedRun → Type 0
+EndsAfter page [] = Unit {0}
+EndsAfter page (r ∷ runs) = page < r.first + r.count

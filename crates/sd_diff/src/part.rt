@@ -2,7 +2,7 @@
 ghost use Rattle.std.specs.Prelude.{◌≡◌, ◌+◌, ◌-◌, ◌<◌, ◌≤◌, ◌^◌, ℕ, All, drop, length};
 ghost use Rattle.sd_chain.specs.Chains.{found_on};
 ghost use Rattle.sd_restore.specs.Placed.{IsInSlots, IsWithin};
-ghost use Rattle.sd_diff.specs.Held.{AreRising, EndsBehind, held_at};
+ghost use Rattle.sd_diff.specs.Held.{AreRising, EndsAfter, held_at};
 ghost use Rattle.sd_diff.specs.Parts.{IsPart};
 
 use sd_areas::{PAGE_NUMBER_LIMIT, PageNo};
@@ -41,7 +41,7 @@ fn rest_of(run: &PlacedRun, behind: u64) -> PlacedRun
 pub(crate) fn part_at(runs: &[PlacedRun], at: u64) -> Part
     requires at { at < 2 ^ 35 }
     requires within { All IsWithin runs.now }
-    requires ahead { EndsBehind at runs.now }
+    requires ahead { EndsAfter at runs.now }
     ensures part { IsPart runs.now at result }
 {
     let Some((run, _)) = runs.split_first() else {
@@ -67,7 +67,7 @@ fn ended(runs: &[PlacedRun], at: u64) -> usize
     ensures within { result ≤ length runs.now }
     ensures same { (page : ℕ) → at ≤ page
         → held_at (drop result runs.now) page ≡ held_at runs.now page }
-    ensures ahead { EndsBehind at (drop result runs.now) }
+    ensures ahead { EndsAfter at (drop result runs.now) }
 {
     let mut place = 0;
     while place < runs.len() {
@@ -85,7 +85,7 @@ pub(crate) fn runs_from(runs: &[PlacedRun], at: u64) -> &[PlacedRun]
     ensures same { (page : ℕ) → at ≤ page → held_at result.now page ≡ held_at runs.now page }
     ensures within { All IsWithin result.now }
     ensures rising { AreRising runs.now → AreRising result.now }
-    ensures ahead { EndsBehind at result.now }
+    ensures ahead { EndsAfter at result.now }
     ensures slots { (count : ℕ) → All (λ r. IsInSlots count r.there) runs.now
         → All (λ r. IsInSlots count r.there) result.now }
 {

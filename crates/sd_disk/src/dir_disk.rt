@@ -24,7 +24,7 @@ impl DirDisk {
     ghost use Rattle.sd_disk.specs.Folder.{folder_files, folder_failures, outside_of};
 
     /// The disk of an open folder: slot N is its file `img-NNN`, and a slot without a file has length 0. Each call of
-    /// `Disk` is one call of the system on that file. After a failed one, `fault` tells what the system answered. What
+    /// `Disk` is one call of the system on that file. After a failed one, `fault` says what the system answered. What
     /// a program left unsynced may be lost by a crash until the slot is synced: `World::open` syncs each.
     ///
     /// `outside` stands for what the files hold, and for what each failed write and cut will leave of them.

@@ -3,7 +3,7 @@
 use std::fs::{self, Files};
 use std::io;
 
-/// Where the system tells the limits of this process.
+/// Where the system gives the limits of this process.
 const LIMITS: &str = "/proc/self/limits";
 
 /// The line of the limit for files (`RLIMIT_FSIZE`): after these words come the limit in force and the greatest.
@@ -19,7 +19,7 @@ pub struct FileLimit {
 }
 
 impl FileLimit {
-    /// The limit of this process, or none where it is unlimited or the system doesn't tell it.
+    /// The limit of this process, or none where it is unlimited or the system doesn't give it.
     pub fn of_process(rt: &(impl Files + AllocGlobal)) -> FileLimit {
         FileLimit {
             bytes: told_limit(rt).unwrap_or(u64::MAX),

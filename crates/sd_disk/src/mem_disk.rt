@@ -34,7 +34,7 @@ impl MemDisk {
 
     /// A disk of 1 to 1,000 empty files, with room for so many bytes in each slot, and a record of so many writes, cuts
     /// and syncs. A call for which there is no room fails as a device does: it changes nothing, and `failures` counts
-    /// it. All memory is taken here, three times the slots' bytes. A world wants a free slot for each image of a
+    /// it. All memory is taken here, three times the slots' bytes. A world needs a free slot for each image of a
     /// checkpoint and one more, in each slot 4,096 bytes and so many for each page that isn't all zeros, and a sync of
     /// each slot to begin with.
     ///

@@ -12,7 +12,7 @@ use std::os::unix::fs::MetadataExt;
 use std::rt::Files;
 use std::{fs, io};
 
-/// What is told of a store's folder that another run has locked.
+/// What is said of a store's folder that another run has locked.
 const STORE_IS_OPEN: &str = "another run has this store open; try again when it has ended";
 
 pub(crate) fn of_folder(error: io::Error) -> OpenError {
@@ -71,7 +71,7 @@ fn id_at(rt: &impl Files, path: &str) -> Option<FileId> {
     look(rt, path).ok().map(|found| FileId::of(&found))
 }
 
-/// What the system tells of a path, following symbolic links.
+/// What the system says of a path, following symbolic links.
 fn look(rt: &impl Files, path: &str) -> io::Result<Metadata> {
     uninterrupted(|| fs::metadata(rt, path))
 }
@@ -173,7 +173,7 @@ pub(crate) fn open_present(
     Ok(images)
 }
 
-/// Opens a slot's file, or tells that it is missing.
+/// Opens a slot's file, or says that it is missing.
 fn open_image(rt: &impl Files<File = File>, path: &str, write: bool) -> io::Result<Option<File>> {
     match entry_of(rt, path)? {
         None => Ok(None),
@@ -183,7 +183,7 @@ fn open_image(rt: &impl Files<File = File>, path: &str, write: bool) -> io::Resu
     }
 }
 
-/// What the system tells of a path itself, if it is there.
+/// What the system says of a path itself, if it is there.
 fn entry_of(rt: &impl Files, path: &str) -> io::Result<Option<Metadata>> {
     match uninterrupted(|| fs::symlink_metadata(rt, path)) {
         Ok(entry) => Ok(Some(entry)),

@@ -45,7 +45,7 @@ damaged_elsewhere contents slot other reason (inr double) = not_there contents s
 
 -- ---- in order
 
--- the catalog of a store in order tells what is needed
+-- the catalog of a store in order says what is needed
 pub needed_in_order : (contents : List (List ℕ)) (places : Places) (all : List Image) (slot : ℕ) (error : DropError) → HasTheImages contents places all
     → IsStore contents all → (error ≡ Needed) × IsReachedIn places slot → ErrorSays ⊥ (IsNeeded contents slot) (IsDamagedBeside contents slot) error
 needed_in_order contents places all slot error h store r =

@@ -132,7 +132,7 @@ pub fn drop_image<D: Disk>(
         (IsNeeded (D.contents disk.old) slot) (IsDamagedBeside (D.contents disk.old) slot)) }
     ensures opened { D.is_honest disk.new
         → OnOk result (is_open (file_at (D.contents disk.old) slot) ≡ true) }
-    // A closed slot is told before all else.
+    // A closed slot is reported before all else.
     ensures closed { D.is_honest disk.new → is_open (file_at (D.contents disk.old) slot) ≡ false
         → IsErrOf result DropError.Closed ⊎ IsErrOf result DropError.Device }
     ensures unneeded { D.is_honest disk.new → force ≡ false

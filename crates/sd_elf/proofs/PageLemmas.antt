@@ -10,7 +10,7 @@ use Rattle.sd_chain.specs.declared.found.Found.{Found}
 use Rattle.sd_chain.specs.Chains.{found_on}
 use Rattle.sd_chain.specs.Store.{bytes_at}
 use Rattle.sd_restore.specs.declared.placed_run.PlacedRun.{PlacedRun}
-use Rattle.sd_restore.specs.Placed.{PlacedPage, page_behind, pages_in}
+use Rattle.sd_restore.specs.Placed.{PlacedPage, page_of_run, pages_in}
 use Rattle.sd_restore.proofs.RunLemmas.{first_pages, none_first, one_more}
 use Rattle.sd_elf.specs.Texts.{pages_bytes, placed_bytes, run_part_bytes, space_bytes}
 use Rattle.sd_elf.proofs.CoreLemmas.{range_last}
@@ -51,11 +51,11 @@ first_more contents r d zero = ap (λ k. flat_map (placed_bytes contents) (first
 first_more contents r d (suc n) =
     ap (λ k. flat_map (placed_bytes contents) (first_pages r k)) (let e : d + suc n ≡ suc (d + n) = omega arith in e)
     ∙ ap (flat_map (placed_bytes contents)) (one_more r (d + n))
-    ∙ flat_map-append (placed_bytes contents) (first_pages r (d + n)) (page_behind r (d + n) ∷ [])
-    ∙ ap (λ xs. flat_map (placed_bytes contents) (first_pages r (d + n)) ++ xs) (append-nil (placed_bytes contents (page_behind r (d + n))))
-    ∙ ap (λ xs. xs ++ placed_bytes contents (page_behind r (d + n))) (first_more contents r d n)
-    ∙ append_assoc (flat_map (placed_bytes contents) (first_pages r d)) (run_part_bytes contents r d n) (placed_bytes contents (page_behind r (d + n)))
-    ∙ ap (λ xs. flat_map (placed_bytes contents) (first_pages r d) ++ xs) (sym (parts_last (λ k. placed_bytes contents (page_behind r (d + k))) n))
+    ∙ flat_map-append (placed_bytes contents) (first_pages r (d + n)) (page_of_run r (d + n) ∷ [])
+    ∙ ap (λ xs. flat_map (placed_bytes contents) (first_pages r (d + n)) ++ xs) (append-nil (placed_bytes contents (page_of_run r (d + n))))
+    ∙ ap (λ xs. xs ++ placed_bytes contents (page_of_run r (d + n))) (first_more contents r d n)
+    ∙ append_assoc (flat_map (placed_bytes contents) (first_pages r d)) (run_part_bytes contents r d n) (placed_bytes contents (page_of_run r (d + n)))
+    ∙ ap (λ xs. flat_map (placed_bytes contents) (first_pages r d) ++ xs) (sym (parts_last (λ k. placed_bytes contents (page_of_run r (d + k))) n))
 
 pub none_of_run : (contents : List (List ℕ)) (r : PlacedRun) → flat_map (placed_bytes contents) (first_pages r 0) ≡ []
 none_of_run contents r = ap (flat_map (placed_bytes contents)) (none_first r)
@@ -71,7 +71,7 @@ keeps_all p f [] all = refl
 keeps_all p f (x ∷ xs) all = cond-true _ _ _ (all x) ∙ ap (λ ys. f x ∷ ys) (keeps_all p f xs all)
 
 pub bytes_apart : (contents : List (List ℕ)) (space : ℕ) (r : PlacedRun) → nat_eq r.space space ≡ false → space_bytes contents space (pages_in r) ≡ []
-bytes_apart contents space r apart = ap (flat_map (placed_bytes contents)) (keeps_none (λ (p : PlacedPage). nat_eq p.space space) (page_behind r) (pages_from 0 r.count) (λ k. apart))
+bytes_apart contents space r apart = ap (flat_map (placed_bytes contents)) (keeps_none (λ (p : PlacedPage). nat_eq p.space space) (page_of_run r) (pages_from 0 r.count) (λ k. apart))
 
 pub bytes_within : (contents : List (List ℕ)) (space : ℕ) (r : PlacedRun) → nat_eq r.space space ≡ true → space_bytes contents space (pages_in r) ≡ flat_map (placed_bytes contents) (pages_in r)
-bytes_within contents space r within = ap (flat_map (placed_bytes contents)) (keeps_all (λ (p : PlacedPage). nat_eq p.space space) (page_behind r) (pages_from 0 r.count) (λ k. within))
+bytes_within contents space r within = ap (flat_map (placed_bytes contents)) (keeps_all (λ (p : PlacedPage). nat_eq p.space space) (page_of_run r) (pages_from 0 r.count) (λ k. within))

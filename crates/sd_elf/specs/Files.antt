@@ -11,7 +11,7 @@ use Rattle.sd_elf.specs.Texts.{core_of, placed_core}
 abbrev pub CoreOfSpace : Type 0
 CoreOfSpace = ℕ × List ℕ
 
--- the core files of the spaces of a checkpoint's memory that are wanted, rising, each with these notes of threads
+-- the core files of the spaces of a checkpoint's memory that are asked for, rising, each with these notes of threads
 abbrev pub cores_of : List ℕ → (ℕ → Bool) → ℕ × PlainMemory → List CoreOfSpace
 cores_of threads wanted moment =
     map {B = CoreOfSpace} (λ (e : ℕ × Space). (e.0, core_of threads moment.0 e.0 e.1))

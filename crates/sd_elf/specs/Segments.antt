@@ -42,7 +42,7 @@ extent_after e s = record {
 }
 
 -- it has pages, and begins at the end of the others or after it
-pub record StandsBehind (e : Extent) (s : ProgramHeader) : Type 0 where
+pub record StandsAfter (e : Extent) (s : ProgramHeader) : Type 0 where
   pub start : s.p_vaddr % 4096 ≡ 0
   pub whole : s.p_memsz % 4096 ≡ 0
   pub some : 0 < s.p_memsz
@@ -55,7 +55,7 @@ pub record HasBytes (size : ℕ) (s : ProgramHeader) : Type 0 where
 
 -- a space can have a segment after others, with its bytes in a file of this size
 pub record IsSegment (size : ℕ) (e : Extent) (s : ProgramHeader) : Type 0 where
-  pub stands : StandsBehind e s
+  pub stands : StandsAfter e s
   pub bytes : HasBytes size s
   pub below : segment_end s ≤ 2 ^ 47
   pub pages : e.pages + s.p_memsz / 4096 ≤ 65536

@@ -10,7 +10,7 @@ use Rattle.sd_chain.specs.Store.{bytes_at}
 use Rattle.sd_image.specs.Table.{Listed}
 use Rattle.sd_image.specs.Words.{number_bytes, zero_bytes}
 use Rattle.sd_restore.specs.Fits.{prots_in}
-use Rattle.sd_restore.specs.Placed.{PlacedPage, page_behind}
+use Rattle.sd_restore.specs.Placed.{PlacedPage, page_of_run}
 use Rattle.sd_restore.specs.declared.placed_run.PlacedRun.{PlacedRun}
 use Rattle.sd_elf.specs.declared.file_header.FileHeader.{FileHeader}
 use Rattle.sd_elf.specs.declared.program_header.ProgramHeader.{ProgramHeader}
@@ -154,7 +154,7 @@ placed_core threads contents checkpoint pages s =
 -- so many pages of a run from one on
 abbrev pub run_part_bytes : List (List ℕ) → PlacedRun → ℕ → ℕ → List ℕ
 run_part_bytes contents r behind count =
-    flat_map (λ k. placed_bytes contents (page_behind r (behind + k))) (range_with_len 0 count)
+    flat_map (λ k. placed_bytes contents (page_of_run r (behind + k))) (range_with_len 0 count)
 
 -- pages that lie one after the other in bytes that were read
 abbrev pub pages_bytes : List ℕ → ℕ → List ℕ

@@ -27,7 +27,7 @@ pub trait CoreOutput {
         ensures { OnOk result (Appends (contents self.old) (contents self.new) (zero_bytes count)) };
 }
 
-/// The files of an export: one for each space that is wanted.
+/// The files of an export: one for each space that is asked for.
 pub trait CoreFiles {
     ghost use Rattle.std.specs.Prelude.{◌≡◌, ◌++◌, ◌∷◌, [], ℕ, List, Option, Bool, is_some, IfOk, IfSome, OnOk};
     ghost use Rattle.sd_elf.specs.Files.{CoreOfSpace};
@@ -37,7 +37,7 @@ pub trait CoreFiles {
     /// The files that were taken, each with its space and its bytes, where they are known.
     ghost taken: { Self → Option (List CoreOfSpace) };
 
-    /// Which spaces' files are wanted.
+    /// Which spaces' files are asked for.
     ghost wanted: { Self → ℕ → Bool };
 
     /// Sees the spaces that there are, rising, before the first file is begun. An error ends the export.
@@ -45,7 +45,7 @@ pub trait CoreFiles {
         ensures kept { taken self.new ≡ taken self.old }
         ensures same { wanted self.new ≡ wanted self.old };
 
-    /// The empty file of a space, if it is wanted.
+    /// The empty file of a space, if it is asked for.
     fn begin(&mut self, space: SpaceId) -> io::Result<Option<Self::Output>>
         ensures kept { taken self.new ≡ taken self.old }
         ensures same { wanted self.new ≡ wanted self.old }

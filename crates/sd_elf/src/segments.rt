@@ -1,7 +1,7 @@
 //! The segments of a core, and whether a space can have them.
 ghost use Rattle.std.specs.Prelude.{◌≡◌, ◌+◌, ◌<◌, ◌≤◌, ◌^◌, ℕ, filter, IsOk, IfOk, IfErr, MatchOption};
 ghost use Rattle.sd_elf.specs.declared.segments.Extent.{Extent};
-ghost use Rattle.sd_elf.specs.Segments.{AreSegments, BreaksAtSegment, BreaksSegment, HasBytes, IsSegment, StandsBehind};
+ghost use Rattle.sd_elf.specs.Segments.{AreSegments, BreaksAtSegment, BreaksSegment, HasBytes, IsSegment, StandsAfter};
 ghost use Rattle.sd_elf.specs.Segments.{extent_after, extent_of, is_memory, no_extent, segment_end};
 
 use crate::fault::{CoreFault, SegmentFault};
@@ -63,7 +63,7 @@ fn with_segment(extent: &Extent, segment: &ProgramHeader) -> Extent
 
 /// What is wrong with where a segment stands in memory, after the others.
 fn place_fault(extent: &Extent, segment: &ProgramHeader) -> Option<SegmentFault>
-    ensures { MatchOption result (StandsBehind extent.now segment.now)
+    ensures { MatchOption result (StandsAfter extent.now segment.now)
         (λ fault. (size : ℕ) → BreaksSegment size extent.now segment.now fault) }
 {
     if segment.p_vaddr % PAGE_BYTES != 0
@@ -134,7 +134,7 @@ pub fn check_segments(segments: &[ProgramHeader], size: u64) -> Result<Extent, C
         × (extent ≡ extent_of no_extent (filter is_memory segments.now))) }
     // Those that a space can have are never refused.
     ensures only { AreSegments size no_extent (filter is_memory segments.now) → IsOk result }
-    // No other fault is told than one of a segment.
+    // No other fault is reported than one of a segment.
     ensures fault { IfErr result (BreaksAtSegment size segments.now) }
 {
     let mut extent = Extent::EMPTY;

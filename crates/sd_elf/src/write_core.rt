@@ -60,7 +60,7 @@ pub(crate) fn write_core<D: Disk, O: CoreOutput>(
     put_pages(disk, space.space, &placed.runs, &mut buffer, out)
 }
 
-/// Writes the core file of a space, where it is wanted.
+/// Writes the core file of a space, where it is asked for.
 fn write_wanted<D: Disk, S: CoreFiles>(
     alloc: Global,
     disk: &mut D,
@@ -87,7 +87,7 @@ fn write_wanted<D: Disk, S: CoreFiles>(
     Ok(())
 }
 
-/// Writes the core file of each space of a memory, where it is wanted.
+/// Writes the core file of each space of a memory, where it is asked for.
 fn write_placed<D: Disk, S: CoreFiles>(
     alloc: Global,
     disk: &mut D,
@@ -128,7 +128,7 @@ pub fn write_shown<D: Disk, S: CoreFiles>(
     files: &mut S,
 ) -> Result<u64, WriteError>
     // The store shows a memory, of the checkpoint with this number, and the files that were taken are the core files of
-    // its spaces, of those that are wanted.
+    // its spaces, of those that are asked for.
     ensures cores { D.is_honest disk.new → IfOk result
         (TakesCores (D.contents disk.old) threads.now (S.wanted files.old) (S.taken files.old) (S.taken files.new)) }
     ensures reads { OnlyReads D.Disk disk.old disk.new }
@@ -154,7 +154,7 @@ pub fn write_shown_at<D: Disk, S: CoreFiles>(
     files: &mut S,
 ) -> Result<(), WriteError>
     // The store has a memory at the checkpoint, and the files that were taken are the core files of its spaces, of
-    // those that are wanted.
+    // those that are asked for.
     ensures cores { D.is_honest disk.new → OnOk result
         (TakesCoresAt (D.contents disk.old) number threads.now (S.wanted files.old) (S.taken files.old)
         (S.taken files.new)) }

@@ -9,7 +9,7 @@ use Rattle.sd_exit.specs.declared.stop.Stop.{Stop}
 use Rattle.sd_exit.specs.declared.stop.Stop.TheVariants as stop
 use Rattle.sd_exit.specs.Ending.{Exits, IsWrittenLast, OnFault, OnWriter, end_status, end_text, status_of}
 
--- what is told last is written, or was refused; and what came of the flush
+-- what is said last is written, or was refused; and what came of the flush
 pub exits : (before mid after : Option (List ℕ)) (refused : Bool) (text : List ℕ) (due wanted status : ℕ) (told_refused : Bool)
     → IsWrittenLast before mid told_refused text due wanted → (told_refused ≡ true → refused ≡ true)
     → Keeps mid after → status ≡ (if refused then 1 else wanted) → Exits before after refused text due status

@@ -39,10 +39,10 @@ abbrev pub end_text : Result Unit Stop → List ℕ
 end_text (Ok _) = []
 end_text (Err why) = stop_text why
 
--- the fault that a program's last line told, where it ends so; what was told before stays where it tells none
-abbrev pub fault_told : Option Fault → Result Unit Stop → Option Fault
-fault_told before (Err (stop.Fault fault)) = Some fault
-fault_told before _ = before
+-- the fault that a program's last line names, where it ends so; what was named before stays where it names none
+abbrev pub fault_printed : Option Fault → Result Unit Stop → Option Fault
+fault_printed before (Err (stop.Fault fault)) = Some fault
+fault_printed before _ = before
 
 -- a last text is written, and the status is the one that comes with it; or the writer refused the text
 abbrev pub IsWrittenLast : Option (List ℕ) → Option (List ℕ) → Bool → List ℕ → ℕ → ℕ → Type 0

@@ -1,7 +1,7 @@
 //! How a program ends: what it prints last, and its exit status.
 ghost use Rattle.std.specs.Prelude.{◌≡◌, true, [], Some, Err, OnOk, OnErr};
 ghost use Rattle.std.specs.Io.KnownBytes.{Appends};
-ghost use Rattle.sd_exit.specs.Ending.{Exits, IsWrittenLast, end_status, end_text, fault_told, status_of, stop_text};
+ghost use Rattle.sd_exit.specs.Ending.{Exits, IsWrittenLast, end_status, end_text, fault_printed, status_of, stop_text};
 ghost use Rattle.sd_exit.specs.Texts.{fault_line};
 ghost use Rattle.sd_restore.specs.declared.fault.Fault.TheVariants.{Damaged};
 
@@ -26,25 +26,25 @@ const NOTHING_SAVED: u8 = 3;
 /// refused; what the writer answered then is the output's `error`.
 pub fn exit<W: Write>(ended: &Result<(), Stop>, out: &mut Output<W>) -> u8
     // The writer took all, the last line too, and the status is that of the end; or something was refused, and it is 1.
-    // What the writer itself keeps back no clause tells: of a flush std says only that no byte is lost by it.
+    // What the writer itself keeps back has no clause: of a flush std says only that no byte is lost by it.
     ensures exits { Exits (W.contents out.old.writer) (W.contents out.new.writer) out.new.refused
         (end_text ended.now) (end_status ended.now) result }
     // What was refused before is not forgotten.
     ensures kept { out.old.refused ≡ true → out.new.refused ≡ true }
-    ensures fault { out.new.fault ≡ fault_told out.old.fault ended.now }
+    ensures fault { out.new.fault ≡ fault_printed out.old.fault ended.now }
 {
     match ended {
         Ok(()) => out.finish(0),
         Err(stop) => {
-            let wanted = told_status(stop, out);
+            let wanted = status_of_stop(stop, out);
             out.finish(wanted)
         }
     }
 }
 
-/// Flushes after a document that told a fault, and returns the exit status that the fault's line has, or 1 where
+/// Flushes after a document that named a fault, and returns the exit status that the fault's line has, or 1 where
 /// anything was refused.
-pub fn exit_told<W: Write>(fault: Fault, out: &mut Output<W>) -> u8
+pub fn exit_with_fault<W: Write>(fault: Fault, out: &mut Output<W>) -> u8
     ensures exits { Exits (W.contents out.old.writer) (W.contents out.new.writer) out.new.refused
         [] (status_of (Stop.Fault fault)) result }
     ensures fault { out.new.fault ≡ Some fault }
@@ -54,11 +54,11 @@ pub fn exit_told<W: Write>(fault: Fault, out: &mut Output<W>) -> u8
 }
 
 /// Prints why a program ended early, and returns its exit status, or 1 where the line is refused.
-fn told_status<W: Write>(stop: &Stop, out: &mut Output<W>) -> u8
+fn status_of_stop<W: Write>(stop: &Stop, out: &mut Output<W>) -> u8
     ensures told { IsWrittenLast (W.contents out.old.writer) (W.contents out.new.writer) out.new.refused
         (stop_text stop.now) (status_of stop.now) result }
     ensures kept { out.old.refused ≡ true → out.new.refused ≡ true }
-    ensures fault { out.new.fault ≡ fault_told out.old.fault (Err stop.now) }
+    ensures fault { out.new.fault ≡ fault_printed out.old.fault (Err stop.now) }
 {
     match print_stop(stop, out) {
         Ok(()) => stop_status(stop),
@@ -72,7 +72,7 @@ fn print_stop<W: Write>(stop: &Stop, out: &mut Output<W>) -> io::Result<()>
         (Appends (W.contents out.old.writer) (W.contents out.new.writer) (stop_text stop.now)) }
     ensures refused { OnErr result (out.new.refused ≡ true) }
     ensures kept { out.old.refused ≡ true → out.new.refused ≡ true }
-    ensures fault { out.new.fault ≡ fault_told out.old.fault (Err stop.now) }
+    ensures fault { out.new.fault ≡ fault_printed out.old.fault (Err stop.now) }
 {
     match stop {
         Stop::Fault(fault) => print_fault(fault, out),

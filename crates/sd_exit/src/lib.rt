@@ -7,7 +7,7 @@ mod stop;
 mod taken;
 mod trace;
 
-pub use ending::{exit, exit_told};
+pub use ending::{exit, exit_with_fault};
 pub use output::Output;
 pub use stop::Stop;
 pub use taken::Taken;

@@ -60,14 +60,14 @@ impl<W: Write> Output<W> {
         self.error.as_ref()
     }
 
-    /// The fault of a store, its device or the memory that a program's last line told. None where it told none.
+    /// The fault of a store, its device or the memory that a program's last line named. None where it named none.
     pub fn fault(&self) -> Option<Fault>
         ensures { result ≡ self.now.fault }
     {
         self.fault
     }
 
-    /// Keeps the fault that is being told.
+    /// Keeps the fault that is being printed.
     pub(crate) fn keep_fault(&mut self, fault: Fault)
         ensures writer { self.new.writer ≡ self.old.writer }
         ensures refused { self.new.refused ≡ self.old.refused }

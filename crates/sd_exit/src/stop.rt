@@ -19,7 +19,7 @@ pub enum Stop {
     NotEmpty,
     /// An order was refused, as is to be printed.
     Order(Refusal),
-    /// The order was refused, as its answer tells, which is printed already.
+    /// The order was refused, as its answer says, which is printed already.
     Refused,
     /// Nothing more can be printed. What the writer answered is the output's `error`.
     Writer(io::Error),

@@ -13,7 +13,7 @@ use Rattle.sd_areas.specs.Pages.{page_of, pages_for, is_invalid, is_outside}
 use Rattle.sd_areas.specs.PlainMemory.{PlainMemory}
 use Rattle.sd_pagetable.specs.declared.access_error.AccessError.{AccessError}
 use Rattle.sd_pagetable.specs.declared.access_error.AccessError.TheVariants.{Refused, Segv}
-use Rattle.sd_pagetable.specs.Due.{or_else, area_due, prots_in}
+use Rattle.sd_pagetable.specs.RefusalOrder.{or_else, area_refusal, prots_in}
 use Rattle.sd_pagetable.specs.Nested.{inside, is_alive}
 use Rattle.sd_command.specs.declared.command.Command.{Command}
 use Rattle.sd_command.specs.declared.command.Command.TheVariants as command
@@ -40,7 +40,7 @@ first_due : (one other : Option AccessError) → or_else one other ≡ None → 
 first_due None other e = refl
 first_due (Some why) other e = e
 
-area_ok : (result : Result PageMap Errno) → area_due result ≡ None → (pages : PageMap) × (result ≡ Ok pages)
+area_ok : (result : Result PageMap Errno) → area_refusal result ≡ None → (pages : PageMap) × (result ≡ Ok pages)
 area_ok (Ok pages) e = (pages, refl)
 area_ok (Err errno) e = absurd (cc)
 

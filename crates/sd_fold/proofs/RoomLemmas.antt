@@ -23,7 +23,7 @@ is_some_mapped : {A B : Type 0} (f : A → B) (o : Option A) → is_some (option
 is_some_mapped f None = refl
 is_some_mapped f (Some a) = refl
 
--- whether the code's map has a space tells whether it is alive
+-- whether the code's map has a space says whether it is alive
 pub is_there : (memory : Snapshot) (s : ℕ) → is_some (lookup (is_at (nat_cmp s)) memory.spaces.entries) ≡ is_alive (memory_of memory) s
 is_there memory s = sym (ap is_some (get_memory memory s) ∙ is_some_mapped pages_in (lookup (is_at (nat_cmp s)) memory.spaces.entries))
 

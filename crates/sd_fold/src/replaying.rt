@@ -10,7 +10,7 @@ use sd_journal::Entry;
 use std::alloc::{AllocError, Global};
 
 /// The memory that the entries of a legal journal make of the one that a run started from, which is given away: one
-/// that is still wanted is copied first, and else [`fold`] does the same in place.
+/// that is still needed is copied first, and else [`fold`] does the same in place.
 ///
 /// # Errors
 ///

@@ -158,8 +158,8 @@ past_none slots k l = at_cell slots k ∙ ap (option_and_then cell_of) (slice_ge
 pub free_none : (slots : List FrameCell) (k : ℕ) (next : Option ℕ) → slice_get slots k ≡ Some (Free next) → get_or (cells_of slots) k None ≡ None
 free_none slots k next e = at_cell slots k ∙ ap (option_and_then cell_of) e
 
-in_use : (o : Option FrameCell) → IsSome o → ((n : Option ℕ) → o ≡ Some (Free n) → ⊥) → IsSome (option_and_then cell_of o)
-in_use o s h = grind arith
+is_live : (o : Option FrameCell) → IsSome o → ((n : Option ℕ) → o ≡ Some (Free n) → ⊥) → IsSome (option_and_then cell_of o)
+is_live o s h = grind arith
 
 there_within : {X : Type 0} (xs : List X) (i : ℕ) → i < length xs → IsSome (slice_get xs i)
 there_within [] i l = absurd (omega arith)
@@ -167,7 +167,7 @@ there_within (x ∷ xs) zero l = refl
 there_within (x ∷ xs) (suc i) l = there_within xs i (omega arith)
 
 pub all_used : (size : ℕ) (slots : List FrameCell) → IsFreeList slots None → length slots ≡ size → IsExhausted (record { size = size; cells = cells_of slots })
-all_used size slots h e = λ k l. subst (λ (o : Option Cell). IsSome o) (sym (at_cell slots k)) (in_use (slice_get slots k) (there_within slots k (omega arith)) (λ n f. none_free slots k n h f))
+all_used size slots h e = λ k l. subst (λ (o : Option Cell). IsSome o) (sym (at_cell slots k)) (is_live (slice_get slots k) (there_within slots k (omega arith)) (λ n f. none_free slots k n h f))
 
 -- with places left, or a free one, a frame is free
 pub has_room : (size : ℕ) (slots : List FrameCell) → length slots < size → HasFree (record { size = size; cells = cells_of slots })
@@ -183,7 +183,7 @@ not_some (Some c) e s = cc
 -- without a chain none of the places is free
 none_at : (slots : List FrameCell) (k : ℕ) → IsFreeList slots None → k < length slots → get_or (cells_of slots) k None ≡ None → ⊥
 none_at slots k h l e =
-    let s : IsSome (option_and_then cell_of (slice_get slots k)) = in_use (slice_get slots k) (there_within slots k l) (λ n g. none_free slots k n h g) in
+    let s : IsSome (option_and_then cell_of (slice_get slots k)) = is_live (slice_get slots k) (there_within slots k l) (λ n g. none_free slots k n h g) in
     not_some _ (sym (at_cell slots k) ∙ e) s
 
 pub no_free_place : (size : ℕ) (slots : List FrameCell) → IsFreeList slots None → HasFreePlace (record { size = size; cells = cells_of slots }) → ⊥

@@ -13,7 +13,7 @@ use Rattle.sd_gate.specs.declared.call.Call.TheVariants.{Write, WriteHeader, Clo
 use Rattle.sd_gate.specs.declared.phase.Phase.{Phase}
 use Rattle.sd_gate.specs.declared.phase.Phase.TheVariants.{Raw, RawClosing, Whole, Closing, Shut, ShutSynced, Bare, Writing, Ready, Opening}
 use Rattle.sd_gate.specs.Fits.{IsClosed, IsBodyOf, IsShort, PhaseLeaves, PhaseReads, SlotFits}
-use Rattle.sd_gate.specs.Laws.{IsClosedOrWhole, CrashLeaves, found_phase, phase_told, InspectionTells, Leads, no_call, one_call, PlansLead, AllFoundFit}
+use Rattle.sd_gate.specs.Laws.{IsClosedOrWhole, CrashLeaves, found_phase, phase_looked_up, InspectionFindsPhase, Leads, no_call, one_call, PlansLead, AllFoundFit}
 use Rattle.sd_gate.specs.Phases.{may_close, may_write, closing, filled, body_after, state_of}
 use Rattle.sd_gate.specs.Sequences.{format_calls, closing_calls, body_calls, table_place}
 use Rattle.sd_gate.proofs.FitLemmas.{behind_is_closed}
@@ -100,14 +100,14 @@ found_closed file long other = grind (arith, nat_tests)
 first_same : (file first : List ℕ) → first ≡ slice_range file 0 (0 + 4096) → 4096 ≤ length file → slice_index first 0 ≡ slice_index file 0
 first_same file first is long = grind arith
 
-told_raw : (file first : List ℕ) → length file < 4096 → phase_told (length file) first ≡ found_phase file
+told_raw : (file first : List ℕ) → length file < 4096 → phase_looked_up (length file) first ≡ found_phase file
 told_raw file first short = grind (arith, nat_tests)
 
-told_long : (file first : List ℕ) → 4096 ≤ length file → slice_index first 0 ≡ slice_index file 0 → phase_told (length file) first ≡ found_phase file
+told_long : (file first : List ℕ) → 4096 ≤ length file → slice_index first 0 ≡ slice_index file 0 → phase_looked_up (length file) first ≡ found_phase file
 told_long file first long same = rw same refl
 
-pub inspection_tells : InspectionTells
-inspection_tells file first is = ⊎_elim (λ short. told_raw file first short) (λ long. told_long file first long (first_same file first (is long) long)) (cases_lt (length file) 4096)
+pub inspection_finds_phase : InspectionFindsPhase
+inspection_finds_phase file first is = ⊎_elim (λ short. told_raw file first short) (λ long. told_long file first long (first_same file first (is long) long)) (cases_lt (length file) 4096)
 
 spelled_open : (file : List ℕ) → 4096 ≤ length file → slice_index file 0 ≡ gate → file ≡ gate ∷ drop 1 file
 spelled_open file long is = grind arith

@@ -1,4 +1,4 @@
--- An inspection finds the file that its outcomes told.
+-- An inspection finds the file that its outcomes gave.
 use Rattle.std.proofs.Common.{◌≡◌, ◌≢◌, inl, inr, ℕ, ◌+◌, ◌≤◌, Bool, true, false, ◌==◌, ◌&&◌, nat_le, List, [], ◌∷◌, length, slice_index, slice_range, Some, None, Result, Ok, Err, refl, sym, ◌∙◌, ap, subst, arith, if◌then◌else◌}
 use Rattle.std.proofs.lemmas.Bool.{cases_eq, cases_lt}
 use Rattle.std.proofs.lemmas.Bool.Decides.{nat_tests}
@@ -12,9 +12,9 @@ use Rattle.sd_gate.specs.declared.answer.Answer.TheVariants.{Done, Len as LenIs}
 use Rattle.sd_gate.specs.declared.call.Call.{Call}
 use Rattle.sd_gate.specs.declared.call.Call.TheVariants.{Len, Read, Sync}
 use Rattle.sd_gate.specs.declared.request_id.RequestId.{RequestId}
-use Rattle.sd_gate.specs.Calls.{CallTells, IsAnswerTo, buffer_back, is_done}
+use Rattle.sd_gate.specs.Calls.{CallFinds, IsAnswerTo, buffer_back, is_done}
 use Rattle.sd_gate.specs.Inspections.{nothing, Following, calls_then}
-use Rattle.sd_gate.specs.Looks.{Look, AtSync, AtLength, AtFirst, AtTable, Short, Shut, Broken, Whole, front_of_file, table_of_file, IsLookAt, calls_at, calls_behind, back_at, IsCallAt, rests, asks, LooksAt, IsTold, IsFound, InspectionFinds}
+use Rattle.sd_gate.specs.Looks.{Look, AtSync, AtLength, AtFirst, AtTable, Short, Shut, Broken, Whole, front_of_file, table_of_file, IsLookAt, calls_at, calls_left_after, back_at, IsCallAt, rests, asks, LooksAt, IsLookedUpAs, IsFound, InspectionFinds}
 use Rattle.sd_gate.specs.Plans.{Gives, Planned, found_after, plan_after}
 use Rattle.sd_gate.specs.Requests.{Asked, Made}
 use Rattle.sd_gate.specs.Sequences.{Calls, table_place}
@@ -77,12 +77,12 @@ module _ (slot : ℕ) (file : List ℕ) (id : RequestId) where
     | inr long ↦ (AtFirst, long, long_after bytes (grind (arith, nat_tests)))
   ]
 
-module _ (slot : ℕ) (file : List ℕ) (made : Made) (told : IsTold file made) where
+module _ (slot : ℕ) (file : List ℕ) (made : Made) (told : IsLookedUpAs file made) where
   answers_as : (call : Call) → made.request.id.call ≡ call → IsAnswerTo call made.answer
   answers_as call is = subst (λ c. IsAnswerTo c made.answer) is told.answers
 
-  tells_as : (call : Call) → made.request.id.call ≡ call → CallTells call file made.answer made.request.bytes
-  tells_as call is = subst (λ c. CallTells c file made.answer made.request.bytes) is told.tells
+  tells_as : (call : Call) → made.request.id.call ≡ call → CallFinds call file made.answer made.request.bytes
+  tells_as call is = subst (λ c. CallFinds c file made.answer made.request.bytes) is told.tells
 
   -- a plan that is as it would be by these
   looks_by : (plan next : Planned) → plan ≡ next → LooksAt slot file None next → LooksAt slot file None plan
@@ -107,7 +107,7 @@ module _ (slot : ℕ) (file : List ℕ) (made : Made) (told : IsTold file made) 
   settled_at _ id at call = absurd call
 
 settles : (slot : ℕ) (file : List ℕ) (plan : Planned) (request : Asked) (made : Made) → LooksAt slot file (Some request) plan
-    → made.request.id ≡ request.id → length made.request.bytes ≡ length request.bytes → is_done made.answer ≡ true → IsTold file made
+    → made.request.id ≡ request.id → length made.request.bytes ≡ length request.bytes → is_done made.answer ≡ true → IsLookedUpAs file made
     → LooksAt slot file None (plan_after plan made)
 settles slot file plan request made looks same size done told =
     let look : Look = looks.0 in
@@ -132,7 +132,7 @@ no_calls : {A : Type 0} {others : Calls} {next : Call} {buffer : List ℕ} → [
 no_calls is = absurd (cc)
 
 module _ (slot : ℕ) (file : List ℕ) (old new : Planned) (request : Asked) (gives : Gives old new request) where
-  asked_at : (look : Look) → old ≡ rests slot file look → new.calls ≡ calls_behind look → new ≡ asks slot file look request.id
+  asked_at : (look : Look) → old ≡ rests slot file look → new.calls ≡ calls_left_after look → new ≡ asks slot file look request.id
   asked_at look is calls = grind arith
 
   calls_are : (look : Look) → old ≡ rests slot file look → calls_at look ≡ (request.id.call, request.bytes) ∷ new.calls

@@ -143,16 +143,16 @@ buffer_back Open bytes = None
 buffer_back Cut bytes = None
 buffer_back Sync bytes = None
 
--- what a call tells of a file, where it is done: its length, or its bytes
-abbrev pub CallTells : Call → List ℕ → Answer → List ℕ → Type 0
-CallTells Len file answer bytes = answer ≡ LenIs (length file)
-CallTells (Read at) file answer bytes = bytes ≡ slice_range file at (at + length bytes)
-CallTells (Write at) file answer bytes = Unit {0}
-CallTells WriteHeader file answer bytes = Unit {0}
-CallTells Close file answer bytes = Unit {0}
-CallTells Open file answer bytes = Unit {0}
-CallTells Cut file answer bytes = Unit {0}
-CallTells Sync file answer bytes = Unit {0}
+-- what a call says of a file, where it is done: its length, or its bytes
+abbrev pub CallFinds : Call → List ℕ → Answer → List ℕ → Type 0
+CallFinds Len file answer bytes = answer ≡ LenIs (length file)
+CallFinds (Read at) file answer bytes = bytes ≡ slice_range file at (at + length bytes)
+CallFinds (Write at) file answer bytes = Unit {0}
+CallFinds WriteHeader file answer bytes = Unit {0}
+CallFinds Close file answer bytes = Unit {0}
+CallFinds Open file answer bytes = Unit {0}
+CallFinds Cut file answer bytes = Unit {0}
+CallFinds Sync file answer bytes = Unit {0}
 
 -- the count of the device's failures rises in a call that failed, and in no other
 pub record AnswerHasCause (before now : ℕ) (answer : Answer) : Type 0 where

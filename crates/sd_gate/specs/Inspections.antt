@@ -78,7 +78,7 @@ after_length DoneAnswer = ([], nothing)
 after_length (LenIs len) = if nat_le 4096 len then ((Read 0, zero_bytes 4096) ∷ [], the_header len) else ([], nothing)
 after_length Failed = ([], nothing)
 
--- the table that a header tells of
+-- the table that a header describes
 abbrev pub table_read : Result Header Reason → Following
 table_read (Ok header) = ((Read (table_place header), zero_bytes header.table_len) ∷ [], nothing)
 table_read (Err reason) = ([], nothing)

@@ -50,7 +50,7 @@ GivenUpFits contents may_leave =
 abbrev pub found_phase : List ℕ → Phase
 found_phase file = if nat_lt (length file) 4096 then Raw else (if slice_index file 0 == gate then Whole else Shut)
 
--- a slot that was synced is in the phase that its file tells
+-- a slot that was synced is in the phase that its file shows
 abbrev pub FoundFits : List (List ℕ) → (List (List ℕ) → Type 0) → Type 0
 FoundFits contents may_leave = (slot : ℕ) → OnlyAt slot (file_at contents slot) may_leave
     → SlotFits (found_phase (file_at contents slot)) (drop 1 (file_at contents slot)) slot contents may_leave
@@ -60,20 +60,20 @@ abbrev pub AllFoundFit : List (List ℕ) → (List (List ℕ) → Type 0) → Ty
 AllFoundFit contents may_leave = ((slot : ℕ) → slot < length contents → OnlyAt slot (file_at contents slot) may_leave)
     → DiskFits (map found_phase contents) (map (drop 1) contents) contents may_leave
 
--- the phase that an inspection tells, by the length and the first bytes that came back
-abbrev pub phase_told : ℕ → List ℕ → Phase
-phase_told len first = if nat_lt len 4096 then Raw else (if slice_index first 0 == gate then Whole else Shut)
+-- the phase that an inspection finds, by the length and the first bytes that came back
+abbrev pub phase_looked_up : ℕ → List ℕ → Phase
+phase_looked_up len first = if nat_lt len 4096 then Raw else (if slice_index first 0 == gate then Whole else Shut)
 
--- the phase that is told by what came back of an inspection, as far as it came
+-- the phase that follows from what came back of an inspection, as far as it came
 abbrev pub phase_found : Option ℕ → Option (List ℕ) → Option Phase
 phase_found None first = None
 phase_found (Some len) None = if nat_lt len 4096 then Some Raw else None
-phase_found (Some len) (Some first) = Some (phase_told len first)
+phase_found (Some len) (Some first) = Some (phase_looked_up len first)
 
 -- it is the phase of the file that was inspected
-abbrev pub InspectionTells : Type 0
-InspectionTells = (file first : List ℕ) → (4096 ≤ length file → first ≡ slice_range file 0 (0 + 4096))
-    → phase_told (length file) first ≡ found_phase file
+abbrev pub InspectionFindsPhase : Type 0
+InspectionFindsPhase = (file first : List ℕ) → (4096 ≤ length file → first ≡ slice_range file 0 (0 + 4096))
+    → phase_looked_up (length file) first ≡ found_phase file
 
 -- a slot in the first phase takes these calls, one after the other, and is then in the last, with that body
 pub data Leads : Phase → List ℕ → Calls → Phase → List ℕ → Type 0 where

@@ -1,4 +1,4 @@
--- How far the inspection of a slot has come, and what it was told of the slot's file.
+-- How far the inspection of a slot has come, and what it has seen of the slot's file.
 use Rattle.std.specs.Prelude.{◌≡◌, ◌≢◌, ℕ, ◌+◌, ◌<◌, ◌≤◌, true, List, [], ◌∷◌, length, slice_index, slice_range, Option}
 use Rattle.std.specs.Prelude.{Some, None, Ok, Err}
 use Rattle.sd_image.specs.declared.header.Header.{Header}
@@ -9,7 +9,7 @@ use Rattle.sd_image.specs.Words.{zero_bytes}
 use Rattle.sd_gate.specs.declared.call.Call.{Call}
 use Rattle.sd_gate.specs.declared.call.Call.TheVariants.{Len, Read, Sync}
 use Rattle.sd_gate.specs.declared.request_id.RequestId.{RequestId}
-use Rattle.sd_gate.specs.Calls.{CallTells, IsAnswerTo, is_done}
+use Rattle.sd_gate.specs.Calls.{CallFinds, IsAnswerTo, is_done}
 use Rattle.sd_gate.specs.Inspections.{Awaits, nothing, the_length, the_header}
 use Rattle.sd_gate.specs.Plans.{Back, Gives, Planned, begun, nothing_back, plan_after}
 use Rattle.sd_gate.specs.Requests.{Asked, Made}
@@ -66,15 +66,15 @@ calls_at Shut = []
 calls_at (Broken why) = []
 calls_at (Whole h) = []
 
-abbrev pub calls_behind : Look → Calls
-calls_behind AtSync = (Len, []) ∷ []
-calls_behind AtLength = []
-calls_behind AtFirst = []
-calls_behind (AtTable h) = []
-calls_behind Short = []
-calls_behind Shut = []
-calls_behind (Broken why) = []
-calls_behind (Whole h) = []
+abbrev pub calls_left_after : Look → Calls
+calls_left_after AtSync = (Len, []) ∷ []
+calls_left_after AtLength = []
+calls_left_after AtFirst = []
+calls_left_after (AtTable h) = []
+calls_left_after Short = []
+calls_left_after Shut = []
+calls_left_after (Broken why) = []
+calls_left_after (Whole h) = []
 
 abbrev pub awaits_at : List ℕ → Look → Awaits
 awaits_at file AtSync = the_length
@@ -115,8 +115,13 @@ rests slot file look =
     record { slot = slot; calls = calls_at look; awaits = awaits_at file look; out = None; found = back_at file look }
 
 abbrev pub asks : ℕ → List ℕ → Look → RequestId → Planned
-asks slot file look id = record
-    { slot = slot; calls = calls_behind look; awaits = awaits_at file look; out = Some id; found = back_at file look }
+asks slot file look id = record {
+  slot = slot;
+  calls = calls_left_after look;
+  awaits = awaits_at file look;
+  out = Some id;
+  found = back_at file look;
+}
 
 -- a plan looks at this file, with this request out
 abbrev pub LooksAt : ℕ → List ℕ → Option Asked → Planned → Type 0
@@ -124,10 +129,10 @@ LooksAt slot file None plan = (look : Look) × IsLookAt file look × (plan ≡ r
 LooksAt slot file (Some request) plan = (look : Look) × IsLookAt file look × (plan ≡ asks slot file look request.id)
     × (request.id.slot ≡ slot) × IsCallAt look request.id.call (length request.bytes)
 
--- what an outcome that is done tells of a file
-pub record IsTold (file : List ℕ) (made : Made) : Type 0 where
+-- what an outcome that is done says of a file
+pub record IsLookedUpAs (file : List ℕ) (made : Made) : Type 0 where
   pub answers : IsAnswerTo made.request.id.call made.answer
-  pub tells : CallTells made.request.id.call file made.answer made.request.bytes
+  pub tells : CallFinds made.request.id.call file made.answer made.request.bytes
 
 -- what an inspection found that came to its end: the file's length, its first 4,096 bytes, and its table
 pub record IsFound (file : List ℕ) (found : Back) : Type 0 where
@@ -135,7 +140,7 @@ pub record IsFound (file : List ℕ) (found : Back) : Type 0 where
   pub first : 4096 ≤ length file → found.first ≡ Some (front_of_file file)
   pub table : (h : Header) → ReadsHeader file h → found.second ≡ Some (table_of_file h file)
 
--- Where each outcome told the file as it is, an inspection finds the file.
+-- Where each outcome gave the file as it is, an inspection finds the file.
 pub record InspectionFinds : Type 0 where
   pub begins : (slot : ℕ) (file : List ℕ) → LooksAt slot file None (begun slot first_looks the_length)
   pub takes : (slot : ℕ) (file : List ℕ) (old new : Planned) (request : Asked) → LooksAt slot file None old
@@ -144,7 +149,7 @@ pub record InspectionFinds : Type 0 where
   pub settles : (slot : ℕ) (file : List ℕ) (plan : Planned) (request : Asked) (made : Made)
       → LooksAt slot file (Some request) plan
       → made.request.id ≡ request.id → length made.request.bytes ≡ length request.bytes → is_done made.answer ≡ true
-      → IsTold file made
+      → IsLookedUpAs file made
       → LooksAt slot file None (plan_after plan made)
   pub ends : (slot : ℕ) (file : List ℕ) (plan : Planned) → LooksAt slot file None plan → plan.calls ≡ []
       → IsFound file plan.found

@@ -48,11 +48,11 @@ found_of found = record
 abbrev pub nothing_back : Back
 nothing_back = record { len = None; first = None; second = None }
 
--- the length that was told last
-abbrev pub length_told : Option ℕ → Answer → Option ℕ
-length_told before DoneAnswer = before
-length_told before (LenIs len) = Some len
-length_told before FailedAnswer = before
+-- the length that was said last
+abbrev pub length_looked_up : Option ℕ → Answer → Option ℕ
+length_looked_up before DoneAnswer = before
+length_looked_up before (LenIs len) = Some len
+length_looked_up before FailedAnswer = before
 
 -- the first buffer that came back, and the second
 abbrev pub first_back : Option (List ℕ) → List ℕ → List ℕ
@@ -66,10 +66,10 @@ second_back (Some first) second bytes = Some bytes
 -- with one outcome more
 abbrev pub found_after : Back → Answer → Option (List ℕ) → Back
 found_after found answer None =
-    record { len = length_told found.len answer; first = found.first; second = found.second }
+    record { len = length_looked_up found.len answer; first = found.first; second = found.second }
 found_after found answer (Some bytes) =
     record {
-      len = length_told found.len answer;
+      len = length_looked_up found.len answer;
       first = Some (first_back found.first bytes);
       second = second_back found.first found.second bytes;
     }
@@ -79,7 +79,7 @@ pub record Planned : Type 0 where
   pub slot : ℕ
   -- the calls that it has still to ask for, as far as they are known
   pub calls : Calls
-  -- the outcome that tells which calls follow these
+  -- the outcome that says which calls follow these
   pub awaits : Awaits
   -- the request that is out
   pub out : Option RequestId

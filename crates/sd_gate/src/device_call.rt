@@ -6,7 +6,7 @@ ghost use Rattle.sd_disk.specs.OneCall.{IsOneCall};
 ghost use Rattle.sd_disk.specs.Spans.{LeavesOnly};
 ghost use Rattle.sd_gate.specs.Calls.{call_of, bytes_of, is_done, contents_after, Makes, IsInside, IsSoundOrder};
 ghost use Rattle.sd_gate.specs.Calls.{IsAnswerTo};
-ghost use Rattle.sd_gate.specs.Calls.{IsLook, AreKept, CallTells, AnswerHasCause};
+ghost use Rattle.sd_gate.specs.Calls.{IsLook, AreKept, CallFinds, AnswerHasCause};
 ghost use Rattle.sd_gate.specs.Phases.{is_ready, after, body_after, Waits, phases_after, bodies_after};
 ghost use Rattle.sd_gate.specs.Fits.{PhaseLeaves, SlotFits, DiskFits, DiskLeaves};
 ghost use Rattle.sd_gate.specs.declared.call.Call.TheVariants.{Sync};
@@ -19,7 +19,7 @@ use crate::request::Request;
 use sd_disk::{DeviceError, Disk};
 use sd_image::{GATE, encode_header};
 
-/// How a call ended that tells nothing else.
+/// How a call ended that says nothing else.
 fn answer_of(ended: Result<(), DeviceError>) -> Answer
     ensures { MatchResult ended (λ _. result ≡ Answer.Done) (λ _. result ≡ Answer.Failed) }
 {
@@ -50,7 +50,7 @@ fn make<D: Disk>(disk: &mut D, slot: usize, order: Order) -> (Order, Answer)
     ensures inside { D.is_honest disk.new → is_done result.1 ≡ true
         → IsInside (call_of order) (bytes_of order) (file_at (D.contents disk.old) slot) }
     ensures tells { D.is_honest disk.new → is_done result.1 ≡ true
-        → CallTells (call_of order) (file_at (D.contents disk.old) slot) result.1 (bytes_of result.0) }
+        → CallFinds (call_of order) (file_at (D.contents disk.old) slot) result.1 (bytes_of result.0) }
     ensures done { is_done result.1 ≡ true
         → D.contents disk.new
         ≡ contents_after (call_of order) (bytes_of order) slot (D.contents disk.old) }
@@ -94,7 +94,7 @@ pub fn perform<D: Disk>(disk: &mut D, request: Request) -> Outcome
     ensures inside { D.is_honest disk.new → is_done result.answer ≡ true
         → IsInside request.id.call request.bytes (file_at (D.contents disk.old) request.id.slot) }
     ensures tells { D.is_honest disk.new → is_done result.answer ≡ true
-        → CallTells request.id.call
+        → CallFinds request.id.call
         (file_at (D.contents disk.old) request.id.slot) result.answer result.request.bytes }
     ensures done { is_done result.answer ≡ true
         → D.contents disk.new

@@ -2,7 +2,7 @@
 ghost use Rattle.std.specs.Prelude.{◌≡◌};
 ghost use Rattle.std.specs.Option.{option_map};
 ghost use Rattle.sd_gate.specs.Laws.{phase_found};
-ghost use Rattle.sd_gate.specs.Plans.{found_of, found_after, length_told, nothing_back};
+ghost use Rattle.sd_gate.specs.Plans.{found_of, found_after, length_looked_up, nothing_back};
 
 use crate::answer::Answer;
 use crate::phase::Phase;
@@ -17,9 +17,9 @@ pub struct Found {
     pub second: Option<Vec<u8>>,
 }
 
-/// The length that was told last.
-fn length_told(before: Option<usize>, answer: Answer) -> Option<usize>
-    ensures { result ≡ length_told before answer }
+/// The length that was said last.
+fn length_looked_up(before: Option<usize>, answer: Answer) -> Option<usize>
+    ensures { result ≡ length_looked_up before answer }
 {
     match answer {
         Answer::Len(len) => Some(len),
@@ -57,7 +57,7 @@ impl Found {
             ≡ found_after (found_of self) answer (option_map (λ b. b.items) buffer) }
     {
         let Found { len, first, second } = self;
-        let len = length_told(len, answer);
+        let len = length_looked_up(len, answer);
         let Some(buffer) = buffer else {
             return Found { len, first, second };
         };

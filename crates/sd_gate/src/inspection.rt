@@ -5,7 +5,7 @@ ghost use Rattle.sd_image.specs.Words.{zero_bytes};
 ghost use Rattle.sd_gate.specs.Calls.{call_of, bytes_of, IsSoundOrder};
 ghost use Rattle.sd_gate.specs.Inspections.{KnowsLength, calls_awaited, calls_of_stage, awaits_of, IsReadNext};
 ghost use Rattle.sd_gate.specs.Inspections.{after_length, after_first, calls_then};
-ghost use Rattle.sd_gate.specs.Plans.{length_told};
+ghost use Rattle.sd_gate.specs.Plans.{length_looked_up};
 ghost use Rattle.std.specs.Option.{option_map};
 
 use crate::answer::Answer;
@@ -33,7 +33,7 @@ fn zeros(alloc: Global, len: usize) -> Result<Vec<u8>, AllocError>
 /// What follows the length.
 fn after_length(answer: Answer) -> InspectionStage
     ensures calls { (calls_of_stage result, awaits_of result) ≡ after_length answer }
-    ensures told { (len : Option ℕ) → KnowsLength result (length_told len answer) }
+    ensures told { (len : Option ℕ) → KnowsLength result (length_looked_up len answer) }
 {
     match answer {
         Answer::Len(len) if len >= HEADER_SIZE => InspectionStage::First { len },
@@ -104,7 +104,7 @@ impl Inspection {
             ≡ calls_then (calls_of_stage self.old.stage) (awaits_of self.old.stage) answer
             (option_map (λ b. b.items) buffer.now) }
         ensures told { (len : Option ℕ) → KnowsLength self.old.stage len
-            → KnowsLength self.new.stage (length_told len answer) }
+            → KnowsLength self.new.stage (length_looked_up len answer) }
     {
         match self.stage {
             InspectionStage::AwaitLen => self.stage = after_length(answer),

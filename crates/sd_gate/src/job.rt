@@ -4,7 +4,7 @@ ghost use Rattle.std.specs.Prelude.{MatchOption};
 ghost use Rattle.std.specs.Option.{option_map};
 ghost use Rattle.sd_gate.specs.Calls.{call_of, bytes_of, IsSoundOrder};
 ghost use Rattle.sd_gate.specs.Inspections.{IsReadNext, calls_awaited, calls_then};
-ghost use Rattle.sd_gate.specs.Plans.{calls_of, awaited_by, length_told, IsSoundJob, KnowsItsLength};
+ghost use Rattle.sd_gate.specs.Plans.{calls_of, awaited_by, length_looked_up, IsSoundJob, KnowsItsLength};
 
 use crate::answer::Answer;
 use crate::call_sequence::CallSequence;
@@ -55,7 +55,7 @@ impl Job {
             (option_map (λ b. b.items) buffer.now) }
         ensures sound { IsSoundJob self.old → IsSoundJob self.new }
         ensures told { (len : Option ℕ) → KnowsItsLength self.old len
-            → KnowsItsLength self.new (length_told len answer) }
+            → KnowsItsLength self.new (length_looked_up len answer) }
     {
         if let Job::Inspection(inspection) = self {
             inspection.resume(answer, buffer);

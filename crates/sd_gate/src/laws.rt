@@ -1,5 +1,5 @@
 //! Laws of the phases, each the contract of a function that does nothing.
-ghost use Rattle.sd_gate.specs.Laws.{ImageWholeOrClosed, GivenUpFits, FoundFits, AllFoundFit, InspectionTells};
+ghost use Rattle.sd_gate.specs.Laws.{ImageWholeOrClosed, GivenUpFits, FoundFits, AllFoundFit, InspectionFindsPhase};
 ghost use Rattle.sd_gate.specs.Laws.{PlansLead, BodiesFill, CutsFit, WritesCommute};
 ghost use Rattle.sd_gate.specs.Looks.{InspectionFinds};
 ghost use Rattle.sd_gate.specs.PlanRuns.{PlansTake};
@@ -17,19 +17,19 @@ pub fn given_up_fits<D: Disk>(disk: &D)
     ensures { GivenUpFits (D.contents disk.now) (D.may_leave disk.now) }
 {}
 
-/// A slot that was synced is in the phase that its file tells: shorter than a header, closed, or with an image.
+/// A slot that was synced is in the phase that its file shows: shorter than a header, closed, or with an image.
 pub fn found_fits<D: Disk>(disk: &D)
     ensures { FoundFits (D.contents disk.now) (D.may_leave disk.now) }
 {}
 
-/// A disk of which every slot was synced is in the phases that its files tell, with the bodies that they have.
+/// A disk of which every slot was synced is in the phases that its files show, with the bodies that they have.
 pub fn all_found_fit<D: Disk>(disk: &D)
     ensures { AllFoundFit (D.contents disk.now) (D.may_leave disk.now) }
 {}
 
-/// The length and the first bytes that an inspection brings back tell that phase.
-pub fn inspection_tells()
-    ensures { InspectionTells }
+/// The length and the first bytes that an inspection brings back give that phase.
+pub fn inspection_finds_phase()
+    ensures { InspectionFindsPhase }
 {}
 
 /// The calls of each plan that writes find their slot ready, one after the other, from each phase in which the first is
@@ -44,7 +44,7 @@ pub fn plans_take()
     ensures { PlansTake }
 {}
 
-/// An inspection whose outcomes told its slot's file as it is finds the file's length, its first 4,096 bytes and its
+/// An inspection whose outcomes gave its slot's file as it is finds the file's length, its first 4,096 bytes and its
 /// table.
 pub fn inspection_finds()
     ensures { InspectionFinds }

@@ -30,7 +30,7 @@ pub use found::Found;
 pub use lanes::{is_any_out, lane_of};
 pub use laws::{
     all_found_fit, bodies_fill, cuts_fit, found_fits, given_up_fits, image_whole_or_closed,
-    inspection_finds, inspection_tells, plans_lead, plans_take, writes_commute,
+    inspection_finds, inspection_finds_phase, plans_lead, plans_take, writes_commute,
 };
 pub use outcome::Outcome;
 pub use phase::Phase;

@@ -25,7 +25,7 @@ impl Model for Outcome {
 }
 
 impl Outcome {
-    /// What tells its request from every other.
+    /// What distinguishes its request from every other.
     pub fn id(&self) -> RequestId
         ensures { result ≡ self.now.request.id }
     {

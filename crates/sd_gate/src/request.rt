@@ -58,7 +58,7 @@ impl Request {
         order.into_buffer()
     }
 
-    /// What tells it from every other request.
+    /// What distinguishes it from every other request.
     pub fn id(&self) -> RequestId
         ensures { result ≡ self.now.id }
     {

@@ -1,7 +1,7 @@
 use crate::call::Call;
 use crate::worker::Worker;
 
-/// What tells one request from every other.
+/// What distinguishes one request from every other.
 #[derive(Clone, Copy, PartialEq, Eq)]
 pub struct RequestId {
     pub worker: Worker,

@@ -99,7 +99,7 @@ fn is_needed(needs: &[Vec<u64>], but: Option<usize>, serial: u64) -> bool {
     false
 }
 
-/// What is told of a checkpoint.
+/// What is said of a checkpoint.
 fn past_of(catalog: &Catalog, number: u64, needs: &[Vec<u64>], place: usize) -> Past
     ensures { result.number ≡ number }
 {
@@ -127,7 +127,7 @@ fn place_of(image: &OpenImage) -> (usize, u64, u64) {
     (image.slot(), serial, mapped_pages(&image.table().spaces))
 }
 
-/// What is told of the checkpoints.
+/// What is said of the checkpoints.
 fn all_past(
     alloc: Global,
     catalog: &Catalog,

@@ -1,4 +1,4 @@
--- A file has one image, contents have one list of images, and serials tell them apart.
+-- A file has one image, contents have one list of images, and serials distinguish them.
 use Rattle.std.proofs.Common.{◌≡◌, ℕ, false, nat_eq, List, [], ◌∷◌, ◌++◌, map, length, Contains, refl, sym, ◌∙◌, ap, subst, inl, inr, arith, append_assoc}
 use Rattle.std.proofs.lemmas.Bool.{eq-eqb}
 use Rattle.std.specs.List.{concat, AllByRecursion, IsDistinct}
@@ -79,16 +79,16 @@ image_of_file (file ∷ files) images i (inr a) among =
     ]
 
 -- no image after has the serial of one that differs from all of theirs
-pub not_behind : (n : ℕ) (images : List Image) (i : Image) → AllByRecursion (λ k. nat_eq n k ≡ false) (map (λ (j : Image). j.header.serial) images) → Contains images i
+pub stands_not_after : (n : ℕ) (images : List Image) (i : Image) → AllByRecursion (λ k. nat_eq n k ≡ false) (map (λ (j : Image). j.header.serial) images) → Contains images i
     → n ≡ i.header.serial → ⊥
-not_behind n [] i differ among e = omega (arith, among.1)
-not_behind n (j ∷ images) i differ among e =
+stands_not_after n [] i differ among e = omega (arith, among.1)
+stands_not_after n (j ∷ images) i differ among e =
     elim (contains_cases j i images among) [
       | inl is ↦ true_not_false (nat_eq n j.header.serial) (eq-eqb n j.header.serial (e ∙ ap (λ (k : Image). k.header.serial) is)) differ.0
-      | inr c ↦ not_behind n images i differ.1 c e
+      | inr c ↦ stands_not_after n images i differ.1 c e
     ]
 
--- serials that are distinct tell images apart
+-- distinct serials distinguish images
 pub serial_once : (images : List Image) (i j : Image) → IsDistinct nat_eq (map (λ (k : Image). k.header.serial) images) → Contains images i → Contains images j
     → i.header.serial ≡ j.header.serial → i ≡ j
 unfolding IsDistinct
@@ -97,10 +97,10 @@ serial_once (k ∷ images) i j distinct a b e =
     elim (contains_cases k i images a) [
       | inl p ↦ elim (contains_cases k j images b) [
         | inl q ↦ p ∙ sym q
-        | inr d ↦ absurd (not_behind k.header.serial images j distinct.0 d (ap (λ (x : Image). x.header.serial) (sym p) ∙ e))
+        | inr d ↦ absurd (stands_not_after k.header.serial images j distinct.0 d (ap (λ (x : Image). x.header.serial) (sym p) ∙ e))
       ]
       | inr c ↦ elim (contains_cases k j images b) [
-        | inl q ↦ absurd (not_behind k.header.serial images i distinct.0 c (ap (λ (x : Image). x.header.serial) (sym q) ∙ sym e))
+        | inl q ↦ absurd (stands_not_after k.header.serial images i distinct.0 c (ap (λ (x : Image). x.header.serial) (sym q) ∙ sym e))
         | inr d ↦ serial_once images i j distinct.1 c d e
       ]
     ]

@@ -9,7 +9,7 @@ use crate::table_error::TableError;
 use crate::table_reading::decode_table;
 use std::alloc::{AllocError, Global};
 
-/// Why nothing after this header is a table that begins so and is longer, where the front tells: the reason that
+/// Why nothing after this header is a table that begins so and is longer, where the front says: the reason that
 /// reading all of it would give. None where an item goes past the front.
 ///
 /// # Errors

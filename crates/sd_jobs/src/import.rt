@@ -181,7 +181,7 @@ pub fn import_program<R: Clock + Wait, W: Write>(
     let few = watch.course().few();
     let status = session.close(disk, watch, status);
     if let Some(few) = few {
-        called.tell_few(FewSlots::of_checkpoint(few.free, rounds));
+        called.report_few(FewSlots::of_checkpoint(few.free, rounds));
     }
     Ok(status)
 }

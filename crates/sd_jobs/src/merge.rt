@@ -30,7 +30,7 @@ pub fn merge_program<R: Clock + Wait, W: Write>(
     let was_idle = watch.course().was_idle();
     let status = session.close(disk, watch, status);
     if let Some(few) = few {
-        called.tell_few(FewSlots::of_merge(few.free));
+        called.report_few(FewSlots::of_merge(few.free));
     }
     if was_idle {
         called.tell(&NOTHING_TO_MERGE);

@@ -68,7 +68,7 @@ pub struct RunAsked<'a> {
 }
 
 /// Reports which field of a script's line doesn't fit. Lines are counted from 1.
-fn tell_line(called: Called<'_>, script: &str, bytes: &[u8], number: usize) {
+fn report_line(called: Called<'_>, script: &str, bytes: &[u8], number: usize) {
     let Some(line) = line_of(bytes, number) else {
         return;
     };
@@ -81,7 +81,7 @@ fn tell_line(called: Called<'_>, script: &str, bytes: &[u8], number: usize) {
 fn parse_script(called: Called<'_>, script: &str, bytes: &[u8]) -> Result<Script, Stop> {
     let parsed = Script::parse(called.rt.alloc(), bytes);
     if let Err(ScriptError::Line(number)) = parsed {
-        tell_line(called, script, bytes, number);
+        report_line(called, script, bytes, number);
     }
     match parsed {
         Ok(script) => Ok(script),
@@ -127,21 +127,21 @@ pub fn run_program<R: Clock + Wait, W: Write>(
     let (rule, restores) = (asked.rule, asked.restores);
     let alloc = called.rt.alloc();
     let (disk, status) = run_over(alloc, disk, script, rule, restores, out, &mut watch);
-    tell_course(called, rule, &bytes, watch.course());
+    report_course(called, rule, &bytes, watch.course());
     Ok(session.close(disk, watch, status))
 }
 
 /// Reports after a run at which request it ended, where it is strict, and which found too few free slots.
-fn tell_course(called: Called<'_>, rule: Rule, script: &[u8], course: &Course<'_>) {
+fn report_course(called: Called<'_>, rule: Rule, script: &[u8], course: &Course<'_>) {
     course.clear();
     if let (Rule::Strict, Some(failure)) = (rule, course.failure()) {
-        tell_failure(called, script, course, failure);
+        report_failure(called, script, course, failure);
     }
-    tell_few(called, script, course);
+    report_few(called, script, course);
 }
 
 /// Reports at which request a strict run ended: its line, and how it was answered.
-fn tell_failure(called: Called<'_>, script: &[u8], course: &Course<'_>, failure: &Failure) {
+fn report_failure(called: Called<'_>, script: &[u8], course: &Course<'_>, failure: &Failure) {
     if called.causes == Causes::Kept {
         return;
     }
@@ -193,7 +193,7 @@ fn few_at(alloc: Global, script: &[u8], course: &Course<'_>) -> Option<FewSlotsA
 }
 
 /// Reports the first request of a script that found too few free slots, if one did.
-fn tell_few(called: Called<'_>, script: &[u8], course: &Course<'_>) {
+fn report_few(called: Called<'_>, script: &[u8], course: &Course<'_>) {
     if let Some(few) = few_at(called.rt.alloc(), script, course)
         && few.slots.are_few()
     {

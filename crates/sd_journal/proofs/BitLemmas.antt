@@ -11,7 +11,7 @@ use Rattle.sd_pagetable.specs.PageLaw.{PageLaw}
 use Rattle.sd_pagetable.specs.Tracking.{MemoryEvent, Cleared, Passed, IsBeginning, Step, clears, is_dirty, is_page, is_writable, makes_writable, since, touches, write_protects}
 use Rattle.sd_journal.specs.declared.origin.Origin.TheVariants.{Opened}
 use Rattle.sd_journal.specs.History.{Base}
-use Rattle.sd_journal.specs.Marked.{HasBits, Item, Marked, events_of, is_due, is_opened, item_event}
+use Rattle.sd_journal.specs.Marked.{HasBits, Item, Marked, events_of, must_dump, is_opened, item_event}
 
 -- ---- histories by one event more
 
@@ -26,13 +26,13 @@ any_since tests stops event history = grind arith
 dirty_by : (clear touch before any : Bool) → (cond clear false (touch || before) || not (clear || any)) ≡ cond clear false (touch || (before || not any))
 dirty_by clear touch before any = grind arith
 
--- ---- what is due
+-- ---- what must be dumped
 
 -- an event clears the page, or touches it, or leaves it as it was
 abbrev pub due_by : MemoryEvent → ℕ → ℕ → Bool → Bool
 due_by event space page before = cond (clears space page event) false (touches space page event || before)
 
-pub due_more : (base : Base) (item : Item) (items : Marked) (space page : ℕ) → is_due base (item ∷ items) space page ≡ due_by (item_event item) space page (is_due base items space page)
+pub due_more : (base : Base) (item : Item) (items : Marked) (space page : ℕ) → must_dump base (item ∷ items) space page ≡ due_by (item_event item) space page (must_dump base items space page)
 due_more base item items space page = by (is_opened base.origin)
   where
     by : (b : Bool) → (if b then is_dirty (events_of (item ∷ items)) space page else list_any (touches space page) (since (clears space page) (events_of (item ∷ items))))
@@ -40,8 +40,8 @@ due_more base item items space page = by (is_opened base.origin)
     by true = dirty_more (item_event item) (events_of items) space page
     by false = any_since (touches space page) (clears space page) (item_event item) (events_of items)
 
-pub due_passes : (base : Base) (item : Item) (items : Marked) (space page : ℕ) → item_event item ≡ Passed → is_due base (item ∷ items) space page ≡ is_due base items space page
-due_passes base item items space page e = due_more base item items space page ∙ ap (λ event. due_by event space page (is_due base items space page)) e
+pub due_passes : (base : Base) (item : Item) (items : Marked) (space page : ℕ) → item_event item ≡ Passed → must_dump base (item ∷ items) space page ≡ must_dump base items space page
+due_passes base item items space page e = due_more base item items space page ∙ ap (λ event. due_by event space page (must_dump base items space page)) e
 
 pub writable_passes : (item : Item) (items : Marked) (space page : ℕ) → item_event item ≡ Passed → is_writable (events_of (item ∷ items)) space page ≡ is_writable (events_of items) space page
 writable_passes item items space page e = grind arith
@@ -65,8 +65,8 @@ bits_step law base item items old new sound step bits = record {
     | inr made ↦
         made.soft_dirty
         ∙ sym (due_more base item items space number
-        ∙ ap (λ c. cond c false (touches space number (item_event item) || is_due base items space number)) made.uncleared
-        ∙ ap (λ t. t || is_due base items space number) made.touched)
+        ∙ ap (λ c. cond c false (touches space number (item_event item) || must_dump base items space number)) made.uncleared
+        ∙ ap (λ t. t || must_dump base items space number) made.touched)
   ];
   writable = λ space number page there. elim (law old new (item_event item) space number page sound step there) [
     | inl was ↦
@@ -105,19 +105,19 @@ bits_clear law base item items old new s p e step bits = record {
         ap (λ n. page_at new n p) (same_space s p space number same) ∙ ap (page_at new space) (same_number s p space number same) ∙ there in
         cleared_from (page_at old s p) page (sym cleared.here ∙ at)
 
-    due : (space number : ℕ) → is_due base (item ∷ items) space number ≡ cond (is_page s p space number) false (is_due base items space number)
-    due space number = due_more base item items space number ∙ ap (λ event. due_by event space number (is_due base items space number)) e
+    due : (space number : ℕ) → must_dump base (item ∷ items) space number ≡ cond (is_page s p space number) false (must_dump base items space number)
+    due space number = due_more base item items space number ∙ ap (λ event. due_by event space number (must_dump base items space number)) e
 
     may_write : (space number : ℕ) → is_writable (events_of (item ∷ items)) space number ≡ cond (is_page s p space number) false (is_writable (events_of items) space number)
     may_write space number = grind arith
 
     dirty : (space number : ℕ) (page : PageState) → page_at new space number ≡ Some page → (b : Bool) → is_page s p space number ≡ b
-        → page.soft_dirty ≡ is_due base (item ∷ items) space number
+        → page.soft_dirty ≡ must_dump base (item ∷ items) space number
     dirty space number page there true same =
-        (here space number page there same).0 ∙ sym (due space number ∙ ap (λ b. cond b false (is_due base items space number)) same)
+        (here space number page there same).0 ∙ sym (due space number ∙ ap (λ b. cond b false (must_dump base items space number)) same)
     dirty space number page there false other =
         bits.soft_dirty space number page (sym (cleared.others space number other) ∙ there)
-        ∙ sym (due space number ∙ ap (λ b. cond b false (is_due base items space number)) other)
+        ∙ sym (due space number ∙ ap (λ b. cond b false (must_dump base items space number)) other)
 
     writing : (space number : ℕ) (page : PageState) → page_at new space number ≡ Some page → (b : Bool) → is_page s p space number ≡ b
         → page.writable ≡ is_writable (events_of (item ∷ items)) space number

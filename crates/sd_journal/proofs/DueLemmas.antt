@@ -1,4 +1,4 @@
--- What is due stays due while a checkpoint is pending.
+-- What must be dumped stays so while a checkpoint is pending.
 use Rattle.std.proofs.Common.{◌≡◌, ℕ, Bool, true, false, cond, [], ◌∷◌, Some, None, is_some, refl, sym, ◌∙◌, ap, inl, inr, arith}
 use Rattle.std.proofs.lemmas.Option.{same_Some}
 use Rattle.sd_pagetable.specs.Tracking.{is_page, touches, clears}
@@ -9,13 +9,13 @@ use Rattle.sd_command.specs.Replies.{IsLegalReply}
 use Rattle.sd_journal.specs.declared.entry.Entry.TheVariants.{Applied, Freeze, Acked, Cancelled, Reopened}
 use Rattle.sd_journal.specs.declared.mark.Mark.TheVariants.{Start, Visit, Table}
 use Rattle.sd_journal.specs.History.{Base, pending, unless_it_is}
-use Rattle.sd_journal.specs.Marked.{Item, Told, Noted, Marked, entries_of, is_due, item_event, memory_at, IsMarked}
+use Rattle.sd_journal.specs.Marked.{Item, Told, Noted, Marked, entries_of, must_dump, item_event, memory_at, IsMarked}
 use Rattle.sd_journal.specs.TrackedLaws.{before_freeze, visited_since}
 use Rattle.sd_journal.proofs.HistoryLemmas.{same, none_is_some}
 
--- a page that an event neither touches nor clears is as due as before
+-- a page that an event neither touches nor clears must be dumped as before
 passes : (base : Base) (item : Item) (items : Marked) (space page : ℕ) → clears space page (item_event item) ≡ false → touches space page (item_event item) ≡ false
-    → is_due base (item ∷ items) space page ≡ is_due base items space page
+    → must_dump base (item ∷ items) space page ≡ must_dump base items space page
 passes base item items space page uncleared untouched = grind arith
 
 -- nothing is pending once the number that was pending has ended
@@ -28,12 +28,12 @@ unseen b rest e = grind arith
 -- a command while a checkpoint is pending passes by
 passed_by : (base : Base) (items : Marked) (n seat : ℕ) (command : Command) (reply : Reply) (space page : ℕ) → pending (entries_of items) ≡ Some n
     → IsLegalReply (memory_at base items) (is_some (pending (entries_of items))) command reply
-    → is_due base (Told (Applied seat command reply) ∷ items) space page ≡ is_due base items space page
+    → must_dump base (Told (Applied seat command reply) ∷ items) space page ≡ must_dump base items space page
 passed_by base items n seat command reply space page is legal = grind arith
 
 pub still : (base : Base) (items frozen : Marked) (n space page : ℕ) → IsMarked base items
     → pending (entries_of items) ≡ Some n → before_freeze items n ≡ Some frozen → visited_since items n space page ≡ false
-    → is_due base items space page ≡ is_due base frozen space page
+    → must_dump base items space page ≡ must_dump base frozen space page
 still base [] frozen n space page marked is at unvisited = none_is_some frozen at
 still base (Told (Applied seat command reply) ∷ earlier) frozen n space page marked is at unvisited =
     let other = unseen (clears space page (event_of command reply)) (visited_since earlier n space page) unvisited in
@@ -42,7 +42,7 @@ still base (Told (Freeze m) ∷ earlier) frozen n space page marked is at unvisi
     let own : m ≡ n = same_Some m n is in
     let here : before_freeze (Told (Freeze m) ∷ earlier) m ≡ Some earlier = rw (same m) refl in
     let found : Some earlier ≡ Some frozen = sym here ∙ ap (before_freeze (Told (Freeze m) ∷ earlier)) own ∙ at in
-    passes base (Told (Freeze m)) earlier space page refl refl ∙ ap (λ items. is_due base items space page) (same_Some earlier frozen found)
+    passes base (Told (Freeze m)) earlier space page refl refl ∙ ap (λ items. must_dump base items space page) (same_Some earlier frozen found)
 still base (Told (Acked m) ∷ earlier) frozen n space page marked is at unvisited = ended n m (ap (unless_it_is m) (sym marked.0) ∙ is)
 still base (Told (Cancelled m) ∷ earlier) frozen n space page marked is at unvisited = elim marked.0 [
   | inl was ↦ ended n m (ap (unless_it_is m) (sym was) ∙ is)

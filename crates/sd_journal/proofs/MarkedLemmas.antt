@@ -25,7 +25,7 @@ use Rattle.sd_journal.specs.declared.entry.Entry.TheVariants.{Applied}
 use Rattle.sd_journal.specs.declared.mark.Mark.TheVariants.{Start, Visit, Table}
 use Rattle.sd_journal.specs.History.{Base, pending}
 use Rattle.sd_journal.specs.Legal.{IsLegal, MayFollow}
-use Rattle.sd_journal.specs.Marked.{Told, Noted, Marked, entries_of, memory_at, is_of, is_visited, last_visit, visiting, is_mapped, stays_mapped, IsMarked, IsSwept, IsTracked}
+use Rattle.sd_journal.specs.Marked.{Told, Noted, Marked, entries_of, memory_at, is_of, is_visited, last_visit, visiting, is_mapped, stays_mapped, IsMarked, HasVisitedMapped, IsTracked}
 use Rattle.sd_journal.specs.Receipts.{is_command}
 use Rattle.sd_journal.proofs.BitLemmas.{bits_clear, bits_pass, bits_step}
 use Rattle.sd_journal.proofs.HistoryLemmas.{same}
@@ -49,14 +49,14 @@ legal base (Noted mark ∷ earlier) marked = legal base earlier marked.1
 
 -- ---- entries
 
-swept_told : (base : Base) (items : Marked) (entry : Entry) (serial : ℕ) → IsSwept base items serial → IsSwept base (Told entry ∷ items) serial
+swept_told : (base : Base) (items : Marked) (entry : Entry) (serial : ℕ) → HasVisitedMapped base items serial → HasVisitedMapped base (Told entry ∷ items) serial
 swept_told base items entry serial swept space page above stays =
     swept space page above ((and_parts (is_mapped (memory_at base (Told entry ∷ items)) space page) (stays_mapped base items serial space page) stays).1)
 
-still_swept : (base : Base) (items : Marked) (entry : Entry) → IfSome (visiting items) (λ serial. IsSwept base items serial)
-    → IfSome (visiting items) (λ serial. IsSwept base (Told entry ∷ items) serial)
+still_swept : (base : Base) (items : Marked) (entry : Entry) → IfSome (visiting items) (λ serial. HasVisitedMapped base items serial)
+    → IfSome (visiting items) (λ serial. HasVisitedMapped base (Told entry ∷ items) serial)
 still_swept base items entry swept =
-    if_some (visiting items) (λ serial. IsSwept base items serial) (λ serial. IsSwept base (Told entry ∷ items) serial) (λ serial. swept_told base items entry serial) swept
+    if_some (visiting items) (λ serial. HasVisitedMapped base items serial) (λ serial. HasVisitedMapped base (Told entry ∷ items) serial) (λ serial. swept_told base items entry serial) swept
 
 pub applied : PageLaw → EffectLaw → (base : Base) (items : Marked) (old new : Contents) (seat : ℕ) (command : Command) (reply : Reply)
     → IsSound old → IsTracked base items old → pending (entries_of items) ≡ None → IsLegalReply (plain_of old) false command reply
@@ -90,7 +90,7 @@ no_visit (Noted (Visit s space page) ∷ earlier) serial e =
     rw ((or_parts (s == serial) (list_any (is_of serial) earlier) e).0) (no_visit earlier serial ((or_parts (s == serial) (list_any (is_of serial) earlier) e).1))
 no_visit (Noted (Table s) ∷ earlier) serial e = no_visit earlier serial ((or_parts (s == serial) (list_any (is_of serial) earlier) e).1)
 
-swept_start : (base : Base) (items : Marked) (serial : ℕ) → list_any (is_of serial) items ≡ false → IsSwept base (Noted (Start serial) ∷ items) serial
+swept_start : (base : Base) (items : Marked) (serial : ℕ) → list_any (is_of serial) items ≡ false → HasVisitedMapped base (Noted (Start serial) ∷ items) serial
 swept_start base items serial new space page above stays = grind (arith, no_visit)
 
 pub started : (base : Base) (items : Marked) (contents : Contents) (serial : ℕ)
@@ -113,17 +113,17 @@ below s p space page above other = grind (arith, nat_tests)
 
 -- a page after the new last visit was visited
 swept_visit : PlainLaw → (base : Base) (items : Marked) (old : Contents) (serial s p : ℕ) → IsTracked base items old → visiting items ≡ Some serial
-    → IsNextPage old.spaces (last_visit items serial) (Some (s, p)) → IsSwept base (Noted (Visit serial s p) ∷ items) serial
+    → IsNextPage old.spaces (last_visit items serial) (Some (s, p)) → HasVisitedMapped base (Noted (Visit serial s p) ∷ items) serial
 swept_visit plain base items old serial s p tracked is next space page behind stays =
     let mapped : is_mapped (memory_at base items) space page ≡ true =
     (and_parts (is_mapped (memory_at base items) space page) (stays_mapped base items serial space page) stays).0 in
     let stayed : stays_mapped base items serial space page ≡ true =
     (and_parts (is_mapped (memory_at base items) space page) (stays_mapped base items serial space page) stays).1 in
-    let swept : IsSwept base items serial = rw is at tracked.swept in
+    let swept : HasVisitedMapped base items serial = rw is at tracked.swept in
     let last : is_above (Some (s, p)) space page ≡ false = rw (same serial) at behind in
     go mapped stayed swept last (is_page s p space page) refl (is_above (last_visit items serial) space page) refl
   where
-    go : is_mapped (memory_at base items) space page ≡ true → stays_mapped base items serial space page ≡ true → IsSwept base items serial
+    go : is_mapped (memory_at base items) space page ≡ true → stays_mapped base items serial space page ≡ true → HasVisitedMapped base items serial
         → is_above (Some (s, p)) space page ≡ false
         → (here : Bool) → is_page s p space page ≡ here → (after : Bool) → is_above (last_visit items serial) space page ≡ after
         → is_visited (Noted (Visit serial s p) ∷ items) serial space page ≡ true
@@ -150,7 +150,7 @@ pub tabled : PlainLaw → (base : Base) (items : Marked) (contents : Contents) (
     → IsTracked base items contents → visiting items ≡ Some serial → IsNextPage contents.spaces (last_visit items serial) None
     → IsTracked base (Noted (Table serial) ∷ items) contents
 tabled plain base items contents serial tracked is next =
-    let swept : IsSwept base items serial = rw is at tracked.swept in
+    let swept : HasVisitedMapped base items serial = rw is at tracked.swept in
     record {
       marked = ((is, λ space page stays. all swept space page stays), tracked.marked);
       memory = tracked.memory;
@@ -162,6 +162,6 @@ tabled plain base items contents serial tracked is next =
     now_mapped [] space page e = never (sym e)
     now_mapped (item ∷ earlier) space page e = (and_parts (is_mapped (memory_at base (item ∷ earlier)) space page) _ e).0
 
-    all : IsSwept base items serial → (space page : ℕ) → stays_mapped base items serial space page ≡ true → is_visited items serial space page ≡ true
+    all : HasVisitedMapped base items serial → (space page : ℕ) → stays_mapped base items serial space page ≡ true → is_visited items serial space page ≡ true
     all swept space page stays =
         swept space page (next space page (in_memory plain base items contents space page tracked.memory (now_mapped items space page stays))) stays

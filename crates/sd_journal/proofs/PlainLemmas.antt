@@ -148,8 +148,8 @@ within_none first q = grind (arith, nat_tests)
 within_more : (first k q : ℕ) → first ≤ k → is_within first (k + 1 - first) q ≡ (nat_eq q k || is_within first (k - first) q)
 within_more first k q le = grind (arith, nat_tests)
 
-not_behind : (first k : ℕ) → is_within first (k - first) k ≡ false
-not_behind first k = grind (arith, nat_tests)
+stands_not_after : (first k : ℕ) → is_within first (k - first) k ≡ false
+stands_not_after first k = grind (arith, nat_tests)
 
 module _ {X : Type 0} where
   cond-or : (a b : Bool) (x : X) (o : Option X) → cond a (Some x) (cond b (Some x) o) ≡ cond (a || b) (Some x) o
@@ -212,7 +212,7 @@ module _ {X : Type 0} where
 
   -- the page after the run is as it was
   pub change_outside : (change : X → X) (t : Table X) (first k : ℕ) → finmap.get (change_within change t first (k - first)) k ≡ finmap.get t k
-  change_outside change t first k = get-change_within change t first (k - first) k ∙ ap (λ b. option_map (λ x. cond b (change x) x) (finmap.get t k)) (not_behind first k) ∙ mapped_itself (finmap.get t k)
+  change_outside change t first k = get-change_within change t first (k - first) k ∙ ap (λ b. option_map (λ x. cond b (change x) x) (finmap.get t k)) (stands_not_after first k) ∙ mapped_itself (finmap.get t k)
 
   pub change_none : (change : X → X) (t : Table X) (first : ℕ) → change_within change t first (first - first) ≡ t
   change_none change t first = same_table _ _ (λ q. get-change_within change t first (first - first) q ∙ ap (λ b. option_map (λ x. cond b (change x) x) (finmap.get t q)) (within_none first q) ∙ mapped_itself (finmap.get t q))

@@ -7,40 +7,40 @@ use Rattle.std.proofs.lemmas.List.Elements.{filter-append}
 use Rattle.sd_journal.specs.declared.entry.Entry.{Entry}
 use Rattle.sd_journal.specs.declared.placed_mark.PlacedMark.{PlacedMark}
 use Rattle.sd_journal.specs.History.{History}
-use Rattle.sd_journal.specs.Kept.{woven, AreWithin, is_behind}
+use Rattle.sd_journal.specs.Kept.{woven, AreWithin, is_after_entries}
 use Rattle.sd_journal.specs.Marked.{Told, Marked, entries_of}
 use Rattle.sd_journal.specs.Trimming.{IsEntryFirst}
 use Rattle.sd_journal.proofs.KeptLemmas.{entries_of-woven, within_more, woven_entry}
 
 -- ---- marks
 
-kept_one : (number : ℕ) (placed : PlacedMark) (earlier : List PlacedMark) → is_behind number placed ≡ true
-    → filter (is_behind number) (placed ∷ earlier) ≡ placed ∷ filter (is_behind number) earlier
+kept_one : (number : ℕ) (placed : PlacedMark) (earlier : List PlacedMark) → is_after_entries number placed ≡ true
+    → filter (is_after_entries number) (placed ∷ earlier) ≡ placed ∷ filter (is_after_entries number) earlier
 kept_one number placed earlier e =
-    ap (λ b. if b then placed ∷ filter (is_behind number) earlier else filter (is_behind number) earlier) e
+    ap (λ b. if b then placed ∷ filter (is_after_entries number) earlier else filter (is_after_entries number) earlier) e
 
-dropped_one : (number : ℕ) (placed : PlacedMark) (earlier : List PlacedMark) → is_behind number placed ≡ false
-    → filter (is_behind number) (placed ∷ earlier) ≡ filter (is_behind number) earlier
+dropped_one : (number : ℕ) (placed : PlacedMark) (earlier : List PlacedMark) → is_after_entries number placed ≡ false
+    → filter (is_after_entries number) (placed ∷ earlier) ≡ filter (is_after_entries number) earlier
 dropped_one number placed earlier e =
-    ap (λ b. if b then placed ∷ filter (is_behind number) earlier else filter (is_behind number) earlier) e
+    ap (λ b. if b then placed ∷ filter (is_after_entries number) earlier else filter (is_after_entries number) earlier) e
 
-none_behind : (number next : ℕ) (marks : List PlacedMark) → AreWithin next marks → next < number → filter (is_behind number) marks ≡ []
-none_behind number next [] within less = refl
-none_behind number next (placed ∷ earlier) within less =
+none_stands_after : (number next : ℕ) (marks : List PlacedMark) → AreWithin next marks → next < number → filter (is_after_entries number) marks ≡ []
+none_stands_after number next [] within less = refl
+none_stands_after number next (placed ∷ earlier) within less =
     elim (leb_tells number placed.before) [
       | inl behind ↦ absurd (omega (arith, behind.1, within.0, less))
-      | inr before ↦ dropped_one number placed earlier before.0 ∙ none_behind number placed.before earlier within.1 before.1
+      | inr before ↦ dropped_one number placed earlier before.0 ∙ none_stands_after number placed.before earlier within.1 before.1
     ]
 
-pub within_filter : (number next : ℕ) (marks : List PlacedMark) → AreWithin next marks → AreWithin next (filter (is_behind number) marks)
+pub within_filter : (number next : ℕ) (marks : List PlacedMark) → AreWithin next marks → AreWithin next (filter (is_after_entries number) marks)
 within_filter number next [] within = within
 within_filter number next (placed ∷ earlier) within =
-    let rest : AreWithin placed.before (filter (is_behind number) earlier) = within_filter number placed.before earlier within.1 in
+    let rest : AreWithin placed.before (filter (is_after_entries number) earlier) = within_filter number placed.before earlier within.1 in
     elim (leb_tells number placed.before) [
       | inl behind ↦ subst (AreWithin next) (sym (kept_one number placed earlier behind.0)) (within.0, rest)
       | inr before ↦
           subst (AreWithin next) (sym (dropped_one number placed earlier before.0))
-          (within_more placed.before next (filter (is_behind number) earlier) within.0 rest)
+          (within_more placed.before next (filter (is_after_entries number) earlier) within.0 rest)
     ]
 
 turned : (placed : PlacedMark) (marks : List PlacedMark) → reverse (placed ∷ marks) ≡ reverse marks ++ placed ∷ []
@@ -89,12 +89,12 @@ told_all next (entry ∷ newer) older marks within =
 record IsCut (under next : ℕ) (newer older : History) (marks : List PlacedMark) : Type 0 where
   old_marks : List PlacedMark
   within : AreWithin under old_marks
-  parts : woven next (newer ++ older) marks ≡ woven next newer (filter (is_behind (under + 1)) marks) ++ woven (under + 1) older old_marks
+  parts : woven next (newer ++ older) marks ≡ woven next newer (filter (is_after_entries (under + 1)) marks) ++ woven (under + 1) older old_marks
 
 behind_parts : (next number : ℕ) (newer older : History) (placed : PlacedMark) (earlier kept old_marks : List PlacedMark) (d : ℕ) → d ≡ next - placed.before
-    → d ≤ length newer → filter (is_behind number) (placed ∷ earlier) ≡ placed ∷ kept
+    → d ≤ length newer → filter (is_after_entries number) (placed ∷ earlier) ≡ placed ∷ kept
     → woven placed.before (drop d newer ++ older) earlier ≡ woven placed.before (drop d newer) kept ++ woven number older old_marks
-    → woven next (newer ++ older) (placed ∷ earlier) ≡ woven next newer (filter (is_behind number) (placed ∷ earlier)) ++ woven number older old_marks
+    → woven next (newer ++ older) (placed ∷ earlier) ≡ woven next newer (filter (is_after_entries number) (placed ∷ earlier)) ++ woven number older old_marks
 behind_parts next number newer older placed earlier kept old_marks d is short all rest = grind (arith, take-append-le, drop-append-le, append_assoc)
 
 cut : (under next : ℕ) (newer older : History) (marks : List PlacedMark) → under + 1 + length newer ≡ next → AreWithin next marks
@@ -112,7 +112,7 @@ cut under next newer older (placed ∷ earlier) e within =
           let left : length (drop d newer) ≡ length newer - d = length-drop d newer in
           let more : under + 1 + length (drop d newer) ≡ placed.before = omega (arith, left, e, within.0, behind.1) in
           let rest = cut under placed.before (drop d newer) older earlier more within.1 in
-          let kept = filter (is_behind (under + 1)) earlier in
+          let kept = filter (is_after_entries (under + 1)) earlier in
           record {
             old_marks = rest.old_marks;
             within = rest.within;
@@ -121,8 +121,8 @@ cut under next newer older (placed ∷ earlier) e within =
       | inr before ↦
           let below : placed.before ≤ under = omega (arith, before.1) in
           let inside : AreWithin under (placed ∷ earlier) = (below, within.1) in
-          let none : filter (is_behind (under + 1)) (placed ∷ earlier) ≡ [] =
-          dropped_one (under + 1) placed earlier before.0 ∙ none_behind (under + 1) placed.before earlier within.1 before.1 in
+          let none : filter (is_after_entries (under + 1)) (placed ∷ earlier) ≡ [] =
+          dropped_one (under + 1) placed earlier before.0 ∙ none_stands_after (under + 1) placed.before earlier within.1 before.1 in
           record {
             old_marks = placed ∷ earlier;
             within = inside;
@@ -144,12 +144,12 @@ pub record IsTaken (first count : ℕ) (entries : List Entry) (marks : List Plac
   pub newest : IsEntryFirst gone
   pub entries_are : take count entries ≡ reverse (entries_of gone)
   pub parts : woven (first + length entries) (reverse entries) (reverse marks)
-      ≡ woven (first + count + length (drop count entries)) (reverse (drop count entries)) (reverse (filter (is_behind (first + count)) marks)) ++ gone
+      ≡ woven (first + count + length (drop count entries)) (reverse (drop count entries)) (reverse (filter (is_after_entries (first + count)) marks)) ++ gone
 
 -- the parts, said of a journal of which some names are other ones
 renamed_parts : (next mid number at : ℕ) (all newer older : History) (marks kept old_marks : List PlacedMark) → all ≡ newer ++ older → mid ≡ next → at ≡ number
-    → woven next (newer ++ older) marks ≡ woven next newer (filter (is_behind at) marks) ++ woven at older old_marks
-    → filter (is_behind number) marks ≡ kept
+    → woven next (newer ++ older) marks ≡ woven next newer (filter (is_after_entries at) marks) ++ woven at older old_marks
+    → filter (is_after_entries number) marks ≡ kept
     → woven next all marks ≡ woven mid newer kept ++ woven at older old_marks
 renamed_parts next mid number at all newer older marks kept old_marks is same here parts left = grind arith
 
@@ -171,8 +171,8 @@ taken_by first count under entries newer older marks number some within new_is o
       newest = first_told under older c.old_marks (subst (λ n. 0 < n) (sym went) some) c.within;
       entries_are = back_in_time (under + 1) (take count entries) older c.old_marks old_is;
       parts = renamed_parts (first + length entries) (first + count + length (drop count entries)) (first + count) (under + 1) (reverse entries) newer older (reverse marks)
-          (reverse (filter (is_behind (first + count)) marks)) c.old_marks all also number c.parts (sym (filter-reverse (is_behind (first + count)) marks))
-          ∙ ap (λ xs. woven (first + count + length (drop count entries)) xs (reverse (filter (is_behind (first + count)) marks)) ++ woven (under + 1) older c.old_marks) new_is;
+          (reverse (filter (is_after_entries (first + count)) marks)) c.old_marks all also number c.parts (sym (filter-reverse (is_after_entries (first + count)) marks))
+          ∙ ap (λ xs. woven (first + count + length (drop count entries)) xs (reverse (filter (is_after_entries (first + count)) marks)) ++ woven (under + 1) older c.old_marks) new_is;
     }
 
 pub taken : (first count : ℕ) (entries : List Entry) (marks : List PlacedMark) → 0 < count → count ≤ length entries
@@ -185,11 +185,11 @@ taken first count entries marks some within marked =
     (cut (first + count - 1) (first + length entries) (reverse (drop count entries)) (reverse (take count entries)) (reverse marks) next marked)
 
 pub taken_parts : (first count : ℕ) (entries kept : List Entry) (marks behind : List PlacedMark) (t : IsTaken first count entries marks)
-    → kept ≡ drop count entries → behind ≡ filter (is_behind (first + count)) marks
+    → kept ≡ drop count entries → behind ≡ filter (is_after_entries (first + count)) marks
     → woven (first + length entries) (reverse entries) (reverse marks) ≡ woven (first + count + length kept) (reverse kept) (reverse behind) ++ t.gone
 taken_parts first count entries kept marks behind t e f = grind arith
 
 pub within_kept : (first count : ℕ) (entries kept : List Entry) (marks behind : List PlacedMark) → count ≤ length entries
-    → kept ≡ drop count entries → behind ≡ filter (is_behind (first + count)) marks
+    → kept ≡ drop count entries → behind ≡ filter (is_after_entries (first + count)) marks
     → AreWithin (first + length entries) (reverse marks) → AreWithin (first + count + length kept) (reverse behind)
 within_kept first count entries kept marks behind within e f marked = grind (arith, length-drop, turned, filter-reverse, within_filter)

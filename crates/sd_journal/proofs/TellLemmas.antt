@@ -1,4 +1,4 @@
--- What a journal tells, entry by entry.
+-- What a journal says, entry by entry.
 use Rattle.std.proofs.Common.{◌≡◌, ◌≢◌, ◌⊎◌, ◌↔◌, ◌==◌, ℕ, Bool, true, false, if◌then◌else◌, List, [], ◌∷◌, Option, Some, None, refl, sym, ◌∙◌, ap, subst, inl, inr, arith}
 use Rattle.std.proofs.lemmas.Option.{same_Some}
 use Rattle.std.proofs.lemmas.Bool.Decides.{nat_tests}
@@ -9,7 +9,7 @@ use Rattle.sd_journal.specs.History.{Base, History, at_base, at_freeze, last, me
 use Rattle.sd_journal.specs.Legal.{IsAbove, IsLegal}
 use Rattle.sd_journal.specs.Allowed.{IsAllowed, IsLastPair, IsPendingPair, Shown, shown_number}
 use Rattle.sd_journal.specs.Tell.{MayShow, Told, after, chosen, first_memory, tell}
-use Rattle.sd_journal.specs.TellLaws.{Agrees, IsPendingAs, StartsAs, TellLaws}
+use Rattle.sd_journal.specs.RunLaws.{Agrees, IsPendingAs, StartsAs, RunLaws}
 use Rattle.sd_journal.proofs.HistoryLemmas.{at_freeze-other, at_freeze-own, last_below, none_is_some, same}
 
 no_some : {A P : Type 0} (a : A) → (let s : Option A = Some a in s ≡ None) → P
@@ -26,7 +26,7 @@ module _ (base : Base) where
   pending_kept one other None same_pending same_freeze is = same_pending ∙ is
   pending_kept one other (Some p) same_pending same_freeze is = (same_pending ∙ is.0, same_freeze p.0 ∙ is.1)
 
-  -- the last checkpoint has a number, which is that of what is told
+  -- the last checkpoint has a number, which is that of what is said
   pub last_is : (history : History) (n : ℕ) (x : Shown) → last base history ≡ Some n → IsLastPair base history x
       → (memory : PlainMemory) × (x ≡ Some (n, memory)) × (at_freeze base history n ≡ Some memory)
   last_is history n None number is = none_is_some n (sym is ∙ number)
@@ -162,8 +162,8 @@ module _ (base : Base) where
   from_told history told shown is (inr waits) =
       inr (subst (IsPendingPair base history) (sym waits.1) (waits_so history told.pending waits.0 is.pending))
 
-pub tell_laws : TellLaws
-tell_laws = record {
+pub run_laws : RunLaws
+run_laws = record {
   agrees = λ base first history. agrees base first history;
   allowed = λ base first history shown starts legal.
       let is = agrees base first history starts legal in

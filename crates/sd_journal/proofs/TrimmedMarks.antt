@@ -16,7 +16,7 @@ use Rattle.sd_journal.specs.declared.mark.Mark.{Mark}
 use Rattle.sd_journal.specs.declared.mark.Mark.TheVariants.{Start, Visit, Table}
 use Rattle.sd_journal.specs.History.{Base, memory_after}
 use Rattle.sd_journal.specs.Legal.{IsLegal}
-use Rattle.sd_journal.specs.Marked.{Item, Told, Noted, Marked, entries_of, events_of, is_due, is_mapped, is_of, is_visit, is_visited, item_event, last_visit, memory_at, starts, stays_mapped, visiting, IsMarked, IsSwept, IsTracked, MayBeNoted}
+use Rattle.sd_journal.specs.Marked.{Item, Told, Noted, Marked, entries_of, events_of, must_dump, is_mapped, is_of, is_visit, is_visited, item_event, last_visit, memory_at, starts, stays_mapped, visiting, IsMarked, HasVisitedMapped, IsTracked, MayBeNoted}
 use Rattle.sd_journal.specs.Trimming.{Ends, HasVisited, IsFolded, base_after}
 use Rattle.sd_journal.proofs.BitLemmas.{due_by, due_more}
 use Rattle.sd_journal.proofs.HistoryLemmas.{none_is_some}
@@ -24,13 +24,13 @@ use Rattle.sd_journal.proofs.MappedLemmas.{was_mapped}
 use Rattle.sd_journal.proofs.MarkedLemmas.{legal, never, no_visit}
 use Rattle.sd_journal.proofs.TrimLemmas as trim
 
-pub entries_behind : (kept folded : Marked) → entries_of (kept ++ folded) ≡ entries_of kept ++ entries_of folded
-entries_behind [] folded = refl
-entries_behind (Told entry ∷ kept) folded = ap (λ rest. entry ∷ rest) (entries_behind kept folded)
-entries_behind (Noted mark ∷ kept) folded = entries_behind kept folded
+pub entries_after : (kept folded : Marked) → entries_of (kept ++ folded) ≡ entries_of kept ++ entries_of folded
+entries_after [] folded = refl
+entries_after (Told entry ∷ kept) folded = ap (λ rest. entry ∷ rest) (entries_after kept folded)
+entries_after (Noted mark ∷ kept) folded = entries_after kept folded
 
 pub memory_behind : (base : Base) (kept folded : Marked) (n : ℕ) → memory_at (base_after base n (entries_of folded)) kept ≡ memory_at base (kept ++ folded)
-memory_behind base kept folded n = trim.memory base (entries_of kept) (entries_of folded) n ∙ ap (memory_after base) (sym (entries_behind kept folded))
+memory_behind base kept folded n = trim.memory base (entries_of kept) (entries_of folded) n ∙ ap (memory_after base) (sym (entries_after kept folded))
 
 -- ---- marks
 
@@ -165,7 +165,7 @@ pub marked : (base : Base) (kept folded : Marked) (n : ℕ) → IsMarked base (k
 marked base [] folded n was f = tt
 marked base (Told entry ∷ kept) folded n was f =
     let all : IsLegal base (entry ∷ entries_of kept ++ entries_of folded) =
-    subst (λ h. IsLegal base (entry ∷ h)) (entries_behind kept folded) (legal base (Told entry ∷ kept ++ folded) was) in
+    subst (λ h. IsLegal base (entry ∷ h)) (entries_after kept folded) (legal base (Told entry ∷ kept ++ folded) was) in
     ((trim.legal base (entry ∷ entries_of kept) (entries_of folded) n all f.ended).0, marked base kept folded n was.1 f)
 marked base (Noted mark ∷ kept) folded n was f = (noted base kept folded n mark was.1 f was.0, marked base kept folded n was.1 f)
 
@@ -177,16 +177,16 @@ was_there : (base : Base) (item : Item) (items : Marked) (space page : ℕ) → 
     ⊎ ((touches space page (item_event item) ≡ true) × (write_protects space page (item_event item) ≡ true))
 was_there base item items space page mapped = grind (arith, was_mapped)
 
-pub due_stays : (base : Base) (kept folded : Marked) (n space page : ℕ) → IsFolded n folded → HasVisited base folded
+pub must_dump_stays : (base : Base) (kept folded : Marked) (n space page : ℕ) → IsFolded n folded → HasVisited base folded
     → is_mapped (memory_at base (kept ++ folded)) space page ≡ true
-    → is_due (base_after base n (entries_of folded)) kept space page ≡ is_due base (kept ++ folded) space page
-due_stays base [] folded n space page f visited mapped = sym (visited.clean space page mapped)
-due_stays base (item ∷ kept) folded n space page f visited mapped =
+    → must_dump (base_after base n (entries_of folded)) kept space page ≡ must_dump base (kept ++ folded) space page
+must_dump_stays base [] folded n space page f visited mapped = sym (visited.clean space page mapped)
+must_dump_stays base (item ∷ kept) folded n space page f visited mapped =
     due_more (base_after base n (entries_of folded)) item kept space page
     ∙ elim (was_there base item (kept ++ folded) space page mapped) [
-      | inl was ↦ ap (due_by (item_event item) space page) (due_stays base kept folded n space page f visited was)
+      | inl was ↦ ap (due_by (item_event item) space page) (must_dump_stays base kept folded n space page f visited was)
       | inr made ↦ touched (clears space page (item_event item)) (touches space page (item_event item))
-          (is_due (base_after base n (entries_of folded)) kept space page) (is_due base (kept ++ folded) space page) made.0
+          (must_dump (base_after base n (entries_of folded)) kept space page) (must_dump base (kept ++ folded) space page) made.0
     ]
     ∙ sym (due_more base item (kept ++ folded) space page)
   where
@@ -220,8 +220,8 @@ mapped_at : PlainLaw → (base : Base) (items : Marked) (contents : Contents) (s
     → page_at contents space number ≡ Some page → is_mapped (memory_at base items) space number ≡ true
 mapped_at plain base items contents space number page memory there = grind arith
 
-swept_behind : (base : Base) (kept folded : Marked) (n serial : ℕ) → list_any (is_of serial) folded ≡ false → IsSwept base (kept ++ folded) serial
-    → IsSwept (base_after base n (entries_of folded)) kept serial
+swept_behind : (base : Base) (kept folded : Marked) (n serial : ℕ) → list_any (is_of serial) folded ≡ false → HasVisitedMapped base (kept ++ folded) serial
+    → HasVisitedMapped (base_after base n (entries_of folded)) kept serial
 swept_behind base kept folded n serial none swept space page above stays =
     sym (visited_behind kept folded serial space page none)
     ∙ swept space page (ap (λ o. is_above o space page) (sym (cursor_behind kept folded serial none)) ∙ above)
@@ -234,14 +234,14 @@ tracked plain base kept folded contents n was f visited = record {
   memory = was.memory ∙ sym (memory_behind base kept folded n);
   bits = record {
     soft_dirty = λ space number page there. was.bits.soft_dirty space number page there
-        ∙ sym (due_stays base kept folded n space number f visited (mapped_at plain base (kept ++ folded) contents space number page was.memory there));
+        ∙ sym (must_dump_stays base kept folded n space number f visited (mapped_at plain base (kept ++ folded) contents space number page was.memory there));
     writable = λ space number page there. was.bits.writable space number page there
         ∙ sym (writable_stays base kept folded n space number visited (mapped_at plain base (kept ++ folded) contents space number page was.memory there));
   };
-  swept = by (visiting kept) refl (subst (λ o. IfSome o (λ serial. IsSwept base (kept ++ folded) serial)) (sym (visiting_stays kept folded n f)) was.swept);
+  swept = by (visiting kept) refl (subst (λ o. IfSome o (λ serial. HasVisitedMapped base (kept ++ folded) serial)) (sym (visiting_stays kept folded n f)) was.swept);
 }
   where
-    by : (o : Option ℕ) → visiting kept ≡ o → IfSome o (λ serial. IsSwept base (kept ++ folded) serial)
-        → IfSome o (λ serial. IsSwept (base_after base n (entries_of folded)) kept serial)
+    by : (o : Option ℕ) → visiting kept ≡ o → IfSome o (λ serial. HasVisitedMapped base (kept ++ folded) serial)
+        → IfSome o (λ serial. HasVisitedMapped (base_after base n (entries_of folded)) kept serial)
     by None e swept = tt
     by (Some serial) e swept = swept_behind base kept folded n serial (fresh base kept folded serial was.marked e) swept

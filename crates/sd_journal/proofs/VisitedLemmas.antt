@@ -11,7 +11,7 @@ use Rattle.sd_journal.specs.declared.entry.Entry.{Entry}
 use Rattle.sd_journal.specs.declared.entry.Entry.TheVariants.{Applied, Freeze, Acked, Cancelled, Reopened}
 use Rattle.sd_journal.specs.declared.mark.Mark.TheVariants.{Start, Visit, Table}
 use Rattle.sd_journal.specs.History.{Base, pending}
-use Rattle.sd_journal.specs.Marked.{Item, Told, Noted, Marked, entries_of, events_of, is_due, is_mapped, item_event, memory_at, IsMarked}
+use Rattle.sd_journal.specs.Marked.{Item, Told, Noted, Marked, entries_of, events_of, must_dump, is_mapped, item_event, memory_at, IsMarked}
 use Rattle.sd_journal.specs.TrackedLaws.{visited_since}
 use Rattle.sd_journal.specs.Trimming.{Ends, HasVisited, IsEnded, IsFolded}
 use Rattle.sd_journal.proofs.AllowedLemmas.{none_left}
@@ -19,9 +19,9 @@ use Rattle.sd_journal.proofs.BitLemmas.{due_more, due_passes, writable_passes}
 use Rattle.sd_journal.proofs.HistoryLemmas.{none_is_some, same}
 use Rattle.sd_journal.proofs.MarkedLemmas.{frozen_passes, never}
 
--- the page is neither due nor writable
+-- the page need not be dumped, and is not writable
 abbrev IsClean : Base → Marked → ℕ → ℕ → Type 0
-IsClean base items space page = (is_due base items space page ≡ false) × (is_writable (events_of items) space page ≡ false)
+IsClean base items space page = (must_dump base items space page ≡ false) × (is_writable (events_of items) space page ≡ false)
 
 passes : (base : Base) (item : Item) (items : Marked) (space page : ℕ) → item_event item ≡ Passed → IsClean base items space page → IsClean base (item ∷ items) space page
 passes base item items space page e clean =
@@ -54,7 +54,7 @@ clean_since base (Noted (Table s) ∷ earlier) n space page marked is visited =
 clean_since base (Noted (Visit s at number) ∷ earlier) n space page marked is visited = by (is_page at number space page) refl
     (λ other. clean_since base earlier n space page marked.1 is (visited_rest (is_page at number space page) (visited_since earlier n space page) other visited))
   where
-    due : is_due base (Noted (Visit s at number) ∷ earlier) space page ≡ cond (is_page at number space page) false (is_due base earlier space page)
+    due : must_dump base (Noted (Visit s at number) ∷ earlier) space page ≡ cond (is_page at number space page) false (must_dump base earlier space page)
     due = due_more base (Noted (Visit s at number)) earlier space page
 
     may_write : is_writable (events_of (Noted (Visit s at number) ∷ earlier)) space page ≡ cond (is_page at number space page) false (is_writable (events_of earlier) space page)

@@ -54,5 +54,5 @@ AreWithin next [] = Unit {0}
 AreWithin next (placed ∷ earlier) = (placed.before ≤ next) × AreWithin placed.before earlier
 
 -- it stands after the entries before that number
-abbrev pub is_behind : ℕ → PlacedMark → Bool
-is_behind number placed = leb number placed.before
+abbrev pub is_after_entries : ℕ → PlacedMark → Bool
+is_after_entries number placed = leb number placed.before

@@ -1,6 +1,6 @@
 pub mod Allowed
 pub mod Tell
-pub mod TellLaws
+pub mod RunLaws
 pub mod History
 pub mod Kept
 pub mod KeptInside

@@ -55,15 +55,15 @@ is_opened (Trimmed acknowledged) = false
 
 -- Something since its last visit touched the page, or it was never visited. A base that a trim made counts as one visit
 -- of each of its pages.
-abbrev pub is_due : Base → Marked → ℕ → ℕ → Bool
-is_due base items space page =
+abbrev pub must_dump : Base → Marked → ℕ → ℕ → Bool
+must_dump base items space page =
     if is_opened base.origin then is_dirty (events_of items) space page
     else list_any (touches space page) (since (clears space page) (events_of items))
 
 -- the soft-dirty and the writable bits of each mapped page are those that commands and visits give
 pub record HasBits (base : Base) (items : Marked) (contents : Contents) : Type 0 where
   pub soft_dirty : (space number : ℕ) (page : PageState) → page_at contents space number ≡ Some page
-      → page.soft_dirty ≡ is_due base items space number
+      → page.soft_dirty ≡ must_dump base items space number
   pub writable : (space number : ℕ) (page : PageState) → page_at contents space number ≡ Some page
       → page.writable ≡ is_writable (events_of items) space number
 
@@ -137,8 +137,8 @@ IsMarked base (Told entry ∷ earlier) = MayFollow base (entries_of earlier) ent
 IsMarked base (Noted mark ∷ earlier) = MayBeNoted base earlier mark × IsMarked base earlier
 
 -- up to its last visit, the image has visited each page that stayed mapped since its start
-abbrev pub IsSwept : Base → Marked → ℕ → Type 0
-IsSwept base items serial = (space page : ℕ) → is_above (last_visit items serial) space page ≡ false
+abbrev pub HasVisitedMapped : Base → Marked → ℕ → Type 0
+HasVisitedMapped base items serial = (space page : ℕ) → is_above (last_visit items serial) space page ≡ false
     → stays_mapped base items serial space page ≡ true → is_visited items serial space page ≡ true
 
 -- A memory with its marked journal, which may stand and makes the memory; its commands and visits give the bits; and
@@ -147,4 +147,4 @@ pub record IsTracked (base : Base) (items : Marked) (contents : Contents) : Type
   pub marked : IsMarked base items
   pub memory : plain_of contents ≡ memory_at base items
   pub bits : HasBits base items contents
-  pub swept : IfSome (visiting items) (λ serial. IsSwept base items serial)
+  pub swept : IfSome (visiting items) (λ serial. HasVisitedMapped base items serial)

@@ -1,4 +1,4 @@
--- When a journal accounts for what the seats and the worker were told. Its entries stand here in order of time.
+-- When a journal accounts for what the seats and the worker were answered. Its entries stand here in order of time.
 use Rattle.std.specs.Prelude.{◌≡◌, ◌≢◌, ℕ, ◌+◌, ◌<◌, ◌≤◌, Bool, true, false, List, length, take, count_by, slice_get}
 use Rattle.std.specs.Prelude.{Option, Some, None}
 use Rattle.std.specs.List.{filter_map}

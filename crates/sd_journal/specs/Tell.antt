@@ -1,4 +1,4 @@
--- What a journal tells, read from its newest entry: the memory, and which checkpoints a store may show.
+-- What a journal says, read from its newest entry: the memory, and which checkpoints a store may show.
 use Rattle.std.specs.Prelude.{◌≡◌, ◌≢◌, ◌⊎◌, ℕ, ◌==◌, if◌then◌else◌, List, [], ◌∷◌, Option, Some, None}
 use Rattle.std.specs.FinMap as finmap
 use Rattle.sd_areas.specs.PlainMemory.{PlainMemory}
@@ -33,7 +33,7 @@ abbrev pub first_memory : Shown → PlainMemory
 first_memory None = finmap.insert finmap.empty 1 finmap.empty
 first_memory (Some pair) = pair.1
 
--- what the entries tell of a run that starts from what is shown
+-- what the entries say of a run that starts from what is shown
 abbrev pub tell : Shown → List Entry → Told
 tell first [] = record { memory = first_memory first; last = first; pending = None }
 tell first (entry ∷ earlier) = after entry (tell first earlier)

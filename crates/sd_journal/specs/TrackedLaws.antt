@@ -17,11 +17,11 @@ use Rattle.sd_journal.specs.declared.mark.Mark.TheVariants.{Start, Visit, Table}
 use Rattle.sd_journal.specs.declared.origin.Origin.TheVariants.{Opened}
 use Rattle.sd_journal.specs.History.{Base, pending}
 use Rattle.sd_journal.specs.Legal.{IsLegal, MayFollow}
-use Rattle.sd_journal.specs.Marked.{Item, Told, Noted, Marked, entries_of, is_due, item_event, is_of, last_visit}
+use Rattle.sd_journal.specs.Marked.{Item, Told, Noted, Marked, entries_of, must_dump, item_event, is_of, last_visit}
 use Rattle.sd_journal.specs.Marked.{visiting, IsMarked, IsTracked}
 use Rattle.sd_journal.specs.Receipts.{is_command}
 
--- the marked journal tells each page's soft-dirty bit, step by step
+-- the marked journal gives each page's soft-dirty bit, step by step
 pub record TrackedLaws : Type 0 where
   -- a marked journal without its marks is legal
   pub legal : (base : Base) (items : Marked) → IsMarked base items → IsLegal base (entries_of items)
@@ -75,14 +75,15 @@ visited_since (item ∷ earlier) n space page =
     if is_freeze n item then false
     else if clears space page (item_event item) then true else visited_since earlier n space page
 
--- the soft-dirty bit of a page says whether it is due, and what is due at a freeze stays so until its visit
-pub record DueLaws : Type 0 where
-  -- the soft-dirty bit that a visit finds is whether the page is due
+-- the soft-dirty bit of a page says whether it must be dumped, and what must be dumped at a freeze stays so until its
+-- visit
+pub record MustDumpLaws : Type 0 where
+  -- the soft-dirty bit that a visit finds is whether the page must be dumped
   pub bit : (base : Base) (items : Marked) (contents : Contents) (space number : ℕ) (page : PageState)
       → IsTracked base items contents → page_at contents space number ≡ Some page
-      → page.soft_dirty ≡ is_due base items space number
-  -- what is due at a freeze stays so while that is pending, up to the page's own visit
+      → page.soft_dirty ≡ must_dump base items space number
+  -- what must be dumped at a freeze stays so while that is pending, up to the page's own visit
   pub still : (base : Base) (items frozen : Marked) (n space page : ℕ) → IsMarked base items
       → pending (entries_of items) ≡ Some n → before_freeze items n ≡ Some frozen
       → visited_since items n space page ≡ false
-      → is_due base items space page ≡ is_due base frozen space page
+      → must_dump base items space page ≡ must_dump base frozen space page

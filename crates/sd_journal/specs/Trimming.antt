@@ -11,7 +11,7 @@ use Rattle.sd_journal.specs.declared.origin.Origin.TheVariants.{Trimmed}
 use Rattle.sd_journal.specs.History.{Base, History, memory_after, at_freeze, last, pending}
 use Rattle.sd_journal.specs.Legal.{IsAbove, IsLegal}
 use Rattle.sd_journal.specs.Allowed.{Shown, IsAllowed, IsLastPair, IsPendingPair}
-use Rattle.sd_journal.specs.Marked.{Told, Marked, entries_of, events_of, is_due, is_mapped, is_of, last_visit}
+use Rattle.sd_journal.specs.Marked.{Told, Marked, entries_of, events_of, must_dump, is_mapped, is_of, last_visit}
 use Rattle.sd_journal.specs.Marked.{memory_at, starts, visiting, IsMarked, IsTracked}
 use Rattle.sd_journal.specs.TrackedLaws.{visited_since}
 use Rattle.sd_journal.specs.Kept.{JournalView}
@@ -91,7 +91,7 @@ IsEntryFirst items = (entry : Entry) × (earlier : Marked) × (items ≡ Told en
 -- Each page of the memory was visited, and nothing touched it since.
 pub record HasVisited (base : Base) (folded : Marked) : Type 0 where
   pub clean : (space page : ℕ) → is_mapped (memory_at base folded) space page ≡ true
-      → is_due base folded space page ≡ false
+      → must_dump base folded space page ≡ false
   pub protected : (space page : ℕ) → is_mapped (memory_at base folded) space page ≡ true
       → is_writable (events_of folded) space page ≡ false
 
@@ -104,7 +104,7 @@ pub record IsFolded (n : ℕ) (folded : Marked) : Type 0 where
 pub record MarkedTrimLaws : Type 0 where
   -- its entries are those of both
   pub entries : (kept folded : Marked) → entries_of (kept ++ folded) ≡ entries_of kept ++ entries_of folded
-  -- the marks that are kept may stand, and tell of the same visits
+  -- the marks that are kept may stand, and are of the same visits
   pub marked : (base : Base) (kept folded : Marked) (n : ℕ) → IsMarked base (kept ++ folded) → IsFolded n folded
       → IsMarked (base_after base n (entries_of folded)) kept
   pub visiting_stays : (kept folded : Marked) (n : ℕ) → IsFolded n folded → visiting kept ≡ visiting (kept ++ folded)
@@ -120,10 +120,12 @@ pub record MarkedTrimLaws : Type 0 where
       → ((space page : ℕ) → is_mapped (memory_at base folded) space page ≡ true
       → visited_since folded n space page ≡ true)
       → HasVisited base folded
-  -- where each page of the folded memory was visited, the pages are due that were, and the memory stays tracked
-  pub due_stays : (base : Base) (kept folded : Marked) (n space page : ℕ) → IsFolded n folded → HasVisited base folded
+  -- where each page of the folded memory was visited, the pages must be dumped that had to be, and the memory stays
+  -- tracked
+  pub must_dump_stays : (base : Base) (kept folded : Marked) (n space page : ℕ) → IsFolded n folded
+      → HasVisited base folded
       → is_mapped (memory_at base (kept ++ folded)) space page ≡ true
-      → is_due (base_after base n (entries_of folded)) kept space page ≡ is_due base (kept ++ folded) space page
+      → must_dump (base_after base n (entries_of folded)) kept space page ≡ must_dump base (kept ++ folded) space page
   pub tracked : (base : Base) (kept folded : Marked) (contents : Contents) (n : ℕ)
       → IsTracked base (kept ++ folded) contents
       → IsFolded n folded → HasVisited base folded → IsTracked (base_after base n (entries_of folded)) kept contents

@@ -1,6 +1,6 @@
 use thiserror::Error;
 
-/// Why a journal doesn't account for what the seats and the worker were told.
+/// Why a journal doesn't account for what the seats and the worker were answered.
 #[derive(Clone, Copy, Debug, PartialEq, Eq, Error)]
 pub enum CloseFault {
     /// The journal has no command at this number.

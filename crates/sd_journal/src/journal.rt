@@ -2,7 +2,8 @@
 ghost use Rattle.std.specs.Prelude.{◌≡◌, ◌↔◌, ◌+◌, ◌-◌, ◌<◌, ◌≤◌, ◌^◌, ◌∷◌, ◌++◌, [], ℕ, length, drop, map, reverse};
 ghost use Rattle.std.specs.Prelude.{take, vec_len, vec_capacity, IfOk, IfSome, IsTrue, MatchOption, OnOk, OnErr};
 ghost use Rattle.std.specs.List.{filter};
-ghost use Rattle.sd_journal.specs.Kept.{HasGrown, HasSameNumbers, JournalView, entry_count, is_behind, next_number};
+ghost use Rattle.sd_journal.specs.Kept.{HasGrown, HasSameNumbers, JournalView, entry_count, is_after_entries};
+ghost use Rattle.sd_journal.specs.Kept.{next_number};
 ghost use Rattle.sd_journal.specs.History.{History, pending, unless_it_is};
 ghost use Rattle.sd_journal.specs.Marked.{Told, Noted, entries_of};
 ghost use Rattle.sd_journal.specs.Trimming.{Ends, EndsAt, TakesFront};
@@ -200,7 +201,7 @@ impl Journal {
         ensures room { self.old.room ≤ self.new.room }
     {
         let before = self.next_number();
-        note_behind(&mut self.marks, before, mark);
+        note_after(&mut self.marks, before, mark);
     }
 
     /// How many entries from the front on end with the one that ended the pending of a checkpoint: its acknowledgement,
@@ -220,7 +221,7 @@ impl Journal {
     /// # Errors
     ///
     /// Out of memory where the list finds no room, which is only where some entries are left or held.
-    pub fn room_behind(&self, alloc: Global, count: usize) -> Result<Vec<Entry>, AllocError>
+    pub fn room_after(&self, alloc: Global, count: usize) -> Result<Vec<Entry>, AllocError>
         requires { count ≤ entry_count self.now }
         ensures empty { IfOk result (λ room. room.items ≡ []) }
         ensures room { IfOk result (λ room. entry_count self.now + self.now.held ≤ vec_capacity room + count) }
@@ -336,7 +337,7 @@ fn push_into_room(entries: &mut Vec<Entry>, entry: Entry)
 }
 
 /// Adds a mark before the entry with this number to a list with room for it.
-fn note_behind(marks: &mut Vec<PlacedMark>, before: u64, mark: Mark)
+fn note_after(marks: &mut Vec<PlacedMark>, before: u64, mark: Mark)
     requires { vec_len marks.old < vec_capacity marks.old }
     ensures items { marks.new.items
         ≡ marks.old.items ++ (record { before = before; mark = mark }) ∷ [] }
@@ -347,7 +348,7 @@ fn note_behind(marks: &mut Vec<PlacedMark>, before: u64, mark: Mark)
 
 /// Forgets the marks that stand before the last of the entries before a number.
 fn forget_before(marks: &mut Vec<PlacedMark>, number: u64)
-    ensures { marks.new.items ≡ filter (is_behind number) marks.old.items }
+    ensures { marks.new.items ≡ filter (is_after_entries number) marks.old.items }
 {
     marks.retain(|placed| number <= placed.before);
 }

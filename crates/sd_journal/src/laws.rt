@@ -1,7 +1,7 @@
 //! Laws of journals, each the contract of a function that does nothing.
 ghost use Rattle.sd_journal.specs.Laws.{JournalLaws};
-ghost use Rattle.sd_journal.specs.TellLaws.{TellLaws};
-ghost use Rattle.sd_journal.specs.TrackedLaws.{TrackedLaws, DueLaws};
+ghost use Rattle.sd_journal.specs.RunLaws.{RunLaws};
+ghost use Rattle.sd_journal.specs.TrackedLaws.{TrackedLaws, MustDumpLaws};
 ghost use Rattle.sd_journal.specs.Trimming.{MarkedTrimLaws, TrimLaws};
 ghost use Rattle.sd_journal.specs.Worked.{WorkedJournals};
 
@@ -13,9 +13,9 @@ pub fn journal_laws()
     ensures { JournalLaws }
 {}
 
-/// What a journal tells is what its entries say of the last and the pending checkpoint.
-pub fn tell_laws()
-    ensures { TellLaws }
+/// What a journal says is what its entries say of the last and the pending checkpoint.
+pub fn run_laws()
+    ensures { RunLaws }
 {}
 
 /// A memory stays tracked by its marked journal, with one item more of each kind.
@@ -30,8 +30,8 @@ pub fn tracked_laws()
 }
 
 /// Which pages a dump finds soft-dirty: those that were touched since their last visit, or never visited.
-pub fn due_laws()
-    ensures { DueLaws }
+pub fn must_dump_laws()
+    ensures { MustDumpLaws }
 {}
 
 /// What a trim leaves of a legal journal: it makes the same memory, allows the same to be shown, and goes on from the
@@ -40,8 +40,8 @@ pub fn trim_laws()
     ensures { TrimLaws }
 {}
 
-/// What a trim leaves of a marked journal: its marks tell of the same visits, and where each page of the folded memory
-/// was visited, the memory stays tracked, with the pages due that were.
+/// What a trim leaves of a marked journal: its marks are of the same visits, and where each page of the folded memory
+/// was visited, the memory stays tracked, with the pages to be dumped that had to be.
 pub fn marked_trim_laws()
     ensures { MarkedTrimLaws }
 {

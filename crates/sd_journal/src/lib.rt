@@ -1,4 +1,4 @@
-//! What a run was told, and what it allows a store to show.
+//! What a run was answered, and what it allows a store to show.
 #![tactic(auto)]
 
 mod close_fault;
@@ -15,7 +15,8 @@ pub use close_fault::CloseFault;
 pub use entry::Entry;
 pub use journal::{ENTRY_LIMIT, Journal};
 pub use laws::{
-    due_laws, journal_laws, marked_trim_laws, tell_laws, tracked_laws, trim_laws, worked_journals,
+    journal_laws, marked_trim_laws, must_dump_laws, run_laws, tracked_laws, trim_laws,
+    worked_journals,
 };
 pub use mark::Mark;
 pub use origin::Origin;

@@ -1,6 +1,6 @@
 use sd_command::{Command, Reply};
 
-/// What a seat was told: its command stands in the journal under this number, with this reply.
+/// What a seat was answered: its command stands in the journal under this number, with this reply.
 #[derive(Debug, PartialEq, Eq, Drop)]
 pub struct Receipt {
     pub seat: usize,

@@ -24,7 +24,7 @@ use Rattle.sd_rounds.specs.MakingLaws.{Pages, image_of}
 use Rattle.sd_rounds.specs.Pass as rounds
 use Rattle.sd_rounds.specs.Pass.{ImageEntry, Place, data_pages, pages_by}
 use Rattle.sd_store_laws.specs.Makers.{HasItself, IsMergedOf, MergedRepeats}
-use Rattle.sd_store_laws.specs.Store.{IsTwin}
+use Rattle.sd_store_laws.specs.Store.{IsMergedCopy}
 use Rattle.sd_merge.specs.declared.copy_order.CopyOrder.{CopyOrder}
 use Rattle.sd_merge.specs.declared.copy_progress.CopyProgress.TheVariants as progress
 use Rattle.sd_merge.specs.declared.merge_step.MergeStep.TheVariants as step
@@ -171,7 +171,7 @@ twin : ((l : List Listed) → Lists (entries_listed l) l) → HeldOnceAmong → 
     → copy.stage ≡ Close plan header tables
     → FilesCopy source pages copy → KeepsCopy catalog source pages copy → HasItsNumbers copy.order source → SerialsDiffer catalog → HaveTables catalog → Contains catalog source
     → AreItsNumbers copy.order → ((j : Image) → Contains catalog j → j.header.serial < copy.order.serial)
-    → IsTwin catalog (Some source) (image_of header pages tables)
+    → IsMergedCopy catalog (Some source) (image_of header pages tables)
 twin lists once repeats catalog source pages copy plan header tables closing is was own serials all member numbers above = record {
   source = source;
   running = refl;

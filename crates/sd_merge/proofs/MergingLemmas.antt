@@ -26,7 +26,7 @@ use Rattle.sd_image.proofs.Members.{contains_at, place_in}
 use Rattle.sd_chain.specs.declared.found.Found.{Found}
 use Rattle.sd_chain.specs.declared.found.Found.TheVariants as found
 use Rattle.sd_chain.specs.Catalog.{IsSoundCatalog, Opened, Places, images}
-use Rattle.sd_chain.specs.Tells.{Agrees, HaveDataPages, IsToldAs}
+use Rattle.sd_chain.specs.Recorded.{Agrees, HaveDataPages, IsRecordedAs}
 use Rattle.sd_chain.specs.Passes.{IsListed, IsNextPageOfImage}
 use Rattle.sd_chain.specs.Ways.{LiesAt, LiesBySerial}
 use Rattle.sd_gate.specs.Plans.{Planned}
@@ -50,7 +50,7 @@ use Rattle.sd_merge.specs.declared.stage.Stage.{Stage}
 use Rattle.sd_merge.specs.declared.stage.Stage.TheVariants.{PageRead, PageWrite}
 use Rattle.sd_merge.specs.Copying.{Copying, HandsIn, IsLost, Steps, begun_copy, cursor, is_taking, page_or_zeros, read_after, stage_after, with_plan}
 use Rattle.sd_merge.specs.Sources.{few_pages, listed_count, runs_count}
-use Rattle.sd_merge.specs.Merging.{IsCopy, IsFirstOf, IsOverIn, IsReadOf, IsSoundCopy, IsSourceAt, KeepsCopy, MergeLaws, TellsIn, listed_places, pages_after}
+use Rattle.sd_merge.specs.Merging.{IsCopy, IsFirstOf, IsOverIn, IsReadOf, IsSoundCopy, IsSourceAt, KeepsCopy, MergeLaws, ReadsSource, listed_places, pages_after}
 use Rattle.sd_merge.proofs.OrderLemmas.{In, contains_in, next_is_first, none_is_over}
 use Rattle.sd_merge.proofs.PageLemmas.{page_whole}
 use Rattle.sd_merge.proofs.PlanLemmas.{free_in_pass}
@@ -105,7 +105,7 @@ counts_zero entries at = ap (λ (l : List Place). length l) (pages_append Data e
 counts_data : (entries : List ImageEntry) (at : Place) → data_pages (put entries at Data) ≡ data_pages entries + 1
 counts_data entries at = ap (λ (l : List Place). length l) (pages_append Data entries _) ∙ length-append (pages_by Data entries) (at ∷ [])
 
--- ---- what the catalog tells
+-- ---- what the catalog says
 
 pub source_table : (places : Places) (catalog : List Image) (serial : ℕ) (source : Image) → IsSourceAt places catalog serial source → IsTable source.header source.spaces
 source_table places catalog serial source at = grind arith
@@ -244,7 +244,7 @@ record IsPageOf (places : Places) (catalog : List Image) (page : Place) (slot of
   pub image : Image
   pub among : Contains (images places) opened
   pub member : Contains catalog image
-  pub told : IsToldAs opened image
+  pub told : IsRecordedAs opened image
   pub own_slot : opened.slot ≡ slot
   pub reached : Reaches catalog image from
   pub place : ℕ
@@ -263,7 +263,7 @@ pub no_zero : (slot offset : ℕ) → found.Data slot offset ≡ found.Zero → 
 no_zero slot offset e = cc
 
 page_of_chain : (places : Places) (catalog : List Image) (page : Place) (slot offset : ℕ) (there : Found) → IsSoundCatalog places → Agrees places catalog → HaveDataPages catalog → there ≡ found.Data slot offset
-    → (i : Opened) (image : Image) → Contains (images places) i → Contains catalog image → IsToldAs i image → LiesAt places page there i → IsPageOf places catalog page slot offset image
+    → (i : Opened) (image : Image) → Contains (images places) i → Contains catalog image → IsRecordedAs i image → LiesAt places page there i → IsPageOf places catalog page slot offset image
 page_of_chain places catalog page slot offset there sound agrees pages e _ image among member told (LiesAt.by_data i place has is) =
     let listed = subst (λ (l : List Listed). slice_get (pages_of Data l) place ≡ Some page) (sym told.spaces) has in
     let stored = pages image member place page listed in
@@ -337,7 +337,7 @@ over_after stage plan calls rest is = grind arith
 -- what was read is what the source holds
 read_more : (stage : Stage) (catalog : List Image) (source : Image) (entries : List ImageEntry) (taking : Option Place) (old : Option (List ℕ)) (made : Made)
     → ((at : Place) (bytes : List ℕ) → taking ≡ Some at → old ≡ Some bytes → (length bytes ≡ 4096) × Holds catalog at.0 at.1 bytes source)
-    → TellsIn stage catalog source taking made
+    → ReadsSource stage catalog source taking made
     → (at : Place) (bytes : List ℕ) → taking ≡ Some at → read_after stage made old ≡ Some bytes → (length bytes ≡ 4096) × Holds catalog at.0 at.1 bytes source
 read_more (PageRead plan) catalog source entries taking old made was tells at bytes e f =
     let told = tells at e in
@@ -346,7 +346,7 @@ read_more (PageRead plan) catalog source entries taking old made was tells at by
 read_more _ catalog source entries taking old made was tells at bytes e f = was at bytes e f
 
 hands : (catalog : List Image) (source : Image) (pages : Pages) (old new : Copying) (made : Made) → HandsIn old made progress.More new → IsSoundCopy old
-    → TellsIn old.stage catalog source old.taking made → KeepsCopy catalog source pages old → KeepsCopy catalog source pages new
+    → ReadsSource old.stage catalog source old.taking made → KeepsCopy catalog source pages old → KeepsCopy catalog source pages new
 hands catalog source pages old new made h sound tells was = grind (arith, read_more, over_after)
 
 -- ---- the beginning

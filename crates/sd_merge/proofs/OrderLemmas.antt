@@ -13,7 +13,7 @@ use Rattle.sd_image.specs.Shows.{pages_of}
 use Rattle.sd_image.specs.Table.{AreRuns, AreSpaces, IsTable, Listed, is_run_after, run_pages}
 use Rattle.sd_image.specs.Words.{run_kind_number}
 use Rattle.sd_chain.specs.declared.way.Way.TheVariants as way
-use Rattle.sd_chain.specs.Passes.{IsBefore, IsBehind, IsFrom, IsListed, IsNextOf}
+use Rattle.sd_chain.specs.Passes.{IsBefore, IsAfterPlace, IsFrom, IsListed, IsNextOf}
 use Rattle.sd_rounds.specs.Made.{Lists, entries_listed}
 use Rattle.sd_rounds.specs.Pass.{ImageEntry, Place, has_kind, pages_by, place_of_entry}
 use Rattle.sd_rounds.specs.Rises.{last_of}
@@ -194,18 +194,18 @@ last_is before [] = refl
 last_is before (e ∷ entries) = last_is (Some e.place) entries
 
 -- those to come are after the last
-rest_behind : (b : Place) (done rest : List Place) → Rising (after_place b) (done ++ rest) → AllByRecursion (λ p. IsBehind (last_place (Some b) done) p) rest
+rest_behind : (b : Place) (done rest : List Place) → Rising (after_place b) (done ++ rest) → AllByRecursion (λ p. IsAfterPlace (last_place (Some b) done) p) rest
 rest_behind b [] rest are = rising_before b rest are
 rest_behind b (d ∷ done) rest are = rest_behind d done rest are.1
 
 -- and those that were taken aren't
-done_not_behind : (b : Place) (done rest : List Place) → Rising (after_place b) (done ++ rest) → AllByRecursion (λ p. IsBehind (last_place (Some b) done) p → ⊥) (b ∷ done)
+done_not_behind : (b : Place) (done rest : List Place) → Rising (after_place b) (done ++ rest) → AllByRecursion (λ p. IsAfterPlace (last_place (Some b) done) p → ⊥) (b ∷ done)
 done_not_behind b [] rest are = (not_before b, tt)
 done_not_behind b (d ∷ done) rest are =
     let all = done_not_behind d done rest are.1 in
     ((λ behind. all.0 (further (last_place (Some d) done) behind)), all)
   where
-    further : (last : Option Place) → IsBehind last b → IsBehind last d
+    further : (last : Option Place) → IsAfterPlace last b → IsAfterPlace last d
     further None behind = tt
     further (Some last) behind = before_more last b d behind (from_before b d are.0)
 
@@ -216,8 +216,8 @@ AreLater (r ∷ rest) = AllByRecursion (IsBefore r) rest
 
 -- the pages of an image that were taken in order, and those to come
 record AreSplit (done rest : List Place) : Type 0 where
-  pub behind : AllByRecursion (λ p. IsBehind (last_place None done) p) rest
-  pub taken : AllByRecursion (λ p. IsBehind (last_place None done) p → ⊥) done
+  pub behind : AllByRecursion (λ p. IsAfterPlace (last_place None done) p) rest
+  pub taken : AllByRecursion (λ p. IsAfterPlace (last_place None done) p → ⊥) done
   pub later : AreLater rest
 
 later_of : (a : Place) (done rest : List Place) → Rising a (done ++ rest) → AreLater rest
@@ -225,7 +225,7 @@ later_of a [] [] are = tt
 later_of a [] (r ∷ rest) are = rising_before r rest are.1
 later_of a (d ∷ done) rest are = later_of (after_place d) done rest are.1
 
-all_behind_none : (rest : List Place) → AllByRecursion (λ p. IsBehind None p) rest
+all_behind_none : (rest : List Place) → AllByRecursion (λ p. IsAfterPlace None p) rest
 all_behind_none [] = tt
 all_behind_none (r ∷ rest) = (tt, all_behind_none rest)
 
@@ -248,8 +248,8 @@ next_is_first h spaces entries rest at table lists all next = by rest refl (spli
     cursor : last_of None entries ≡ last_place None (map place_of_entry entries)
     cursor = last_is None entries
 
-    behind : IsBehind (last_place None (map place_of_entry entries)) at
-    behind = subst (λ (o : Option Place). IsBehind o at) cursor next.behind
+    behind : IsAfterPlace (last_place None (map place_of_entry entries)) at
+    behind = subst (λ (o : Option Place). IsAfterPlace o at) cursor next.behind
 
     there : In (map place_of_entry entries ++ rest) at
     there = subst (λ (l : List Place). In l at) (sym all) (listed_in spaces lists at next.listed)
@@ -257,14 +257,14 @@ next_is_first h spaces entries rest at table lists all next = by rest refl (spli
     by : (rs : List Place) → rest ≡ rs → AreSplit (map place_of_entry entries) rs → IsFirstOf rs at
     by [] e split =
         elim (in_append (map place_of_entry entries) [] at (subst (λ (l : List Place). In (map place_of_entry entries ++ l) at) e there)) [
-          | inl done ↦ absurd (all_in (λ p. IsBehind (last_place None (map place_of_entry entries)) p → ⊥) (map place_of_entry entries) at split.taken done behind)
+          | inl done ↦ absurd (all_in (λ p. IsAfterPlace (last_place None (map place_of_entry entries)) p → ⊥) (map place_of_entry entries) at split.taken done behind)
           | inr none ↦ absurd none
         ]
     by (r ∷ rs) e split =
         elim (in_append (map place_of_entry entries) (r ∷ rs) at (subst (λ (l : List Place). In (map place_of_entry entries ++ l) at) e there)) [
-          | inl done ↦ absurd (all_in (λ p. IsBehind (last_place None (map place_of_entry entries)) p → ⊥) (map place_of_entry entries) at split.taken done behind)
+          | inl done ↦ absurd (all_in (λ p. IsAfterPlace (last_place None (map place_of_entry entries)) p → ⊥) (map place_of_entry entries) at split.taken done behind)
           | inr (inl same) ↦ record { later = rs; is = ap (λ (p : Place). p ∷ rs) same }
-          | inr (inr later) ↦ absurd (next.first r (in_listed spaces lists r first) (subst (λ (o : Option Place). IsBehind o r) (sym cursor) split.behind.0)
+          | inr (inr later) ↦ absurd (next.first r (in_listed spaces lists r first) (subst (λ (o : Option Place). IsAfterPlace o r) (sym cursor) split.behind.0)
               (all_in (IsBefore r) rs at split.later later))
         ]
       where
@@ -277,12 +277,12 @@ next_is_first h spaces entries rest at table lists all next = by rest refl (spli
 
 -- Where it lists none there, none is to come.
 pub none_is_over : (h : Header) (spaces : List Listed) (entries : List ImageEntry) (rest : List Place) → IsTable h spaces → Lists (entries_listed spaces) spaces
-    → map place_of_entry entries ++ rest ≡ listed_places spaces → ((page : Place) → IsListed spaces page → IsBehind (last_of None entries) page → ⊥) → rest ≡ []
+    → map place_of_entry entries ++ rest ≡ listed_places spaces → ((page : Place) → IsListed spaces page → IsAfterPlace (last_of None entries) page → ⊥) → rest ≡ []
 none_is_over h spaces entries [] table lists all none = refl
 none_is_over h spaces entries (r ∷ rs) table lists all none =
     let split = splits h spaces entries (r ∷ rs) table all in
     absurd (none r (in_listed spaces lists r (subst (λ (l : List Place). In l r) all (put_in (map place_of_entry entries))))
-    (subst (λ (o : Option Place). IsBehind o r) (sym (last_is None entries)) split.behind.0))
+    (subst (λ (o : Option Place). IsAfterPlace o r) (sym (last_is None entries)) split.behind.0))
   where
     put_in : (xs : List Place) → In (xs ++ r ∷ rs) r
     put_in [] = inl refl

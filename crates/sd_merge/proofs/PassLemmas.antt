@@ -8,7 +8,7 @@ use Rattle.sd_image.specs.Table.{IsTable}
 use Rattle.sd_chain.specs.declared.found.Found.{Found}
 use Rattle.sd_chain.specs.declared.found.Found.TheVariants as found
 use Rattle.sd_chain.specs.Catalog.{IsSoundCatalog, Opened, Places, images, place_of}
-use Rattle.sd_chain.specs.Passes.{IsBehind, IsNextPageOfImage}
+use Rattle.sd_chain.specs.Passes.{IsAfterPlace, IsNextPageOfImage}
 use Rattle.sd_chain.specs.Ways.{AreImages, LiesAt, LiesBySerial}
 use Rattle.sd_merge.proofs.LeftLemmas.{within_list}
 use Rattle.sd_merge.proofs.MergingLemmas.{no_zero, offsets}
@@ -47,13 +47,13 @@ numbered few places sound are serial page slot offset lies =
 -- ---- the next page
 
 -- a page that is next is after the last
-next_behind : (places : Places) (serial : ℕ) (after : Option Place) (at : Place) → IsNextPageOfImage places serial after (Some at) → IsBehind after at
+next_behind : (places : Places) (serial : ℕ) (after : Option Place) (at : Place) → IsNextPageOfImage places serial after (Some at) → IsAfterPlace after at
 next_behind places serial after at next = by (place_of places serial) refl
   where
     some_none : true ≡ false → ⊥
     some_none e = cc
 
-    by : (there : Option (Option Opened)) → place_of places serial ≡ there → IsBehind after at
+    by : (there : Option (Option Opened)) → place_of places serial ≡ there → IsAfterPlace after at
     by (Some (Some i)) e = (next.0 i e).behind
     by (Some None) e = absurd (some_none (next.1 (λ i f. absurd (let g : ◌≡◌ {A = Option (Option Opened)} (Some None) (Some (Some i)) = sym e ∙ f in cc))))
     by None e = absurd (some_none (next.1 (λ i f. absurd (let g : ◌≡◌ {A = Option (Option Opened)} None (Some (Some i)) = sym e ∙ f in cc))))
@@ -99,7 +99,7 @@ lost_ahead places old at stage free next none = record {
 }
 
 pub lost_behind : (places : Places) (old : Copying) (at : Place) (tested : Bool) → old.stage ≡ PassStage → old.taking ≡ None
-    → (AreImages places → IsNextPageOfImage places old.order.source.serial (cursor old) (Some at)) → (IsBehind (cursor old) at → IsTrue tested) → tested ≡ false → IsLost places old
+    → (AreImages places → IsNextPageOfImage places old.order.source.serial (cursor old) (Some at)) → (IsAfterPlace (cursor old) at → IsTrue tested) → tested ≡ false → IsLost places old
 lost_behind places old at tested stage free next test off = grind arith
 
 pub lost_chain : (places : Places) (old : Copying) (at : Place) → old.stage ≡ PassStage → old.taking ≡ None

@@ -16,7 +16,7 @@ use Rattle.sd_image.specs.declared.run.RunKind.TheVariants.{Data}
 use Rattle.sd_image.specs.Table.{AreRuns, AreSpaces, Covers, IsSpace, Listed, is_run_after, mapped_count, run_pages}
 use Rattle.sd_rounds.specs.Made.{Lists, entries_listed, run_entries}
 use Rattle.sd_rounds.specs.Pass.{ImageEntry, Place, place_of_entry}
-use Rattle.sd_merge.specs.Gathered.{AreGathered, IsGathered, IsTableOf, RepeatsTable, front_runs, own_areas, spaces_behind, tables_of}
+use Rattle.sd_merge.specs.Gathered.{AreGathered, IsGathered, IsTableOf, RepeatsTable, front_runs, own_areas, spaces_after, tables_of}
 use Rattle.sd_image.proofs.PageBytes.{counted_spaces as pages_counted}
 use Rattle.sd_merge.proofs.GatheredLemmas.{table_entries}
 
@@ -244,11 +244,11 @@ joined old h before least (s ∷ source) (t ∷ taken) other kind parent are gat
 
 same_areas : (source taken : List Listed) → map own_areas (tables_of source taken) ≡ map own_areas source
 same_areas [] taken = refl
-same_areas (s ∷ source) taken = ap (λ (l : List (ℕ × List Area)). (s.space, s.areas) ∷ l) (same_areas source (spaces_behind s.space taken))
+same_areas (s ∷ source) taken = ap (λ (l : List (ℕ × List Area)). (s.space, s.areas) ∷ l) (same_areas source (spaces_after s.space taken))
 
 same_length : (source taken : List Listed) → length (tables_of source taken) ≡ length source
 same_length [] taken = refl
-same_length (s ∷ source) taken = ap (λ n. suc n) (same_length source (spaces_behind s.space taken))
+same_length (s ∷ source) taken = ap (λ n. suc n) (same_length source (spaces_after s.space taken))
 
 abbrev areas_count : Listed → ℕ
 areas_count s = sum_by (λ (a : Area). a.count) s.areas
@@ -256,8 +256,8 @@ areas_count s = sum_by (λ (a : Area). a.count) s.areas
 same_mapped : (source taken : List Listed) → mapped_count (tables_of source taken) ≡ mapped_count source
 same_mapped [] taken = refl
 same_mapped (s ∷ source) taken =
-    sum_by-cons areas_count (record { space = s.space; areas = s.areas; runs = front_runs s.space taken }) (tables_of source (spaces_behind s.space taken))
-    ∙ ap (λ n. areas_count s + n) (same_mapped source (spaces_behind s.space taken))
+    sum_by-cons areas_count (record { space = s.space; areas = s.areas; runs = front_runs s.space taken }) (tables_of source (spaces_after s.space taken))
+    ∙ ap (λ n. areas_count s + n) (same_mapped source (spaces_after s.space taken))
     ∙ sym (sum_by-cons areas_count s source)
 
 pub table_of : (source taken tables : List Listed) → ((l : List Listed) → Lists (entries_listed l) l) → AreGathered 0 taken → tables ≡ tables_of source taken

@@ -13,7 +13,7 @@ use Rattle.sd_image.specs.Table.{Listed, table_text}
 use Rattle.sd_chain.specs.declared.found.Found.{Found}
 use Rattle.sd_chain.specs.declared.found.Found.TheVariants as found
 use Rattle.sd_chain.specs.Catalog.{Opened, Places, place_of}
-use Rattle.sd_chain.specs.Passes.{IsBehind, IsNextPageOfImage}
+use Rattle.sd_chain.specs.Passes.{IsAfterPlace, IsNextPageOfImage}
 use Rattle.sd_chain.specs.Ways.{AreImages, LiesBySerial}
 use Rattle.sd_gate.specs.declared.call.Call.TheVariants.{Read, Write}
 use Rattle.sd_gate.specs.declared.request_id.RequestId.{RequestId}
@@ -295,14 +295,14 @@ pub record HasReadOut (plan : Planned) : Type 0 where
   pub fresh : plan.found ≡ nothing_back
 
 -- a page that is being taken is after the others
-abbrev pub TakesPageBehind : List ImageEntry → Option Place → Type 0
-TakesPageBehind entries None = ⊥
-TakesPageBehind entries (Some at) = IsBehind (last_of None entries) at
+abbrev pub TakesPageAfter : List ImageEntry → Option Place → Type 0
+TakesPageAfter entries None = ⊥
+TakesPageAfter entries (Some at) = IsAfterPlace (last_of None entries) at
 
 -- a page was read, or none is being taken
 abbrev pub IsFreeOrRead : List ImageEntry → Option Place → Option (List ℕ) → Type 0
 IsFreeOrRead entries None read = read ≡ None
-IsFreeOrRead entries (Some at) read = IsBehind (last_of None entries) at × IsSome read
+IsFreeOrRead entries (Some at) read = IsAfterPlace (last_of None entries) at × IsSome read
 
 -- no page is being taken
 pub record TakesNoPage (page : Option Place) (bytes : Option (List ℕ)) : Type 0 where
@@ -312,7 +312,7 @@ pub record TakesNoPage (page : Option Place) (bytes : Option (List ℕ)) : Type 
 abbrev pub IsReadyFor : List ImageEntry → Option Place → Option (List ℕ) → Stage → Type 0
 IsReadyFor entries taking read (Format plan) = (entries ≡ []) × TakesNoPage taking read × IsUnderWay plan
 IsReadyFor entries taking read PassStage = IsFreeOrRead entries taking read
-IsReadyFor entries taking read (PageRead plan) = TakesPageBehind entries taking × (read ≡ None) × HasReadOut plan
+IsReadyFor entries taking read (PageRead plan) = TakesPageAfter entries taking × (read ≡ None) × HasReadOut plan
 IsReadyFor entries taking read (PageWrite plan) = TakesNoPage taking read × IsUnderWay plan
 IsReadyFor entries taking read (Close plan header tables) =
     TakesNoPage taking read × (header.pages ≡ data_pages entries) × IsUnderWay plan

@@ -14,7 +14,7 @@ use Rattle.sd_rounds.specs.Files.{file_of}
 use Rattle.sd_rounds.specs.MakingLaws.{Pages, image_of}
 use Rattle.sd_rounds.specs.Pass.{ImageEntry, data_pages}
 use Rattle.sd_store_laws.specs.Makers.{IsMergedOf}
-use Rattle.sd_store_laws.specs.Store.{IsTwin}
+use Rattle.sd_store_laws.specs.Store.{IsMergedCopy}
 use Rattle.sd_merge.specs.declared.copy_order.CopyOrder.{CopyOrder}
 use Rattle.sd_merge.specs.declared.copy_progress.CopyProgress.TheVariants as progress
 use Rattle.sd_merge.specs.declared.merge_step.MergeStep.TheVariants as step
@@ -81,10 +81,10 @@ pub record FileLaws : Type 0 where
       → FilesCopy source pages copy → KeepsCopy catalog source pages copy → HasItsNumbers copy.order source
       → SerialsDiffer catalog → HaveTables catalog → Contains catalog source
       → IsMergedOf catalog source (image_of header pages tables)
-  -- with a serial above all others it is the twin of the merge that runs
+  -- with a serial above all others it is the copy of the merge that runs
   pub twin : (catalog : List Image) (source : Image) (pages : Pages) (copy : Copying) (plan : Planned) (header : Header)
       (tables : List Listed) → copy.stage ≡ Close plan header tables
       → FilesCopy source pages copy → KeepsCopy catalog source pages copy → HasItsNumbers copy.order source
       → SerialsDiffer catalog → HaveTables catalog → Contains catalog source
       → AreItsNumbers copy.order → ((j : Image) → Contains catalog j → j.header.serial < copy.order.serial)
-      → IsTwin catalog (Some source) (image_of header pages tables)
+      → IsMergedCopy catalog (Some source) (image_of header pages tables)

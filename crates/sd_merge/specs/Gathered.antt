@@ -26,15 +26,15 @@ AreGathered least [] = Unit {0}
 AreGathered least (t ∷ tables) = IsGathered least t × AreGathered (t.space + 1) tables
 
 -- they end after a page, or there is none
-abbrev pub EndBehind : Option Place → List Listed → Type 0
-EndBehind None tables = tables ≡ []
-EndBehind (Some at) tables = EndBefore (at.0, at.1 + 1) tables
+abbrev pub EndAfter : Option Place → List Listed → Type 0
+EndAfter None tables = tables ≡ []
+EndAfter (Some at) tables = EndBefore (at.0, at.1 + 1) tables
 
 -- what holds of the pages that were taken, with the last of them
 pub record AreCopies (spaces : List SpaceTable) (last : Option Place) : Type 0 where
   pub gathered : AreGathered 0 (listed spaces)
   pub is_last : last ≡ last_of None (entries_in spaces)
-  pub ends : EndBehind last (listed spaces)
+  pub ends : EndAfter last (listed spaces)
 
 -- a page was put after the others
 pub record IsPut (old new : List Listed) (at : Place) (kind : RunKind) : Type 0 where
@@ -58,16 +58,16 @@ front_runs space [] = []
 front_runs space (t ∷ tables) = if t.space == space then t.runs else []
 
 -- the spaces after it
-abbrev pub spaces_behind : ℕ → List Listed → List Listed
-spaces_behind space [] = []
-spaces_behind space (t ∷ tables) = if t.space == space then tables else t ∷ tables
+abbrev pub spaces_after : ℕ → List Listed → List Listed
+spaces_after space [] = []
+spaces_after space (t ∷ tables) = if t.space == space then tables else t ∷ tables
 
 -- the spaces and areas of a source, each with the runs that were taken of it
 abbrev pub tables_of : List Listed → List Listed → List Listed
 tables_of [] taken = []
 tables_of (s ∷ source) taken =
     (record { space = s.space; areas = s.areas; runs = front_runs s.space taken }) ∷ tables_of source
-    (spaces_behind s.space taken)
+    (spaces_after s.space taken)
 
 abbrev pub own_areas : Listed → ℕ × List Area
 own_areas s = (s.space, s.areas)

@@ -157,16 +157,16 @@ Loses places None = ⊥
 Loses places (Some running) = LosesPage places running.doing
 
 -- the slot of the merged image, where the next step begins it
-abbrev pub slot_due : Running → Doing → Option ℕ
-slot_due running due = Some running.slot
-slot_due running (copying copy) = None
-slot_due running (opened serial) = None
-slot_due running (retiring r) = None
+abbrev pub slot_to_begin : Running → Doing → Option ℕ
+slot_to_begin running due = Some running.slot
+slot_to_begin running (copying copy) = None
+slot_to_begin running (opened serial) = None
+slot_to_begin running (retiring r) = None
 
 -- the slot of the merged image, where the merge hasn't begun it
 abbrev pub slot_before : Option Running → Option ℕ
 slot_before None = None
-slot_before (Some running) = slot_due running running.doing
+slot_before (Some running) = slot_to_begin running running.doing
 
 -- ---- Outcomes
 

@@ -9,7 +9,7 @@ use Rattle.sd_image.specs.Laws.{SerialsDiffer}
 use Rattle.sd_image.specs.Shows.{Holds, IsRestorable}
 use Rattle.sd_image.specs.Table.{IsTable, Listed}
 use Rattle.sd_chain.specs.Catalog.{IsSoundCatalog, Opened, Places, images, place_of}
-use Rattle.sd_chain.specs.Tells.{Agrees, HaveDataPages, IsToldAs}
+use Rattle.sd_chain.specs.Recorded.{Agrees, HaveDataPages, IsRecordedAs}
 use Rattle.sd_chain.specs.Ways.{AreImages}
 use Rattle.sd_gate.specs.declared.call.Call.TheVariants.{Read}
 use Rattle.sd_gate.specs.Requests.{Asked, Made}
@@ -94,7 +94,7 @@ pub record IsSourceAt (places : Places) (catalog : List Image) (serial : ℕ) (s
   pub there : place_of places serial ≡ Some (Some opened)
   pub among : Contains (images places) opened
   pub member : Contains catalog source
-  pub told : IsToldAs opened source
+  pub told : IsRecordedAs opened source
 
 -- A read of a data page of an image of the catalog, which the source reaches: the page's bytes are those that the
 -- source holds at the page that is being taken.
@@ -106,7 +106,7 @@ pub record IsReadOf (places : Places) (catalog : List Image) (source : Image) (r
   pub image : Image
   pub among : Contains (images places) opened
   pub member : Contains catalog image
-  pub told : IsToldAs opened image
+  pub told : IsRecordedAs opened image
   pub slot : opened.slot ≡ request.id.slot
   pub reached : Reaches catalog image source
   pub place : ℕ
@@ -116,13 +116,13 @@ pub record IsReadOf (places : Places) (catalog : List Image) (source : Image) (r
   pub holds : Holds catalog at.0 at.1 bytes source
 
 -- an outcome that is done of a read brings what the source holds at the page that is being taken
-abbrev pub TellsIn : Stage → List Image → Image → Option Place → Made → Type 0
-TellsIn (Format plan) catalog source taking made = Unit {0}
-TellsIn PassStage catalog source taking made = Unit {0}
-TellsIn (PageRead plan) catalog source taking made = (at : Place) → taking ≡ Some at
+abbrev pub ReadsSource : Stage → List Image → Image → Option Place → Made → Type 0
+ReadsSource (Format plan) catalog source taking made = Unit {0}
+ReadsSource PassStage catalog source taking made = Unit {0}
+ReadsSource (PageRead plan) catalog source taking made = (at : Place) → taking ≡ Some at
     → (length made.request.bytes ≡ 4096) × Holds catalog at.0 at.1 made.request.bytes source
-TellsIn (PageWrite plan) catalog source taking made = Unit {0}
-TellsIn (Close plan header tables) catalog source taking made = Unit {0}
+ReadsSource (PageWrite plan) catalog source taking made = Unit {0}
+ReadsSource (Close plan header tables) catalog source taking made = Unit {0}
 
 -- what holds of every merged image in the making, in its stage
 abbrev pub IsSoundCopy : Copying → Type 0
@@ -144,7 +144,7 @@ pub record MergeLaws : Type 0 where
       → IsReadOf places catalog source request new.taking
   pub hands : (catalog : List Image) (source : Image) (pages : Pages) (old new : Copying) (made : Made)
       → HandsIn old made progress.More new → IsSoundCopy old
-      → TellsIn old.stage catalog source old.taking made → KeepsCopy catalog source pages old
+      → ReadsSource old.stage catalog source old.taking made → KeepsCopy catalog source pages old
       → KeepsCopy catalog source pages new
   -- a step is never lost while the source is in the catalog and holds each of its pages
   pub finds : (places : Places) (catalog : List Image) (source : Image) (pages : Pages) (copy : Copying)
@@ -157,7 +157,7 @@ pub record MergeLaws : Type 0 where
       → ((space page : ℕ) (bytes : List ℕ) → Holds catalog space page bytes source
       → Holds other space page bytes source)
       → KeepsCopy catalog source pages copy → KeepsCopy other source pages copy
-  -- so where the catalog is cut to what is needed, if the source's parent number is called for
+  -- so where the catalog is cut to what is needed, if the source's parent number is referenced
   pub goes_on : (catalog adding left : List Image) (jobs : List ℕ) (source : Image) (pages : Pages) (copy : Copying)
       → SerialsDiffer catalog → IsCut catalog adding jobs left
       → ((added : Image) → Contains adding added → KeepsItsNumber catalog jobs added)

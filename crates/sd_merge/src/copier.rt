@@ -10,7 +10,7 @@ ghost use Rattle.sd_gate.specs.Calls.{is_done};
 ghost use Rattle.sd_gate.specs.Inspections.{nothing};
 ghost use Rattle.sd_gate.specs.Plans.{Gives, begun};
 ghost use Rattle.sd_gate.specs.Sequences.{data_place};
-ghost use Rattle.sd_chain.specs.Passes.{IsBehind, IsNextPageOfImage};
+ghost use Rattle.sd_chain.specs.Passes.{IsAfterPlace, IsNextPageOfImage};
 ghost use Rattle.sd_chain.specs.Ways.{AreImages};
 ghost use Rattle.sd_merge.specs.declared.stage.Stage.TheVariants.{Pass as PassStage};
 ghost use Rattle.sd_merge.specs.declared.work_error.WorkError.TheVariants.{Busy, Idle, Lost, OutOfMemory};
@@ -103,8 +103,8 @@ fn merged_header(order: CopyOrder, pages: u64, digester: Digester, text: &[u8]) 
 }
 
 /// Whether a page is after this one, or after none.
-fn is_behind(after: Option<(SpaceId, PageNo)>, space: SpaceId, page: PageNo) -> bool
-    ensures { IsTrue result ↔ IsBehind after (space, page) }
+fn is_after_entries(after: Option<(SpaceId, PageNo)>, space: SpaceId, page: PageNo) -> bool
+    ensures { IsTrue result ↔ IsAfterPlace after (space, page) }
 {
     let Some((last, number)) = after else {
         return true;
@@ -216,7 +216,7 @@ impl Copier {
         catalog.sound();
         let serial = self.order.source.serial;
         let last = self.copies.last();
-        if self.ahead == 0 || !is_behind(last, space, page) {
+        if self.ahead == 0 || !is_after_entries(last, space, page) {
             return Err(WorkError::Lost);
         }
         match catalog.resolve(serial, space, page) {
@@ -233,7 +233,7 @@ impl Copier {
         requires stage { self.old.stage ≡ PassStage }
         requires free { self.old.taking ≡ None }
         requires some { 0 < self.old.ahead }
-        requires behind { IsBehind (cursor self.old) (space, page) }
+        requires behind { IsAfterPlace (cursor self.old) (space, page) }
         ensures zero { IfOk result (λ step. IsZeroStep step × TakesZero (space, page) self.old self.new) }
         ensures errors { IfErr result (λ e. e ≡ OutOfMemory) }
         ensures err { OnErr result (self.new ≡ self.old) }
@@ -255,7 +255,7 @@ impl Copier {
         requires stage { self.old.stage ≡ PassStage }
         requires free { self.old.taking ≡ None }
         requires some { 0 < self.old.ahead }
-        requires behind { IsBehind (cursor self.old) (space, page) }
+        requires behind { IsAfterPlace (cursor self.old) (space, page) }
         ensures read { IfOk result (IsReadCallOf
             (λ request. ReadsPage (space, page) slot place self.old request self.new
             × IsAskedBy Merger ticket request)) }

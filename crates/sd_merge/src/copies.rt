@@ -2,7 +2,7 @@
 ghost use Rattle.std.specs.Prelude.{◌≡◌, ◌≢◌, ◌∷◌, ◌++◌, [], None, OnOk, OnErr, IfOk, map};
 ghost use Rattle.sd_image.specs.declared.run.RunKind.TheVariants.{Parent};
 ghost use Rattle.sd_image.specs.Table.{listing_of};
-ghost use Rattle.sd_chain.specs.Passes.{IsBehind};
+ghost use Rattle.sd_chain.specs.Passes.{IsAfterPlace};
 ghost use Rattle.sd_rounds.specs.Rises.{last_of};
 ghost use Rattle.sd_merge.specs.Gathered.{IsTableOf};
 
@@ -65,7 +65,7 @@ impl Copies {
         kind: RunKind,
     ) -> Result<(), AllocError>
         requires own { kind ≢ Parent }
-        requires behind { IsBehind (last_of None self.old) (space, page) }
+        requires behind { IsAfterPlace (last_of None self.old) (space, page) }
         ensures put { OnOk result (self.new
             ≡ self.old ++ (record { place = (space, page); kind = kind }) ∷ []) }
         ensures err { OnErr result (self.new ≡ self.old) }

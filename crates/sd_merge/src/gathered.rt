@@ -2,7 +2,7 @@
 ghost use Rattle.std.specs.Prelude.{◌≡◌, ◌≢◌, OnOk, OnErr, IfOk};
 ghost use Rattle.sd_image.specs.declared.run.RunKind.TheVariants.{Parent};
 ghost use Rattle.sd_rounds.specs.Tables.{EndBefore, listed};
-ghost use Rattle.sd_merge.specs.Gathered.{AreGathered, IsPut, SpaceIsBegun, front_runs, spaces_behind, tables_of};
+ghost use Rattle.sd_merge.specs.Gathered.{AreGathered, IsPut, SpaceIsBegun, front_runs, spaces_after, tables_of};
 
 use sd_areas::{PageNo, SpaceId};
 use sd_image::{Run, RunKind, SpaceTable, Table, push_page};
@@ -63,7 +63,7 @@ fn begin_space(
 /// The runs of a space that may be the first of these, and the spaces after it.
 fn split_space(spaces: &[SpaceTable], space: SpaceId) -> (&[Run], &[SpaceTable])
     ensures runs { result.0.now ≡ front_runs space (listed spaces.now) }
-    ensures behind { listed result.1.now ≡ spaces_behind space (listed spaces.now) }
+    ensures behind { listed result.1.now ≡ spaces_after space (listed spaces.now) }
 {
     let Some((first, others)) = spaces.split_first() else {
         return (&[], spaces);

@@ -25,7 +25,7 @@ const FRAMES: usize = 65_536;
 /// Opens an empty store, and lets so many mutators store 1,000 numbers each into a page of their own, from 0x100000 on
 /// in space 1, and load each back. Meanwhile two checkpoints of two pre-dumps are made, the second beside a merge; and
 /// when all have ended, a third one without pre-dumps. Returns the disk, but where the journal doesn't account for what
-/// each was told, and what was done.
+/// each was answered, and what was done.
 ///
 /// # Errors
 ///
@@ -153,7 +153,7 @@ fn receipts_of(alloc: Global, mutators: Vec<Mutator>) -> Result<Vec<Receipt>, Al
     Ok(receipts)
 }
 
-/// What threads were told, and what they did.
+/// What threads were answered, and what they did.
 #[derive(Drop)]
 struct Told {
     receipts: Vec<Receipt>,
@@ -193,7 +193,7 @@ fn disk_alone<D>(core: Core, disk: D) -> D {
     disk
 }
 
-/// Compares the journal with what was told. Returns the disk, where it accounts for that.
+/// Compares the journal with what was said. Returns the disk, where it accounts for that.
 fn close<D: Disk + Drop>(shared: Shared<D>, told: &Told) -> Option<D> {
     match shared.close(&told.receipts, &told.acks) {
         Ok((core, disk)) => Some(disk_alone(core, disk)),

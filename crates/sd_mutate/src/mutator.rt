@@ -17,7 +17,7 @@ use std::sync::Wait;
 /// The first address of the first mutator's page.
 const FIRST: u64 = 0x10_0000;
 
-/// A seat, its page, and what it was told.
+/// A seat, its page, and what it was answered.
 #[derive(Drop)]
 pub(crate) struct Mutator {
     alloc: Global,

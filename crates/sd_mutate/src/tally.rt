@@ -17,7 +17,7 @@ pub struct Tally {
     pub acked: u64,
     /// Why a checkpoint or a mutator ended early, if one did.
     pub refused: Option<Refusal>,
-    /// Whether the journal accounts for what each was told.
+    /// Whether the journal accounts for what each was answered.
     pub closes: bool,
 }
 

@@ -11,7 +11,7 @@ use Rattle.sd_image.specs.Image.{gate, is_open}
 use Rattle.sd_image.specs.Reading.{header_in}
 use Rattle.sd_gate.specs.declared.phase.Phase.{Phase}
 use Rattle.sd_gate.specs.declared.phase.Phase.TheVariants.{Raw, Whole, Shut}
-use Rattle.sd_gate.specs.Laws.{found_phase, phase_found, phase_told}
+use Rattle.sd_gate.specs.Laws.{found_phase, phase_found, phase_looked_up}
 use Rattle.sd_gate.specs.Looks.{HasNoHeader, IsFound, front_of_file, table_of_file, ReadsHeader as LooksHeader}
 use Rattle.sd_gate.specs.Plans.{Back}
 use Rattle.sd_restore.specs.Faulty.{IsFaulty}
@@ -72,21 +72,21 @@ module _ (file : List ℕ) (found : Back) (is : IsFound file found) (whole : IsW
       → HasNoHeader file why
   its_reason first len why told_first told_len header = grind arith
 
--- the phase that is told is the file's
+-- the phase that is said is the file's
 pub phase_is : (file : List ℕ) (found : Back) (phase : Phase) → IsFound file found → phase_found found.len found.first ≡ Some phase → phase ≡ found_phase file
 phase_is file found phase is told = elim (cases_lt (length file) 4096) [
   | inl short ↦ short_phase found.first (subst (λ len. phase_found len found.first ≡ Some phase) is.len told) short
   | inr long ↦
       let now : phase_found (Some (length file)) (Some (front_of_file file)) ≡ Some phase =
       subst (λ first. phase_found (Some (length file)) first ≡ Some phase) (is.first long) (subst (λ len. phase_found len found.first ≡ Some phase) is.len told) in
-      same_Some phase (phase_told (length file) (front_of_file file)) (sym now) ∙ told_long long
+      same_Some phase (phase_looked_up (length file) (front_of_file file)) (sym now) ∙ told_long long
 ]
   where
     short_phase : (first : Option (List ℕ)) → phase_found (Some (length file)) first ≡ Some phase → length file < 4096 → phase ≡ found_phase file
     short_phase None now short = same_Some phase Raw (sym now ∙ ap (λ b. if b then Some Raw else None) (lt-ltb (length file) 4096 short)) ∙ sym (found_raw file short)
     short_phase (Some bytes) now short = same_Some phase Raw (sym now ∙ ap (λ b. Some (if b then Raw else (if slice_index bytes 0 == gate then Whole else Shut))) (lt-ltb (length file) 4096 short)) ∙ sym (found_raw file short)
 
-    told_long : 4096 ≤ length file → phase_told (length file) (front_of_file file) ≡ found_phase file
+    told_long : 4096 ≤ length file → phase_looked_up (length file) (front_of_file file) ≡ found_phase file
     told_long long = ap (λ byte. if nat_lt (length file) 4096 then Raw else (if byte == gate then Whole else Shut)) (first_gate file long)
 
 -- a header that is none breaks the file

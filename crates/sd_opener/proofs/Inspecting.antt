@@ -14,7 +14,7 @@ use Rattle.sd_gate.specs.declared.call.Call.TheVariants.{Len, Read, Sync}
 use Rattle.sd_gate.specs.declared.settled.Settled.TheVariants.{More, Finished}
 use Rattle.sd_gate.specs.Calls.{IsAnswerTo, buffer_back, is_done}
 use Rattle.sd_gate.specs.Inspections.{Awaits, Following, after_first, after_length, calls_then, nothing, table_read, the_header, the_length}
-use Rattle.sd_gate.specs.Plans.{Back, Planned, begun, calls_after, first_back, found_after, length_told, plan_after, second_back, settled}
+use Rattle.sd_gate.specs.Plans.{Back, Planned, begun, calls_after, first_back, found_after, length_looked_up, plan_after, second_back, settled}
 use Rattle.sd_gate.specs.Requests.{Made}
 use Rattle.sd_gate.specs.Sequences.{Calls, first_looks, table_place}
 use Rattle.sd_opener.specs.Looking.{HasCome, HasFirst, IsDoneAsAsked, IsInspecting, calls_ahead}
@@ -58,7 +58,7 @@ length_ends found n first none = grind arith
 
 -- the header was read
 
-len_some : (before : Option ℕ) (len : ℕ) (answer : Answer) → before ≡ Some len → IsSome (length_told before answer)
+len_some : (before : Option ℕ) (len : ℕ) (answer : Answer) → before ≡ Some len → IsSome (length_looked_up before answer)
 len_some before len answer is = grind arith
 
 abbrev header_read : Bool → List ℕ → ℕ → Following

@@ -20,7 +20,7 @@ use Rattle.sd_restore.specs.Scanned.{IsScanned}
 use Rattle.sd_opener.specs.declared.stage.Stage.{Stage}
 use Rattle.sd_opener.specs.declared.stage.Stage.TheVariants.{Asking}
 use Rattle.sd_opener.specs.Looking.{IsStageOf, Looking, out_of_look}
-use Rattle.sd_opener.specs.Sees.{IsNoStore, IsOpenStage, IsToldOf, Sees, SeesSlot}
+use Rattle.sd_opener.specs.Sees.{IsNoStore, IsOpenStage, IsLookOf, Sees, SeesSlot}
 
 -- ---- one slot more
 
@@ -62,8 +62,8 @@ passes finds files request old new phase sees is =
 
 -- ---- outcomes
 
--- an outcome that told the file as it is goes to the plan
-pub goes_on : InspectionFinds → (slot : ℕ) (file : List ℕ) (plan : Planned) (request : Asked) (made : Made) → LooksAt slot file (Some request) plan → IsToldOf file request made
+-- an outcome that gave the file as it is goes to the plan
+pub goes_on : InspectionFinds → (slot : ℕ) (file : List ℕ) (plan : Planned) (request : Asked) (made : Made) → LooksAt slot file (Some request) plan → IsLookOf file request made
     → (plan.out ≡ Some made.request.id) × LooksAt slot file None (plan_after plan made)
 goes_on finds slot file plan request made looks is = (
   ap (λ (p : Planned). p.out) looks.2 ∙ ap Some (sym is.id),
@@ -90,11 +90,11 @@ faulty_is_no_store good files slot reason faulty images store = grind arith
 
 -- ---- an outcome, whatever follows
 
--- what the opener knows of the slot that an outcome tells of
+-- what the opener knows of the slot that an outcome says of
 module _ (finds : InspectionFinds) (files : List (List ℕ)) (request : Asked) (old : Looking) (plan new : Planned) (made : Made) (ended : Settled)
     (asking : old.stage ≡ Asking plan)
     (settles : plan.out ≡ Some made.request.id → (new ≡ plan_after plan made) × (ended ≡ settled (is_done made.answer) (calls_after plan made).0))
-    (sees : Sees files (Some request) old) (is : IsToldOf (file_at files (length old.told)) request made) where
+    (sees : Sees files (Some request) old) (is : IsLookOf (file_at files (length old.told)) request made) where
   abbrev file : List ℕ
   file = file_at files (length old.told)
 

@@ -13,7 +13,7 @@ slot_left (Asking plan) = steps_left plan + 1
 slot_left (Read header table) = 1
 slot_left (Broken reason) = 1
 
--- each slot after it has four calls at most, and the last step tells that all were read
+-- each slot after it has four calls at most, and the last step says that all were read
 abbrev pub slots_left : ℕ → Stage → ℕ
 slots_left zero stage = 1
 slots_left (suc others) stage = 9 * others + slot_left stage + 1

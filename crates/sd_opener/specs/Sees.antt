@@ -11,7 +11,7 @@ use Rattle.sd_chain.specs.Store.{IsCatalogOf}
 use Rattle.sd_gate.specs.declared.phase.Phase.TheVariants.{Whole}
 use Rattle.sd_gate.specs.Calls.{is_done}
 use Rattle.sd_gate.specs.Laws.{found_phase}
-use Rattle.sd_gate.specs.Looks.{HasNoHeader, IsTold, LooksAt}
+use Rattle.sd_gate.specs.Looks.{HasNoHeader, IsLookedUpAs, LooksAt}
 use Rattle.sd_gate.specs.Plans.{Back}
 use Rattle.sd_gate.specs.Requests.{Asked, Made}
 use Rattle.sd_restore.specs.Reading.{AreRightlyDigested, HasHeader, table_bytes}
@@ -79,12 +79,12 @@ StepNames P Decoded = Unit {0}
 StepNames P (Damaged slot reason) = P slot reason
 StepNames P AllRead = Unit {0}
 
--- an outcome of this request told its slot's file as it is
-pub record IsToldOf (file : List ℕ) (request : Asked) (made : Made) : Type 0 where
+-- an outcome of this request gave its slot's file as it is
+pub record IsLookOf (file : List ℕ) (request : Asked) (made : Made) : Type 0 where
   pub id : made.request.id ≡ request.id
   pub bytes : length made.request.bytes ≡ length request.bytes
   pub done : is_done made.answer ≡ true
-  pub told : IsTold file made
+  pub told : IsLookedUpAs file made
 
 -- what was read in the end
 pub record StoreIsRead (files : List (List ℕ)) (opened : Opened) : Type 0 where

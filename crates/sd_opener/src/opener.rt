@@ -15,7 +15,7 @@ ghost use Rattle.sd_opener.specs.declared.opener_progress.OpenerProgress.TheVari
 ghost use Rattle.sd_opener.specs.declared.opener_progress.OpenerProgress.TheVariants.{More as GoesOn};
 ghost use Rattle.sd_opener.specs.Left.{LowersByStep, LowersLooking, looking_left, slot_left};
 ghost use Rattle.sd_opener.specs.Looking.{IsDoneAsAsked, Looking, LooksFurther, StepMoves, out_of_look};
-ghost use Rattle.sd_opener.specs.Sees.{IsNoStore, IsToldOf, Sees, SeesAfter, StepNames, StoreIsRead};
+ghost use Rattle.sd_opener.specs.Sees.{IsNoStore, IsLookOf, Sees, SeesAfter, StepNames, StoreIsRead};
 
 use crate::open_error::OpenError;
 use crate::opened::Opened;
@@ -176,9 +176,9 @@ impl Opener {
             → is_done outcome.answer ≡ false → result ≡ HasFailed }
         ensures goes_on { out_of_look self.old.stage ≡ Some outcome.request.id → IsDoneAsAsked outcome
             → result ≡ GoesOn }
-        // Where it told the file as it is, the opener goes on.
+        // Where it gave the file as it is, the opener goes on.
         ensures sees { (files : List (List ℕ)) (request : Asked)
-            → IsToldOf (file_at files (length self.old.told)) request outcome
+            → IsLookOf (file_at files (length self.old.told)) request outcome
             → Sees files (Some request) self.old → (result ≡ GoesOn) × Sees files None self.new }
         ensures moves { LooksFurther self.old self.new }
         ensures lowers { out_of_look self.old.stage ≡ Some outcome.request.id → result ≡ GoesOn

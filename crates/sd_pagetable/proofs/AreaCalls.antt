@@ -20,11 +20,11 @@ use Rattle.sd_pagetable.specs.declared.memory_refusal.MemoryRefusal.TheVariants.
 use Rattle.sd_pagetable.specs.Nested.{Table, inside, is_alive, set_within}
 use Rattle.sd_pagetable.specs.Page.{PageState, fresh_page}
 use Rattle.sd_pagetable.specs.Contents.{Contents, page_count, plain_of}
-use Rattle.sd_pagetable.specs.Due.{Answers, area_due, in_space, or_else, mmap_due}
+use Rattle.sd_pagetable.specs.RefusalOrder.{Answers, area_refusal, in_space, or_else, mmap_refusal}
 use Rattle.sd_pagetable.specs.Kept.{prots_of, HasAreas}
-use Rattle.sd_pagetable.specs.RangeCalls.{Refuses, HasPut, HasSame, pages_due}
+use Rattle.sd_pagetable.specs.RangeCalls.{Refuses, HasPut, HasSame, pages_refusal}
 use Rattle.sd_pagetable.specs.Tracking.{with_space}
-use Rattle.sd_pagetable.proofs.RangeDue.{mmap_seen}
+use Rattle.sd_pagetable.proofs.RangeRefusals.{mmap_seen}
 
 -- ---- areas that were changed where they stand
 turned : (a b : ℕ) → is_at (nat_cmp a) b ≡ nat_eq b a
@@ -60,19 +60,19 @@ dead_due c s due dead = cond-false _ _ _ dead
 -- ---- refusals
 
 -- over 65,536 pages, and perhaps over 1,024 areas
-pub refused_by_pages : (pages : PageMap) (after : Contents) → 65536 < page_count after.spaces → or_else (area_due (within_areas pages)) (pages_due after) ≡ Some (Refused NoMemory)
+pub refused_by_pages : (pages : PageMap) (after : Contents) → 65536 < page_count after.spaces → or_else (area_refusal (within_areas pages)) (pages_refusal after) ≡ Some (Refused NoMemory)
 unfolding within_areas
 refused_by_pages pages after many = by_limit (nat_lt 1024 (length (areas_of pages)))
   where
-    by_limit : (b : Bool) → or_else (area_due (cond b (Err Enomem) (Ok pages))) (pages_due after) ≡ Some (Refused NoMemory)
+    by_limit : (b : Bool) → or_else (area_refusal (cond b (Err Enomem) (Ok pages))) (pages_refusal after) ≡ Some (Refused NoMemory)
     by_limit true = refl
     by_limit false = cond-true _ _ _ (lt-ltb _ _ many)
 
-pub nothing_over : (r : Result PageMap Errno) (own : PageMap) (after : Contents) → r ≡ Ok own → page_count after.spaces ≤ 65536 → or_else (area_due r) (pages_due after) ≡ None
-nothing_over r own after is few = ap (λ x. or_else (area_due x) (pages_due after)) is ∙ cond-false _ _ _ (le-ltb _ _ few)
+pub nothing_over : (r : Result PageMap Errno) (own : PageMap) (after : Contents) → r ≡ Ok own → page_count after.spaces ≤ 65536 → or_else (area_refusal r) (pages_refusal after) ≡ None
+nothing_over r own after is few = ap (λ x. or_else (area_refusal x) (pages_refusal after)) is ∙ cond-false _ _ _ (le-ltb _ _ few)
 
 pub pages_refused : (e : MemoryError) (pages : PageMap) (r : Result PageMap Errno) (after : Contents) → r ≡ within_areas pages → (e ≡ OutOfMemory) ⊎ (e ≡ DeniedError (Refused NoMemory))
-    → (e ≡ DeniedError (Refused NoMemory) → 65536 < page_count after.spaces) → Refuses e (or_else (area_due r) (pages_due after))
+    → (e ≡ DeniedError (Refused NoMemory) → 65536 < page_count after.spaces) → Refuses e (or_else (area_refusal r) (pages_refusal after))
 pages_refused e pages r after is given many = grind (arith, refused_by_pages)
 
 -- what `map_err` leaves at `Ok`
@@ -88,11 +88,11 @@ pub by_result : {A E : Type 0} (P Q S : Type 0) (r : Result A E) → OnOk r P �
 by_result P Q S (Ok x) p q f g = f p
 by_result P Q S (Err e) p q f g = g q
 
--- ---- what `mmap` is due
+-- ---- which refusal of `mmap` applies
 pub answers_by : {T : Type 0} (due : Option AccessError) (r : Result T MemoryError) → OnOk r (due ≡ None) → IfErr r (λ e. Refuses e due) → Answers due r
 answers_by due r none refused = grind arith
 
 pub mmap_due_is : (c : Contents) (s address bytes : ℕ) (prot : Prot) (own : PageMap) → is_alive c.spaces s ≡ true → own ≡ prots_of (inside c.spaces s)
-    → mmap_due (plain_of c) s address bytes prot
-    ≡ or_else (area_due (map_result own address bytes prot)) (pages_due (with_space c s (set_within (inside c.spaces s) (page_of address) (pages_for bytes) (fresh_page prot))))
+    → mmap_refusal (plain_of c) s address bytes prot
+    ≡ or_else (area_refusal (map_result own address bytes prot)) (pages_refusal (with_space c s (set_within (inside c.spaces s) (page_of address) (pages_for bytes) (fresh_page prot))))
 mmap_due_is c s address bytes prot own alive are = grind (arith, mmap_seen, cond-true)

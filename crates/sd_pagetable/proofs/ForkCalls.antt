@@ -19,7 +19,7 @@ use Rattle.sd_pagetable.specs.Contents.{Contents, plain_of, page_count, IsSound}
 use Rattle.sd_pagetable.specs.Effects.{after_exit, after_fork, IsLeastFree}
 use Rattle.sd_pagetable.specs.declared.access_error.AccessError.TheVariants.{Refused}
 use Rattle.sd_pagetable.specs.declared.memory_refusal.MemoryRefusal.TheVariants.{NoSuchSpace, LastSpace, TooManySpaces, Enomem}
-use Rattle.sd_pagetable.specs.Due.{exit_due, fork_due}
+use Rattle.sd_pagetable.specs.RefusalOrder.{exit_refusal, fork_refusal}
 use Rattle.sd_pagetable.specs.Kept.{HasAreas, prots_of}
 use Rattle.sd_pagetable.proofs.MemoryLemmas.{plain_alive}
 use Rattle.sd_pagetable.specs.Ranges.{bare_page}
@@ -235,11 +235,11 @@ is_free c number child is sound from upto free before =
     inner : (q : ℕ) → IsSome (cond (nat_eq q number) (Some finmap.empty) (finmap.get c.spaces q)) → is_within 1 16 q ≡ true
     inner q there = grind arith
 
--- ---- what is due
-pub exit_dead : (c : Contents) (s : ℕ) → is_alive c.spaces s ≡ false → exit_due (plain_of c) s ≡ Some (Refused NoSuchSpace)
+-- ---- which refusal applies
+pub exit_dead : (c : Contents) (s : ℕ) → is_alive c.spaces s ≡ false → exit_refusal (plain_of c) s ≡ Some (Refused NoSuchSpace)
 exit_dead c s dead = ap (λ b. cond b (cond (nat_eq (finmap.len (plain_of c)) 1) (Some (Refused LastSpace)) None) (Some (Refused NoSuchSpace))) (plain_alive c s ∙ dead)
 
-pub exit_alive : (c : Contents) (s : ℕ) (last : Bool) → is_alive c.spaces s ≡ true → nat_eq (finmap.len c.spaces) 1 ≡ last → exit_due (plain_of c) s ≡ cond last (Some (Refused LastSpace)) None
+pub exit_alive : (c : Contents) (s : ℕ) (last : Bool) → is_alive c.spaces s ≡ true → nat_eq (finmap.len c.spaces) 1 ≡ last → exit_refusal (plain_of c) s ≡ cond last (Some (Refused LastSpace)) None
 exit_alive c s last alive is = ap (λ b. cond b (cond (nat_eq (finmap.len (plain_of c)) 1) (Some (Refused LastSpace)) None) (Some (Refused NoSuchSpace))) (plain_alive c s ∙ alive)
     ∙ ap (λ b. cond b (Some (Refused LastSpace)) None) (ap (λ n. nat_eq n 1) (plain_len c) ∙ is)
 
@@ -249,14 +249,14 @@ is_one n e = grind (arith, nat_tests)
 pub is_not_one : (n : ℕ) → (n ≡ 1 → ⊥) → nat_eq n 1 ≡ false
 is_not_one n differs = grind (arith, nat_tests)
 
-pub fork_dead : (c : Contents) (s : ℕ) → is_alive c.spaces s ≡ false → fork_due (plain_of c) s ≡ Some (Refused NoSuchSpace)
+pub fork_dead : (c : Contents) (s : ℕ) → is_alive c.spaces s ≡ false → fork_refusal (plain_of c) s ≡ Some (Refused NoSuchSpace)
 fork_dead c s dead = ap (λ b. cond b (cond (nat_le 16 (finmap.len (plain_of c))) (Some (Refused TooManySpaces)) (cond (nat_lt 65536 (page_count (plain_of c) + finmap.len (inside (plain_of c) s))) (Some (Refused Enomem)) None)) (Some (Refused NoSuchSpace))) (plain_alive c s ∙ dead)
 
 inside_len : (c : Contents) (s : ℕ) → finmap.len (inside (plain_of c) s) ≡ finmap.len (inside c.spaces s)
 inside_len c s = len_total (inside (plain_of c) s) ∙ ap (total (λ _. 1)) (plain_inside c s) ∙ same_many plain_page (inside c.spaces s) ∙ sym (len_total (inside c.spaces s))
 
 pub fork_alive : (c : Contents) (s : ℕ) (full many : Bool) → is_alive c.spaces s ≡ true → nat_le 16 (finmap.len c.spaces) ≡ full → nat_lt 65536 (page_count c.spaces + finmap.len (inside c.spaces s)) ≡ many
-    → fork_due (plain_of c) s ≡ cond full (Some (Refused TooManySpaces)) (cond many (Some (Refused Enomem)) None)
+    → fork_refusal (plain_of c) s ≡ cond full (Some (Refused TooManySpaces)) (cond many (Some (Refused Enomem)) None)
 fork_alive c s full many alive is_full is_many = grind (arith, plain_alive, plain_len, plain_many, inside_len)
 
 pub is_sixteen : (n : ℕ) → 16 ≤ n → nat_le 16 n ≡ true

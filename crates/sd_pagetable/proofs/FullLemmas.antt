@@ -13,7 +13,7 @@ use Rattle.sd_frames.specs.Frames.{Pool, Cell, count_at, IsExhausted, HasFree, f
 use Rattle.sd_pagetable.specs.View.{page_of_entry, contents_of, IsKept}
 use Rattle.sd_pagetable.specs.Owning.{is_own, OwnsFrame}
 use Rattle.sd_pagetable.specs.Tracking.{MakesWritable}
-use Rattle.sd_pagetable.specs.Due.{frame_due, needs_frame}
+use Rattle.sd_pagetable.specs.RefusalOrder.{frame_refusal, needs_frame}
 use Rattle.sd_pagetable.proofs.NestedLemmas.{alive_at}
 use Rattle.sd_pagetable.proofs.TableLemmas.{some_of}
 use Rattle.sd_pagetable.proofs.ViewLemmas.{view_put, same_pool, entry_there}
@@ -61,18 +61,18 @@ module _ (pool : Pool) (tables : Nested Entry) (n : ℕ) (kept : IsKept pool tab
     there : page_at m s p ≡ Some (page_of_entry pool e)
     there = ap (λ (z : Contents). page_at z s p) (sym v) ∙ entry_there pool tables s p e h
 
-    due_is : frame_due m (page_at m s p) ≡ cond (not (is_own pool e.frame) && is_full m) (Some (Refused NoFrame)) None
-    due_is = ap (frame_due m) there ∙ ap (λ (z : Contents). cond (not (is_alone z (page_of_entry pool e)) && is_full m) (Some (Refused NoFrame)) None) (sym v) ∙ ap (λ b. cond (not b && is_full m) (Some (Refused NoFrame)) None) (sym (own_alone e.frame))
+    due_is : frame_refusal m (page_at m s p) ≡ cond (not (is_own pool e.frame) && is_full m) (Some (Refused NoFrame)) None
+    due_is = ap (frame_refusal m) there ∙ ap (λ (z : Contents). cond (not (is_alone z (page_of_entry pool e)) && is_full m) (Some (Refused NoFrame)) None) (sym v) ∙ ap (λ b. cond (not b && is_full m) (Some (Refused NoFrame)) None) (sym (own_alone e.frame))
 
     -- it needs a frame where its own is none or shared
     pub needs_is : is_own pool e.frame ≡ false → needs_frame m (page_at m s p) ≡ true
     needs_is own = ap (needs_frame m) there ∙ ap (λ (z : Contents). not (is_alone z (page_of_entry pool e))) (sym v) ∙ ap not (sym (own_alone e.frame)) ∙ ap not own
 
-    pub due_room : (is_own pool e.frame ≡ true) ⊎ HasFree pool → frame_due m (page_at m s p) ≡ None
+    pub due_room : (is_own pool e.frame ≡ true) ⊎ HasFree pool → frame_refusal m (page_at m s p) ≡ None
     due_room (inl own) = due_is ∙ cond-false _ _ _ (and_left _ _ (not_from_true _ own))
     due_room (inr free) = due_is ∙ cond-false _ _ _ (and_right _ _ (ap is_full (sym v) ∙ room_free free))
 
-    pub due_full : is_own pool e.frame ≡ false → IsExhausted pool → frame_due m (page_at m s p) ≡ Some (Refused NoFrame)
+    pub due_full : is_own pool e.frame ≡ false → IsExhausted pool → frame_refusal m (page_at m s p) ≡ Some (Refused NoFrame)
     due_full own h = due_is ∙ cond-true _ _ _ (and_from _ _ (not_from_false _ own) (ap is_full (sym v) ∙ full_exhausted h))
 
     pub makes_page_writable : (new : Pool) (own : ℕ) → e.prot.write ≡ true → OwnsFrame pool new e.frame own →

@@ -13,7 +13,7 @@ use Rattle.sd_pagetable.specs.declared.memory_refusal.MemoryRefusal.TheVariants.
 use Rattle.sd_pagetable.specs.declared.access.Access.TheVariants.{Write}
 use Rattle.sd_pagetable.specs.declared.store_outcome.StoreOutcome.{StoreOutcome}
 use Rattle.sd_pagetable.specs.declared.store_outcome.StoreOutcome.TheVariants.{NeedsFault}
-use Rattle.sd_pagetable.specs.Due.{access_due, answer, page_due, try_outcome, try_answer}
+use Rattle.sd_pagetable.specs.RefusalOrder.{access_refusal, answer, page_refusal, try_outcome, try_answer}
 use Rattle.sd_pagetable.specs.PageLaw.{ComesFrom}
 use Rattle.sd_pagetable.proofs.LawEvents.{comes, changed}
 use Rattle.sd_pagetable.proofs.NestedLemmas.{value_at-map}
@@ -48,10 +48,10 @@ bits_law start end [] beginning run = subst (Tracks []) (sym run) (tracks_none s
 bits_law start end (event ∷ history) beginning run = tracks_more history event run.0 end (bits_law start run.0 history beginning run.1) run.2
 
 -- a permitted page is mapped
-permitted : (alive bad : Bool) (found : Option plain.Page) → cond alive (cond bad (Some (Refused Einval)) (page_due Write found)) (Some (Refused NoSuchSpace)) ≡ None → (page : plain.Page) × (found ≡ Some page)
+permitted : (alive bad : Bool) (found : Option plain.Page) → cond alive (cond bad (Some (Refused Einval)) (page_refusal Write found)) (Some (Refused NoSuchSpace)) ≡ None → (page : plain.Page) × (found ≡ Some page)
 permitted alive bad found e = grind arith
 
-mapped_there : (contents : Contents) (space address bytes : ℕ) → access_due (plain_of contents) space address bytes Write ≡ None → (page : PageState) × (page_at contents space (page_of address) ≡ Some page)
+mapped_there : (contents : Contents) (space address bytes : ℕ) → access_refusal (plain_of contents) space address bytes Write ≡ None → (page : PageState) × (page_at contents space (page_of address) ≡ Some page)
 unfolding plain_of
 mapped_there contents space address bytes allowed = grind (arith, permitted, changed, value_at-map)
 

@@ -22,7 +22,7 @@ pub mod ForkLemmas
 pub mod ReleaseLemmas
 pub mod InheritLemmas
 pub mod PlainRanges
-pub mod RangeDue
+pub mod RangeRefusals
 pub mod AreaCalls
 pub mod ForkCalls
 pub mod CopyLemmas

@@ -19,8 +19,8 @@ use Rattle.sd_pagetable.specs.declared.memory_refusal.MemoryRefusal.TheVariants.
 use Rattle.sd_pagetable.specs.Nested.{Table, Nested, map_values, inside, value_at, is_alive, total, total_within}
 use Rattle.sd_pagetable.specs.Page.{PageState, plain_page}
 use Rattle.sd_pagetable.specs.Contents.{Contents, page_at, plain_of, members, share_of, classes, page_count}
-use Rattle.sd_pagetable.specs.Due.{prots_in}
-use Rattle.sd_pagetable.specs.Loaded.{frames_for, nonzero_pages, is_over_in_space, is_over_limits, snapshot_due, IsBegunMemory, IsLoaded}
+use Rattle.sd_pagetable.specs.RefusalOrder.{prots_in}
+use Rattle.sd_pagetable.specs.Loaded.{frames_for, nonzero_pages, is_over_in_space, is_over_limits, snapshot_refusal, IsBegunMemory, IsLoaded}
 use Rattle.sd_pagetable.proofs.NestedLemmas.{inside-insert, alive-insert}
 use Rattle.sd_pagetable.proofs.TableLemmas.{same_table, same_test, get_put, get_tree, get-map_values, map_values-empty, map_values-insert, tied}
 use Rattle.sd_pagetable.proofs.TotalLemmas.{total_within-empty}
@@ -127,7 +127,7 @@ allowed over (e ∷ es) space t h f = elim (cases_Bool (eq_by_cmp nat_cmp space 
   | inr there ↦ allowed over es space t (none_right _ _ h) (sym (ap (λ b. cond b (Some e.1) (find nat_cmp space es)) there) ∙ f)
 ]
 
-due_parts : (pool : ℕ) (memory : PlainMemory) → snapshot_due pool memory ≡ None → (nat_lt pool (nonzero_pages memory) ≡ false) × (is_over_limits memory ≡ false)
+due_parts : (pool : ℕ) (memory : PlainMemory) → snapshot_refusal pool memory ≡ None → (nat_lt pool (nonzero_pages memory) ≡ false) × (is_over_limits memory ≡ false)
 due_parts pool memory h = by_tests (nat_lt pool (nonzero_pages memory)) (is_over_limits memory) h
   where
     by_tests : (a b : Bool) → ◌≡◌ {A = Option AccessError} (cond a (Some (Refused NoFrame)) (cond b (Some (Refused Enomem)) None)) None → (a ≡ false) × (b ≡ false)
@@ -135,7 +135,7 @@ due_parts pool memory h = by_tests (nat_lt pool (nonzero_pages memory)) (is_over
     by_tests false true e = absurd (let f : ◌≡◌ {A = Option AccessError} (Some (Refused Enomem)) None = e in cc)
     by_tests false false e = (refl, refl)
 
-module _ (pool : ℕ) (saved : PlainMemory) (cur : Contents) (rest later : List (ℕ × Pages)) (space : ℕ) (pages : Pages) (h : IsLoading pool saved cur rest) (e : rest ≡ (space, pages) ∷ later) (due : snapshot_due pool saved ≡ None) where
+module _ (pool : ℕ) (saved : PlainMemory) (cur : Contents) (rest later : List (ℕ × Pages)) (space : ℕ) (pages : Pages) (h : IsLoading pool saved cur rest) (e : rest ≡ (space, pages) ∷ later) (due : snapshot_refusal pool saved ≡ None) where
   next_apart : IsApart (plain_of cur) ((space, pages) ∷ later)
   next_apart = subst (λ (es : List (ℕ × Pages)). IsApart (plain_of cur) es) e h.apart
 

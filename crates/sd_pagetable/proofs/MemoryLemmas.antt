@@ -24,7 +24,7 @@ use Rattle.sd_pagetable.specs.View.{entry_of, HasEntry}
 use Rattle.sd_pagetable.specs.Access.{allows, stored_at, is_bad_access}
 use Rattle.sd_pagetable.specs.declared.memory_refusal.MemoryRefusal.TheVariants.{NoSuchSpace, Einval}
 use Rattle.sd_pagetable.specs.Effects.{after_store}
-use Rattle.sd_pagetable.specs.Due.{page_due, access_due, fault_due, frame_due, or_else, Answers}
+use Rattle.sd_pagetable.specs.RefusalOrder.{page_refusal, access_refusal, fault_refusal, frame_refusal, or_else, Answers}
 use Rattle.sd_pagetable.specs.Tracking.{MakesWritable, IsBeginning}
 use Rattle.std.specs.Prelude.{Result, Ok, Err, OnOk, OnErr, IfSome}
 use Rattle.std.proofs.Math.Bool.{or_self_left}
@@ -103,18 +103,18 @@ writable_already m s p e sound h w =
       sym (ap (λ (y : PageState). put_page m s p y) same ∙ ap (λ (spaces : Nested PageState). record { pool = m.pool; spaces = spaces }) (put_again m.spaces s p x.0 x.1)),
     )
 
-pub none_due : (m : Contents) (s p : ℕ) (e : Entry) → IsSound m → HasEntry m s p e → e.writable ≡ true → frame_due m (page_at m s p) ≡ None
+pub none_due : (m : Contents) (s p : ℕ) (e : Entry) → IsSound m → HasEntry m s p e → e.writable ≡ true → frame_refusal m (page_at m s p) ≡ None
 none_due m s p e sound h w = grind arith
 
--- what is due at a page, by the page
-pub due_none : (m : Contents) (s p : ℕ) (need : Access) → page_at m s p ≡ None → page_due need (value_at (plain_of m) s p) ≡ Some (Stopped Maperr)
+-- which refusal applies at a page, by the page
+pub due_none : (m : Contents) (s p : ℕ) (need : Access) → page_at m s p ≡ None → page_refusal need (value_at (plain_of m) s p) ≡ Some (Stopped Maperr)
 due_none m s p need h = grind (arith, plain_at)
 
-pub due_some : (m : Contents) (s p : ℕ) (need : Access) (x : PageState) → page_at m s p ≡ Some x → page_due need (value_at (plain_of m) s p) ≡ cond (allows need x.prot) None (Some (Stopped Accerr))
+pub due_some : (m : Contents) (s p : ℕ) (need : Access) (x : PageState) → page_at m s p ≡ Some x → page_refusal need (value_at (plain_of m) s p) ≡ cond (allows need x.prot) None (Some (Stopped Accerr))
 due_some m s p need x h = grind (arith, plain_at)
 
 -- a page that may be accessed
-pub permitted_page : (m : Contents) (s p : ℕ) (need : Access) → page_due need (value_at (plain_of m) s p) ≡ None → (x : PageState) × (page_at m s p ≡ Some x) × (allows need x.prot ≡ true)
+pub permitted_page : (m : Contents) (s p : ℕ) (need : Access) → page_refusal need (value_at (plain_of m) s p) ≡ None → (x : PageState) × (page_at m s p ≡ Some x) × (allows need x.prot ≡ true)
 permitted_page m s p need h = by_page (page_at m s p) refl
   where
     stopped : (d : AccessError) → ◌≡◌ {A = Option AccessError} (Some d) None → ⊥
@@ -128,14 +128,14 @@ permitted_page m s p need h = by_page (page_at m s p) refl
     by_page None e = absurd (stopped (Stopped Maperr) (sym (due_none m s p need e) ∙ h))
     by_page (Some x) e = by_prot x e (allows need x.prot) refl
 
--- ---- what is due, by what the code has tested
-pub access_dead : (m : Contents) (s address bytes : ℕ) (need : Access) → is_alive m.spaces s ≡ false → access_due (plain_of m) s address bytes need ≡ Some (Refused NoSuchSpace)
+-- ---- which refusal applies, by what the code has tested
+pub access_dead : (m : Contents) (s address bytes : ℕ) (need : Access) → is_alive m.spaces s ≡ false → access_refusal (plain_of m) s address bytes need ≡ Some (Refused NoSuchSpace)
 access_dead m s address bytes need h = cond-false _ _ _ (plain_alive m s ∙ h)
 
-pub access_bad : (m : Contents) (s address bytes : ℕ) (need : Access) → is_alive m.spaces s ≡ true → is_bad_access address bytes ≡ true → access_due (plain_of m) s address bytes need ≡ Some (Refused Einval)
+pub access_bad : (m : Contents) (s address bytes : ℕ) (need : Access) → is_alive m.spaces s ≡ true → is_bad_access address bytes ≡ true → access_refusal (plain_of m) s address bytes need ≡ Some (Refused Einval)
 access_bad m s address bytes need h b = cond-true _ _ _ (plain_alive m s ∙ h) ∙ cond-true _ _ _ b
 
-pub access_at : (m : Contents) (s address bytes : ℕ) (need : Access) → is_alive m.spaces s ≡ true → is_bad_access address bytes ≡ false → access_due (plain_of m) s address bytes need ≡ page_due need (value_at (plain_of m) s (page_of address))
+pub access_at : (m : Contents) (s address bytes : ℕ) (need : Access) → is_alive m.spaces s ≡ true → is_bad_access address bytes ≡ false → access_refusal (plain_of m) s address bytes need ≡ page_refusal need (value_at (plain_of m) s (page_of address))
 access_at m s address bytes need h b = cond-true _ _ _ (plain_alive m s ∙ h) ∙ cond-false _ _ _ b
 
 pub access_within : (address bytes : ℕ) → is_bad_access address bytes ≡ false → address % 4096 + bytes ≤ 4096
@@ -163,20 +163,20 @@ pub either_result : {T E : Type 0} (r : Result T E) (P Q R : Type 0) → OnOk r 
 either_result (Ok x) P Q R p q f g = f p
 either_result (Err e) P Q R p q f g = g q
 
-pub fault_dead : (m : Contents) (s address : ℕ) → is_alive m.spaces s ≡ false → fault_due m s address ≡ Some (Refused NoSuchSpace)
-fault_dead m s address h = ap (λ o. or_else o (frame_due m (page_at m s (page_of address)))) (cond-false _ _ _ (plain_alive m s ∙ h))
+pub fault_dead : (m : Contents) (s address : ℕ) → is_alive m.spaces s ≡ false → fault_refusal m s address ≡ Some (Refused NoSuchSpace)
+fault_dead m s address h = ap (λ o. or_else o (frame_refusal m (page_at m s (page_of address)))) (cond-false _ _ _ (plain_alive m s ∙ h))
 
-pub fault_stopped : (m : Contents) (s address : ℕ) (d : AccessError) → is_alive m.spaces s ≡ true → page_due Write (value_at (plain_of m) s (page_of address)) ≡ Some d → fault_due m s address ≡ Some d
-fault_stopped m s address d h e = ap (λ o. or_else o (frame_due m (page_at m s (page_of address)))) (cond-true _ _ _ (plain_alive m s ∙ h) ∙ e)
+pub fault_stopped : (m : Contents) (s address : ℕ) (d : AccessError) → is_alive m.spaces s ≡ true → page_refusal Write (value_at (plain_of m) s (page_of address)) ≡ Some d → fault_refusal m s address ≡ Some d
+fault_stopped m s address d h e = ap (λ o. or_else o (frame_refusal m (page_at m s (page_of address)))) (cond-true _ _ _ (plain_alive m s ∙ h) ∙ e)
 
-pub fault_goes : (m : Contents) (s address : ℕ) → is_alive m.spaces s ≡ true → page_due Write (value_at (plain_of m) s (page_of address)) ≡ None → fault_due m s address ≡ frame_due m (page_at m s (page_of address))
-fault_goes m s address h e = ap (λ o. or_else o (frame_due m (page_at m s (page_of address)))) (cond-true _ _ _ (plain_alive m s ∙ h) ∙ e)
+pub fault_goes : (m : Contents) (s address : ℕ) → is_alive m.spaces s ≡ true → page_refusal Write (value_at (plain_of m) s (page_of address)) ≡ None → fault_refusal m s address ≡ frame_refusal m (page_at m s (page_of address))
+fault_goes m s address h e = ap (λ o. or_else o (frame_refusal m (page_at m s (page_of address)))) (cond-true _ _ _ (plain_alive m s ∙ h) ∙ e)
 
 pub answers_err : (due : Option AccessError) (d : AccessError) (e : MemoryError) (r : Result (Unit {0}) MemoryError) → due ≡ Some d → e ≡ DeniedError d → r ≡ Err e → Answers due r
 answers_err due d e r h is was = subst (λ (x : Result (Unit {0}) MemoryError). Answers due x) (sym (was ∙ ap Err is)) h
 
 -- what a fault needs
-pub write_there : (m n : Contents) (s p q : ℕ) → n ≡ m → q ≡ p → page_due Write (value_at (plain_of m) s p) ≡ None → (x : PageState) × (page_at n s q ≡ Some x) × (x.prot.write ≡ true)
+pub write_there : (m n : Contents) (s p q : ℕ) → n ≡ m → q ≡ p → page_refusal Write (value_at (plain_of m) s p) ≡ None → (x : PageState) × (page_at n s q ≡ Some x) × (x.prot.write ≡ true)
 write_there m n s p q v e h = grind (arith, permitted_page)
 
 -- a fault leaves the plain memory

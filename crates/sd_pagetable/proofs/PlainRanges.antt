@@ -14,7 +14,7 @@ use Rattle.sd_areas.specs.PlainMemory as plain
 use Rattle.sd_pagetable.specs.Nested.{Table, map_values, inside, set_within, remove_within, change_within, total, total_within}
 use Rattle.sd_pagetable.specs.Page.{PageState, plain_page, fresh_page, protected_page, zeros}
 use Rattle.sd_pagetable.specs.Contents.{Contents, plain_of, page_at, page_count}
-use Rattle.sd_pagetable.specs.Due.{prots_in}
+use Rattle.sd_pagetable.specs.RefusalOrder.{prots_in}
 use Rattle.sd_pagetable.specs.Effects.{after_mmap, after_munmap, after_mprotect}
 use Rattle.sd_pagetable.specs.Kept.{HasAreas, prots_of}
 use Rattle.sd_pagetable.specs.Tracking.{with_space}

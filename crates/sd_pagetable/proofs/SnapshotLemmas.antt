@@ -29,7 +29,7 @@ use Rattle.sd_pagetable.specs.Nested.{Table, Nested, map_values, inside, value_a
 use Rattle.sd_pagetable.specs.Page.{PageState, plain_page}
 use Rattle.sd_pagetable.specs.Contents.{Contents, page_at, plain_of, is_full, page_count}
 use Rattle.sd_pagetable.specs.AreaErrors.{error_of}
-use Rattle.sd_pagetable.specs.Due.{prots_in}
+use Rattle.sd_pagetable.specs.RefusalOrder.{prots_in}
 use Rattle.sd_pagetable.specs.Loaded.{is_zero_page, frames_for, nonzero_pages, loaded_page, Loads, IsBegunMemory}
 use Rattle.sd_pagetable.proofs.NestedLemmas.{inside-insert, alive-put_same}
 use Rattle.sd_pagetable.proofs.TableLemmas.{same_table, get_put, get-map_values, map_values-empty, keys_sorted, sorted_changed}
@@ -109,7 +109,7 @@ within_ok pages map h = by_test (nat_lt 1024 (length (areas_of pages))) refl h
     by_test true e g = absurd (let f : ◌≡◌ {A = Result PageMap _} (Err AreaEnomem) (Ok map) = g in cc)
     by_test false e g = (let f : pages ≡ map = cc in sym f, e)
 
-pub within_err : (pages : PageMap) (e : AreaError) → area_calls.RefusesAsDue (within_areas pages) e → (error_of e ≡ OutOfMemory) ⊎ ((error_of e ≡ DeniedError (Refused Enomem)) × (nat_lt 1024 (length (areas_of pages)) ≡ true))
+pub within_err : (pages : PageMap) (e : AreaError) → area_calls.RefusesInOrder (within_areas pages) e → (error_of e ≡ OutOfMemory) ⊎ ((error_of e ≡ DeniedError (Refused Enomem)) × (nat_lt 1024 (length (areas_of pages)) ≡ true))
 unfolding within_areas
 within_err pages AreaOutOfMemory h = inl refl
 within_err pages (AreaRefused AreaEnomem) h = by_test (nat_lt 1024 (length (areas_of pages))) refl h

@@ -4,7 +4,7 @@ pub mod Contents
 pub mod Access
 pub mod Refusals
 pub mod Effects
-pub mod Due
+pub mod RefusalOrder
 pub mod Tracking
 pub mod PageLaw
 pub mod EventEffects

@@ -12,7 +12,7 @@ use Rattle.sd_pagetable.specs.declared.access_error.AccessError.TheVariants.{Ref
 use Rattle.sd_pagetable.specs.Nested.{total_within}
 use Rattle.sd_pagetable.specs.Page.{PageState}
 use Rattle.sd_pagetable.specs.Contents.{Contents, page_at, put_page, plain_of, members, classes, is_alone, page_count}
-use Rattle.sd_pagetable.specs.Due.{prots_in}
+use Rattle.sd_pagetable.specs.RefusalOrder.{prots_in}
 use Rattle.sd_pagetable.specs.Tracking.{IsBeginning}
 
 abbrev pub is_zero_page : List ℕ → Bool
@@ -35,8 +35,8 @@ abbrev pub is_over_limits : PlainMemory → Bool
 is_over_limits memory = list_any is_over_in_space (finmap.entries memory) || nat_lt 65536 (page_count memory)
 
 -- what a memory is refused: each page that isn't all zeros needs a frame, and the limits hold
-abbrev pub snapshot_due : ℕ → PlainMemory → Option AccessError
-snapshot_due pool memory =
+abbrev pub snapshot_refusal : ℕ → PlainMemory → Option AccessError
+snapshot_refusal pool memory =
     if nat_lt pool (nonzero_pages memory) then Some (Refused NoFrame)
     else if is_over_limits memory then Some (Refused Enomem) else None
 

@@ -15,14 +15,14 @@ use Rattle.sd_pagetable.specs.Contents.{Contents, page_count}
 abbrev pub IsRangeIn : Type 0 → ℕ → ℕ → Type 0
 IsRangeIn alive address bytes = alive × (is_invalid address bytes ≡ false) × (is_outside address bytes ≡ false)
 
--- a call that failed was due to be refused so; out of memory says nothing of the call
+-- a call that failed had to be refused so; out of memory says nothing of the call
 abbrev pub Refuses : MemoryError → Option AccessError → Type 0
 Refuses (DeniedError denied) due = due ≡ Some denied
 Refuses OutOfMemory due = Unit {0}
 
 -- at most 65,536 pages
-abbrev pub pages_due : Contents → Option AccessError
-pages_due contents = if nat_lt 65536 (page_count contents.spaces) then Some (Refused Enomem) else None
+abbrev pub pages_refusal : Contents → Option AccessError
+pages_refusal contents = if nat_lt 65536 (page_count contents.spaces) then Some (Refused Enomem) else None
 
 -- a space has these areas, and the others theirs
 abbrev pub HasPut : BTreeMap ℕ PageMap → BTreeMap ℕ PageMap → ℕ → PageMap → Type 0

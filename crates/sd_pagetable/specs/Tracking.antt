@@ -14,7 +14,7 @@ use Rattle.sd_pagetable.specs.Page.{PageState, fresh_page, cleared_page, protect
 use Rattle.sd_pagetable.specs.Page.{writable_page, stored_page}
 use Rattle.sd_pagetable.specs.Contents.{Contents, page_at, put_page, members, is_alone, plain_of}
 use Rattle.sd_pagetable.specs.Access.{stored_at}
-use Rattle.sd_pagetable.specs.Due.{access_due, try_outcome}
+use Rattle.sd_pagetable.specs.RefusalOrder.{access_refusal, try_outcome}
 
 -- A call or a clear. Those with a name of their own were accepted; a call that was refused, a load, and a try of a
 -- store that needs a fault have passed by.
@@ -158,5 +158,5 @@ pub record TracksLaw : Type 0 where
 abbrev pub TryLaw : Type 0
 TryLaw = (start end : Contents) (history : List MemoryEvent) (space address bytes : ℕ) → IsBeginning start
     → Run start history end →
-    access_due (plain_of end) space address bytes Write ≡ None →
+    access_refusal (plain_of end) space address bytes Write ≡ None →
     (try_outcome end space address bytes ≡ Ok NeedsFault) ↔ (is_writable history space (page_of address) ≡ false)

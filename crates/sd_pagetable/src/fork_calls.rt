@@ -6,7 +6,7 @@ ghost use Rattle.std.specs.BTreeMap.{get};
 ghost use Rattle.std.specs.FinMap as finmap;
 ghost use Rattle.sd_pagetable.specs.Nested.{inside, is_alive};
 ghost use Rattle.sd_pagetable.specs.Contents.{page_count, plain_of, IsSound};
-ghost use Rattle.sd_pagetable.specs.Due.{Answers, answer, exit_due, fork_due};
+ghost use Rattle.sd_pagetable.specs.RefusalOrder.{Answers, answer, exit_refusal, fork_refusal};
 ghost use Rattle.sd_pagetable.specs.Effects.{after_exit, after_fork, IsLeastFree};
 ghost use Rattle.sd_pagetable.specs.Kept.{HasAreas};
 ghost use Rattle.sd_pagetable.specs.Tracking.{Step, Exited, Forked, contents_after_fork};
@@ -52,7 +52,7 @@ pub(crate) fn exit(
 ) -> Result<(), AccessError>
     requires kept { HasAreas areas.old paging.old }
     ensures kept { HasAreas areas.new paging.new }
-    ensures due { result ≡ answer (exit_due (plain_of paging.old) space) tt }
+    ensures due { result ≡ answer (exit_refusal (plain_of paging.old) space) tt }
     ensures step { OnOk result (Step paging.old (Exited space) paging.new) }
     ensures memory { OnOk result (plain_of paging.new ≡ after_exit (plain_of paging.old) space) }
     ensures err { OnErr result (paging.new ≡ paging.old) }
@@ -113,8 +113,8 @@ pub(crate) fn fork(
 ) -> Result<SpaceId, MemoryError>
     requires kept { HasAreas areas.old paging.old }
     ensures kept { HasAreas areas.new paging.new }
-    ensures due { Answers (fork_due (plain_of paging.old) space) result }
-    ensures tested { result ≡ Err OutOfMemory → fork_due (plain_of paging.old) space ≡ None }
+    ensures due { Answers (fork_refusal (plain_of paging.old) space) result }
+    ensures tested { result ≡ Err OutOfMemory → fork_refusal (plain_of paging.old) space ≡ None }
     ensures child { IfOk result (λ child. IsLeastFree (plain_of paging.old) child) }
     ensures step { IfOk result (λ child. Step paging.old (Forked space child) paging.new) }
     ensures memory { IfOk result

@@ -15,8 +15,9 @@ ghost use Rattle.sd_pagetable.specs.declared.memory_refusal.MemoryRefusal.TheVar
 ghost use Rattle.sd_pagetable.specs.Nested.{inside, is_alive, total};
 ghost use Rattle.sd_pagetable.specs.Contents.{page_count, plain_of};
 ghost use Rattle.sd_pagetable.specs.Page.{zeros};
-ghost use Rattle.sd_pagetable.specs.Due.{Answers, prots_in};
-ghost use Rattle.sd_pagetable.specs.Loaded.{is_zero_page, frames_for, nonzero_pages, is_over_in_space, snapshot_due};
+ghost use Rattle.sd_pagetable.specs.RefusalOrder.{Answers, prots_in};
+ghost use Rattle.sd_pagetable.specs.Loaded.{is_zero_page, frames_for, nonzero_pages, is_over_in_space};
+ghost use Rattle.sd_pagetable.specs.Loaded.{snapshot_refusal};
 ghost use Rattle.sd_pagetable.specs.Loaded.{IsBegunMemory, IsLoaded};
 
 use crate::fork_calls::add_areas;
@@ -148,7 +149,7 @@ pub(crate) fn areas_of(
         (λ areas. (space : ℕ)
         → get nat_cmp areas space
         ≡ option_map prots_in (finmap.get (memory_of snapshot.now) space)) }
-    ensures due { Answers (snapshot_due frames (memory_of snapshot.now)) result }
+    ensures due { Answers (snapshot_refusal frames (memory_of snapshot.now)) result }
     ensures tested { result ≡ Err OutOfMemory
         → (nonzero_pages (memory_of snapshot.now) ≤ frames) × (page_count (memory_of snapshot.now) ≤ 65536) }
 {
@@ -192,7 +193,7 @@ fn load_space(paging: &mut Paging, space: SpaceId, pages: &Pages) -> Result<(), 
 /// Out of memory where a table or the list of frames can't grow: some of the pages are mapped.
 pub(crate) fn load(paging: &mut Paging, snapshot: &Snapshot) -> Result<(), AllocError>
     requires bare { paging.old.spaces ≡ finmap.empty }
-    requires due { snapshot_due paging.old.pool (memory_of snapshot.now) ≡ None }
+    requires due { snapshot_refusal paging.old.pool (memory_of snapshot.now) ≡ None }
     ensures { OnOk result (IsLoaded paging.old.pool (memory_of snapshot.now) paging.new) }
 {
     for (space, pages) in &snapshot.spaces {

@@ -54,12 +54,13 @@ impl Memory {
     ghost use Rattle.sd_pagetable.specs.Contents.{page_count, plain_of, AreWhole, IsSound};
     ghost use Rattle.sd_pagetable.specs.Effects.{after_mmap, after_munmap, after_mprotect, after_fork, after_exit};
     ghost use Rattle.sd_pagetable.specs.Effects.{IsLeastFree};
-    ghost use Rattle.sd_pagetable.specs.Due.{answer, Answers, prots_in, mmap_due, munmap_due, mprotect_due, fork_due};
-    ghost use Rattle.sd_pagetable.specs.Due.{exit_due};
+    ghost use Rattle.sd_pagetable.specs.RefusalOrder.{answer, Answers, prots_in, mmap_refusal, munmap_refusal};
+    ghost use Rattle.sd_pagetable.specs.RefusalOrder.{mprotect_refusal, fork_refusal};
+    ghost use Rattle.sd_pagetable.specs.RefusalOrder.{exit_refusal};
     ghost use Rattle.sd_pagetable.specs.Tracking.{Step, IsBeginning, Mapped, Unmapped, Protected, Forked, Exited};
     ghost use Rattle.sd_pagetable.specs.RangeCalls.{IsRangeIn};
     ghost use Rattle.sd_pagetable.specs.Kept.{prots_of};
-    ghost use Rattle.sd_pagetable.specs.Loaded.{nonzero_pages, snapshot_due, IsLoaded};
+    ghost use Rattle.sd_pagetable.specs.Loaded.{nonzero_pages, snapshot_refusal, IsLoaded};
     ghost use Rattle.sd_pagetable.specs.declared.memory_error.MemoryError.TheVariants.{OutOfMemory};
 
     /// Space 1 alone, without pages, over a pool of so many frames, 1 to 65,536.
@@ -101,7 +102,7 @@ impl Memory {
     ) -> Result<Self, MemoryError>
         requires least { 1 ≤ frames }
         requires greatest { frames ≤ 65536 }
-        ensures due { Answers (snapshot_due frames (memory_of snapshot.now)) result }
+        ensures due { Answers (snapshot_refusal frames (memory_of snapshot.now)) result }
         ensures tested { result ≡ Err OutOfMemory
             → (nonzero_pages (memory_of snapshot.now) ≤ frames) × (page_count (memory_of snapshot.now) ≤ 65536) }
         ensures loaded { IfOk result (IsLoaded frames (memory_of snapshot.now)) }
@@ -130,7 +131,7 @@ impl Memory {
         bytes: u64,
         prot: Prot,
     ) -> Result<(), MemoryError>
-        ensures due { Answers (mmap_due (plain_of self.old) space address bytes prot) result }
+        ensures due { Answers (mmap_refusal (plain_of self.old) space address bytes prot) result }
         ensures tested { result ≡ Err OutOfMemory
             → IsRangeIn (is_alive self.old.spaces space ≡ true) address bytes }
         ensures fits { result ≡ Err OutOfMemory
@@ -164,7 +165,7 @@ impl Memory {
     /// space. Out of memory where a growth was refused, only after all of these but the number of areas, and only where
     /// a page of the range is mapped. An error changes nothing.
     pub fn munmap(&mut self, space: SpaceId, address: u64, bytes: u64) -> Result<(), MemoryError>
-        ensures due { Answers (munmap_due (plain_of self.old) space address bytes) result }
+        ensures due { Answers (munmap_refusal (plain_of self.old) space address bytes) result }
         ensures tested { result ≡ Err OutOfMemory
             → IsRangeIn (is_alive self.old.spaces space ≡ true) address bytes }
         ensures some { result ≡ Err OutOfMemory
@@ -195,7 +196,7 @@ impl Memory {
         bytes: u64,
         prot: Prot,
     ) -> Result<(), MemoryError>
-        ensures due { Answers (mprotect_due (plain_of self.old) space address bytes prot) result }
+        ensures due { Answers (mprotect_refusal (plain_of self.old) space address bytes prot) result }
         ensures tested { result ≡ Err OutOfMemory
             → IsRangeIn (is_alive self.old.spaces space ≡ true) address bytes }
         ensures whole { result ≡ Err OutOfMemory
@@ -227,8 +228,8 @@ impl Memory {
     /// In this order: no-such-space; too-many-spaces where 16 are alive; ENOMEM where there would
     /// be over 65,536 pages. Out of memory where a growth was refused. An error changes nothing.
     pub fn fork(&mut self, space: SpaceId) -> Result<SpaceId, MemoryError>
-        ensures due { Answers (fork_due (plain_of self.old) space) result }
-        ensures tested { result ≡ Err OutOfMemory → fork_due (plain_of self.old) space ≡ None }
+        ensures due { Answers (fork_refusal (plain_of self.old) space) result }
+        ensures tested { result ≡ Err OutOfMemory → fork_refusal (plain_of self.old) space ≡ None }
         ensures child { IfOk result (λ child. IsLeastFree (plain_of self.old) child) }
         ensures step { IfOk result (λ child. Step self.old (Forked space child) self.new) }
         ensures memory { IfOk result
@@ -244,7 +245,7 @@ impl Memory {
     ///
     /// In this order: no-such-space; last-space where it is the only one. An error changes nothing.
     pub fn exit(&mut self, space: SpaceId) -> Result<(), AccessError>
-        ensures due { result ≡ answer (exit_due (plain_of self.old) space) tt }
+        ensures due { result ≡ answer (exit_refusal (plain_of self.old) space) tt }
         ensures step { OnOk result (Step self.old (Exited space) self.new) }
         ensures memory { OnOk result (plain_of self.new ≡ after_exit (plain_of self.old) space) }
         ensures err { OnErr result (self.new ≡ self.old) }

@@ -17,11 +17,12 @@ ghost use Rattle.sd_pagetable.specs.declared.memory_refusal.MemoryRefusal.TheVar
 ghost use Rattle.sd_pagetable.specs.Nested.{inside, is_alive, set_within, change_within, fill_within};
 ghost use Rattle.sd_pagetable.specs.Page.{PageState, fresh_page, protected_page};
 ghost use Rattle.sd_pagetable.specs.Contents.{Contents, page_at, page_count, plain_of};
-ghost use Rattle.sd_pagetable.specs.Due.{Answers, answer, or_else, area_due, in_space, prots_in, mmap_due, munmap_due};
-ghost use Rattle.sd_pagetable.specs.Due.{mprotect_due};
+ghost use Rattle.sd_pagetable.specs.RefusalOrder.{Answers, answer, or_else, area_refusal, in_space, prots_in};
+ghost use Rattle.sd_pagetable.specs.RefusalOrder.{mmap_refusal, munmap_refusal};
+ghost use Rattle.sd_pagetable.specs.RefusalOrder.{mprotect_refusal};
 ghost use Rattle.sd_pagetable.specs.Effects.{after_mmap, after_munmap, after_mprotect};
 ghost use Rattle.sd_pagetable.specs.Kept.{HasAreas, prots_of};
-ghost use Rattle.sd_pagetable.specs.RangeCalls.{IsRangeIn, Refuses, HasPut, HasSame, pages_due};
+ghost use Rattle.sd_pagetable.specs.RangeCalls.{IsRangeIn, Refuses, HasPut, HasSame, pages_refusal};
 ghost use Rattle.sd_pagetable.specs.Tracking.{Step, Mapped, Unmapped, Protected, with_space};
 
 use crate::access_error::AccessError;
@@ -73,7 +74,7 @@ fn unmap_areas(
         × HasPut areas.old areas.new space own) }
     ensures due { IfErr result (λ e. (contents : Contents) → HasAreas areas.old contents
         → Refuses e (in_space contents.spaces space
-        (area_due (unmap_result (prots_of (inside contents.spaces space)) address bytes)))) }
+        (area_refusal (unmap_result (prots_of (inside contents.spaces space)) address bytes)))) }
     ensures tested { result ≡ Err OutOfMemory
         → IsRangeIn (IsSome (get nat_cmp areas.old space)) address bytes }
     ensures some { result ≡ Err OutOfMemory → (contents : Contents) → HasAreas areas.old contents
@@ -101,7 +102,7 @@ fn protect_areas(
         × HasPut areas.old areas.new space own) }
     ensures due { IfErr result (λ e. (contents : Contents) → HasAreas areas.old contents
         → Refuses e (in_space contents.spaces space
-        (area_due (protect_result
+        (area_refusal (protect_result
         (prots_of (inside contents.spaces space)) address bytes prot)))) }
     ensures tested { result ≡ Err OutOfMemory
         → IsRangeIn (IsSome (get nat_cmp areas.old space)) address bytes }
@@ -200,8 +201,8 @@ fn map_in(
         (fresh_page prot))) }
     ensures few { OnOk result (page_count paging.new.spaces ≤ 65536) }
     ensures due { IfErr result (λ e. Refuses e
-        (or_else (area_due (map_result own.old address bytes prot))
-        (pages_due (with_space paging.old space
+        (or_else (area_refusal (map_result own.old address bytes prot))
+        (pages_refusal (with_space paging.old space
         (set_within (inside paging.old.spaces space) (page_of address) (pages_for bytes)
         (fresh_page prot)))))) }
     ensures tested { result ≡ Err OutOfMemory
@@ -238,7 +239,7 @@ pub(crate) fn munmap(
 ) -> Result<(), MemoryError>
     requires kept { HasAreas areas.old paging.old }
     ensures kept { HasAreas areas.new paging.new }
-    ensures due { Answers (munmap_due (plain_of paging.old) space address bytes) result }
+    ensures due { Answers (munmap_refusal (plain_of paging.old) space address bytes) result }
     ensures tested { result ≡ Err OutOfMemory
         → IsRangeIn (is_alive paging.old.spaces space ≡ true) address bytes }
     ensures some { result ≡ Err OutOfMemory
@@ -275,7 +276,7 @@ fn protect_range(paging: &mut Paging, space: SpaceId, address: u64, bytes: u64, 
 /// What `mprotect` of no bytes returns. It changes nothing and takes no memory.
 fn protect_nothing(areas: &Areas, space: SpaceId, address: u64) -> Result<(), AccessError>
     ensures { (contents : Contents) (prot : Prot) → HasAreas areas.now contents
-        → result ≡ answer (mprotect_due (plain_of contents) space address 0 prot) tt }
+        → result ≡ answer (mprotect_refusal (plain_of contents) space address 0 prot) tt }
 {
     let Some(_own) = areas.get(&space) else {
         return Err(AccessError::Refused(MemoryRefusal::NoSuchSpace));
@@ -298,7 +299,7 @@ fn protect_some(
     requires some { bytes ≢ 0 }
     requires kept { HasAreas areas.old paging.old }
     ensures kept { HasAreas areas.new paging.new }
-    ensures due { Answers (mprotect_due (plain_of paging.old) space address bytes prot) result }
+    ensures due { Answers (mprotect_refusal (plain_of paging.old) space address bytes prot) result }
     ensures tested { result ≡ Err OutOfMemory
         → IsRangeIn (is_alive paging.old.spaces space ≡ true) address bytes }
     ensures whole { result ≡ Err OutOfMemory
@@ -329,7 +330,7 @@ pub(crate) fn mprotect(
 ) -> Result<(), MemoryError>
     requires kept { HasAreas areas.old paging.old }
     ensures kept { HasAreas areas.new paging.new }
-    ensures due { Answers (mprotect_due (plain_of paging.old) space address bytes prot) result }
+    ensures due { Answers (mprotect_refusal (plain_of paging.old) space address bytes prot) result }
     ensures tested { result ≡ Err OutOfMemory
         → IsRangeIn (is_alive paging.old.spaces space ≡ true) address bytes }
     ensures whole { result ≡ Err OutOfMemory
@@ -360,7 +361,7 @@ pub(crate) fn mmap(
 ) -> Result<(), MemoryError>
     requires kept { HasAreas areas.old paging.old }
     ensures kept { HasAreas areas.new paging.new }
-    ensures due { Answers (mmap_due (plain_of paging.old) space address bytes prot) result }
+    ensures due { Answers (mmap_refusal (plain_of paging.old) space address bytes prot) result }
     ensures tested { result ≡ Err OutOfMemory
         → IsRangeIn (is_alive paging.old.spaces space ≡ true) address bytes }
     ensures fits { result ≡ Err OutOfMemory

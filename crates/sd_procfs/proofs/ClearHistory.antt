@@ -8,61 +8,61 @@ use Rattle.sd_pagetable.specs.Contents.{Contents, page_at}
 use Rattle.sd_pagetable.specs.Tracking.{Step, Cleared, Run}
 use Rattle.sd_pagetable.specs.Law.{IsClearedAt}
 use Rattle.sd_procfs.specs.Clears.{AreFalling, IsNextIn, lists_page}
-use Rattle.sd_procfs.proofs.ClearSteps.{ClearsBehind, is_behind, below_is, is_below, is_above}
+use Rattle.sd_procfs.proofs.ClearSteps.{ClearsAfter, is_after_entries, below_is, is_below, is_above}
 
 -- the mapped pages after the cursor were cleared, one after the other
-pub record HistoryBehind (cursor : Option ℕ) (space : ℕ) (old now : Contents) (pages : List ℕ) : Type 0 where
+pub record HistoryAfter (cursor : Option ℕ) (space : ℕ) (old now : Contents) (pages : List ℕ) : Type 0 where
   pub falls : AreFalling pages
-  pub passed : AllByRecursion (λ page. is_behind cursor page ≡ true) pages
-  pub each : (page : ℕ) → lists_page pages page ≡ (is_behind cursor page && is_some (page_at old space page))
+  pub passed : AllByRecursion (λ page. is_after_entries cursor page ≡ true) pages
+  pub each : (page : ℕ) → lists_page pages page ≡ (is_after_entries cursor page && is_some (page_at old space page))
   pub run : Run old (map (Cleared space) pages) now
 
-abbrev pub HasHistoryBehind : Option ℕ → ℕ → Contents → Contents → Type 0
-HasHistoryBehind cursor space old now = (pages : List ℕ) × HistoryBehind cursor space old now pages
+abbrev pub HasHistoryAfter : Option ℕ → ℕ → Contents → Contents → Type 0
+HasHistoryAfter cursor space old now = (pages : List ℕ) × HistoryAfter cursor space old now pages
 
-none_behind : (page cursor : ℕ) → cursor ≡ 0 → nat_lt page cursor ≡ false
-none_behind page cursor zero = grind (arith, nat_tests)
+none_stands_after : (page cursor : ℕ) → cursor ≡ 0 → nat_lt page cursor ≡ false
+none_stands_after page cursor zero = grind (arith, nat_tests)
 
 all_mapped : {P Q : ℕ → Type 0} (pages : List ℕ) → ((page : ℕ) → P page → Q page) → AllByRecursion P pages → AllByRecursion Q pages
 all_mapped [] f all = tt
 all_mapped (page ∷ pages) f all = (f page all.0, all_mapped pages f all.1)
 
-module _ (space page : ℕ) (old now new : Contents) (next : Option ℕ) (was : ClearsBehind (Some page) space old now) (cleared : IsClearedAt space page now new) (least : IsNextIn new space page next) where
+module _ (space page : ℕ) (old now new : Contents) (next : Option ℕ) (was : ClearsAfter (Some page) space old now) (cleared : IsClearedAt space page now new) (least : IsNextIn new space page next) where
   -- the page itself is after the next
-  here_behind : is_behind next page ≡ true
+  here_behind : is_after_entries next page ≡ true
   here_behind = of next least
     where
-      of : (next : Option ℕ) → IsNextIn new space page next → is_behind next page ≡ true
+      of : (next : Option ℕ) → IsNextIn new space page next → is_after_entries next page ≡ true
       of None least = refl
       of (Some q) least = is_below page q least.0
 
   -- what is after the page is after the next
-  still_behind : (p : ℕ) → p < page → is_behind next p ≡ true
+  still_behind : (p : ℕ) → p < page → is_after_entries next p ≡ true
   still_behind p below = of next least
     where
-      of : (next : Option ℕ) → IsNextIn new space page next → is_behind next p ≡ true
+      of : (next : Option ℕ) → IsNextIn new space page next → is_after_entries next p ≡ true
       of None least = refl
       of (Some q) least = is_below p q (omega (arith, below, least.0))
 
   -- no page between the two was mapped
-  not_between : (p : ℕ) → page < p → (is_behind next p && is_some (page_at old space p)) ≡ false
-  not_between p above = of (is_behind next p) (page_at old space p) refl refl
+  not_between : (p : ℕ) → page < p → (is_after_entries next p && is_some (page_at old space p)) ≡ false
+  not_between p above = of (is_after_entries next p) (page_at old space p) refl refl
     where
       unchanged : page_at new space p ≡ page_at old space p
       unchanged = cleared.others space p (grind (arith, nat_tests)) ∙ was.ahead p (is_above p page (omega (arith, above)))
 
-      of : (behind : Bool) (o : Option PageState) → is_behind next p ≡ behind → page_at old space p ≡ o → (behind && is_some o) ≡ false
+      of : (behind : Bool) (o : Option PageState) → is_after_entries next p ≡ behind → page_at old space p ≡ o → (behind && is_some o) ≡ false
       of behind o e f = grind arith
 
   order : (p : ℕ) → (p < page) ⊎ ((p ≡ page) ⊎ (page < p))
   order p = grind arith
 
   -- one page more is after the next, if it was mapped
-  more : (mapped : Bool) → is_some (page_at old space page) ≡ mapped → (p : ℕ) → (is_behind next p && is_some (page_at old space p)) ≡ ((nat_eq page p && mapped) || (nat_lt p page && is_some (page_at old space p)))
+  more : (mapped : Bool) → is_some (page_at old space page) ≡ mapped → (p : ℕ) → (is_after_entries next p && is_some (page_at old space p)) ≡ ((nat_eq page p && mapped) || (nat_lt p page && is_some (page_at old space p)))
   more mapped e p = elim (order p) [
-    | inl below ↦ with_below (is_behind next p) (nat_eq page p) mapped (nat_lt p page) (is_some (page_at old space p)) (still_behind p below) (not_equal p (inl below)) (is_below p page below)
-    | inr (inl same) ↦ with_same (is_behind next p) (nat_eq page p) mapped (nat_lt p page) (is_some (page_at old space p))
-        (ap (is_behind next) same ∙ here_behind) (equal p same) (is_above p page (omega (arith, same))) (ap (λ q. is_some (page_at old space q)) same ∙ e)
+    | inl below ↦ with_below (is_after_entries next p) (nat_eq page p) mapped (nat_lt p page) (is_some (page_at old space p)) (still_behind p below) (not_equal p (inl below)) (is_below p page below)
+    | inr (inl same) ↦ with_same (is_after_entries next p) (nat_eq page p) mapped (nat_lt p page) (is_some (page_at old space p))
+        (ap (is_after_entries next) same ∙ here_behind) (equal p same) (is_above p page (omega (arith, same))) (ap (λ q. is_some (page_at old space q)) same ∙ e)
     | inr (inr above) ↦ with_above _ (nat_eq page p) mapped (nat_lt p page) (is_some (page_at old space p)) (not_between p above) (not_equal p (inr above)) (is_above p page (omega (arith, above)))
   ]
     where
@@ -90,7 +90,7 @@ module _ (space page : ℕ) (old now new : Contents) (next : Option ℕ) (was : 
   was_here = sym (was.ahead page (is_above page page (omega arith)))
 
   longer : (mapped : Bool) → is_some (page_at old space page) ≡ mapped → (mapped ≡ true → Step now (Cleared space page) new) → (mapped ≡ false → new ≡ now)
-      → HasHistoryBehind (Some page) space old now → HasHistoryBehind next space old new
+      → HasHistoryAfter (Some page) space old now → HasHistoryAfter next space old new
   longer true e step same (pages, h) = (
     page ∷ pages,
     record {
@@ -120,7 +120,7 @@ module _ (space page : ℕ) (old now new : Contents) (next : Option ℕ) (was : 
 
   pub longer_history : (result : Option Bool) → result ≡ option_map (λ (p : PageState). p.soft_dirty) (page_at now space page)
       → IfSome result (λ _. Step now (Cleared space page) new) → (result ≡ None → new ≡ now)
-      → HasHistoryBehind (Some page) space old now → HasHistoryBehind next space old new
+      → HasHistoryAfter (Some page) space old now → HasHistoryAfter next space old new
   longer_history (Some bit) bits step none = longer true (ap is_some was_here ∙ some_mapped (page_at now space page) bits) (λ _. step) (λ e. absurd (let f : true ≡ false = e in cc))
     where
       some_mapped : (o : Option PageState) → Some bit ≡ option_map (λ (p : PageState). p.soft_dirty) o → is_some o ≡ true

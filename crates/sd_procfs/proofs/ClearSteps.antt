@@ -11,16 +11,16 @@ use Rattle.sd_pagetable.specs.Law.{IsClearedAt, ClearLaw}
 use Rattle.sd_procfs.specs.Clears.{IsNextIn}
 
 -- whether a page was passed: those before the cursor, or all
-abbrev pub is_behind : Option ℕ → ℕ → Bool
-is_behind None page = true
-is_behind (Some cursor) page = nat_lt page cursor
+abbrev pub is_after_entries : Option ℕ → ℕ → Bool
+is_after_entries None page = true
+is_after_entries (Some cursor) page = nat_lt page cursor
 
 -- the pages after the cursor are cleared, and nothing else changed
-pub record ClearsBehind (cursor : Option ℕ) (space : ℕ) (old now : Contents) : Type 0 where
+pub record ClearsAfter (cursor : Option ℕ) (space : ℕ) (old now : Contents) : Type 0 where
   pub pool : now.pool ≡ old.pool
   pub alive : (other : ℕ) → is_alive now.spaces other ≡ is_alive old.spaces other
-  pub behind : (page : ℕ) → is_behind cursor page ≡ true → page_at now space page ≡ option_map cleared_page (page_at old space page)
-  pub ahead : (page : ℕ) → is_behind cursor page ≡ false → page_at now space page ≡ page_at old space page
+  pub behind : (page : ℕ) → is_after_entries cursor page ≡ true → page_at now space page ≡ option_map cleared_page (page_at old space page)
+  pub ahead : (page : ℕ) → is_after_entries cursor page ≡ false → page_at now space page ≡ page_at old space page
   pub others : (other page : ℕ) → other ≢ space → page_at now other page ≡ page_at old other page
 
 -- how far the cursor is from the end
@@ -31,7 +31,7 @@ way_left (Some page) = 2 ^ 35 - page
 never_below : (p n : ℕ) → n ≡ 0 → nat_lt p n ≡ true → ⊥
 never_below p n zero below = grind (arith, nat_tests)
 
-pub starts : (cursor : Option ℕ) (space : ℕ) (memory : Contents) → IsSome cursor → IfSome cursor (λ page. page ≡ 0) → ClearsBehind cursor space memory memory
+pub starts : (cursor : Option ℕ) (space : ℕ) (memory : Contents) → IsSome cursor → IfSome cursor (λ page. page ≡ 0) → ClearsAfter cursor space memory memory
 starts cursor space memory some given = grind arith
 
 -- a test and clear, also of a page that isn't mapped
@@ -74,14 +74,14 @@ pub is_above : (p n : ℕ) → n ≤ p → nat_lt p n ≡ false
 is_above p n above = grind (arith, nat_tests)
 
 -- a page after the one that was just cleared, before the next
-pub between : (next : Option ℕ) (memory : Contents) (space page p : ℕ) → IsNextIn memory space page next → page < p → is_behind next p ≡ true → IsSome (page_at memory space p) → ⊥
+pub between : (next : Option ℕ) (memory : Contents) (space page p : ℕ) → IsNextIn memory space page next → page < p → is_after_entries next p ≡ true → IsSome (page_at memory space p) → ⊥
 between next memory space page p least above behind mapped = grind arith
 
-module _ (space page : ℕ) (old now new : Contents) (was : ClearsBehind (Some page) space old now) (cleared : IsClearedAt space page now new) where
+module _ (space page : ℕ) (old now new : Contents) (was : ClearsAfter (Some page) space old now) (cleared : IsClearedAt space page now new) where
   same_in : (p : ℕ) → p ≢ page → page_at new space p ≡ page_at now space p
   same_in p differs = cleared.others space p (apart_in space page p differs)
 
-  passed : (next : Option ℕ) → IsNextIn new space page next → (p : ℕ) → is_behind next p ≡ true → page_at new space p ≡ option_map cleared_page (page_at old space p)
+  passed : (next : Option ℕ) → IsNextIn new space page next → (p : ℕ) → is_after_entries next p ≡ true → page_at new space p ≡ option_map cleared_page (page_at old space p)
   passed next least p behind = elim (cases_order p page) [
     | inl below ↦ same_in p (λ e. omega (arith, below, e)) ∙ was.behind p (is_below p page below)
     | inr (inl e) ↦ ap (page_at new space) e ∙ cleared.here ∙ ap (option_map cleared_page) (was.ahead page (is_above page page (omega arith)) ∙ ap (page_at old space) (sym e))
@@ -99,10 +99,10 @@ module _ (space page : ℕ) (old now new : Contents) (was : ClearsBehind (Some p
         ]
       ]
 
-  not_passed : (next : Option ℕ) → IsNextIn new space page next → (p : ℕ) → is_behind next p ≡ false → page_at new space p ≡ page_at old space p
+  not_passed : (next : Option ℕ) → IsNextIn new space page next → (p : ℕ) → is_after_entries next p ≡ false → page_at new space p ≡ page_at old space p
   not_passed next least p ahead = grind arith
 
-  pub one_more : (next : Option ℕ) → IsNextIn new space page next → ClearsBehind next space old new
+  pub one_more : (next : Option ℕ) → IsNextIn new space page next → ClearsAfter next space old new
   one_more next least = record {
     pool = cleared.pool ∙ was.pool;
     alive = λ other. cleared.alive other ∙ was.alive other;

@@ -6,7 +6,7 @@ use crate::beside::BESIDE;
 use crate::cause::{Causes, tell};
 use crate::few_slots::FewSlots;
 use crate::folders::{make_store, open_store};
-use crate::lacks::tell_numbers;
+use crate::lacks::report_numbers;
 use crate::verbose::{Logger, Seen, logger_of};
 use sd_disk::{DirDisk, Found, is_being_written};
 use sd_exit::Stop;
@@ -33,14 +33,14 @@ impl<'a> Called<'a> {
     }
 
     /// Reports how many slots are free where fewer are than are needed.
-    pub fn tell_few(self, slots: FewSlots) {
+    pub fn report_few(self, slots: FewSlots) {
         if slots.are_few() {
             self.tell(&slots);
         }
     }
 
     /// Reports what the system answered to the last call that failed, if one did.
-    pub fn tell_device(self, disk: &DirDisk) {
+    pub fn report_device(self, disk: &DirDisk) {
         if let Some(fault) = disk.fault() {
             self.tell(&fault);
         }
@@ -52,15 +52,15 @@ impl<'a> Called<'a> {
     }
 
     /// Reports that a run may have disturbed an answer, where one is writing the store.
-    pub fn tell_beside(self) {
+    pub fn report_beside(self) {
         if self.is_beside() {
             self.tell(&BESIDE);
         }
     }
 
     /// Reports which checkpoints can be restored, where a store has not the one that was asked for.
-    pub fn tell_numbers(self, disk: DirDisk) {
-        tell_numbers(self, disk);
+    pub fn report_numbers(self, disk: DirDisk) {
+        report_numbers(self, disk);
     }
 
     /// Whether it is shown how far a job is.

@@ -16,7 +16,7 @@ pub const NOT_THERE: u8 = 3;
 const NONE_THERE: &str = "it has no checkpoint that can be restored";
 
 /// Prints that a store has no image of a checkpoint, and returns the exit status.
-pub fn told_not_there<W: Write>(number: u64, out: &mut Output<W>) -> u8 {
+pub fn print_not_there<W: Write>(number: u64, out: &mut Output<W>) -> u8 {
     let _ = writeln!(out, "no checkpoint {number}");
     out.finish(NOT_THERE)
 }
@@ -44,7 +44,7 @@ fn numbers_in(alloc: Global, disk: &mut DirDisk) -> Result<String, Fault> {
 }
 
 /// Reports which checkpoints can be restored.
-pub(crate) fn tell_numbers(called: Called<'_>, disk: DirDisk) {
+pub(crate) fn report_numbers(called: Called<'_>, disk: DirDisk) {
     let mut disk = disk;
     match numbers_in(called.rt.alloc(), &mut disk) {
         Ok(text) if text.is_empty() => called.tell(&NONE_THERE),

@@ -19,7 +19,7 @@ pub use beside::{BESIDE, PAUSES, may_change, read_until_steady};
 pub use called::Called;
 pub use cause::{Advised, Causes, tell};
 pub use few_slots::FewSlots;
-pub use lacks::{NOT_THERE, told_not_there};
+pub use lacks::{NOT_THERE, print_not_there};
 pub use pace::{CLEAR, Done, Pace};
 pub use scripts::{Inputs, STANDARD_INPUT, read_script, unread};
 pub use slots::{has_slot_files, is_same_file, is_slot_file, open_beside_slots, slot_error};

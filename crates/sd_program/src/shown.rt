@@ -83,7 +83,7 @@ impl<'a> ReadingLine<'a> {
     }
 
     /// Whether a slot stands after those that were read.
-    fn is_behind(&self, slot: usize) -> bool {
+    fn is_after_entries(&self, slot: usize) -> bool {
         match self.top {
             Some(top) => slot > top,
             None => true,
@@ -92,7 +92,7 @@ impl<'a> ReadingLine<'a> {
 
     /// Counts a read after a header. After the last the line is off.
     fn count(&mut self, slot: usize, length: usize) {
-        if self.is_behind(slot) {
+        if self.is_after_entries(slot) {
             self.top = Some(slot);
             self.image = self.image.saturating_add(1);
         }

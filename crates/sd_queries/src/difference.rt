@@ -4,7 +4,7 @@ use crate::queries::{lacks_printed, print_fault, status_or};
 use sd_diff::{DiffFault, Difference, diff, difference_json, difference_text};
 use sd_disk::Disk;
 use sd_exit::{Output, Stop, exit};
-use sd_program::told_not_there;
+use sd_program::print_not_there;
 use sd_readers::fronts;
 use sd_restore::Fault;
 use std::alloc::Global;
@@ -71,7 +71,7 @@ fn end_without<W: Write>(alloc: Global, is_document: bool, number: u64, out: &mu
     if is_document {
         status_or(lacks_printed(alloc, number, out), out)
     } else {
-        told_not_there(number, out)
+        print_not_there(number, out)
     }
 }
 

@@ -46,7 +46,7 @@ impl DropAsked<'_> {
         let called = self.called;
         let mut disk = self.seen.disk("drop", called.make_store(clock)?);
         let ended = drop_image(called.rt.alloc(), &mut disk, self.slot, self.force);
-        called.tell_device(&unseen(disk));
+        called.report_device(&unseen(disk));
         Ok(ended)
     }
 

@@ -58,7 +58,7 @@ impl fmt::Display for Damage<'_> {
 }
 
 /// Reports what is damaged, if a program's last line says so.
-pub fn tell_damage(called: Called<'_>, told: Option<Fault>) {
+pub fn report_damage(called: Called<'_>, told: Option<Fault>) {
     if called.causes == Causes::Kept {
         return;
     }
@@ -76,10 +76,10 @@ pub fn tell_damage(called: Called<'_>, told: Option<Fault>) {
 
 /// Reports that a folder has no file of a slot, if that is so: what was read may be another folder than is meant. Else
 /// it reports, where that is asked for, that nothing is saved there.
-pub fn tell_empty(called: Called<'_>, tells_fault: bool) {
+pub fn report_empty(called: Called<'_>, reports_fault: bool) {
     if !has_slot_files(called.rt, called.rt.alloc(), called.folder) {
         called.tell(&NO_FILES);
-    } else if tells_fault {
+    } else if reports_fault {
         called.tell(&NOTHING_SAVED);
     }
 }

@@ -11,7 +11,7 @@ mod show;
 
 pub use difference::Compared;
 pub use drop::drop_program;
-pub use ends::{tell_damage, tell_empty};
+pub use ends::{report_damage, report_empty};
 pub use queries::Query;
 pub use reading::reader_program;
 pub use show::show_program;

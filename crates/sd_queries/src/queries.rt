@@ -7,10 +7,10 @@ ghost use Rattle.sd_queries.specs.declared.queries.Query.TheVariants as query;
 
 use crate::difference::{Compared, print_compared};
 use sd_disk::Disk;
-use sd_exit::{Output, Stop, exit, exit_told};
+use sd_exit::{Output, Stop, exit, exit_with_fault};
 use sd_history::{History, history_json, history_of, history_text};
 use sd_json::{Document, document_text, fault_text, lacks_text};
-use sd_program::{NOT_THERE, told_not_there};
+use sd_program::{NOT_THERE, print_not_there};
 use sd_readers::{
     Reader, ReaderAt, fronts, list_to, print_at, print_verdict, restore_to, verify_to,
 };
@@ -38,7 +38,7 @@ pub enum Query {
 }
 
 /// What is done with a store by a program that reads it.
-fn deed_of(reader: Reader) -> &'static str {
+fn verb_of(reader: Reader) -> &'static str {
     match reader {
         Reader::Restore => "restore",
         Reader::List => "list",
@@ -47,7 +47,7 @@ fn deed_of(reader: Reader) -> &'static str {
 }
 
 /// What is done with a store by a program that reads a checkpoint of it.
-fn deed_at(reader: ReaderAt) -> &'static str {
+fn verb_at(reader: ReaderAt) -> &'static str {
     match reader {
         ReaderAt::Restore => "restore",
         ReaderAt::Verify => "verify",
@@ -56,10 +56,10 @@ fn deed_at(reader: ReaderAt) -> &'static str {
 
 impl Query {
     /// What is done with the store.
-    pub fn deed(self) -> &'static str {
+    pub fn verb(self) -> &'static str {
         match self {
-            Query::Newest(reader) | Query::Document(Document::Newest(reader)) => deed_of(reader),
-            Query::At(reader, _) | Query::Document(Document::At(reader, _)) => deed_at(reader),
+            Query::Newest(reader) | Query::Document(Document::Newest(reader)) => verb_of(reader),
+            Query::At(reader, _) | Query::Document(Document::At(reader, _)) => verb_at(reader),
             Query::AtLeast(_) => "verify",
             Query::History | Query::HistoryDocument => "history",
             Query::Difference(_) => "diff",
@@ -154,7 +154,7 @@ fn print_one<D: Disk, W: Write>(
 ) -> u8 {
     let ended = print_at(alloc, reader, disk, number, out);
     match fault_of(&ended) {
-        Some(Fault::EmptyChain) => told_not_there(number, out),
+        Some(Fault::EmptyChain) => print_not_there(number, out),
         _ => exit(&ended, out),
     }
 }
@@ -170,7 +170,7 @@ fn end_document<W: Write>(alloc: Global, ended: Result<(), Stop>, out: &mut Outp
 /// Prints the document of a fault, and returns the exit status that the fault's line has.
 pub fn print_fault<W: Write>(alloc: Global, fault: Fault, out: &mut Output<W>) -> Result<u8, Stop> {
     writeln!(out, "{}", fault_text(alloc, &fault)?)?;
-    Ok(exit_told(fault, out))
+    Ok(exit_with_fault(fault, out))
 }
 
 /// Prints a document of a store on one line.

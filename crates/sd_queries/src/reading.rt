@@ -8,7 +8,7 @@ ghost use Rattle.sd_queries.specs.declared.queries.Query.TheVariants as query;
 
 use crate::queries::Query;
 use sd_disk::{DirDisk, Disk};
-use sd_exit::{Output, Stop, exit_told};
+use sd_exit::{Output, Stop, exit_with_fault};
 use sd_program::{BESIDE, Called, NOT_THERE, PAUSES, Seen, may_change, unseen};
 use sd_readers::print_held;
 use sd_restore::Fault;
@@ -49,7 +49,7 @@ impl ReadAsked<'_> {
             out.new.refused) }
     {
         let disk = self.called.open_store()?;
-        let mut disk = self.seen.disk(self.query.deed(), disk);
+        let mut disk = self.seen.disk(self.query.verb(), disk);
         let status = self.query.answer(self.called.rt.alloc(), &mut disk, out);
         Ok((unseen(disk), status))
     }
@@ -108,7 +108,7 @@ impl ReadAsked<'_> {
             return Err(Stop::Fault(fault));
         }
         out.write_all(&tried.text)?;
-        Ok((tried.disk, exit_told(fault, out)))
+        Ok((tried.disk, exit_with_fault(fault, out)))
     }
 
     /// Reads the store while a run writes it. What is printed is whole, or why there is nothing.
@@ -142,17 +142,17 @@ impl ReadAsked<'_> {
             out.new.refused) }
     {
         let (disk, status) = self.read_once(out)?;
-        self.called.tell_device(&disk);
+        self.called.report_device(&disk);
         if may_change(out.fault()) {
-            self.called.tell_beside();
+            self.called.report_beside();
         }
         Ok((disk, status))
     }
 
     /// Reports why an answer says no: which checkpoints there are, or that the newest is too old.
-    fn tell_lack<W: Write>(self, disk: DirDisk, status: u8, out: &Output<W>) {
+    fn report_lack<W: Write>(self, disk: DirDisk, status: u8, out: &Output<W>) {
         if status == NOT_THERE && self.query.names_one() {
-            self.called.tell_numbers(disk);
+            self.called.report_numbers(disk);
         } else if let (Query::AtLeast(least), FAILED, None) = (self.query, status, out.fault())
             && !out.is_refused()
         {
@@ -209,6 +209,6 @@ pub fn reader_program<R: Clock + Wait, W: Write>(
         query: question,
     };
     let (disk, status) = read_store(asked, clock, out)?;
-    asked.tell_lack(disk, status, out);
+    asked.report_lack(disk, status, out);
     Ok(status)
 }

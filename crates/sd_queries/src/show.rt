@@ -80,9 +80,9 @@ impl ShowAsked<'_> {
         let called = self.called;
         let mut disk = self.seen.disk("show", called.open_store()?);
         let shown = show_in(called.rt.alloc(), &mut disk, self.slot, self.as_json, out);
-        called.tell_device(&unseen(disk));
+        called.report_device(&unseen(disk));
         if matches!(shown, Err(ShowStop::Device)) {
-            called.tell_beside();
+            called.report_beside();
         }
         Ok(shown)
     }
@@ -107,7 +107,7 @@ impl ShowAsked<'_> {
             || self.show_held(),
             |(_, shown, _)| matches!(shown, Err(ShowStop::Device)),
         )?;
-        self.called.tell_device(&disk);
+        self.called.report_device(&disk);
         match &shown {
             Ok(_) => out.write_all(&text)?,
             Err(ShowStop::Device) => self.called.tell(&BESIDE),

@@ -11,7 +11,7 @@ use Rattle.sd_chain.specs.declared.found.Found.TheVariants as found
 use Rattle.sd_chain.specs.Chains.{found_on}
 use Rattle.sd_chain.specs.Store.{bytes_at}
 use Rattle.sd_restore.specs.declared.placed_run.PlacedRun.{PlacedRun}
-use Rattle.sd_restore.specs.Placed.{PlacedPage, page_behind, pages_in}
+use Rattle.sd_restore.specs.Placed.{PlacedPage, page_of_run, pages_in}
 use Rattle.sd_restore.proofs.RunLemmas.{first_pages, none_first, one_more}
 use Rattle.sd_restore.proofs.TakeLemmas.{range_of_same}
 use Rattle.sd_readers.specs.Texts.{page_text, part_text, pages_text, part_of_run, placed_lines, placed_text}
@@ -62,11 +62,11 @@ first_more contents r d zero = ap (λ k. flat_map (placed_text contents) (first_
 first_more contents r d (suc n) =
     ap (λ k. flat_map (placed_text contents) (first_pages r k)) (let e : d + suc n ≡ suc (d + n) = omega arith in e)
     ∙ ap (flat_map (placed_text contents)) (one_more r (d + n))
-    ∙ flat_map-append (placed_text contents) (first_pages r (d + n)) (page_behind r (d + n) ∷ [])
-    ∙ ap (λ xs. flat_map (placed_text contents) (first_pages r (d + n)) ++ xs) (append-nil (placed_text contents (page_behind r (d + n))))
-    ∙ ap (λ xs. xs ++ placed_text contents (page_behind r (d + n))) (first_more contents r d n)
-    ∙ append_assoc (flat_map (placed_text contents) (first_pages r d)) (part_of_run contents r d n) (placed_text contents (page_behind r (d + n)))
-    ∙ ap (λ xs. flat_map (placed_text contents) (first_pages r d) ++ xs) (sym (parts_last (λ k. placed_text contents (page_behind r (d + k))) n))
+    ∙ flat_map-append (placed_text contents) (first_pages r (d + n)) (page_of_run r (d + n) ∷ [])
+    ∙ ap (λ xs. flat_map (placed_text contents) (first_pages r (d + n)) ++ xs) (append-nil (placed_text contents (page_of_run r (d + n))))
+    ∙ ap (λ xs. xs ++ placed_text contents (page_of_run r (d + n))) (first_more contents r d n)
+    ∙ append_assoc (flat_map (placed_text contents) (first_pages r d)) (part_of_run contents r d n) (placed_text contents (page_of_run r (d + n)))
+    ∙ ap (λ xs. flat_map (placed_text contents) (first_pages r d) ++ xs) (sym (parts_last (λ k. placed_text contents (page_of_run r (d + k))) n))
 
 pub none_of_run : (contents : List (List ℕ)) (r : PlacedRun) → flat_map (placed_text contents) (first_pages r 0) ≡ []
 none_of_run contents r = ap (flat_map (placed_text contents)) (none_first r)
@@ -82,10 +82,10 @@ keeps_all p f [] all = refl
 keeps_all p f (x ∷ xs) all = cond-true _ _ _ (all x) ∙ ap (λ ys. f x ∷ ys) (keeps_all p f xs all)
 
 pub lines_apart : (contents : List (List ℕ)) (space : ℕ) (r : PlacedRun) → nat_eq r.space space ≡ false → placed_lines contents space (pages_in r) ≡ []
-lines_apart contents space r apart = ap (flat_map (placed_text contents)) (keeps_none (λ (p : PlacedPage). nat_eq p.space space) (page_behind r) (pages_from 0 r.count) (λ k. apart))
+lines_apart contents space r apart = ap (flat_map (placed_text contents)) (keeps_none (λ (p : PlacedPage). nat_eq p.space space) (page_of_run r) (pages_from 0 r.count) (λ k. apart))
 
 pub lines_within : (contents : List (List ℕ)) (space : ℕ) (r : PlacedRun) → nat_eq r.space space ≡ true → placed_lines contents space (pages_in r) ≡ flat_map (placed_text contents) (pages_in r)
-lines_within contents space r within = ap (flat_map (placed_text contents)) (keeps_all (λ (p : PlacedPage). nat_eq p.space space) (page_behind r) (pages_from 0 r.count) (λ k. within))
+lines_within contents space r within = ap (flat_map (placed_text contents)) (keeps_all (λ (p : PlacedPage). nat_eq p.space space) (page_of_run r) (pages_from 0 r.count) (λ k. within))
 
 -- ---- pages of zeros
 
@@ -105,5 +105,5 @@ zero_texts contents p f (x ∷ xs) none = by (p (f x)) refl (zero_texts contents
     by false e rest = ap (flat_map (placed_text contents)) (cond-false _ _ _ e) ∙ rest
 
 pub lines_of_zeros : (contents : List (List ℕ)) (space : ℕ) (r : PlacedRun) → r.there ≡ found.Zero → placed_lines contents space (pages_in r) ≡ []
-lines_of_zeros contents space r zeros = zero_texts contents (λ (p : PlacedPage). nat_eq p.space space) (page_behind r) (pages_from 0 r.count) (λ k.
+lines_of_zeros contents space r zeros = zero_texts contents (λ (p : PlacedPage). nat_eq p.space space) (page_of_run r) (pages_from 0 r.count) (λ k.
     ap (λ there. page_text (4096 * (r.first + k)) (bytes_at contents (found_on there k))) zeros ∙ zero_page (4096 * (r.first + k)) 4096 refl)

@@ -9,13 +9,13 @@ use Rattle.sd_exit.specs.declared.stop.Stop.{Stop}
 use Rattle.sd_exit.specs.declared.stop.Stop.TheVariants as stop
 use Rattle.sd_exit.specs.Ending.{status_of}
 
--- a stop that tells what is wrong with a store, or that nothing was saved in it
+-- a stop that says what is wrong with a store, or that nothing was saved in it
 abbrev pub is_of_store : Stop → Bool
 is_of_store (stop.Fault EmptyChain) = true
 is_of_store (stop.Fault (Damaged _ _)) = true
 is_of_store _ = false
 
--- what is wrong with a store is told alone: nothing was printed before
+-- what is wrong with a store is reported alone: nothing was printed before
 abbrev pub StandsAlone : Option (List ℕ) → Option (List ℕ) → Stop → Type 0
 StandsAlone before after why = is_of_store why ≡ true → Keeps before after
 

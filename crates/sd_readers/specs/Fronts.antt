@@ -1,4 +1,4 @@
--- What tells the open images of a store apart.
+-- What distinguishes the open images of a store.
 use Rattle.std.specs.Prelude.{ℕ, List, Option, Some, None, take, if◌then◌else◌}
 use Rattle.sd_image.specs.Image.{is_open}
 

@@ -12,13 +12,13 @@ use Rattle.sd_readers.specs.declared.steady.Reader.TheVariants as reader
 use Rattle.sd_readers.specs.Ending.{IsBreak, StandsAlone}
 use Rattle.sd_readers.specs.Printed.{BeginsToPrint, Prints}
 
--- what a program that reads a store tells of a slot: it is damaged, as `scan` finds it; `list` walks no chain, and the
+-- what a program that reads a store says of a slot: it is damaged, as `scan` finds it; `list` walks no chain, and the
 -- others also find the first that breaks
 abbrev pub IsBlamed : Reader → List (List ℕ) → ℕ → Reason → Type 0
 IsBlamed reader.List contents slot reason = IsDamage contents slot reason
 IsBlamed _ contents slot reason = IsDamage contents slot reason ⊎ IsBrokenChain contents slot reason
 
--- Why it was stopped: nothing was saved, which `restore` alone tells; this slot is damaged, for this reason; or its
+-- Why it was stopped: nothing was saved, which `restore` alone reports; this slot is damaged, for this reason; or its
 -- printing was broken off.
 abbrev pub IsWhy : Reader → List (List ℕ) → ℕ → ℕ → Stop → Type 0
 IsWhy by contents failed now (stop.Fault EmptyChain) = (by ≡ reader.Restore) × Shows contents None
@@ -27,7 +27,7 @@ IsWhy by contents failed now why = IsBreak failed now why
 
 -- A program read a store with these contents, on a device that had failed so often before and so often now. At its end
 -- the whole text of what they show is written; where a fault stopped it, a beginning of that text, if anything. What is
--- wrong with the store is told alone, and what is told is the fault that is there.
+-- wrong with the store is reported alone, and what is reported is the fault that is there.
 pub record ReadsStore (by : Reader) (IsHonest : Type 0) (contents : List (List ℕ)) (failed now : ℕ)
     (ended : Result Unit Stop) (before after : Option (List ℕ)) : Type 0 where
   pub text : IsHonest → OnOk ended (Prints by contents before after)

@@ -8,7 +8,7 @@ use Rattle.hex.specs.Hex.{encode_lower}
 use Rattle.sd_areas.specs.PlainMemory.{Page, Space, PlainMemory}
 use Rattle.sd_procfs.specs.Listing.{address_text, area_line, listing_text}
 use Rattle.sd_restore.specs.Fits.{prots_in}
-use Rattle.sd_restore.specs.Placed.{PlacedPage, page_behind}
+use Rattle.sd_restore.specs.Placed.{PlacedPage, page_of_run}
 use Rattle.sd_restore.specs.declared.placed_run.PlacedRun.{PlacedRun}
 use Rattle.sd_chain.specs.Store.{bytes_at}
 use Rattle.sd_image.specs.Table.{Listed}
@@ -63,7 +63,7 @@ placed_memory_text contents checkpoint spaces pages =
 -- so many pages of a run from one on
 abbrev pub part_of_run : List (List ℕ) → PlacedRun → ℕ → ℕ → List ℕ
 part_of_run contents r behind count =
-    flat_map (λ k. placed_text contents (page_behind r (behind + k))) (range_with_len 0 count)
+    flat_map (λ k. placed_text contents (page_of_run r (behind + k))) (range_with_len 0 count)
 
 -- pages that lie one after the other in bytes that were read
 abbrev pub pages_text : ℕ → List ℕ → ℕ → List ℕ

@@ -32,7 +32,7 @@ pub enum Reader {
     Verify,
 }
 
-/// How much of a slot's file tells its image apart: with its serial and its digest.
+/// How much of a slot's file distinguishes its image: with its serial and its digest.
 const FRONT: usize = 96;
 
 /// The front of an open image's file. None of a slot that is closed, or in which an image is being made.

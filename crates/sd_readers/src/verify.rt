@@ -48,7 +48,7 @@ pub(crate) fn print_report<D: Disk, W: Write>(
         (PrintsVerdict (D.contents disk.old) (W.contents out.old.writer) (W.contents out.new.writer)) }
     // Where a fault stopped it, nothing is written yet.
     ensures none { OnFault result (Keeps (W.contents out.old.writer) (W.contents out.new.writer)) }
-    // What is wrong with the store is told alone.
+    // What is wrong with the store is reported alone.
     ensures alone { IfErr result (StandsAlone (W.contents out.old.writer) (W.contents out.new.writer)) }
     ensures stopped { EndsWithOne result }
     // What stopped it is what it names.

@@ -1,4 +1,4 @@
-//! Checking a journal against what the seats and the worker were told.
+//! Checking a journal against what the seats and the worker were answered.
 ghost use Rattle.std.specs.Prelude.{◌≡◌, ◌↔◌, ◌+◌, ◌<◌, ℕ, false, length, IsOk, IsTrue, IfErr, OnOk, MatchOption};
 ghost use Rattle.sd_journal.specs.Receipts.{Accounts, AllStand, AreRising, IsEntryAt, IsFault, IsFaultAfter, IsFaultAt};
 ghost use Rattle.sd_journal.specs.Receipts.{Stands, acked_numbers, command_count, is_command};

@@ -1,4 +1,4 @@
-//! Whether a journal accounts for what the seats and the worker were told.
+//! Whether a journal accounts for what the seats and the worker were answered.
 #![tactic(auto)]
 
 mod checking;

@@ -69,7 +69,7 @@ impl Front {
         }
     }
 
-    /// Tells one writer that nothing more comes.
+    /// Lets one writer know that nothing more comes.
     fn end_one<R: Wait>(&mut self, rt: &R)
         ensures stays { StaysOnChannel self.old self.new }
         ensures put { put_into self.new ≡ put_into self.old }
@@ -79,7 +79,7 @@ impl Front {
             .send_as::<Puts, R>(rt, &mut self.pass, Message::End);
     }
 
-    /// Tells so many writers that nothing more comes.
+    /// Lets so many writers know that nothing more comes.
     pub(crate) fn end<R: Wait>(&mut self, rt: &R, writers: usize)
         ensures stays { StaysOnChannel self.old self.new }
         ensures put { put_into self.new ≡ put_into self.old }

@@ -13,7 +13,7 @@ use Rattle.sd_chain.specs.Catalog.{Opened, Places}
 use Rattle.sd_chain.specs.Store.{FindsTip}
 use Rattle.sd_restore.specs.declared.fault.Fault.{Fault}
 use Rattle.sd_restore.specs.declared.fault.Fault.TheVariants.{Device}
-use Rattle.sd_restore.specs.Calls.{HasPagesWithin, calls_behind, calls_for, fronts_read, pages_digested}
+use Rattle.sd_restore.specs.Calls.{HasPagesWithin, calls_left_after, calls_for, fronts_read, pages_digested}
 use Rattle.sd_restore.specs.Mapped.{mapped_pages}
 use Rattle.sd_restore.specs.Placed.{PlacedPage, ArePlaced}
 
@@ -45,7 +45,7 @@ calls_left file h bytes len a b opens are long read few =
     let first : List ℕ = slice_range file 0 4096 in
     let here : header_in first (length file) ≡ Ok h = sym (ap (header_in first) long) ∙ sym (ap (λ xs. header_in xs len) are) ∙ read in
     let calls : calls_for file ≡ 3 + (fronts_read h.table_len + pages_digested h.version h.pages) =
-    calls_of_open (length file) (calls_behind (header_in first (length file))) (slice_index file 0 == 165) opens ∙ ap (λ r. 3 + calls_behind r) here in
+    calls_of_open (length file) (calls_left_after (header_in first (length file))) (slice_index file 0 == 165) opens ∙ ap (λ r. 3 + calls_left_after r) here in
     subst (λ n. b + 1 + (fronts_read h.table_len + pages_digested h.version h.pages) ≤ a + n) (sym calls) (omega (arith, few))
 
 calls_of_long : (long calls : ℕ) (opens : Bool) → 4096 ≤ long → 2 ≤ (if nat_lt long 4096 then 1 else (if opens then 3 + calls else 2))
@@ -61,7 +61,7 @@ one_call file a b is = grind arith
 pub two_calls : (file : List ℕ) (len a b : ℕ) → len ≡ length file → 4096 ≤ len → b ≡ a + 1 + 1 → b ≤ a + calls_for file
 two_calls file len a b long enough is =
     two_more a b (calls_for file) is
-    (calls_of_long (length file) (calls_behind (header_in (slice_range file 0 4096) (length file))) (is_open file) (subst (λ n. 4096 ≤ n) long enough))
+    (calls_of_long (length file) (calls_left_after (header_in (slice_range file 0 4096) (length file))) (is_open file) (subst (λ n. 4096 ≤ n) long enough))
 
 -- as many pages were placed as are mapped
 pub as_many : (places : Places) (i : Opened) (pages : List PlacedPage) → ArePlaced places i.header.serial (mapped_pages i.spaces) pages → length pages ≡ length (mapped_pages i.spaces)

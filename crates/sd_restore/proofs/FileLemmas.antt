@@ -20,7 +20,7 @@ use Rattle.sd_restore.proofs.TakeLemmas.{taken_all}
 index_of_first : (file : List ℕ) → slice_index (slice_range file 0 4096) 0 ≡ slice_index file 0
 index_of_first file = grind arith
 
--- whether a file is open is told by its length and its first byte
+-- whether a file is open is said by its length and its first byte
 pub short_is_closed : (file : List ℕ) (len : ℕ) → len ≡ length file → len < 4096 → is_open file ≡ false
 short_is_closed file len long short = grind (arith, le-leb)
 

@@ -1,4 +1,4 @@
--- Where reading a store may want memory.
+-- Where reading a store may take memory.
 use Rattle.std.proofs.Common.{◌≡◌, ℕ, true, List, [], Contains, ◌∙◌, ap, arith}
 use Rattle.std.proofs.lemmas.Option.{get_or_from_slice_get}
 use Rattle.sd_disk.specs.Contents.{file_at}

@@ -19,16 +19,16 @@ pages_digested Two pages = pages
 unfoldable pub fronts_read : ℕ → ℕ
 fronts_read table_len = if nat_le table_len 2097152 then 0 else 42
 
-abbrev pub calls_behind : Result Header Reason → ℕ
-calls_behind (Ok h) = fronts_read h.table_len + pages_digested h.version h.pages
-calls_behind (Err reason) = 0
+abbrev pub calls_left_after : Result Header Reason → ℕ
+calls_left_after (Ok h) = fronts_read h.table_len + pages_digested h.version h.pages
+calls_left_after (Err reason) = 0
 
 -- a slot: its length; its first bytes, where the file is as long as a header; where the slot is open, its table, after
 -- the fronts of a long one, and in version 2 its data pages
 abbrev pub calls_for : List ℕ → ℕ
 calls_for file =
     if nat_lt (length file) 4096 then 1
-    else (if is_open file then 3 + calls_behind (header_in (slice_range file 0 4096) (length file)) else 2)
+    else (if is_open file then 3 + calls_left_after (header_in (slice_range file 0 4096) (length file)) else 2)
 
 -- all slots
 abbrev pub scan_calls : List (List ℕ) → ℕ

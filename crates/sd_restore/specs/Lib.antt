@@ -6,5 +6,5 @@ pub mod Digested
 pub mod Placed
 pub mod Calls
 pub mod Fits
-pub mod Wants
+pub mod MemoryTaken
 pub mod At

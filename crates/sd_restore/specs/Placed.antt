@@ -30,12 +30,12 @@ pub record PlacedPage : Type 0 where
   pub there : Found
 
 -- the page of a run that is so many after its first
-abbrev pub page_behind : PlacedRun → ℕ → PlacedPage
-page_behind r k = record { space = r.space; page = r.first + k; prot = r.prot; there = found_on r.there k }
+abbrev pub page_of_run : PlacedRun → ℕ → PlacedPage
+page_of_run r k = record { space = r.space; page = r.first + k; prot = r.prot; there = found_on r.there k }
 
 -- the pages of a run, each with where its bytes are found
 abbrev pub pages_in : PlacedRun → List PlacedPage
-pages_in r = map (page_behind r) (pages_from 0 r.count)
+pages_in r = map (page_of_run r) (pages_from 0 r.count)
 
 -- the pages of these runs, each with where its bytes are found
 abbrev pub placed_pages : List PlacedRun → List PlacedPage

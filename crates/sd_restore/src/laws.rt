@@ -7,7 +7,7 @@ use sd_areas::{areas_law, count_law, one_list_law};
 use sd_image::{good_file_has_no_reason, good_header_has_no_reason};
 
 /// A memory that a store shows is within the limits of a page table: its spaces have numbers of 1 to 16, each has at
-/// most 1,024 areas, and all together have at most 65,536 pages. So whoever takes it over is refused only for want of
+/// most 1,024 areas, and all together have at most 65,536 pages. So whoever takes it over is refused only for lack of
 /// frames or of memory.
 pub fn shown_is_within_limits()
     ensures { ShownIsWithinLimits }

@@ -9,7 +9,7 @@ ghost use Rattle.sd_image.specs.Image.{is_open};
 ghost use Rattle.sd_restore.specs.Calls.{calls_for, fronts_read, pages_digested};
 ghost use Rattle.sd_restore.specs.Faulty.{FaultNames, IsFaulty};
 ghost use Rattle.sd_restore.specs.Reading.{HasHeader, IsDecodedAs, IsReading, IsSoundTable, table_bytes};
-ghost use Rattle.sd_restore.specs.Wants.{WantsMemory};
+ghost use Rattle.sd_restore.specs.MemoryTaken.{FileTakesMemory};
 
 use crate::decoded::{Decoded, decode_slot};
 use crate::digests::check_digest;
@@ -136,11 +136,11 @@ pub fn read_slot<D: Disk>(
     ensures calls { D.is_honest disk.new → D.calls disk.new
         ≤ D.calls disk.old + calls_for (file_at (D.contents disk.old) slot) }
     ensures empty { result ≢ Err Fault.EmptyChain }
-    // Memory is wanted for what an open slot says, after its header.
+    // Memory is taken for what an open slot says, after its header.
     ensures headed { D.is_honest disk.new → IfOk result (λ opened. IsSome opened
-        → WantsMemory (file_at (D.contents disk.old) slot)) }
+        → FileTakesMemory (file_at (D.contents disk.old) slot)) }
     ensures wanted { D.is_honest disk.new → result ≡ Err Fault.OutOfMemory
-        → WantsMemory (file_at (D.contents disk.old) slot) }
+        → FileTakesMemory (file_at (D.contents disk.old) slot) }
 {
     let Some(header) = read_header(disk, slot)? else {
         return Ok(None);

@@ -11,7 +11,7 @@ ghost use Rattle.sd_chain.specs.Ways.{AreImages};
 ghost use Rattle.sd_restore.specs.Calls.{calls_for, scan_calls};
 ghost use Rattle.sd_restore.specs.Faulty.{FaultNames, IsFaulty, IsFirstFaulty, IsDamage};
 ghost use Rattle.sd_restore.specs.Scanned.{AreRead, IsScanned};
-ghost use Rattle.sd_restore.specs.Wants.{StoreWants, WantsMemory};
+ghost use Rattle.sd_restore.specs.MemoryTaken.{StoreTakesMemory, FileTakesMemory};
 
 use crate::fault::Fault;
 use crate::scanned::Scanned;
@@ -47,7 +47,7 @@ fn scan_slot<D: Disk>(
         ≤ D.calls disk.old + calls_for (file_at (D.contents disk.old) slot) }
     ensures empty { result ≢ Err Fault.EmptyChain }
     ensures wanted { D.is_honest disk.new → result ≡ Err Fault.OutOfMemory
-        → WantsMemory (file_at (D.contents disk.old) slot) }
+        → FileTakesMemory (file_at (D.contents disk.old) slot) }
 {
     let opened = read_slot(alloc, disk, slot)?;
     scanned.take_in(alloc, slot, opened)?;
@@ -68,7 +68,7 @@ fn scan_slots<D: Disk>(alloc: Global, disk: &mut D) -> Result<Scanned, Fault>
         → D.calls disk.new ≤ D.calls disk.old + scan_calls (D.contents disk.old) }
     ensures empty { result ≢ Err Fault.EmptyChain }
     ensures wanted { D.is_honest disk.new → result ≡ Err Fault.OutOfMemory
-        → StoreWants (D.contents disk.old) }
+        → StoreTakesMemory (D.contents disk.old) }
 {
     let mut scanned = Scanned::new(alloc);
     for slot in 0..disk.slots() {
@@ -96,7 +96,7 @@ pub fn scan_store<D: Disk>(alloc: Global, disk: &mut D) -> Result<Scanned, Fault
         → D.calls disk.new ≤ D.calls disk.old + scan_calls (D.contents disk.old) }
     ensures empty { result ≢ Err Fault.EmptyChain }
     ensures wanted { D.is_honest disk.new → result ≡ Err Fault.OutOfMemory
-        → StoreWants (D.contents disk.old) }
+        → StoreTakesMemory (D.contents disk.old) }
 {
     good_store_has_no_reason();
     one_image();
@@ -135,10 +135,10 @@ pub fn scan<D: Disk>(alloc: Global, disk: &mut D) -> Result<Catalog, Fault>
     ensures calls { D.is_honest disk.new
         → D.calls disk.new ≤ D.calls disk.old + scan_calls (D.contents disk.old) }
     ensures empty { result ≢ Err Fault.EmptyChain }
-    // Memory is wanted at an open slot that has a header, after slots that are closed or images; so none of a store
+    // Memory is taken at an open slot that has a header, after slots that are closed or images; so none of a store
     // without open slots.
     ensures wanted { D.is_honest disk.new → result ≡ Err Fault.OutOfMemory
-        → StoreWants (D.contents disk.old) }
+        → StoreTakesMemory (D.contents disk.old) }
 {
     let scanned = scan_store(alloc, disk)?;
     Ok(scanned.catalog)

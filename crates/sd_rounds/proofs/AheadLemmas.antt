@@ -141,10 +141,10 @@ less_above a b c d l = grind (arith, nat_tests)
 same_above : (a b d : ℕ) → b < d → (nat_lt a a || (nat_eq a a && nat_lt b d)) ≡ true
 same_above a b d l = grind (arith, nat_tests)
 
-abbrev IsBehind : ℕ → Place → Type 0
-IsBehind space at = space < at.0
+abbrev IsAfterPlace : ℕ → Place → Type 0
+IsAfterPlace space at = space < at.0
 
-all_behind : (space page : ℕ) (places : List Place) → AllByRecursion (IsBehind space) places → AllByRecursion (IsAfter (space, page)) places
+all_behind : (space page : ℕ) (places : List Place) → AllByRecursion (IsAfterPlace space) places → AllByRecursion (IsAfter (space, page)) places
 all_behind space page [] all = tt
 all_behind space page (q ∷ places) all = (less_above space page q.0 q.1 all.0, all_behind space page places all.1)
 
@@ -155,19 +155,19 @@ module _ {X : Type 0} where
   abbrev listed_in : ℕ → List (ℕ × X) → List Place
   listed_in space es = map (λ page. (space, page)) (map (λ (e : ℕ × X). e.0) es)
 
-  after_all : (space page : ℕ) (es : List (ℕ × X)) (more : List Place) → below_all nat_cmp page es ≡ true → AllByRecursion (IsBehind space) more → AllByRecursion (IsAfter (space, page)) (listed_in space es ++ more)
+  after_all : (space page : ℕ) (es : List (ℕ × X)) (more : List Place) → below_all nat_cmp page es ≡ true → AllByRecursion (IsAfterPlace space) more → AllByRecursion (IsAfter (space, page)) (listed_in space es ++ more)
   after_all space page [] more below behind = all_behind space page more behind
   after_all space page (e ∷ es) more below behind =
       let b = and_parts _ _ below in
       (same_above space page e.0 (below_less page e.0 b.0), after_all space page es more b.1 behind)
 
-  rising_in : (space : ℕ) (es : List (ℕ × X)) (more : List Place) → is_sorted nat_cmp es ≡ true → AllByRecursion (IsBehind space) more → Rising more → Rising (listed_in space es ++ more)
+  rising_in : (space : ℕ) (es : List (ℕ × X)) (more : List Place) → is_sorted nat_cmp es ≡ true → AllByRecursion (IsAfterPlace space) more → Rising more → Rising (listed_in space es ++ more)
   rising_in space [] more sorted behind rising = rising
   rising_in space (e ∷ es) more sorted behind rising =
       let s = and_parts _ _ sorted in
       (after_all space e.0 es more s.0 behind, rising_in space es more s.1 behind rising)
 
-  behind_in : (above space : ℕ) (es : List (ℕ × X)) (more : List Place) → above < space → AllByRecursion (IsBehind above) more → AllByRecursion (IsBehind above) (listed_in space es ++ more)
+  behind_in : (above space : ℕ) (es : List (ℕ × X)) (more : List Place) → above < space → AllByRecursion (IsAfterPlace above) more → AllByRecursion (IsAfterPlace above) (listed_in space es ++ more)
   behind_in above space [] more l all = all
   behind_in above space (e ∷ es) more l all = (l, behind_in above space es more l all)
 
@@ -201,7 +201,7 @@ none_below k b (e ∷ es) l h =
 abbrev pages_of_spaces : List (ℕ × Space) → List Place
 pages_of_spaces es = flat_map space_places es
 
-behind_spaces : (above : ℕ) (es : List (ℕ × Space)) → below_all nat_cmp above es ≡ true → is_sorted nat_cmp es ≡ true → AllByRecursion (IsBehind above) (pages_of_spaces es)
+behind_spaces : (above : ℕ) (es : List (ℕ × Space)) → below_all nat_cmp above es ≡ true → is_sorted nat_cmp es ≡ true → AllByRecursion (IsAfterPlace above) (pages_of_spaces es)
 behind_spaces above [] below sorted = tt
 behind_spaces above (e ∷ es) below sorted =
     let b = and_parts _ _ below in

@@ -15,10 +15,10 @@ use Rattle.sd_pagetable.specs.Tracking.{Step, Cleared}
 use Rattle.sd_rounds.specs.Pass.{Place, Taking, Pass, has_passed, opened, visited, begun_to_take, left_to_parent, with_entry, copied_more, taken_as_zero}
 use Rattle.sd_rounds.specs.Keeps.{Stored, Chain, Keeps}
 use Rattle.sd_rounds.specs.Rises.{IsRising, kind_at}
-use Rattle.sd_rounds.specs.Dump.{kind_of_bytes, kind_due, WasDue, IsDumping, IsDumped, DumpLaws}
+use Rattle.sd_rounds.specs.Dump.{kind_of_bytes, right_kind, WasToBeTaken, IsDumping, IsDumped, DumpLaws}
 use Rattle.sd_rounds.proofs.Clean.{no_some, one_some, clean_there}
 use Rattle.sd_rounds.proofs.KeepsLemmas.{none_taken, is_at, long_zeros}
-use Rattle.sd_rounds.proofs.Lists.{put_behind}
+use Rattle.sd_rounds.proofs.Lists.{put_after}
 use Rattle.sd_rounds.proofs.Orders.{apart_page, same_or_apart, passed_here, ahead_more, above_not_passed, passed_next, passed_all}
 use Rattle.sd_rounds.proofs.RisesLemmas.{kind_put_other, kind_put_here, missing}
 
@@ -61,7 +61,7 @@ at_freeze cut pass old at page next there dumping = sym (dumping.ahead at (above
 -- a page that the cursor passes without visiting it isn't mapped, and has no entry
 kind_before : (cut : Contents) (pass : Pass) (old : Contents) (at q : Place) → pass.taking ≡ None → IsRising pass
     → IsNextPage old.spaces pass.after (Some at) → IsDumping cut pass old → has_passed (Some at) q ≡ true → (at ≡ q → ⊥)
-    → kind_at pass.entries q ≡ kind_due pass.takes_all (page_at cut q.0 q.1)
+    → kind_at pass.entries q ≡ right_kind pass.takes_all (page_at cut q.0 q.1)
 kind_before cut pass old at q none rising next dumping passed apart = grind (arith, cases_Bool, none_taken, some_or_none, missing, passed_next, is_some_at, both_ways)
 
 -- what a visit does to the memory
@@ -103,7 +103,7 @@ visit_takes cut old new pass at page v takes = record {
     | inl e ↦ absurd (untaken (record { place = at; copied = [] }) (record { is = refl; here = e }))
     | inr apart ↦ kind_before cut pass old at q v.none v.rising v.next v.dumping passed apart
   ];
-  taken = λ taking is. subst (λ (t : Taking). WasDue cut (begun_to_take pass at) t) (one_some (record { place = at; copied = [] }) taking refl is)
+  taken = λ taking is. subst (λ (t : Taking). WasToBeTaken cut (begun_to_take pass at) t) (one_some (record { place = at; copied = [] }) taking refl is)
       (record { page = page; there = at_freeze cut pass old at page v.next v.there v.dumping; is = takes });
 }
 
@@ -114,9 +114,9 @@ visit_leaves cut old new pass at page v leaves = record {
   ahead = ahead_visited cut old new pass at page v;
   behind = behind_visited cut old new pass at page v;
   kinds = λ q passed untaken. elim (same_or_apart at q) [
-    | inl e ↦ subst (λ (p : Place). kind_at (put_behind pass.entries at Parent) p ≡ kind_due pass.takes_all (page_at cut p.0 p.1)) e
+    | inl e ↦ subst (λ (p : Place). kind_at (put_after pass.entries at Parent) p ≡ right_kind pass.takes_all (page_at cut p.0 p.1)) e
         (kind_put_here pass.entries at Parent (missing pass.entries at v.rising.rises (v.rising.ahead at (above_not_passed pass.after at v.next.1)))
-        ∙ sym (ap (kind_due pass.takes_all) (at_freeze cut pass old at page v.next v.there v.dumping)
+        ∙ sym (ap (right_kind pass.takes_all) (at_freeze cut pass old at page v.next v.there v.dumping)
         ∙ ap (λ b. Some (cond b (kind_of_bytes page.bytes) Parent)) leaves))
     | inr apart ↦ kind_put_other pass.entries at q Parent apart ∙ kind_before cut pass old at q v.none v.rising v.next v.dumping passed apart
   ];
@@ -145,7 +145,7 @@ copies cut pass memory taking more is dumping = record {
   behind = dumping.behind;
   kinds = λ q passed untaken. dumping.kinds q passed (λ other taken.
       untaken (record { place = taking.place; copied = taking.copied ++ more }) (record { is = refl; here = is_at pass q taking other is taken }));
-  taken = λ other t. subst (λ (x : Taking). WasDue cut (copied_more pass taking more) x)
+  taken = λ other t. subst (λ (x : Taking). WasToBeTaken cut (copied_more pass taking more) x)
       (one_some (record { place = taking.place; copied = taking.copied ++ more }) other refl t)
       (let was = dumping.taken taking is in record { page = was.page; there = was.there; is = was.is });
 }
@@ -159,7 +159,7 @@ never_drops law cut pass memory taking is dumping gone =
 
 -- what was copied of a page that is whole is what stood there at the freeze
 same_bytes : PlainLaw → (stored : Stored) (chain : Chain) (cut : Contents) (pass : Pass) (memory : Contents) (taking : Taking) → pass.taking ≡ Some taking → IsRising pass
-    → length taking.copied ≡ 4096 → Keeps stored chain pass memory → IsDumping cut pass memory → (was : WasDue cut pass taking)
+    → length taking.copied ≡ 4096 → Keeps stored chain pass memory → IsDumping cut pass memory → (was : WasToBeTaken cut pass taking)
     → taking.copied ≡ was.page.bytes
 same_bytes law stored chain cut pass memory taking is rising long keeps dumping was =
     let found = other_page law memory cut dumping.plain taking.place was.page was.there in
@@ -171,23 +171,23 @@ same_bytes law stored chain cut pass memory taking is rising long keeps dumping 
 
 -- a page whose copy is what stood there at the freeze
 pub enters_same : (cut : Contents) (pass : Pass) (memory : Contents) (taking : Taking) → pass.taking ≡ Some taking → IsRising pass
-    → (dumping : IsDumping cut pass memory) → (was : WasDue cut pass taking) → taking.copied ≡ was.page.bytes
+    → (dumping : IsDumping cut pass memory) → (was : WasToBeTaken cut pass taking) → taking.copied ≡ was.page.bytes
     → IsDumping cut (with_entry pass taking.place (kind_of_bytes taking.copied)) memory
 enters_same cut pass memory taking is rising dumping was same = record {
   plain = dumping.plain;
   ahead = dumping.ahead;
   behind = dumping.behind;
   kinds = λ q passed _. elim (same_or_apart taking.place q) [
-    | inl e ↦ subst (λ (p : Place). kind_at (put_behind pass.entries taking.place (kind_of_bytes taking.copied)) p ≡ kind_due pass.takes_all (page_at cut p.0 p.1)) e
-        (kind_put_here pass.entries taking.place (kind_of_bytes taking.copied) (missing pass.entries taking.place rising.rises (rising.taken taking is).1) ∙ sym is_due)
+    | inl e ↦ subst (λ (p : Place). kind_at (put_after pass.entries taking.place (kind_of_bytes taking.copied)) p ≡ right_kind pass.takes_all (page_at cut p.0 p.1)) e
+        (kind_put_here pass.entries taking.place (kind_of_bytes taking.copied) (missing pass.entries taking.place rising.rises (rising.taken taking is).1) ∙ sym must_dump)
     | inr apart ↦ kind_put_other pass.entries taking.place q (kind_of_bytes taking.copied) apart
         ∙ dumping.kinds q passed (λ other taken. apart (is_at pass q taking other is taken))
   ];
   taken = λ other t. absurd (no_some other refl t);
 }
   where
-    is_due : kind_due pass.takes_all (page_at cut taking.place.0 taking.place.1) ≡ Some (kind_of_bytes taking.copied)
-    is_due = ap (kind_due pass.takes_all) was.there ∙ ap (λ b. Some (cond b (kind_of_bytes was.page.bytes) Parent)) was.is
+    must_dump : right_kind pass.takes_all (page_at cut taking.place.0 taking.place.1) ≡ Some (kind_of_bytes taking.copied)
+    must_dump = ap (right_kind pass.takes_all) was.there ∙ ap (λ b. Some (cond b (kind_of_bytes was.page.bytes) Parent)) was.is
         ∙ ap (λ (b : List ℕ). Some (kind_of_bytes b)) (sym same)
 
 enters : PlainLaw → (stored : Stored) (chain : Chain) (cut : Contents) (pass : Pass) (memory : Contents) (taking : Taking) → pass.taking ≡ Some taking → IsRising pass
@@ -214,7 +214,7 @@ enters_zero law stored chain cut pass memory taking is rising zeroed keeps dumpi
 -- ---- the end
 
 pub ends_ways : (cut : Contents) (pass : Pass) (memory : Contents) → pass.taking ≡ None → IsRising pass
-    → IsNextPage memory.spaces pass.after None → IsDumping cut pass memory → (at : Place) → kind_at pass.entries at ≡ kind_due pass.takes_all (page_at cut at.0 at.1)
+    → IsNextPage memory.spaces pass.after None → IsDumping cut pass memory → (at : Place) → kind_at pass.entries at ≡ right_kind pass.takes_all (page_at cut at.0 at.1)
 ends_ways cut pass memory none rising next dumping at = grind (arith, cases_Bool, none_taken, some_or_none, missing, both_ways, passed_all, is_some_at)
 
 ends : PlainLaw → (stored : Stored) (chain : Chain) (cut : Contents) (pass : Pass) (memory : Contents) → pass.taking ≡ None → IsRising pass

@@ -24,7 +24,7 @@ use Rattle.std.proofs.Math.Bool.{and-false}
 use Rattle.sd_rounds.specs.declared.stage.Stage.TheVariants.{Format, Freeze, Pass as PassStage, Close}
 use Rattle.sd_rounds.specs.Dumper.{AreRunning, AreCounted, Dumping, Hands, HandsTo, IsHanded, IsCounted, IsItsImage, IsRunning, Running, WorksOn, outcomes_since_freeze, ends, freezes, image_from, is_frozen_image, is_strange, order_of, running_of}
 use Rattle.sd_gate.specs.PlanUse.{outcomes_of}
-use Rattle.sd_rounds.specs.Making.{IsWritten, Making, PlanGoesOn, Steps, closing_outcomes, is_frozen_dump, is_past_freeze, outcomes_left, plan_of, stage_after, stage_behind, with_plan}
+use Rattle.sd_rounds.specs.Making.{IsWritten, Making, PlanGoesOn, Steps, closing_outcomes, is_frozen_dump, is_past_freeze, outcomes_left, plan_of, stage_after, stage_when_done, with_plan}
 use Rattle.sd_rounds.specs.Pass.{data_pages}
 use Rattle.sd_rounds.specs.PlanSteps.{is_freeze_next, is_to_freeze}
 use Rattle.sd_rounds.specs.Writes.{writes_out}
@@ -195,7 +195,7 @@ hands_leaves since old new made g was frozen =
             → IsCounted (if is_frozen_dump old then since + 1 else since) (record old { stage = stage_after old.order.kind stage (plan_after g.plan made) calls })
         cases (Format plan) e [] f frozen = absurd (behind old.order.kind frozen)
           where
-            behind : (kind : Kind) → (nat_eq (kind_number kind) 2 && is_past_freeze (stage_behind kind (Format plan))) ≡ true → ⊥
+            behind : (kind : Kind) → (nat_eq (kind_number kind) 2 && is_past_freeze (stage_when_done kind (Format plan))) ≡ true → ⊥
             behind Dump e = both_ways false refl e
             behind PreDump e = both_ways false refl e
             behind Merged e = both_ways false refl e

@@ -25,11 +25,11 @@ use Rattle.sd_rounds.specs.declared.image_step.ImageStep.TheVariants.{Call, Tabl
 use Rattle.sd_rounds.specs.declared.new_image.NewImage.{NewImage}
 use Rattle.sd_rounds.specs.declared.stage.Stage.{Stage}
 use Rattle.sd_rounds.specs.declared.stage.Stage.TheVariants.{Pass as PassStage}
-use Rattle.sd_rounds.specs.Dump.{IsDumped, kind_due}
+use Rattle.sd_rounds.specs.Dump.{IsDumped, right_kind}
 use Rattle.sd_rounds.specs.Files.{FileLaws, FilesImage, HasAreasAtFreeze, HasAreasIn, IsFiled, IsFiledIn}
 use Rattle.sd_rounds.specs.Keeps.{Chain, ChainWithin, Rests, Stored}
 use Rattle.sd_rounds.specs.Made.{HasTheAreas, IsImageOf, MadeLaws, listed_pages}
-use Rattle.sd_rounds.specs.Making.{AreThePages, HandsIn, HasTable, Making, Opens, PlanGoesOn, Steps, TablesEntries, TablesMemory, WritesTable, is_past_freeze, stage_after, stage_behind, with_plan}
+use Rattle.sd_rounds.specs.Making.{AreThePages, HandsIn, HasTable, Making, Opens, PlanGoesOn, Steps, TablesEntries, TablesMemory, WritesTable, is_past_freeze, stage_after, stage_when_done, with_plan}
 use Rattle.sd_rounds.specs.MakingLaws.{AreItsNumbers, DumpsImage, IsDumpedIn, IsKeptIn, KeepsImage, MakingLaws, Pages, image_of}
 use Rattle.sd_rounds.specs.Pass.{Pass, Place, pages_by}
 use Rattle.sd_rounds.specs.Rises.{IsRising, kind_at}
@@ -37,13 +37,13 @@ use Rattle.sd_rounds.proofs.WayLemmas.{way}
 
 -- ---- the entries of a dump
 
-some_due : (takes_all : Bool) (o : Option PageState) → is_some (kind_due takes_all o) ≡ is_some o
+some_due : (takes_all : Bool) (o : Option PageState) → is_some (right_kind takes_all o) ≡ is_some o
 some_due takes_all o = grind arith
 
 some_plain : (o : Option PageState) → is_some (option_map plain_page o) ≡ is_some o
 some_plain o = grind arith
 
-pub are_the_pages : PlainLaw → (cut memory : Contents) (pass : Pass) → ((at : Place) → kind_at pass.entries at ≡ kind_due pass.takes_all (page_at cut at.0 at.1))
+pub are_the_pages : PlainLaw → (cut memory : Contents) (pass : Pass) → ((at : Place) → kind_at pass.entries at ≡ right_kind pass.takes_all (page_at cut at.0 at.1))
     → plain_of memory ≡ plain_of cut → AreThePages pass.entries memory
 are_the_pages law cut memory pass ways same space page = grind arith
 
@@ -132,10 +132,10 @@ asks : (ticket : ℕ) (cut : Contents) (pages : Pages) (old new : Making) (befor
     → FilesImage pages old × HasAreasAtFreeze cut old → FilesImage pages new × HasAreasAtFreeze cut new
 asks ticket cut pages old new before after request s was = grind arith
 
-behind_files : (kind : Kind) (stage : Stage) (order : ImageOrder) (pass : Pass) (pages : Pages) → IsFiledIn (stage_behind kind stage) order pass pages
+behind_files : (kind : Kind) (stage : Stage) (order : ImageOrder) (pass : Pass) (pages : Pages) → IsFiledIn (stage_when_done kind stage) order pass pages
 behind_files kind stage order pass pages = grind arith
 
-behind_areas : (kind : Kind) (stage : Stage) (cut : Contents) → HasAreasIn (stage_behind kind stage) cut
+behind_areas : (kind : Kind) (stage : Stage) (cut : Contents) → HasAreasIn (stage_when_done kind stage) cut
 behind_areas kind stage cut = grind arith
 
 goes_on : (cut : Contents) (pages : Pages) (old new : Making) (made : Made) → PlanGoesOn old made new
@@ -176,7 +176,7 @@ shows law cut pages chain old made opened memory o number files areas dumps = gr
 
 ways : (cut : Contents) (pages : Pages) (chain : Chain) (old : Making) (made : Made) (opened : NewImage) (memory : Contents) → Opens old made opened
     → FilesImage pages old → IsRising old.pass → DumpsImage cut pages chain old memory
-    → (kind : RunKind) (at : Place) → Contains (pages_of kind opened.table) at ↔ kind_due old.pass.takes_all (page_at cut at.0 at.1) ≡ Some kind
+    → (kind : RunKind) (at : Place) → Contains (pages_of kind opened.table) at ↔ right_kind old.pass.takes_all (page_at cut at.0 at.1) ≡ Some kind
 ways cut pages chain old made opened memory o files rising dumps kind at = (
   λ c. sym (is.kinds at) ∙ listed.0 (subst (λ (l : List Place). Contains l at) lists c),
   λ e. subst (λ (l : List Place). Contains l at) (sym lists) (listed.1 (is.kinds at ∙ e)),

@@ -19,12 +19,12 @@ use Rattle.sd_rounds.specs.Making.{HandsIn, Making, Opens, Steps, begun_image}
 use Rattle.sd_rounds.specs.MakingLaws.{Pages}
 use Rattle.sd_rounds.specs.Pass.{Pass, Place, visited}
 use Rattle.sd_rounds.specs.Rounds.{Copies, TakesPage, Tests}
-use Rattle.sd_rounds.specs.Visits.{AreStillMapped, IsPassOf, PassSweeps, Visit, VisitLaws, left_pages, taken_pages, visited_page}
+use Rattle.sd_rounds.specs.Visits.{AreStillMapped, IsPassOf, PassVisits, Visit, VisitLaws, left_pages, taken_pages, visited_page}
 
 -- a pass with its visits
 pub record Was (still : Place → Bool) (visits : List Visit) (pass : Pass) : Type 0 where
   pub is : IsPassOf visits pass
-  pub swept : PassSweeps still visits pass
+  pub swept : PassVisits still visits pass
 
 visited_as : (still : Place → Bool) (visits : List Visit) (image : Making) (pass : Pass) → image.pass ≡ pass → Was still visits pass → IsVisited still visits image
 visited_as still visits image pass e was = grind arith
@@ -36,7 +36,7 @@ begins : VisitLaws → (still : Place → Bool) (order : ImageOrder) → IsVisit
 begins laws still order = grind arith
 
 pub copies : VisitLaws → (still : Place → Bool) (visits : List Visit) (old new : Pass) (memory : Contents) (c : copied.Copied) → Copies old memory c new
-    → IsPassOf visits old → PassSweeps still visits old → Was still visits new
+    → IsPassOf visits old → PassVisits still visits old → Was still visits new
 copies laws still visits old new memory MoreSectors m is swept =
     subst (λ (p : Pass). Was still visits p) (sym m.is) (record { is = laws.copies visits old m.taking _ m.next.is is; swept = swept })
 copies laws still visits old new memory ZeroPage z is swept =
@@ -45,18 +45,18 @@ copies laws still visits old new memory Gone g is swept =
     subst (λ (p : Pass). Was still visits p) (sym g.is) (record { is = laws.drops visits old is; swept = swept })
 
 pub takes : VisitLaws → (still : Place → Bool) (visits : List Visit) (old new : Pass) (bytes : List ℕ) → TakesPage old bytes new
-    → IsPassOf visits old → PassSweeps still visits old → Was still visits new
+    → IsPassOf visits old → PassVisits still visits old → Was still visits new
 takes laws still visits old new bytes t is swept =
     subst (λ (p : Pass). Was still visits p) (sym t.is) (record { is = laws.enters_data visits old t.taking t.was is; swept = swept })
 
 pub tests : VisitLaws → (still : Place → Bool) (visits : List Visit) (old new : Pass) (before after : Contents) (visit : visit.Visit) → Tests old before visit new after
-    → old.taking ≡ None → AreStillMapped still before → IsPassOf visits old → PassSweeps still visits old
+    → old.taking ≡ None → AreStillMapped still before → IsPassOf visits old → PassVisits still visits old
     → Was still (visits ++ (record { place = (visit.space, visit.page); soft_dirty = visit.soft_dirty }) ∷ []) new
 tests laws still visits old new before after visit t free mapped is swept =
     subst (λ (p : Pass). Was still (visits ++ (record { place = (visit.space, visit.page); soft_dirty = visit.soft_dirty }) ∷ []) p)
     (ap (visited old (visit.space, visit.page)) t.bit ∙ sym t.is) (record {
       is = laws.visits visits old (visit.space, visit.page) visit.soft_dirty free is;
-      swept = laws.sweeps still visits old before (visit.space, visit.page) visit.soft_dirty mapped t.next swept;
+      swept = laws.visits_mapped still visits old before (visit.space, visit.page) visit.soft_dirty mapped t.next swept;
     })
 
 steps : VisitLaws → (still : Place → Bool) (ticket : ℕ) (visits : List Visit) (old new : Making) (before after : Contents) (step : ImageStep) → Steps ticket old before step new after

@@ -18,7 +18,7 @@ use Rattle.sd_rounds.specs.Pass.{Place, ImageEntry, Taking, Pass, IsTaken, pages
 use Rattle.sd_rounds.specs.Keeps.{Stored, Chain, EntriesGive, Gave, PageIsHeld, Keeps, Rests, AgreeAt, ChainWithin, IsCall, KeepsLaws, below_of}
 use Rattle.sd_rounds.specs.Keeps.EntriesGive.{by_data, by_zero, by_parent}
 use Rattle.sd_rounds.proofs.Clean.{no_some, one_some, clean_mapped, clean_is, clean_there, no_clean}
-use Rattle.sd_rounds.proofs.Lists.{put_behind, pages_append, slice_get_front, slice_get_back, front_more}
+use Rattle.sd_rounds.proofs.Lists.{put_after, pages_append, slice_get_front, slice_get_back, front_more}
 use Rattle.sd_rounds.proofs.Orders.{apart_page, same_or_apart, passed_here, ahead_more, above_not_passed, passed_next, passed_all}
 
 -- ---- what entries give
@@ -31,7 +31,7 @@ gives_agrees old new one other entries q bytes agree within (by_zero listed is) 
 gives_agrees old new one other entries q bytes agree within (by_parent listed below) = by_parent listed (within q bytes below)
 
 pub gives_more : (stored : Stored) (chain : Chain) (entries : List ImageEntry) (at : Place) (kind : RunKind) (q : Place) (bytes : List ℕ)
-    → EntriesGive stored chain entries q bytes → EntriesGive stored chain (put_behind entries at kind) q bytes
+    → EntriesGive stored chain entries q bytes → EntriesGive stored chain (put_after entries at kind) q bytes
 gives_more stored chain entries at kind q bytes (by_data place listed there) =
     by_data place (subst (λ l. slice_get l place ≡ Some q) (sym (pages_append Data entries _)) (slice_get_front (pages_by Data entries) _ place q listed)) there
 gives_more stored chain entries at kind q bytes (by_zero listed is) =
@@ -40,17 +40,17 @@ gives_more stored chain entries at kind q bytes (by_parent listed below) =
     by_parent (subst (λ l. Contains l q) (sym (pages_append Parent entries _)) (Contains-append_left (pages_by Parent entries) _ q listed)) below
 
 gives_data : (stored : Stored) (chain : Chain) (entries : List ImageEntry) (at : Place) (bytes : List ℕ) → stored (data_pages entries) ≡ Some bytes
-    → EntriesGive stored chain (put_behind entries at Data) at bytes
+    → EntriesGive stored chain (put_after entries at Data) at bytes
 gives_data stored chain entries at bytes there =
     by_data (data_pages entries) (subst (λ l. slice_get l (data_pages entries) ≡ Some at) (sym (pages_append Data entries _)) (slice_get_back (pages_by Data entries) at)) there
 
 gives_zero : (stored : Stored) (chain : Chain) (entries : List ImageEntry) (at : Place) (bytes : List ℕ) → bytes ≡ zeros
-    → EntriesGive stored chain (put_behind entries at Zero) at bytes
+    → EntriesGive stored chain (put_after entries at Zero) at bytes
 gives_zero stored chain entries at bytes is =
     by_zero (subst (λ l. Contains l at) (sym (pages_append Zero entries _)) (Contains-push (pages_by Zero entries) at)) is
 
 gives_parent : (stored : Stored) (chain : Chain) (entries : List ImageEntry) (at : Place) (bytes : List ℕ) → below_of chain at bytes
-    → EntriesGive stored chain (put_behind entries at Parent) at bytes
+    → EntriesGive stored chain (put_after entries at Parent) at bytes
 gives_parent stored chain entries at bytes below =
     by_parent (subst (λ l. Contains l at) (sym (pages_append Parent entries _)) (Contains-push (pages_by Parent entries) at)) below
 
@@ -150,7 +150,7 @@ visit_leaves stored chain pass old new at page none next there clean_page part c
     here q bytes clean e = record {
       copied = λ taking taken. absurd (none_taken (left_to_parent pass at) q refl taking taken);
       full = λ taking taken. absurd (none_taken (left_to_parent pass at) q refl taking taken);
-      behind = λ _ _. subst (λ (p : Place). EntriesGive stored chain (put_behind pass.entries at Parent) p bytes) e
+      behind = λ _ _. subst (λ (p : Place). EntriesGive stored chain (put_after pass.entries at Parent) p bytes) e
           (gives_parent stored chain pass.entries at bytes (below bytes (subst (λ (p : Place). clean_at new p.0 p.1 ≡ Some bytes) (sym e) clean)));
       ahead = λ ahead. absurd (both_ways (has_passed (Some at) q) ahead (subst (λ (p : Place). has_passed (Some at) p ≡ true) e (passed_here at)));
     }
@@ -225,7 +225,7 @@ drops stored chain pass memory taking is gone keeps = λ space number bytes clea
 -- the page that was being taken gets its entry
 enters : (old new : Stored) (chain : Chain) (pass : Pass) (memory : Contents) (taking : Taking) (kind : RunKind) → pass.taking ≡ Some taking
     → length taking.copied ≡ 4096 → AgreeAt pass.entries old new
-    → ((bytes : List ℕ) → taking.copied ≡ bytes → EntriesGive new chain (put_behind pass.entries taking.place kind) taking.place bytes)
+    → ((bytes : List ℕ) → taking.copied ≡ bytes → EntriesGive new chain (put_after pass.entries taking.place kind) taking.place bytes)
     → Keeps old chain pass memory → Keeps new chain (with_entry pass taking.place kind) memory
 enters old new chain pass memory taking kind is long agree gives keeps = λ space number bytes clean due.
     still (space, number) bytes (keeps space number bytes clean due) (same_or_apart taking.place (space, number))
@@ -234,7 +234,7 @@ enters old new chain pass memory taking kind is long agree gives keeps = λ spac
     still q bytes held (inl e) = record {
       copied = λ other taken. absurd (none_taken (with_entry pass taking.place kind) q refl other taken);
       full = λ other taken. absurd (none_taken (with_entry pass taking.place kind) q refl other taken);
-      behind = λ _ _. subst (λ (p : Place). EntriesGive new chain (put_behind pass.entries taking.place kind) p bytes) e
+      behind = λ _ _. subst (λ (p : Place). EntriesGive new chain (put_after pass.entries taking.place kind) p bytes) e
           (gives bytes (held.full taking (record { is = is; here = e }) long));
       ahead = held.ahead;
     }

@@ -23,7 +23,7 @@ use Rattle.sd_rounds.specs.declared.visit.Visit.{Visit}
 use Rattle.sd_rounds.specs.Dumper.{Dumping, Hands, HandsTo, IsHanded, Running, Works, WorksOn, ends, image_from, is_strange}
 use Rattle.sd_gate.specs.PlanUse.{plan_left}
 use Rattle.sd_rounds.specs.Left.{LeftLaws, image_left, left_of, making_left, next_left, pages_ahead, pass_left, running_left, stage_left, taking_left}
-use Rattle.sd_rounds.specs.Making.{IsWritten, Making, Opens, PlanGoesOn, Steps, closing_outcomes, is_passing, plan_of, stage_after, stage_behind, with_plan}
+use Rattle.sd_rounds.specs.Making.{IsWritten, Making, Opens, PlanGoesOn, Steps, closing_outcomes, is_passing, plan_of, stage_after, stage_when_done, with_plan}
 use Rattle.sd_rounds.specs.Pass.{Pass, begun_to_take, left_to_parent, opened, sector_of, visited}
 use Rattle.sd_rounds.specs.Rounds.{Copies, Tests}
 use Rattle.sd_rounds.specs.Writes.{writes_out}
@@ -144,7 +144,7 @@ goes_on_fewer old new made memory g =
     fewer : plan_left (plan_after g.plan made) + 1 ≡ plan_left g.plan
     fewer = settled_fewer g.plan made g.awaited.out g.one
 
-    ended : (kind : Kind) (stage : Stage) → plan_of stage ≡ Some g.plan → (closing_outcomes stage ≢ 0 → ⊥) → stage_left (stage_behind kind stage) (pass_left old.pass memory + writes_out old.writes) < stage_left stage (pass_left old.pass memory + writes_out old.writes)
+    ended : (kind : Kind) (stage : Stage) → plan_of stage ≡ Some g.plan → (closing_outcomes stage ≢ 0 → ⊥) → stage_left (stage_when_done kind stage) (pass_left old.pass memory + writes_out old.writes) < stage_left stage (pass_left old.pass memory + writes_out old.writes)
     ended kind stage is closes = grind arith
 
     by : (calls : Calls) → (plan_after g.plan made).calls ≡ calls

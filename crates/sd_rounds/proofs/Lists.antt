@@ -8,8 +8,8 @@ use Rattle.sd_image.specs.declared.run.RunKind.{RunKind}
 use Rattle.sd_rounds.specs.Pass.{Place, ImageEntry, pages_by, sector_of}
 
 -- one entry at the end
-abbrev pub put_behind : List ImageEntry → Place → RunKind → List ImageEntry
-put_behind entries at kind = entries ++ (record { place = at; kind = kind }) ∷ []
+abbrev pub put_after : List ImageEntry → Place → RunKind → List ImageEntry
+put_after entries at kind = entries ++ (record { place = at; kind = kind }) ∷ []
 
 pub pages_append : (kind : RunKind) (xs ys : List ImageEntry) → pages_by kind (xs ++ ys) ≡ pages_by kind xs ++ pages_by kind ys
 pages_append kind xs ys = grind (arith, filter-append, map-append)

@@ -23,16 +23,16 @@ use Rattle.sd_rounds.specs.declared.image_step.ImageStep.TheVariants.{Call, Page
 use Rattle.sd_rounds.specs.declared.new_image.NewImage.{NewImage}
 use Rattle.sd_rounds.specs.declared.stage.Stage.{Stage}
 use Rattle.sd_rounds.specs.declared.stage.Stage.TheVariants.{Pass as PassStage, Close}
-use Rattle.sd_rounds.specs.Dump.{DumpLaws, IsDumping, WasDue, kind_due, kind_of_bytes}
+use Rattle.sd_rounds.specs.Dump.{DumpLaws, IsDumping, WasToBeTaken, right_kind, kind_of_bytes}
 use Rattle.sd_rounds.specs.ImageVisits.{visits_after}
-use Rattle.sd_rounds.specs.LittleWork.{HasWays, IsFrontOf, IsTaking, ListsIn, LittleLaws, TakesDue, TakesDueIn, TakesVisited, TookVisited}
+use Rattle.sd_rounds.specs.LittleWork.{HasWays, IsFrontOf, IsTaking, ListsIn, LittleLaws, TakesAsItMust, TakesAsItMustIn, TakesVisited, TookVisited}
 use Rattle.sd_rounds.specs.Made.{Lists}
-use Rattle.sd_rounds.specs.Making.{HandsIn, HasTable, Making, Opens, PlanGoesOn, Steps, WritesTable, begun_image, closing_outcomes, is_past_freeze, stage_after, stage_behind, with_plan}
+use Rattle.sd_rounds.specs.Making.{HandsIn, HasTable, Making, Opens, PlanGoesOn, Steps, WritesTable, begun_image, closing_outcomes, is_past_freeze, stage_after, stage_when_done, with_plan}
 use Rattle.sd_rounds.specs.Pass.{ImageEntry, Pass, Place, Taking, begun_to_take, copied_more, left_to_parent, opened, pages_by, sector_of, taken_as_zero, with_entry}
 use Rattle.sd_rounds.specs.Rises.{IsRising, RisesLaws, kind_at}
 use Rattle.sd_rounds.specs.Rounds.{Copies, IsNextSector, TakesPage, Tests}
 use Rattle.sd_rounds.specs.Steps.{StepLaws}
-use Rattle.sd_rounds.specs.Visits.{AreStillMapped, IsPassOf, PassSweeps, Visit, VisitLaws}
+use Rattle.sd_rounds.specs.Visits.{AreStillMapped, IsPassOf, PassVisits, Visit, VisitLaws}
 use Rattle.sd_rounds.proofs.Clean.{no_some, one_some}
 use Rattle.sd_rounds.proofs.DumpLemmas.{ends_ways, enters_same, zeros_are_zero}
 use Rattle.sd_rounds.proofs.FileLemmas.{are_the_pages}
@@ -79,8 +79,8 @@ taking_more law dumps cut pass memory taking page sector next was = record {
 
 -- ---- the dump
 
-pass_taking : (stage : Stage) (cut : Contents) (pass : Pass) (memory : Contents) → stage ≡ PassStage → TakesDueIn stage cut pass memory → IsTaking cut pass memory
-pass_taking stage cut pass memory e is = subst (λ (s : Stage). TakesDueIn s cut pass memory) e is
+pass_taking : (stage : Stage) (cut : Contents) (pass : Pass) (memory : Contents) → stage ≡ PassStage → TakesAsItMustIn stage cut pass memory → IsTaking cut pass memory
+pass_taking stage cut pass memory e is = subst (λ (s : Stage). TakesAsItMustIn s cut pass memory) e is
 
 visit_taking : StepLaws → (cut : Contents) (old new : Pass) (before after : Contents) (visit : visit.Visit) → Tests old before visit new after → old.taking ≡ None → IsRising old
     → IsTaking cut old before → IsTaking cut new after
@@ -116,7 +116,7 @@ copy_taking law rises dumps cut old new memory ZeroPage z rising was =
     whole : IsTaking cut now memory
     whole = taking_more law dumps cut old memory z.taking z.page 7 z.next was
 
-    page : WasDue cut now more
+    page : WasToBeTaken cut now more
     page = whole.dumping.taken more refl
 copy_taking law rises dumps cut old new memory Gone g rising was = absurd (dumps.never_drops cut old memory g.taking g.was was.dumping g.gone)
 
@@ -129,10 +129,10 @@ take_taking cut old new memory bytes t rising was =
     (subst (λ kind. IsDumping cut (with_entry old t.taking.place kind) memory) (ap kind_of_bytes (sym t.same) ∙ is_data bytes t.whole t.some)
     (enters_same cut old memory t.taking t.was rising was.dumping page ((was.copied t.taking page.page t.was page.there).full long))))
 
-freezes : DumpLaws → (ticket : ℕ) (old new : Making) (before after : Contents) → Steps ticket old before Frozen new after → TakesDue before new after
+freezes : DumpLaws → (ticket : ℕ) (old new : Making) (before after : Contents) → Steps ticket old before Frozen new after → TakesAsItMust before new after
 freezes laws ticket old new before after s = grind arith
 
-asked_due : (stage : Stage) (plan : Planned) (cut : Contents) (pass : Pass) (memory : Contents) → TakesDueIn stage cut pass memory → TakesDueIn (with_plan stage plan) cut pass memory
+asked_due : (stage : Stage) (plan : Planned) (cut : Contents) (pass : Pass) (memory : Contents) → TakesAsItMustIn stage cut pass memory → TakesAsItMustIn (with_plan stage plan) cut pass memory
 asked_due stage plan cut pass memory is = grind arith
 
 -- the table that is written has the entries
@@ -146,17 +146,17 @@ table_lists law cut old new memory request w same ways = by old.order.kind w.tab
     by Merged table = (table (are_the_pages law cut memory old.pass ways same)).table.lists
 
 steps : PlainLaw → RisesLaws → DumpLaws → StepLaws → (ticket : ℕ) (cut : Contents) (old new : Making) (before after : Contents) (step : ImageStep) → Steps ticket old before step new after
-    → is_past_freeze old.stage ≡ true → IsRising old.pass → TakesDue cut old before → TakesDue cut new after
+    → is_past_freeze old.stage ≡ true → IsRising old.pass → TakesAsItMust cut old before → TakesAsItMust cut new after
 steps law rises dumps laws ticket cut old new before after (Call request) s past rising was =
-    subst (λ memory. TakesDue cut new memory) (sym s.2)
-    (subst (λ (m : Making). TakesDue cut m before) (sym s.0.is) (asked_due old.stage s.0.next cut old.pass before was))
+    subst (λ memory. TakesAsItMust cut new memory) (sym s.2)
+    (subst (λ (m : Making). TakesAsItMust cut m before) (sym s.0.is) (asked_due old.stage s.0.next cut old.pass before was))
 steps law rises dumps laws ticket cut old new before after (PageCall lane request) s past rising was =
-    subst (λ memory. TakesDue cut new memory) (sym s.2)
-    (subst (λ (g : Stage). TakesDueIn g cut new.pass before) (sym s.0.still)
+    subst (λ memory. TakesAsItMust cut new memory) (sym s.2)
+    (subst (λ (g : Stage). TakesAsItMustIn g cut new.pass before) (sym s.0.still)
     (take_taking cut old.pass new.pass before request.bytes s.0.taken rising (pass_taking old.stage cut old.pass before s.0.stage was)))
 steps law rises dumps laws ticket cut old new before after (TableCall request) s past rising was =
-    subst (λ memory. TakesDue cut new memory) (sym s.2)
-    (subst (λ (m : Making). TakesDue cut m before) (sym s.0.is) (ways, table_lists law cut old new before request s.0 is.dumping.plain ways))
+    subst (λ memory. TakesAsItMust cut new memory) (sym s.2)
+    (subst (λ (m : Making). TakesAsItMust cut m before) (sym s.0.is) (ways, table_lists law cut old new before request s.0 is.dumping.plain ways))
   where
     is : IsTaking cut old.pass before
     is = pass_taking old.stage cut old.pass before s.0.stage was
@@ -166,41 +166,41 @@ steps law rises dumps laws ticket cut old new before after (TableCall request) s
 steps law rises dumps laws ticket cut old new before after Frozen s past rising was =
     absurd (both_ways (is_past_freeze old.stage) (ap is_past_freeze s.0.stage) past)
 steps law rises dumps laws ticket cut old new before after (Visited visit) s past rising was =
-    subst (λ (m : Making). TakesDue cut m after) (sym s.passes.1)
-    (subst (λ (g : Stage). TakesDueIn g cut new.pass after) (sym s.passes.0)
+    subst (λ (m : Making). TakesAsItMust cut m after) (sym s.passes.1)
+    (subst (λ (g : Stage). TakesAsItMustIn g cut new.pass after) (sym s.passes.0)
     (visit_taking laws cut old.pass new.pass before after visit s.tests s.free rising (pass_taking old.stage cut old.pass before s.passes.0 was)))
 steps law rises dumps laws ticket cut old new before after (Copied c) s past rising was =
-    subst (λ memory. TakesDue cut new memory) (sym s.1)
-    (subst (λ (m : Making). TakesDue cut m before) (sym s.0.passes.1)
-    (subst (λ (g : Stage). TakesDueIn g cut new.pass before) (sym s.0.passes.0)
+    subst (λ memory. TakesAsItMust cut new memory) (sym s.1)
+    (subst (λ (m : Making). TakesAsItMust cut m before) (sym s.0.passes.1)
+    (subst (λ (g : Stage). TakesAsItMustIn g cut new.pass before) (sym s.0.passes.0)
     (copy_taking law rises dumps cut old.pass new.pass before c s.0.copies rising (pass_taking old.stage cut old.pass before s.0.passes.0 was))))
 
 behind_due : (kind : Kind) (stage : Stage) (cut : Contents) (pass : Pass) (memory : Contents) → closing_outcomes stage ≡ 0 → is_past_freeze stage ≡ true
-    → TakesDueIn stage cut pass memory → TakesDueIn (stage_behind kind stage) cut pass memory
+    → TakesAsItMustIn stage cut pass memory → TakesAsItMustIn (stage_when_done kind stage) cut pass memory
 behind_due kind stage cut pass memory none past is = grind arith
 
 image_goes_on : (cut : Contents) (old new : Making) (memory : Contents) (made : Made) → PlanGoesOn old made new
-    → is_past_freeze old.stage ≡ true → TakesDue cut old memory → TakesDue cut new memory
+    → is_past_freeze old.stage ≡ true → TakesAsItMust cut old memory → TakesAsItMust cut new memory
 image_goes_on cut old new memory made h past was =
-    subst (λ (m : Making). TakesDue cut m memory) (sym h.is) (by (plan_after h.plan made).calls (none_closing old.stage (plan_after h.plan made).calls h.closes))
+    subst (λ (m : Making). TakesAsItMust cut m memory) (sym h.is) (by (plan_after h.plan made).calls (none_closing old.stage (plan_after h.plan made).calls h.closes))
   where
-    by : (calls : Calls) → (calls ≡ [] → closing_outcomes old.stage ≡ 0) → TakesDueIn (stage_after old.order.kind old.stage (plan_after h.plan made) calls) cut old.pass memory
+    by : (calls : Calls) → (calls ≡ [] → closing_outcomes old.stage ≡ 0) → TakesAsItMustIn (stage_after old.order.kind old.stage (plan_after h.plan made) calls) cut old.pass memory
     by [] none = behind_due old.order.kind old.stage cut old.pass memory (none refl) past was
     by (call ∷ calls) none = asked_due old.stage (plan_after h.plan made) cut old.pass memory was
 
 hands : (cut : Contents) (old new : Making) (memory : Contents) (made : Made) → HandsIn old made More new
-    → is_past_freeze old.stage ≡ true → TakesDue cut old memory → TakesDue cut new memory
+    → is_past_freeze old.stage ≡ true → TakesAsItMust cut old memory → TakesAsItMust cut new memory
 hands cut old new memory made given past was = grind arith
 
 opens : (cut : Contents) (old : Making) (made : Made) (opened : NewImage) (memory : Contents) → Opens old made opened → IsRising old.pass
-    → TakesDue cut old memory → (kind : RunKind) (at : Place) → Contains (pages_of kind opened.table) at ↔ kind_due old.pass.takes_all (page_at cut at.0 at.1) ≡ Some kind
+    → TakesAsItMust cut old memory → (kind : RunKind) (at : Place) → Contains (pages_of kind opened.table) at ↔ right_kind old.pass.takes_all (page_at cut at.0 at.1) ≡ Some kind
 opens cut old made opened memory o rising was kind at = (
   λ c. sym (is.0 at) ∙ listed.0 (subst (λ (l : List Place). Contains l at) (is.1 kind) c),
   λ e. subst (λ (l : List Place). Contains l at) (sym (is.1 kind)) (listed.1 (is.0 at ∙ e)),
 )
   where
-    is : TakesDueIn (Close o.plan opened.header opened.table) cut old.pass memory
-    is = subst (λ (s : Stage). TakesDueIn s cut old.pass memory) o.was was
+    is : TakesAsItMustIn (Close o.plan opened.header opened.table) cut old.pass memory
+    is = subst (λ (s : Stage). TakesAsItMustIn s cut old.pass memory) o.was was
 
     listed : Contains (pages_by kind old.pass.entries) at ↔ kind_at old.pass.entries at ≡ Some kind
     listed = way kind old.pass.entries at rising.rises
@@ -213,7 +213,7 @@ begins laws order = record { pass = laws.opens (nat_eq order.parent 0); lists = 
 asked_lists : (stage : Stage) (plan : Planned) (entries : List ImageEntry) → ListsIn stage entries → ListsIn (with_plan stage plan) entries
 asked_lists stage plan entries is = grind arith
 
-behind_lists : (kind : Kind) (stage : Stage) (entries : List ImageEntry) → ListsIn (stage_behind kind stage) entries
+behind_lists : (kind : Kind) (stage : Stage) (entries : List ImageEntry) → ListsIn (stage_when_done kind stage) entries
 behind_lists kind stage entries = grind arith
 
 -- every page, for the laws that ask which were mapped all the time: none
@@ -223,7 +223,7 @@ never at = false
 at_pass : (visits : List Visit) (image : Making) (stage : Stage) → image.stage ≡ stage → ListsIn stage image.pass.entries → IsPassOf visits image.pass → TakesVisited visits image
 at_pass visits image stage is lists pass = record { pass = pass; lists = subst (λ (s : Stage). ListsIn s image.pass.entries) (sym is) lists }
 
-none_swept : (visits : List Visit) (pass : Pass) → PassSweeps never visits pass
+none_swept : (visits : List Visit) (pass : Pass) → PassVisits never visits pass
 none_swept visits pass at here passed = absurd (both_ways false refl here)
 
 none_mapped : (memory : Contents) → AreStillMapped never memory

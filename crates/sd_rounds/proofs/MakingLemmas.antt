@@ -26,7 +26,7 @@ use Rattle.sd_rounds.specs.declared.stage.Stage.TheVariants.{Format, Freeze, Pas
 use Rattle.sd_rounds.specs.Dump.{DumpLaws, IsDumping}
 use Rattle.sd_rounds.specs.Keeps.{Chain, ChainWithin, IsCall, Keeps, KeepsLaws, Rests}
 use Rattle.sd_rounds.specs.Made.{listed_pages}
-use Rattle.sd_rounds.specs.Making.{HandsIn, Making, PlanGoesOn, Steps, WritesTable, begun_image, closing_outcomes, is_past_freeze, stage_after, stage_behind, with_plan}
+use Rattle.sd_rounds.specs.Making.{HandsIn, Making, PlanGoesOn, Steps, WritesTable, begun_image, closing_outcomes, is_past_freeze, stage_after, stage_when_done, with_plan}
 use Rattle.sd_rounds.specs.MakingLaws.{DumpsImage, IsDumpedIn, IsKeptIn, KeepsImage, MakingLaws, Pages, pages_after}
 use Rattle.sd_rounds.specs.Pass.{Pass, Place, begun_to_take, data_pages, left_to_parent, opened, pages_by, with_entry}
 use Rattle.sd_rounds.specs.Rises.{IsRising}
@@ -135,7 +135,7 @@ steps keeps laws ticket pages chain old new before after (Copied c) s was =
 
 -- after a plan whose calls are done
 behind_keeps : (kind : Kind) (stage : Stage) (pages : Pages) (chain : Chain) (pass : Pass) (memory : Contents) → closing_outcomes stage ≡ 0 → IsKeptIn stage pages chain pass memory
-    → IsKeptIn (stage_behind kind stage) pages chain pass memory
+    → IsKeptIn (stage_when_done kind stage) pages chain pass memory
 behind_keeps kind stage pages chain pass memory none kept = grind arith
 
 pub none_closing : (stage : Stage) (calls : Calls) → (closing_outcomes stage ≢ 0 → calls ≢ []) → calls ≡ [] → closing_outcomes stage ≡ 0
@@ -238,7 +238,7 @@ dumps dump laws ticket cut pages chain old new before after (Copied c) s past ri
     (pass_kept old.stage pages chain old.pass before s.0.passes.0 keeps.kept) (pass_dumped old.stage cut pages chain old.pass before s.0.passes.0 was))))
 
 behind_dumps : (kind : Kind) (stage : Stage) (cut : Contents) (pages : Pages) (chain : Chain) (pass : Pass) (memory : Contents) → closing_outcomes stage ≡ 0 → is_past_freeze stage ≡ true
-    → IsDumpedIn stage cut pages chain pass memory → IsDumpedIn (stage_behind kind stage) cut pages chain pass memory
+    → IsDumpedIn stage cut pages chain pass memory → IsDumpedIn (stage_when_done kind stage) cut pages chain pass memory
 behind_dumps kind stage cut pages chain pass memory none past dumped = grind arith
 
 goes_on_dump : (cut : Contents) (pages : Pages) (chain : Chain) (old new : Making) (memory : Contents) (made : Made) → PlanGoesOn old made new

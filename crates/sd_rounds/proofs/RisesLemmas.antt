@@ -8,31 +8,31 @@ use Rattle.sd_pagetable.specs.Tracking.{is_page}
 use Rattle.sd_rounds.specs.Pass.{Place, ImageEntry, Taking, Pass, has_passed, opened, visited, begun_to_take, left_to_parent, copied_more, dropped, with_entry}
 use Rattle.sd_rounds.specs.Rises.{EntriesRise, last_of, IsRising, kind_at, RisesLaws}
 use Rattle.sd_rounds.proofs.Clean.{no_some, one_some}
-use Rattle.sd_rounds.proofs.Lists.{put_behind}
+use Rattle.sd_rounds.proofs.Lists.{put_after}
 use Rattle.sd_rounds.proofs.Orders.{page_here, apart_page, above_more, ahead_more, above_not_passed, not_passed_above, passed_here}
 
 -- ---- one entry more
 
-last_put : (before : Option Place) (entries : List ImageEntry) (at : Place) (kind : RunKind) → last_of before (put_behind entries at kind) ≡ Some at
+last_put : (before : Option Place) (entries : List ImageEntry) (at : Place) (kind : RunKind) → last_of before (put_after entries at kind) ≡ Some at
 last_put before [] at kind = refl
 last_put before (entry ∷ entries) at kind = last_put (Some entry.place) entries at kind
 
 rising_put : (before : Option Place) (entries : List ImageEntry) (at : Place) (kind : RunKind) → EntriesRise before entries
-    → is_above (last_of before entries) at.0 at.1 ≡ true → EntriesRise before (put_behind entries at kind)
+    → is_above (last_of before entries) at.0 at.1 ≡ true → EntriesRise before (put_after entries at kind)
 rising_put before [] at kind rising above = (above, tt)
 rising_put before (entry ∷ entries) at kind rising above = (rising.0, rising_put (Some entry.place) entries at kind rising.1 above)
 
-pub kind_put_other : (entries : List ImageEntry) (at q : Place) (kind : RunKind) → (at ≡ q → ⊥) → kind_at (put_behind entries at kind) q ≡ kind_at entries q
+pub kind_put_other : (entries : List ImageEntry) (at q : Place) (kind : RunKind) → (at ≡ q → ⊥) → kind_at (put_after entries at kind) q ≡ kind_at entries q
 kind_put_other [] at q kind apart = ap (λ b. cond b (Some kind) None) (apart_page at q apart)
 kind_put_other (entry ∷ entries) at q kind apart =
     ap (λ rest. cond (is_page entry.place.0 entry.place.1 q.0 q.1) (Some entry.kind) rest) (kind_put_other entries at q kind apart)
 
-pub kind_put_here : (entries : List ImageEntry) (at : Place) (kind : RunKind) → kind_at entries at ≡ None → kind_at (put_behind entries at kind) at ≡ Some kind
+pub kind_put_here : (entries : List ImageEntry) (at : Place) (kind : RunKind) → kind_at entries at ≡ None → kind_at (put_after entries at kind) at ≡ Some kind
 kind_put_here [] at kind none = ap (λ b. cond b (Some kind) None) (page_here at)
 kind_put_here (entry ∷ entries) at kind none = by (is_page entry.place.0 entry.place.1 at.0 at.1) refl (kind_put_here entries at kind)
   where
-    by : (b : Bool) → is_page entry.place.0 entry.place.1 at.0 at.1 ≡ b → (kind_at entries at ≡ None → kind_at (put_behind entries at kind) at ≡ Some kind)
-        → cond b (Some entry.kind) (kind_at (put_behind entries at kind) at) ≡ Some kind
+    by : (b : Bool) → is_page entry.place.0 entry.place.1 at.0 at.1 ≡ b → (kind_at entries at ≡ None → kind_at (put_after entries at kind) at ≡ Some kind)
+        → cond b (Some entry.kind) (kind_at (put_after entries at kind) at) ≡ Some kind
     by true e rest = absurd (no_some entry.kind (sym (ap (λ b. cond b (Some entry.kind) (kind_at entries at)) e) ∙ none) refl)
     by false e rest = rest (sym (ap (λ b. cond b (Some entry.kind) (kind_at entries at)) e) ∙ none)
 

@@ -69,9 +69,9 @@ entries_fit parent before (t ∷ tables) at are ends below = by ends.0 (λ lower
     fits : (length (table_entries t) ≤ end_of t.runs) × (end_of t.runs ≤ 2 ^ 35)
     fits = table_fits parent before t are.0
 
-    none_behind : t.space ≡ at.0 → (rest : List Listed) → AreTables parent t.space rest → EndBefore at rest → length (entries_listed rest) ≡ 0
-    none_behind here [] more less = refl
-    none_behind here (s ∷ rest) more less = absurd (apart less.0)
+    none_stands_after : t.space ≡ at.0 → (rest : List Listed) → AreTables parent t.space rest → EndBefore at rest → length (entries_listed rest) ≡ 0
+    none_stands_after here [] more less = refl
+    none_stands_after here (s ∷ rest) more less = absurd (apart less.0)
       where
         apart : EndsBefore at s → ⊥
         apart (inl lower) = let f : t.space < s.space = more.0.above in absurd (omega arith)
@@ -86,7 +86,7 @@ entries_fit parent before (t ∷ tables) at are ends below = by ends.0 (λ lower
         let above : before < t.space = are.0.above in
         rw (both) (omega arith)
     by (inr same) others =
-        let rest : length (entries_listed tables) ≡ 0 = none_behind same.0 tables are.1 ends.1 in
+        let rest : length (entries_listed tables) ≡ 0 = none_stands_after same.0 tables are.1 ends.1 in
         let one : length (table_entries t) ≤ end_of t.runs = fits.0 in
         let two : end_of t.runs ≤ at.1 = same.1 in
         rw (both) (omega arith)

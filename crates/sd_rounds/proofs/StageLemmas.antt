@@ -7,12 +7,12 @@ use Rattle.sd_gate.specs.Plans.{Planned}
 use Rattle.sd_rounds.specs.declared.image_order.ImageOrder.{ImageOrder}
 use Rattle.sd_rounds.specs.declared.stage.Stage.{Stage}
 use Rattle.sd_rounds.specs.declared.stage.Stage.TheVariants.{Format}
-use Rattle.sd_rounds.specs.Making.{IsMaking, IsReadyFor, stage_behind}
+use Rattle.sd_rounds.specs.Making.{IsMaking, IsReadyFor, stage_when_done}
 use Rattle.sd_rounds.specs.Pass.{Pass, opened}
 use Rattle.sd_rounds.specs.Writes.{no_writes}
 
 pub behind_made : (order : ImageOrder) (pass : Pass) (stored : ℕ) (stage : Stage) (plan : Planned) (writes : List (Option RequestId)) → IsMaking order pass stored stage writes
-    → pass ≡ opened (nat_eq order.parent 0) → writes ≡ no_writes → IsMaking order pass stored (stage_behind order.kind (Format plan)) writes
+    → pass ≡ opened (nat_eq order.parent 0) → writes ≡ no_writes → IsMaking order pass stored (stage_when_done order.kind (Format plan)) writes
 behind_made order pass stored stage plan writes was fresh rests = record {
   takes = was.takes;
   counted = was.counted;
@@ -22,7 +22,7 @@ behind_made order pass stored stage plan writes was fresh rests = record {
   rests = λ outside. rests;
 }
   where
-    by : (kind : Kind) → order.kind ≡ kind → IsReadyFor order pass (stage_behind kind (Format plan))
+    by : (kind : Kind) → order.kind ≡ kind → IsReadyFor order pass (stage_when_done kind (Format plan))
     by Dump is = (fresh, is)
     by PreDump is = tt
     by Merged is = tt

@@ -7,9 +7,9 @@ use Rattle.sd_image.specs.declared.run.RunKind.TheVariants.{Data, Parent, Zero}
 use Rattle.sd_pagetable.specs.Contents.{Contents}
 use Rattle.sd_pagetable.specs.Order.{IsNextPage}
 use Rattle.sd_rounds.specs.Pass.{Place, ImageEntry, Taking, Pass, pages_by, has_passed, opened, visited, begun_to_take, left_to_parent, copied_more, dropped, with_entry}
-use Rattle.sd_rounds.specs.Visits.{Visit, visited_page, is_taken, taken_pages, left_pages, IsPassOf, PassSweeps, AreStillMapped, VisitLaws}
+use Rattle.sd_rounds.specs.Visits.{Visit, visited_page, is_taken, taken_pages, left_pages, IsPassOf, PassVisits, AreStillMapped, VisitLaws}
 use Rattle.sd_rounds.proofs.Clean.{no_some, one_some}
-use Rattle.sd_rounds.proofs.Lists.{put_behind, pages_append}
+use Rattle.sd_rounds.proofs.Lists.{put_after, pages_append}
 use Rattle.sd_rounds.proofs.Orders.{passed_next, passed_all}
 
 abbrev with_visit : List Visit → Place → Bool → List Visit
@@ -38,10 +38,10 @@ left_more takes_all visits at soft_dirty =
     by false = refl
 
 -- the pages of a kind, with an entry of another kind more
-still_data : (entries : List ImageEntry) (at : Place) → pages_by Data (put_behind entries at Parent) ≡ pages_by Data entries
+still_data : (entries : List ImageEntry) (at : Place) → pages_by Data (put_after entries at Parent) ≡ pages_by Data entries
 still_data entries at = pages_append Data entries _ ∙ append-nil (pages_by Data entries)
 
-still_zero : (entries : List ImageEntry) (at : Place) → pages_by Zero (put_behind entries at Parent) ≡ pages_by Zero entries
+still_zero : (entries : List ImageEntry) (at : Place) → pages_by Zero (put_after entries at Parent) ≡ pages_by Zero entries
 still_zero entries at = pages_append Zero entries _ ∙ append-nil (pages_by Zero entries)
 
 opens : (takes_all : Bool) → IsPassOf [] (opened takes_all)
@@ -124,9 +124,9 @@ cursor pass at soft_dirty = by (pass.takes_all || soft_dirty)
     by true = refl
     by false = refl
 
-sweeps : (still : Place → Bool) (visits : List Visit) (pass : Pass) (memory : Contents) (at : Place) (soft_dirty : Bool) → AreStillMapped still memory
-    → IsNextPage memory.spaces pass.after (Some at) → PassSweeps still visits pass → PassSweeps still (with_visit visits at soft_dirty) (visited pass at soft_dirty)
-sweeps still visits pass memory at soft_dirty mapped next was = λ q is passed.
+visits_mapped : (still : Place → Bool) (visits : List Visit) (pass : Pass) (memory : Contents) (at : Place) (soft_dirty : Bool) → AreStillMapped still memory
+    → IsNextPage memory.spaces pass.after (Some at) → PassVisits still visits pass → PassVisits still (with_visit visits at soft_dirty) (visited pass at soft_dirty)
+visits_mapped still visits pass memory at soft_dirty mapped next was = λ q is passed.
     subst (λ l. Contains l q) (sym (visited_more visits at soft_dirty))
     (elim (passed_next memory.spaces pass.after at q next (mapped q is) (subst (λ (a : Option Place). has_passed a q ≡ true) (cursor pass at soft_dirty) passed)) [
       | inl e ↦ subst (λ (p : Place). Contains (map visited_page visits ++ at ∷ []) p) e (Contains-push (map visited_page visits) at)
@@ -134,7 +134,7 @@ sweeps still visits pass memory at soft_dirty mapped next was = λ q is passed.
     ])
 
 swept : (still : Place → Bool) (visits : List Visit) (pass : Pass) (memory : Contents) → AreStillMapped still memory → IsNextPage memory.spaces pass.after None
-    → PassSweeps still visits pass → (at : Place) → still at ≡ true → Contains (map visited_page visits) at
+    → PassVisits still visits pass → (at : Place) → still at ≡ true → Contains (map visited_page visits) at
 swept still visits pass memory mapped next was at is = was at is (passed_all memory.spaces pass.after at next (mapped at is))
 
 pub visit_laws : VisitLaws
@@ -145,6 +145,6 @@ visit_laws = record {
   drops = drops;
   enters_data = enters_data;
   enters_zero = enters_zero;
-  sweeps = sweeps;
+  visits_mapped = visits_mapped;
   swept = swept;
 }

@@ -98,7 +98,7 @@ take_count (None ∷ writes) (suc lane) id is = omega (arith, take_count writes 
 take_count (Some own ∷ writes) zero id is = omega (arith, out_cons (Some own) writes, out_cons None writes)
 take_count (Some own ∷ writes) (suc lane) id is = omega (arith, take_count writes lane id is, out_cons (Some own) writes, out_cons (Some own) (slice_set writes lane None))
 
--- the call that writes a data page tells its number
+-- the call that writes a data page says its number
 page_number : (a b : ℕ) → Write (data_place a) ≡ Write (data_place b) → a ≡ b
 page_number a b e = omega (arith, place_of _ _ e)
   where

@@ -18,30 +18,30 @@ kind_of_bytes bytes = if list_all (λ byte. byte == 0) bytes then Zero else Data
 
 -- How the image is to have a page of the memory at the freeze: as zeros or data where the whole memory is taken or the
 -- page was soft-dirty, and else in its parent.
-abbrev pub kind_due : Bool → Option PageState → Option RunKind
-kind_due takes_all None = None
-kind_due takes_all (Some page) = Some (if takes_all || page.soft_dirty then kind_of_bytes page.bytes else Parent)
+abbrev pub right_kind : Bool → Option PageState → Option RunKind
+right_kind takes_all None = None
+right_kind takes_all (Some page) = Some (if takes_all || page.soft_dirty then kind_of_bytes page.bytes else Parent)
 
 -- a page that is being taken was to be taken
-pub record WasDue (cut : Contents) (pass : Pass) (taking : Taking) : Type 0 where
+pub record WasToBeTaken (cut : Contents) (pass : Pass) (taking : Taking) : Type 0 where
   pub page : PageState
   pub there : page_at cut taking.place.0 taking.place.1 ≡ Some page
   pub is : (pass.takes_all || page.soft_dirty) ≡ true
 
 -- The dump of a memory that was frozen as `cut`: it has the pages of the freeze, those ahead as they were and those
--- after clean, and each page that was passed has its entry in the way that is due.
+-- after clean, and each page that was passed has its entry in the right way.
 pub record IsDumping (cut : Contents) (pass : Pass) (memory : Contents) : Type 0 where
   pub plain : plain_of memory ≡ plain_of cut
   pub ahead : (at : Place) → has_passed pass.after at ≡ false → page_at memory at.0 at.1 ≡ page_at cut at.0 at.1
   pub behind : (at : Place) (page : PageState) → has_passed pass.after at ≡ true → page_at memory at.0 at.1 ≡ Some page
       → page.soft_dirty ≡ false
   pub kinds : (at : Place) → has_passed pass.after at ≡ true → ((taking : Taking) → IsTaken pass at taking → ⊥)
-      → kind_at pass.entries at ≡ kind_due pass.takes_all (page_at cut at.0 at.1)
-  pub taken : (taking : Taking) → pass.taking ≡ Some taking → WasDue cut pass taking
+      → kind_at pass.entries at ≡ right_kind pass.takes_all (page_at cut at.0 at.1)
+  pub taken : (taking : Taking) → pass.taking ≡ Some taking → WasToBeTaken cut pass taking
 
--- The entries are exactly the pages of the memory at the freeze, each in the way that is due, and they give its bytes.
+-- The entries are exactly the pages of the memory at the freeze, each in the right way, and they give its bytes.
 pub record IsDumped (stored : Stored) (chain : Chain) (cut : Contents) (pass : Pass) : Type 0 where
-  pub kinds : (at : Place) → kind_at pass.entries at ≡ kind_due pass.takes_all (page_at cut at.0 at.1)
+  pub kinds : (at : Place) → kind_at pass.entries at ≡ right_kind pass.takes_all (page_at cut at.0 at.1)
   pub bytes : (at : Place) (page : PageState) → page_at cut at.0 at.1 ≡ Some page
       → EntriesGive stored chain pass.entries at page.bytes
 

@@ -16,7 +16,7 @@ use Rattle.sd_rounds.specs.declared.image_step.ImageStep.TheVariants.{Call, Tabl
 use Rattle.sd_rounds.specs.declared.new_image.NewImage.{NewImage}
 use Rattle.sd_rounds.specs.declared.stage.Stage.{Stage}
 use Rattle.sd_rounds.specs.declared.stage.Stage.TheVariants.{Format, Freeze, Pass as PassStage, Close}
-use Rattle.sd_rounds.specs.Dump.{IsDumped, kind_due}
+use Rattle.sd_rounds.specs.Dump.{IsDumped, right_kind}
 use Rattle.sd_rounds.specs.Keeps.{Chain, ChainWithin, Rests, Stored}
 use Rattle.sd_rounds.specs.Made.{HasTheAreas, IsImageOf, Lists, listed_pages}
 use Rattle.sd_rounds.specs.Making.{AreThePages, HandsIn, Making, Opens, Steps, header_of}
@@ -91,12 +91,12 @@ pub record FileLaws : Type 0 where
       (memory : Contents) → Opens old made opened → chain.number ≡ old.order.parent
       → FilesImage pages old → HasAreasAtFreeze cut old → DumpsImage cut pages chain old memory
       → IsMemory chain.images (image_of opened.header pages opened.table) (plain_of cut)
-  -- the table of a dump has exactly the pages of the memory at the freeze, each in the way that is due
+  -- the table of a dump has exactly the pages of the memory at the freeze, each in the right way
   pub ways : (cut : Contents) (pages : Pages) (chain : Chain) (old : Making) (made : Made) (opened : NewImage)
       (memory : Contents) → Opens old made opened
       → FilesImage pages old → IsRising old.pass → DumpsImage cut pages chain old memory
       → (kind : RunKind) (at : Place)
-      → Contains (pages_of kind opened.table) at ↔ kind_due old.pass.takes_all (page_at cut at.0 at.1) ≡ Some kind
+      → Contains (pages_of kind opened.table) at ↔ right_kind old.pass.takes_all (page_at cut at.0 at.1) ≡ Some kind
   -- once it is among the images its number gives each clean page, and the next image may name it
   pub commits : (pages : Pages) (before after : Chain) (old : Making) (made : Made) (opened : NewImage)
       (memory : Contents) → Opens old made opened → after.number ≡ old.order.parent

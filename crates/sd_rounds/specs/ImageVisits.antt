@@ -14,7 +14,7 @@ use Rattle.sd_rounds.specs.Files.{FilesImage}
 use Rattle.sd_rounds.specs.Making.{HandsIn, Making, Opens, Steps, begun_image}
 use Rattle.sd_rounds.specs.MakingLaws.{Pages}
 use Rattle.sd_rounds.specs.Pass.{Place}
-use Rattle.sd_rounds.specs.Visits.{AreStillMapped, IsPassOf, PassSweeps, Visit, left_pages, taken_pages, visited_page}
+use Rattle.sd_rounds.specs.Visits.{AreStillMapped, IsPassOf, PassVisits, Visit, left_pages, taken_pages, visited_page}
 
 -- the visits of an image with those of a step
 abbrev pub visits_after : ImageStep → List Visit → List Visit
@@ -30,7 +30,7 @@ visits_after (Copied copied) visits = visits
 -- mapped all the time is visited once the cursor passed it.
 pub record IsVisited (still : Place → Bool) (visits : List Visit) (image : Making) : Type 0 where
   pub pass : IsPassOf visits image.pass
-  pub swept : PassSweeps still visits image.pass
+  pub swept : PassVisits still visits image.pass
 
 pub record ImageVisitLaws : Type 0 where
   pub begins : (still : Place → Bool) (order : ImageOrder) → IsVisited still [] (begun_image order)

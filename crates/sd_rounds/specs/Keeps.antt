@@ -54,7 +54,7 @@ Keeps stored chain pass memory = (space number : ℕ) (bytes : List ℕ) → cle
     → (pass.takes_all ≡ true → has_passed pass.after (space, number) ≡ true)
     → PageIsHeld stored chain pass (space, number) bytes
 
--- Between the images of a checkpoint, and while none runs and no whole one is due: the chain gives each clean page.
+-- Between the images of a checkpoint, and while none runs and none has to be whole: the chain gives each clean page.
 abbrev pub Rests : Chain → Contents → Type 0
 Rests chain memory = (space number : ℕ) (bytes : List ℕ) → clean_at memory space number ≡ Some bytes
     → below_of chain (space, number) bytes

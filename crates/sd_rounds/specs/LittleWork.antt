@@ -15,7 +15,7 @@ use Rattle.sd_rounds.specs.declared.image_step.ImageStep.TheVariants.{Frozen}
 use Rattle.sd_rounds.specs.declared.new_image.NewImage.{NewImage}
 use Rattle.sd_rounds.specs.declared.stage.Stage.{Stage}
 use Rattle.sd_rounds.specs.declared.stage.Stage.TheVariants.{Format, Freeze, Pass as PassStage, Close}
-use Rattle.sd_rounds.specs.Dump.{IsDumping, kind_due}
+use Rattle.sd_rounds.specs.Dump.{IsDumping, right_kind}
 use Rattle.sd_rounds.specs.ImageVisits.{visits_after}
 use Rattle.sd_rounds.specs.Made.{Lists}
 use Rattle.sd_rounds.specs.Making.{HandsIn, Making, Opens, Steps, begun_image, is_past_freeze}
@@ -30,7 +30,7 @@ pub record IsFrontOf (page : PageState) (copied : List ℕ) : Type 0 where
   pub front : copied ≡ take (length copied) page.bytes
   pub full : length copied ≡ 4096 → copied ≡ page.bytes
 
--- Each page that was passed has its entry in the way that is due, and of the one that is being taken the front was
+-- Each page that was passed has its entry in the right way, and of the one that is being taken the front was
 -- copied.
 pub record IsTaking (cut : Contents) (pass : Pass) (memory : Contents) : Type 0 where
   pub dumping : IsDumping cut pass memory
@@ -38,19 +38,19 @@ pub record IsTaking (cut : Contents) (pass : Pass) (memory : Contents) : Type 0 
       → page_at cut taking.place.0 taking.place.1 ≡ Some page
       → IsFrontOf page taking.copied
 
--- the entries are exactly the pages of the memory at the freeze, each in the way that is due
+-- the entries are exactly the pages of the memory at the freeze, each in the right way
 abbrev pub HasWays : Contents → Pass → Type 0
-HasWays cut pass = (at : Place) → kind_at pass.entries at ≡ kind_due pass.takes_all (page_at cut at.0 at.1)
+HasWays cut pass = (at : Place) → kind_at pass.entries at ≡ right_kind pass.takes_all (page_at cut at.0 at.1)
 
-abbrev pub TakesDueIn : Stage → Contents → Pass → Contents → Type 0
-TakesDueIn (Format plan) cut pass memory = Unit {0}
-TakesDueIn Freeze cut pass memory = Unit {0}
-TakesDueIn PassStage cut pass memory = IsTaking cut pass memory
-TakesDueIn (Close plan header tables) cut pass memory = HasWays cut pass × Lists pass.entries tables
+abbrev pub TakesAsItMustIn : Stage → Contents → Pass → Contents → Type 0
+TakesAsItMustIn (Format plan) cut pass memory = Unit {0}
+TakesAsItMustIn Freeze cut pass memory = Unit {0}
+TakesAsItMustIn PassStage cut pass memory = IsTaking cut pass memory
+TakesAsItMustIn (Close plan header tables) cut pass memory = HasWays cut pass × Lists pass.entries tables
 
--- the dump of a memory that was frozen as `cut` has each page of it in the way that is due
-abbrev pub TakesDue : Contents → Making → Contents → Type 0
-TakesDue cut image memory = TakesDueIn image.stage cut image.pass memory
+-- the dump of a memory that was frozen as `cut` has each page of it in the right way
+abbrev pub TakesAsItMust : Contents → Making → Contents → Type 0
+TakesAsItMust cut image memory = TakesAsItMustIn image.stage cut image.pass memory
 
 -- ---- a pre-dump, by its visits
 
@@ -74,20 +74,20 @@ pub record TookVisited (takes_all : Bool) (visits : List Visit) (table : List Li
 
 -- ---- what steps and outcomes leave of both
 
--- a dump has each page of the memory at the freeze in the way that is due, and a pre-dump those that its visits found
+-- a dump has each page of the memory at the freeze in the right way, and a pre-dump those that its visits found
 pub record LittleLaws : Type 0 where
   pub freezes : (ticket : ℕ) (old new : Making) (before after : Contents) → Steps ticket old before Frozen new after
-      → TakesDue before new after
+      → TakesAsItMust before new after
   pub steps : (ticket : ℕ) (cut : Contents) (old new : Making) (before after : Contents) (step : ImageStep)
       → Steps ticket old before step new after
-      → is_past_freeze old.stage ≡ true → IsRising old.pass → TakesDue cut old before → TakesDue cut new after
+      → is_past_freeze old.stage ≡ true → IsRising old.pass → TakesAsItMust cut old before → TakesAsItMust cut new after
   pub hands : (cut : Contents) (old new : Making) (memory : Contents) (made : Made) → HandsIn old made More new
-      → is_past_freeze old.stage ≡ true → TakesDue cut old memory → TakesDue cut new memory
-  -- the table of a dump that is open has exactly the pages of the memory at the freeze, each in the way that is due
+      → is_past_freeze old.stage ≡ true → TakesAsItMust cut old memory → TakesAsItMust cut new memory
+  -- the table of a dump that is open has exactly the pages of the memory at the freeze, each in the right way
   pub opens : (cut : Contents) (old : Making) (made : Made) (opened : NewImage) (memory : Contents)
       → Opens old made opened → IsRising old.pass
-      → TakesDue cut old memory → (kind : RunKind) (at : Place)
-      → Contains (pages_of kind opened.table) at ↔ kind_due old.pass.takes_all (page_at cut at.0 at.1) ≡ Some kind
+      → TakesAsItMust cut old memory → (kind : RunKind) (at : Place)
+      → Contains (pages_of kind opened.table) at ↔ right_kind old.pass.takes_all (page_at cut at.0 at.1) ≡ Some kind
   pub begins : (order : ImageOrder) → TakesVisited [] (begun_image order)
   pub visits : (ticket : ℕ) (visits : List Visit) (old new : Making) (before after : Contents) (step : ImageStep)
       → Steps ticket old before step new after

@@ -91,7 +91,7 @@ closing_outcomes Freeze = 0
 closing_outcomes PassStage = 0
 closing_outcomes (Close plan header tables) = 5
 
--- what holds of an image's pass in each stage: none was made before it is due
+-- what holds of an image's pass in each stage: none was made before its turn
 abbrev pub IsReadyFor : ImageOrder → Pass → Stage → Type 0
 IsReadyFor order pass (Format plan) = (pass ≡ opened (order.parent == 0)) × IsUnderWay plan
 IsReadyFor order pass Freeze = (pass ≡ opened (order.parent == 0)) × (order.kind ≡ Dump)
@@ -133,13 +133,13 @@ abbrev pub IsOutOf : Making → RequestId → Type 0
 IsOutOf making id = (out_of making.stage ≡ Some id) ⊎ IsInLane making.writes id
 
 -- the stage after a plan whose calls are all done
-abbrev pub stage_behind : Kind → Stage → Stage
-stage_behind Dump (Format plan) = Freeze
-stage_behind PreDump (Format plan) = PassStage
-stage_behind Merged (Format plan) = PassStage
-stage_behind kind Freeze = PassStage
-stage_behind kind PassStage = PassStage
-stage_behind kind (Close plan header tables) = PassStage
+abbrev pub stage_when_done : Kind → Stage → Stage
+stage_when_done Dump (Format plan) = Freeze
+stage_when_done PreDump (Format plan) = PassStage
+stage_when_done Merged (Format plan) = PassStage
+stage_when_done kind Freeze = PassStage
+stage_when_done kind PassStage = PassStage
+stage_when_done kind (Close plan header tables) = PassStage
 
 -- ---- Steps
 
@@ -257,7 +257,7 @@ pub record IsAwaited (old : Making) (made : Made) (plan : Planned) : Type 0 wher
 
 -- where calls are left the plan goes on, and else the image
 abbrev pub stage_after : Kind → Stage → Planned → Calls → Stage
-stage_after kind stage plan [] = stage_behind kind stage
+stage_after kind stage plan [] = stage_when_done kind stage
 stage_after kind stage plan (call ∷ calls) = with_plan stage plan
 
 -- what the outcome of a call of the plan changes, where the image isn't opened by it

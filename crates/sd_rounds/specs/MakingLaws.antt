@@ -41,7 +41,7 @@ pub record KeepsImage (pages : Pages) (chain : Chain) (making : Making) (memory 
   pub digested : HasFed making.digester (concat pages)
   pub kept : IsKeptIn making.stage pages chain making.pass memory
 
--- The dump of a memory that was frozen as `cut`: each page is had in the way that is due, or will be.
+-- The dump of a memory that was frozen as `cut`: each page is had in the right way, or will be.
 abbrev pub IsDumpedIn : Stage → Contents → Pages → Chain → Pass → Contents → Type 0
 IsDumpedIn (Format plan) cut pages chain pass memory = Unit {0}
 IsDumpedIn Freeze cut pages chain pass memory = Unit {0}

@@ -1,4 +1,4 @@
--- Where a step may want memory.
+-- Where a step may take memory.
 use Rattle.std.specs.Prelude.{◌≡◌, ◌⊎◌, ◌||◌, false, length, Option, Some, None, IsSome}
 use Rattle.sd_pagetable.specs.Page.{PageState}
 use Rattle.sd_pagetable.specs.Contents.{Contents, page_at}
@@ -16,26 +16,26 @@ pub record LeavesNext (pass : Pass) (memory : Contents) : Type 0 where
   pub there : page_at memory at.0 at.1 ≡ Some page
   pub clean : (pass.takes_all || page.soft_dirty) ≡ false
 
--- A pass wants memory for a table, where there is no further page, and for the entry of a page that is left to the
+-- A pass takes memory for a table, where there is no further page, and for the entry of a page that is left to the
 -- parent; for a sector or the entry of a page that is being taken, while it is mapped or once all of it is copied.
-abbrev pub WantsFor : Pass → Contents → Option Taking → Type 0
-WantsFor pass memory None = IsNextPage memory.spaces pass.after None ⊎ LeavesNext pass memory
-WantsFor pass memory (Some taking) =
+abbrev pub TakesMemoryFor : Pass → Contents → Option Taking → Type 0
+TakesMemoryFor pass memory None = IsNextPage memory.spaces pass.after None ⊎ LeavesNext pass memory
+TakesMemoryFor pass memory (Some taking) =
     IsSome (page_at memory taking.place.0 taking.place.1) ⊎ (length taking.copied ≡ 4096)
 
-abbrev pub PassWants : Pass → Contents → Type 0
-PassWants pass memory = WantsFor pass memory pass.taking
+abbrev pub PassTakesMemory : Pass → Contents → Type 0
+PassTakesMemory pass memory = TakesMemoryFor pass memory pass.taking
 
--- an image wants memory in its pass alone
-pub record ImageWants (image : Making) (memory : Contents) : Type 0 where
+-- an image takes memory in its pass alone
+pub record ImageTakesMemory (image : Making) (memory : Contents) : Type 0 where
   pub stage : image.stage ≡ PassStage
-  pub wants : PassWants image.pass memory
+  pub wants : PassTakesMemory image.pass memory
 
-abbrev pub MakingWants : Option Making → Contents → Type 0
-MakingWants None memory = ⊥
-MakingWants (Some image) memory = ImageWants image memory
+abbrev pub MakingTakesMemory : Option Making → Contents → Type 0
+MakingTakesMemory None memory = ⊥
+MakingTakesMemory (Some image) memory = ImageTakesMemory image memory
 
--- the next step of a checkpoint may want memory
-abbrev pub StepWants : Option Running → Contents → Type 0
-StepWants None memory = ⊥
-StepWants (Some running) memory = MakingWants running.image memory
+-- the next step of a checkpoint may take memory
+abbrev pub StepTakesMemory : Option Running → Contents → Type 0
+StepTakesMemory None memory = ⊥
+StepTakesMemory (Some running) memory = MakingTakesMemory running.image memory

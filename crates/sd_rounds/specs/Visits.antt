@@ -33,9 +33,9 @@ pub record IsPassOf (visits : List Visit) (pass : Pass) : Type 0 where
   pub taking : (taking : Taking) → pass.taking ≡ Some taking → Contains (taken_pages pass.takes_all visits) taking.place
 
 -- Every page that was mapped all the time since the pass began is visited, as soon as the cursor passed it. `still`
--- tells which these are.
-abbrev pub PassSweeps : (Place → Bool) → List Visit → Pass → Type 0
-PassSweeps still visits pass =
+-- gives these.
+abbrev pub PassVisits : (Place → Bool) → List Visit → Pass → Type 0
+PassVisits still visits pass =
     (at : Place) → still at ≡ true → has_passed pass.after at ≡ true → Contains (map visited_page visits) at
 
 -- they are mapped
@@ -54,11 +54,11 @@ pub record VisitLaws : Type 0 where
       → IsPassOf visits pass → IsPassOf visits (with_entry pass taking.place Data)
   pub enters_zero : (visits : List Visit) (pass : Pass) (taking : Taking) → pass.taking ≡ Some taking
       → IsPassOf visits pass → IsPassOf visits (with_entry pass taking.place Zero)
-  pub sweeps : (still : Place → Bool) (visits : List Visit) (pass : Pass) (memory : Contents) (at : Place)
+  pub visits_mapped : (still : Place → Bool) (visits : List Visit) (pass : Pass) (memory : Contents) (at : Place)
       (soft_dirty : Bool) → AreStillMapped still memory
-      → IsNextPage memory.spaces pass.after (Some at) → PassSweeps still visits pass
-      → PassSweeps still (visits ++ (record { place = at; soft_dirty = soft_dirty }) ∷ []) (visited pass at soft_dirty)
+      → IsNextPage memory.spaces pass.after (Some at) → PassVisits still visits pass
+      → PassVisits still (visits ++ (record { place = at; soft_dirty = soft_dirty }) ∷ []) (visited pass at soft_dirty)
   pub swept : (still : Place → Bool) (visits : List Visit) (pass : Pass) (memory : Contents)
       → AreStillMapped still memory
       → IsNextPage memory.spaces pass.after None
-      → PassSweeps still visits pass → (at : Place) → still at ≡ true → Contains (map visited_page visits) at
+      → PassVisits still visits pass → (at : Place) → still at ≡ true → Contains (map visited_page visits) at

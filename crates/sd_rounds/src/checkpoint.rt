@@ -5,7 +5,7 @@ ghost use Rattle.sd_gate.specs.declared.slot_state.SlotState.{SlotState};
 ghost use Rattle.sd_pagetable.specs.Contents.{Contents, plain_of};
 ghost use Rattle.sd_rounds.specs.Left.{running_left};
 ghost use Rattle.sd_rounds.specs.PlanSteps.{HaveNoPage, image_step, is_to_freeze};
-ghost use Rattle.sd_rounds.specs.Room.{MakingWants};
+ghost use Rattle.sd_rounds.specs.Room.{MakingTakesMemory};
 ghost use Rattle.sd_rounds.specs.Sound.{IsSoundMaking};
 ghost use Rattle.sd_rounds.specs.Waits.{image_must_wait};
 ghost use Rattle.sd_rounds.specs.Dumper.{HandsTo, HasFewPages, IsReserved, WorksOn, after_pre_dump, is_frozen_image};
@@ -123,7 +123,7 @@ impl Checkpoint {
             × (running_of self.new ≡ running_of self.old) × (memory.new ≡ memory.old))
             (λ step. (serial : ℕ) (state : SlotState) (ticket : ℕ) → WorksOn serial state ticket
             (running_of self.old) memory.old (image_step step) (running_of self.new) memory.new)) }
-        ensures wanted { IsErr result → MakingWants (running_of self.old).image memory.old }
+        ensures wanted { IsErr result → MakingTakesMemory (running_of self.old).image memory.old }
         ensures err { OnErr result (running_of self.new ≡ running_of self.old) }
         ensures err_memory { OnErr result (memory.new ≡ memory.old) }
     {
@@ -151,7 +151,7 @@ impl Checkpoint {
         requires rests { image_must_wait (running_of self.old).image (plain_of memory.now) ≡ false }
         ensures works { IfOk result (λ step. WorksOn image.serial image.state ticket
             (running_of self.old) memory.now step (running_of self.new) memory.now) }
-        ensures wanted { IsErr result → MakingWants (running_of self.old).image memory.now }
+        ensures wanted { IsErr result → MakingTakesMemory (running_of self.old).image memory.now }
         ensures err { OnErr result (running_of self.new ≡ running_of self.old) }
     {
         if let Some(maker) = &mut self.maker {

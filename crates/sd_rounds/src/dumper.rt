@@ -5,7 +5,7 @@ ghost use Rattle.std.specs.Option.{option_map};
 ghost use Rattle.sd_rounds.specs.declared.work_error.WorkError.TheVariants.{Busy, Idle, OutOfMemory};
 ghost use Rattle.sd_pagetable.specs.Contents.{plain_of};
 ghost use Rattle.sd_rounds.specs.Left.{left_of};
-ghost use Rattle.sd_rounds.specs.Room.{StepWants};
+ghost use Rattle.sd_rounds.specs.Room.{StepTakesMemory};
 ghost use Rattle.sd_rounds.specs.Sound.{HasSoundImage};
 ghost use Rattle.sd_rounds.specs.Waits.{dumper_must_wait};
 ghost use Rattle.sd_rounds.specs.PassSteps.{Passes};
@@ -26,7 +26,7 @@ use sd_pagetable::Memory;
 use std::alloc::Global;
 use std::marker::Model;
 
-/// Makes checkpoints, one at a time: pre-dumps while the memory is in use, a freeze, and a dump.
+/// Makes checkpoints, one at a time: pre-dumps while the memory changes, a freeze, and a dump.
 #[derive(Drop)]
 pub struct Dumper {
     alloc: Global,
@@ -208,7 +208,7 @@ impl Dumper {
     ///
     /// Idle where no checkpoint runs, Busy where an outcome is awaited: while a request is out that writes no data
     /// page, while eight are out that do, or some where no page is left. Out of memory where an entry, a sector or the
-    /// table finds no room, and only where one is wanted. Nothing changed.
+    /// table finds no room, and only where one is needed. Nothing changed.
     pub fn work(
         &mut self,
         memory: &mut Memory,
@@ -219,7 +219,7 @@ impl Dumper {
             step self.new memory.new) }
         ensures idle { result ≡ Err Idle ↔ self.old.running ≡ None }
         ensures busy { result ≡ Err Busy ↔ dumper_must_wait self.old.running (plain_of memory.old) ≡ true }
-        ensures wanted { result ≡ Err OutOfMemory → StepWants self.old.running memory.old }
+        ensures wanted { result ≡ Err OutOfMemory → StepTakesMemory self.old.running memory.old }
         ensures err { OnErr result (self.new ≡ self.old) }
         ensures err_memory { OnErr result (memory.new ≡ memory.old) }
     {
@@ -245,13 +245,13 @@ impl Dumper {
     /// # Errors
     ///
     /// Idle where no checkpoint runs, Busy where an outcome is awaited, as `work`. Out of memory where an entry or a
-    /// sector finds no room, and only where one is wanted. Nothing changed.
+    /// sector finds no room, and only where one is needed. Nothing changed.
     #[inline]
     pub fn pass(&mut self, memory: &mut Memory) -> Result<Option<PassStep>, WorkError>
         ensures passes { IfOk result (λ found. Passes self.old memory.old found self.new memory.new) }
         ensures idle { result ≡ Err Idle ↔ self.old.running ≡ None }
         ensures busy { result ≡ Err Busy ↔ dumper_must_wait self.old.running (plain_of memory.old) ≡ true }
-        ensures wanted { result ≡ Err OutOfMemory → StepWants self.old.running memory.old }
+        ensures wanted { result ≡ Err OutOfMemory → StepTakesMemory self.old.running memory.old }
         ensures err { OnErr result (self.new ≡ self.old) }
         ensures err_memory { OnErr result (memory.new ≡ memory.old) }
     {

@@ -11,10 +11,10 @@ ghost use Rattle.sd_pagetable.specs.Contents.{Contents, plain_of};
 ghost use Rattle.sd_gate.specs.PlanUse.{IsAskedBy};
 ghost use Rattle.sd_rounds.specs.Left.{image_left};
 ghost use Rattle.sd_rounds.specs.Making.{Steps, WritesPage, begun_image, header_of, is_frozen_dump};
-ghost use Rattle.sd_rounds.specs.Making.{out_of, stage_behind};
+ghost use Rattle.sd_rounds.specs.Making.{out_of, stage_when_done};
 ghost use Rattle.sd_rounds.specs.PlanSteps.{HasNoPage, IsPageCallOf, image_step, is_freeze_next};
 ghost use Rattle.sd_rounds.specs.Pass.{data_pages};
-ghost use Rattle.sd_rounds.specs.Room.{ImageWants};
+ghost use Rattle.sd_rounds.specs.Room.{ImageTakesMemory};
 ghost use Rattle.sd_rounds.specs.Rounds.{IsCopied};
 ghost use Rattle.sd_rounds.specs.Sound.{IsSoundImage};
 ghost use Rattle.sd_rounds.specs.Waits.{maker_must_wait};
@@ -38,7 +38,7 @@ use std::marker::Model;
 mod closing;
 mod outcomes;
 
-/// An image that is written while its memory is in use.
+/// An image that is written while its memory changes.
 #[derive(Drop)]
 pub struct ImageMaker {
     alloc: Global,
@@ -96,7 +96,7 @@ fn own_header(order: ImageOrder, pages: u64, table_len: u64) -> Header
 
 /// The stage after the format of a slot: a dump freezes the memory.
 fn behind_format(kind: Kind) -> Stage
-    ensures { (plan : Planned) → result ≡ stage_behind kind (Format plan) }
+    ensures { (plan : Planned) → result ≡ stage_when_done kind (Format plan) }
 {
     match kind {
         Kind::Dump => Stage::Freeze,
@@ -139,7 +139,7 @@ impl ImageMaker {
         ensures steps { IfOk result (λ found. MatchOption found
             (HasNoPage self.old memory.old × (self.new ≡ self.old) × (memory.new ≡ memory.old))
             (λ step. (ticket : ℕ) → Steps ticket self.old memory.old (image_step step) self.new memory.new)) }
-        ensures wanted { IsErr result → ImageWants self.old memory.old }
+        ensures wanted { IsErr result → ImageTakesMemory self.old memory.old }
         ensures err { OnErr result (self.new ≡ self.old) }
         ensures err_memory { OnErr result (memory.new ≡ memory.old) }
     {
@@ -176,7 +176,7 @@ impl ImageMaker {
         requires none { HasNoPage self.old memory.now }
         requires rests { maker_must_wait self.old (plain_of memory.now) ≡ false }
         ensures steps { IfOk result (λ step. Steps ticket self.old memory.now step self.new memory.now) }
-        ensures wanted { IsErr result → ImageWants self.old memory.now }
+        ensures wanted { IsErr result → ImageTakesMemory self.old memory.now }
         ensures err { OnErr result (self.new ≡ self.old) }
     {
         plain_law();

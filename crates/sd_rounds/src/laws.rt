@@ -29,7 +29,7 @@ pub fn rises_law()
     ensures { RisesLaws }
 {}
 
-/// The dump of a frozen memory has each page in the way that is due.
+/// The dump of a frozen memory has each page in the right way.
 pub fn dump_law()
     ensures { DumpLaws }
 {
@@ -86,8 +86,8 @@ pub fn image_visits_law()
     visits_law();
 }
 
-/// Which pages an image takes: of a dump those that are due at the freeze, of a pre-dump none but those that were
-/// soft-dirty at their visit.
+/// Which pages an image takes: of a dump those that must be dumped at the freeze, of a pre-dump none but those that
+/// were soft-dirty at their visit.
 pub fn little_law()
     ensures { LittleLaws }
 {

@@ -1,4 +1,4 @@
-//! The dumper: pre-dumps while the memory is in use, the freeze, and the dump.
+//! The dumper: pre-dumps while the memory changes, the freeze, and the dump.
 #![tactic(auto)]
 
 mod checkpoint;

@@ -2,7 +2,7 @@
 use Rattle.std.proofs.Common.{◌≡◌, ◌+◌, ◌^◌, ◌%◌, ◌∙◌, ℕ, List, [], ◌∷◌, ◌++◌, refl, sym, ap, append_assoc, append-nil, Option, Some, None, Result, Ok, Err, subst, arith}
 use Rattle.std.specs.List.{concat}
 use Rattle.std.specs.Result.{IsErr}
-use Rattle.sd_run.specs.Bulk.{Gets, Loaded, Puts, all_bytes, asked_by, behind, behind_all, bytes_told, dones, load_of, loads_of, past_loads, store_of, stores_of}
+use Rattle.sd_run.specs.Bulk.{Gets, Loaded, Puts, all_bytes, asked_by, behind, address_after_all, answers_of_bytes, dones, load_of, loads_of, past_loads, store_of, stores_of}
 use Rattle.sd_run.specs.declared.bulk.Halt.{Halt}
 use Rattle.sd_script.specs.declared.line.Line.{Line}
 use Rattle.sd_script.specs.declared.answer.Answer.{Answer}
@@ -19,12 +19,12 @@ use Rattle.sd_run.proofs.LineLemmas.{answers_more}
 use Rattle.sd_run.proofs.PromiseLemmas.{lines_reach}
 
 pub stores_more : (space address : ℕ) (pieces : List (List ℕ)) (piece : List ℕ)
-    → stores_of space address (pieces ++ piece ∷ []) ≡ stores_of space address pieces ++ store_of space (behind_all address pieces) piece ∷ []
+    → stores_of space address (pieces ++ piece ∷ []) ≡ stores_of space address pieces ++ store_of space (address_after_all address pieces) piece ∷ []
 stores_more space address [] piece = refl
 stores_more space address (p ∷ ps) piece = ap (λ rest. store_of space address p ∷ rest) (stores_more space (behind address p) ps piece)
 
 pub behind_more : (address : ℕ) (pieces : List (List ℕ)) (piece : List ℕ)
-    → behind_all address (pieces ++ piece ∷ []) ≡ behind (behind_all address pieces) piece
+    → address_after_all address (pieces ++ piece ∷ []) ≡ behind (address_after_all address pieces) piece
 behind_more address [] piece = refl
 behind_more address (p ∷ ps) piece = behind_more (behind address p) ps piece
 
@@ -60,13 +60,13 @@ module _ {D : Type 0} (g : Ghosts D) where
   -- one that was done
   pub done_more : (first mid last : WorldView D) (space start address : ℕ) (pieces : List (List ℕ)) (piece bytes : List ℕ) (given : Reply)
       → AnswersLines g first (stores_of space start pieces) (dones pieces) mid → AnswersLine g (store_of space address bytes) mid (answer.Reply given) last
-      → bytes ≡ piece → address ≡ behind_all start pieces → given ≡ reply.Done
+      → bytes ≡ piece → address ≡ address_after_all start pieces → given ≡ reply.Done
       → AnswersLines g first (stores_of space start (pieces ++ piece ∷ [])) (dones (pieces ++ piece ∷ [])) last
   done_more first mid last space start address pieces piece bytes given answered one is there done =
       subst (λ lines. AnswersLines g first lines (dones (pieces ++ piece ∷ [])) last) (sym (stores_more space start pieces piece))
-      (subst (λ answers. AnswersLines g first (stores_of space start pieces ++ store_of space (behind_all start pieces) piece ∷ []) answers last)
+      (subst (λ answers. AnswersLines g first (stores_of space start pieces ++ store_of space (address_after_all start pieces) piece ∷ []) answers last)
       (sym (dones_more pieces piece))
-      (subst (λ r. AnswersLines g first (stores_of space start pieces ++ store_of space (behind_all start pieces) piece ∷ []) (dones pieces ++ answer.Reply r ∷ []) last) done
+      (subst (λ r. AnswersLines g first (stores_of space start pieces ++ store_of space (address_after_all start pieces) piece ∷ []) (dones pieces ++ answer.Reply r ∷ []) last) done
       (subst (λ a. AnswersLines g first (stores_of space start pieces ++ store_of space a piece ∷ []) (dones pieces ++ answer.Reply given ∷ []) last) there
       (store_more first mid last space start address pieces piece bytes given answered one is))))
 
@@ -98,7 +98,7 @@ pub past_more : (address : ℕ) (loads : List Loaded) (load : Loaded) → past_l
 past_more address [] load = refl
 past_more address (l ∷ ls) load = past_more ((address + l.count) % 2 ^ 64) ls load
 
-pub bytes_told_more : (loads : List Loaded) (load : Loaded) → bytes_told (loads ++ load ∷ []) ≡ bytes_told loads ++ answer.Reply (reply.Bytes load.bytes) ∷ []
+pub bytes_told_more : (loads : List Loaded) (load : Loaded) → answers_of_bytes (loads ++ load ∷ []) ≡ answers_of_bytes loads ++ answer.Reply (reply.Bytes load.bytes) ∷ []
 bytes_told_more [] load = refl
 bytes_told_more (l ∷ ls) load = ap (λ rest. answer.Reply (reply.Bytes l.bytes) ∷ rest) (bytes_told_more ls load)
 
@@ -113,26 +113,26 @@ asked_more (l ∷ ls) load = let rest = asked_more ls load in omega (arith, rest
 module _ {D : Type 0} (g : Ghosts D) where
   -- one load more, with its answer
   pub load_more : (first mid last : WorldView D) (space start address : ℕ) (loads : List Loaded) (asked : ℕ) (given : Reply)
-      → AnswersLines g first (loads_of space start loads) (bytes_told loads) mid → AnswersLine g (load_of space address asked) mid (answer.Reply given) last
-      → AnswersLines g first (loads_of space start loads ++ load_of space address asked ∷ []) (bytes_told loads ++ answer.Reply given ∷ []) last
+      → AnswersLines g first (loads_of space start loads) (answers_of_bytes loads) mid → AnswersLine g (load_of space address asked) mid (answer.Reply given) last
+      → AnswersLines g first (loads_of space start loads ++ load_of space address asked ∷ []) (answers_of_bytes loads ++ answer.Reply given ∷ []) last
   load_more first mid last space start address loads asked given answered one =
-      answers_more g first mid last (loads_of space start loads) (bytes_told loads) (load_of space address asked) (answer.Reply given) answered one
+      answers_more g first mid last (loads_of space start loads) (answers_of_bytes loads) (load_of space address asked) (answer.Reply given) answered one
 
   -- one that was answered bytes
   pub loaded_more : (first mid last : WorldView D) (space start address : ℕ) (loads : List Loaded) (load : Loaded) (given : Reply)
-      → AnswersLines g first (loads_of space start loads) (bytes_told loads) mid → AnswersLine g (load_of space address load.count) mid (answer.Reply given) last
+      → AnswersLines g first (loads_of space start loads) (answers_of_bytes loads) mid → AnswersLine g (load_of space address load.count) mid (answer.Reply given) last
       → address ≡ past_loads start loads → given ≡ reply.Bytes load.bytes
-      → AnswersLines g first (loads_of space start (loads ++ load ∷ [])) (bytes_told (loads ++ load ∷ [])) last
+      → AnswersLines g first (loads_of space start (loads ++ load ∷ [])) (answers_of_bytes (loads ++ load ∷ [])) last
   loaded_more first mid last space start address loads load given answered one there is =
-      subst (λ lines. AnswersLines g first lines (bytes_told (loads ++ load ∷ [])) last) (sym (loads_more space start loads load))
+      subst (λ lines. AnswersLines g first lines (answers_of_bytes (loads ++ load ∷ [])) last) (sym (loads_more space start loads load))
       (subst (λ answers. AnswersLines g first (loads_of space start loads ++ load_of space (past_loads start loads) load.count ∷ []) answers last)
       (sym (bytes_told_more loads load))
-      (subst (λ r. AnswersLines g first (loads_of space start loads ++ load_of space (past_loads start loads) load.count ∷ []) (bytes_told loads ++ answer.Reply r ∷ []) last) is
-      (subst (λ a. AnswersLines g first (loads_of space start loads ++ load_of space a load.count ∷ []) (bytes_told loads ++ answer.Reply given ∷ []) last) there
+      (subst (λ r. AnswersLines g first (loads_of space start loads ++ load_of space (past_loads start loads) load.count ∷ []) (answers_of_bytes loads ++ answer.Reply r ∷ []) last) is
+      (subst (λ a. AnswersLines g first (loads_of space start loads ++ load_of space a load.count ∷ []) (answers_of_bytes loads ++ answer.Reply given ∷ []) last) there
       (load_more first mid last space start address loads load.count given answered one))))
 
 pub no_room_to_load : {E : Type 0} (Answers : List Line → List Answer → Type 0) (space address count : ℕ) (before after : List ℕ) (result : Result (Option Halt) E)
-    → IsErr result → (loads : List Loaded) → Answers (loads_of space address loads) (bytes_told loads) → Gets Answers space address count before after result
+    → IsErr result → (loads : List Loaded) → Answers (loads_of space address loads) (answers_of_bytes loads) → Gets Answers space address count before after result
 no_room_to_load Answers space address count before after (Err why) is loads answered = Gets.no_room why loads answered
 no_room_to_load Answers space address count before after (Ok ended) is loads answered = grind arith
 
@@ -143,12 +143,12 @@ module _ {D : Type 0} (g : Ghosts D) (follow : PointsFollow g) where
       → (from : Point D) → StandsAt first from
       → (to : Point D) × StandsAt last to × Gets (λ lines answers. GoesByLines g from lines answers to) space address count before after result
   gets_reach first last space address count before after (Ok None) (Gets.loaded loads all parts answered) honest from stands =
-      let reached = lines_reach g follow first last (loads_of space address loads) (bytes_told loads) answered honest from stands in
+      let reached = lines_reach g follow first last (loads_of space address loads) (answers_of_bytes loads) answered honest from stands in
       (reached.0, reached.1, Gets.loaded loads all parts reached.2)
   gets_reach first last space address count before after (Ok (Some halt)) (Gets.stopped same loads asked parts there other answered) honest from stands =
       let reached = lines_reach g follow first last (loads_of space address loads ++ load_of space halt.address asked ∷ [])
-      (bytes_told loads ++ answer.Reply halt.reply ∷ []) answered honest from stands in
+      (answers_of_bytes loads ++ answer.Reply halt.reply ∷ []) answered honest from stands in
       (reached.0, reached.1, Gets.stopped halt loads asked parts there other reached.2)
   gets_reach first last space address count before after (Err why) (Gets.no_room same loads answered) honest from stands =
-      let reached = lines_reach g follow first last (loads_of space address loads) (bytes_told loads) answered honest from stands in
+      let reached = lines_reach g follow first last (loads_of space address loads) (answers_of_bytes loads) answered honest from stands in
       (reached.0, reached.1, Gets.no_room why loads reached.2)

@@ -14,7 +14,7 @@ use Rattle.sd_world.specs.Opens.{HasNoFrame, IsFaultOf}
 use Rattle.sd_run.specs.Ending.{IsEndOfMerge, IsUnprinted, IsWhyRun, script_fault_line, unfit, unopened}
 
 module _ (blames : ℕ → Type 0) (contents : List (List ℕ)) (failed now : ℕ) where
-  -- a store that isn't opened is told by its fault
+  -- of a store that isn't opened the fault is printed
   pub unopened_why : (met : OpenFault) (stopped : Stop) → stopped ≡ unopened met → IsFaultOf contents failed now met
       → (met ≡ opening.NoFrame → HasNoFrame contents 65536) → IsWhyRun blames contents failed now stopped
   unopened_why met stopped by is few = subst (IsWhyRun blames contents failed now) (sym by) (of met is few)

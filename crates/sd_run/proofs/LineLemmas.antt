@@ -17,7 +17,7 @@ use Rattle.sd_exit.specs.Texts.{PrintsBeginning}
 use Rattle.sd_run.specs.Lines.{AnswersLine, AnswersLines}
 use Rattle.sd_run.specs.Merging.{IsWholeMerge}
 use Rattle.sd_run.specs.Promise.{Promise, PromiseSoFar}
-use Rattle.sd_run.specs.Whole.{AreTold, BreaksOff, IsWholeRun, PrintsLines, TellsSome}
+use Rattle.sd_run.specs.Whole.{ArePrintedAfter, BreaksOff, IsWholeRun, PrintsLines, PrintsSome}
 
 module _ {D : Type 0} (g : Ghosts D) where
   pub answered_as : (first last new : WorldView D) (line asked : Line) (reply given : Reply) → line ≡ asked → reply ≡ given → last ≡ new
@@ -58,7 +58,7 @@ always_on_ok (Err error) p = tt
 
 -- all of the lines were answered, and their answers printed
 pub tells_all : {D : Type 0} (g : Ghosts D) (first last : WorldView D) (lines : List Line) (before now : Option (List ℕ)) → PrintsLines g first lines last before now
-    → TellsSome g first lines last before now
+    → PrintsSome g first lines last before now
 tells_all g first last lines before now is = record {
   some = record {
     done = lines;
@@ -71,7 +71,7 @@ tells_all g first last lines before now is = record {
 }
 
 pub tells_anyway : {D : Type 0} (g : Ghosts D) (first last : WorldView D) (lines : List Line) (before now : Option (List ℕ)) (result : Result Unit Stop)
-    → OnErr result (TellsSome g first lines last before now) → OnOk result (PrintsLines g first lines last before now) → TellsSome g first lines last before now
+    → OnErr result (PrintsSome g first lines last before now) → OnOk result (PrintsLines g first lines last before now) → PrintsSome g first lines last before now
 tells_anyway g first last lines before now (Ok value) told all = tells_all g first last lines before now all
 tells_anyway g first last lines before now (Err why) told all = told
 
@@ -92,9 +92,9 @@ broken_off before mid now told last so_far begins = record {
   printed = Appends-trans before mid now (flat_map answer_line told) begins.front so_far begins.printed;
 }
 
--- one answer is told before the others
+-- one answer is printed before the others
 pub told_behind : (before mid now : Option (List ℕ)) (given : Answer) (answers : List Answer) → Appends before mid (answer_line given)
-    → AreTold answers mid now → AreTold (given ∷ answers) before now
+    → ArePrintedAfter answers mid now → ArePrintedAfter (given ∷ answers) before now
 told_behind before mid now given answers one (inl all) = inl (Appends-trans before mid now (answer_line given) (flat_map answer_line answers) one all)
 told_behind before mid now given answers one (inr broken) = inr (record {
   told = given ∷ broken.told;

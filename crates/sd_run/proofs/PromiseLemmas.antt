@@ -32,8 +32,8 @@ use Rattle.sd_world.proofs.HeadlineLemmas.{first_stands}
 use Rattle.sd_world.proofs.PointLemmas.{drives_honest, drives_reach}
 use Rattle.sd_run.specs.Lines.{AnswersLine, AnswersLines, script_seat}
 use Rattle.sd_run.specs.Promise.{AreEventsOf, GoesByLine, GoesByLines, IsAnswerOf, LastIs, Promise, PromiseSoFar, RunsLine, Tells}
-use Rattle.sd_run.specs.Words.{AreGiven, words_due}
-use Rattle.sd_run.specs.Whole.{AreTold, IsPartOfRun, IsWholeRun, RunIsOpened}
+use Rattle.sd_run.specs.Words.{AreGiven, words_refusal}
+use Rattle.sd_run.specs.Whole.{ArePrintedAfter, IsPartOfRun, IsWholeRun, RunIsOpened}
 
 -- events of a worker: its steps, and the device calls that it asked for
 abbrev AreOf : Worker → List Event → Type 0
@@ -55,12 +55,12 @@ is_end_of : (before : List Reply) (last : Reply) → GoOn before → is_end last
 is_end_of before last goes_on ends = record { before = before; last = last; are = refl; is = refl; goes_on = goes_on; ends = λ _. ends }
 
 -- words are given, or refused
-denied_words : (memory : PlainMemory) (space address count : ℕ) (denied : AccessError) → words_due memory space address count ≡ Some denied
+denied_words : (memory : PlainMemory) (space address count : ℕ) (denied : AccessError) → words_refusal memory space address count ≡ Some denied
     → (why : Refusal) × (reply_of denied ≡ reply.Refused why)
 denied_words memory space address count (Refused why) is = (refusal_of why, refl)
 denied_words memory space address count (Segv why) is = absurd (never why is)
   where
-    never : (why : Fault) → words_due memory space address count ≡ Some (Segv why) → ⊥
+    never : (why : Fault) → words_refusal memory space address count ≡ Some (Segv why) → ⊥
     never why is = grind arith
 
 words_told : (memory : Contents) (space address count : ℕ) (given : Answer) (replies : List Reply) → AreGiven memory space address count given
@@ -215,7 +215,7 @@ module _ {D : Type 0} (g : Ghosts D) (follow : PointsFollow g) where
 
   -- ---- a whole run
 
-  -- what was told, and what was broken off
+  -- what was said, and what was broken off
   record Parts (answers : List Answer) (before now : Option (List ℕ)) : Type 0 where
     pub told : List Answer
     pub broken : List Answer
@@ -238,7 +238,7 @@ module _ {D : Type 0} (g : Ghosts D) (follow : PointsFollow g) where
     printed = subst (Appends before now) (sym (append-nil (flat_map answer_line answers))) printed;
   }
 
-  parts_told : (answers : List Answer) (before now : Option (List ℕ)) → AreTold answers before now → Parts answers before now
+  parts_told : (answers : List Answer) (before now : Option (List ℕ)) → ArePrintedAfter answers before now → Parts answers before now
   parts_told answers before now (inl all) = all_told answers before now all
   parts_told answers before now (inr breaks) = record {
     told = breaks.told;
@@ -279,7 +279,7 @@ module _ {D : Type 0} (g : Ghosts D) (follow : PointsFollow g) where
         printed = told.printed;
       }
 
-  pub promise_so_far : (lines : List Line) (old new : D) (before now : Option (List ℕ)) (part : IsPartOfRun g lines old new) → AreTold part.answers.answers before now
+  pub promise_so_far : (lines : List Line) (old new : D) (before now : Option (List ℕ)) (part : IsPartOfRun g lines old new) → ArePrintedAfter part.answers.answers before now
       → g.is_honest new → PromiseSoFar g lines old new before now
   promise_so_far lines old new before now part told honest =
       let some = part.answers in

@@ -15,9 +15,9 @@ abbrev pub behind : ℕ → List ℕ → ℕ
 behind address piece = (address + length piece) % 2 ^ 64
 
 -- the address after pieces of bytes, side by side
-abbrev pub behind_all : ℕ → List (List ℕ) → ℕ
-behind_all address [] = address
-behind_all address (piece ∷ pieces) = behind_all (behind address piece) pieces
+abbrev pub address_after_all : ℕ → List (List ℕ) → ℕ
+address_after_all address [] = address
+address_after_all address (piece ∷ pieces) = address_after_all (behind address piece) pieces
 
 -- the store of bytes
 abbrev pub store_of : ℕ → ℕ → List ℕ → Line
@@ -33,13 +33,13 @@ abbrev pub dones : List (List ℕ) → List Answer
 dones pieces = map (λ piece. answer.Reply reply.Done) pieces
 
 -- The first pieces of bytes were stored, each of which was done. Where all were, nothing is left; else the store of
--- the next one was answered something else, at the address that is told.
+-- the next one was answered something else, at the address that is reported.
 pub data Puts {E : Type 0} (Answers : List Line → List Answer → Type 0) (space address : ℕ) (bytes : List ℕ) : Result
     (Option Halt) E → Type 0 where
   stored : (pieces : List (List ℕ)) → bytes ≡ concat pieces → Answers (stores_of space address pieces) (dones pieces)
       → Puts Answers space address bytes (Ok None)
   stopped : (halt : Halt) (pieces : List (List ℕ)) (piece rest : List ℕ) → bytes ≡ concat pieces ++ (piece ++ rest)
-      → halt.address ≡ behind_all address pieces → halt.reply ≢ reply.Done
+      → halt.address ≡ address_after_all address pieces → halt.reply ≢ reply.Done
       → Answers (stores_of space address pieces ++ store_of space halt.address piece ∷ [])
       (dones pieces ++ answer.Reply halt.reply ∷ [])
       → Puts Answers space address bytes (Ok (Some halt))
@@ -74,9 +74,9 @@ asked_by [] = 0
 asked_by (load ∷ loads) = load.count + asked_by loads
 
 -- their answers
-abbrev pub bytes_told : List Loaded → List Answer
-bytes_told [] = []
-bytes_told (load ∷ loads) = answer.Reply (reply.Bytes load.bytes) ∷ bytes_told loads
+abbrev pub answers_of_bytes : List Loaded → List Answer
+answers_of_bytes [] = []
+answers_of_bytes (load ∷ loads) = answer.Reply (reply.Bytes load.bytes) ∷ answers_of_bytes loads
 
 -- all of their bytes
 abbrev pub all_bytes : List Loaded → List ℕ
@@ -84,16 +84,16 @@ all_bytes [] = []
 all_bytes (load ∷ loads) = load.bytes ++ all_bytes loads
 
 -- Loads were answered bytes, which are added to those that were there. Where they ask for all, nothing is left; else
--- the next one was answered something else, at the address that is told.
+-- the next one was answered something else, at the address that is reported.
 pub data Gets {E : Type 0} (Answers : List Line → List Answer → Type 0) (space address count : ℕ)
     (before after : List ℕ) : Result (Option Halt) E → Type 0 where
   loaded : (loads : List Loaded) → asked_by loads ≡ count → after ≡ before ++ all_bytes loads
-      → Answers (loads_of space address loads) (bytes_told loads)
+      → Answers (loads_of space address loads) (answers_of_bytes loads)
       → Gets Answers space address count before after (Ok None)
   stopped : (halt : Halt) (loads : List Loaded) (asked : ℕ) → after ≡ before ++ all_bytes loads
       → halt.address ≡ past_loads address loads → ((bytes : List ℕ) → halt.reply ≢ reply.Bytes bytes)
       → Answers (loads_of space address loads ++ load_of space halt.address asked ∷ [])
-      (bytes_told loads ++ answer.Reply halt.reply ∷ [])
+      (answers_of_bytes loads ++ answer.Reply halt.reply ∷ [])
       → Gets Answers space address count before after (Ok (Some halt))
-  no_room : (why : E) (loads : List Loaded) → Answers (loads_of space address loads) (bytes_told loads)
+  no_room : (why : E) (loads : List Loaded) → Answers (loads_of space address loads) (answers_of_bytes loads)
       → Gets Answers space address count before after (Err why)

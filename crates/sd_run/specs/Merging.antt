@@ -71,7 +71,7 @@ pub record MergesToExit {D : Type 0} (g : Ghosts D) (old new : D) (before after 
   pub printed : Option (List ℕ)
   pub merged : OnOk ended (IsWholeMerge g old new before printed)
   pub told : ended ≡ Err stop.Refused → IsRefusedMerge g old new before printed
-  -- where it isn't refused, what stopped it is what is told
+  -- where it isn't refused, what stopped it is what is printed
   pub why : g.is_honest new → ended ≢ Err stop.Refused
       → IfErr ended (IsWhyRun (λ _. ⊥) (g.contents old) (g.failed old) (g.failed new))
   pub writer : OnWriter ended (refused ≡ true)

@@ -96,8 +96,8 @@ GoesByLines g first (asked ∷ lines) [] last = ⊥
 abbrev pub Tells : Answer → Option (List ℕ) → Option (List ℕ) → Answer → Type 0
 Tells given before now told = (told ≡ given) × Appends before now (answer_line given)
 
--- One line was answered, which was told where the writer took it, and the world stands at the point that the run came
--- to.
+-- One line was answered, which was printed where the writer took it, and the world stands at the point that the run
+-- came to.
 pub record RunsLine {D E : Type 0} (g : Ghosts D) (asked : Line) (first : Point D) (world : WorldView D)
     (ended : Result Answer E) (before now : Option (List ℕ)) : Type 0 where
   pub last : Point D

@@ -48,14 +48,14 @@ pub record AnswersSome {D : Type 0} (g : Ghosts D) (first : WorldView D) (lines 
   pub answered : AnswersLines g first done answers last
 
 -- the lines of these answers are printed after what was; or the last one was broken off
-abbrev pub AreTold : List Answer → Option (List ℕ) → Option (List ℕ) → Type 0
-AreTold answers before now = Appends before now (flat_map answer_line answers) ⊎ BreaksOff answers before now
+abbrev pub ArePrintedAfter : List Answer → Option (List ℕ) → Option (List ℕ) → Type 0
+ArePrintedAfter answers before now = Appends before now (flat_map answer_line answers) ⊎ BreaksOff answers before now
 
 -- the first of these lines were answered, and their answers printed, up to any place
-pub record TellsSome {D : Type 0} (g : Ghosts D) (first : WorldView D) (lines : List Line) (last : WorldView D)
+pub record PrintsSome {D : Type 0} (g : Ghosts D) (first : WorldView D) (lines : List Line) (last : WorldView D)
     (before now : Option (List ℕ)) : Type 0 where
   pub some : AnswersSome g first lines last
-  pub told : AreTold some.answers before now
+  pub told : ArePrintedAfter some.answers before now
 
 -- ---- from one disk to another
 

@@ -15,7 +15,7 @@ ghost use Rattle.sd_world.specs.Runs.{IsStep};
 ghost use Rattle.sd_world.specs.declared.event.Event.TheVariants.{Command as CommandEvent};
 ghost use Rattle.sd_run.specs.Lines.{AnswersLine};
 ghost use Rattle.sd_run.specs.Promise.{RunsLine, Tells};
-ghost use Rattle.sd_run.specs.Whole.{PrintsLines, TellsSome};
+ghost use Rattle.sd_run.specs.Whole.{PrintsLines, PrintsSome};
 ghost use Rattle.sd_run.specs.Words.{AreGiven};
 
 use crate::page_words;
@@ -104,7 +104,7 @@ fn words<D: Disk>(
     page_words::answer(alloc, world.core().memory(), space, address, count)
 }
 
-/// Answers a line, and prints its answer, which the watch is then told. An acknowledged checkpoint is seen before the
+/// Answers a line, and prints its answer, which the watch then sees. An acknowledged checkpoint is seen before the
 /// next line begins; other answers may wait in the writer's buffer.
 ///
 /// # Errors
@@ -167,7 +167,7 @@ pub fn run_line<D: Disk, W: Write, S: Watch>(
     ensures answered { (given : Answer) × AnswersLine D.Disk line world.old given world.new
         × IfOk result (Tells given (W.contents out.old.writer) (W.contents out.new.writer)) }
     ensures goes_on { GoesOn D.Disk world.old world.new }
-    // It fails only where the answer isn't printed, for want of memory or since the writer refused it.
+    // It fails only where the answer isn't printed, for lack of memory or since the writer refused it.
     ensures stops { IfErr result IsUnprinted }
     ensures writer { IfErr result (λ why. OnWriter (Err why) (out.new.refused ≡ true)) }
     // The same of the line, its answer, what is printed and the disk alone, as in `run_lines`.
@@ -182,7 +182,7 @@ pub fn run_line<D: Disk, W: Write, S: Watch>(
     Ok(told)
 }
 
-/// Flushes after an answer that tells what the store shows: an acknowledged checkpoint, a merge, a reopening.
+/// Flushes after an answer that says what the store shows: an acknowledged checkpoint, a merge, a reopening.
 #[tactic(auto, using(crate::proofs::LineLemmas::stays))]
 fn flush_settled<W: Write>(given: &Answer, out: &mut Output<W>) -> Result<(), Stop>
     ensures bytes { Keeps (W.contents out.old.writer) (W.contents out.new.writer) }
@@ -209,7 +209,7 @@ fn print_all<D: Disk, W: Write, S: RunWatch>(
     out: &mut Output<W>,
     watch: &mut S,
 ) -> Result<(), Stop>
-    ensures told { OnErr result (TellsSome D.Disk world.old lines.items world.new
+    ensures told { OnErr result (PrintsSome D.Disk world.old lines.items world.new
         (W.contents out.old.writer) (W.contents out.new.writer)) }
     ensures printed { OnOk result ((all : PrintsLines D.Disk world.old lines.items world.new
         (W.contents out.old.writer) (W.contents out.new.writer)) × Passes rule all.answers) }
@@ -241,7 +241,7 @@ pub(crate) fn answer_all<D: Disk, W: Write, S: RunWatch>(
     out: &mut Output<W>,
     watch: &mut S,
 ) -> Result<(), Stop>
-    ensures told { TellsSome D.Disk world.old (asked.Reopen ∷ lines.items) world.new
+    ensures told { PrintsSome D.Disk world.old (asked.Reopen ∷ lines.items) world.new
         (W.contents out.old.writer) (W.contents out.new.writer) }
     ensures printed { OnOk result ((all : PrintsLines D.Disk world.old (asked.Reopen ∷ lines.items) world.new
         (W.contents out.old.writer) (W.contents out.new.writer)) × Passes rule all.answers) }

@@ -101,7 +101,7 @@ fn merge_tip<D: Disk, S: Watch>(world: &mut World<D>, watch: &mut S) -> Reply
     }
 }
 
-/// Prints the last reply of a merge, and tells whether the merge came to its end.
+/// Prints the last reply of a merge, and says whether the merge came to its end.
 fn told<W: Write>(alloc: Global, reply: Reply, out: &mut Output<W>) -> Result<(), Stop>
     ensures merged { OnOk result ((serial : ℕ) × (reply ≡ Merged serial)
         × Appends (W.contents out.old.writer) (W.contents out.new.writer) (reply_line reply)) }

@@ -3,8 +3,8 @@ ghost use Rattle.std.specs.Prelude.{◌≡◌, ◌+◌, ◌-◌, ◌≤◌, ◌^
 ghost use Rattle.std.specs.List.{range_with_len};
 ghost use Rattle.sd_pagetable.specs.Nested.{is_alive};
 ghost use Rattle.sd_pagetable.specs.Contents.{plain_of, word_at};
-ghost use Rattle.sd_pagetable.specs.Due.{Answers};
-ghost use Rattle.sd_run.specs.Words.{AreGiven, IsWords, words_due};
+ghost use Rattle.sd_pagetable.specs.RefusalOrder.{Answers};
+ghost use Rattle.sd_run.specs.Words.{AreGiven, IsWords, words_refusal};
 
 use sd_areas::{PAGE_NUMBER_LIMIT, PageNo, SpaceId};
 use sd_command::{Refusal, Reply};
@@ -33,7 +33,7 @@ fn words(
     address: u64,
     count: u64,
 ) -> Result<Answer, MemoryError>
-    ensures due { Answers (words_due (plain_of memory.now) space address count) result }
+    ensures due { Answers (words_refusal (plain_of memory.now) space address count) result }
     ensures words { IfOk result (IsWords memory.now space address count) }
 {
     if !is_alive(memory, space) {

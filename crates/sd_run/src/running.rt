@@ -68,7 +68,7 @@ pub fn run_script<D: Disk, W: Write>(
 }
 
 /// Runs a parsed script over a disk, as `run_script` does, up to the first answer that ends the run by its rule, and
-/// returns the disk. The jobs that last are watched, and the watch is told each answer once it is printed.
+/// returns the disk. The jobs that last are watched, and the watch sees each answer once it is printed.
 ///
 /// # Errors
 ///

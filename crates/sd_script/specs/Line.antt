@@ -281,16 +281,16 @@ asked_by_fields (word ∷ arguments) = asked_by_word word arguments
 abbrev pub asked_by : List ℕ → Option Line
 asked_by line = asked_by_fields (slice_split (λ byte. byte == 32) line)
 
--- a result is what is wanted: its value, seen so, or `Unfit` for none; out of memory says nothing
+-- a result is what is asked for: its value, seen so, or `Unfit` for none; out of memory says nothing
 abbrev pub ParsesAs : {A B : Type 0} → (A → B) → Result A LineError → Option B → Type 0
 ParsesAs seen (Ok value) wanted = wanted ≡ Some (seen value)
 ParsesAs seen (Err Unfit) wanted = wanted ≡ None
 ParsesAs seen (Err OutOfMemory) wanted = ⊤
 
--- a line is the one that is wanted, if memory sufficed
+-- a line is the one that is asked for, if memory sufficed
 abbrev pub ParsesLine : Result Line LineError → Option Line → Type 0
 ParsesLine result wanted = ParsesAs (λ line. line) result wanted
 
--- bytes are those that are wanted, if memory sufficed
+-- bytes are those that are asked for, if memory sufficed
 abbrev pub GivesBytes : Result (Vec ℕ) LineError → Option (List ℕ) → Type 0
 GivesBytes result wanted = ParsesAs (λ (bytes : Vec ℕ). bytes.items) result wanted

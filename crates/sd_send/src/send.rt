@@ -4,7 +4,7 @@ use crate::send_error::SendError;
 use crate::sending::send_to;
 use crate::sent::Sent;
 use sd_disk::DirDisk;
-use sd_exit::{Output, Stop, exit_told};
+use sd_exit::{Output, Stop, exit_with_fault};
 use sd_program::{Called, Causes, NOT_THERE, unseen};
 use sd_restore::Fault;
 use sd_stream::WriteError;
@@ -13,7 +13,7 @@ use std::io::{IsTerminal, Write};
 /// The exit status where nothing is sent, or not all.
 const FAILED: u8 = 1;
 
-/// What is told of an output on a terminal.
+/// What is said of an output on a terminal.
 const IS_TERMINAL: &str = "a stream isn't written to a terminal: lead it into a pipe or a file";
 
 /// Reports how much was sent.
@@ -34,7 +34,7 @@ fn told<W: Write>(
     match error {
         SendError::NotThere => {
             called.tell(&format_args!("no checkpoint {since}"));
-            called.tell_numbers(disk);
+            called.report_numbers(disk);
             Ok(out.finish(NOT_THERE))
         }
         SendError::Stream(WriteError::Output(error)) => Err(Stop::Writer(error)),
@@ -44,16 +44,16 @@ fn told<W: Write>(
         }
         SendError::Fault(fault) => {
             tell_fault(called, &disk, fault);
-            Ok(exit_told(fault, out))
+            Ok(exit_with_fault(fault, out))
         }
     }
 }
 
 /// Reports the fault of a store, but for what every program reports at its end.
 fn tell_fault(called: Called<'_>, disk: &DirDisk, fault: Fault) {
-    called.tell_device(disk);
+    called.report_device(disk);
     match fault {
-        Fault::Device | Fault::Damaged { .. } => called.tell_beside(),
+        Fault::Device | Fault::Damaged { .. } => called.report_beside(),
         Fault::OutOfMemory => called.tell(&fault),
         Fault::EmptyChain => {}
     }

@@ -22,7 +22,7 @@ use std::io::Write;
 /// How many bytes of a file are read at once.
 const PIECE: usize = 65_536;
 
-/// How much of a slot's file tells its image apart: with its serial and its digest.
+/// How much of a slot's file distinguishes its image: with its serial and its digest.
 const FRONT: usize = 96;
 
 /// The base of a stream that continues a checkpoint: its number, and the digest of its memory.

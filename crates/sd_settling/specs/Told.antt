@@ -1,4 +1,4 @@
--- What a seat is told of its command.
+-- What a seat is answered to its command.
 use Rattle.std.specs.Prelude.{ℕ, Result, Ok, Err}
 use Rattle.sd_command.specs.declared.refusal.Refusal.{Refusal}
 use Rattle.sd_command.specs.declared.reply.Reply.{Reply}

@@ -1,5 +1,5 @@
-//! The receipts of a core: a command is made and its seat told so, and at the end the journal is compared with all that
-//! was told.
+//! The receipts of a core: a command is made and its seat answered so, and at the end the journal is compared with all
+//! that was said.
 #![tactic(auto)]
 
 mod making;

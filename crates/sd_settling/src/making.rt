@@ -12,7 +12,7 @@ use sd_command::{Command, Refusal};
 use sd_core::Core;
 use sd_journal::Receipt;
 
-/// Applies a command of a seat, journals it with its reply, and tells both, as `Core::apply`. The receipt is kept for
+/// Applies a command of a seat, journals it with its reply, and says both, as `Core::apply`. The receipt is kept for
 /// [`settle`](crate::settle).
 ///
 /// # Errors

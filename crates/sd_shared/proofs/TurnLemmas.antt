@@ -18,7 +18,7 @@ use Rattle.sd_core.specs.Beginning.{is_down}
 use Rattle.sd_core.specs.Called.{IsApplied}
 use Rattle.sd_settling.specs.Told.{told}
 use Rattle.sd_shared.specs.declared.jobs.Jobs.{Jobs}
-use Rattle.sd_shared.specs.Turns.{AreRefused, IsAnsweredCall, IsToldBy, MakesJob, Orders, RelaysJob, Resumes, ResumesJob, WasHandedIn, WasRefused, WorkerIsTold}
+use Rattle.sd_shared.specs.Turns.{AreRefused, IsAnsweredCall, IsAnsweredBy, MakesJob, Orders, RelaysJob, Resumes, ResumesJob, WasHandedIn, WasRefused, WorkerIsAnswered}
 use Rattle.sd_shared.specs.Turns.{counted, holds_commands, job_number, last_of}
 
 pub called_of : {D : Type 0} (contents : D → List (List ℕ)) (id own : RequestId) (answer : Reply) → own ≡ id → WasHandedIn own answer → IsAnsweredCall contents id answer
@@ -66,20 +66,20 @@ applied_holds seat command answered old new is = holds_of answered seat command 
 pub number_of : (old new : Jobs) (worker : Worker) (number : ℕ) → new ≡ counted worker old → number ≡ job_number new worker → number ≡ job_number (counted worker old) worker
 number_of old new worker number one is = is ∙ ap (λ (jobs : Jobs). job_number jobs worker) one
 
--- of a job that stood, and was told of its first step
+-- of a job that stood, and was answered at its first step
 pub resumes_job : {D : Type 0} (contents : D → List (List ℕ)) (worker : Worker) (number : ℕ) (first : Taken) (was last answer : Reply)
-    → Resumes worker number first → IsToldBy contents first was → answer ≡ last → (last ≡ was) ⊎ WorkerIsTold contents worker number last
+    → Resumes worker number first → IsAnsweredBy contents first was → answer ≡ last → (last ≡ was) ⊎ WorkerIsAnswered contents worker number last
     → ResumesJob contents worker answer
 resumes_job contents worker number first was last answer resumed told behind (inl last_is) =
-    (number, first, resumed, inl (subst (IsToldBy contents first) (sym (behind ∙ last_is)) told))
+    (number, first, resumed, inl (subst (IsAnsweredBy contents first) (sym (behind ∙ last_is)) told))
 resumes_job contents worker number first was last answer resumed told behind (inr later) =
-    (number, first, resumed, inr (subst (WorkerIsTold contents worker number) (sym behind) later))
+    (number, first, resumed, inr (subst (WorkerIsAnswered contents worker number) (sym behind) later))
 
 -- of a job that was ordered
 pub job_of_told : {D : Type 0} (contents : D → List (List ℕ)) (worker : Worker) (rounds number : ℕ) (first was last answer : Reply)
-    → Orders worker rounds first number → was ≡ first → answer ≡ last → (last ≡ was) ⊎ WorkerIsTold contents worker number last
+    → Orders worker rounds first number → was ≡ first → answer ≡ last → (last ≡ was) ⊎ WorkerIsAnswered contents worker number last
     → MakesJob contents worker rounds answer
 job_of_told contents worker rounds number first was last answer ordered before behind (inl last_is) =
     (first, number, ordered, inl (behind ∙ (last_is ∙ before)))
 job_of_told contents worker rounds number first was last answer ordered before behind (inr told) =
-    (first, number, ordered, inr (subst (WorkerIsTold contents worker number) (sym behind) told))
+    (first, number, ordered, inr (subst (WorkerIsAnswered contents worker number) (sym behind) told))

@@ -1,4 +1,4 @@
--- Why a seat is refused, and what a worker is told of its job.
+-- Why a seat is refused, and what a worker is answered to its job.
 use Rattle.std.specs.Prelude.{◌≡◌, ◌⊎◌, ℕ, Bool, true, false, List, map}
 use Rattle.std.specs.List.{range_with_len}
 use Rattle.sd_command.specs.declared.refusal.Refusal.{Refusal}

@@ -159,29 +159,29 @@ abbrev pub IsAnsweredCall : {D : Type 0} → (D → List (List ℕ)) → Request
 IsAnsweredCall contents id answer =
     ((answer ≡ reply.Refused refusal.Device) × LacksSlot contents id.slot) ⊎ WasHandedIn id answer
 
--- what a step that was taken up tells: its answer, or that of the call that it asks for
-abbrev pub IsToldBy : {D : Type 0} → (D → List (List ℕ)) → Taken → Reply → Type 0
-IsToldBy contents (taken.Step own) answer = answer ≡ own
-IsToldBy contents (taken.Call request) answer = IsAnsweredCall contents request.id answer
+-- what a step that was taken up says: its answer, or that of the call that it asks for
+abbrev pub IsAnsweredBy : {D : Type 0} → (D → List (List ℕ)) → Taken → Reply → Type 0
+IsAnsweredBy contents (taken.Step own) answer = answer ≡ own
+IsAnsweredBy contents (taken.Call request) answer = IsAnsweredCall contents request.id answer
 
--- a worker was told so by a step of the job with this number, or of a call that one asked for
-abbrev pub WorkerIsTold : {D : Type 0} → (D → List (List ℕ)) → Worker → ℕ → Reply → Type 0
-WorkerIsTold contents worker number answer =
-    (made : Taken) × TakesStep worker number made × IsToldBy contents made answer
+-- a worker was answered so by a step of the job with this number, or of a call that one asked for
+abbrev pub WorkerIsAnswered : {D : Type 0} → (D → List (List ℕ)) → Worker → ℕ → Reply → Type 0
+WorkerIsAnswered contents worker number answer =
+    (made : Taken) × TakesStep worker number made × IsAnsweredBy contents made answer
 
 -- A job was ordered, of so many rounds. This is what was answered then, or to a later step of that job, or of its
 -- calls.
 abbrev pub MakesJob : {D : Type 0} → (D → List (List ℕ)) → Worker → ℕ → Reply → Type 0
 MakesJob contents worker rounds answer =
     (first : Reply) × (number : ℕ) × Orders worker rounds first number
-    × ((answer ≡ first) ⊎ WorkerIsTold contents worker number answer)
+    × ((answer ≡ first) ⊎ WorkerIsAnswered contents worker number answer)
 
--- A step of the job that stood was taken up, and this is what it told, or what a later step of that job did, or one of
+-- A step of the job that stood was taken up, and this is what it said, or what a later step of that job did, or one of
 -- its calls.
 abbrev pub ResumesJob : {D : Type 0} → (D → List (List ℕ)) → Worker → Reply → Type 0
 ResumesJob contents worker answer =
     (number : ℕ) × (first : Taken) × Resumes worker number first
-    × (IsToldBy contents first answer ⊎ WorkerIsTold contents worker number answer)
+    × (IsAnsweredBy contents first answer ⊎ WorkerIsAnswered contents worker number answer)
 
 -- an outcome was refused so that a writer handed in
 abbrev pub WasRefused : Refusal → Type 0

@@ -178,7 +178,7 @@ impl Booked {
         }
     }
 
-    /// Makes the next step of a worker's job, or takes its next device call up, and tells which calls may be made
+    /// Makes the next step of a worker's job, or takes its next device call up, and says which calls may be made
     /// beside others.
     ///
     /// # Errors

@@ -11,7 +11,7 @@ use sd_gate::Worker;
 use sd_relay::{Errand, Writer};
 use std::sync::{Condvar, Mutex, Wait};
 
-/// What the writers of a checkpoint share: each makes writes of data pages and hands their outcomes in, and tells the
+/// What the writers of a checkpoint share: each makes writes of data pages and hands their outcomes in, and reports the
 /// thread that takes the writes up.
 #[derive(Drop)]
 pub(crate) struct Crew<'a, R, D: Drop, H> {
@@ -26,7 +26,7 @@ impl<'a, R: Wait, D: Disk + Drop, H: Hold> Crew<'a, R, D, H> {
     ghost use Rattle.sd_gate.specs.declared.worker.Worker.TheVariants as its;
     ghost use Rattle.sd_shared.specs.Turns.{AreRefused, IsAnsweredCall, Orders, TakesStep, taken_of};
 
-    /// Writers who have nothing to tell yet.
+    /// Writers who have nothing to report yet.
     pub(crate) fn new(rt: &'a R, shared: &'a Shared<D>, hold: &'a H) -> Self {
         Crew {
             rt,

@@ -8,7 +8,7 @@ use sd_command::Reply;
 use std::sync::Wait;
 
 /// Goes on with a job to its end, or until it is refused. The last reply stays with the hands: it is the one that was
-/// there, or the worker was told it by a step, or of a call of its own.
+/// there, or the worker was answered so by a step, or of a call of its own.
 pub(crate) fn go_on<H: Hands>(rt: &impl Wait, hands: &mut H)
     ensures same { (reply : Told) → H.is_told hands.new reply → H.is_told hands.old reply }
     ensures over { ends_job (H.last hands.new) ≡ true }

@@ -22,7 +22,7 @@ pub(crate) struct Job<'a, R, D: Drop, H> {
 
 impl<'a, R: Wait, D: Disk + Drop, H: Hold> Job<'a, R, D, H> {
     ghost use Rattle.std.specs.Prelude.{◌≡◌};
-    ghost use Rattle.sd_shared.specs.Turns.{IsAnsweredCall, IsToldBy, taken_of};
+    ghost use Rattle.sd_shared.specs.Turns.{IsAnsweredCall, IsAnsweredBy, taken_of};
 
     /// The job of a worker, whose driver has this number, of which this was answered last.
     pub(crate) fn new(
@@ -58,10 +58,10 @@ impl<'a, R: Wait, D: Disk + Drop, H: Hold> Job<'a, R, D, H> {
             .call_device(self.rt, self.hold, self.calls, owed)
     }
 
-    /// What a step tells that was taken up, or the device call that it asks for, which is made.
+    /// What a step says that was taken up, or the device call that it asks for, which is made.
     fn told(&mut self, next: Next) -> Reply
         ensures same { (self.new.worker ≡ self.old.worker) × (self.new.number ≡ self.old.number) }
-        ensures told { IsToldBy D.contents (taken_of next) result }
+        ensures told { IsAnsweredBy D.contents (taken_of next) result }
     {
         match next {
             Next::Step(reply) => reply,
@@ -70,19 +70,19 @@ impl<'a, R: Wait, D: Disk + Drop, H: Hold> Job<'a, R, D, H> {
         }
     }
 
-    /// Is told of a step that was taken up.
+    /// Sees a step that was taken up.
     pub(crate) fn take(&mut self, next: Next)
         ensures same { (self.new.worker ≡ self.old.worker) × (self.new.number ≡ self.old.number) }
-        ensures told { IsToldBy D.contents (taken_of next) self.new.last }
+        ensures told { IsAnsweredBy D.contents (taken_of next) self.new.last }
     {
         self.last = self.told(next);
     }
 }
 
 impl<R: Wait, D: Disk + Drop, H: Hold> Hands for Job<'_, R, D, H> {
-    ghost use Rattle.sd_shared.specs.Turns.{WorkerIsTold};
+    ghost use Rattle.sd_shared.specs.Turns.{WorkerIsAnswered};
 
-    ghost is_told = { λ job reply. WorkerIsTold D.contents job.worker job.number reply };
+    ghost is_told = { λ job reply. WorkerIsAnswered D.contents job.worker job.number reply };
 
     ghost last = { λ job. job.last };
 

@@ -1,5 +1,5 @@
 //! A core and its disk behind two locks: threads store, workers make device calls, and afterwards the journal proves to
-//! each what it was told.
+//! each what it was answered.
 #![tactic(auto)]
 
 mod booked;

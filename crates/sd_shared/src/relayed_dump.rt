@@ -3,7 +3,7 @@ ghost use Rattle.std.specs.Prelude.{◌≡◌, ◌⊎◌, true, is_some};
 ghost use Rattle.sd_gate.specs.declared.worker.Worker.TheVariants as its;
 ghost use Rattle.sd_relay.specs.Fronts.{StaysOnChannel};
 ghost use Rattle.sd_shared.specs.Told.{ends_job};
-ghost use Rattle.sd_shared.specs.Turns.{IsAnsweredCall, IsToldBy, MakesJob, WorkerIsTold, last_of, taken_of};
+ghost use Rattle.sd_shared.specs.Turns.{IsAnsweredCall, IsAnsweredBy, MakesJob, WorkerIsAnswered, last_of, taken_of};
 
 use crate::crew::Crew;
 use crate::driving::ends_job;
@@ -96,7 +96,7 @@ impl<'a, R: Wait, D: Disk + Drop, H: Hold> RelayedDump<'a, R, D, H> {
         }
     }
 
-    /// What a step told. Where outcomes of the writers are awaited, of which so many had been made, it waits for one.
+    /// What a step said. Where outcomes of the writers are awaited, of which so many had been made, it waits for one.
     fn awaited(&self, reply: Reply, made: u64) -> Reply
         ensures { ends_job result ≡ true → result ≡ reply }
     {
@@ -107,11 +107,12 @@ impl<'a, R: Wait, D: Disk + Drop, H: Hold> RelayedDump<'a, R, D, H> {
         reply
     }
 
-    /// What the checkpoint is told of its next step, or of its next device call, which is made, or put for the writers.
+    /// How the checkpoint is answered at its next step, or at its next device call, which is made, or put for the
+    /// writers.
     fn told(&mut self, front: &mut Front, next: Next, made: u64) -> Reply
         ensures stays { StaysOnChannel front.old front.new }
         ensures same { self.new.number ≡ self.old.number }
-        ensures told { ends_job result ≡ true → IsToldBy D.contents (taken_of next) result }
+        ensures told { ends_job result ≡ true → IsAnsweredBy D.contents (taken_of next) result }
     {
         match next {
             Next::Step(reply) => self.awaited(reply, made),
@@ -128,7 +129,7 @@ impl<'a, R: Wait, D: Disk + Drop, H: Hold> RelayedDump<'a, R, D, H> {
         ensures stays { StaysOnChannel front.old front.new }
         ensures same { self.new.number ≡ self.old.number }
         ensures told { ends_job self.new.last ≡ true
-            → WorkerIsTold D.contents its.Dumper self.old.number self.new.last }
+            → WorkerIsAnswered D.contents its.Dumper self.old.number self.new.last }
     {
         let made = self.crew.made();
         let next = self.crew.take_up(self.number);
@@ -152,7 +153,7 @@ impl<'a, R: Wait, D: Disk + Drop, H: Hold> RelayedDump<'a, R, D, H> {
         ensures stays { StaysOnChannel front.old front.new }
         ensures over { ends_job self.new.last ≡ true }
         ensures told { (self.new.last ≡ self.old.last)
-            ⊎ WorkerIsTold D.contents its.Dumper self.old.number self.new.last }
+            ⊎ WorkerIsAnswered D.contents its.Dumper self.old.number self.new.last }
     {
         for _ in self.crew.rt().forever() {
             if ends_job(&self.last) {

@@ -5,7 +5,7 @@ ghost use Rattle.sd_shared.specs.Turns.{AreRefused, WasRefused};
 
 use sd_command::{Refusal, Reply};
 
-/// What the writers of a checkpoint tell.
+/// What the writers of a checkpoint report.
 #[derive(Drop)]
 pub(crate) struct Reports {
     /// How many writes they have made, whose outcomes were handed in.
@@ -16,7 +16,7 @@ pub(crate) struct Reports {
 }
 
 impl Reports {
-    /// Nothing was told yet.
+    /// Nothing was reported yet.
     pub(crate) fn new() -> Self {
         Reports {
             made: 0,

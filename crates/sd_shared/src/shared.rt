@@ -139,7 +139,7 @@ impl<D: Disk + Drop> Shared<D> {
     }
 
     /// Drops the core and the disk. What was acknowledged is on the disk; a checkpoint that runs is given up, as by a
-    /// crash. [`Shared::close`] gives both back instead, where the journal accounts for what was told.
+    /// crash. [`Shared::close`] gives both back instead, where the journal accounts for what was said.
     pub fn discard(self) {
         let Shared { core, .. } = self;
         core.into_inner().into_core().discard();

@@ -137,7 +137,7 @@ impl<D: Disk + Drop> Shared<D> {
     ///
     /// # Errors
     ///
-    /// As `call`. A reply `Frozen` tells that the store is down, or that waits were ended ([`Shared::end_waits`]).
+    /// As `call`. A reply `Frozen` says that the store is down, or that waits were ended ([`Shared::end_waits`]).
     pub fn call_thawed(
         &self,
         rt: &impl Wait,
@@ -187,7 +187,7 @@ impl<D: Disk + Drop> Shared<D> {
         }
     }
 
-    /// Waits until nothing is frozen, or the store is down, or waits are ended, and tells which.
+    /// Waits until nothing is frozen, or the store is down, or waits are ended, and says which.
     pub fn wait_thaw(&self, rt: &impl Wait) -> Thaw
         ensures waits { AwaitsThaw result }
     {

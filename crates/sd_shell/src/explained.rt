@@ -96,7 +96,7 @@ impl fmt::Display for TooManyRounds {
 }
 
 /// Reports how many rounds a checkpoint has at most, where more were asked for.
-pub(crate) fn tell_rounds(asked: Asked<'_>, rounds: Option<u64>) {
+pub(crate) fn report_rounds(asked: Asked<'_>, rounds: Option<u64>) {
     if let Some(rounds) = rounds
         && rounds > MOST_ROUNDS
     {

@@ -4,7 +4,7 @@ ghost use Rattle.std.specs.Prelude.{◌≡◌, ◌↔◌, IsTrue};
 
 use crate::asking::{Asking, asking_of, end_prompt, prompt};
 use crate::bulk::{Bulk, BulkLine, MOST_BYTES, Way, answer_get, answer_put, parse_bulk};
-use crate::explained::{print_requests, refuse_line, tell_rounds};
+use crate::explained::{print_requests, refuse_line, report_rounds};
 use crate::requests::{Brought, Requests};
 use sd_command::{Refusal, Reply};
 use sd_core::Core;
@@ -40,7 +40,7 @@ pub(crate) struct Asked<'a> {
 
 impl Asked<'_> {
     /// Reports how many slots are free, where a request was refused because too few are.
-    fn tell_answer(self, core: &Core, wanted: Option<FewSlots>, answer: &Answer) {
+    fn report_answer(self, core: &Core, wanted: Option<FewSlots>, answer: &Answer) {
         let Some(wanted) = wanted else {
             return;
         };
@@ -48,7 +48,7 @@ impl Asked<'_> {
             && let Ok(free) = core.free_slots()
         {
             let free = free.len();
-            self.called.tell_few(FewSlots { free, ..wanted });
+            self.called.report_few(FewSlots { free, ..wanted });
         }
     }
 
@@ -58,7 +58,7 @@ impl Asked<'_> {
         match answer {
             Answer::Reply(Reply::Refused(Refusal::Device)) => self.failed.set(worker),
             Answer::Reply(Reply::Reopened(_)) => self.failed.set(None),
-            Answer::Reply(Reply::Refused(Refusal::Einval)) => tell_rounds(self, rounds),
+            Answer::Reply(Reply::Refused(Refusal::Einval)) => report_rounds(self, rounds),
             _ => {}
         }
     }
@@ -224,7 +224,7 @@ fn answer_request<D: Disk, W: Write, S: Watch>(
         hand_in_all(asked, world, failed, watch)?;
     }
     let given = run_line(asked.called.rt.alloc(), world, request, out, watch)?;
-    asked.tell_answer(world.core(), wanted, &given);
+    asked.report_answer(world.core(), wanted, &given);
     asked.note(&given, worker, rounds);
     Ok(())
 }

@@ -1,15 +1,15 @@
 -- Counts of pages that are left.
 use Rattle.std.proofs.Common.{◌≡◌, ◌-◌, ◌+◌, ◌<◌, ◌≤◌, ℕ, List, length, min, sym, ap, arith, ◌∙◌}
 use Rattle.std.proofs.lemmas.List.Sums.{sum_by-cons}
-use Rattle.sd_show.specs.Items.{behind_space, runs_in, spaces_in}
+use Rattle.sd_show.specs.Items.{place_after_space, runs_in, spaces_in}
 use Rattle.sd_show.specs.Counts.{runs_pages, spaces_pages}
 use Rattle.sd_show.proofs.ItemLemmas.{spaces_more}
 
 pub spaces_pages_more : (kind left : ℕ) (bytes : List ℕ) → 0 < left → 16 ≤ length bytes
-    → runs_pages kind (runs_in bytes) + spaces_pages kind (spaces_in (left - 1) (behind_space bytes)) ≡ spaces_pages kind (spaces_in left bytes)
+    → runs_pages kind (runs_in bytes) + spaces_pages kind (spaces_in (left - 1) (place_after_space bytes)) ≡ spaces_pages kind (spaces_in left bytes)
 spaces_pages_more kind left bytes some long =
     sym (ap (spaces_pages kind) (spaces_more left bytes some long)
-    ∙ sum_by-cons (λ space. runs_pages kind (runs_in space)) bytes (spaces_in (left - 1) (behind_space bytes)))
+    ∙ sum_by-cons (λ space. runs_pages kind (runs_in space)) bytes (spaces_in (left - 1) (place_after_space bytes)))
 
 -- after the last there is nothing left
 pub done : (limit total rest all : ℕ) → total ≤ limit → rest ≡ 0 → min (total + rest) limit ≡ min all limit → total ≡ min all limit

@@ -1,14 +1,14 @@
 -- The spaces that are left.
 use Rattle.std.proofs.Common.{◌≡◌, ◌-◌, ◌<◌, ◌≤◌, ℕ, zero, suc, List, [], ◌∷◌, length, ap, arith, ◌∙◌, refl}
 use Rattle.std.proofs.lemmas.Bool.{cond-false, cond-true, le-leb, lt-leb}
-use Rattle.sd_show.specs.Items.{behind_space, spaces_in}
+use Rattle.sd_show.specs.Items.{place_after_space, spaces_in}
 
-pub spaces_more : (left : ℕ) (bytes : List ℕ) → 0 < left → 16 ≤ length bytes → spaces_in left bytes ≡ bytes ∷ spaces_in (left - 1) (behind_space bytes)
+pub spaces_more : (left : ℕ) (bytes : List ℕ) → 0 < left → 16 ≤ length bytes → spaces_in left bytes ≡ bytes ∷ spaces_in (left - 1) (place_after_space bytes)
 unfolding spaces_in
 spaces_more zero bytes some long = absurd (omega (arith, some))
 spaces_more (suc n) bytes some long =
     cond-false _ _ _ (lt-leb (suc (length bytes)) 16 (omega (arith, long)))
-    ∙ ap (λ k. bytes ∷ spaces_in k (behind_space bytes)) (let e : n ≡ suc n - 1 = omega arith in e)
+    ∙ ap (λ k. bytes ∷ spaces_in k (place_after_space bytes)) (let e : n ≡ suc n - 1 = omega arith in e)
 
 pub no_spaces : (left : ℕ) (bytes : List ℕ) → left ≡ 0 → spaces_in left bytes ≡ []
 unfolding spaces_in

@@ -6,7 +6,7 @@ use Rattle.std.proofs.KnownBytes.{Appends-nil, Appends-trans}
 use Rattle.std.proofs.lemmas.List.{drop_more, length-drop, nil_from_length}
 use Rattle.sd_show.specs.declared.state.State.{State}
 use Rattle.sd_show.specs.Slots.{state_word}
-use Rattle.sd_show.specs.Items.{behind_run, behind_runs, behind_space, runs_in, spaces_in}
+use Rattle.sd_show.specs.Items.{place_after_run, place_after_runs, place_after_space, runs_in, spaces_in}
 use Rattle.sd_show.specs.Texts.{run_line, runs_text, slot_line, space_lines, spaces_text}
 use Rattle.sd_show.proofs.ItemLemmas.{spaces_more}
 
@@ -46,21 +46,21 @@ slot_written slot state shown word padded named = rw (padded, named) refl
 -- ---- runs
 
 pub runs_more : (at : Option ℕ) (runs : List (List ℕ)) (i : ℕ) → i < length runs
-    → run_line at (get_or runs i []) ++ runs_text (behind_run at (get_or runs i [])) (drop (i + 1) runs) ≡ runs_text at (drop i runs)
+    → run_line at (get_or runs i []) ++ runs_text (place_after_run at (get_or runs i [])) (drop (i + 1) runs) ≡ runs_text at (drop i runs)
 runs_more at runs i less = sym (ap (runs_text at) (drop_more runs i [] less))
 
 pub behind_more : (at : Option ℕ) (runs : List (List ℕ)) (i : ℕ) → i < length runs
-    → behind_runs (behind_run at (get_or runs i [])) (drop (i + 1) runs) ≡ behind_runs at (drop i runs)
-behind_more at runs i less = sym (ap (behind_runs at) (drop_more runs i [] less))
+    → place_after_runs (place_after_run at (get_or runs i [])) (drop (i + 1) runs) ≡ place_after_runs at (drop i runs)
+behind_more at runs i less = sym (ap (place_after_runs at) (drop_more runs i [] less))
 
 pub runs_done : (at : Option ℕ) (runs : List (List ℕ)) (i : ℕ) → length runs ≤ i → runs_text at (drop i runs) ≡ []
 runs_done at runs i all = ap (runs_text at) (none_left runs i all)
 
-pub behind_done : (at : Option ℕ) (runs : List (List ℕ)) (i : ℕ) → length runs ≤ i → behind_runs at (drop i runs) ≡ at
-behind_done at runs i all = ap (behind_runs at) (none_left runs i all)
+pub behind_done : (at : Option ℕ) (runs : List (List ℕ)) (i : ℕ) → length runs ≤ i → place_after_runs at (drop i runs) ≡ at
+behind_done at runs i all = ap (place_after_runs at) (none_left runs i all)
 
 -- ---- spaces
 
 pub spaces_text_more : (left : ℕ) (at : Option ℕ) (bytes : List ℕ) → 0 < left → 16 ≤ length bytes
-    → space_lines at bytes ++ spaces_text (behind_runs at (runs_in bytes)) (spaces_in (left - 1) (behind_space bytes)) ≡ spaces_text at (spaces_in left bytes)
+    → space_lines at bytes ++ spaces_text (place_after_runs at (runs_in bytes)) (spaces_in (left - 1) (place_after_space bytes)) ≡ spaces_text at (spaces_in left bytes)
 spaces_text_more left at bytes some long = sym (ap (spaces_text at) (spaces_more left bytes some long))

@@ -15,13 +15,13 @@ areas_in bytes = items_in (number_at 4 4 bytes) (drop 16 bytes)
 unfoldable pub runs_in : List ℕ → List (List ℕ)
 runs_in bytes = items_in (number_at 8 8 bytes) (drop (24 * number_at 4 4 bytes) (drop 16 bytes))
 
-unfoldable pub behind_space : List ℕ → List ℕ
-behind_space bytes = drop (24 * number_at 8 8 bytes) (drop (24 * number_at 4 4 bytes) (drop 16 bytes))
+unfoldable pub place_after_space : List ℕ → List ℕ
+place_after_space bytes = drop (24 * number_at 8 8 bytes) (drop (24 * number_at 4 4 bytes) (drop 16 bytes))
 
 -- the bytes from each of so many spaces on, as far as they go
 unfoldable pub spaces_in : ℕ → List ℕ → List (List ℕ)
 spaces_in zero bytes = []
-spaces_in (suc n) bytes = if nat_lt (length bytes) 16 then [] else bytes ∷ spaces_in n (behind_space bytes)
+spaces_in (suc n) bytes = if nat_lt (length bytes) 16 then [] else bytes ∷ spaces_in n (place_after_space bytes)
 
 -- and from each space of a table on
 abbrev pub table_spaces : List ℕ → List (List ℕ)
@@ -33,10 +33,10 @@ behind None count = None
 behind (Some at) count = if nat_lt (at + 4096 * count) (2 ^ 64) then Some (at + 4096 * count) else None
 
 -- where the next data page stands after a run, whose own pages would begin at a place
-abbrev pub behind_run : Option ℕ → List ℕ → Option ℕ
-behind_run at run = if number_at 4 16 run == 1 then behind at (number_at 8 8 run) else at
+abbrev pub place_after_run : Option ℕ → List ℕ → Option ℕ
+place_after_run at run = if number_at 4 16 run == 1 then behind at (number_at 8 8 run) else at
 
 -- and after runs
-abbrev pub behind_runs : Option ℕ → List (List ℕ) → Option ℕ
-behind_runs at [] = at
-behind_runs at (run ∷ runs) = behind_runs (behind_run at run) runs
+abbrev pub place_after_runs : Option ℕ → List (List ℕ) → Option ℕ
+place_after_runs at [] = at
+place_after_runs at (run ∷ runs) = place_after_runs (place_after_run at run) runs

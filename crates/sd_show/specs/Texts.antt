@@ -11,7 +11,7 @@ use Rattle.sd_image.specs.Image.{is_open}
 use Rattle.sd_image.specs.Reading.{digest_of_file, number_at, prot_of_number}
 use Rattle.sd_image.specs.ReasonLaws.{reason_number}
 use Rattle.sd_show.specs.declared.state.State.{State}
-use Rattle.sd_show.specs.Items.{areas_in, behind_run, behind_runs, runs_in, table_spaces}
+use Rattle.sd_show.specs.Items.{areas_in, place_after_run, place_after_runs, runs_in, table_spaces}
 use Rattle.sd_show.specs.Phrases.{reason_phrase}
 use Rattle.sd_show.specs.Slots.{fault_in, shown_table, state_in, state_word, table_bytes}
 
@@ -102,7 +102,7 @@ run_line at run = run_kind_text (number_at 4 16 run) ++
 
 abbrev pub runs_text : Option ℕ → List (List ℕ) → List ℕ
 runs_text at [] = []
-runs_text at (run ∷ runs) = run_line at run ++ runs_text (behind_run at run) runs
+runs_text at (run ∷ runs) = run_line at run ++ runs_text (place_after_run at run) runs
 
 -- the space that bytes begin with: its number, its areas and its runs
 unfoldable pub space_lines : Option ℕ → List ℕ → List ℕ
@@ -112,7 +112,7 @@ space_lines at bytes = field_line (codes "space") (number_at 4 0 bytes) ++ flat_
 -- spaces, the data pages of each after those of the one before
 abbrev pub spaces_text : Option ℕ → List (List ℕ) → List ℕ
 spaces_text at [] = []
-spaces_text at (space ∷ spaces) = space_lines at space ++ spaces_text (behind_runs at (runs_in space)) spaces
+spaces_text at (space ∷ spaces) = space_lines at space ++ spaces_text (place_after_runs at (runs_in space)) spaces
 
 unfoldable pub table_lines : List ℕ → List ℕ
 table_lines table = spaces_text (Some 4096) (table_spaces table)

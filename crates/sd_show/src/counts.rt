@@ -4,7 +4,7 @@ ghost use Rattle.std.specs.Prelude.{◌≡◌, ◌+◌, ◌-◌, ◌^◌, min};
 ghost use Rattle.sd_show.specs.Counts.{run_page_count, runs_pages, spaces_pages, table_pages};
 ghost use Rattle.sd_show.specs.Items.{spaces_in};
 
-use crate::items::{ITEM_SIZE, SPACE_HEAD_SIZE, TABLE_HEAD_SIZE, behind_space, runs_in};
+use crate::items::{ITEM_SIZE, SPACE_HEAD_SIZE, TABLE_HEAD_SIZE, place_after_space, runs_in};
 use sd_image::{u32_at, u64_at};
 
 /// How many pages an image lists: with bytes of its own, in its parent, and of zeros.
@@ -77,7 +77,7 @@ fn count_spaces(kind: u32, count: u32, bytes: &[u8]) -> u64
     let mut rest = bytes;
     while left > 0 && rest.len() >= SPACE_HEAD_SIZE {
         pages = pages.saturating_add(count_runs(kind, runs_in(rest)));
-        rest = behind_space(rest);
+        rest = place_after_space(rest);
         left -= 1;
     }
     pages

@@ -1,7 +1,7 @@
 //! The items of a table, as they stand there, as far as its bytes go.
 ghost use Rattle.std.specs.Prelude.{◌≡◌, ◌+◌, ◌*◌, ◌≤◌, List, ℕ, length, drop, option_copied};
 ghost use Rattle.sd_image.specs.Reading.{number_at};
-ghost use Rattle.sd_show.specs.Items.{areas_in, behind, behind_run, behind_space, items_in, runs_in};
+ghost use Rattle.sd_show.specs.Items.{areas_in, behind, place_after_run, place_after_space, items_in, runs_in};
 
 use sd_image::{u32_at, u64_at};
 
@@ -62,10 +62,10 @@ pub(crate) fn runs_in(bytes: &[u8]) -> &[[u8; ITEM_SIZE]]
 }
 
 /// The bytes after the space that bytes begin with.
-#[tactic(auto, unfolding(crate::specs::Items::behind_space))]
-pub(crate) fn behind_space(bytes: &[u8]) -> &[u8]
+#[tactic(auto, unfolding(crate::specs::Items::place_after_space))]
+pub(crate) fn place_after_space(bytes: &[u8]) -> &[u8]
     requires { 16 ≤ length bytes.now }
-    ensures { result.now ≡ behind_space bytes.now }
+    ensures { result.now ≡ place_after_space bytes.now }
 {
     bytes_behind(behind_areas(bytes), u64_at(bytes, 8))
 }
@@ -78,8 +78,8 @@ fn behind(at: Option<u64>, count: u64) -> Option<u64>
 }
 
 /// Where the next data page stands in the file after a run, whose own pages would begin at a place.
-pub(crate) fn behind_run(at: Option<u64>, run: &[u8; ITEM_SIZE]) -> Option<u64>
-    ensures { result ≡ behind_run at run.now }
+pub(crate) fn place_after_run(at: Option<u64>, run: &[u8; ITEM_SIZE]) -> Option<u64>
+    ensures { result ≡ place_after_run at run.now }
 {
     if u32_at(run, 16) != 1 {
         return at;

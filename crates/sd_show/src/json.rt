@@ -9,7 +9,8 @@ ghost use Rattle.sd_show.specs.declared.stop.Stop.TheVariants as stop;
 
 use crate::header_text::digest_word;
 use crate::items::{
-    ITEM_SIZE, SPACE_HEAD_SIZE, TABLE_HEAD_SIZE, areas_in, behind_run, behind_space, runs_in,
+    ITEM_SIZE, SPACE_HEAD_SIZE, TABLE_HEAD_SIZE, areas_in, place_after_run, place_after_space,
+    runs_in,
 };
 use crate::numbers::numbers_object;
 use crate::opened::Opened;
@@ -99,7 +100,7 @@ fn runs_json(
     let mut next = at;
     for run in runs {
         shown.push(run_json(alloc, next, run)?)?;
-        next = behind_run(next, run);
+        next = place_after_run(next, run);
     }
     Ok((Value::from(shown), next))
 }
@@ -131,7 +132,7 @@ fn spaces_json(alloc: Global, count: u32, bytes: &[u8]) -> Result<Value, AllocEr
         let (space, next) = space_json(alloc, at, rest)?;
         shown.push(space)?;
         at = next;
-        rest = behind_space(rest);
+        rest = place_after_space(rest);
         left -= 1;
     }
     Ok(Value::from(shown))

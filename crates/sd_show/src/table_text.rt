@@ -3,12 +3,13 @@ ghost use Rattle.std.specs.Prelude.{◌≡◌, ◌⊎◌, ◌+◌, ◌^◌, ◌�
 ghost use Rattle.std.specs.List.{flat_map};
 ghost use Rattle.std.specs.Io.KnownBytes.{Appends};
 ghost use Rattle.sd_image.specs.Reading.{prot_of_number};
-ghost use Rattle.sd_show.specs.Items.{behind_runs, runs_in, spaces_in};
+ghost use Rattle.sd_show.specs.Items.{place_after_runs, runs_in, spaces_in};
 ghost use Rattle.sd_show.specs.Texts.{area_item_line, offset_text, permissions_text, range_text, run_kind_text};
 ghost use Rattle.sd_show.specs.Texts.{run_kind_word, run_line, runs_text, space_lines, spaces_text, table_lines};
 
 use crate::items::{
-    ITEM_SIZE, SPACE_HEAD_SIZE, TABLE_HEAD_SIZE, areas_in, behind_run, behind_space, runs_in,
+    ITEM_SIZE, SPACE_HEAD_SIZE, TABLE_HEAD_SIZE, areas_in, place_after_run, place_after_space,
+    runs_in,
 };
 use sd_areas::{PAGE_NUMBER_LIMIT, Prot};
 use sd_image::{HEADER_SIZE, u32_at, u64_at};
@@ -137,12 +138,12 @@ fn print_runs<W: Write>(
 ) -> io::Result<Option<u64>>
     ensures text { OnOk result
         (Appends (W.contents out.old) (W.contents out.new) (runs_text at runs.now)) }
-    ensures behind { IfOk result (λ next. next ≡ behind_runs at runs.now) }
+    ensures behind { IfOk result (λ next. next ≡ place_after_runs at runs.now) }
 {
     let mut next = at;
     for run in runs {
         print_run(next, run, out)?;
-        next = behind_run(next, run);
+        next = place_after_run(next, run);
     }
     Ok(next)
 }
@@ -153,7 +154,7 @@ fn print_space<W: Write>(at: Option<u64>, bytes: &[u8], out: &mut W) -> io::Resu
     requires { 16 ≤ length bytes.now }
     ensures text { OnOk result
         (Appends (W.contents out.old) (W.contents out.new) (space_lines at bytes.now)) }
-    ensures behind { IfOk result (λ next. next ≡ behind_runs at (runs_in bytes.now)) }
+    ensures behind { IfOk result (λ next. next ≡ place_after_runs at (runs_in bytes.now)) }
 {
     writeln!(out, "space {}", u32_at(bytes, 0))?;
     print_areas(areas_in(bytes), out)?;
@@ -170,7 +171,7 @@ fn print_spaces<W: Write>(count: u32, bytes: &[u8], out: &mut W) -> io::Result<(
     let mut at = Some(HEADER_SIZE as u64);
     while left > 0 && rest.len() >= SPACE_HEAD_SIZE {
         at = print_space(at, rest, out)?;
-        rest = behind_space(rest);
+        rest = place_after_space(rest);
         left -= 1;
     }
     Ok(())

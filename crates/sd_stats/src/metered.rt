@@ -8,7 +8,7 @@ use std::time::{Clock, Duration};
 /// A disk whose calls are seen by a meter.
 pub type Metered<'a, R, D> = Observed<Metering<'a, R>, D>;
 
-/// Tells a meter of each call, by a clock. Those that fail are counted alone.
+/// Reports each call to a meter, by a clock. Those that fail are counted alone.
 #[derive(Drop)]
 pub struct Metering<'a, R> {
     clock: &'a R,
@@ -27,7 +27,7 @@ impl<'a, R: Clock> Metering<'a, R> {
     }
 }
 
-/// Tells a meter of a call that was done.
+/// Reports a call that was done to a meter.
 fn tell(meter: &mut Meter, slot: usize, call: FileCall<'_>, now: Duration) {
     match call {
         FileCall::Len => meter.called(),

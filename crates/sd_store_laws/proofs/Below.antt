@@ -1,4 +1,4 @@
--- What a called number gives stays.
+-- What a referenced number gives stays.
 use Rattle.std.proofs.Common.{◌≡◌, ◌⊎◌, ℕ, List, [], ◌∷◌, Contains, refl, sym, subst, inl, inr}
 use Rattle.sd_image.specs.Image.{Image}
 use Rattle.sd_image.specs.Laws.{SerialsDiffer}
@@ -12,7 +12,7 @@ use Rattle.sd_store_laws.specs.Below.{BelowStays, GivesByNumber, GivesStill, Own
 use Rattle.sd_image.proofs.OneMemory.{named_once_among as one_named}
 use Rattle.sd_store_laws.proofs.Cuts.{IsFollowed, holds_back, holds_on, named_back, named_on, needed_in}
 use Rattle.sd_store_laws.proofs.Growth.{called_all}
-use Rattle.sd_store_laws.proofs.Harmless.{unused_is_uncalled_lem}
+use Rattle.sd_store_laws.proofs.ShownStays.{unused_is_uncalled_lem}
 use Rattle.sd_store_laws.proofs.Opens.{twin_harmless}
 
 below_on : (catalog images : List Image) (jobs : List ℕ) (number space page : ℕ) (bytes : List ℕ) → IsFollowed catalog jobs images → IsCalled catalog jobs number

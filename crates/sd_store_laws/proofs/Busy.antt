@@ -6,7 +6,7 @@ use Rattle.sd_image.specs.declared.run.RunKind.TheVariants.{Data, Parent}
 use Rattle.sd_image.specs.Image.{Image}
 use Rattle.sd_image.specs.Shows.{IsNamed, IsNotAfter, IsRestorable, IsTip, ImagesShow}
 use Rattle.sd_image.proofs.Members.{contains_cases, contains_front, contains_none}
-use Rattle.sd_store_laws.specs.Store.{IsNextDump, IsSoundStore, IsTwin, Store, jobs}
+use Rattle.sd_store_laws.specs.Store.{IsNextDump, IsSoundStore, IsMergedCopy, Store, jobs}
 use Rattle.sd_store_laws.specs.Steps.{Adds, checkpoint_begun, committed, found_store, merging}
 use Rattle.sd_store_laws.specs.Beliefs.{AreSlotsOf, Belief, Kept, Closing, Opening, IsAdded, image_at}
 use Rattle.sd_store_laws.specs.Worked.{MergeBesideRound, busy, busy_slots, merged, one_page_memory, unchanged, whole}
@@ -55,7 +55,7 @@ module _ (bytes : List ℕ) where
   busy_sound = steps_keep_lem.begins (merging (committed started (a ∷ [])) a) a merging_sound refl a_tip
 
   -- what is being opened
-  pub twin : IsTwin (busy bytes).catalog (busy bytes).source m
+  pub twin : IsMergedCopy (busy bytes).catalog (busy bytes).source m
   twin = grind (arith, alike_pages, restores, each_of_one)
 
   pub second_dump : IsNextDump (busy bytes) d
@@ -81,7 +81,7 @@ module _ (bytes : List ℕ) where
   is_added i c = elim (contains_cases (Kept a) (Opening i) later c) [
     | inl e ↦ absurd cc
     | inr more ↦ elim (contains_cases (Opening m) (Opening i) (Opening d ∷ []) more) [
-      | inl e ↦ let same : i ≡ m = cc in inr (inl (subst (IsTwin (busy bytes).catalog (busy bytes).source) (sym same) twin))
+      | inl e ↦ let same : i ≡ m = cc in inr (inl (subst (IsMergedCopy (busy bytes).catalog (busy bytes).source) (sym same) twin))
       | inr rest ↦ elim (contains_cases (Opening d) (Opening i) [] rest) [
         | inl e ↦ let same : i ≡ d = cc in inr (inr (ap Some (sym same)))
         | inr none ↦ absurd (contains_none (Opening i) none)

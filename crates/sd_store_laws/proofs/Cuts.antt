@@ -7,7 +7,7 @@ use Rattle.sd_store_laws.specs.Needed.{IsCalled, IsNeeded}
 use Rattle.sd_store_laws.specs.Needed as needed
 use Rattle.sd_image.specs.Laws.{SerialsDiffer}
 use Rattle.sd_image.proofs.Members.{contains_cases, contains_front, contains_later}
-use Rattle.sd_store_laws.specs.Cut.{CutHoldsTheSame, CutShowsTheSame, CutShowsLastOrPending, HoldsAlike, IsCut, IsHarmless, IsPending, KeepsItsNumber, KeepsTheTip, Repeats}
+use Rattle.sd_store_laws.specs.Cut.{CutHoldsTheSame, CutShowsTheSame, CutShowsLastOrPending, HoldsAlike, IsCut, LeavesShown, IsPending, KeepsItsNumber, KeepsTheTip, Repeats}
 use Rattle.sd_image.proofs.OneMemory.{named_once_among as one_named}
 use Rattle.sd_store_laws.proofs.Choose.{not_after_self, one_tip, some_named, some_tip, tip_is}
 use Rattle.sd_store_laws.proofs.Memories.{memory_moves}
@@ -45,7 +45,7 @@ named_on catalog images jobs number i f called named =
     let back = named_back catalog images jobs number j.0 f called j.1 in
     (j.0, j.1, subst (λ (k : Image). IsSame catalog k j.0) (one_named catalog number back.0 i f.differ back.1 named) back.2)
 
--- an image whose parent number is called for holds here what it holds in the catalog
+-- an image whose parent number is referenced holds here what it holds in the catalog
 pub holds_on : (catalog images : List Image) (jobs : List ℕ) (space page : ℕ) (bytes : List ℕ) (i : Image) → IsFollowed catalog jobs images
     → IsCalled catalog jobs i.header.parent → Holds catalog space page bytes i → Holds images space page bytes i
 holds_on catalog images jobs space page bytes i f called (by_data _ place has is) = by_data i place has is
@@ -84,7 +84,7 @@ cut_holds_the_same_lem catalog adding images jobs i differ cut keeps called spac
 
 -- ---- what is shown
 
-pub record IsHarmlessly (catalog : List Image) (jobs : List ℕ) (images : List Image) : Type 0 where
+pub record LeavesShownSo (catalog : List Image) (jobs : List ℕ) (images : List Image) : Type 0 where
   pub followed : IsFollowed catalog jobs images
   pub tips : (i : Image) → Contains images i → Contains catalog i ⊎ KeepsTheTip catalog i
 
@@ -94,7 +94,7 @@ IsSameTip catalog tip j = (j ≡ tip) ⊎ Repeats catalog tip j
 not_below : (i j : Image) → IsNotAfter i j → j.header.checkpoint < i.header.checkpoint → ⊥
 not_below i j given less = grind arith
 
-tip_on : (catalog images : List Image) (jobs : List ℕ) (tip : Image) → IsHarmlessly catalog jobs images → IsTip catalog tip
+tip_on : (catalog images : List Image) (jobs : List ℕ) (tip : Image) → LeavesShownSo catalog jobs images → IsTip catalog tip
     → (j : Image) × IsTip images j × IsSameTip catalog tip j
 tip_on catalog images jobs tip h is =
     let there = h.followed.needed tip (inl is) in
@@ -114,7 +114,7 @@ tip_on catalog images jobs tip h is =
       ],
     )
 
-none_on : (catalog images : List Image) (jobs : List ℕ) → IsHarmlessly catalog jobs images
+none_on : (catalog images : List Image) (jobs : List ℕ) → LeavesShownSo catalog jobs images
     → ((i : Image) → Contains catalog i → IsRestorable i → ⊥) → (i : Image) → Contains images i → IsRestorable i → ⊥
 none_on catalog images jobs h none i c restorable = elim (h.tips i c) [
   | inl among ↦ none i among restorable
@@ -133,7 +133,7 @@ tip_holds catalog images jobs tip j memory f is (inr repeats) was =
 same_checkpoint : (catalog : List Image) (tip j : Image) → IsSameTip catalog tip j → j.header.checkpoint ≡ tip.header.checkpoint
 same_checkpoint catalog tip j given = grind arith
 
-pub shows_on : (catalog images : List Image) (jobs : List ℕ) (shown : Option (ℕ × PlainMemory)) → IsHarmlessly catalog jobs images
+pub shows_on : (catalog images : List Image) (jobs : List ℕ) (shown : Option (ℕ × PlainMemory)) → LeavesShownSo catalog jobs images
     → ImagesShow catalog shown → ImagesShow images shown
 shows_on catalog images jobs None h none = none_on catalog images jobs h none
 shows_on catalog images jobs (Some moment) h was =
@@ -156,7 +156,7 @@ cut_shows_the_same_lem catalog adding images jobs shown differ cut harmless was 
 abbrev AreKnown : List Image → List Image → List ℕ → Image → List Image → Type 0
 AreKnown catalog adding jobs pending images = (i : Image) → Contains images i → Contains catalog i ⊎ Contains (pending ∷ adding) i
 
--- the pending one is there, or all others are harmless
+-- the pending one is there, or all others leave what is shown
 has_pending : (catalog adding images : List Image) (jobs : List ℕ) (pending : Image) → AreKnown catalog adding jobs pending images
     → Contains images pending ⊎ ((i : Image) → Contains images i → Contains catalog i ⊎ Contains adding i)
 has_pending catalog adding [] jobs pending known = inr (λ i c. absurd (let e = c.1 in omega (arith, e)))
@@ -184,7 +184,7 @@ uncalled_keeps catalog jobs pending is called = absurd (is.uncalled called)
 
 record IsUnder (catalog adding : List Image) (jobs : List ℕ) (pending : Image) : Type 0 where
   differ : SerialsDiffer catalog
-  harmless : (added : Image) → Contains adding added → IsHarmless catalog jobs added
+  harmless : (added : Image) → Contains adding added → LeavesShown catalog jobs added
   is : IsPending catalog jobs pending
 
 -- the pending one is the tip where it is there

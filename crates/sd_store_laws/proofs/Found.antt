@@ -9,7 +9,7 @@ use Rattle.sd_store_laws.specs.Beliefs.{Belief, Closed, Kept, Closing, Opening, 
 use Rattle.sd_store_laws.specs.SlotSteps.{IsFoundAs, SlotsAreFound}
 use Rattle.sd_store_laws.specs.Store.{jobs}
 use Rattle.sd_store_laws.proofs.Cuts.{needed_in}
-use Rattle.sd_image.proofs.OneImage.{not_behind as other_serials}
+use Rattle.sd_image.proofs.OneImage.{stands_not_after as other_serials}
 
 abbrev Distinct : List Image → Type 0
 Distinct images = IsDistinct nat_eq (map (λ (k : Image). k.header.serial) images)

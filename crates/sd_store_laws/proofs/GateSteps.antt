@@ -239,7 +239,7 @@ one_belief_changes_lem phases bodies beliefs slot phase body belief stored withi
 
 -- ---- slots that are found
 
--- the phase that a file tells, by its length and its gate
+-- the phase that a file shows, by its length and its gate
 phase_by : (file : List ℕ) → (IsShort file × (found_phase file ≡ Raw))
     ⊎ ((4096 ≤ length file) × (((slice_index file 0 ≡ gate) × (found_phase file ≡ Whole)) ⊎ ((slice_index file 0 ≢ gate) × (found_phase file ≡ Shut))))
 phase_by file = elim (cases_lt (length file) 4096) [

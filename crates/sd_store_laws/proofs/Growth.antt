@@ -6,7 +6,7 @@ use Rattle.sd_image.specs.Laws.{SerialsDiffer}
 use Rattle.sd_store_laws.specs.Needed.{IsCalled, by_tip, by_job, by_parent}
 use Rattle.sd_store_laws.specs.Steps.{Adds}
 
--- what holds of the tip's parent and of the jobs' numbers, and of the parent of whatever such a number names, holds of each called number
+-- what holds of the tip's parent and of the jobs' numbers, and of the parent of whatever such a number names, holds of each referenced number
 pub called_all : (images : List Image) (jobs : List ℕ) (P : ℕ → Type 0) → ((tip : Image) → IsTip images tip → P tip.header.parent)
     → ((number : ℕ) → Contains jobs number → P number) → ((number : ℕ) (i : Image) → P number → IsNamed images number i → P i.header.parent)
     → (number : ℕ) → IsCalled images jobs number → P number

@@ -3,7 +3,7 @@ pub mod Walks
 pub mod Catalogs
 pub mod Memories
 pub mod Cuts
-pub mod Harmless
+pub mod ShownStays
 pub mod Growth
 pub mod StepLemmas
 pub mod Slots
@@ -21,7 +21,7 @@ pub mod NeedsLaws
 pub mod Below
 pub mod Pending
 pub mod GateSteps
-pub mod InUse
+pub mod LiveImages
 pub mod Kept
 pub mod Makers
 pub mod WorkedSlots

@@ -3,7 +3,7 @@ use Rattle.std.proofs.Common.{◌≡◌, ◌⊎◌, true, List, sym, ◌∙◌, 
 use Rattle.sd_image.specs.Image.{Image}
 use Rattle.sd_image.specs.Shows.{IsNamed, IsTip}
 use Rattle.sd_store_laws.specs.Needed.{IsNeeded}
-use Rattle.sd_store_laws.specs.Store.{IsNextDump, IsNextPreDump, IsSoundStore, IsTwin, Store, jobs}
+use Rattle.sd_store_laws.specs.Store.{IsNextDump, IsNextPreDump, IsSoundStore, IsMergedCopy, Store, jobs}
 use Rattle.sd_store_laws.specs.Steps.{Adds, Retires, added, cancelled, checkpoint_begun, committed, merging, replaced, retired}
 use Rattle.sd_image.proofs.OneMemory.{named_once_among as one_named}
 use Rattle.sd_store_laws.proofs.Growth.{fewer_named, fewer_tip}
@@ -60,7 +60,7 @@ module _ (s : Store) (sound : IsSoundStore s) where
     | inr before ↦ inr (inr (n.0, committed_called s sound i new is adds n.0 n.1, before))
   ]
 
-  pub replaced_needs : (twin : Image) (new : List Image) (j : Image) → IsTwin s.catalog s.source twin → Adds s.catalog twin new → IsNeeded new (jobs (replaced s new)) j → (j ≡ twin) ⊎ Before j
+  pub replaced_needs : (twin : Image) (new : List Image) (j : Image) → IsMergedCopy s.catalog s.source twin → Adds s.catalog twin new → IsNeeded new (jobs (replaced s new)) j → (j ≡ twin) ⊎ Before j
   replaced_needs twin new j is adds (inl top) = elim (fewer_tip s.catalog new twin j adds top) [ inl same ↦ inl same | inr was ↦ inr (inl was) ]
   replaced_needs twin new j is adds (inr n) = elim (fewer_named s.catalog new twin n.0 j adds n.2) [
     | inl same ↦ inl same

@@ -7,14 +7,14 @@ use Rattle.sd_image.specs.Image.{Image, OpenImages}
 use Rattle.sd_image.specs.Shows.{Holds, by_data, by_zero, by_parent, IsNamed, IsTip, ImagesShow}
 use Rattle.sd_image.specs.Laws.{SerialsDiffer}
 use Rattle.sd_image.proofs.Members.{contains_cases, contains_front, contains_later, contains_none}
-use Rattle.sd_store_laws.specs.Cut.{IsHarmless}
-use Rattle.sd_store_laws.specs.Store.{IsSoundStore, IsTwin, Store, jobs}
+use Rattle.sd_store_laws.specs.Cut.{LeavesShown}
+use Rattle.sd_store_laws.specs.Store.{IsSoundStore, IsMergedCopy, Store, jobs}
 use Rattle.sd_store_laws.specs.Steps.{Adds}
 use Rattle.sd_store_laws.specs.Opens.{OpenedIsSound, OrderIsFree, StepsShow}
 use Rattle.sd_chain.proofs.Stores.{falls}
-use Rattle.sd_image.proofs.OneImage.{not_behind as other_serials}
+use Rattle.sd_image.proofs.OneImage.{stands_not_after as other_serials}
 use Rattle.sd_store_laws.proofs.Cuts.{cut_shows_the_same_lem, needed_in}
-use Rattle.sd_store_laws.proofs.Harmless.{pre_dump_is_harmless_lem}
+use Rattle.sd_store_laws.proofs.ShownStays.{pre_dump_is_harmless_lem}
 use Rattle.sd_store_laws.proofs.Memories.{memory_moves}
 use Rattle.sd_store_laws.proofs.StepLemmas.{steps_keep_lem}
 
@@ -81,8 +81,8 @@ order_is_free_lem one other (Some moment) same was = (
 
 -- ---- steps
 
--- a list has one image more, which is harmless
-more_shows : (catalog new : List Image) (asked : List ℕ) (i : Image) (shown : Option (ℕ × PlainMemory)) → SerialsDiffer catalog → IsHarmless catalog asked i
+-- a list has one image more, which leaves what is shown
+more_shows : (catalog new : List Image) (asked : List ℕ) (i : Image) (shown : Option (ℕ × PlainMemory)) → SerialsDiffer catalog → LeavesShown catalog asked i
     → Adds catalog i new → ImagesShow catalog shown → ImagesShow new shown
 more_shows catalog new asked i shown differ harmless adds was =
     cut_shows_the_same_lem catalog (i ∷ []) new asked shown differ
@@ -94,11 +94,11 @@ more_shows catalog new asked i shown differ harmless adds was =
       ];
     })
     (λ j c. elim (contains_cases i j [] c) [
-      | inl e ↦ subst (IsHarmless catalog asked) (sym e) harmless
+      | inl e ↦ subst (LeavesShown catalog asked) (sym e) harmless
       | inr none ↦ absurd (contains_none j none)
     ]) was
 
-pub twin_harmless : (s : Store) (i : Image) → IsSoundStore s → IsTwin s.catalog s.source i → IsHarmless s.catalog (jobs s) i
+pub twin_harmless : (s : Store) (i : Image) → IsSoundStore s → IsMergedCopy s.catalog s.source i → LeavesShown s.catalog (jobs s) i
 twin_harmless s i sound twin = grind arith
 
 pub steps_show_lem : StepsShow

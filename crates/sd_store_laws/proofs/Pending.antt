@@ -5,7 +5,7 @@ use Rattle.sd_image.specs.Image.{Image}
 use Rattle.sd_image.specs.Shows.{ImagesShow}
 use Rattle.sd_image.proofs.Members.{contains_cases, contains_front, contains_later}
 use Rattle.sd_store_laws.specs.Pending.{PendingShows}
-use Rattle.sd_store_laws.specs.Store.{IsNextDump, IsSoundStore, IsTwin, Store}
+use Rattle.sd_store_laws.specs.Store.{IsNextDump, IsSoundStore, IsMergedCopy, Store}
 use Rattle.sd_store_laws.specs.Steps.{Adds, Retires, committed}
 use Rattle.sd_store_laws.proofs.Needs.{committed_needs}
 use Rattle.sd_store_laws.proofs.Opens.{steps_show_lem}
@@ -42,7 +42,7 @@ module _ (s : Store) (dump : Image) (sound : IsSoundStore s) (next : IsNextDump 
   after_sound : IsSoundStore after
   after_sound = steps_keep_lem.commits s dump (dump ∷ s.catalog) sound next (adds_front s.catalog dump)
 
-  replaces : (one : Image) (new : List Image) (shown : Option (ℕ × PlainMemory)) → IsTwin s.catalog s.source one → dump.header.serial ≢ one.header.serial
+  replaces : (one : Image) (new : List Image) (shown : Option (ℕ × PlainMemory)) → IsMergedCopy s.catalog s.source one → dump.header.serial ≢ one.header.serial
       → Adds s.catalog one new → ImagesShow (dump ∷ s.catalog) shown → ImagesShow (dump ∷ new) shown
   replaces one new shown twin other adds was =
       steps_show_lem.replaces after one (dump ∷ new) shown after_sound

@@ -6,7 +6,7 @@ use Rattle.std.proofs.lemmas.Option.{none-some, same_Some}
 use Rattle.sd_image.specs.Image.{Image}
 use Rattle.sd_image.proofs.Members.{contains_at, contains_cases, contains_front, contains_later, contains_none, place_in}
 use Rattle.sd_store_laws.specs.Needed.{IsNeeded}
-use Rattle.sd_store_laws.specs.Store.{IsFresh, IsNextDump, IsSoundStore, IsTwin, Store, jobs, IsNextPreDump}
+use Rattle.sd_store_laws.specs.Store.{IsFresh, IsNextDump, IsSoundStore, IsMergedCopy, Store, jobs, IsNextPreDump}
 use Rattle.sd_store_laws.specs.Steps.{Retires, checkpoint_begun, cancelled, merging, retired, Adds, added, committed, replaced}
 use Rattle.sd_store_laws.specs.Beliefs.{AreSlotsOf, Belief, Closed, Kept, Closing, Opening, IsAdded, image_at, image_in}
 use Rattle.sd_store_laws.specs.SlotSteps.{ClosingRetires, Lacks, SlotsDrop, SlotsFollowCalls, SlotsFollowImages, SlotsFollowJobs, with_belief}
@@ -181,7 +181,7 @@ closes s pending beliefs slot i are there unneeded =
 
 -- ---- what is being opened, after a step
 
-same_added : (s t : Store) (pending : Option Image) (i : Image) → (IsFresh s i → IsFresh t i) → (IsTwin s.catalog s.source i → IsTwin t.catalog t.source i)
+same_added : (s t : Store) (pending : Option Image) (i : Image) → (IsFresh s i → IsFresh t i) → (IsMergedCopy s.catalog s.source i → IsMergedCopy t.catalog t.source i)
     → IsAdded s pending i → IsAdded t pending i
 same_added s t pending i fresh twin given = grind arith
 
@@ -301,7 +301,7 @@ closing_retires s pending beliefs slot i new are there lacks = record {
   within = λ j c. ((lacks j).0 c).0;
 }
 
--- a list without an image that can be told from the others
+-- a list without an image that can be distinguished from the others
 without : (i : Image) (all : List Image) → ((j : Image) → Contains all j → (j ≡ i) ⊎ (j ≢ i)) → (new : List Image) × Lacks all i new
 without i [] known = ([], λ j. (λ c. absurd (contains_none j c), λ c. absurd (contains_none j c.0)))
 without i (one ∷ rest) known =
@@ -453,8 +453,8 @@ commits_enters s beliefs slot i new sound are there more =
     adding j e (inr (inr is)) = absurd (not_elsewhere s (Some i) beliefs slot i new are there more j (sym (same_Some i j is)) e)
 
 replaces_enters : (s : Store) (pending : Option Image) (beliefs : List Belief) (slot : ℕ) (i : Image) (new : List Image) → IsSoundStore s → AreSlotsOf s pending beliefs
-    → slice_get beliefs slot ≡ Some (Opening i) → IsTwin s.catalog s.source i → Adds s.catalog i new
-    → ((j : Image) → Contains beliefs (Opening j) → IsTwin s.catalog s.source j → j ≡ i)
+    → slice_get beliefs slot ≡ Some (Opening i) → IsMergedCopy s.catalog s.source i → Adds s.catalog i new
+    → ((j : Image) → Contains beliefs (Opening j) → IsMergedCopy s.catalog s.source j → j ≡ i)
     → IfSome pending (λ dump. i.header.serial ≢ dump.header.serial)
     → AreSlotsOf (replaced s new) pending (with_belief beliefs slot (Kept i))
 replaces_enters s pending beliefs slot i new sound are there is more one apart =

@@ -8,12 +8,12 @@ use Rattle.sd_areas.specs.PlainMemory.{PlainMemory}
 use Rattle.sd_image.specs.Image.{Image, IsImage, OpenImages, is_open}
 use Rattle.sd_image.specs.Shows.{Shows, ImagesShow}
 use Rattle.sd_image.proofs.Members.{contains_cases, contains_front, contains_later, contains_none}
-use Rattle.sd_store_laws.specs.Cut.{IsHarmless, IsPending}
+use Rattle.sd_store_laws.specs.Cut.{LeavesShown, IsPending}
 use Rattle.sd_store_laws.specs.Store.{IsNextDump, IsSoundStore, Store, jobs}
 use Rattle.sd_store_laws.specs.Beliefs.{AreSlotsOf, Belief, Closed, Kept, Closing, Opening, ContentsShow, FitsBelief, IsAdded, IsLeft, LeftImagesShow, image_in, image_at}
 use Rattle.sd_image.proofs.ReadyLemmas.{image_opens}
 use Rattle.sd_store_laws.proofs.Cuts.{cut_shows_the_same_lem, cut_shows_last_or_pending_lem}
-use Rattle.sd_store_laws.proofs.Harmless.{dump_is_pending_lem, pre_dump_is_harmless_lem, twin_is_harmless_lem}
+use Rattle.sd_store_laws.proofs.ShownStays.{dump_is_pending_lem, pre_dump_is_harmless_lem, twin_is_harmless_lem}
 
 -- ---- sets of images
 
@@ -45,8 +45,8 @@ was_opening (Opening j ∷ beliefs) i c = elim (contains_cases j i (openings bel
   | inr d ↦ contains_later (Opening j) (Opening i) beliefs (was_opening beliefs i d)
 ]
 
--- what is being opened, beside the pending dump, is harmless
-harmless_or_pending : (s : Store) (pending : Option Image) (i : Image) → IsSoundStore s → IsAdded s pending i → IsHarmless s.catalog (jobs s) i ⊎ (pending ≡ Some i)
+-- what is being opened, beside the pending dump, leaves what is shown
+harmless_or_pending : (s : Store) (pending : Option Image) (i : Image) → IsSoundStore s → IsAdded s pending i → LeavesShown s.catalog (jobs s) i ⊎ (pending ≡ Some i)
 harmless_or_pending s pending i sound given = grind (arith, pre_dump_is_harmless_lem, twin_is_harmless_lem)
 
 left_last : (s : Store) (beliefs : List Belief) (images : List Image) (shown : Option (ℕ × PlainMemory))
@@ -66,13 +66,13 @@ left_last s beliefs images shown sound slots left was =
       | inr never ↦ absurd (none-some i never)
     ]) was
 
--- the harmless ones of a list
+-- those of a list that leave what is shown
 record Sorted (s : Store) (dump : Image) (images : List Image) : Type 0 where
   harmless : List Image
-  each : (i : Image) → Contains harmless i → IsHarmless s.catalog (jobs s) i
+  each : (i : Image) → Contains harmless i → LeavesShown s.catalog (jobs s) i
   others : (i : Image) → Contains images i → (i ≡ dump) ⊎ Contains harmless i
 
-sorted : (s : Store) (dump : Image) (images : List Image) → ((i : Image) → Contains images i → IsHarmless s.catalog (jobs s) i ⊎ (Some dump ≡ Some i)) → Sorted s dump images
+sorted : (s : Store) (dump : Image) (images : List Image) → ((i : Image) → Contains images i → LeavesShown s.catalog (jobs s) i ⊎ (Some dump ≡ Some i)) → Sorted s dump images
 sorted s dump [] known = record { harmless = []; each = λ i c. absurd (contains_none i c); others = λ i c. absurd (contains_none i c) }
 sorted s dump (one ∷ images) known =
     let rest = sorted s dump images (λ i c. known i (contains_later one i images c)) in
@@ -80,7 +80,7 @@ sorted s dump (one ∷ images) known =
       | inl harmless ↦ record {
         harmless = one ∷ rest.harmless;
         each = λ i c. elim (contains_cases one i rest.harmless c) [
-          | inl e ↦ subst (IsHarmless s.catalog (jobs s)) (sym e) harmless
+          | inl e ↦ subst (LeavesShown s.catalog (jobs s)) (sym e) harmless
           | inr d ↦ rest.each i d
         ];
         others = λ i c. elim (contains_cases one i images c) [

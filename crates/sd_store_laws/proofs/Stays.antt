@@ -8,11 +8,11 @@ use Rattle.sd_image.proofs.Members.{contains_cases, contains_front, contains_non
 use Rattle.sd_store_laws.specs.Needed.{IsCalled, by_job, by_parent}
 use Rattle.sd_store_laws.specs.Reached.{itself, beyond}
 use Rattle.sd_store_laws.specs.Cut.{KeepsItsNumber, Repeats}
-use Rattle.sd_store_laws.specs.Store.{IsFresh, IsMergeSource, IsNext, IsNextDump, IsSoundStore, IsTwin, Store, jobs}
+use Rattle.sd_store_laws.specs.Store.{IsFresh, IsMergeSource, IsNext, IsNextDump, IsSoundStore, IsMergedCopy, Store, jobs}
 use Rattle.sd_store_laws.specs.Steps.{Adds, Retires, added, cancelled, checkpoint_begun, committed, merging, replaced, retired}
-use Rattle.sd_store_laws.specs.Stays.{DumpStays, FreshStays, SourceReachesNeeded, TwinStays}
+use Rattle.sd_store_laws.specs.Stays.{DumpStays, FreshStays, SourceReachesNeeded, MergedCopyStays}
 use Rattle.sd_store_laws.proofs.Cuts.{cut_holds_the_same_lem, needed_in}
-use Rattle.sd_store_laws.proofs.Harmless.{unused_is_uncalled_lem}
+use Rattle.sd_store_laws.proofs.ShownStays.{unused_is_uncalled_lem}
 use Rattle.sd_store_laws.proofs.Walks.{reaches_called}
 
 -- ---- what holds of each image of a catalog, and of one more
@@ -125,7 +125,7 @@ module _ (s : Store) (i : Image) (fresh : IsFresh s i) where
     falls = fresh.falls;
   }
 
-  replaces : (one : Image) (new : List Image) → IsTwin s.catalog s.source one → Adds s.catalog one new → one.header.serial ≢ i.header.serial → IsFresh (replaced s new) i
+  replaces : (one : Image) (new : List Image) → IsMergedCopy s.catalog s.source one → Adds s.catalog one new → one.header.serial ≢ i.header.serial → IsFresh (replaced s new) i
   replaces one new twin is serial =
       let apart : twin.source.header.stands_for ≢ number =
       subst (λ (o : Option Image). IfSome o (λ source. source.header.stands_for ≢ number)) twin.running fresh.apart in
@@ -171,7 +171,7 @@ fresh_stays_lem = record {
 
 -- ---- a dump
 
-dump_replaces : (s : Store) (one i : Image) (new : List Image) → IsTwin s.catalog s.source one → Adds s.catalog one new → one.header.serial ≢ i.header.serial
+dump_replaces : (s : Store) (one i : Image) (new : List Image) → IsMergedCopy s.catalog s.source one → Adds s.catalog one new → one.header.serial ≢ i.header.serial
     → IsNextDump s i → IsNextDump (replaced s new) i
 dump_replaces s one i new twin is serial dump =
     let above : twin.source.header.checkpoint < i.header.checkpoint =
@@ -214,7 +214,7 @@ still_repeats : (old new : List Image) (source twin : Image) → ((space page : 
 still_repeats old new source twin same was = grind arith
 
 twin_adds : (s : Store) (one twin : Image) (new : List Image) → IsSoundStore s → IsNext s one → Adds s.catalog one new → one.header.serial ≢ twin.header.serial
-    → IsTwin s.catalog s.source twin → IsTwin new s.source twin
+    → IsMergedCopy s.catalog s.source twin → IsMergedCopy new s.source twin
 twin_adds s one twin new sound next is serial was =
     let apart : was.source.header.stands_for ≢ one.header.stands_for =
     subst (λ (o : Option Image). IfSome o (λ source. source.header.stands_for ≢ one.header.stands_for)) was.running next.fresh.apart in
@@ -246,7 +246,7 @@ twin_adds s one twin new sound next is serial was =
         ])
         (source_asked s was.source sound was.running)
 
-twin_retires : (s : Store) (twin : Image) (new : List Image) → IsSoundStore s → Retires s new → IsTwin s.catalog s.source twin → IsTwin new s.source twin
+twin_retires : (s : Store) (twin : Image) (new : List Image) → IsSoundStore s → Retires s new → IsMergedCopy s.catalog s.source twin → IsMergedCopy new s.source twin
 twin_retires s twin new sound is was = record {
   source = was.source;
   running = was.running;
@@ -262,7 +262,7 @@ twin_retires s twin new sound is was = record {
   above = λ j c. was.above j (is.within j c);
 }
 
-pub twin_stays_lem : TwinStays
+pub twin_stays_lem : MergedCopyStays
 twin_stays_lem = record { adds = twin_adds; retires = twin_retires }
 
 pub source_reaches_needed_lem : SourceReachesNeeded

@@ -7,8 +7,8 @@ use Rattle.sd_image.specs.Shows.{IsNamed, IsNotAfter, IsRestorable, IsTip}
 use Rattle.sd_store_laws.specs.Needed.{IsCalled, by_tip, by_job, by_parent}
 use Rattle.sd_image.specs.Laws.{SerialsDiffer}
 use Rattle.sd_image.proofs.Members.{contains_cases, contains_front, contains_none}
-use Rattle.sd_store_laws.specs.Harmless.{IsSource}
-use Rattle.sd_store_laws.specs.Store.{IsMergeSource, IsNextDump, IsNextPreDump, IsSoundStore, IsTwin, Store, jobs}
+use Rattle.sd_store_laws.specs.ShownStays.{IsSource}
+use Rattle.sd_store_laws.specs.Store.{IsMergeSource, IsNextDump, IsNextPreDump, IsSoundStore, IsMergedCopy, Store, jobs}
 use Rattle.sd_store_laws.specs.Steps.{Adds, Retires, StepsKeep, added, cancelled, checkpoint_begun, committed, found_store, merging, replaced, retired}
 use Rattle.sd_image.proofs.OneMemory.{named_once_among as one_named}
 use Rattle.sd_store_laws.proofs.Choose.{one_tip, some_named, some_tip, tip_is}
@@ -31,7 +31,7 @@ of_tip s tip is = by_tip tip.header.parent tip is refl
 of_named : (s : Store) (number : ℕ) (i : Image) → Was s number → IsNamed s.catalog number i → Was s i.header.parent
 of_named s number i was named = by_parent i.header.parent number i was named refl
 
--- the numbers that are called for once a job asks for one more, or for none
+-- the numbers that are referenced once a job asks for one more, or for none
 abbrev WasOr : Store → ℕ → ℕ → Type 0
 WasOr s extra number = Was s number ⊎ (number ≡ extra)
 
@@ -39,7 +39,7 @@ WasOr s extra number = Was s number ⊎ (number ≡ extra)
 one_more : (s : Store) (extra number : ℕ) → Contains ((extra ∷ []) ++ s.work) number → WasOr s extra number
 one_more s extra number c = grind (arith, contains_cases, of_work)
 
--- a source stays one where no more is called for
+-- a source stays one where no more is referenced
 abbrev IsStill : (old : Store) (catalog : List Image) (asked : List ℕ) → Image → Type 0
 IsStill old catalog asked source = IsCalled catalog asked source.header.stands_for → Was old source.header.stands_for
 
@@ -265,7 +265,7 @@ module _ (s : Store) (sound : IsSoundStore s) where
 
   -- ---- the merged image replaces its source
 
-  module _ (twin : Image) (new : List Image) (is : IsTwin s.catalog s.source twin) (adds : Adds s.catalog twin new) where
+  module _ (twin : Image) (new : List Image) (is : IsMergedCopy s.catalog s.source twin) (adds : Adds s.catalog twin new) where
     source_was : IsMergeSource s is.source
     source_was = subst (λ (o : Option Image). IfSome o (IsMergeSource s)) is.running sound.merged
 
@@ -290,7 +290,7 @@ module _ (s : Store) (sound : IsSoundStore s) where
     twin_named : IsNamed new twin.header.stands_for twin
     twin_named = new_named s.catalog new twin adds is.above
 
-    -- an image that is the tip with the twin beside it stands for another number
+    -- an image that is the tip with the merged copy beside it stands for another number
     other_number : (t : Image) → IsTip new t → IsTip s.catalog t → twin.header.stands_for ≢ t.header.stands_for
     other_number t tip was stands =
         let top : source_was.is.tip ≡ t = one_tip s.catalog source_was.is.tip t sound.serials source_was.is.is_tip was in
@@ -312,7 +312,7 @@ module _ (s : Store) (sound : IsSoundStore s) where
       | inr was ↦ more_named s.catalog new twin t.header.stands_for t adds (λ e. absurd (other_number t tip was e)) (named was)
     ]
 
-    -- the number of a tip that was called for
+    -- the number of a tip that was referenced
     still_called : (t : Image) → IsTip s.catalog t → IsCalled new (jobs (replaced s new)) t.header.stands_for → Was s t.header.stands_for
     still_called t was called = elim (replaced_called t.header.stands_for called) [
       | inl before ↦ before

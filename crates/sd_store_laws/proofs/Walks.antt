@@ -10,7 +10,7 @@ on : (images : List Image) (j i parent : Image) → IsNamed images j.header.pare
 on images j i parent named (itself) = beyond j parent named itself
 on images j i parent named (beyond _ up names reaches) = beyond i up names (on images j up parent named reaches)
 
--- what a called number names is reached
+-- what a referenced number names is reached
 called_reached : (images : List Image) (jobs : List ℕ) (number : ℕ) (i : Image) → IsCalled images jobs number → IsNamed images number i → IsReached images jobs i
 called_reached images jobs number i (by_tip _ tip is parent) named =
     inl (tip, is, beyond tip i (subst (λ n. IsNamed images n i) (sym parent) named) itself)
@@ -26,7 +26,7 @@ needed_reached : (images : List Image) (jobs : List ℕ) (i : Image) → IsNeede
 needed_reached images jobs i (inl tip) = inl (i, tip, itself)
 needed_reached images jobs i (inr named) = called_reached images jobs named.0 i named.1 named.2
 
--- what an image reaches is called for, where its parent number is
+-- what an image reaches is referenced, where its parent number is
 pub reaches_called : (images : List Image) (jobs : List ℕ) (i start : Image) → IsNeeded images jobs start → IsCalled images jobs start.header.parent
     → Reaches images i start → IsNeeded images jobs i
 reaches_called images jobs i start needed called (itself) = needed

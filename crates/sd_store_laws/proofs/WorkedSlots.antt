@@ -4,11 +4,11 @@ use Rattle.sd_image.specs.Image.{Image}
 use Rattle.sd_image.specs.Shows.{IsNamed, IsNotAfter, IsTip}
 use Rattle.sd_image.proofs.Members.{contains_cases, contains_front, contains_later, contains_none}
 use Rattle.sd_store_laws.specs.Needed.{IsCalled}
-use Rattle.sd_store_laws.specs.Store.{IsFresh, IsNextDump, IsSoundStore, IsTwin}
+use Rattle.sd_store_laws.specs.Store.{IsFresh, IsNextDump, IsSoundStore, IsMergedCopy}
 use Rattle.sd_store_laws.specs.Steps.{cancelled, committed}
 use Rattle.sd_store_laws.specs.Beliefs.{AreSlotsOf, Belief, Closed, Kept, Closing, Opening, image_at}
 use Rattle.sd_store_laws.specs.Worked.{busy, busy_slots, merged, one_page_memory, unchanged, whole}
-use Rattle.sd_store_laws.specs.WorkedSlots.{DumpInDoubt, MergeBehindTip, PreDumpGivenUp, in_round, outrun, pre_dump}
+use Rattle.sd_store_laws.specs.WorkedSlots.{DumpInDoubt, MergeAfterTip, PreDumpGivenUp, in_round, outrun, pre_dump}
 use Rattle.sd_store_laws.proofs.Busy.{a_tip, busy_are_slots, busy_sound, last, next, restores, saved_sound, second_dump, started, twin}
 use Rattle.sd_store_laws.proofs.Growth.{called_all}
 use Rattle.sd_store_laws.proofs.Pending.{adds_front}
@@ -118,7 +118,7 @@ module _ (bytes : List ℕ) where
   outrun_sound : IsSoundStore (outrun bytes)
   outrun_sound = steps_keep_lem.commits (busy bytes) d (d ∷ a ∷ []) (busy_sound bytes) (second_dump bytes) (adds_front (a ∷ []) d)
 
-  still_twin : IsTwin (outrun bytes).catalog (outrun bytes).source m
+  still_twin : IsMergedCopy (outrun bytes).catalog (outrun bytes).source m
   still_twin = twin_stays_lem.adds (busy bytes) d m (d ∷ a ∷ []) (busy_sound bytes) (second_dump bytes).next (adds_front (a ∷ []) d) (λ e. omega (arith, e)) (twin bytes)
 
   abbrev outrun_slots : List Belief
@@ -130,7 +130,7 @@ module _ (bytes : List ℕ) where
   abbrev all : List Image
   all = m ∷ d ∷ a ∷ []
 
-  -- of the numbers that are called for, none names the source
+  -- of the numbers that are referenced, none names the source
   one_or_none : (number : ℕ) → IsCalled all [] number → (number ≡ 1) ⊎ (number ≡ 0)
   one_or_none = called_all all [] (λ number. (number ≡ 1) ⊎ (number ≡ 0))
       (λ t is. parent_of t is.member)
@@ -151,7 +151,7 @@ module _ (bytes : List ℕ) where
       by (inl less) = omega (arith, less)
       by (inr same) = let is = same.0 in omega (arith, is)
 
-  pub merge_behind_tip_lem : MergeBehindTip bytes
+  pub merge_behind_tip_lem : MergeAfterTip bytes
   merge_behind_tip_lem = record {
     sound = outrun_sound;
     tip = record {

@@ -7,7 +7,7 @@ use Rattle.sd_image.specs.declared.header.Kind.TheVariants.{PreDump}
 use Rattle.sd_image.specs.Image.{Image, IsImage, is_open}
 use Rattle.sd_image.specs.Shows.{Shows, ImagesShow}
 use Rattle.sd_store_laws.specs.Needed.{IsNeeded}
-use Rattle.sd_store_laws.specs.Store.{IsFresh, IsNextDump, IsSoundStore, IsTwin, Store, jobs}
+use Rattle.sd_store_laws.specs.Store.{IsFresh, IsNextDump, IsSoundStore, IsMergedCopy, Store, jobs}
 
 -- a slot is closed, or keeps its image, or is being closed or opened: it is closed or has the image
 pub data Belief : Type 0 where
@@ -28,7 +28,8 @@ image_at beliefs slot = option_and_then image_in (slice_get beliefs slot)
 
 -- a fresh pre-dump, also one that was given up; the image of the running merge; or the pending dump
 abbrev pub IsAdded : Store → Option Image → Image → Type 0
-IsAdded s pending i = ((i.header.kind ≡ PreDump) × IsFresh s i) ⊎ (IsTwin s.catalog s.source i ⊎ (pending ≡ Some i))
+IsAdded s pending i =
+    ((i.header.kind ≡ PreDump) × IsFresh s i) ⊎ (IsMergedCopy s.catalog s.source i ⊎ (pending ≡ Some i))
 
 -- The slots are those of a store: its catalog is what is kept or being closed, it keeps all that is needed, and what is
 -- being opened may be added.

@@ -1,18 +1,18 @@
--- What a called number gives at a page: what the images below a job hold.
+-- What a referenced number gives at a page: what the images below a job hold.
 use Rattle.std.specs.Prelude.{◌↔◌, ℕ, List, ◌∷◌, Contains}
 use Rattle.sd_image.specs.Image.{Image}
 use Rattle.sd_image.specs.Laws.{SerialsDiffer}
 use Rattle.sd_image.specs.Shows.{Holds, IsNamed, IsTip}
 use Rattle.sd_store_laws.specs.Needed.{IsCalled, IsNeeded}
 use Rattle.sd_store_laws.specs.Cut.{IsCut, KeepsItsNumber}
-use Rattle.sd_store_laws.specs.Store.{IsNext, IsSoundStore, IsTwin, Store, jobs}
+use Rattle.sd_store_laws.specs.Store.{IsNext, IsSoundStore, IsMergedCopy, Store, jobs}
 use Rattle.sd_store_laws.specs.Steps.{Adds, Retires}
 
 -- the image that a number names holds these bytes at a page
 abbrev pub GivesByNumber : List Image → ℕ → ℕ → ℕ → List ℕ → Type 0
 GivesByNumber images number space page bytes = (i : Image) × IsNamed images number i × Holds images space page bytes i
 
--- What a called number gives in a catalog it gives in whatever is left of it, and nothing else.
+-- What a referenced number gives in a catalog it gives in whatever is left of it, and nothing else.
 abbrev pub BelowStays : Type 0
 BelowStays = (catalog adding images : List Image) (jobs : List ℕ) (number : ℕ)
     → SerialsDiffer catalog → IsCut catalog adding jobs images
@@ -21,7 +21,7 @@ BelowStays = (catalog adding images : List Image) (jobs : List ℕ) (number : �
     → (space page : ℕ) (bytes : List ℕ)
     → GivesByNumber catalog number space page bytes ↔ GivesByNumber images number space page bytes
 
--- each number that is called for in a store gives among these images what it gives in the store
+-- each number that is referenced in a store gives among these images what it gives in the store
 abbrev pub GivesStill : Store → List Image → Type 0
 GivesStill s images = (number space page : ℕ) (bytes : List ℕ) → IsCalled s.catalog (jobs s) number
     → GivesByNumber s.catalog number space page bytes ↔ GivesByNumber images number space page bytes
@@ -31,7 +31,7 @@ GivesStill s images = (number space page : ℕ) (bytes : List ℕ) → IsCalled 
 pub record StepsGive : Type 0 where
   pub adds : (s : Store) (one : Image) (new : List Image) → IsSoundStore s → IsNext s one → Adds s.catalog one new
       → GivesStill s new
-  pub replaces : (s : Store) (one : Image) (new : List Image) → IsSoundStore s → IsTwin s.catalog s.source one
+  pub replaces : (s : Store) (one : Image) (new : List Image) → IsSoundStore s → IsMergedCopy s.catalog s.source one
       → Adds s.catalog one new → GivesStill s new
   pub retires : (s : Store) (new : List Image) → IsSoundStore s → Retires s new → GivesStill s new
 

@@ -29,7 +29,7 @@ pub record Repeats (images : List Image) (i twin : Image) : Type 0 where
   pub areas : areas_of_spaces twin ≡ areas_of_spaces i
   pub bytes : HoldsAlike images i twin
 
--- the image that its number names holds what this one holds, where that number is called for
+-- the image that its number names holds what this one holds, where that number is referenced
 abbrev pub KeepsItsNumber : List Image → List ℕ → Image → Type 0
 KeepsItsNumber catalog jobs added = IsCalled catalog jobs added.header.stands_for
     → (i : Image) × IsNamed catalog added.header.stands_for i × HoldsAlike catalog i added
@@ -41,11 +41,11 @@ KeepsTheTip catalog added = IsRestorable added
     × ((added.header.checkpoint < tip.header.checkpoint) ⊎ Repeats catalog tip added)
 
 -- an image may be there or not
-pub record IsHarmless (catalog : List Image) (jobs : List ℕ) (added : Image) : Type 0 where
+pub record LeavesShown (catalog : List Image) (jobs : List ℕ) (added : Image) : Type 0 where
   pub number : KeepsItsNumber catalog jobs added
   pub tip : KeepsTheTip catalog added
 
--- a dump whose gate is being opened: nobody calls for it, it names what is called for, and its checkpoint is above
+-- a dump whose gate is being opened: nobody references it, it names what is referenced, and its checkpoint is above
 -- those of the catalog
 pub record IsPending (catalog : List Image) (jobs : List ℕ) (pending : Image) : Type 0 where
   pub restorable : IsRestorable pending
@@ -57,7 +57,7 @@ pub record IsPending (catalog : List Image) (jobs : List ℕ) (pending : Image) 
 abbrev pub CutShowsTheSame : Type 0
 CutShowsTheSame = (catalog adding images : List Image) (jobs : List ℕ) (shown : Option (ℕ × PlainMemory))
     → SerialsDiffer catalog → IsCut catalog adding jobs images
-    → ((added : Image) → Contains adding added → IsHarmless catalog jobs added)
+    → ((added : Image) → Contains adding added → LeavesShown catalog jobs added)
     → ImagesShow catalog shown → ImagesShow images shown
 
 -- With a pending dump among those being added, it shows that, or the pending checkpoint and its memory.
@@ -65,11 +65,11 @@ abbrev pub CutShowsLastOrPending : Type 0
 CutShowsLastOrPending =
     (catalog adding images : List Image) (jobs : List ℕ) (pending : Image) (last next : Option (ℕ × PlainMemory))
     → SerialsDiffer catalog → IsCut catalog (pending ∷ adding) jobs images
-    → ((added : Image) → Contains adding added → IsHarmless catalog jobs added)
+    → ((added : Image) → Contains adding added → LeavesShown catalog jobs added)
     → IsPending catalog jobs pending
     → ImagesShow catalog last → ImagesShow (pending ∷ catalog) next → ImagesShow images last ⊎ ImagesShow images next
 
--- An image whose parent number is called for holds in what is left what it holds in the catalog, and nothing else.
+-- An image whose parent number is referenced holds in what is left what it holds in the catalog, and nothing else.
 abbrev pub CutHoldsTheSame : Type 0
 CutHoldsTheSame = (catalog adding images : List Image) (jobs : List ℕ) (i : Image)
     → SerialsDiffer catalog → IsCut catalog adding jobs images

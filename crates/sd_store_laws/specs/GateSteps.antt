@@ -42,7 +42,7 @@ OneBeliefChanges = (phases : List Phase) (bodies : List (List ℕ)) (beliefs : L
     → MayBelieve phase body belief
     → AreBelieved (slice_set phases slot phase) (slice_set bodies slot body) (slice_set beliefs slot belief)
 
--- A slot that was found closed, or with its image, is believed so in the phase that its file tells.
+-- A slot that was found closed, or with its image, is believed so in the phase that its file shows.
 abbrev pub FilesAreBelieved : Type 0
 FilesAreBelieved = (contents : List (List ℕ)) (beliefs : List Belief) → AllZip IsFoundAs beliefs contents
     → AreBelieved (map found_phase contents) (map (drop 1) contents) beliefs
@@ -54,7 +54,7 @@ FoundIsExact = (contents : List (List ℕ)) (beliefs : List Belief) → AllZip I
     → slice_get beliefs slot ≡ Some belief
     → IsBelievedAs phase (file_at (map (drop 1) contents) slot) belief
 
--- a slot that was synced, or was never more than a short file, is in the phase that its file tells, whatever was known
+-- a slot that was synced, or was never more than a short file, is in the phase that its file shows, whatever was known
 -- of it
 abbrev pub SyncedIsFound : List (List ℕ) → (List (List ℕ) → Type 0) → Type 0
 SyncedIsFound contents may_leave = (phase : Phase) (body : List ℕ) (slot : ℕ) → (is_synced phase ≡ true) ⊎ (phase ≡ Raw)

@@ -15,8 +15,8 @@ abbrev pub IsLastOfRunning : Store → Image → Type 0
 IsLastOfRunning s i = (number : ℕ) × Contains s.chain number × IsNamed s.catalog number i
 
 -- Reached from the tip, from the running checkpoint's last image, or from the source of a running merge.
-abbrev pub IsInUse : Store → Image → Type 0
-IsInUse s i =
+abbrev pub IsLive : Store → Image → Type 0
+IsLive s i =
     ((tip : Image) × IsTip s.catalog tip × Reaches s.catalog i tip)
     ⊎ (((last : Image) × IsLastOfRunning s last × Reaches s.catalog i last)
     ⊎ ((source : Image) × (s.source ≡ Some source) × Reaches s.catalog i source))
@@ -26,14 +26,14 @@ abbrev pub HasItsWork : Store → Type 0
 HasItsWork s = MatchOption s.source (s.work ≡ []) (λ source. s.work ≡ source.header.parent ∷ [])
 
 -- That is what is needed, and the source.
-abbrev pub InUseIsNeeded : Type 0
-InUseIsNeeded =
-    (s : Store) (i : Image) → IsSoundStore s → HasItsWork s → IsInUse s i ↔ (IsNeededIn s i ⊎ (s.source ≡ Some i))
+abbrev pub LiveIsNeeded : Type 0
+LiveIsNeeded =
+    (s : Store) (i : Image) → IsSoundStore s → HasItsWork s → IsLive s i ↔ (IsNeededIn s i ⊎ (s.source ≡ Some i))
 
--- A slot is free where no image that is in use stands in it, no job reserves it, and no merge is to close it.
+-- A slot is free where no live image stands in it, no job reserves it, and no merge is to close it.
 pub record IsFreeSlot (s : Store) (beliefs : List Belief) (reserved listed : List ℕ) (slot : ℕ) : Type 0 where
   pub within : slot < length beliefs
-  pub unused : (i : Image) → image_at beliefs slot ≡ Some i → IsInUse s i → ⊥
+  pub unused : (i : Image) → image_at beliefs slot ≡ Some i → IsLive s i → ⊥
   pub unreserved : Contains reserved slot → ⊥
   pub unlisted : Contains listed slot → ⊥
 
@@ -43,7 +43,7 @@ pub record IsClosedByMerge (before : List Image) (s : Store) (beliefs : List Bel
     (i : Image) : Type 0 where
   pub was : Contains before i
   pub member : Contains s.catalog i
-  pub unused : IsInUse s i → ⊥
+  pub unused : IsLive s i → ⊥
   pub unreserved : (slot : ℕ) → image_at beliefs slot ≡ Some i → Contains reserved slot → ⊥
 
 -- They are images of the catalog that may be closed; and no image that is needed stands in a free slot.

@@ -1,7 +1,7 @@
 pub mod Reached
 pub mod Needed
 pub mod Cut
-pub mod Harmless
+pub mod ShownStays
 pub mod Store
 pub mod Steps
 pub mod Opens
@@ -14,7 +14,7 @@ pub mod Needs
 pub mod Below
 pub mod Pending
 pub mod GateSteps
-pub mod InUse
+pub mod LiveImages
 pub mod Kept
 pub mod Makers
 pub mod WorkedSlots

@@ -3,7 +3,7 @@ use Rattle.std.specs.Prelude.{◌≡◌, ◌⊎◌, true, List, Contains}
 use Rattle.sd_image.specs.Image.{Image}
 use Rattle.sd_image.specs.Shows.{IsTip}
 use Rattle.sd_store_laws.specs.Needed.{IsNeeded}
-use Rattle.sd_store_laws.specs.Store.{IsNextDump, IsNextPreDump, IsSoundStore, IsTwin, Store, jobs}
+use Rattle.sd_store_laws.specs.Store.{IsNextDump, IsNextPreDump, IsSoundStore, IsMergedCopy, Store, jobs}
 use Rattle.sd_store_laws.specs.Steps.{Adds, Retires, added, cancelled, checkpoint_begun, committed, found_store}
 use Rattle.sd_store_laws.specs.Steps.{merging, replaced}
 use Rattle.sd_store_laws.specs.Steps.{retired}
@@ -26,7 +26,7 @@ pub record NeedsNoMore : Type 0 where
   pub cancels : (s : Store) (i : Image) → IsSoundStore s → IsNeededIn (cancelled s) i → IsNeededIn s i
   pub merges : (s : Store) (tip i : Image) → IsSoundStore s → IsTip s.catalog tip → IsNeededIn (merging s tip) i
       → IsNeededIn s i
-  pub replaces : (s : Store) (one i : Image) (new : List Image) → IsSoundStore s → IsTwin s.catalog s.source one
+  pub replaces : (s : Store) (one i : Image) (new : List Image) → IsSoundStore s → IsMergedCopy s.catalog s.source one
       → Adds s.catalog one new
       → IsNeededIn (replaced s new) i → (i ≡ one) ⊎ IsNeededIn s i
   pub retires : (s : Store) (i : Image) (new : List Image) → IsSoundStore s → Retires s new
@@ -53,7 +53,7 @@ pub record UnneededStays : Type 0 where
   pub cancels : (s : Store) (i : Image) → IsSoundStore s → IsUnneeded s i → IsUnneeded (cancelled s) i
   pub merges : (s : Store) (tip i : Image) → IsSoundStore s → IsTip s.catalog tip → IsUnneeded s i
       → IsUnneeded (merging s tip) i
-  pub replaces : (s : Store) (one i : Image) (new : List Image) → IsSoundStore s → IsTwin s.catalog s.source one
+  pub replaces : (s : Store) (one i : Image) (new : List Image) → IsSoundStore s → IsMergedCopy s.catalog s.source one
       → Adds s.catalog one new
       → IsUnneeded s i → IsUnneeded (replaced s new) i
   pub retires : (s : Store) (i : Image) (new : List Image) → IsSoundStore s → Retires s new → Contains new i

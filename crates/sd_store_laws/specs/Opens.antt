@@ -3,7 +3,7 @@ use Rattle.std.specs.Prelude.{◌↔◌, ℕ, List, ◌∷◌, Option, Contains}
 use Rattle.sd_areas.specs.PlainMemory.{PlainMemory}
 use Rattle.sd_image.specs.Image.{Image}
 use Rattle.sd_image.specs.Shows.{IsStore, ImagesShow}
-use Rattle.sd_store_laws.specs.Store.{IsNextPreDump, IsSoundStore, IsTwin, Store}
+use Rattle.sd_store_laws.specs.Store.{IsNextPreDump, IsSoundStore, IsMergedCopy, Store}
 use Rattle.sd_store_laws.specs.Steps.{Adds, Retires, found_store}
 
 -- A store that is read without a fault is sound as it is opened.
@@ -24,7 +24,7 @@ pub record StepsShow : Type 0 where
   pub commits : (s : Store) (i : Image) (new : List Image) (shown : Option (ℕ × PlainMemory))
       → Adds s.catalog i new → ImagesShow (i ∷ s.catalog) shown → ImagesShow new shown
   pub replaces : (s : Store) (i : Image) (new : List Image) (shown : Option (ℕ × PlainMemory))
-      → IsSoundStore s → IsTwin s.catalog s.source i → Adds s.catalog i new → ImagesShow s.catalog shown
+      → IsSoundStore s → IsMergedCopy s.catalog s.source i → Adds s.catalog i new → ImagesShow s.catalog shown
       → ImagesShow new shown
   pub retires : (s : Store) (new : List Image) (shown : Option (ℕ × PlainMemory))
       → IsSoundStore s → Retires s new → ImagesShow s.catalog shown → ImagesShow new shown

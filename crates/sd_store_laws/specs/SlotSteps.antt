@@ -5,7 +5,7 @@ use Rattle.std.specs.Prelude.{false}
 use Rattle.sd_image.specs.Image.{Image, IsImage, is_open}
 use Rattle.sd_image.specs.Shows.{IsTip, IsStore}
 use Rattle.sd_store_laws.specs.Needed.{IsNeeded}
-use Rattle.sd_store_laws.specs.Store.{IsNextDump, IsNextPreDump, IsSoundStore, IsTwin, Store, jobs}
+use Rattle.sd_store_laws.specs.Store.{IsNextDump, IsNextPreDump, IsSoundStore, IsMergedCopy, Store, jobs}
 use Rattle.sd_store_laws.specs.Steps.{Adds, Retires, added, cancelled, checkpoint_begun, committed, merging, replaced}
 use Rattle.sd_store_laws.specs.Steps.{retired}
 use Rattle.sd_store_laws.specs.Steps.{found_store}
@@ -79,8 +79,8 @@ pub record SlotsFollowImages : Type 0 where
       → AreSlotsOf (committed s new) None (with_belief beliefs slot (Kept i))
   pub replaces : (s : Store) (pending : Option Image) (beliefs : List Belief) (slot : ℕ) (i : Image) (new : List Image)
       → IsSoundStore s → AreSlotsOf s pending beliefs
-      → slice_get beliefs slot ≡ Some (Opening i) → IsTwin s.catalog s.source i → Adds s.catalog i new
-      → ((j : Image) → Contains beliefs (Opening j) → IsTwin s.catalog s.source j → j ≡ i)
+      → slice_get beliefs slot ≡ Some (Opening i) → IsMergedCopy s.catalog s.source i → Adds s.catalog i new
+      → ((j : Image) → Contains beliefs (Opening j) → IsMergedCopy s.catalog s.source j → j ≡ i)
       → IfSome pending (λ dump. i.header.serial ≢ dump.header.serial)
       → AreSlotsOf (replaced s new) pending (with_belief beliefs slot (Kept i))
 

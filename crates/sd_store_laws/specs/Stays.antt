@@ -4,7 +4,7 @@ use Rattle.sd_image.specs.Image.{Image}
 use Rattle.sd_image.specs.Shows.{IsTip}
 use Rattle.sd_store_laws.specs.Needed.{IsNeeded}
 use Rattle.sd_store_laws.specs.Reached.{Reaches}
-use Rattle.sd_store_laws.specs.Store.{IsFresh, IsNext, IsNextDump, IsSoundStore, IsTwin, Store, jobs}
+use Rattle.sd_store_laws.specs.Store.{IsFresh, IsNext, IsNextDump, IsSoundStore, IsMergedCopy, Store, jobs}
 use Rattle.sd_store_laws.specs.Steps.{Adds, Retires, added, cancelled, checkpoint_begun, committed, merging, replaced}
 use Rattle.sd_store_laws.specs.Steps.{retired}
 
@@ -19,7 +19,8 @@ pub record FreshStays : Type 0 where
       → one.header.serial ≢ i.header.serial → IsFresh s i → IsFresh (committed s new) i
   pub cancels : (s : Store) (i : Image) → IsFresh s i → IsFresh (cancelled s) i
   pub merges : (s : Store) (tip i : Image) → IsTip s.catalog tip → IsFresh s i → IsFresh (merging s tip) i
-  pub replaces : (s : Store) (one i : Image) (new : List Image) → IsTwin s.catalog s.source one → Adds s.catalog one new
+  pub replaces : (s : Store) (one i : Image) (new : List Image) → IsMergedCopy s.catalog s.source one
+      → Adds s.catalog one new
       → one.header.serial ≢ i.header.serial
       → IsFresh s i → IsFresh (replaced s new) i
   pub retires : (s : Store) (i : Image) (new : List Image) → Retires s new → IsFresh s i → IsFresh (retired s new) i
@@ -27,7 +28,7 @@ pub record FreshStays : Type 0 where
 -- A dump of the running checkpoint stays its next image while a merge begins, ends, and closes images.
 pub record DumpStays : Type 0 where
   pub merges : (s : Store) (tip i : Image) → IsTip s.catalog tip → IsNextDump s i → IsNextDump (merging s tip) i
-  pub replaces : (s : Store) (one i : Image) (new : List Image) → IsSoundStore s → IsTwin s.catalog s.source one
+  pub replaces : (s : Store) (one i : Image) (new : List Image) → IsSoundStore s → IsMergedCopy s.catalog s.source one
       → Adds s.catalog one new → one.header.serial ≢ i.header.serial
       → IsNextDump s i → IsNextDump (replaced s new) i
   pub retires : (s : Store) (i : Image) (new : List Image) → Retires s new → IsNextDump s i
@@ -35,12 +36,12 @@ pub record DumpStays : Type 0 where
 
 -- The merged image goes on repeating its source while images of the running checkpoint enter the catalog, and others
 -- are closed.
-pub record TwinStays : Type 0 where
+pub record MergedCopyStays : Type 0 where
   pub adds : (s : Store) (one twin : Image) (new : List Image) → IsSoundStore s → IsNext s one → Adds s.catalog one new
       → one.header.serial ≢ twin.header.serial
-      → IsTwin s.catalog s.source twin → IsTwin new s.source twin
+      → IsMergedCopy s.catalog s.source twin → IsMergedCopy new s.source twin
   pub retires : (s : Store) (twin : Image) (new : List Image) → IsSoundStore s → Retires s new
-      → IsTwin s.catalog s.source twin → IsTwin new s.source twin
+      → IsMergedCopy s.catalog s.source twin → IsMergedCopy new s.source twin
 
 -- What the source of a running merge reaches is needed, itself aside.
 abbrev pub SourceReachesNeeded : Type 0

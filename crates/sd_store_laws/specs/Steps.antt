@@ -1,10 +1,10 @@
--- The steps of a store in use.
+-- The steps of a live store.
 use Rattle.std.specs.Prelude.{◌≡◌, ◌↔◌, ◌⊎◌, ℕ, ◌<◌, true, false, List, [], ◌∷◌, Some, None, Contains}
 use Rattle.sd_image.specs.Image.{Image}
 use Rattle.sd_image.specs.Shows.{IsTip}
 use Rattle.sd_store_laws.specs.Needed.{IsNeeded}
 use Rattle.sd_image.specs.Laws.{SerialsDiffer}
-use Rattle.sd_store_laws.specs.Store.{IsNextDump, IsNextPreDump, IsSoundStore, IsTwin, Store, jobs}
+use Rattle.sd_store_laws.specs.Store.{IsNextDump, IsNextPreDump, IsSoundStore, IsMergedCopy, Store, jobs}
 
 -- a list has one image more
 abbrev pub Adds : List Image → Image → List Image → Type 0
@@ -60,7 +60,7 @@ pub record StepsKeep : Type 0 where
       → IsSoundStore (committed s new)
   pub cancels : (s : Store) → IsSoundStore s → IsSoundStore (cancelled s)
   pub merges : (s : Store) (tip : Image) → IsSoundStore s → IsTip s.catalog tip → IsSoundStore (merging s tip)
-  pub replaces : (s : Store) (i : Image) (new : List Image) → IsSoundStore s → IsTwin s.catalog s.source i
+  pub replaces : (s : Store) (i : Image) (new : List Image) → IsSoundStore s → IsMergedCopy s.catalog s.source i
       → Adds s.catalog i new → IsSoundStore (replaced s new)
   pub retires : (s : Store) (new : List Image) → IsSoundStore s → Retires s new → IsSoundStore (retired s new)
   pub opens : (images : List Image) → SerialsDiffer images

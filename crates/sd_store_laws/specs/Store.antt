@@ -1,11 +1,11 @@
--- A store in use: its open images and the numbers of its jobs, and what its steps keep.
+-- A live store: its open images and the numbers of its jobs, and what its steps keep.
 use Rattle.std.specs.Prelude.{◌≡◌, ◌≢◌, ℕ, ◌<◌, Bool, true, List, ◌++◌, Option, Some, Contains, IfSome}
 use Rattle.sd_image.specs.declared.header.Kind.TheVariants.{PreDump}
 use Rattle.sd_image.specs.Image.{Image}
 use Rattle.sd_image.specs.Shows.{IsNamed, IsRestorable, IsTip}
 use Rattle.sd_image.specs.Laws.{SerialsDiffer}
 use Rattle.sd_store_laws.specs.Cut.{Repeats}
-use Rattle.sd_store_laws.specs.Harmless.{IsSource, IsUnused}
+use Rattle.sd_store_laws.specs.ShownStays.{IsSource, IsUnused}
 
 -- the open images of a store, and what its workers need of them
 pub record Store : Type 0 where
@@ -59,7 +59,7 @@ pub record IsNextDump (s : Store) (i : Image) : Type 0 where
   pub above : IfSome s.source (λ source. source.header.checkpoint < i.header.checkpoint)
 
 -- the image that a merge makes of its source, with a serial above those of all images that stand for the same number
-pub record IsTwin (catalog : List Image) (merge : Option Image) (twin : Image) : Type 0 where
+pub record IsMergedCopy (catalog : List Image) (merge : Option Image) (twin : Image) : Type 0 where
   pub source : Image
   pub running : merge ≡ Some source
   pub repeats : Repeats catalog source twin

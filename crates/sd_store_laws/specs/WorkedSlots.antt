@@ -7,7 +7,7 @@ use Rattle.sd_image.specs.Words.{zero_bytes}
 use Rattle.sd_image.specs.Image.{Image}
 use Rattle.sd_image.specs.Shows.{ImagesShow, IsTip}
 use Rattle.sd_store_laws.specs.Needs.{IsUnneeded}
-use Rattle.sd_store_laws.specs.Store.{IsSoundStore, IsTwin, Store}
+use Rattle.sd_store_laws.specs.Store.{IsSoundStore, IsMergedCopy, Store}
 use Rattle.sd_store_laws.specs.Steps.{cancelled, found_store, replaced}
 use Rattle.sd_store_laws.specs.Beliefs.{AreSlotsOf, Closed, Kept, Opening, IsLeft}
 use Rattle.sd_store_laws.specs.Worked.{merged, one_page_memory, unchanged, whole}
@@ -68,10 +68,10 @@ outrun bytes = record {
 }
 
 -- The merged image still repeats its source and may enter; then nobody needs the source.
-pub record MergeBehindTip (bytes : List ℕ) : Type 0 where
+pub record MergeAfterTip (bytes : List ℕ) : Type 0 where
   pub sound : IsSoundStore (outrun bytes)
   pub tip : IsTip (outrun bytes).catalog (unchanged 3 1 2)
-  pub twin : IsTwin (outrun bytes).catalog (outrun bytes).source (merged 2 1 1 bytes)
+  pub twin : IsMergedCopy (outrun bytes).catalog (outrun bytes).source (merged 2 1 1 bytes)
   pub slots : AreSlotsOf (outrun bytes) None
       (Kept (whole 1 1 bytes) ∷ Opening (merged 2 1 1 bytes) ∷ Kept (unchanged 3 1 2) ∷ [])
   pub shows : (images : List Image)

@@ -2,16 +2,17 @@
 ghost use Rattle.sd_store_laws.specs.Beliefs.{ContentsShow, LeftImagesShow};
 ghost use Rattle.sd_store_laws.specs.Cut.{CutHoldsTheSame, CutShowsTheSame, CutShowsLastOrPending};
 ghost use Rattle.sd_store_laws.specs.Gates.{LeftAsBelieved};
-ghost use Rattle.sd_store_laws.specs.Harmless.{DumpIsPending, PreDumpIsHarmless, TwinIsHarmless, UnusedIsUncalled};
+ghost use Rattle.sd_store_laws.specs.ShownStays.{DumpIsPending, PreDumpLeavesShown, MergedCopyLeavesShown};
+ghost use Rattle.sd_store_laws.specs.ShownStays.{UnusedIsUncalled};
 ghost use Rattle.sd_store_laws.specs.Needed.{NeededIsReached};
 ghost use Rattle.sd_store_laws.specs.SlotSteps.{SlotsAreFound, SlotsFollowCalls, SlotsFollowImages, SlotsFollowJobs};
-ghost use Rattle.sd_store_laws.specs.Stays.{DumpStays, FreshStays, SourceReachesNeeded, TwinStays};
+ghost use Rattle.sd_store_laws.specs.Stays.{DumpStays, FreshStays, SourceReachesNeeded, MergedCopyStays};
 ghost use Rattle.sd_store_laws.specs.Steps.{StepsKeep};
 ghost use Rattle.sd_store_laws.specs.Opens.{OpenedIsSound, OrderIsFree, StepsShow};
 ghost use Rattle.sd_store_laws.specs.Reached.{CatalogFalls, CatalogReachesSo};
 ghost use Rattle.std.specs.Prelude.{ℕ, List};
 ghost use Rattle.sd_store_laws.specs.Worked.{ChainRows, MergeBesideRound, WhyItGrows};
-ghost use Rattle.sd_store_laws.specs.WorkedSlots.{DumpInDoubt, MergeBehindTip, PreDumpGivenUp};
+ghost use Rattle.sd_store_laws.specs.WorkedSlots.{DumpInDoubt, MergeAfterTip, PreDumpGivenUp};
 
 use sd_chain::Catalog;
 use sd_gate::image_whole_or_closed;
@@ -30,12 +31,12 @@ pub fn needed_is_reached()
     ensures { NeededIsReached }
 {}
 
-/// All needed images of a catalog, with any others of it and any harmless ones, show what the catalog shows.
+/// All needed images of a catalog, with any others of it and any that leave what is shown, show what the catalog shows.
 pub fn cut_shows_the_same()
     ensures { CutShowsTheSame }
 {}
 
-/// In what is left, an image whose parent number is called for holds what it holds in the catalog, and nothing else.
+/// In what is left, an image whose parent number is referenced holds what it holds in the catalog, and nothing else.
 pub fn cut_holds_the_same()
     ensures { CutHoldsTheSame }
 {}
@@ -45,19 +46,19 @@ pub fn cut_shows_last_or_pending()
     ensures { CutShowsLastOrPending }
 {}
 
-/// A number that no image and no job has isn't called for.
+/// A number that no image and no job has isn't referenced.
 pub fn unused_is_uncalled()
     ensures { UnusedIsUncalled }
 {}
 
-/// A pre-dump that stands for an unused number is harmless.
-pub fn pre_dump_is_harmless()
-    ensures { PreDumpIsHarmless }
+/// A pre-dump that stands for an unused number leaves what is shown.
+pub fn pre_dump_leaves_shown()
+    ensures { PreDumpLeavesShown }
 {}
 
-/// An image that repeats the source of a merge is harmless.
-pub fn twin_is_harmless()
-    ensures { TwinIsHarmless }
+/// An image that repeats the source of a merge leaves what is shown.
+pub fn merged_copy_leaves_shown()
+    ensures { MergedCopyLeavesShown }
 {}
 
 /// A dump that stands for an unused number and names a job's number is pending, where its checkpoint is above all
@@ -103,8 +104,8 @@ pub fn dump_stays()
 
 /// A merged image goes on repeating its source while images of the running checkpoint enter the catalog, and others are
 /// closed.
-pub fn twin_stays()
-    ensures { TwinStays }
+pub fn merged_copy_stays()
+    ensures { MergedCopyStays }
 {}
 
 /// The slots of a store that is read without a fault are those of the store as it is opened: each is closed, or keeps
@@ -163,5 +164,5 @@ pub fn worked_stores()
 pub fn worked_slots()
     ensures pre_dump { (bytes other : List ℕ) → PreDumpGivenUp bytes other }
     ensures doubt { (bytes : List ℕ) → DumpInDoubt bytes }
-    ensures behind { (bytes : List ℕ) → MergeBehindTip bytes }
+    ensures behind { (bytes : List ℕ) → MergeAfterTip bytes }
 {}

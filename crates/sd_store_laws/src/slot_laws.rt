@@ -2,7 +2,7 @@
 ghost use Rattle.sd_store_laws.specs.Gates.{BeliefsWeaken, GivenUpIsBelieved};
 ghost use Rattle.sd_store_laws.specs.GateSteps.{BeliefsFollowCalls, FilesAreBelieved, FoundIsExact, GivenUpSyncs};
 ghost use Rattle.sd_store_laws.specs.GateSteps.{OneBeliefChanges, SyncedIsFound};
-ghost use Rattle.sd_store_laws.specs.InUse.{CatalogFollows, CatalogInUseTells, CatalogIsFound, ToldReachesSo};
+ghost use Rattle.sd_store_laws.specs.LiveImages.{CatalogFollows, LiveCatalogAgrees, CatalogIsFound, RecordedReachesSo};
 ghost use Rattle.sd_store_laws.specs.SlotSteps.{ClosingRetires, SlotsDrop};
 
 use sd_chain::Catalog;
@@ -42,12 +42,12 @@ pub fn given_up_is_believed()
     ensures { GivenUpIsBelieved }
 {}
 
-/// A slot that was found closed, or with its image, is believed so in the phase that its file tells.
+/// A slot that was found closed, or with its image, is believed so in the phase that its file shows.
 pub fn found_is_believed()
     ensures { FilesAreBelieved }
 {}
 
-/// A slot that was synced, or is shorter than a header for sure, is in the phase that its file tells, whatever was
+/// A slot that was synced, or is shorter than a header for sure, is in the phase that its file shows, whatever was
 /// known of it before.
 pub fn synced_is_found<D: Disk>(disk: &D)
     ensures { SyncedIsFound (D.contents disk.now) (D.may_leave disk.now) }
@@ -55,7 +55,7 @@ pub fn synced_is_found<D: Disk>(disk: &D)
     found_fits(disk);
 }
 
-/// Slots that were found are believed to be exactly what the phases say that their files tell.
+/// Slots that were found are believed to be exactly what the phases say that their files show.
 pub fn found_is_exact()
     ensures { FoundIsExact }
 {}
@@ -65,17 +65,17 @@ pub fn given_up_syncs()
     ensures { GivenUpSyncs }
 {}
 
-/// A catalog whose images are those that the slots keep or are closing tells the store: by [`Catalog::agrees`] the tip,
-/// what numbers name and where pages lie are the store's.
-pub fn catalog_in_use_tells(catalog: &Catalog)
-    ensures { CatalogInUseTells catalog.now }
+/// A catalog whose images are those that the slots keep or are closing describes the store: by [`Catalog::agrees`] the
+/// tip, what numbers name and where pages lie are the store's.
+pub fn live_catalog_agrees(catalog: &Catalog)
+    ensures { LiveCatalogAgrees catalog.now }
 {
     catalog.sound();
 }
 
-/// What an image of a catalog reaches is what the image reaches that it tells. So [`Catalog::reachable`] finds it.
-pub fn told_reaches_so(catalog: &Catalog)
-    ensures { ToldReachesSo catalog.now }
+/// What an image of a catalog reaches is what the image reaches that it stands for. So [`Catalog::reachable`] finds it.
+pub fn recorded_reaches_so(catalog: &Catalog)
+    ensures { RecordedReachesSo catalog.now }
 {
     catalog.agrees();
 }

@@ -257,7 +257,7 @@ waits_not files (Some file) left waiting begun none =
     let count = ap length none in
     absurd (omega (arith, count, length-append files (file ∷ [])))
 
--- the digest at the end is the one that is due
+-- the digest at the end is the right one
 digest_read : (tally : Tally) (text due : List ℕ) (error : StreamError) → Holds256 tally.hasher text → due ≡ sha256 (text ++ record_text 3 0) → length due ≡ 32
     → IsEndFault tally due error → IsInput error
 digest_read tally text due (read.Input _) held is long fault = tt

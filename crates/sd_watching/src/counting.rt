@@ -15,7 +15,7 @@ pub(crate) type Metered = RefCell<Option<Meter>>;
 
 /// What is missing in the counts of a run.
 #[derive(Clone, Copy)]
-pub(crate) struct Untold {
+pub(crate) struct MissingCounts {
     /// Why the first line that wasn't written wasn't.
     pub(crate) fault: Option<io::Error>,
     /// How many records found no room.
@@ -128,14 +128,14 @@ impl<'a> Counting<'a> {
     }
 
     /// Prints what is left after a run, and the table if it is asked for, and returns what is missing there.
-    pub(crate) fn finish(&mut self) -> Untold {
+    pub(crate) fn finish(&mut self) -> MissingCounts {
         self.drain(true);
         if let Err(error) = self.print_summary() {
             self.fault.get_or_insert(error);
         }
         let left_out = self.left_out();
         log_left_out(self.log, left_out);
-        Untold {
+        MissingCounts {
             fault: self.fault,
             left_out: if self.counts.are_asked() { left_out } else { 0 },
         }

@@ -2,7 +2,7 @@
 ghost use Rattle.std.specs.Prelude.{◌≡◌, ◌⊎◌, IfOk};
 ghost use Rattle.sd_disk.specs.Folder.{folder_files, outside_of};
 
-use crate::counting::{Counting, LeftOut, Metered, Untold};
+use crate::counting::{Counting, LeftOut, Metered, MissingCounts};
 use crate::counts::{CountsAsked, counts_asked};
 use crate::course::Course;
 use crate::progress::ProgressLine;
@@ -101,17 +101,17 @@ impl<'a> Session<'a> {
         let untold = watch.finish();
         let (_, seen) = disk.into_parts();
         let disk = unseen(seen);
-        let status = self.told_counts(status, untold);
-        self.called.tell_device(&disk);
+        let status = self.report_counts(status, untold);
+        self.called.report_device(&disk);
         status
     }
 
     /// The exit status of a run whose counts were reported; and 1 where not all of them were, with why.
-    fn told_counts(&self, status: u8, untold: Untold) -> u8
+    fn report_counts(&self, status: u8, untold: MissingCounts) -> u8
         ensures status { (result ≡ status) ⊎ (result ≡ 1) }
     {
         let Called { rt, causes, .. } = self.called;
-        let Untold { fault, left_out } = untold;
+        let MissingCounts { fault, left_out } = untold;
         if let Some(error) = &fault {
             tell(rt, causes, COUNTS, error);
         }

@@ -1,6 +1,6 @@
 //! What watches the jobs and answers of a run.
 
-use crate::counting::{Counting, Untold, log_end, log_job};
+use crate::counting::{Counting, MissingCounts, log_end, log_job};
 use crate::course::Course;
 use crate::progress::ProgressLine;
 use sd_command::Refusal;
@@ -42,7 +42,7 @@ impl<'a> Watching<'a> {
     }
 
     /// Prints what is left of the counts, and returns what is missing there.
-    pub(crate) fn finish(&mut self) -> Untold {
+    pub(crate) fn finish(&mut self) -> MissingCounts {
         self.counting.finish()
     }
 }

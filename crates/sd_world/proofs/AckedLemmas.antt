@@ -101,7 +101,7 @@ module _ {D : Type 0} (g : Ghosts D) (world : WorldView D) (is : IsWorld g world
 
   pub open_there : (serial : ℕ) (o : Opened) → IsOpenAt world.core o.slot → place_of world.core.catalog serial ≡ Some (Some o) → IsThere (g.contents world.disk) o
   open_there serial o opens is_in =
-      let u = was.believes.knows.in_use opens.stands in
+      let u = was.believes.knows.is_live opens.stands in
       let its = u.catalog.image serial o is_in in
       elim its.2 [
         | inl kept ↦

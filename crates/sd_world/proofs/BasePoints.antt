@@ -1,4 +1,4 @@
--- The points of a run, by the base that its journal goes on from. What is proved of them is then told by one fold.
+-- The points of a run, by the base that its journal goes on from. What is proved of them is then the result of one fold.
 use Rattle.std.specs.Prelude.{◌≡◌, ◌⊎◌, ℕ, ◌<◌, ◌≤◌, ◌∷◌, ◌++◌, Option, Some, None}
 use Rattle.sd_command.specs.declared.command.Command.{Command}
 use Rattle.sd_command.specs.declared.refusal.Refusal.TheVariants.{JournalFull, OutOfMemory}
@@ -43,7 +43,7 @@ pub record FreezesAtBase (base : Base) (begun : Option ℕ) (old new : History) 
   pub above : IsAbove base old number
   pub entry : new ≡ Freeze number ∷ old
 
--- A worker's step, or an outcome that it hands in, adds what its reply tells: the dumper's an acknowledgement, the
+-- A worker's step, or an outcome that it hands in, adds what its reply says: the dumper's an acknowledgement, the
 -- opener's a reopening. One of the dumper that only worked may have frozen the memory.
 abbrev pub AddsByReply : Worker → Reply → Base → Option ℕ → History → History → Type 0
 AddsByReply worker (reply.Acked n) base begun old new = (worker ≡ Dumper) × (new ≡ Acked n ∷ old)

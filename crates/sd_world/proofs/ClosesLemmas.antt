@@ -34,7 +34,7 @@ use Rattle.sd_core.specs.Refusals.{is_idle, must_wait, work_refusal}
 use Rattle.sd_core.specs.Working.{LeavesByOutcome}
 use Rattle.sd_world.specs.declared.event.Event.{Event}
 use Rattle.sd_world.specs.declared.event.Event.TheVariants.{Command, Work, TakeUp, HandInAt, Perform, PerformAt, Merge, Cancel, Reopen, Trim}
-use Rattle.sd_world.specs.Closing.{ClosesBehind, ComesToClose, EndsBehind, EndsIn, EntersIn, MergeCloses}
+use Rattle.sd_world.specs.Closing.{ClosesAfter, ComesToClose, EndsAfter, EndsIn, EntersIn, MergeCloses}
 use Rattle.sd_world.specs.Merges.{DoesMerge, MergesThere}
 use Rattle.sd_world.specs.Steps.{Does, HandsInAt, HandsInIfAny, IsCommand, Performs, WorkerTakesUp, WorkerWorks, answer_of, reply_of_answer}
 use Rattle.sd_world.specs.Consistent.{IsWorld}
@@ -189,43 +189,43 @@ module _ {D : Type 0} (g : Ghosts D) (old new : WorldView D) (world : IsWorld g 
         let merged = it.merged serial out is in
         ends_from serial is (sym own ∙ leaves.0) (subst (λ w. is_idle new.core w ≡ true) leaves.0 leaves.1.idle) merged.merge merged.was merged.merge.doing refl merged.own
 
-  same_core : new.core.merger ≡ old.core.merger → ClosesBehind g old new
+  same_core : new.core.merger ≡ old.core.merger → ClosesAfter g old new
   same_core same slot serial c = inl (closing_same old.core new.core slot serial same c)
 
-  taken_closes : (worker : Worker) (answer : Reply) → WorkerTakesUp worker old.core old.kept answer new.core new.kept → ClosesBehind g old new
+  taken_closes : (worker : Worker) (answer : Reply) → WorkerTakesUp worker old.core old.kept answer new.core new.kept → ClosesAfter g old new
   taken_closes worker answer (WorkerTakesUp.step taken left) slot serial c = inl (taken_closing old.core new.core (StepTaken answer) worker taken slot serial c)
   taken_closes worker answer (WorkerTakesUp.call request taken left worked) slot serial c = inl (taken_closing old.core new.core (CallTaken request) worker taken slot serial c)
 
-  hand_in_closes : (worker : Worker) (place : ℕ) (answer : Reply) → MergesThere g worker place old answer new → HandsInIfAny worker place old.core old.kept answer new.core new.kept → ClosesBehind g old new
+  hand_in_closes : (worker : Worker) (place : ℕ) (answer : Reply) → MergesThere g worker place old answer new → HandsInIfAny worker place old.core old.kept answer new.core new.kept → ClosesAfter g old new
   hand_in_closes worker place answer there (HandsInIfAny.hands_in hands) slot serial c = handed_closes worker place answer hands there (is_done hands.made.answer) refl slot serial c
   hand_in_closes worker place answer there (HandsInIfAny.none none idle) slot serial c = same_core (ap (λ (v : CoreView). v.merger) idle.core) slot serial c
 
-  work_closes : (worker : Worker) (answer : Reply) → MergesThere g worker 0 old answer new → WorkerWorks worker old.core old.kept answer new.core new.kept → ClosesBehind g old new
+  work_closes : (worker : Worker) (answer : Reply) → MergesThere g worker 0 old answer new → WorkerWorks worker old.core old.kept answer new.core new.kept → ClosesAfter g old new
   work_closes worker answer there (WorkerWorks.hands_in hands) slot serial c = handed_closes worker 0 answer hands there (is_done hands.made.answer) refl slot serial c
   work_closes worker answer there (WorkerWorks.takes_up none takes) slot serial c = taken_closes worker answer takes slot serial c
 
-  order_closes : (answer : Reply) → IsMergeOrder answer old.core new.core → ClosesBehind g old new
+  order_closes : (answer : Reply) → IsMergeOrder answer old.core new.core → ClosesAfter g old new
   order_closes answer order = by (merge_refusal old.core) refl
     where
-      stays : new.core ≡ old.core → ClosesBehind g old new
+      stays : new.core ≡ old.core → ClosesAfter g old new
       stays same = same_core (ap (λ (v : CoreView). v.merger) same)
 
-      refused : (why : Refusal) → MergesAs old.core (reply.Refused why) new.core → ClosesBehind g old new
+      refused : (why : Refusal) → MergesAs old.core (reply.Refused why) new.core → ClosesAfter g old new
       refused why merges = grind arith
 
-      begun : (a : Reply) → MergesAs old.core a new.core → ClosesBehind g old new
+      begun : (a : Reply) → MergesAs old.core a new.core → ClosesAfter g old new
       begun a merges slot serial c = grind arith
 
-      by : (why : Option Refusal) → merge_refusal old.core ≡ why → ClosesBehind g old new
+      by : (why : Option Refusal) → merge_refusal old.core ≡ why → ClosesAfter g old new
       by why is = grind arith
 
-  trim_closes : (answer : Reply) → TrimsJournal old.core answer new.core → ClosesBehind g old new
+  trim_closes : (answer : Reply) → TrimsJournal old.core answer new.core → ClosesAfter g old new
   trim_closes answer trims = elim (trim_cases old.core answer new.core trims) [
     | inl gone ↦ same_core (ap (λ (v : CoreView). v.merger) gone.is)
     | inr all ↦ same_core (ap (λ (v : CoreView). v.merger) all.is)
   ]
 
-  pub step_closes : (event : Event) (answer : Reply) → Does g event old answer new → DoesMerge g event old answer new → ClosesBehind g old new
+  pub step_closes : (event : Event) (answer : Reply) → Does g event old answer new → DoesMerge g event old answer new → ClosesAfter g old new
   step_closes (Command seat command) answer does merges = same_core does.applied.merge
   step_closes (Work worker) answer does merges = work_closes worker answer merges does.works
   step_closes (TakeUp worker) answer does merges = taken_closes worker answer does.takes
@@ -246,11 +246,11 @@ module _ {D : Type 0} (g : Ghosts D) (old new : WorldView D) (world : IsWorld g 
   none_kept_ends answer serial idle is = (let no : reply.Refused Idle ≡ reply.Merged serial = sym idle ∙ is in cc)
 
   hand_in_ends : (worker : Worker) (place : ℕ) (answer : Reply) → MergesThere g worker place old answer new → HandsInIfAny worker place old.core old.kept answer new.core new.kept
-      → EndsBehind g old answer new
+      → EndsAfter g old answer new
   hand_in_ends worker place answer there (HandsInIfAny.hands_in hands) serial is = handed_ends worker place answer hands there serial is
   hand_in_ends worker place answer there (HandsInIfAny.none none idle) serial is = absurd (none_kept_ends answer serial idle.refused is)
 
-  work_ends : (worker : Worker) (answer : Reply) → MergesThere g worker 0 old answer new → WorkerWorks worker old.core old.kept answer new.core new.kept → EndsBehind g old answer new
+  work_ends : (worker : Worker) (answer : Reply) → MergesThere g worker 0 old answer new → WorkerWorks worker old.core old.kept answer new.core new.kept → EndsAfter g old answer new
   work_ends worker answer there (WorkerWorks.hands_in hands) serial is = handed_ends worker 0 answer hands there serial is
   work_ends worker answer there (WorkerWorks.takes_up none takes) serial is = absurd (take_up_ends worker answer serial takes is)
 
@@ -263,7 +263,7 @@ module _ {D : Type 0} (g : Ghosts D) (old new : WorldView D) (world : IsWorld g 
     | inr all ↦ (let no = sym all.answered ∙ is in cc)
   ]
 
-  pub step_ends : (event : Event) (answer : Reply) → Does g event old answer new → DoesMerge g event old answer new → EndsBehind g old answer new
+  pub step_ends : (event : Event) (answer : Reply) → Does g event old answer new → DoesMerge g event old answer new → EndsAfter g old answer new
   step_ends (Command seat command) answer does merges serial is = absurd (commands_merge_none seat command answer serial does is)
   step_ends (Work worker) answer does merges serial is = work_ends worker answer merges does.works serial is
   step_ends (TakeUp worker) answer does merges serial is = absurd (take_up_ends worker answer serial does.takes is)

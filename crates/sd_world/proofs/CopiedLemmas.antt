@@ -3,7 +3,7 @@ use Rattle.std.proofs.Common.{◌≡◌, ◌⊎◌, ℕ, ◌<◌, false, List, [
 use Rattle.std.proofs.lemmas.Option.{slice_get-get_or}
 use Rattle.sd_command.specs.declared.reply.Reply.{Reply}
 use Rattle.sd_chain.specs.Catalog.{Opened, place_of}
-use Rattle.sd_chain.specs.Tells.{IsToldAs}
+use Rattle.sd_chain.specs.Recorded.{IsRecordedAs}
 use Rattle.sd_disk.specs.Contents.{file_at}
 use Rattle.sd_disk.specs.declared.disk.Disk.{Ghosts}
 use Rattle.sd_gate.specs.declared.phase.Phase.TheVariants.{Whole}
@@ -32,7 +32,7 @@ use Rattle.sd_world.proofs.KeptLemmas.{whose}
 use Rattle.sd_world.proofs.MergesLemmas.{believed, out, reads_free, same_opened, stands}
 
 -- the image that is being closed stands in its slot, or the slot's gate is closed
-closing_there : (contents : List (List ℕ)) (o : Opened) (i : Image) (slot : ℕ) → IsToldAs o i → o.slot ≡ slot → FitsBelief (Closing i) (file_at contents o.slot)
+closing_there : (contents : List (List ℕ)) (o : Opened) (i : Image) (slot : ℕ) → IsRecordedAs o i → o.slot ≡ slot → FitsBelief (Closing i) (file_at contents o.slot)
     → IsThere contents o ⊎ (is_open (file_at contents slot) ≡ false)
 closing_there contents o i slot told at given = grind arith
 
@@ -88,7 +88,7 @@ module _ {D : Type 0} (g : Ghosts D) (old new : WorldView D) (world : IsWorld g 
           each = λ one listed.
               let t = (list.each one).0 listed in
               let l = t.left_over in
-              let u = is_now.believes.knows.in_use r.0 in
+              let u = is_now.believes.knows.is_live r.0 in
               let i = u.catalog.image one.serial l.image l.there in
               let within = subst (λ n. l.image.slot < n) (sym now.count) (subst (λ n. n < length new.core.phases) (sym l.at) t.within) in
               let file = slice_get-get_or (g.contents new.disk) l.image.slot [] within in

@@ -7,11 +7,11 @@ use Rattle.sd_disk.specs.declared.disk.Disk.{Ghosts}
 use Rattle.sd_journal.specs.Tell.{tell}
 use Rattle.sd_world.specs.declared.event.Event.{Event}
 use Rattle.sd_world.specs.Moments.{GoesLeave, ShowsOnTheWay}
-use Rattle.sd_world.specs.Promise.{Goes, Moves, Point, ShowsTold}
+use Rattle.sd_world.specs.Promise.{Goes, Moves, Point, ShowsWhatRunAllows}
 
 module _ {D : Type 0} (g : Ghosts D) (only_now : (disk : D) → Within (g.left_since disk (g.moment disk)) (g.may_leave disk)) where
   shown_at_once : (first last : Point D) (events : List Event) (answers : List Reply) → Goes g first events answers last
-      → Within (ShowsTold (tell first.start first.entries)) (ShowsOnTheWay g first events answers last)
+      → Within (ShowsWhatRunAllows (tell first.start first.entries)) (ShowsOnTheWay g first events answers last)
   shown_at_once first last events answers goes contents shows = record {
     before = [];
     told = [];
@@ -47,7 +47,7 @@ module _ {D : Type 0} (g : Ghosts D) (only_now : (disk : D) → Within (g.left_s
   goes_span first last (e ∷ events) (a ∷ answers) begins goes =
       let whole = ShowsOnTheWay g first (e ∷ events) (a ∷ answers) last in
       spans_join g first.disk goes.0.disk last.disk whole
-      (span_widened g first.disk goes.0.disk (ShowsTold (tell first.start first.entries)) whole (shown_at_once first last (e ∷ events) (a ∷ answers) goes) goes.1.any_moment)
+      (span_widened g first.disk goes.0.disk (ShowsWhatRunAllows (tell first.start first.entries)) whole (shown_at_once first last (e ∷ events) (a ∷ answers) goes) goes.1.any_moment)
       (span_widened g goes.0.disk last.disk (ShowsOnTheWay g goes.0 events answers last) whole (shown_later first goes.0 last e a events answers goes.1)
       (goes_span goes.0 last events answers goes.1.at_end goes.2))
   goes_span first last _ _ begins goes = absurd goes

@@ -14,7 +14,7 @@ use Rattle.sd_gate.specs.Phases.{after as phase_after, body_after, bodies_after,
 use Rattle.sd_gate.specs.Requests.{Made}
 use Rattle.sd_crash_safety.specs.Believes.{Believes}
 use Rattle.sd_crash_safety.specs.Calls.{AreGivenUp, HandedIn, IsOut}
-use Rattle.sd_crash_safety.specs.InUse.{IsPageOf}
+use Rattle.sd_crash_safety.specs.LiveImages.{IsPageOf}
 use Rattle.sd_crash_safety.specs.View.{CoreView}
 use Rattle.sd_world.specs.declared.kept.Kept.{Kept}
 use Rattle.sd_world.specs.declared.kept.Kept.TheVariants.{Nothing, Outcome}

@@ -1,4 +1,4 @@
--- A step, as it is told by the fold over the journal.
+-- A step, as the fold over the journal has it.
 use Rattle.std.proofs.Common.{◌≡◌, ◌⊎◌, ◌==◌, ℕ, ◌<◌, ◌≤◌, Bool, true, false, cond, List, [], ◌∷◌, ◌++◌, Option, MatchOption, Some, None, IfSome, refl, sym, ◌∙◌, ap, subst, inl, inr, append-nil, append_assoc, arith}
 use Rattle.std.proofs.Math.Nat.{lt_of_not-le}
 use Rattle.std.proofs.lemmas.Bool.{ne_eqb}
@@ -37,18 +37,18 @@ use Rattle.sd_world.specs.Acked.{DoesAck, IsAckedThere}
 use Rattle.sd_world.specs.Adds.{AddsByPerform, AddsByTrim, AddsByWork, AddsToJournal}
 use Rattle.sd_world.specs.Opens.{bare_memory}
 use Rattle.sd_world.specs.Points.{FirstStands, Folds, PointsFollow, StandsAt}
-use Rattle.sd_world.specs.Promise.{Freezes, IsNextNumber, IsOf, Moves, Point, ShowsAnswer, ShowsTold, told_by}
+use Rattle.sd_world.specs.Promise.{Freezes, IsNextNumber, IsOf, Moves, Point, ShowsAnswer, ShowsWhatRunAllows, entry_made_by}
 use Rattle.sd_world.specs.Runs.{IsStep, ShowsFreeze, ShowsReply}
 use Rattle.sd_world.specs.Steps.{Does}
 use Rattle.sd_world.proofs.BasePoints.{AddsByReply, AddsCancelled, AddsCommand, AddsEntry, BasePoint, Enters, FreezesAtBase, StandsAtBase}
 use Rattle.sd_journal.specs.Tell.{tell}
-use Rattle.sd_journal.specs.TellLaws.{IsPendingAs, StartsAs}
+use Rattle.sd_journal.specs.RunLaws.{IsPendingAs, StartsAs}
 use Rattle.sd_world.specs.View.{WorldView}
 use Rattle.sd_journal.proofs.HistoryLemmas.{same}
 use Rattle.sd_world.proofs.FoldLemmas.{legal_back}
 use Rattle.sd_world.proofs.NumberLemmas.{begun_or, merge_begins_none, reopen_begins_none}
 use Rattle.sd_world.proofs.PromiseLemmas.{enters_follow}
-use Rattle.sd_journal.proofs.TellLemmas.{last_is, tell_laws}
+use Rattle.sd_journal.proofs.TellLemmas.{last_is, run_laws}
 
 -- ---- what a run starts from
 
@@ -181,33 +181,33 @@ next_above base start number history n above = (
 )
 
 told_command : (seat : ℕ) (command : Command) (answer : Reply) (old new : History) → AddsCommand seat command answer old new
-    → new ≡ told_by (CommandEvent seat command) answer ++ old
+    → new ≡ entry_made_by (CommandEvent seat command) answer ++ old
 told_command seat command answer old new adds = grind arith
 
-quiet_begin : (rounds : ℕ) (answer : Reply) (one other : History) → AddsByOrder answer one other → told_by (Begin rounds) answer ≡ []
+quiet_begin : (rounds : ℕ) (answer : Reply) (one other : History) → AddsByOrder answer one other → entry_made_by (Begin rounds) answer ≡ []
 quiet_begin rounds answer one other adds = grind arith
 
-quiet_merge : (answer : Reply) (one other : History) → AddsByOrder answer one other → told_by Merge answer ≡ []
+quiet_merge : (answer : Reply) (one other : History) → AddsByOrder answer one other → entry_made_by Merge answer ≡ []
 quiet_merge answer one other adds = grind arith
 
-quiet_reopen : (answer : Reply) (one other : History) → AddsByOrder answer one other → told_by Reopen answer ≡ []
+quiet_reopen : (answer : Reply) (one other : History) → AddsByOrder answer one other → entry_made_by Reopen answer ≡ []
 quiet_reopen answer one other adds = grind arith
 
-quiet_perform : (worker : Worker) (answer : Reply) (one other : History) → AddsByPerform answer one other → told_by (Perform worker) answer ≡ []
+quiet_perform : (worker : Worker) (answer : Reply) (one other : History) → AddsByPerform answer one other → entry_made_by (Perform worker) answer ≡ []
 quiet_perform worker answer one other adds = grind arith
 
-quiet_perform_at : (worker : Worker) (place : ℕ) (answer : Reply) (one other : History) → AddsByPerform answer one other → told_by (PerformAt worker place) answer ≡ []
+quiet_perform_at : (worker : Worker) (place : ℕ) (answer : Reply) (one other : History) → AddsByPerform answer one other → entry_made_by (PerformAt worker place) answer ≡ []
 quiet_perform_at worker place answer one other adds = grind arith
 
-quiet_trim : (answer : Reply) (one other : History) → AddsByTrim answer one other → told_by Trim answer ≡ []
+quiet_trim : (answer : Reply) (one other : History) → AddsByTrim answer one other → entry_made_by Trim answer ≡ []
 quiet_trim answer one other adds = grind arith
 
-told_cancel : (answer : Reply) (one other old new : History) → AddsByCancel answer one other → AddsCancelled answer old new → new ≡ told_by Cancel answer ++ old
+told_cancel : (answer : Reply) (one other old new : History) → AddsByCancel answer one other → AddsCancelled answer old new → new ≡ entry_made_by Cancel answer ++ old
 told_cancel answer one other old new adds entry = grind arith
 
--- what is told, or the freeze
+-- what is said, or the freeze
 abbrev Tells : Event → Reply → Option ℕ → Shown → History → History → Type 0
-Tells event answer begun first old new = (new ≡ told_by event answer ++ old) ⊎ Freezes event answer begun first old new
+Tells event answer begun first old new = (new ≡ entry_made_by event answer ++ old) ⊎ Freezes event answer begun first old new
 
 module _ (base : Base) (begun : Option ℕ) (first : Shown) (number : base.number ≡ shown_number first) (old new one other : History) where
   frozen : (event : Event) (worker : Worker) → (worker ≡ Dumper → IsOf Dumper event)
@@ -251,7 +251,7 @@ module _ (base : Base) (begun : Option ℕ) (first : Shown) (number : base.numbe
   by_hand_in worker place core (reply.Refused why) adds e = inl e
   by_hand_in worker place core _ adds e = absurd adds
 
-quiet : (event : Event) (answer : Reply) (begun : Option ℕ) (first : Shown) (old new : History) → told_by event answer ≡ [] → new ≡ old → Tells event answer begun first old new
+quiet : (event : Event) (answer : Reply) (begun : Option ℕ) (first : Shown) (old new : History) → entry_made_by event answer ≡ [] → new ≡ old → Tells event answer begun first old new
 quiet event answer begun first old new none same = inl (same ∙ sym (ap (λ (l : History). l ++ old) none))
 
 pub entries_told : (event : Event) (answer : Reply) (before after : CoreView) (base : Base) (begun : Option ℕ) (first : Shown) (number : base.number ≡ shown_number first) (old new : History)
@@ -272,7 +272,7 @@ entries_told Trim answer before after base begun first number old new adds entry
 
 -- ---- an acknowledgement or a reopening is the newest entry then
 
--- a reply that tells of a checkpoint
+-- a reply about a checkpoint
 abbrev IsOfJob : Reply → Type 0
 IsOfJob (reply.Begun n) = Unit {0}
 IsOfJob (reply.Acked n) = Unit {0}
@@ -301,20 +301,20 @@ illegal memory false command answer is legal = by (denial_in memory command) leg
 abbrev NoCommand : Event → Type 0
 NoCommand event = (seat : ℕ) (command : Command) → event ≡ CommandEvent seat command → ⊥
 
-no_command : (base : Base) (event : Event) (answer : Reply) (old history : History) → IsLegal base history → IsOfJob answer → history ≡ told_by event answer ++ old
+no_command : (base : Base) (event : Event) (answer : Reply) (old history : History) → IsLegal base history → IsOfJob answer → history ≡ entry_made_by event answer ++ old
     → NoCommand event
 no_command base event answer old history legal is e seat command same =
-    let entry : history ≡ Applied seat command answer ∷ old = e ∙ ap (λ ev. told_by ev answer ++ old) same ∙ ap (λ (l : History). l ++ old) (command_tells seat command answer is) in
+    let entry : history ≡ Applied seat command answer ∷ old = e ∙ ap (λ ev. entry_made_by ev answer ++ old) same ∙ ap (λ (l : History). l ++ old) (command_tells seat command answer is) in
     illegal _ _ command answer is (subst (IsLegal base) entry legal).0
   where
-    command_tells : (seat : ℕ) (command : Command) (answer : Reply) → IsOfJob answer → told_by (CommandEvent seat command) answer ≡ Applied seat command answer ∷ []
+    command_tells : (seat : ℕ) (command : Command) (answer : Reply) → IsOfJob answer → entry_made_by (CommandEvent seat command) answer ≡ Applied seat command answer ∷ []
     command_tells seat command (reply.Begun n) is = refl
     command_tells seat command (reply.Acked n) is = refl
     command_tells seat command (reply.Cancelled n) is = refl
     command_tells seat command (reply.Reopened m) is = refl
     command_tells seat command _ is = absurd is
 
-acked_tells : (event : Event) (n : ℕ) (one other : CoreView) → NoCommand event → AddsToJournal event (reply.Acked n) one other → told_by event (reply.Acked n) ≡ Acked n ∷ []
+acked_tells : (event : Event) (n : ℕ) (one other : CoreView) → NoCommand event → AddsToJournal event (reply.Acked n) one other → entry_made_by event (reply.Acked n) ≡ Acked n ∷ []
 acked_tells (CommandEvent seat command) n one other never adds = absurd (never seat command refl)
 acked_tells (Begin rounds) n one other never adds = absurd adds
 acked_tells (Work worker) n one other never adds = refl
@@ -328,7 +328,7 @@ acked_tells Reopen n one other never adds = absurd adds
 acked_tells Trim n one other never adds = absurd adds
 
 reopened_tells : (event : Event) (m : Option ℕ) (one other : CoreView) → NoCommand event → AddsToJournal event (reply.Reopened m) one other
-    → told_by event (reply.Reopened m) ≡ Reopened m ∷ []
+    → entry_made_by event (reply.Reopened m) ≡ Reopened m ∷ []
 reopened_tells (CommandEvent seat command) m one other never adds = absurd (never seat command refl)
 reopened_tells (Begin rounds) m one other never adds = absurd adds
 reopened_tells (Work worker) m one other never adds = refl
@@ -341,7 +341,7 @@ reopened_tells Cancel m one other never adds = absurd adds
 reopened_tells Reopen m one other never adds = absurd adds
 reopened_tells Trim m one other never adds = absurd adds
 
--- ---- who tells it
+-- ---- who says it
 
 of_work : (worker whose : Worker) → worker ≡ whose → IsOf whose (Work worker)
 of_work worker whose is = inl (ap Work is)
@@ -424,7 +424,7 @@ acked_entry base history legal event n begun first old one other adds (inr f) = 
 -- what is acknowledged was being written
 pub was_pending : (base : Base) (first : Shown) (starts : StartsAs base first) (old : History) (n : ℕ) → IsLegal base (Acked n ∷ old)
     → (memory : PlainMemory) × ((tell first old).pending ≡ Some (n, memory))
-was_pending base first starts old n legal = by (tell first old).pending refl (tell_laws.agrees base first old starts legal.1).pending
+was_pending base first starts old n legal = by (tell first old).pending refl (run_laws.agrees base first old starts legal.1).pending
   where
     some_is_none : {A : Type 0} (a : A) → (let s : Option A = Some a in s ≡ None) → ⊥
     some_is_none a e = cc
@@ -462,10 +462,10 @@ module _ (laws : TrimLaws) where
       subst (IsLegal point.base) (sym stands.entries) (legal_whole point.base stands.gone (history_of world.core) world.core.base stands.folds stands.legal)
 
 module _ (base : Base) (first : Shown) (starts : StartsAs base first) (history : History) (legal : IsLegal base history) where
-  pub shows_told : (contents : List (List ℕ)) → ShowsAllowed base history contents → ShowsTold (tell first history) contents
+  pub shows_told : (contents : List (List ℕ)) → ShowsAllowed base history contents → ShowsWhatRunAllows (tell first history) contents
   shows_told contents is = record {
     shown = is.shown;
-    allowed = (tell_laws.allowed base first history is.shown starts legal).0 is.allowed;
+    allowed = (run_laws.allowed base first history is.shown starts legal).0 is.allowed;
     shows = is.shows;
   }
 
@@ -473,7 +473,7 @@ module _ (base : Base) (first : Shown) (starts : StartsAs base first) (history :
       → (option_map (λ (pair : ℕ × PlainMemory). pair.0) (tell first history).last ≡ Some n) × Shows contents (tell first history).last
   last_shown n contents number is =
       let told = tell first history in
-      let found = last_is base history n told.last number (tell_laws.agrees base first history starts legal).last in
+      let found = last_is base history n told.last number (run_laws.agrees base first history starts legal).last in
       let m : found.0 ≡ is.memory = same_Some found.0 is.memory (sym found.2 ∙ is.freeze) in (
         ap (option_map (λ (pair : ℕ × PlainMemory). pair.0)) found.1,
         subst (Shows contents) (sym (found.1 ∙ ap (λ k. Some (n, k)) m)) is.shows,
@@ -481,7 +481,7 @@ module _ (base : Base) (first : Shown) (starts : StartsAs base first) (history :
 
   none_shown : (contents : List (List ℕ)) → last base history ≡ None → Shows contents None
       → (option_map (λ (pair : ℕ × PlainMemory). pair.0) (tell first history).last ≡ None) × Shows contents (tell first history).last
-  none_shown contents number is = by (tell first history).last (tell_laws.agrees base first history starts legal).last
+  none_shown contents number is = by (tell first history).last (run_laws.agrees base first history starts legal).last
     where
       some_is_none : {A : Type 0} (a : A) → (let s : Option A = Some a in s ≡ None) → ⊥
       some_is_none a e = cc
@@ -574,7 +574,7 @@ module _ (laws : TrimLaws) {D : Type 0} (g : Ghosts D) (event : Event) (old : Wo
         cancels = λ n is. cancelled_by event n old.core new.core (never_command last.entries base after first shown first.entries told (reply.Cancelled n) tt is)
             (subst (λ a. AddsToJournal event a old.core new.core) is step.adds);
         begun = enters.begun;
-        any_moment = span_widened g first.disk last.disk (ShowsAllowed base first.entries) (ShowsTold (tell shown first.entries))
+        any_moment = span_widened g first.disk last.disk (ShowsAllowed base first.entries) (ShowsWhatRunAllows (tell shown first.entries))
             (shows_told base shown starts first.entries before) enters.any_moment;
         at_end = λ c may. shows_told base shown starts last.entries after c (subst (λ b. ShowsAllowed b last.entries c) enters.base (enters.at_end c may));
         told = λ c may. answer_shown base shown starts last.entries after event answer first.begun first.entries old.core new.core c step.adds told

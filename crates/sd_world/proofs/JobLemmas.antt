@@ -124,7 +124,7 @@ module _ {D : Type 0} (g : Ghosts D) where
       by (Ends.reopened m whose is) = (Ok m, is)
       by (Ends.refused why is) = (Err why, is)
 
-  -- what a job's last reply tells is what a crash leaves then
+  -- what a job's last reply says is what a crash leaves then
   pub job_shows : (order : Event) (worker : Worker) (first last : WorldView D) (answer : Reply) → IsJob g order worker first answer last
       → g.is_honest last.disk → Within (g.may_leave last.disk) (ShowsReply answer last.core.base (history_of last.core))
   job_shows order worker first last answer (IsJob.refused ends step) honest = step.shows honest

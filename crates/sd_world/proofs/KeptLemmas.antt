@@ -15,7 +15,7 @@ use Rattle.sd_gate.specs.Phases.{after, body_after, filled, is_ready, may_write}
 use Rattle.sd_gate.specs.Requests.{Asked, Made}
 use Rattle.sd_gate.specs.Sequences.{data_place}
 use Rattle.sd_crash_safety.specs.Calls.{IsFree}
-use Rattle.sd_crash_safety.specs.InUse.{IsPageOf}
+use Rattle.sd_crash_safety.specs.LiveImages.{IsPageOf}
 use Rattle.sd_world.specs.declared.call_state.CallState.TheVariants as its
 use Rattle.sd_world.specs.declared.kept.Kept.{Kept}
 use Rattle.sd_world.specs.declared.kept.Kept.TheVariants.{Nothing, Request, Outcome}

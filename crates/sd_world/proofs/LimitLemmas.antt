@@ -1,4 +1,4 @@
--- A memory within the limits is refused for want of frames alone.
+-- A memory within the limits is refused for lack of frames alone.
 use Rattle.std.proofs.Common.{◌≡◌, ℕ, ◌+◌, ◌<◌, ◌≤◌, ◌||◌, nat_lt, Bool, true, false, cond, List, [], ◌∷◌, length, sum_by, Some, None, Contains, suc, refl, sym, ◌∙◌, ap, subst, arith}
 use Rattle.std.proofs.lemmas.Bool.{le-ltb, ltb-true, ne_eqb}
 use Rattle.std.specs.List.{fold, list_any}
@@ -8,14 +8,14 @@ use Rattle.sd_pagetable.specs.declared.access_error.AccessError.{AccessError}
 use Rattle.sd_pagetable.specs.declared.access_error.AccessError.TheVariants.{Refused}
 use Rattle.sd_pagetable.specs.declared.memory_refusal.MemoryRefusal.TheVariants.{NoFrame, Enomem}
 use Rattle.sd_pagetable.specs.Contents.{page_count}
-use Rattle.sd_pagetable.specs.Due.{prots_in}
-use Rattle.sd_pagetable.specs.Loaded.{is_over_in_space, is_over_limits, nonzero_pages, snapshot_due}
+use Rattle.sd_pagetable.specs.RefusalOrder.{prots_in}
+use Rattle.sd_pagetable.specs.Loaded.{is_over_in_space, is_over_limits, nonzero_pages, snapshot_refusal}
 use Rattle.sd_pagetable.specs.Nested.{map_entries, map_values, total, total_within}
 use Rattle.sd_image.specs.Shows.{Shows}
 use Rattle.sd_restore.specs.Fits.{IsSpaceWithin, IsWithinLimits, ShownIsWithinLimits, prots_in as prots_of}
 use Rattle.sd_world.specs.declared.open_fault.OpenFault.{OpenFault}
 use Rattle.sd_world.specs.declared.open_fault.OpenFault.TheVariants.{NoFrame as NoFrameFault}
-use Rattle.sd_world.specs.Opens.{HasNoFrame, IsWantOf}
+use Rattle.sd_world.specs.Opens.{HasNoFrame, IsLackOf}
 
 none_any : {X : Type 0} (p : X → Bool) (xs : List X) → ((x : X) → Contains xs x → p x ≡ false) → list_any p xs ≡ false
 none_any p [] each = refl
@@ -56,7 +56,7 @@ limits_fit memory within =
     ∙ le-ltb 65536 (page_count memory) (subst (λ n. n ≤ 65536) (sym (counted memory)) within.pages)
 
 -- what is refused for another reason is over the limits
-pub due_is_frames : (frames : ℕ) (memory : PlainMemory) (why : AccessError) → is_over_limits memory ≡ false → snapshot_due frames memory ≡ Some why
+pub due_is_frames : (frames : ℕ) (memory : PlainMemory) (why : AccessError) → is_over_limits memory ≡ false → snapshot_refusal frames memory ≡ Some why
     → frames < nonzero_pages memory
 due_is_frames frames memory why fits due = go (nat_lt frames (nonzero_pages memory)) refl
   where
@@ -69,9 +69,9 @@ due_is_frames frames memory why fits due = go (nat_lt frames (nonzero_pages memo
         absurd cc
 
 pub no_frame : ShownIsWithinLimits → (contents : List (List ℕ)) (frames number : ℕ) (memory : PlainMemory) (fault : OpenFault) → fault ≡ NoFrameFault
-    → IsWantOf frames memory fault → Shows contents (Some (number, memory)) → HasNoFrame contents frames
+    → IsLackOf frames memory fault → Shows contents (Some (number, memory)) → HasNoFrame contents frames
 no_frame within contents frames number memory fault is want shows =
-    let wanted = subst (IsWantOf frames memory) is want in
+    let wanted = subst (IsLackOf frames memory) is want in
     record {
       number = number;
       memory = memory;

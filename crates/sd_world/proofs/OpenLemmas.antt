@@ -11,7 +11,7 @@ use Rattle.sd_world.specs.declared.kept.Kept.TheVariants.{Nothing, Outcome}
 use Rattle.sd_world.specs.Consistent.{AreInPlace}
 use Rattle.sd_world.specs.View.{asked_of, nothing_kept}
 use Rattle.sd_world.specs.declared.open_fault.OpenFault.{OpenFault}
-use Rattle.sd_world.specs.Opens.{AreSynced, IsFaultOf, IsWantOf}
+use Rattle.sd_world.specs.Opens.{AreSynced, IsFaultOf, IsLackOf}
 
 -- one slot more is synced
 pub synced_more : (contents : List (List ℕ)) (slot : ℕ) (old new : List (List ℕ) → Type 0) → AreSynced slot contents old → Within new old
@@ -19,7 +19,7 @@ pub synced_more : (contents : List (List ℕ)) (slot : ℕ) (old new : List (Lis
 synced_more contents slot old new before crash now other within c may = grind arith
 
 -- or by memory alone
-pub fault_of_want : (contents : List (List ℕ)) (before now frames : ℕ) (memory : PlainMemory) (fault : OpenFault) → IsWantOf frames memory fault
+pub fault_of_want : (contents : List (List ℕ)) (before now frames : ℕ) (memory : PlainMemory) (fault : OpenFault) → IsLackOf frames memory fault
     → IsFaultOf contents before now fault
 fault_of_want contents before now frames memory fault is = grind arith
 

@@ -8,12 +8,12 @@ use Rattle.sd_gate.specs.declared.phase.Phase.{Phase}
 use Rattle.sd_gate.specs.declared.request_id.RequestId.{RequestId}
 use Rattle.sd_gate.specs.Calls.{AreKept, is_done}
 use Rattle.sd_gate.specs.Laws.{WritesCommute}
-use Rattle.sd_gate.specs.Looks.{IsTold}
+use Rattle.sd_gate.specs.Looks.{IsLookedUpAs}
 use Rattle.sd_gate.specs.Phases.{after as phase_after, body_after, is_ready}
 use Rattle.sd_gate.specs.Requests.{Asked, Made}
 use Rattle.sd_gate.specs.Sequences.{data_place}
 use Rattle.sd_crash_safety.specs.Believes.{Believes}
-use Rattle.sd_crash_safety.specs.InUse.{IsPageOf}
+use Rattle.sd_crash_safety.specs.LiveImages.{IsPageOf}
 use Rattle.sd_crash_safety.specs.Laws.{PerformedIsBelieved}
 use Rattle.sd_crash_safety.specs.View.{CoreView}
 use Rattle.sd_world.specs.declared.kept.Kept.{Kept}
@@ -30,8 +30,8 @@ use Rattle.sd_world.proofs.Worlds.{Fits, slot_as}
 page_kept : (slot : ℕ) (request other : Asked) → other.id ≡ request.id → AreKept request.id.call request.bytes other.bytes → IsPageOf slot request → IsPageOf slot other
 page_kept slot request other same kept page = grind arith
 
--- what a write told of a file is so of every file
-told_anyway : (file other : List ℕ) (made : Made) → IsWrite made.request.id.call → IsTold file made → IsTold other made
+-- what a write said of a file is so of every file
+told_anyway : (file other : List ℕ) (made : Made) → IsWrite made.request.id.call → IsLookedUpAs file made → IsLookedUpAs other made
 told_anyway file other made write told = grind arith
 
 module _ (law : WritesCommute) {D : Type 0} (g : Ghosts D) (core : CoreView) (kept : List Kept) (lane : ℕ) (request : Asked) (old : D) (made : Made) (new : D)
@@ -112,24 +112,24 @@ module _ (law : WritesCommute) {D : Type 0} (g : Ghosts D) (core : CoreView) (ke
           subst (Fits files (g.may_leave new) slot) (sym (elsewhere_now slot s differs)) (p.elsewhere slot n.phase n.body differs (was.stands slot phase is))
     ]
 
-    told_here : g.is_honest new → is_done made.answer ≡ true → IsTold (file_at files made.request.id.slot) made
+    told_here : g.is_honest new → is_done made.answer ≡ true → IsLookedUpAs (file_at files made.request.id.slot) made
     told_here honest done = grind arith
 
-    told_other : (other : ℕ) (m : Made) → other ≢ lane → slice_get kept other ≡ Some (Outcome m) → is_done m.answer ≡ true → IsTold (file_at files m.request.id.slot) m
+    told_other : (other : ℕ) (m : Made) → other ≢ lane → slice_get kept other ≡ Some (Outcome m) → is_done m.answer ≡ true → IsLookedUpAs (file_at files m.request.id.slot) m
     told_other other m differs before done = elim (cases_eq m.request.id.slot request.id.slot) [
       | inl on ↦
           let pages = others other (Outcome m) m.request differs before refl (ap (λ (id : RequestId). id.slot) same_id ∙ sym on) in
           let page = world.places.pages other (Outcome m) m.request before refl pages.second in
           told_anyway (file_at (g.contents old) m.request.id.slot) (file_at files m.request.id.slot) m (record { at = data_place page.place; is = page.call }) (was.told other m before done)
-      | inr off ↦ subst (λ file. IsTold file m) (sym (p.others m.request.id.slot off)) (was.told other m before done)
+      | inr off ↦ subst (λ file. IsLookedUpAs file m) (sym (p.others m.request.id.slot off)) (was.told other m before done)
     ]
 
     told_now : g.is_honest new → (other : ℕ) (m : Made) → slice_get later other ≡ Some (Outcome m) → is_done m.answer ≡ true
-        → IsTold (file_at files m.request.id.slot) m
+        → IsLookedUpAs (file_at files m.request.id.slot) m
     told_now honest other m there done = elim (is_set kept lane (Request request) (Outcome made) at other (Outcome m) there).either [
       | inl (same, is) ↦
           let its : m ≡ made = same_outcome m made (ap Some is) in
-          subst (λ (x : Made). IsTold (file_at files x.request.id.slot) x) (sym its) (told_here honest (ap (λ (x : Made). is_done x.answer) (sym its) ∙ done))
+          subst (λ (x : Made). IsLookedUpAs (file_at files x.request.id.slot) x) (sym its) (told_here honest (ap (λ (x : Made). is_done x.answer) (sym its) ∙ done))
       | inr (differs, before) ↦ told_other other m differs before done
     ]
 

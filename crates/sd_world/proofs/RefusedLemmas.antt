@@ -32,7 +32,7 @@ use Rattle.sd_world.proofs.RestingLemmas.{left}
 outcome_refused : (old : CoreView) (worker : Worker) (why : Refusal) (new : CoreView) → LeavesByOutcome old worker (reply.Refused why) new → why ≡ StoreDown
 outcome_refused old worker why new leaves = grind arith
 
--- and a step for want of memory
+-- and a step for lack of memory
 step_refused : (kept : List Kept) (old : CoreView) (worker : Worker) (why : Refusal) (new : CoreView) → LeavesByStep old worker (reply.Refused why) new
     → (worker ≡ Merger → why ≢ Damaged) → (worker ≡ Opener → why ≢ Damaged) → MayBeRefused kept worker why
 step_refused kept old worker why new leaves found opens = grind arith

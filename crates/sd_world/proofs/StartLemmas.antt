@@ -14,7 +14,7 @@ use Rattle.sd_crash_safety.specs.Calls.{AddsByOrder}
 use Rattle.sd_crash_safety.specs.View.{CoreView, history_of}
 use Rattle.sd_core.specs.declared.taken.Taken.TheVariants.{Step}
 use Rattle.sd_core.specs.Called.{IsTakenUp}
-use Rattle.sd_core.specs.Grown.{has_swept}
+use Rattle.sd_core.specs.Grown.{has_visited_all}
 use Rattle.sd_core.specs.Opening.{IsExpected, awaited_checkpoint}
 use Rattle.sd_core.specs.Refusals.{work_refusal}
 use Rattle.sd_world.specs.declared.event.Event.TheVariants.{Perform, Reopen, Trim, Work}
@@ -113,7 +113,7 @@ module _ {D : Type 0} (g : Ghosts D) where
   -- ---- after an opening
 
   none_awaited : (core : CoreView) → history_of core ≡ [] → awaited_checkpoint core ≡ None
-  none_awaited core none = ap (λ history. if has_swept core.items then pending history else None) none ∙ either (has_swept core.items) None
+  none_awaited core none = ap (λ history. if has_visited_all core.items then pending history else None) none ∙ either (has_visited_all core.items) None
 
   -- what was found is the number of the base, which stays; the store is open, and the journal has the one entry of that
   pub record IsBegun (opened world : WorldView D) : Type 0 where

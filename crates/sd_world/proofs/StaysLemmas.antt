@@ -27,7 +27,7 @@ use Rattle.sd_rounds.specs.Dumper.{Running, writes_of_image, writes_of_running}
 use Rattle.sd_rounds.specs.Making.{Making}
 use Rattle.sd_rounds.specs.Writes.{no_writes}
 use Rattle.sd_crash_safety.specs.declared.standing.Standing.TheVariants.{Open}
-use Rattle.sd_crash_safety.specs.InUse.{IsAtWork, IsImageOn, ids_of, lanes_of}
+use Rattle.sd_crash_safety.specs.LiveImages.{IsAtWork, IsImageOn, ids_of, lanes_of}
 use Rattle.sd_crash_safety.specs.Knows.{SeesStore}
 use Rattle.sd_crash_safety.specs.Merges.{IsAskedIn, IsMergeAt, IsMergeOn}
 use Rattle.sd_crash_safety.specs.View.{CoreView, history_of}
@@ -152,7 +152,7 @@ module _ {D : Type 0} (g : Ghosts D) (world : WorldView D) (is : IsWorld g world
 
   -- the dumper's own lane
   dumper_has : slice_get asked 0 ≡ Some (Some request) → OnTaken
-  dumper_has at = by world.core.dumper.running refl (was.believes.knows.in_use stands).job
+  dumper_has at = by world.core.dumper.running refl (was.believes.knows.is_live stands).job
     where
       making : (running : Running) (image : Option Making) → world.core.dumper.running ≡ Some running → running.image ≡ image
           → IsImageOn world.core.base (history_of world.core) world.core.memory world.core.phases asked was.bodies world.core.numbers.serial was.believes.store was.believes.dump was.believes.beliefs running.parent running.number image
@@ -173,7 +173,7 @@ module _ {D : Type 0} (g : Ghosts D) (world : WorldView D) (is : IsWorld g world
   page_has lane at = by world.core.dumper.running refl
     where
       out : slice_get (writes_of_running world.core.dumper.running) lane ≡ Some (Some request.id)
-      out = ap (λ ids. slice_get ids lane) (sym (was.believes.knows.in_use stands).writes) ∙ get_map _ (lanes_of asked) lane (Some request) at
+      out = ap (λ ids. slice_get ids lane) (sym (was.believes.knows.is_live stands).writes) ∙ get_map _ (lanes_of asked) lane (Some request) at
 
       making : (running : Running) (image : Option Making) → world.core.dumper.running ≡ Some running → running.image ≡ image
           → IsImageOn world.core.base (history_of world.core) world.core.memory world.core.phases asked was.bodies world.core.numbers.serial was.believes.store was.believes.dump was.believes.beliefs running.parent running.number image
@@ -184,7 +184,7 @@ module _ {D : Type 0} (g : Ghosts D) (world : WorldView D) (is : IsWorld g world
       by : (running : Option Running) → world.core.dumper.running ≡ running → OnTaken
       by None rests = absurd (no_write lane request.id (subst (λ o. slice_get (writes_of_running o) lane ≡ Some (Some request.id)) rests out))
       by (Some running) runs = making running running.image runs refl
-          (subst (IsAtWork world.core.base (history_of world.core) world.core.grows world.core.memory world.core.phases asked was.bodies world.core.numbers.serial was.believes.store was.believes.dump was.believes.beliefs) runs (was.believes.knows.in_use stands).job).image
+          (subst (IsAtWork world.core.base (history_of world.core) world.core.grows world.core.memory world.core.phases asked was.bodies world.core.numbers.serial was.believes.store was.believes.dump was.believes.beliefs) runs (was.believes.knows.is_live stands).job).image
 
   -- the merger's lane
   merger_has : slice_get asked 1 ≡ Some (Some request) → OnTaken

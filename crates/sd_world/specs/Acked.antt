@@ -1,7 +1,7 @@
 -- The images of a checkpoint, in the contents of a disk.
 use Rattle.std.specs.Prelude.{◌≡◌, ℕ, zero, suc, true, List, length, IfSome, Some}
 use Rattle.sd_chain.specs.Catalog.{Opened, Places}
-use Rattle.sd_chain.specs.Tells.{IsToldAs}
+use Rattle.sd_chain.specs.Recorded.{IsRecordedAs}
 use Rattle.sd_command.specs.declared.reply.Reply.{Reply}
 use Rattle.sd_command.specs.declared.reply.Reply.TheVariants as reply
 use Rattle.sd_disk.specs.Contents.{file_at}
@@ -19,7 +19,7 @@ use Rattle.sd_world.specs.View.{WorldView}
 -- an image of a catalog stands in its slot of these contents
 pub record IsThere (contents : List (List ℕ)) (opened : Opened) : Type 0 where
   pub image : Image
-  pub told : IsToldAs opened image
+  pub told : IsRecordedAs opened image
   pub stands : IsImage (file_at contents opened.slot) image
 
 -- So many pre-dumps of a checkpoint are in the catalog and stand in their slots, the last of them under this serial:

@@ -14,7 +14,7 @@ use Rattle.sd_world.specs.declared.event.Event.{Event}
 use Rattle.sd_world.specs.declared.event.Event.TheVariants.{Command as CommandEvent, Begin, Work, TakeUp, HandInAt}
 use Rattle.sd_world.specs.declared.event.Event.TheVariants.{Perform, PerformAt, Merge, Cancel, Reopen, Trim}
 
--- refused with a full journal or for want of memory
+-- refused with a full journal or for lack of memory
 pub record IsUnjournaledReply (answer : Reply) : Type 0 where
   pub why : Refusal
   pub either : IsUnjournaled why

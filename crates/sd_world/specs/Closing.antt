@@ -31,8 +31,8 @@ abbrev pub ComesToClose : {D : Type 0} → Ghosts D → WorldView D → WorldVie
 ComesToClose g old new slot serial = MergeCloses old.core slot serial ⊎ EntersIn g old new slot serial
 
 -- a merge that closes images after an event came to it so
-abbrev pub ClosesBehind : {D : Type 0} → Ghosts D → WorldView D → WorldView D → Type 0
-ClosesBehind g old new = (slot serial : ℕ) → MergeCloses new.core slot serial → ComesToClose g old new slot serial
+abbrev pub ClosesAfter : {D : Type 0} → Ghosts D → WorldView D → WorldView D → Type 0
+ClosesAfter g old new = (slot serial : ℕ) → MergeCloses new.core slot serial → ComesToClose g old new slot serial
 
 -- and so did one that ends with it; each slot of its list then has a file of one byte, with a closed gate
 pub record EndsIn {D : Type 0} (g : Ghosts D) (old new : WorldView D) (serial : ℕ) : Type 0 where
@@ -40,5 +40,5 @@ pub record EndsIn {D : Type 0} (g : Ghosts D) (old new : WorldView D) (serial : 
   pub comes : ComesToClose g old new slot serial
   pub cut : AreCutThere (g.contents new.disk) (list_of old.core.merger)
 
-abbrev pub EndsBehind : {D : Type 0} → Ghosts D → WorldView D → Reply → WorldView D → Type 0
-EndsBehind g old answer new = (serial : ℕ) → answer ≡ reply.Merged serial → EndsIn g old new serial
+abbrev pub EndsAfter : {D : Type 0} → Ghosts D → WorldView D → Reply → WorldView D → Type 0
+EndsAfter g old answer new = (serial : ℕ) → answer ≡ reply.Merged serial → EndsIn g old new serial

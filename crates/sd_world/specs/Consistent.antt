@@ -6,11 +6,11 @@ use Rattle.sd_disk.specs.declared.disk.Disk.{Ghosts}
 use Rattle.sd_gate.specs.declared.phase.Phase.{Phase}
 use Rattle.sd_gate.specs.Calls.{is_done}
 use Rattle.sd_gate.specs.Fits.{SlotFits}
-use Rattle.sd_gate.specs.Looks.{IsTold}
+use Rattle.sd_gate.specs.Looks.{IsLookedUpAs}
 use Rattle.sd_gate.specs.Phases.{after, body_after}
 use Rattle.sd_gate.specs.Requests.{Asked, Made}
 use Rattle.sd_crash_safety.specs.Believes.{Believes}
-use Rattle.sd_crash_safety.specs.InUse.{IsPageOf}
+use Rattle.sd_crash_safety.specs.LiveImages.{IsPageOf}
 use Rattle.sd_world.specs.declared.kept.Kept.{Kept}
 use Rattle.sd_world.specs.declared.kept.Kept.TheVariants.{Nothing, Request, Outcome}
 use Rattle.sd_world.specs.View.{WorldView, asked_of, kept_id}
@@ -43,14 +43,14 @@ abbrev pub FitsNow : {D : Type 0} → Ghosts D → D → ℕ → SlotNow → Typ
 FitsNow g disk slot now = SlotFits now.phase now.body slot (g.contents disk) (g.may_leave disk)
 
 -- The core believes what it does of the requests that are kept and of the files of the disk, with these bodies after
--- the gates; each slot fits its phase, with the calls that were made; and each outcome tells its slot's file as it is.
+-- the gates; each slot fits its phase, with the calls that were made; and each outcome gives its slot's file as it is.
 pub record IsConsistent {D : Type 0} (g : Ghosts D) (world : WorldView D) : Type 0 where
   pub bodies : List (List ℕ)
   pub believes : Believes world.core (map asked_of world.kept) bodies (g.contents world.disk)
   pub stands : (slot : ℕ) (phase : Phase) → slice_get world.core.phases slot ≡ Some phase
       → FitsNow g world.disk slot (slot_now world.kept slot (record { phase = phase; body = file_at bodies slot }))
   pub told : (lane : ℕ) (made : Made) → slice_get world.kept lane ≡ Some (Outcome made) → is_done made.answer ≡ true
-      → IsTold (file_at (g.contents world.disk) made.request.id.slot) made
+      → IsLookedUpAs (file_at (g.contents world.disk) made.request.id.slot) made
 
 -- both are in lanes of pages, and write different ones
 pub record AreAskedInPages (one other : ℕ) (a b : Asked) : Type 0 where

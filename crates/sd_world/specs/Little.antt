@@ -18,7 +18,7 @@ pub record WorksLittle {D : Type 0} (worker : Worker) (place : ℕ) (old : World
     (new : WorldView D) : Type 0 where
   -- what is acknowledged is the checkpoint that ran: its pre-dumps and its dump are in the catalog
   pub acked : (n : ℕ) → answer ≡ reply.Acked n → IsAcked n old.core new.core
-  -- and the dump has exactly the pages of the memory at its freeze, each in the way that was due then
+  -- and the dump has exactly the pages of the memory at its freeze, each in the right way then
   pub little : (n : ℕ) → answer ≡ reply.Acked n → IsLittleDump n old.core new.core
   -- after the dumper's outcome with which one pre-dump more is open, that has none but the pages that its visits found
   -- touched

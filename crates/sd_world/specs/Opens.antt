@@ -3,7 +3,7 @@ use Rattle.std.specs.Prelude.{◌≡◌, ◌⊎◌, ℕ, ◌<◌, List, Some}
 use Rattle.std.specs.FinMap as finmap
 use Rattle.sd_areas.specs.PlainMemory.{PlainMemory}
 use Rattle.sd_pagetable.specs.declared.access_error.AccessError.{AccessError}
-use Rattle.sd_pagetable.specs.Loaded.{nonzero_pages, snapshot_due}
+use Rattle.sd_pagetable.specs.Loaded.{nonzero_pages, snapshot_refusal}
 use Rattle.sd_disk.specs.Contents.{file_at}
 use Rattle.sd_disk.specs.Crash.{OnlyAt}
 use Rattle.sd_image.specs.Shows.{Shows}
@@ -20,11 +20,11 @@ abbrev pub bare_memory : PlainMemory
 bare_memory = finmap.insert finmap.empty 1 finmap.empty
 
 -- why a memory isn't taken over: frames are wanting, or memory
-abbrev pub IsWantOf : ℕ → PlainMemory → OpenFault → Type 0
-IsWantOf frames memory NoFrame = (why : AccessError) × (snapshot_due frames memory ≡ Some why)
-IsWantOf frames memory (Damaged slot reason) = ⊥
-IsWantOf frames memory Device = ⊥
-IsWantOf frames memory OutOfMemory = Unit {0}
+abbrev pub IsLackOf : ℕ → PlainMemory → OpenFault → Type 0
+IsLackOf frames memory NoFrame = (why : AccessError) × (snapshot_refusal frames memory ≡ Some why)
+IsLackOf frames memory (Damaged slot reason) = ⊥
+IsLackOf frames memory Device = ⊥
+IsLackOf frames memory OutOfMemory = Unit {0}
 
 -- more pages of the memory that is shown than there are frames aren't all zeros
 pub record HasNoFrame (contents : List (List ℕ)) (frames : ℕ) : Type 0 where

@@ -4,7 +4,7 @@ use Rattle.sd_command.specs.declared.reply.Reply.{Reply}
 use Rattle.sd_disk.specs.declared.disk.Disk.{Ghosts}
 use Rattle.sd_journal.specs.History.{Base, History, at_freeze}
 use Rattle.sd_journal.specs.Legal.{IsLegal}
-use Rattle.sd_journal.specs.TellLaws.{StartsAs}
+use Rattle.sd_journal.specs.RunLaws.{StartsAs}
 use Rattle.sd_journal.specs.Trimming.{IsEnded, base_after}
 use Rattle.sd_crash_safety.specs.Calls.{running_number}
 use Rattle.sd_crash_safety.specs.View.{history_of}

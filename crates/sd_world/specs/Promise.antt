@@ -33,14 +33,14 @@ pub record Point (D : Type 0) : Type 0 where
 
 -- The entry of an event and its reply, if they have one. A command that is refused as journal-full or as out of memory
 -- leaves none. Here a trim takes nothing away.
-abbrev pub told_by : Event → Reply → List Entry
-told_by (CommandEvent seat command) (reply.Refused JournalFull) = []
-told_by (CommandEvent seat command) (reply.Refused OutOfMemory) = []
-told_by (CommandEvent seat command) answer = Applied seat command answer ∷ []
-told_by event (reply.Acked n) = Acked n ∷ []
-told_by event (reply.Cancelled n) = Cancelled n ∷ []
-told_by event (reply.Reopened m) = Reopened m ∷ []
-told_by event answer = []
+abbrev pub entry_made_by : Event → Reply → List Entry
+entry_made_by (CommandEvent seat command) (reply.Refused JournalFull) = []
+entry_made_by (CommandEvent seat command) (reply.Refused OutOfMemory) = []
+entry_made_by (CommandEvent seat command) answer = Applied seat command answer ∷ []
+entry_made_by event (reply.Acked n) = Acked n ∷ []
+entry_made_by event (reply.Cancelled n) = Cancelled n ∷ []
+entry_made_by event (reply.Reopened m) = Reopened m ∷ []
+entry_made_by event answer = []
 
 -- a worker's step, or an outcome that it hands in
 abbrev pub IsOf : Worker → Event → Type 0
@@ -71,7 +71,7 @@ begun_after _ answer before = before
 -- ---- what contents show
 
 -- contents show what is allowed
-pub record ShowsTold (told : Told) (contents : List (List ℕ)) : Type 0 where
+pub record ShowsWhatRunAllows (told : Told) (contents : List (List ℕ)) : Type 0 where
   pub shown : Shown
   pub allowed : MayShow told shown
   pub shows : Shows contents shown
@@ -90,7 +90,7 @@ ShowsAnswer _ told contents = Unit {0}
 pub record Moves {D : Type 0} (g : Ghosts D) (event : Event) (answer : Reply) (old new : Point D) : Type 0 where
   -- the run started from where it started, and the journal gets the entry of the event and its reply, or the freeze
   pub start : new.start ≡ old.start
-  pub entries : (new.entries ≡ told_by event answer ++ old.entries)
+  pub entries : (new.entries ≡ entry_made_by event answer ++ old.entries)
       ⊎ Freezes event answer old.begun old.start old.entries new.entries
   -- an order to begin is answered by the next number, or refused; no other event is answered `begun`
   pub begins : (rounds : ℕ) → event ≡ Begin rounds
@@ -105,9 +105,9 @@ pub record Moves {D : Type 0} (g : Ghosts D) (event : Event) (answer : Reply) (o
   pub cancels : (n : ℕ) → answer ≡ reply.Cancelled n → event ≡ Cancel
   pub begun : new.begun ≡ begun_after event answer old.begun
   -- a crash at any moment between the two points leaves what the journal allowed at the first
-  pub any_moment : LeavesOnly g old.disk new.disk (ShowsTold (tell old.start old.entries))
+  pub any_moment : LeavesOnly g old.disk new.disk (ShowsWhatRunAllows (tell old.start old.entries))
   -- a crash at the second leaves what the journal allows then
-  pub at_end : Within (g.may_leave new.disk) (ShowsTold (tell new.start new.entries))
+  pub at_end : Within (g.may_leave new.disk) (ShowsWhatRunAllows (tell new.start new.entries))
   -- and after `acked` or `reopened` the last checkpoint, or nothing saved
   pub told : Within (g.may_leave new.disk) (ShowsAnswer answer (tell new.start new.entries))
 

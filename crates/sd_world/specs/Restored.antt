@@ -8,7 +8,7 @@ use Rattle.sd_restore.specs.declared.fault.Fault.{Fault}
 use Rattle.sd_restore.specs.declared.fault.Fault.TheVariants.{EmptyChain, Damaged, Device, OutOfMemory}
 
 -- exactly this checkpoint and memory, or the empty chain where nothing was saved; a call of the device that failed, and
--- want of memory, say nothing of it
+-- lack of memory, say nothing of it
 abbrev pub IsRestoredAs : Shown → Result Snapshot Fault → Type 0
 IsRestoredAs shown (Ok snapshot) = shown ≡ Some (snapshot.checkpoint, memory_of snapshot)
 IsRestoredAs shown (Err EmptyChain) = shown ≡ None

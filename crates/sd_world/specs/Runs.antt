@@ -15,7 +15,7 @@ use Rattle.sd_world.specs.declared.event.Event.{Event}
 use Rattle.sd_world.specs.declared.event.Event.TheVariants.{Trim}
 use Rattle.sd_world.specs.Acked.{DoesAck}
 use Rattle.sd_world.specs.Adds.{AddsToJournal}
-use Rattle.sd_world.specs.Closing.{ClosesBehind, EndsBehind}
+use Rattle.sd_world.specs.Closing.{ClosesAfter, EndsAfter}
 use Rattle.sd_world.specs.Copied.{DoesCopy}
 use Rattle.sd_world.specs.KeptCheckpoint.{KeepsCheckpoint}
 use Rattle.sd_world.specs.Little.{DoesLittle}
@@ -53,8 +53,8 @@ pub record IsStep {D : Type 0} (g : Ghosts D) (event : Event) (old : WorldView D
   -- are closed
   pub merges : g.is_honest new.disk → DoesMerge g event old answer new
   pub keeps : KeepsMerged g old new
-  pub closes : g.is_honest new.disk → ClosesBehind g old new
-  pub ends : g.is_honest new.disk → EndsBehind g old answer new
+  pub closes : g.is_honest new.disk → ClosesAfter g old new
+  pub ends : g.is_honest new.disk → EndsAfter g old answer new
   -- that a merged image is read from what stands on the disk, and which images are to be closed after it
   pub copies : g.is_honest new.disk → DoesCopy g event old new
   -- that a file stays as it is until a job has its slot

@@ -14,7 +14,7 @@ use Rattle.sd_gate.specs.declared.answer.Answer.TheVariants.{Done, Len, Failed}
 use Rattle.sd_gate.specs.declared.phase.Phase.{Phase}
 use Rattle.sd_gate.specs.declared.request_id.RequestId.{RequestId}
 use Rattle.sd_gate.specs.declared.worker.Worker.{Worker}
-use Rattle.sd_gate.specs.Calls.{AnswerHasCause, CallTells, IsAnswerTo, is_done}
+use Rattle.sd_gate.specs.Calls.{AnswerHasCause, CallFinds, IsAnswerTo, is_done}
 use Rattle.sd_gate.specs.Fits.{SlotFits}
 use Rattle.sd_gate.specs.Phases.{after, body_after, is_ready}
 use Rattle.sd_gate.specs.Requests.{Asked, Made}
@@ -112,7 +112,7 @@ pub record IsPerformed {D : Type 0} (g : Ghosts D) (request : Asked) (old : D) (
   pub count : length (g.contents new) ≡ length (g.contents old)
   pub answers : is_done made.answer ≡ true → IsAnswerTo request.id.call made.answer
   pub tells : g.is_honest new → is_done made.answer ≡ true
-      → CallTells request.id.call (file_at (g.contents old) request.id.slot) made.answer made.request.bytes
+      → CallFinds request.id.call (file_at (g.contents old) request.id.slot) made.answer made.request.bytes
   pub others : (other : ℕ) → other ≢ request.id.slot → file_at (g.contents new) other ≡ file_at (g.contents old) other
   pub fits : (phase : Phase) (body : List ℕ) → is_ready phase request.id.call ≡ true
       → SlotFits phase body request.id.slot (g.contents old) (g.may_leave old)
@@ -168,7 +168,7 @@ abbrev pub answer_of : Result (ℕ × Reply) Refusal → Reply
 answer_of (Ok told) = told.1
 answer_of (Err why) = reply.Refused why
 
--- a command is applied, and answered by what the core told
+-- a command is applied, and answered by what the core said
 pub record IsCommand {D : Type 0} (seat : ℕ) (command : CommandOf) (old : WorldView D) (answer : Reply)
     (new : WorldView D) : Type 0 where
   pub told : Result (ℕ × Reply) Refusal

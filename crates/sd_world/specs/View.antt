@@ -48,7 +48,7 @@ asked_of Nothing = None
 asked_of (Request request) = Some request
 asked_of (Outcome made) = Some made.request
 
--- what tells it from every other request
+-- what distinguishes it from every other request
 abbrev pub kept_id : Kept → Option RequestId
 kept_id Nothing = None
 kept_id (Request request) = Some request.id

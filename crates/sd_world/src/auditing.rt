@@ -20,7 +20,7 @@ use std::alloc::Global;
 ///
 /// # Errors
 ///
-/// Those of `restore`, but for the empty chain. `OutOfMemory` also where the replay wants memory.
+/// Those of `restore`, but for the empty chain. `OutOfMemory` also where the replay takes memory.
 pub fn audit<D: Disk>(alloc: Global, core: &Core, disk: &mut D) -> Result<bool, Fault>
     ensures exact { D.is_honest disk.new → IfOk result (λ told. IsTrue told
         ↔ ShowsAllowed core.now.base (history_of core.now) (D.contents disk.old)) }

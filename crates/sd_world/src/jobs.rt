@@ -36,7 +36,7 @@ fn is_end(answer: &Reply) -> bool
     )
 }
 
-/// What the last reply of a checkpoint tells.
+/// What the last reply of a checkpoint says.
 fn acked(last: Reply) -> Result<u64, Refusal>
     requires { EndsAs reply.Acked last }
     ensures { last ≡ last_reply reply.Acked result }
@@ -48,7 +48,7 @@ fn acked(last: Reply) -> Result<u64, Refusal>
     }
 }
 
-/// What the last reply of a merge tells.
+/// What the last reply of a merge says.
 fn merged(last: Reply) -> Result<u64, Refusal>
     requires { EndsAs reply.Merged last }
     ensures { last ≡ last_reply reply.Merged result }
@@ -60,7 +60,7 @@ fn merged(last: Reply) -> Result<u64, Refusal>
     }
 }
 
-/// What the last reply of an opener tells.
+/// What the last reply of an opener says.
 fn reopened(last: Reply) -> Result<Option<u64>, Refusal>
     requires { EndsAs reply.Reopened last }
     ensures { last ≡ last_reply reply.Reopened result }
@@ -86,7 +86,7 @@ impl<D: Disk> World<D> {
         }
     }
 
-    /// Makes one event, and answers it, as [`step`](World::step) does, with what `made_tells` says of it.
+    /// Makes one event, and answers it, as [`step`](World::step) does, with what `made_event_laws` says of it.
     pub fn make(&mut self, event: Event) -> Reply
         ensures step { IsStep D.Disk event self.old result self.new }
         ensures goes_on { GoesOn D.Disk self.old self.new }
@@ -96,7 +96,7 @@ impl<D: Disk> World<D> {
             → asked_count self.new.kept worker < asked_count self.old.kept worker }
         ensures still { (worker : WorkerKind) → event ≡ Perform worker → self.new.core ≡ self.old.core }
     {
-        self.made_tells();
+        self.made_event_laws();
         self.step(&event)
     }
 
@@ -176,7 +176,7 @@ impl<D: Disk> World<D> {
     }
 
     /// [`finish`](World::finish), while the job is watched: between its turns `watch` is shown the core, and after its
-    /// end it is told so.
+    /// end it is answered so.
     pub fn finish_watched<S: Watch>(&mut self, worker: Worker, watch: &mut S) -> Reply
         ensures finished { IsFinished D.Disk worker self.old result self.new }
         ensures goes_on { GoesOn D.Disk self.old self.new }
@@ -222,7 +222,7 @@ impl<D: Disk> World<D> {
     /// free, `NumbersUsed`, `NoSlot` where too few slots are free, or `OutOfMemory`. Or the refusal of a step:
     /// `OutOfMemory`, with which the checkpoint still runs and can be finished or cancelled; or `Device` or `StoreDown`
     /// where a device call failed. Then [`finish`](World::finish) is called until it is refused as `Idle`, so that no
-    /// device call is out, and [`reopen_now`](World::reopen_now) tells whether the checkpoint is on the disk.
+    /// device call is out, and [`reopen_now`](World::reopen_now) says whether the checkpoint is on the disk.
     pub fn checkpoint(&mut self, rounds: u64) -> Result<u64, Refusal>
         // Its last reply is `acked`, with that number, or the refusal.
         ensures job { IsJob D.Disk (Begin rounds) Dumper self.old (last_reply reply.Acked result) self.new }

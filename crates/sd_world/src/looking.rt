@@ -21,7 +21,7 @@ pub(crate) fn sync_slot<D: Disk>(disk: &mut D, slot: usize) -> Result<(), Device
     disk.sync(slot)
 }
 
-/// The phase that a slot's file tells, by its length and its first byte.
+/// The phase that a slot's file shows, by its length and its first byte.
 pub(crate) fn phase_in<D: Disk>(disk: &mut D, slot: usize) -> Result<Phase, DeviceError>
     requires { slot < length (D.contents disk.old) }
     ensures phase { D.is_honest disk.new

@@ -8,7 +8,7 @@ ghost use Rattle.sd_image.specs.Shows.{Shows};
 ghost use Rattle.sd_pagetable.specs.Contents.{plain_of};
 ghost use Rattle.sd_pagetable.specs.Tracking.{IsBeginning};
 ghost use Rattle.sd_core.specs.Starts.{shown_base};
-ghost use Rattle.sd_world.specs.Opens.{AreSynced, HasNoFrame, IsFaultOf, IsWantOf, bare_memory};
+ghost use Rattle.sd_world.specs.Opens.{AreSynced, HasNoFrame, IsFaultOf, IsLackOf, bare_memory};
 
 use crate::looking::{phase_in, sync_slot};
 use crate::open_fault::OpenFault;
@@ -34,7 +34,7 @@ fn sync_all<D: Disk>(disk: &mut D) -> Result<(), OpenFault>
     Ok(())
 }
 
-/// The phase that each slot's file tells.
+/// The phase that each slot's file shows.
 fn phases_in<D: Disk>(alloc: Global, disk: &mut D) -> Result<Vec<Phase>, OpenFault>
     ensures phases { D.is_honest disk.new
         → IfOk result (λ phases. phases.items ≡ map found_phase (D.contents disk.old)) }
@@ -85,7 +85,7 @@ fn load(alloc: Global, frames: usize, snapshot: &Snapshot) -> Result<Memory, Ope
     ensures memory { IfOk result (λ memory. plain_of memory ≡ memory_of snapshot.now) }
     ensures begins { IfOk result IsBeginning }
     ensures pool { IfOk result (λ memory. memory.pool ≡ frames) }
-    ensures fault { IfErr result (IsWantOf frames (memory_of snapshot.now)) }
+    ensures fault { IfErr result (IsLackOf frames (memory_of snapshot.now)) }
 {
     match Memory::from_snapshot(alloc, frames, snapshot) {
         Ok(memory) => Ok(memory),

@@ -22,7 +22,7 @@ impl<D: Disk> World<D> {
     ///
     /// # Errors
     ///
-    /// Each hands the disk back, and the store shows what it did. `Unopened`: what [`open`](World::open) tells, and the
+    /// Each hands the disk back, and the store shows what it did. `Unopened`: what [`open`](World::open) says, and the
     /// disk was only read. `Refused`: `Damaged` where the store can't be read, `Device` or `StoreDown` where a device
     /// call failed, or `OutOfMemory`.
     pub fn start(alloc: Global, disk: D, frames: usize) -> Result<World<D>, StartError<D>>

@@ -268,7 +268,7 @@ impl<D: Disk> World<D> {
     /// `Work`, up to `Acked`, `Merged` or `Reopened`: [`World::finish`] makes them. After a device call that failed
     /// (`Device`) the next step is refused as `StoreDown`, and so are all jobs until the store is opened again.
     pub fn step(&mut self, event: &Event) -> Reply
-        // What it does, from a sound world to one: `made_tells` says what follows.
+        // What it does, from a sound world to one: `made_event_laws` says what follows.
         ensures does { IsMade D.Disk event.now self.old result self.new }
         // From each point of a run at which the world stands it goes to one at which it stands then: a crash at any
         // moment between them leaves what the journal allowed at the first, and after it what it allows at the second.
@@ -276,7 +276,7 @@ impl<D: Disk> World<D> {
     {
         store_laws();
         self.points_follow();
-        self.made_tells();
+        self.made_event_laws();
         world_laws(&self.core, &self.disk);
         let answer = make_step(&mut self.core, &mut self.disk, &mut self.kept, event);
         world_laws(&self.core, &self.disk);
@@ -286,7 +286,7 @@ impl<D: Disk> World<D> {
     /// A law: all else that is said of an event follows from what it does: what it adds to the journal, what an
     /// acknowledgement, a merge and a reopening leave on the disk, which files stay, why a job's step is refused, what
     /// a crash within it and after it leaves, and how many device calls are out then.
-    pub fn made_tells(&self)
+    pub fn made_event_laws(&self)
         ensures step { MadeIsStep D.Disk }
         ensures counts { MadeCounts D.Disk }
     {
@@ -326,7 +326,7 @@ impl<D: Disk> World<D> {
     {
         self.sound();
         self.points_follow();
-        self.made_tells();
+        self.made_event_laws();
         let Ok(mut replies) = Vec::with_capacity(self.alloc, events.len()) else {
             return Err(Refusal::OutOfMemory);
         };

@@ -8,7 +8,7 @@ use world_trials::{Failing, Figures, Line, Trouble, store_of, try_by_chance, try
 /// More device calls than any of the runs makes.
 const MOST: u64 = 500;
 
-/// How many lists of events are run by chance.
+/// How many random lists of events are run.
 const LISTS: u64 = 5;
 
 /// Of so many calls, one fails, and of so many lists, one is run. tests/quick raises it in its copy.
@@ -183,7 +183,7 @@ fn openings_of_which_calls_fail(rt: HostRuntime) -> Result<(), Fail> {
     Ok(is_right_where_calls_fail(&rt, rt.alloc(), &TWO, &AGAIN)?)
 }
 
-/// Runs a list of events by chance, whose crashes leave what they may.
+/// Runs a random list of events, whose crashes leave what they may.
 fn is_right_by_chance(
     rt: &impl Abort,
     alloc: Global,
@@ -195,7 +195,7 @@ fn is_right_by_chance(
     Ok(())
 }
 
-/// Lists of events by chance.
+/// Random lists of events.
 #[test]
 fn lists_by_chance(rt: HostRuntime) -> Result<(), Fail> {
     let mut figures = Figures::default();

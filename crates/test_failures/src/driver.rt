@@ -18,7 +18,7 @@ pub(crate) struct Driver<'a> {
 }
 
 impl Driver<'_> {
-    /// Makes an event, and once more where memory was refused, which is told.
+    /// Makes an event, and once more where memory was refused, which is counted.
     fn reply(&mut self, rt: &impl Eprint, event: &Event) -> Reply {
         let reply = self.world.step(event);
         if reply != Reply::Refused(Refusal::OutOfMemory) {

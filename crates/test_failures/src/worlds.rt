@@ -94,7 +94,7 @@ pub(crate) fn make(
     try_run(rt, alloc, disk, run, told).0.into_inner()
 }
 
-/// Makes lines over an empty store of which a call fails after so many. Returns the disk, and what was told.
+/// Makes lines over an empty store of which a call fails after so many. Returns the disk, and what was said.
 pub(crate) fn made_of(
     rt: &(impl Eprint + AllocGlobal),
     lines: &[Line],

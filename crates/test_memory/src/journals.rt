@@ -58,7 +58,7 @@ fn a_front_ends_with_the_acknowledgement(rt: HostRuntime) -> Result<(), Fail> {
     if journal.first() > 1 {
         panic!(rt; "the first entry has another number");
     }
-    let room = journal.room_behind(rt.alloc(), count)?;
+    let room = journal.room_after(rt.alloc(), count)?;
     let taken = journal.take_front(room, count);
     let wanted = [Entry::Reopened(None), Entry::Freeze(1), Entry::Acked(1)];
     assert_eq!(rt; taken.as_slice(), wanted.as_slice());

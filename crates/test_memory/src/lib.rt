@@ -3,6 +3,8 @@
 #![tactic(auto)]
 
 #[cfg(test)]
+mod actions;
+#[cfg(test)]
 mod areas;
 #[cfg(test)]
 mod bits;
@@ -12,8 +14,6 @@ mod byte_copies;
 mod commands;
 #[cfg(test)]
 mod copies;
-#[cfg(test)]
-mod deeds;
 #[cfg(test)]
 mod folds;
 #[cfg(test)]

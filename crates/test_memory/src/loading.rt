@@ -29,7 +29,7 @@ fn snapshot(alloc: Global) -> Result<Snapshot, AllocError> {
     snapshot_of(alloc, &[1, 3], &SAVED)
 }
 
-/// A memory that begins with a snapshot. Where that is refused, it is for want of memory, and is tried again.
+/// A memory that begins with a snapshot. Where that is refused, it is for lack of memory, and is tried again.
 fn loaded(rt: &impl Abort, alloc: Global, saved: &Snapshot) -> Result<Memory, MemoryError> {
     match Memory::from_snapshot(alloc, 2, saved) {
         Ok(memory) => Ok(memory),

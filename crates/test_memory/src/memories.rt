@@ -12,7 +12,7 @@ use std::test::Fail;
 
 /// What is done with a memory.
 #[derive(Clone, Copy)]
-pub(crate) enum Deed {
+pub(crate) enum TestAction {
     /// Each line of a script returns what it says.
     Script(&'static str, &'static [Line]),
     /// Each call is made, and made again where it was refused a growth.
@@ -21,7 +21,7 @@ pub(crate) enum Deed {
     Bits,
     /// `/proc` shows it.
     Procfs,
-    /// Calls by chance do to it what they do to a plain map.
+    /// Random calls do to it what they do to a plain map.
     Chance,
 }
 
@@ -36,26 +36,35 @@ fn returns_each(
     Ok(())
 }
 
-fn does(rt: &impl Abort, alloc: Global, memory: &mut Memory, deed: Deed) -> Result<(), Fail> {
-    match deed {
-        Deed::Script(name, script) => Ok(returns_each(rt, memory, name, script)?),
-        Deed::Growths(steps) => {
+fn does(
+    rt: &impl Abort,
+    alloc: Global,
+    memory: &mut Memory,
+    action: TestAction,
+) -> Result<(), Fail> {
+    match action {
+        TestAction::Script(name, script) => Ok(returns_each(rt, memory, name, script)?),
+        TestAction::Growths(steps) => {
             makes_each(rt, memory, steps);
             Ok(())
         }
-        Deed::Bits => has_exact_bits(rt, memory),
-        Deed::Procfs => shows_in_proc(rt, alloc, memory),
-        Deed::Chance => are_alike(rt, memory, &mut BTreeMap::new(alloc)),
+        TestAction::Bits => has_exact_bits(rt, memory),
+        TestAction::Procfs => shows_in_proc(rt, alloc, memory),
+        TestAction::Chance => are_alike(rt, memory, &mut BTreeMap::new(alloc)),
     }
 }
 
 /// Does this with a memory of so many frames. One that is refused is begun again.
-pub(crate) fn run(rt: &(impl Abort + AllocGlobal), frames: usize, deed: Deed) -> Result<(), Fail> {
+pub(crate) fn run(
+    rt: &(impl Abort + AllocGlobal),
+    frames: usize,
+    action: TestAction,
+) -> Result<(), Fail> {
     let alloc = rt.alloc();
     let frames = frames.clamp(1, 65_536);
     let mut memory = match Memory::new(alloc, frames) {
         Ok(memory) => memory,
         Err(_) => Memory::new(alloc, frames)?,
     };
-    does(rt, alloc, &mut memory, deed)
+    does(rt, alloc, &mut memory, action)
 }

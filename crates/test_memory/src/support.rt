@@ -61,7 +61,7 @@ pub(crate) const LAST_SPACE: MemoryError = MemoryError::Denied(AccessError::Refu
 /// What a store returns to a page that isn't mapped.
 pub(crate) const NOT_MAPPED: MemoryError = MemoryError::Denied(AccessError::Segv(Segv::Maperr));
 
-/// What a call on a memory returned. Want of memory alone is an error: it ends a test that is refused memory.
+/// What a call on a memory returned. Out of memory alone is an error: it ends a test that is refused memory.
 pub(crate) fn told<T: Drop>(
     returned: Result<T, MemoryError>,
 ) -> Result<Result<T, MemoryError>, AllocError> {

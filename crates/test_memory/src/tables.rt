@@ -32,7 +32,7 @@ enum Call {
     Clear(u64),
 }
 
-/// A call by chance, on a page near a border of tables.
+/// A random call, on a page near a border of tables.
 fn by_chance(seed: &mut u64) -> Call {
     *seed = seed
         .wrapping_mul(6_364_136_223_846_793_005)
@@ -117,7 +117,7 @@ fn is_plain(memory: &Memory, words: &BTreeMap<u64, u64>) -> bool {
     memory.next_page(place_of(before)).is_none()
 }
 
-/// Whether a call by chance returns what it does on a plain map, and leaves the same pages.
+/// Whether a random call returns what it does on a plain map, and leaves the same pages.
 fn is_alike(
     memory: &mut Memory,
     words: &mut BTreeMap<u64, u64>,
@@ -129,7 +129,7 @@ fn is_alike(
     Ok(returned == wanted && is_plain(memory, words))
 }
 
-/// Calls by chance do to a memory what they do to a plain map.
+/// Random calls do to a memory what they do to a plain map.
 pub(crate) fn are_alike(
     rt: &impl Abort,
     memory: &mut Memory,

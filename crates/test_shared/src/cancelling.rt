@@ -82,7 +82,7 @@ fn cancel_one<R: Wait>(rt: &R, shared: &Shared<Store>) -> bool {
     false
 }
 
-/// Cancels a checkpoint, and then makes one without pre-dumps at once. Returns its number, or 0, and tells that it is
+/// Cancels a checkpoint, and then makes one without pre-dumps at once. Returns its number, or 0, and says that it is
 /// over.
 fn cancel_and_save<R: Wait>(rt: &R, shared: &Shared<Store>, thaws: &Thaws) -> u64 {
     let number = if cancel_one(rt, shared) {

@@ -1,4 +1,4 @@
-//! What is done with a shared core, and the disk that it wants.
+//! What is done with a shared core, and the disk that it needs.
 ghost use Rattle.std.specs.Prelude.{◌≤◌};
 
 use crate::eight::SEATS;
@@ -10,11 +10,11 @@ const CALLS_BEFORE_A_PAGE: u64 = 43;
 /// What is done with a shared core.
 #[derive(Clone, Copy)]
 pub(crate) enum Case {
-    /// A checkpoint, of which all is told.
+    /// A checkpoint, of which all is reported.
     Saved,
     /// A receipt is missing.
     LacksReceipt,
-    /// An acknowledgement too many is told.
+    /// An acknowledgement too many is reported.
     TellsMore,
     /// A merge after a checkpoint.
     Merged,

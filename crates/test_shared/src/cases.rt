@@ -268,7 +268,7 @@ fn is_shown(found: Result<bool, Fault>, wanted: bool) -> bool {
     }
 }
 
-/// Closes with what was told. Returns whether that is answered as it says, and the disk shows what it is to.
+/// Closes with what was said. Returns whether that is answered as it says, and the disk shows what it is to.
 fn closes(alloc: Global, shared: Shared<Store>, told: &Told) -> bool {
     match shared.close(&told.receipts, &told.acks) {
         Ok((core, mut disk)) => {
@@ -298,7 +298,7 @@ fn run<R: Threads + Wait + Clock + Files + Alloc + Abort + Sync>(
     }
 }
 
-/// What one seat and the dumper were told closes; the audit of the run's disk is true, and that of another isn't.
+/// What one seat and the dumper were answered closes; the audit of the run's disk is true, and that of another isn't.
 #[test]
 fn what_was_told_closes(rt: HostRuntime) -> Result<(), Fail> {
     run(&rt, rt.alloc(), Case::Saved)
@@ -341,7 +341,7 @@ fn a_job_has_one_driver(rt: HostRuntime) -> Result<(), Fail> {
     run(&rt, rt.alloc(), Case::Driven)
 }
 
-/// The device fails while all is frozen: whoever waits for the thaw is told that the store is down.
+/// The device fails while all is frozen: whoever waits for the thaw is answered that the store is down.
 #[test]
 fn a_store_that_falls_ends_a_wait(rt: HostRuntime) -> Result<(), Fail> {
     run(&rt, rt.alloc(), Case::Falls)

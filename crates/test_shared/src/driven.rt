@@ -26,7 +26,7 @@ fn begin_with_room<R: Wait>(rt: &R, shared: &Shared<Store>) -> Reply {
     shared.run_dumper(rt, 1, &Free)
 }
 
-/// Begins a checkpoint, and drives it until it is answered. Tells the other thread that it was.
+/// Begins a checkpoint, and drives it until it is answered. Lets the other thread know.
 fn begin<R: Wait>(rt: &R, shared: &Shared<Store>, over: &AtomicU64) -> Reply {
     let reply = begin_with_room(rt, shared);
     over.store(1, Ordering::SeqCst);

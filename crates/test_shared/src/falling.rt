@@ -28,8 +28,8 @@ fn is_frozen(rt: &impl Wait, shared: &Shared<Store>, mutator: &mut Mutator<'_>) 
     )
 }
 
-/// The device fails at the first page's write, in a checkpoint without pre-dumps: whoever waits for the thaw is told
-/// that the store is down, and commands are refused as frozen until it was opened again.
+/// The device fails at the first page's write, in a checkpoint without pre-dumps: whoever waits for the thaw is
+/// answered that the store is down, and commands are refused as frozen until it was opened again.
 pub(crate) fn falls<R: Threads + Wait + Clock + Abort + Sync>(
     rt: &R,
     shared: &Shared<Store>,

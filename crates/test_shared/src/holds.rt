@@ -55,7 +55,7 @@ pub(crate) fn merges_in_13_calls(rt: &(impl Abort + Wait), shared: &Shared<Store
     assert!(rt; calls.load(Ordering::SeqCst) == 13);
 }
 
-/// What a hold and other threads tell each other.
+/// What a hold and other threads say to each other.
 #[derive(Drop)]
 pub(crate) struct Flags {
     /// The call of the first page is held.
@@ -110,7 +110,7 @@ impl<R: Clock> Hold for Gate<'_, R> {
     }
 }
 
-/// A hold that keeps the first page's write for a while, and tells when that begins and ends.
+/// A hold that keeps the first page's write for a while, and says when that begins and ends.
 #[derive(Drop)]
 pub(crate) struct Keeping<'a, R> {
     pub(crate) rt: &'a R,

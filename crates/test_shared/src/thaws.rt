@@ -11,7 +11,7 @@ use std::time::{Clock, Duration};
 /// How often it makes a command, at most.
 const LOADS: u64 = 100_000;
 
-/// What a thread that waits, and others, tell each other.
+/// What a thread that waits, and others, say to each other.
 #[derive(Drop)]
 pub(crate) struct Thaws {
     /// Whether it waits for a thaw.
@@ -58,7 +58,7 @@ fn load_once<R: Wait + Clock>(
     }
 }
 
-/// Loads until it is told to end, and waits for each thaw. Nobody but a worker or a cancel wakes it. Returns whether
+/// Loads until it is to end, and waits for each thaw. Nobody but a worker or a cancel wakes it. Returns whether
 /// each came.
 pub(crate) fn wait_for_thaws<R: Wait + Clock>(
     rt: &R,

@@ -26,7 +26,7 @@ struct Seen {
     /// How many calls there were, and the sum of their numbers.
     calls: AtomicU64,
     sum: AtomicU64,
-    /// Whether it was called for the second page's write.
+    /// Whether it was asked for the second page's write.
     second: AtomicU64,
     /// Whether the first page's write wasn't held until then.
     missed: AtomicU64,
@@ -43,7 +43,7 @@ impl Seen {
     }
 }
 
-/// A hold that keeps the first page's write until it is called for the second's.
+/// A hold that keeps the first page's write until it is asked for the second's.
 #[derive(Drop)]
 struct Keeping<'a, R> {
     rt: &'a R,

@@ -2,7 +2,7 @@
 use crate::picks::{RULES, Rule};
 use crate::plans::{file_of, is_image, roomy, write_image};
 use sd_disk::{Fused, MemDisk};
-use sd_gate::{Settled, SlotState, cuts_fit, inspection_tells, plans_take};
+use sd_gate::{Settled, SlotState, cuts_fit, inspection_finds_phase, plans_take};
 use std::alloc::{AllocError, Global};
 use std::mem::forget;
 use std::test::Fail;
@@ -94,7 +94,7 @@ fn fails_in_turn(alloc: Global, state: SlotState, drops: bool) -> Result<bool, A
 
 #[test]
 fn each_call_fails_in_turn(rt: HostRuntime) -> Result<(), Fail> {
-    inspection_tells();
+    inspection_finds_phase();
     plans_take();
     for (state, drops) in FAILURES {
         assert!(rt; fails_in_turn(rt.alloc(), state, drops)?);

@@ -14,7 +14,7 @@ mod drive;
 #[cfg(test)]
 mod moment;
 #[cfg(test)]
-mod slot_deeds;
+mod slot_actions;
 #[cfg(test)]
 mod slots;
 #[cfg(test)]

@@ -109,7 +109,7 @@ fn ask(alloc: Global, world: &mut Tested, request: &str) -> Result<Reply, AllocE
     }
 }
 
-/// A reply is printed as a line wants it.
+/// A reply is printed as a line needs it.
 fn is_printed(rt: &impl Abort, alloc: Global, reply: &Reply, line: &str) -> Result<(), AllocError> {
     let (_, wanted) = line.split_once(" = ").unwrap_or((line, ""));
     let text = format!(in alloc; "{reply}")?;

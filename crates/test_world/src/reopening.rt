@@ -37,7 +37,7 @@ fn step<D: Disk>(opener: &mut Opener, disk: &mut D, calls: u64) -> Stepped {
     }
 }
 
-/// Each of so many steps of the opener makes a device call, and the one after them tells that every slot was read.
+/// Each of so many steps of the opener makes a device call, and the one after them says that every slot was read.
 fn reads_all<D: Disk>(rt: &impl Abort, opener: &mut Opener, disk: &mut D, most: u64) {
     for calls in 0..most {
         assert_eq!(rt; step(opener, disk, calls), Stepped::Call);

@@ -64,7 +64,7 @@ fn run(
     }
 }
 
-/// Asks what the parts say of a world over a store, and tells why it wasn't opened, if it wasn't.
+/// Asks what the parts say of a world over a store, and says why it wasn't opened, if it wasn't.
 pub(crate) fn fault_of(
     rt: &impl Abort,
     alloc: Global,

@@ -74,7 +74,7 @@ impl Account {
         &self.memory
     }
 
-    /// Whether the next command tells if the last step of the dumper froze the memory.
+    /// Whether the next command says if the last step of the dumper froze the memory.
     pub(crate) fn asks(&self) -> bool {
         self.may_freeze && self.pending.is_none()
     }

@@ -1,4 +1,4 @@
-//! Runs by chance.
+//! Random runs.
 use crate::chance::Chance;
 use crate::course::{Course, Job};
 use crate::figures::Figures;
@@ -34,7 +34,7 @@ const READ_WRITE: Prot = Prot {
     execute: false,
 };
 
-/// Permissions by chance: in most cases those to read and to write.
+/// Random permissions: in most cases those to read and to write.
 fn prot(chance: &mut Chance) -> Prot {
     Prot::from_bits(chance.below(24) as u8).unwrap_or(READ_WRITE)
 }
@@ -94,7 +94,7 @@ fn with_bytes(space: SpaceId, address: u64, bytes: Bytes, chance: &mut Chance) -
     }
 }
 
-/// A command by chance.
+/// A random command.
 fn command(alloc: Global, course: &Course, chance: &mut Chance) -> Result<Command, AllocError> {
     let space = SpaceId::new(1 + chance.below(3));
     Ok(match chance.below(16) {
@@ -105,7 +105,7 @@ fn command(alloc: Global, course: &Course, chance: &mut Chance) -> Result<Comman
     })
 }
 
-/// A worker by chance.
+/// A random worker.
 fn worker(chance: &mut Chance) -> Worker {
     match chance.below(6) {
         0 => Worker::Merger,
@@ -124,7 +124,7 @@ fn for_job(course: &Course, chance: &mut Chance) -> Event {
     }
 }
 
-/// An event by chance.
+/// A random event.
 fn event(alloc: Global, course: &Course, chance: &mut Chance) -> Result<Event, AllocError> {
     Ok(match chance.below(240) {
         0..=49 => Event::Command {
@@ -155,7 +155,7 @@ fn failing(chance: &mut Chance) -> Failing {
     }
 }
 
-/// Makes events by chance, up to the end of a run.
+/// Makes random events, up to the end of a run.
 fn go_on(
     alloc: Global,
     course: &mut Course,
@@ -194,7 +194,7 @@ fn run(
     }
 }
 
-/// Crashes a run everywhere. Returns what a crash by chance leaves after some of its steps.
+/// Crashes a run everywhere. Returns what a random crash leaves after some of its steps.
 fn crash(
     alloc: Global,
     record: &Record,
@@ -210,11 +210,11 @@ fn crash(
     ];
     record.crash_everywhere(&rules, figures)?;
     let count = chance.below((record.count() as u64).max(1)) as usize;
-    let left = record.disk_behind(count)?;
+    let left = record.disk_after(count)?;
     Ok(left.crash(alloc, &mut Rule::ByChance(*chance))?)
 }
 
-/// Makes a run over a store and crashes it. Returns what a crash by chance leaves.
+/// Makes a run over a store and crashes it. Returns what a random crash leaves.
 fn run_and_crash(
     alloc: Global,
     start: MemDisk,
@@ -225,14 +225,14 @@ fn run_and_crash(
     crash(alloc, &record, chance, figures)
 }
 
-/// An empty store of a size by chance.
+/// An empty store of a random size.
 fn store(alloc: Global, chance: &mut Chance) -> Result<MemDisk, Trouble> {
     let slots = 2 + chance.below(7) as usize;
     let bytes = 16_384 + 4_096 * chance.below(5) as usize;
     Ok(MemDisk::new(alloc, slots, bytes, CALLS)?)
 }
 
-/// A list of events by chance over a store by chance, then another one over what a crash of it left by chance, and so
+/// A random list of events over a random store, then another one over what a crash of it left at random, and so
 /// on. After each device call the disk is crashed, and what is restored is compared with what the replies allow.
 ///
 /// # Errors

@@ -1,7 +1,7 @@
-//! Numbers by chance, the same in each run.
+//! Random numbers, the same in each run.
 ghost use Rattle.std.specs.Prelude.{◌<◌, ◌≤◌};
 
-/// A row of numbers by chance.
+/// A row of random numbers.
 #[derive(Clone, Copy)]
 pub(crate) struct Chance {
     seed: u64,

@@ -12,7 +12,7 @@ use sd_gate::Worker;
 use sd_world::Event;
 use std::alloc::Global;
 
-/// What a run does next where nothing is done by chance.
+/// What a run does next where nothing is done at random.
 #[derive(Clone, Copy, PartialEq, Eq)]
 pub(crate) enum Job {
     /// The store isn't open.
@@ -160,7 +160,7 @@ impl Course {
         self.account.memory()
     }
 
-    /// Makes an event, and loads a byte where that tells whether the memory is frozen now.
+    /// Makes an event, and loads a byte where that says whether the memory is frozen now.
     pub(crate) fn step(&mut self, event: Event, figures: &mut Figures) -> Result<(), Trouble> {
         self.make(event, figures)?;
         if self.account.asks() {

@@ -194,7 +194,7 @@ fn images_of(lines: &[Line]) -> u64 {
     images
 }
 
-/// An empty store with no more room than lines want that are played over the store that others leave: each crash takes
+/// An empty store with no more room than lines need that are played over the store that others leave: each crash takes
 /// all of it once more.
 fn empty(alloc: Global, before: &[Line], lines: &[Line]) -> Result<MemDisk, AllocError> {
     let pages = pages_of(before).max(pages_of(lines));
@@ -223,7 +223,7 @@ pub fn store_of(alloc: Global, before: &[Line], lines: &[Line]) -> Result<MemDis
 
 /// The store at the end of a run, synced.
 fn end_of(alloc: Global, record: &Record) -> Result<MemDisk, Trouble> {
-    let disk = record.disk_behind(record.count())?;
+    let disk = record.disk_after(record.count())?;
     Ok(disk.crash(alloc, &mut Rule::Now)?)
 }
 

@@ -61,7 +61,7 @@ impl Record {
         Ok(Lab::open(self.alloc, disk, self.failing))
     }
 
-    /// What the replies of the run say before its first event. A world that opened the store tells what a copy of
+    /// What the replies of the run say before its first event. A world that opened the store says what a copy of
     /// the store restores to.
     pub(crate) fn account(&self) -> Result<Account, Trouble> {
         match self.shown_at_first()? {
@@ -108,7 +108,7 @@ impl Record {
     }
 
     /// The disk after so many steps, which are made again.
-    pub(crate) fn disk_behind(&self, count: usize) -> Result<MemDisk, Trouble> {
+    pub(crate) fn disk_after(&self, count: usize) -> Result<MemDisk, Trouble> {
         match self.open()? {
             Ok(mut lab) => {
                 let same = self.is_made_again(&mut lab, count);
@@ -160,7 +160,7 @@ impl Record {
         rules: &[Rule],
         figures: &mut Figures,
     ) -> Result<(), Trouble> {
-        let disk = self.disk_behind(count)?;
+        let disk = self.disk_after(count)?;
         self.crash(&disk, account, rules, figures)
     }
 

@@ -13,7 +13,7 @@ pub(crate) enum Rule {
     Least(u8),
     /// The greatest lengths, and this byte at each place that may hold any.
     Greatest(u8),
-    /// Each length and byte by chance one of those above.
+    /// Each length and byte is one of those above, at random.
     ByChance(Chance),
 }
 

@@ -154,7 +154,8 @@ pub(crate) fn prepare<D: Disk + Drop>(
     Ok(())
 }
 
-/// Makes the checkpoint, tells the seats that it has ended, and returns how long it took, where the clock can be read.
+/// Makes the checkpoint, lets the seats know that it has ended, and returns how long it took, where the clock can be
+/// read.
 fn save<R: Wait + Clock>(
     rt: &R,
     shared: &Shared<MemDisk>,

@@ -23,7 +23,8 @@ ghost use Rattle.sd_gate.specs.Calls.{is_done};
 
 use super::Core;
 use crate::dumping::{
-    begin_next, enter_catalog, is_committing, is_swept, leave_catalog, release_unfrozen, step_on,
+    begin_next, enter_catalog, has_ended_its_pass, is_committing, leave_catalog, release_unfrozen,
+    step_on,
 };
 use crate::following::{Followed, follow_outcome};
 use crate::lanes::{DUMPER, page_lane, put_out};
@@ -167,7 +168,7 @@ impl Core {
             }
             ImageStep::TableCall(request) => {
                 self.journal.note(Mark::Table(serial));
-                self.swept = is_swept(self.swept, &self.dumper);
+                self.swept = has_ended_its_pass(self.swept, &self.dumper);
                 self.numbers.tick();
                 put_out(&mut self.outs, DUMPER, Some(request.id()));
                 self.committing = is_committing(self.committing, &self.dumper, request.id().call);

@@ -19,7 +19,7 @@ use super::Core;
 use crate::following::follow_outcome;
 use crate::lanes::{OPENER, put_out};
 use crate::opening::{
-    let_go, read_by, release_for_opening, step_opener, swept_checkpoint, take_opener, teach,
+    let_go, read_by, release_for_opening, step_opener, take_opener, teach, visited_checkpoint,
 };
 use crate::taken::Taken;
 use sd_command::{Refusal, Reply};
@@ -91,7 +91,7 @@ impl Core {
         let Some((opened, found)) = read_by(
             opener,
             self.last,
-            swept_checkpoint(self.swept, self.pending),
+            visited_checkpoint(self.swept, self.pending),
         ) else {
             release_for_opening(&mut self.journal, self.pending);
             return Reply::Refused(Refusal::Damaged);

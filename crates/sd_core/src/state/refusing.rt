@@ -1,7 +1,7 @@
 //! Why calls of a core are refused.
 ghost use Rattle.std.specs.Prelude.{◌≡◌};
-ghost use Rattle.sd_core.specs.Refusals.{cancel_refusal, cant_cancel, has_checkpoint, is_in_use, must_wait};
-ghost use Rattle.sd_core.specs.Refusals.{must_wait_for_pages, reopen_refusal, wants_entry, work_refusal};
+ghost use Rattle.sd_core.specs.Refusals.{cancel_refusal, cant_cancel, has_checkpoint, is_store_busy, must_wait};
+ghost use Rattle.sd_core.specs.Refusals.{must_wait_for_pages, reopen_refusal, needs_entry, work_refusal};
 
 use super::Core;
 use crate::beginning::first_of;
@@ -39,15 +39,15 @@ impl Core {
     }
 
     /// Whether the store is open, an opener runs, or a request is out.
-    fn is_in_use(&self) -> bool
-        ensures { result ≡ is_in_use self.now }
+    fn is_store_busy(&self) -> bool
+        ensures { result ≡ is_store_busy self.now }
     {
         is_open(self.standing) || self.opener.is_some() || !is_nobody_out(&self.outs)
     }
 
     /// Whether no entry is held for a pending checkpoint, and none is free.
-    fn wants_entry(&self) -> bool
-        ensures { result ≡ wants_entry self.now }
+    fn needs_entry(&self) -> bool
+        ensures { result ≡ needs_entry self.now }
     {
         self.pending.is_none() && self.journal.free() == 0
     }
@@ -57,8 +57,8 @@ impl Core {
         ensures { result ≡ reopen_refusal self.now }
     {
         first_of(&[
-            (self.is_in_use(), Refusal::Busy),
-            (self.wants_entry(), Refusal::JournalFull),
+            (self.is_store_busy(), Refusal::Busy),
+            (self.needs_entry(), Refusal::JournalFull),
         ])
     }
 

@@ -1,4 +1,4 @@
-//! What a core tells of its run, and what is so of every core.
+//! What a core says of its run, and what is so of every core.
 ghost use Rattle.std.specs.Prelude.{◌≡◌, ◌≢◌, ◌↔◌, ◌<◌, ◌≤◌, ℕ, true, None, Some, IfSome, IsSome, IsTrue, MatchOption};
 ghost use Rattle.std.specs.Prelude.{is_some, slice_get};
 ghost use Rattle.sd_areas.specs.Memory.{memory_of};

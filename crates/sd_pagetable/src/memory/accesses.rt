@@ -18,8 +18,9 @@ impl Memory {
     ghost use Rattle.sd_pagetable.specs.Page.{PageState};
     ghost use Rattle.sd_pagetable.specs.Contents.{page_at, plain_of};
     ghost use Rattle.sd_pagetable.specs.Effects.{after_store};
-    ghost use Rattle.sd_pagetable.specs.Due.{answer, Answers, needs_frame, page_due, access_due, fault_due, store_due};
-    ghost use Rattle.sd_pagetable.specs.Due.{try_outcome};
+    ghost use Rattle.sd_pagetable.specs.RefusalOrder.{answer, Answers, needs_frame, page_refusal, access_refusal};
+    ghost use Rattle.sd_pagetable.specs.RefusalOrder.{fault_refusal, store_refusal};
+    ghost use Rattle.sd_pagetable.specs.RefusalOrder.{try_outcome};
     ghost use Rattle.sd_pagetable.specs.Tracking.{Step, Faulted, Tried as TriedEvent, Stored};
     ghost use Rattle.sd_pagetable.specs.View.{HasEntry};
     ghost use Rattle.sd_pagetable.specs.declared.memory_error.MemoryError.TheVariants.{OutOfMemory};
@@ -39,10 +40,10 @@ impl Memory {
         ensures within { IfOk result (λ place. place.offset + bytes ≤ 4096) }
         ensures entry { IfOk result (λ place. HasEntry self.now space place.page place.entry) }
         ensures permitted { OnOk result
-            (page_due need (value_at (plain_of self.now) space (page_of address)) ≡ None) }
-        ensures ok { OnOk result (access_due (plain_of self.now) space address bytes need ≡ None) }
+            (page_refusal need (value_at (plain_of self.now) space (page_of address)) ≡ None) }
+        ensures ok { OnOk result (access_refusal (plain_of self.now) space address bytes need ≡ None) }
         ensures refused { IfErr result
-            (λ denied. access_due (plain_of self.now) space address bytes need ≡ Some denied) }
+            (λ denied. access_refusal (plain_of self.now) space address bytes need ≡ Some denied) }
     {
         if !self.paging.is_alive(space) {
             return Err(AccessError::Refused(MemoryRefusal::NoSuchSpace));
@@ -69,9 +70,9 @@ impl Memory {
         ensures page { IfOk result (λ found. found.0 ≡ page_of address) }
         ensures entry { IfOk result (λ found. HasEntry self.now space found.0 found.1) }
         ensures ok { OnOk result
-            (page_due need (value_at (plain_of self.now) space (page_of address)) ≡ None) }
+            (page_refusal need (value_at (plain_of self.now) space (page_of address)) ≡ None) }
         ensures refused { IfErr result
-            (λ denied. page_due need (value_at (plain_of self.now) space (page_of address))
+            (λ denied. page_refusal need (value_at (plain_of self.now) space (page_of address))
             ≡ Some denied) }
     {
         let Some(found) = self.paging.find(space, address) else {
@@ -93,7 +94,7 @@ impl Memory {
     /// where the page isn't mapped; accerr where it can't be read. An error leaves the buffer.
     pub fn load(&self, space: SpaceId, address: u64, buffer: &mut [u8]) -> Result<(), AccessError>
         ensures due { result
-            ≡ answer (access_due (plain_of self.now) space address (length buffer.old) Read) tt }
+            ≡ answer (access_refusal (plain_of self.now) space address (length buffer.old) Read) tt }
         ensures bytes { OnOk result
             (IfSome (page_at self.now space (page_of address)) (λ (page : PageState).
             buffer.new ≡ slice_range page.bytes (address % 4096)
@@ -146,10 +147,10 @@ impl Memory {
     /// where a needed frame can't be allocated: only a page that isn't alone in a frame needs one.
     /// An error changes nothing.
     pub fn fault(&mut self, space: SpaceId, address: u64) -> Result<(), MemoryError>
-        ensures due { Answers (fault_due self.old space address) result }
+        ensures due { Answers (fault_refusal self.old space address) result }
         ensures needed { result ≡ Err OutOfMemory
             → needs_frame self.old (page_at self.old space (page_of address)) ≡ true }
-        ensures tested { result ≡ Err OutOfMemory → fault_due self.old space address ≡ None }
+        ensures tested { result ≡ Err OutOfMemory → fault_refusal self.old space address ≡ None }
         ensures step { OnOk result (Step self.old (Faulted space (page_of address)) self.new) }
         ensures memory { plain_of self.new ≡ plain_of self.old }
         ensures err { OnErr result (self.new ≡ self.old) }
@@ -173,11 +174,11 @@ impl Memory {
         address: u64,
         bytes: &[u8],
     ) -> Result<(), MemoryError>
-        ensures due { Answers (store_due self.old space address (length bytes.now)) result }
+        ensures due { Answers (store_refusal self.old space address (length bytes.now)) result }
         ensures needed { result ≡ Err OutOfMemory
             → needs_frame self.old (page_at self.old space (page_of address)) ≡ true }
         ensures tested { result ≡ Err OutOfMemory
-            → store_due self.old space address (length bytes.now) ≡ None }
+            → store_refusal self.old space address (length bytes.now) ≡ None }
         ensures step { OnOk result
             (Step self.old (Stored space (page_of address) (address % 4096) bytes.now) self.new) }
         ensures memory { OnOk result

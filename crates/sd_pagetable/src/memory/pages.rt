@@ -39,7 +39,7 @@ impl Memory {
         Some(entry.soft_dirty)
     }
 
-    /// Copies one of a page's eight sectors of 512 bytes, 0 to 7, and tells whether the page is
+    /// Copies one of a page's eight sectors of 512 bytes, 0 to 7, and says whether the page is
     /// mapped. Where it isn't, the sector stays. It takes no memory.
     pub fn read_sector(
         &self,

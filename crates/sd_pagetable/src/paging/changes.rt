@@ -9,7 +9,7 @@ ghost use Rattle.sd_pagetable.specs.Contents.{page_at, put_page, remove_page, is
 ghost use Rattle.sd_pagetable.specs.Access.{stored_at};
 ghost use Rattle.std.specs.Prelude.{Err};
 ghost use Rattle.sd_pagetable.specs.declared.memory_error.MemoryError.TheVariants.{OutOfMemory};
-ghost use Rattle.sd_pagetable.specs.Due.{Answers, frame_due, needs_frame};
+ghost use Rattle.sd_pagetable.specs.RefusalOrder.{Answers, frame_refusal, needs_frame};
 ghost use Rattle.std.specs.Prelude.{◌-◌};
 ghost use Rattle.std.specs.Option.{option_map};
 ghost use Rattle.sd_pagetable.specs.Ranges.{bare_page};
@@ -286,11 +286,11 @@ impl Paging {
             (MakesWritable self.old space page (λ bytes. bytes) self.new) }
         ensures entry { IfOk result (λ made. HasEntry self.new space page made) }
         ensures stores { IfOk result (λ made. made.writable ≡ true) }
-        ensures due { Answers (frame_due self.old (page_at self.old space page)) result }
+        ensures due { Answers (frame_refusal self.old (page_at self.old space page)) result }
         ensures needed { result ≡ Err OutOfMemory
             → needs_frame self.old (page_at self.old space page) ≡ true }
         ensures tested { result ≡ Err OutOfMemory
-            → frame_due self.old (page_at self.old space page) ≡ None }
+            → frame_refusal self.old (page_at self.old space page) ≡ None }
         ensures err { OnErr result (self.new ≡ self.old) }
     {
         let _mapped = self.mapped;

@@ -15,7 +15,7 @@ impl<D: Disk> World<D> {
         ensures { IsStep D.Disk (CommandEvent seat command) self.old result self.new }
     {
         store_laws();
-        self.made_tells();
+        self.made_event_laws();
         world_laws(&self.core, &self.disk);
         let told = self.core.apply_owned(seat, command);
         world_laws(&self.core, &self.disk);

@@ -36,7 +36,7 @@ impl<D: Disk> World<D> {
             × (end ≡ pass_end.AnotherIsNext → HasNoPassStep self.new.core)) }
     {
         store_laws();
-        self.made_tells();
+        self.made_event_laws();
         world_laws(&self.core, &self.disk);
         let Ok(passed) = self.core.pass() else {
             return Some(PassEnd::OutOfMemory);

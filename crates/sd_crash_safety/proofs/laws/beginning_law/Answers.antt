@@ -3,4 +3,4 @@ use Rattle.sd_crash_safety.proofs.laws.beginning_law.Goals as goal
 
 pub returns : goal.returns
 returns c = beginning_lem c.gate_steps.ensures c.needs_no_more.ensures c.needed_is_reached.ensures c.args.catalog.now
-    c.catalog_in_use_tells.ensures c.told_reaches_so.ensures c.agrees.ensures
+    c.live_catalog_agrees.ensures c.recorded_reaches_so.ensures c.agrees.ensures

@@ -9,15 +9,15 @@ returns c = record {
   goes_on = goes_on_lem c.quiet_steps.ensures c.gate_steps.ensures c.making_law.ensures c.merge_law.ensures c.merged_file_law.ensures c.closing_retires.ensures c.steps_keep.ensures
       c.steps_give.ensures c.needs_no_more.ensures c.catalog_follows.ensures c.cut_holds_the_same.ensures c.page_in_file.ensures;
   opens = opens_lem c.quiet_steps.ensures c.gate_steps.ensures c.making_law.ensures c.steps_keep.ensures c.steps_give.ensures c.needs_no_more.ensures c.catalog_follows.ensures
-      c.plans_lead.ensures c.needed_is_reached.ensures c.args.catalog.now c.catalog_in_use_tells.ensures c.told_reaches_so.ensures c.agrees.ensures;
+      c.plans_lead.ensures c.needed_is_reached.ensures c.args.catalog.now c.live_catalog_agrees.ensures c.recorded_reaches_so.ensures c.agrees.ensures;
   copies = copies_lem c.quiet_steps.ensures c.gate_steps.ensures c.making_law.ensures c.steps_keep.ensures c.steps_give.ensures c.needs_no_more.ensures c.catalog_follows.ensures
-      c.plans_lead.ensures c.needed_is_reached.ensures c.source_reaches_needed.ensures c.merged_file_law.ensures c.args.catalog.now c.catalog_in_use_tells.ensures
-      c.told_reaches_so.ensures c.agrees.ensures;
+      c.plans_lead.ensures c.needed_is_reached.ensures c.source_reaches_needed.ensures c.merged_file_law.ensures c.args.catalog.now c.live_catalog_agrees.ensures
+      c.recorded_reaches_so.ensures c.agrees.ensures;
   rests = rests_lem c.quiet_steps.ensures c.gate_steps.ensures c.making_law.ensures c.steps_keep.ensures c.steps_give.ensures c.needs_no_more.ensures c.catalog_follows.ensures
-      c.plans_lead.ensures c.needed_is_reached.ensures c.source_reaches_needed.ensures c.merged_file_law.ensures c.args.catalog.now c.catalog_in_use_tells.ensures
-      c.told_reaches_so.ensures c.agrees.ensures;
+      c.plans_lead.ensures c.needed_is_reached.ensures c.source_reaches_needed.ensures c.merged_file_law.ensures c.args.catalog.now c.live_catalog_agrees.ensures
+      c.recorded_reaches_so.ensures c.agrees.ensures;
   orderly = orderly_lem c.quiet_steps.ensures c.gate_steps.ensures c.making_law.ensures c.steps_keep.ensures c.steps_give.ensures c.needs_no_more.ensures c.catalog_follows.ensures
-      c.plans_lead.ensures c.needed_is_reached.ensures c.args.catalog.now c.catalog_in_use_tells.ensures c.told_reaches_so.ensures c.agrees.ensures;
+      c.plans_lead.ensures c.needed_is_reached.ensures c.args.catalog.now c.live_catalog_agrees.ensures c.recorded_reaches_so.ensures c.agrees.ensures;
   cuts = cuts_lem c.quiet_steps.ensures c.gate_steps.ensures c.making_law.ensures c.closing_retires.ensures c.steps_keep.ensures c.steps_give.ensures c.needs_no_more.ensures
       c.catalog_follows.ensures c.cut_holds_the_same.ensures c.plans_lead.ensures;
   retires = retires_lem c.quiet_steps.ensures c.gate_steps.ensures c.making_law.ensures c.closing_retires.ensures c.steps_keep.ensures c.steps_give.ensures c.needs_no_more.ensures

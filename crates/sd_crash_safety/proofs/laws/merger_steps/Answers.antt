@@ -11,7 +11,7 @@ returns c =
     let places = c.args.catalog.now in
     let knows : KnowsCatalog places = record {
       sound = c.sound.ensures;
-      tells = c.catalog_in_use_tells.ensures;
+      tells = c.live_catalog_agrees.ensures;
       agrees = c.agrees.ensures;
       page = c.page_in_file.ensures;
     } in

@@ -1,7 +1,7 @@
 use Rattle.std.proofs.Common.{◌≡◌, ◌-◌, ◌≤◌, ◌^◌, ℕ, length}
 use Rattle.sd_disk.specs.Reads.{OnlyReads}
 use Rattle.sd_diff.specs.Difference.{Adds}
-use Rattle.sd_diff.specs.Held.{AreRising, EndsBehind, held_at}
+use Rattle.sd_diff.specs.Held.{AreRising, EndsAfter, held_at}
 use Rattle.sd_diff.specs.Spaces.{ArePagesOf}
 use Rattle.sd_diff.proofs.spaces.diff_space.Given as goal
 
@@ -12,8 +12,8 @@ invariant-loop-at g l = record {
   reads : OnlyReads g.D.Disk l.fn.disk l.disk;
   old_runs : ArePagesOf (length (g.D.Disk.contents l.fn.disk)) l.before;
   new_runs : ArePagesOf (length (g.D.Disk.contents l.fn.disk)) l.after;
-  old_ahead : EndsBehind l.at l.before;
-  new_ahead : EndsBehind l.at l.after;
+  old_ahead : EndsAfter l.at l.before;
+  new_ahead : EndsAfter l.at l.after;
   old_same : (page : ℕ) → l.at ≤ page → held_at l.before page ≡ held_at l.fn.old page;
   new_same : (page : ℕ) → l.at ≤ page → held_at l.after page ≡ held_at l.fn.new page;
   old_rising : AreRising l.fn.old → AreRising l.before;

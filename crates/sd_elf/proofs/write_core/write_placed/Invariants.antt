@@ -5,7 +5,7 @@ use Rattle.sd_restore.specs.Placed.{placed_pages}
 use Rattle.sd_elf.specs.Files.{TakesFiles, placed_cores}
 use Rattle.sd_elf.proofs.write_core.write_placed.Given as goal
 
--- the disk was only read, and the files of the spaces so far that are wanted were taken
+-- the disk was only read, and the files of the spaces so far that are asked for were taken
 abbrev pub invariant-loop-space : goal.invariant-loop-space
 invariant-loop-space g l = record {
   reads : OnlyReads g.D.Disk l.fn.disk l.disk;

@@ -17,7 +17,7 @@ returns-in-Ok-clause-exits g c =
 pub returns-in-Err-clause-exits : goal.returns-in-Err-clause-exits
 returns-in-Err-clause-exits g c =
     let from = g.W.Write.contents c.args.out.now.writer in
-    let told = c.told_status-wanted in
+    let told = c.status_of_stop-wanted in
     let done = c.finish-in-Err in
     let to = g.W.Write.contents done.new.self.writer in
     let why : Stop = c.in-Err.stop in

@@ -1,6 +1,6 @@
 use Rattle.std.proofs.Common.{true, false, sym, ap, subst, ◌∙◌}
 use Rattle.sd_pagetable.specs.Contents.{plain_of}
-use Rattle.sd_pagetable.specs.Due.{answer}
+use Rattle.sd_pagetable.specs.RefusalOrder.{answer}
 use Rattle.sd_pagetable.specs.Kept.{HasAreas}
 use Rattle.sd_pagetable.proofs.ForkCalls.{exit_dead, exit_alive, is_one, is_not_one, plain_ended, areas_ended}
 use Rattle.sd_pagetable.proofs.fork_calls.exit.Goals as goal

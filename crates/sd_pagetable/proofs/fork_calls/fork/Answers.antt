@@ -1,7 +1,7 @@
 use Rattle.std.proofs.Common.{sym, subst, ◌∙◌, arith}
 use Rattle.sd_pagetable.specs.Kept.{HasAreas}
 use Rattle.sd_pagetable.proofs.MemoryLemmas.{plain_alive}
-use Rattle.sd_pagetable.proofs.RangeDue.{many_pages, few_pages}
+use Rattle.sd_pagetable.proofs.RangeRefusals.{many_pages, few_pages}
 use Rattle.sd_pagetable.proofs.ForkCalls.{fork_dead, fork_alive, is_sixteen, is_fewer, space_pages, apart_from, areas_back, areas_forked, plain_forked}
 use Rattle.sd_pagetable.proofs.fork_calls.fork.Goals as goal
 

@@ -13,7 +13,7 @@ use Rattle.sd_pagetable.specs.declared.memory_refusal.MemoryRefusal.TheVariants.
 use Rattle.sd_pagetable.specs.declared.memory_error.MemoryError.{MemoryError}
 use Rattle.sd_pagetable.specs.declared.memory_error.MemoryError.TheVariants.{Denied as DeniedError, OutOfMemory}
 use Rattle.sd_pagetable.specs.AreaErrors.{error_of}
-use Rattle.sd_pagetable.specs.Due.{prots_in}
+use Rattle.sd_pagetable.specs.RefusalOrder.{prots_in}
 use Rattle.sd_pagetable.specs.Loaded.{is_over_in_space}
 use Rattle.sd_pagetable.proofs.SnapshotLemmas.{same_prots, within_ok, within_err}
 use Rattle.sd_pagetable.proofs.loading.areas_in.Goals as goal
@@ -28,7 +28,7 @@ by_areas space es many some least h =
 Errs : {T : Type 0} → Result T MemoryError → List (ℕ × SnapshotPage) → Type 0
 Errs {T} r es = (e : MemoryError) × (r ≡ Err e) × ((e ≡ OutOfMemory) ⊎ ((e ≡ DeniedError (Refused Enomem)) × (nat_lt 1024 (length (areas_of (snapshot_prots es))) ≡ true)))
 
-errs : {T : Type 0} (r : Result T MemoryError) (es : List (ℕ × SnapshotPage)) (area : AreaError) (e : MemoryError) → r ≡ Err e → e ≡ error_of area → area_calls.RefusesAsDue (within_areas (snapshot_prots es)) area → Errs r es
+errs : {T : Type 0} (r : Result T MemoryError) (es : List (ℕ × SnapshotPage)) (area : AreaError) (e : MemoryError) → r ≡ Err e → e ≡ error_of area → area_calls.RefusesInOrder (within_areas (snapshot_prots es)) area → Errs r es
 unfolding Errs
 errs r es area e h g a = (e, h, subst (λ (x : MemoryError). (x ≡ OutOfMemory) ⊎ ((x ≡ DeniedError (Refused Enomem)) × (nat_lt 1024 (length (areas_of (snapshot_prots es))) ≡ true))) (sym g) (within_err (snapshot_prots es) area a))
 

@@ -3,7 +3,7 @@ use Rattle.sd_pagetable.specs.Nested.{is_alive}
 use Rattle.sd_pagetable.specs.Page.{fresh_page}
 use Rattle.sd_pagetable.specs.Contents.{Contents}
 use Rattle.sd_pagetable.proofs.RangeSteps.{alive_with}
-use Rattle.sd_pagetable.proofs.RangeDue.{filled_back, hole_lacks}
+use Rattle.sd_pagetable.proofs.RangeRefusals.{filled_back, hole_lacks}
 use Rattle.sd_pagetable.proofs.range_calls.fill_holes.Goals as goal
 
 pub unfill-requires-clause-alive : goal.unfill-requires-clause-alive

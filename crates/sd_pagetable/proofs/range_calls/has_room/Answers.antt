@@ -1,6 +1,6 @@
 use Rattle.std.proofs.Common.{arith}
 use Rattle.sd_pagetable.proofs.PlainRanges.{run_is_mapped, mapped_count}
-use Rattle.sd_pagetable.proofs.RangeDue.{is_at_most, is_above}
+use Rattle.sd_pagetable.proofs.RangeRefusals.{is_at_most, is_above}
 use Rattle.sd_pagetable.proofs.range_calls.has_room.Goals as goal
 
 pub returns-then-end-first-gt-MAPPED_PAGE_LIMIT-clause-full : goal.returns-then-end-first-gt-MAPPED_PAGE_LIMIT-clause-full

@@ -4,11 +4,11 @@ use Rattle.sd_areas.specs.Pages.{page_of, pages_for}
 use Rattle.sd_pagetable.specs.Nested.{inside, is_alive, set_within}
 use Rattle.sd_pagetable.specs.Page.{fresh_page}
 use Rattle.sd_pagetable.specs.Contents.{Contents}
-use Rattle.sd_pagetable.specs.Due.{area_due, or_else}
-use Rattle.sd_pagetable.specs.RangeCalls.{Refuses, pages_due}
+use Rattle.sd_pagetable.specs.RefusalOrder.{area_refusal, or_else}
+use Rattle.sd_pagetable.specs.RangeCalls.{Refuses, pages_refusal}
 use Rattle.sd_pagetable.specs.Tracking.{with_space}
 use Rattle.sd_pagetable.proofs.RangeSteps.{alive_with}
-use Rattle.sd_pagetable.proofs.RangeDue.{filled_back, filled_there, renewed_run}
+use Rattle.sd_pagetable.proofs.RangeRefusals.{filled_back, filled_there, renewed_run}
 use Rattle.sd_pagetable.proofs.AreaCalls.{pages_refused, passed_on}
 use Rattle.sd_pagetable.proofs.range_calls.map_in.Goals as goal
 
@@ -19,8 +19,8 @@ returns-in_err-fill_holes-clause-due c =
     let gives : map_result c.args.own.now c.args.address c.args.bytes c.args.prot ≡ within_areas (set_pages c.args.own.now c.in_ok-range.range.first c.in_ok-range.range.count c.args.prot) =
     passed_on _ _ _ c.in_ok-range.range (λ range. (pages : _) (prot : _) → map_result pages c.args.address c.args.bytes prot ≡ within_areas (set_pages pages range.first range.count prot)) c.in_ok-range.ensures.cases c.in_ok-range.ensures.variant refl c.for_map.ensures.ok c.args.own.now c.args.prot in
     let many = c.in_err-fill_holes.ensures.many in
-    let refused : Refuses c.in_err-fill_holes.field-0.0 (or_else (area_due (map_result c.args.own.now c.args.address c.args.bytes c.args.prot))
-    (pages_due (with_space c.args.paging.now c.args.space (set_within (inside c.args.paging.now.spaces c.args.space) (page_of c.args.address) (pages_for c.args.bytes) (fresh_page c.args.prot))))) =
+    let refused : Refuses c.in_err-fill_holes.field-0.0 (or_else (area_refusal (map_result c.args.own.now c.args.address c.args.bytes c.args.prot))
+    (pages_refusal (with_space c.args.paging.now c.args.space (set_within (inside c.args.paging.now.spaces c.args.space) (page_of c.args.address) (pages_for c.args.bytes) (fresh_page c.args.prot))))) =
     pages_refused c.in_err-fill_holes.field-0.0 (set_pages c.args.own.now c.in_ok-range.range.first c.in_ok-range.range.count c.args.prot) (map_result c.args.own.now c.args.address c.args.bytes c.args.prot)
     (with_space c.args.paging.now c.args.space (set_within (inside c.args.paging.now.spaces c.args.space) (page_of c.args.address) (pages_for c.args.bytes) (fresh_page c.args.prot))) gives c.in_err-fill_holes.ensures.errors (λ is. rw (← first, ← count) (many (ap Err is))) in
     search rules

@@ -11,7 +11,7 @@ use Rattle.sd_pagetable.specs.Kept.{HasAreas, prots_of}
 use Rattle.sd_pagetable.specs.Tracking.{with_space}
 use Rattle.std.proofs.lemmas.Result.{on_ok_weaker}
 use Rattle.sd_pagetable.proofs.PlainRanges.{areas_with, plain_mapped, prots_seen}
-use Rattle.sd_pagetable.proofs.RangeDue.{mmap_seen, mapped_fits, own_mapped}
+use Rattle.sd_pagetable.proofs.RangeRefusals.{mmap_seen, mapped_fits, own_mapped}
 use Rattle.sd_pagetable.proofs.AreaCalls.{areas_put, areas_same, areas_found, areas_absent, still_kept, dead_due, nothing_over, on_both, by_result, answers_by, mmap_due_is}
 use Rattle.sd_pagetable.proofs.range_calls.mmap.Goals as goal
 

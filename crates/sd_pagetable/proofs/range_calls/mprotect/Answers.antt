@@ -2,7 +2,7 @@ use Rattle.std.proofs.Common.{ap, ◌∙◌}
 use Rattle.sd_pagetable.specs.Page.{protected_page}
 use Rattle.sd_pagetable.specs.Contents.{plain_of}
 use Rattle.sd_pagetable.proofs.PlainRanges.{plain_protected}
-use Rattle.sd_pagetable.proofs.RangeDue.{no_bytes, accepted_alive}
+use Rattle.sd_pagetable.proofs.RangeRefusals.{no_bytes, accepted_alive}
 use Rattle.sd_pagetable.proofs.range_calls.mprotect.Goals as goal
 
 pub returns-then-bytes-eq0-clause-step : goal.returns-then-bytes-eq0-clause-step

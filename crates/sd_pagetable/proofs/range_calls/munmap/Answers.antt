@@ -7,7 +7,7 @@ use Rattle.sd_pagetable.specs.Contents.{plain_of}
 use Rattle.sd_pagetable.specs.Kept.{HasAreas, prots_of}
 use Rattle.sd_pagetable.specs.Tracking.{with_space}
 use Rattle.sd_pagetable.proofs.PlainRanges.{areas_with, plain_unmapped, prots_seen}
-use Rattle.sd_pagetable.proofs.RangeDue.{munmap_seen, nothing_due, unmapped_within, own_unmapped}
+use Rattle.sd_pagetable.proofs.RangeRefusals.{munmap_seen, nothing_due, unmapped_within, own_unmapped}
 use Rattle.sd_pagetable.proofs.AreaCalls.{still_kept}
 use Rattle.sd_pagetable.proofs.range_calls.munmap.Goals as goal
 

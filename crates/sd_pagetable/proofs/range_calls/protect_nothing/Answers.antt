@@ -1,5 +1,5 @@
 use Rattle.std.proofs.Common.{arith}
-use Rattle.sd_pagetable.proofs.RangeDue.{alive_areas, nothing_dead, nothing_between, nothing_refused}
+use Rattle.sd_pagetable.proofs.RangeRefusals.{alive_areas, nothing_dead, nothing_between, nothing_refused}
 use Rattle.sd_pagetable.proofs.range_calls.protect_nothing.Goals as goal
 
 pub returns-in_default : goal.returns-in_default

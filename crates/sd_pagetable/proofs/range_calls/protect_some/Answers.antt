@@ -6,7 +6,7 @@ use Rattle.sd_pagetable.specs.Nested.{inside}
 use Rattle.sd_pagetable.specs.Contents.{plain_of}
 use Rattle.sd_pagetable.specs.Kept.{HasAreas, prots_of}
 use Rattle.sd_pagetable.proofs.PlainRanges.{areas_with, plain_protected, prots_seen}
-use Rattle.sd_pagetable.proofs.RangeDue.{mprotect_seen, nothing_due, protected_within, own_protected}
+use Rattle.sd_pagetable.proofs.RangeRefusals.{mprotect_seen, nothing_due, protected_within, own_protected}
 use Rattle.sd_pagetable.proofs.AreaCalls.{still_kept}
 use Rattle.sd_pagetable.proofs.range_calls.protect_some.Goals as goal
 

@@ -4,7 +4,7 @@ use Rattle.sd_areas.specs.Memory.{memory_of, put_page}
 use Rattle.sd_disk.specs.Reads.{nothing_read, reads_join}
 use Rattle.sd_chain.specs.Chains.{found_on}
 use Rattle.sd_chain.specs.Store.{bytes_at}
-use Rattle.sd_restore.specs.Placed.{page_behind, placed_page, with_pages}
+use Rattle.sd_restore.specs.Placed.{page_of_run, placed_page, with_pages}
 use Rattle.sd_restore.proofs.CallLemmas.{none_failed}
 use Rattle.sd_restore.proofs.MemoryLemmas.{put_keeps}
 use Rattle.sd_restore.proofs.RunLemmas.{none_first, with_more}
@@ -41,8 +41,8 @@ loop-k-preserved g c =
           let bytes : c.in_ok-bytes.bytes.value ≡ bytes_at contents (found_on run.there k) = now.bytes honest ∙ ap (λ contents. bytes_at contents c.place.result) was.reads.same ∙ ap (bytes_at contents) c.place.ensures.place in
           c.in_ok-put_page.ensures.ok
           ∙ ap (λ bytes. put_page (memory_of c.loop-k.snapshot) run.space c.unwrap-page.result (record { prot = run.prot; bytes = bytes })) bytes
-          ∙ ap (λ p. put_page (memory_of c.loop-k.snapshot) run.space p (placed_page contents (page_behind run k))) page
-          ∙ ap (λ m. put_page m run.space (run.first + k) (placed_page contents (page_behind run k))) (was.memory (now.reads.honest honest))
+          ∙ ap (λ p. put_page (memory_of c.loop-k.snapshot) run.space p (placed_page contents (page_of_run run k))) page
+          ∙ ap (λ m. put_page m run.space (run.first + k) (placed_page contents (page_of_run run k))) (was.memory (now.reads.honest honest))
           ∙ sym (with_more contents (memory_of c.args.snapshot.now) run k);
       stays = none_failed c.in_ok-bytes.bytes (g.D.Disk.failed c.loop-k.disk) (g.D.Disk.failed c.read_page.new.disk) now.reads.failures now.stops ∙ was.stays;
       calls = let before = was.calls in let one = now.calls in omega (arith, before, one);

@@ -1,7 +1,7 @@
 -- The loads so far were answered bytes, which stand after those that were there.
 use Rattle.std.proofs.Common.{◌≡◌, ◌+◌, ◌++◌, List}
 use Rattle.sd_world.specs.Goes.{GoesOn}
-use Rattle.sd_run.specs.Bulk.{Loaded, all_bytes, asked_by, bytes_told, loads_of, past_loads}
+use Rattle.sd_run.specs.Bulk.{Loaded, all_bytes, asked_by, answers_of_bytes, loads_of, past_loads}
 use Rattle.sd_run.specs.Lines.{AnswersLines}
 use Rattle.sd_run.proofs.bulk.get_pieces.Given as goal
 
@@ -11,7 +11,7 @@ invariant-loop-left g l = record {
   asked : asked_by loads + l.left ≡ l.fn.length;
   bytes : l.bytes.items ≡ l.fn.bytes.items ++ all_bytes loads;
   address : l.address ≡ past_loads l.fn.place.address loads;
-  answered : AnswersLines g.D.Disk l.fn.world (loads_of l.fn.place.space l.fn.place.address loads) (bytes_told loads) l.world;
+  answered : AnswersLines g.D.Disk l.fn.world (loads_of l.fn.place.space l.fn.place.address loads) (answers_of_bytes loads) l.world;
   goes_on : GoesOn g.D.Disk l.fn.world l.world;
 }
 

@@ -2,7 +2,7 @@
 use Rattle.std.proofs.Common.{◌≡◌, ◌++◌, List, ℕ, length}
 use Rattle.std.specs.List.{concat}
 use Rattle.sd_world.specs.Goes.{GoesOn}
-use Rattle.sd_run.specs.Bulk.{behind_all, dones, stores_of}
+use Rattle.sd_run.specs.Bulk.{address_after_all, dones, stores_of}
 use Rattle.sd_run.specs.Lines.{AnswersLines}
 use Rattle.sd_run.proofs.bulk.put_pieces.Given as goal
 
@@ -10,7 +10,7 @@ abbrev pub invariant-loop-piece : goal.invariant-loop-piece
 invariant-loop-piece g l = record {
   pieces : List (List ℕ);
   parts : l.fn.bytes ≡ concat pieces ++ l.rest;
-  address : l.address ≡ behind_all l.fn.place.address pieces;
+  address : l.address ≡ address_after_all l.fn.place.address pieces;
   answered : AnswersLines g.D.Disk l.fn.world (stores_of l.fn.place.space l.fn.place.address pieces) (dones pieces) l.world;
   goes_on : GoesOn g.D.Disk l.fn.world l.world;
 }

@@ -10,11 +10,11 @@ loop-left-preserved c =
     let kind : ℕ = c.args.kind in
     let left : ℕ = c.loop-left.left in
     let bytes : List ℕ = c.loop-left.rest.now in
-    let behind : List ℕ = c.behind_space-rest.result.now in
+    let behind : List ℕ = c.place_after_space-rest.result.now in
     let part : c.count_runs.result ≡ min (runs_pages kind (runs_in bytes)) (2 ^ 64 - 1) =
     c.count_runs.ensures ∙ ap (λ runs. min (runs_pages kind runs) (2 ^ 64 - 1)) c.runs_in.ensures in
     let is : runs_pages kind (runs_in bytes) + spaces_pages kind (spaces_in (left - 1) behind) ≡ spaces_pages kind (spaces_in left bytes) =
-    ap (λ behind. runs_pages kind (runs_in bytes) + spaces_pages kind (spaces_in (left - 1) behind)) c.behind_space-rest.ensures
+    ap (λ behind. runs_pages kind (runs_in bytes) + spaces_pages kind (spaces_in (left - 1) behind)) c.place_after_space-rest.ensures
     ∙ spaces_pages_more kind left bytes c.loop-left-test.true c.if-rest-ge-SPACE_HEAD_SIZE.true in
     record {
       fits = omega (arith, c.saturating_add-pages.ensures);

@@ -1,6 +1,6 @@
 use Rattle.std.proofs.Common.{◌∙◌, ◌<◌, ◌+◌, ℕ, List, [], drop, length, get_or, Option, sym, ap, subst}
 use Rattle.std.specs.Io.KnownBytes.{Appends}
-use Rattle.sd_show.specs.Items.{behind_run, behind_runs}
+use Rattle.sd_show.specs.Items.{place_after_run, place_after_runs}
 use Rattle.sd_show.specs.Texts.{run_line, runs_text}
 use Rattle.sd_show.proofs.PrintLemmas.{all_printed, behind_done, behind_more, part_printed, runs_done, runs_more}
 use Rattle.sd_show.proofs.table_text.print_runs.Goals as goal
@@ -16,9 +16,9 @@ loop-run-preserved g c =
     let to = g.W.Write.contents c.print_run.new.out in
     record {
       text = λ after rest. c.loop-run.invariant.text after
-          (part_printed from to after (run_line next run) (runs_text (behind_run next run) (drop (i + 1) runs)) (runs_text next (drop i runs)) (runs_more next runs i less)
-          c.in_ok-print_run.ensures (subst (λ at. Appends to after (runs_text at (drop (i + 1) runs))) c.behind_run-next.ensures rest));
-      behind = ap (λ at. behind_runs at (drop (i + 1) runs)) c.behind_run-next.ensures ∙ behind_more next runs i less ∙ c.loop-run.invariant.behind;
+          (part_printed from to after (run_line next run) (runs_text (place_after_run next run) (drop (i + 1) runs)) (runs_text next (drop i runs)) (runs_more next runs i less)
+          c.in_ok-print_run.ensures (subst (λ at. Appends to after (runs_text at (drop (i + 1) runs))) c.place_after_run-next.ensures rest));
+      behind = ap (λ at. place_after_runs at (drop (i + 1) runs)) c.place_after_run-next.ensures ∙ behind_more next runs i less ∙ c.loop-run.invariant.behind;
     }
 
 pub returns-clause-text : goal.returns-clause-text

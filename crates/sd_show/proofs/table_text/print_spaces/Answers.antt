@@ -1,6 +1,6 @@
 use Rattle.std.proofs.Common.{◌≡◌, ◌-◌, ℕ, List, Option, arith, ap, subst}
 use Rattle.std.specs.Io.KnownBytes.{Appends}
-use Rattle.sd_show.specs.Items.{behind_runs, behind_space, runs_in, spaces_in}
+use Rattle.sd_show.specs.Items.{place_after_runs, place_after_space, runs_in, spaces_in}
 use Rattle.sd_show.specs.Texts.{space_lines, spaces_text}
 use Rattle.sd_show.proofs.ItemLemmas.{no_spaces, short_spaces}
 use Rattle.sd_show.proofs.PrintLemmas.{all_printed, part_printed, spaces_text_more}
@@ -14,10 +14,10 @@ loop-left-preserved g c = λ after rest.
     let from = g.W.Write.contents c.loop-left.out in
     let to = g.W.Write.contents c.print_space.new.out in
     c.loop-left.invariant after
-    (part_printed from to after (space_lines at bytes) (spaces_text (behind_runs at (runs_in bytes)) (spaces_in (left - 1) (behind_space bytes))) (spaces_text at (spaces_in left bytes))
+    (part_printed from to after (space_lines at bytes) (spaces_text (place_after_runs at (runs_in bytes)) (spaces_in (left - 1) (place_after_space bytes))) (spaces_text at (spaces_in left bytes))
     (spaces_text_more left at bytes c.loop-left-test.true c.if-rest-ge-SPACE_HEAD_SIZE.true) c.in_ok-at.ensures.text
-    (subst (λ next. Appends to after (spaces_text next (spaces_in (left - 1) (behind_space bytes)))) c.in_ok-at.ensures.behind
-    (subst (λ behind. Appends to after (spaces_text c.in_ok-at.at (spaces_in (left - 1) behind))) c.behind_space-rest.ensures rest)))
+    (subst (λ next. Appends to after (spaces_text next (spaces_in (left - 1) (place_after_space bytes)))) c.in_ok-at.ensures.behind
+    (subst (λ behind. Appends to after (spaces_text c.in_ok-at.at (spaces_in (left - 1) behind))) c.place_after_space-rest.ensures rest)))
 
 pub returns-else-rest-ge-SPACE_HEAD_SIZE : goal.returns-else-rest-ge-SPACE_HEAD_SIZE
 returns-else-rest-ge-SPACE_HEAD_SIZE g c =

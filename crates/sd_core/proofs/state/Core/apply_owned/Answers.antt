@@ -4,13 +4,13 @@ use Rattle.sd_journal.specs.declared.entry.Entry.TheVariants.{Applied}
 use Rattle.sd_journal.specs.Marked.{Told, entries_of}
 use Rattle.sd_crash_safety.specs.View.{CoreView, history_of}
 use Rattle.sd_core.proofs.FlagLemmas.{same_flags}
-use Rattle.sd_core.specs.Grown.{has_grown, has_swept}
+use Rattle.sd_core.specs.Grown.{has_grown, has_visited_all}
 use Rattle.sd_core.specs.Answering.{IsAnswered}
 use Rattle.sd_core.specs.LittleWork.{HasLittle}
 use Rattle.sd_core.specs.Sound.{AreSoundNumbers, CheckpointRuns, IsJournal}
 use Rattle.sd_crash_safety.specs.CoreSteps.{IsCommanded}
 use Rattle.sd_core.specs.Starts.{base_of}
-use Rattle.sd_core.specs.Visited.{HasSwept}
+use Rattle.sd_core.specs.Visited.{HasVisitedAll}
 use Rattle.sd_core.proofs.ApplyLemmas.{bytes_pass, commanded, stays_applied, stays_same}
 use Rattle.sd_core.proofs.JournalLemmas.{applied_journal, same_journal}
 use Rattle.sd_core.proofs.LittleLemmas.{applied_little, still_while_frozen}
@@ -37,7 +37,7 @@ invariant_of-self-in_default-try_clone c =
       work = subst (λ all. IfSome c.self.inside.dumper.running (CheckpointRuns base all c.self.inside.pending c.self.inside.standing c.self.inside.phases.items c.self.inside.catalog c.self.inside.merger c.self.inside.opener c.self.inside.numbers)) (sym before) c.self.invariant.work;
       little = subst (λ m. IfSome c.self.inside.dumper.running (HasLittle base c.reserve.new.self.items m)) (sym same)
           (subst (λ all. IfSome c.self.inside.dumper.running (HasLittle base all c.self.inside.memory)) (sym before) c.self.invariant.little);
-      swept_is = subst (λ m. HasSwept c.self.inside.swept c.self.inside.pending m) (sym same) c.self.invariant.swept_is;
+      visited_is = subst (λ m. HasVisitedAll c.self.inside.swept c.self.inside.pending m) (sym same) c.self.invariant.visited_is;
       flags_are = same_flags base c.self.inside.journal.items c.reserve.new.self.items c.self.inside.swept c.self.inside.grows c.self.inside.committing before c.self.invariant.flags_are;
       gated = c.self.invariant.gated;
       merging = c.self.invariant.merging;
@@ -88,9 +88,9 @@ invariant_of-self-2 c =
       little = subst (λ all. IfSome c.self.inside.dumper.running (HasLittle base all c.answer.new.memory)) (sym items)
           (applied_little base c.self.inside.journal.items c.self.inside.memory c.answer.new.memory c.self.inside.dumper.running c.args.seat c.args.command c.in-Ok-answer.reply
           (still_while_frozen _ c.answer.new.memory c.args.command c.in-Ok-answer.reply c.self.invariant answered) c.self.invariant.little);
-      flags_are = record { grown = c.self.invariant.flags_are.grown ∙ ap (λ all. has_grown base (entries_of all)) (sym items); swept_by = c.self.invariant.flags_are.swept_by ∙ ap has_swept (sym items); sure = c.self.invariant.flags_are.sure };
+      flags_are = record { grown = c.self.invariant.flags_are.grown ∙ ap (λ all. has_grown base (entries_of all)) (sym items); visited_by = c.self.invariant.flags_are.visited_by ∙ ap has_visited_all (sym items); sure = c.self.invariant.flags_are.sure };
       gated = c.self.invariant.gated;
-      swept_is = swept_answered c.self.inside.swept c.self.inside.pending c.args.command c.in-Ok-answer.reply c.self.inside.memory c.answer.new.memory answered c.self.invariant.swept_is;
+      visited_is = swept_answered c.self.inside.swept c.self.inside.pending c.args.command c.in-Ok-answer.reply c.self.inside.memory c.answer.new.memory answered c.self.invariant.visited_is;
       merging = c.self.invariant.merging;
     }
 

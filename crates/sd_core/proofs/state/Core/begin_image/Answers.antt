@@ -20,11 +20,11 @@ use Rattle.sd_rounds.specs.Writes.{no_writes}
 use Rattle.sd_crash_safety.specs.DumperSteps.{opens_gate}
 use Rattle.sd_crash_safety.specs.View.{CoreView}
 use Rattle.sd_core.proofs.FlagLemmas.{format_has_no_open, gate_swept, gated_asked, sure_asked}
-use Rattle.sd_core.specs.Grown.{IsGatedStage, has_grown, has_swept}
+use Rattle.sd_core.specs.Grown.{IsGatedStage, has_grown, has_visited_all}
 use Rattle.sd_core.specs.declared.numbers.Numbers.{Numbers}
 use Rattle.sd_core.specs.Images.{begun_as}
 use Rattle.sd_core.specs.LittleWork.{TakesLittle}
-use Rattle.sd_core.specs.Sound.{AreOuts, AreSoundNumbers, IsImageInMaking, IsJournal, begun_images, due_serials}
+use Rattle.sd_core.specs.Sound.{AreOuts, AreSoundNumbers, IsImageInMaking, IsJournal, begun_images, serials_to_come}
 use Rattle.sd_core.specs.Starts.{base_of}
 use Rattle.sd_core.specs.declared.taken.Taken.TheVariants.{Call as CallTaken}
 use Rattle.sd_core.specs.Noted.{marks_of}
@@ -50,7 +50,7 @@ overflow_add-serial c =
     let work = at_work _ n.running c.self.invariant n.was in
     let few = work.few in
     let opened = (subst (AreRunning c.self.inside.dumper.since_freeze) n.was c.sound.ensures.running).few in
-    let serials : c.self.inside.numbers.serial + due_serials c.self.inside.merger ≤ 2 ^ 63 + n.running.opened = subst (λ i. c.self.inside.numbers.serial + due_serials c.self.inside.merger ≤ 2 ^ 63 + begun_images n.running i) n.none work.serials in
+    let serials : c.self.inside.numbers.serial + serials_to_come c.self.inside.merger ≤ 2 ^ 63 + n.running.opened = subst (λ i. c.self.inside.numbers.serial + serials_to_come c.self.inside.merger ≤ 2 ^ 63 + begun_images n.running i) n.none work.serials in
     omega (arith, serials, few, opened)
 
 pub index-requires : goal.index-requires
@@ -67,7 +67,7 @@ give-requires c =
     let work = at_work _ n.running c.self.invariant n.was in
     let few = work.few in
     let opened = (subst (AreRunning c.self.inside.dumper.since_freeze) n.was c.sound.ensures.running).few in
-    let serials : c.self.inside.numbers.serial + due_serials c.self.inside.merger ≤ 2 ^ 63 + n.running.opened = subst (λ i. c.self.inside.numbers.serial + due_serials c.self.inside.merger ≤ 2 ^ 63 + begun_images n.running i) n.none work.serials in
+    let serials : c.self.inside.numbers.serial + serials_to_come c.self.inside.merger ≤ 2 ^ 63 + n.running.opened = subst (λ i. c.self.inside.numbers.serial + serials_to_come c.self.inside.merger ≤ 2 ^ 63 + begun_images n.running i) n.none work.serials in
     omega (arith, serials, few, opened)
 
 pub returns-in_default-hold-clause-takes : goal.returns-in_default-hold-clause-takes
@@ -102,7 +102,7 @@ invariant_of-self-2 c =
     let asked = asked_on w.running (begun_image (order_of w.running serial c.state.result)) w.next _ t.out_is t.slot refl in
     let whose = subst (λ o. IfSome o (λ (i : RequestId). i.worker ≡ its.Dumper)) (sym t.out_is) w.steps.1.worker in
     let writes = sound_writes w.running w.next (ap (λ (o : ImageOrder). o.slot) t.order) (sound_image _ (record w.running { image = Some w.next }) w.next c.sound-2.ensures.image w.is refl) in
-    let serials : old.serial + due_serials c.self.inside.merger ≤ 2 ^ 63 + w.running.opened = subst (λ i. old.serial + due_serials c.self.inside.merger ≤ 2 ^ 63 + begun_images w.running i) w.none work.serials in
+    let serials : old.serial + serials_to_come c.self.inside.merger ≤ 2 ^ 63 + w.running.opened = subst (λ i. old.serial + serials_to_come c.self.inside.merger ≤ 2 ^ 63 + begun_images w.running i) w.none work.serials in
     let few = work.few in
     let opened = (subst (AreRunning c.self.inside.dumper.since_freeze) w.was c.sound.ensures.running).few in
     let new_serial : (o : Opened) → place_of c.self.inside.catalog serial ≡ Some (Some o) → ⊥ =
@@ -123,10 +123,10 @@ invariant_of-self-2 c =
           (λ id other one two. asks_apart _ w.running id other core w.was (on_slot (record w.running { image = Some w.next }) id asked writes one) two));
       numbers_are = subst (λ all. AreSoundNumbers base all c.self.inside.pending c.self.inside.last c.tick.new.self) (sym c.note.ensures.items)
           (start_numbers base c.reserve_mark.new.self.items c.self.inside.pending c.self.inside.last old c.tick.new.self begun checkpoint given now core.numbers_are);
-      swept_is = swept_same c.self.inside.swept c.self.inside.swept c.self.inside.pending c.self.inside.pending c.self.inside.memory c.begin_next-request.new.memory refl refl w.steps.2 core.swept_is;
+      visited_is = swept_same c.self.inside.swept c.self.inside.swept c.self.inside.pending c.self.inside.pending c.self.inside.memory c.begin_next-request.new.memory refl refl w.steps.2 core.visited_is;
       flags_are = record {
         grown = core.flags_are.grown ∙ ap (λ all. has_grown base (entries_of all)) (sym c.note.ensures.items);
-        swept_by = core.flags_are.swept_by ∙ ap has_swept (sym c.note.ensures.items);
+        visited_by = core.flags_are.visited_by ∙ ap has_visited_all (sym c.note.ensures.items);
         sure = λ commits. sure_asked c.self.inside.committing (is_last w.running) (opens_gate c.begin_next-request.result.id.call) c.self.inside.swept core.flags_are.sure
             (gate_swept (is_last w.running) c.self.inside.swept (begun_image (order_of w.running serial c.state.result)).stage w.steps.0.plan w.steps.0.next c.begin_next-request.result
             (format_has_no_open c.state.result) w.steps.0.was w.steps.0.gives)
@@ -163,7 +163,7 @@ invariant_of-self-2 c =
         count = refl;
         given = omega (arith, given, above);
         checkpoint = omega (arith, checkpoint);
-        serials = λ merge is due under. (let one = ap due_serials is ∙ due in omega (arith, now, serials, one, few, opened));
+        serials = λ merge is due under. (let one = ap serials_to_come is ∙ due in omega (arith, now, serials, one, few, opened));
         has = λ slot has. subst (λ r. HasSlot r slot) (sym w.was) has;
         fills = λ slot spared. fills_same w.running (Some w.next) slot (subst (λ r. IsSpared r slot) w.was spared);
         other = λ s given_to other same. (let own = ap (λ (o : ImageOrder). o.serial) t.order in omega (arith, same, own, given_to, above));

@@ -68,7 +68,7 @@ invariant_of-self-2 c =
           (subst (λ f. AreSoundNumbers base c.self.inside.journal.items f c.self.inside.last c.begin-number.new.self) (sym none)
           (begun_numbers base c.self.inside.journal.items c.self.inside.last c.self.inside.numbers c.begin-number.new.self begun checkpoint given serial
           (subst (λ f. AreSoundNumbers base c.self.inside.journal.items f c.self.inside.last c.self.inside.numbers) none inside.numbers_are)));
-      swept_is = inside.swept_is;
+      visited_is = inside.visited_is;
       flags_are = same_flags base c.self.inside.journal.items c.hold.new.self.items c.self.inside.swept c.self.inside.grows c.self.inside.committing grown.items inside.flags_are;
       gated = tt;
       counted = begun_counted c.self.inside.catalog c.self.inside.numbers c.begin-number.new.self checkpoint inside.counted;

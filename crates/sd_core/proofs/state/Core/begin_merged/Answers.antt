@@ -8,12 +8,12 @@ use Rattle.sd_journal.specs.History.{Base}
 use Rattle.sd_merge.specs.declared.copy_order.CopyOrder.{CopyOrder}
 use Rattle.sd_merge.specs.Copying.{begun_copy}
 use Rattle.sd_merge.specs.Merger as merger
-use Rattle.sd_merge.specs.Merger.{copying, slot_before, slot_due}
+use Rattle.sd_merge.specs.Merger.{copying, slot_before, slot_to_begin}
 use Rattle.sd_rounds.specs.Dumper.{HasSlot}
 use Rattle.sd_crash_safety.specs.Calls.{IsFree}
 use Rattle.sd_crash_safety.specs.View.{CoreView}
 use Rattle.sd_core.specs.declared.numbers.Numbers.{Numbers}
-use Rattle.sd_core.specs.Sound.{ClosesWithHeader, IsDoing, due_serials}
+use Rattle.sd_core.specs.Sound.{ClosesWithHeader, IsDoing, serials_to_come}
 use Rattle.sd_core.specs.Starts.{base_of}
 use Rattle.sd_core.proofs.BesideLemmas.{core_asks, due_rests, free_asked, merger_works, other_above}
 use Rattle.sd_core.proofs.MarkLemmas.{counted_held, held_place}
@@ -29,7 +29,7 @@ invariant_of-self-2 c =
     let serial = old.serial + 1 in
     let w = c.begin_copy-request.ensures.begins in
     let m = merger_works _ w.merge c.self.invariant w.was in
-    let d = subst (IsDoing c.self.inside.phases.items c.self.inside.catalog old c.self.inside.room c.self.inside.dumper.running w.merge) w.is_due m.doing in
+    let d = subst (IsDoing c.self.inside.phases.items c.self.inside.catalog old c.self.inside.room c.self.inside.dumper.running w.merge) w.must_dump m.doing in
     let order = merger.order_of w.merge serial c.state.result in
     let own = asks_own (begun_copy order) w.copy c.begin_copy-request.result (begun_sound order) w.steps.0 in
     let begun = c.tick.ensures.begun ∙ ap (λ (n : Numbers). n.begun) c.give.ensures in
@@ -43,14 +43,14 @@ invariant_of-self-2 c =
     let new_serial : (o : Opened) → place_of c.self.inside.catalog serial ≡ Some (Some o) → ⊥ =
     (λ o is. let double = c.hold.ensures.double.1 (subst IsSome (sym is) refl) in cc) in
     core_asks _ c.put_out.new.outs c.hold.new.self c.tick.new.self (record w.merge { doing = copying w.copy }) c.begin_copy-request.new.merger c.begin_copy-request.result.id c.self.invariant
-    m.stands m.closed w.is (due_rests _ w.merge c.self.invariant w.was w.is_due) (c.put_out.ensures ∙ ap (λ id. slice_set c.self.inside.outs 1 (Some id)) c.id.ensures) out
+    m.stands m.closed w.is (due_rests _ w.merge c.self.invariant w.was w.must_dump) (c.put_out.ensures ∙ ap (λ id. slice_set c.self.inside.outs 1 (Some id)) c.id.ensures) out
     (subst (λ s. s < length c.self.inside.phases.items) (sym own.slot) m.within) w.steps.1.worker (spared_of c.self.inside.dumper.running _ (λ has. m.spared (subst (HasSlot c.self.inside.dumper.running) own.slot has)))
     (record {
       begun = begun;
       given = omega (arith, given, above);
       checkpoint = checkpoint;
       above = omega (arith, given, now);
-      serials = λ running runs. (let before = (at_work _ running c.self.invariant runs).serials in let due_is = ap due_serials w.was ∙ ap (λ doing. due_serials (Some (record w.merge { doing = doing }))) w.is_due in omega (arith, before, due_is, now));
+      serials = λ running runs. (let before = (at_work _ running c.self.invariant runs).serials in let due_is = ap serials_to_come w.was ∙ ap (λ doing. serials_to_come (Some (record w.merge { doing = doing }))) w.must_dump in omega (arith, before, due_is, now));
       held = λ running image runs making held. held_more c.self.inside.catalog c.hold.new.self serial image.order.serial c.in-Ok.ensures.held held;
       stay = λ number o at has. open_more c.self.inside.catalog c.hold.new.self serial number o c.in-Ok.ensures.held new_serial at;
     })
@@ -86,9 +86,9 @@ returns-clause-takes c =
     let order = merger.order_of w.merge serial c.state.result in
     let begun = record w.merge { doing = copying (begun_copy order) } in
     let own = asks_own (begun_copy order) w.copy request (begun_sound order) w.steps.0 in
-    let at : w.merge.slot ≡ c.args.slot = same_Some w.merge.slot c.args.slot (sym (ap (slot_due w.merge) w.is_due) ∙ sym (ap slot_before w.was)
+    let at : w.merge.slot ≡ c.args.slot = same_Some w.merge.slot c.args.slot (sym (ap (slot_to_begin w.merge) w.must_dump) ∙ sym (ap slot_before w.was)
     ∙ ap (λ (v : CoreView). slot_before v.merger) c.self.view_is ∙ c.requires.next) in
-    let rests = due_rests _ w.merge c.self.invariant w.was w.is_due in
+    let rests = due_rests _ w.merge c.self.invariant w.was w.must_dump in
     let spared = spared_of c.self.inside.dumper.running w.merge.slot m.spared in
     let free = free_asked _ w.merge.slot c.self.invariant m.stands rests spared in
     let makes = makes_in c.self.inside.dumper.since_freeze c.self.inside.dumper.running c.sound-2.ensures.running in
@@ -148,7 +148,7 @@ returns-clause-takes c =
             serial = refl;
             held = c.in-Ok.ensures.held;
             was = w.was;
-            due = w.is_due;
+            due = w.must_dump;
             is = ap (λ s. Some (record w.merge { doing = copying (begun_copy (merger.order_of w.merge serial s)) }))
                 (c.state.ensures ∙ ap state_of c.index.ensures ∙ ap (λ k. state_of (slice_index_or c.self.inside.phases.items k c.index.result.now)) (sym at));
           }) believed);

@@ -16,13 +16,13 @@ use Rattle.sd_rounds.specs.Making.{Making, is_passing, is_past_freeze}
 use Rattle.sd_crash_safety.specs.DumperSteps.{opens_gate}
 use Rattle.sd_crash_safety.specs.View.{page_lane}
 use Rattle.sd_core.proofs.FlagLemmas.{gate_swept, gated_asked, gated_of, sure_asked, table_gated, table_sure, table_swept_by}
-use Rattle.sd_core.specs.Grown.{IsGatedStage, has_grown, has_swept}
+use Rattle.sd_core.specs.Grown.{IsGatedStage, has_grown, has_visited_all}
 use Rattle.sd_core.specs.Dumping.{StepsOn}
 use Rattle.sd_core.specs.Images.{begun_as}
 use Rattle.sd_core.specs.LittleWork.{TakesLittle}
-use Rattle.sd_core.specs.Sound.{AreSoundNumbers, IsImageInMaking, IsJournal, begun_images, due_serials, held_for}
+use Rattle.sd_core.specs.Sound.{AreSoundNumbers, IsImageInMaking, IsJournal, begun_images, serials_to_come, held_for}
 use Rattle.sd_core.specs.Starts.{base_of}
-use Rattle.sd_core.specs.Visited.{HasSwept}
+use Rattle.sd_core.specs.Visited.{HasVisitedAll}
 use Rattle.sd_core.proofs.ImageLemmas.{image_asked, image_frozen, image_page, image_table}
 use Rattle.sd_core.proofs.LaneLemmas.{lane_free, none_written, outs_asked, outs_kept, outs_resting, outs_writing, page_apart, page_beside}
 use Rattle.sd_core.proofs.LittleLemmas.{freeze_little, little_of, step_little}
@@ -63,7 +63,7 @@ invariant_of-self-in-Call c =
       numbers_are = numbers_same base c.reserve_mark.new.self.items c.self.inside.pending c.self.inside.last c.self.inside.numbers c.tick-in-Call.new.self numbers core.numbers_are;
       flags_are = record {
         grown = core.flags_are.grown;
-        swept_by = core.flags_are.swept_by;
+        visited_by = core.flags_are.visited_by;
         sure = λ commits. sure_asked c.self.inside.committing (is_last w.running) (opens_gate c.in-Call.request.id.call) c.self.inside.swept core.flags_are.sure
             (gate_swept (is_last w.running) c.self.inside.swept w.image.stage w.steps.0.plan w.steps.0.next c.in-Call.request (gated_of c.self.inside.swept c.self.inside.dumper.running w.running w.image core.gated w.was w.making) w.steps.0.was w.steps.0.gives)
             (sym (c.is_committing-self-inside.ensures ∙ ap (λ r. c.self.inside.committing || is_dumping r && opens_gate c.id-in-Call-2.result.call) w.is
@@ -71,7 +71,7 @@ invariant_of-self-in-Call c =
       };
       gated = subst (IsGatedStage (is_last w.running) c.self.inside.swept) (sym (ap (λ (m : Making). m.stage) w.steps.0.is))
           (gated_asked (is_last w.running) c.self.inside.swept w.image.stage w.steps.0.plan w.steps.0.next c.in-Call.request (gated_of c.self.inside.swept c.self.inside.dumper.running w.running w.image core.gated w.was w.making) w.steps.0.was w.steps.0.gives);
-      swept_is = swept_same c.self.inside.swept c.self.inside.swept c.self.inside.pending c.self.inside.pending c.self.inside.memory c.step_on.new.memory refl refl w.steps.2 core.swept_is;
+      visited_is = swept_same c.self.inside.swept c.self.inside.swept c.self.inside.pending c.self.inside.pending c.self.inside.memory c.step_on.new.memory refl refl w.steps.2 core.visited_is;
       counted = counted_same c.self.inside.catalog c.self.inside.numbers c.tick-in-Call.new.self numbers core.counted;
       outs_are = c.put_out-in-Call.ensures ∙ ap (λ id. slice_set c.self.inside.outs 0 (Some id)) c.id-in-Call.ensures
           ∙ outs_asked w.running w.image w.next (merger.out_of_merge c.self.inside.merger) c.self.inside.outs out.1 w.making c.in-Call.request.id (ap (λ (m : Making). m.writes) w.steps.0.is) t.out_is;
@@ -109,7 +109,7 @@ invariant_of-self-in-PageCall c =
       numbers_are = numbers_same base c.reserve_mark.new.self.items c.self.inside.pending c.self.inside.last c.self.inside.numbers c.tick.new.self numbers core.numbers_are;
       flags_are = core.flags_are;
       gated = subst (IsGatedStage (is_last w.running) c.self.inside.swept) (sym (w.steps.0.still)) tt;
-      swept_is = swept_same c.self.inside.swept c.self.inside.swept c.self.inside.pending c.self.inside.pending c.self.inside.memory c.step_on.new.memory refl refl w.steps.2 core.swept_is;
+      visited_is = swept_same c.self.inside.swept c.self.inside.swept c.self.inside.pending c.self.inside.pending c.self.inside.memory c.step_on.new.memory refl refl w.steps.2 core.visited_is;
       counted = counted_same c.self.inside.catalog c.self.inside.numbers c.tick.new.self numbers core.counted;
       outs_are = c.put_out.ensures ∙ ap (λ k. slice_set c.self.inside.outs k (Some c.id.result)) c.page_lane.ensures.lane ∙ ap (λ id. slice_set c.self.inside.outs (page_lane c.in-PageCall.lane) (Some id)) c.id.ensures
           ∙ outs_writing w.running w.image w.next (merger.out_of_merge c.self.inside.merger) c.self.inside.outs out.1 w.making c.in-PageCall.lane c.in-PageCall.request.id w.steps.0.writes t.out_is;
@@ -153,18 +153,18 @@ invariant_of-self-in-TableCall c =
           (numbers_noted base c.reserve_mark.new.self.items c.self.inside.pending c.self.inside.last c.self.inside.numbers (Table w.image.order.serial) (omega (arith, given)) core.numbers_are));
       flags_are = record {
         grown = core.flags_are.grown ∙ ap (λ all. has_grown base (entries_of all)) (sym items);
-        swept_by = c.is_swept-self-inside.ensures ∙ ap (λ r. c.self.inside.swept || is_dumping r) w.is
-            ∙ table_swept_by c.self.inside.swept (is_last w.running) c.self.inside.pending (λ is. (core.swept_is is).0)
+        visited_by = c.has_ended_its_pass-self-inside.ensures ∙ ap (λ r. c.self.inside.swept || is_dumping r) w.is
+            ∙ table_swept_by c.self.inside.swept (is_last w.running) c.self.inside.pending (λ is. (core.visited_is is).0)
             (pends_last _ w.running w.image core w.was w.making (own_order c.self.inside.dumper.since_freeze _ w.running w.image c.sound.ensures.running w.was w.making) (ap is_past_freeze w.steps.0.stage))
-            ∙ ap is_some core.journal_is.frozen_for ∙ ap has_swept (sym items);
-        sure = λ commits. table_sure c.self.inside.committing (is_last w.running) (opens_gate c.in-TableCall.request.id.call) c.self.inside.swept c.is_swept-self-inside.result
-            (c.is_swept-self-inside.ensures ∙ ap (λ r. c.self.inside.swept || is_dumping r) w.is) core.flags_are.sure
+            ∙ ap is_some core.journal_is.frozen_for ∙ ap has_visited_all (sym items);
+        sure = λ commits. table_sure c.self.inside.committing (is_last w.running) (opens_gate c.in-TableCall.request.id.call) c.self.inside.swept c.has_ended_its_pass-self-inside.result
+            (c.has_ended_its_pass-self-inside.ensures ∙ ap (λ r. c.self.inside.swept || is_dumping r) w.is) core.flags_are.sure
             (sym (c.is_committing-self-inside-in-TableCall.ensures ∙ ap (λ r. c.self.inside.committing || is_dumping r && opens_gate c.id-in-TableCall-2.result.call) w.is
             ∙ ap (λ (i : RequestId). c.self.inside.committing || is_last w.running && opens_gate i.call) c.id-in-TableCall-2.ensures) ∙ commits);
       };
-      gated = subst (IsGatedStage (is_last w.running) c.is_swept-self-inside.result) (sym (ap (λ (m : Making). m.stage) w.steps.0.is))
-          (table_gated (is_last w.running) c.self.inside.swept c.is_swept-self-inside.result (c.is_swept-self-inside.ensures ∙ ap (λ r. c.self.inside.swept || is_dumping r) w.is));
-      swept_is = subst (λ now. HasSwept now c.self.inside.pending c.step_on.new.memory) (sym (c.is_swept-self-inside.ensures ∙ ap (λ r. c.self.inside.swept || is_dumping r) w.is))
+      gated = subst (IsGatedStage (is_last w.running) c.has_ended_its_pass-self-inside.result) (sym (ap (λ (m : Making). m.stage) w.steps.0.is))
+          (table_gated (is_last w.running) c.self.inside.swept c.has_ended_its_pass-self-inside.result (c.has_ended_its_pass-self-inside.ensures ∙ ap (λ r. c.self.inside.swept || is_dumping r) w.is));
+      visited_is = subst (λ now. HasVisitedAll now c.self.inside.pending c.step_on.new.memory) (sym (c.has_ended_its_pass-self-inside.ensures ∙ ap (λ r. c.self.inside.swept || is_dumping r) w.is))
           (table_swept _ w.running w.image w.next c.in-TableCall.request c.step_on.new.memory _ core w.was w.making (own_order c.self.inside.dumper.since_freeze _ w.running w.image c.sound.ensures.running w.was w.making) w.steps.0 w.steps.2 t.still
           (step_little c.step_laws.ensures.little base c.reserve_mark.new.self.items (Noted (Table w.image.order.serial) ∷ c.reserve_mark.new.self.items) c.self.inside.memory c.step_on.new.memory w.running.number c.self.inside.numbers.ticket w.image w.next (TableCall c.in-TableCall.request) w.steps
           (sound_image _ w.running w.image c.sound.ensures.image w.was w.making).rising t.still refl refl (little_of base c.reserve_mark.new.self.items c.self.inside.memory c.self.inside.dumper.running w.running w.image core.little w.was w.making)));
@@ -197,7 +197,7 @@ invariant_of-self-in-Frozen c =
     let held = c.append_held.ensures.held in
     let two = held_at_work _ w.running core w.was ∙ ap (λ f. held_for f (Some w.running) None) b.none in
     let next = frozen_next w.image w.next b.kind w.steps.0 in
-    let serials = subst (λ i. c.self.inside.numbers.serial + due_serials c.self.inside.merger ≤ 2 ^ 63 + begun_images w.running i) w.making work.serials in
+    let serials = subst (λ i. c.self.inside.numbers.serial + serials_to_come c.self.inside.merger ≤ 2 ^ 63 + begun_images w.running i) w.making work.serials in
     core_working _ _ w.is (record {
       journal_is = subst (λ m. IsJournal base c.append_held.new.self m (Some c.self.inside.numbers.begun) c.self.inside.last) (sym w.steps.1)
           (freeze_journal c.step_laws.ensures.tracked _ w.running c.append_held.new.self core w.was b.none c.append_held.ensures.items c.append_held.ensures.numbers.first c.append_held.ensures.numbers.limit);
@@ -215,9 +215,9 @@ invariant_of-self-in-Frozen c =
       numbers_are = subst (λ all. AreSoundNumbers base all (Some c.self.inside.numbers.begun) c.self.inside.last c.self.inside.numbers) (sym c.append_held.ensures.items)
           (freeze_numbers base c.reserve_mark.new.self.items c.self.inside.last c.self.inside.numbers
           (subst (λ f. AreSoundNumbers base c.reserve_mark.new.self.items f c.self.inside.last c.self.inside.numbers) b.none core.numbers_are));
-      flags_are = record { grown = core.flags_are.grown ∙ ap (λ all. has_grown base (entries_of all)) (sym c.append_held.ensures.items); swept_by = unswept c.self.inside.swept c.self.inside.pending c.self.inside.memory b.none core.swept_is ∙ ap has_swept (sym c.append_held.ensures.items); sure = core.flags_are.sure };
+      flags_are = record { grown = core.flags_are.grown ∙ ap (λ all. has_grown base (entries_of all)) (sym c.append_held.ensures.items); visited_by = unswept c.self.inside.swept c.self.inside.pending c.self.inside.memory b.none core.visited_is ∙ ap has_visited_all (sym c.append_held.ensures.items); sure = core.flags_are.sure };
       gated = subst (IsGatedStage (is_last w.running) c.self.inside.swept) (sym (ap (λ (m : Making). m.stage) w.steps.0.is)) tt;
-      swept_is = none_swept c.self.inside.swept c.self.inside.pending (Some c.self.inside.numbers.begun) c.self.inside.memory c.step_on.new.memory b.none core.swept_is;
+      visited_is = none_swept c.self.inside.swept c.self.inside.pending (Some c.self.inside.numbers.begun) c.self.inside.memory c.step_on.new.memory b.none core.visited_is;
       counted = core.counted;
       work = record {
         stands = work.stands;

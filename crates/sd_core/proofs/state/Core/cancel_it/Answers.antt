@@ -4,7 +4,7 @@ use Rattle.sd_journal.specs.Kept.{JournalView}
 use Rattle.sd_rounds.specs.Dumper.{Dumping, serial_of_running}
 use Rattle.sd_journal.specs.Marked.{entries_of}
 use Rattle.sd_core.proofs.FlagLemmas.{set_flags}
-use Rattle.sd_core.specs.Grown.{IsGated, has_grown, has_swept}
+use Rattle.sd_core.specs.Grown.{IsGated, has_grown, has_visited_all}
 use Rattle.sd_core.specs.Dumping.{ReleasesPlace}
 use Rattle.sd_core.specs.LittleWork.{HasLittle}
 use Rattle.sd_core.specs.Sound.{AreSoundNumbers, CheckpointRuns, held_for}
@@ -41,8 +41,8 @@ invariant_of-self c =
       rests = λ none stands. refl;
       work = subst (λ r. IfSome r (CheckpointRuns base c.release.new.self.items None c.self.inside.standing c.self.inside.phases.items c.release_place.new.catalog c.self.inside.merger c.self.inside.opener c.self.inside.numbers)) (sym gone) tt;
       little = subst (λ r. IfSome r (HasLittle base c.release.new.self.items c.self.inside.memory)) (sym gone) tt;
-      swept_is = not_swept false None c.self.inside.memory refl;
-      flags_are = set_flags base c.release.new.self.items false false c.self.inside.committing (ap (λ all. has_grown base (entries_of all)) (sym (items ∙ c.append_held.ensures.items))) may.sure (ap has_swept (sym (items ∙ c.append_held.ensures.items)));
+      visited_is = not_swept false None c.self.inside.memory refl;
+      flags_are = set_flags base c.release.new.self.items false false c.self.inside.committing (ap (λ all. has_grown base (entries_of all)) (sym (items ∙ c.append_held.ensures.items))) may.sure (ap has_visited_all (sym (items ∙ c.append_held.ensures.items)));
       gated = subst (λ r. IfSome r (IsGated false)) (sym gone) tt;
       merging = merges_on _ c.release_place.new.catalog c.cancel.new.self c.self.invariant gone released;
     }

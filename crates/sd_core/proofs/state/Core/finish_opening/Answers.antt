@@ -14,7 +14,7 @@ use Rattle.sd_journal.specs.Marked.{entries_of}
 use Rattle.sd_core.specs.Noted.{marks_of}
 use Rattle.sd_core.proofs.OthersLemmas.{beside_seen, none_now}
 use Rattle.sd_core.proofs.FlagLemmas.{set_flags}
-use Rattle.sd_core.specs.Grown.{has_grown, has_swept}
+use Rattle.sd_core.specs.Grown.{has_grown, has_visited_all}
 use Rattle.sd_core.specs.declared.taken.Taken.TheVariants.{Step}
 use Rattle.sd_core.specs.Opening.{IsDamagedOrOther, IsExpected, OpensOwn, RefusesDamage, RefusesStrange}
 use Rattle.sd_core.specs.Sound.{AreSoundNumbers, IsOpening, held_for, out_of_opener}
@@ -38,16 +38,16 @@ invariant_of-self-2 c =
     let opening = subst (λ x. IfSome x (IsOpening c.self.inside.standing c.self.inside.phases.items)) is c.self.invariant.opening in
     let none = none_closed _ c.self.invariant opening.closed in
     let expected = expected_may c.self.inside.pending c.self.inside.last c.in-Some-read_by.found c.self.inside.swept
-    (subst (λ p. IsExpected c.self.inside.last p c.in-Some-read_by.found) c.swept_checkpoint.ensures c.in-Some-read_by.ensures.opens.expected) in
+    (subst (λ p. IsExpected c.self.inside.last p c.in-Some-read_by.found) c.visited_checkpoint.ensures c.in-Some-read_by.ensures.opens.expected) in
     let used = found_used c.self.inside.pending c.self.inside.last c.in-Some-read_by.found c.self.inside.numbers.begun expected c.self.invariant.numbers_are.newest_used c.self.invariant.numbers_are.frozen_used in
     let held : c.self.inside.journal.held ≡ 1 = c.self.invariant.held ∙ ap (held_for c.self.inside.pending c.self.inside.dumper.running) is ∙ held_opening c.self.inside.pending c.self.inside.dumper.running o none in
     let less = c.append_held.ensures.held in
     let zero_is : c.append_held.new.self.held ≡ 0 = omega (arith, held, less) in
     record {
       journal_is = (reopened_journal c.tracked_laws.ensures c.plain_law.ensures base c.self.inside.journal c.append_held.new.self c.self.inside.memory c.self.inside.pending c.self.inside.last c.in-Some-read_by.found c.self.inside.swept
-          c.append_held.ensures.items c.append_held.ensures.numbers.first c.append_held.ensures.numbers.limit expected c.sound.ensures c.self.invariant.swept_is c.self.invariant.journal_is).0;
-      swept_is = not_swept false None c.self.inside.memory refl;
-      flags_are = set_flags base c.append_held.new.self.items false false false (ap (λ all. has_grown base (entries_of all)) (sym c.append_held.ensures.items)) refl (ap has_swept (sym c.append_held.ensures.items));
+          c.append_held.ensures.items c.append_held.ensures.numbers.first c.append_held.ensures.numbers.limit expected c.sound.ensures c.self.invariant.visited_is c.self.invariant.journal_is).0;
+      visited_is = not_swept false None c.self.inside.memory refl;
+      flags_are = set_flags base c.append_held.new.self.items false false false (ap (λ all. has_grown base (entries_of all)) (sym c.append_held.ensures.items)) refl (ap has_visited_all (sym c.append_held.ensures.items));
       gated = none_works _ c.self.inside.dumper.running none;
       held = zero_is ∙ sym (held_idle c.self.inside.dumper.running none) ∙ ap (held_for None c.self.inside.dumper.running) (sym c.take_opener.ensures.left);
       outs_are = none_out Open c.self.inside.outs c.in-Some-read_by.opened.phases.items c.self.inside.dumper.running c.self.inside.merger c.take_opener.new.opener none
@@ -90,9 +90,9 @@ returns-clause-takes c =
     let slots : o.slots ≡ length c.self.inside.phases.items = (subst (λ x. IfSome x (IsOpening c.self.inside.standing c.self.inside.phases.items)) is c.self.invariant.opening).slots in
     let opens = c.in-Some-read_by.ensures.opens in
     let expected = expected_may c.self.inside.pending c.self.inside.last c.in-Some-read_by.found c.self.inside.swept
-    (subst (λ p. IsExpected c.self.inside.last p c.in-Some-read_by.found) c.swept_checkpoint.ensures opens.expected) in
+    (subst (λ p. IsExpected c.self.inside.last p c.in-Some-read_by.found) c.visited_checkpoint.ensures opens.expected) in
     let legal = reopened_journal c.tracked_laws.ensures c.plain_law.ensures base c.self.inside.journal c.append_held.new.self c.self.inside.memory c.self.inside.pending c.self.inside.last c.in-Some-read_by.found c.self.inside.swept
-    c.append_held.ensures.items c.append_held.ensures.numbers.first c.append_held.ensures.numbers.limit expected c.sound.ensures c.self.invariant.swept_is c.self.invariant.journal_is in
+    c.append_held.ensures.items c.append_held.ensures.numbers.first c.append_held.ensures.numbers.limit expected c.sound.ensures c.self.invariant.visited_is c.self.invariant.journal_is in
     step_seen its.Opener (reply.Reopened c.in-Some-read_by.found) _ _ _ c.self.view_is
     (starts_anew c.reopened_law.ensures c.opener_steps.ensures _ _ o c.in-Some-read_by.found (record {
       base = refl;
@@ -121,14 +121,14 @@ returns-in_default-read_by-clause-refuses c =
     let is : c.self.inside.opener ≡ Some o = sym c.take_opener.ensures.taken ∙ c.in-Some.is in
     let same : c.requires.looking ≡ o = same_Some c.requires.looking o (sym c.requires.is ∙ sym (ap (λ (v : CoreView). v.opener) c.self.view_is) ∙ is) in
     let all : length o.told ≡ o.slots = subst (λ (l : Looking). length l.told ≡ l.slots) same c.requires.all in
-    let own_awaited : (if c.self.inside.swept then c.self.inside.pending else None) ≡ (if has_swept c.self.inside.journal.items then pending (entries_of c.self.inside.journal.items) else None) =
-    ap (λ b. if b then c.self.inside.pending else None) c.self.invariant.flags_are.swept_by ∙ ap (λ p. if has_swept c.self.inside.journal.items then p else None) c.self.invariant.journal_is.frozen_for in
+    let own_awaited : (if c.self.inside.swept then c.self.inside.pending else None) ≡ (if has_visited_all c.self.inside.journal.items then pending (entries_of c.self.inside.journal.items) else None) =
+    ap (λ b. if b then c.self.inside.pending else None) c.self.invariant.flags_are.visited_by ∙ ap (λ p. if has_visited_all c.self.inside.journal.items then p else None) c.self.invariant.journal_is.frozen_for in
     subst (λ v. RefusesStrange v (reply.Refused DamagedStore)) c.self.view_is (λ told opener there files sees own.
     let own_opener : opener ≡ o = same_Some opener o (sym there ∙ is) in
     let seen : Sees files None o = subst (Sees files None) own_opener sees in
     c.in_default-read_by.ensures.strange refl files seen (all ∙ sym seen.count) (same_own _ _ _ _ files (λ found expected.
-    subst (λ p. IsExpected c.self.inside.last p found) (sym (c.swept_checkpoint.ensures ∙ own_awaited))
-    (subst (λ l. IsExpected l (if has_swept c.self.inside.journal.items then pending (entries_of c.self.inside.journal.items) else None) found) (sym c.self.invariant.journal_is.newest_is) expected)) own))
+    subst (λ p. IsExpected c.self.inside.last p found) (sym (c.visited_checkpoint.ensures ∙ own_awaited))
+    (subst (λ l. IsExpected l (if has_visited_all c.self.inside.journal.items then pending (entries_of c.self.inside.journal.items) else None) found) (sym c.self.invariant.journal_is.newest_is) expected)) own))
 
 pub returns-in_default-read_by-clause-scans : goal.returns-in_default-read_by-clause-scans
 returns-in_default-read_by-clause-scans c =
@@ -136,13 +136,13 @@ returns-in_default-read_by-clause-scans c =
     let is : c.self.inside.opener ≡ Some o = sym c.take_opener.ensures.taken ∙ c.in-Some.is in
     let same : c.requires.looking ≡ o = same_Some c.requires.looking o (sym c.requires.is ∙ sym (ap (λ (v : CoreView). v.opener) c.self.view_is) ∙ is) in
     let all : length o.told ≡ o.slots = subst (λ (l : Looking). length l.told ≡ l.slots) same c.requires.all in
-    let own_awaited : (if c.self.inside.swept then c.self.inside.pending else None) ≡ (if has_swept c.self.inside.journal.items then pending (entries_of c.self.inside.journal.items) else None) =
-    ap (λ b. if b then c.self.inside.pending else None) c.self.invariant.flags_are.swept_by ∙ ap (λ p. if has_swept c.self.inside.journal.items then p else None) c.self.invariant.journal_is.frozen_for in
+    let own_awaited : (if c.self.inside.swept then c.self.inside.pending else None) ≡ (if has_visited_all c.self.inside.journal.items then pending (entries_of c.self.inside.journal.items) else None) =
+    ap (λ b. if b then c.self.inside.pending else None) c.self.invariant.flags_are.visited_by ∙ ap (λ p. if has_visited_all c.self.inside.journal.items then p else None) c.self.invariant.journal_is.frozen_for in
     subst (λ v. RefusesDamage v (reply.Refused DamagedStore)) c.self.view_is (λ told opener there files sees right.
     let own_opener : opener ≡ o = same_Some opener o (sym there ∙ is) in
     let seen : Sees files None o = subst (Sees files None) own_opener sees in
-    subst (λ l. IsDamagedOrOther l (if has_swept c.self.inside.journal.items then pending (entries_of c.self.inside.journal.items) else None) files) c.self.invariant.journal_is.newest_is
-    (subst (λ p. IsDamagedOrOther c.self.inside.last p files) (c.swept_checkpoint.ensures ∙ own_awaited)
+    subst (λ l. IsDamagedOrOther l (if has_visited_all c.self.inside.journal.items then pending (entries_of c.self.inside.journal.items) else None) files) c.self.invariant.journal_is.newest_is
+    (subst (λ p. IsDamagedOrOther c.self.inside.last p files) (c.visited_checkpoint.ensures ∙ own_awaited)
     (c.in_default-read_by.ensures.damaged refl files seen (all ∙ sym seen.count) right)))
 
 same_found : (a b : Option ℕ) → Step (reply.Reopened a) ≡ Step (reply.Reopened b) → a ≡ b
@@ -150,14 +150,14 @@ same_found a b e = cc
 
 pub returns-clause-shows : goal.returns-clause-shows
 returns-clause-shows c =
-    let own_awaited : (if c.self.inside.swept then c.self.inside.pending else None) ≡ (if has_swept c.self.inside.journal.items then pending (entries_of c.self.inside.journal.items) else None) =
-    ap (λ b. if b then c.self.inside.pending else None) c.self.invariant.flags_are.swept_by ∙ ap (λ p. if has_swept c.self.inside.journal.items then p else None) c.self.invariant.journal_is.frozen_for in
-    let own_expected : IsExpected c.self.inside.last (if has_swept c.self.inside.journal.items then pending (entries_of c.self.inside.journal.items) else None) c.in-Some-read_by.found =
-    subst (λ p. IsExpected c.self.inside.last p c.in-Some-read_by.found) (c.swept_checkpoint.ensures ∙ own_awaited) c.in-Some-read_by.ensures.opens.expected in
+    let own_awaited : (if c.self.inside.swept then c.self.inside.pending else None) ≡ (if has_visited_all c.self.inside.journal.items then pending (entries_of c.self.inside.journal.items) else None) =
+    ap (λ b. if b then c.self.inside.pending else None) c.self.invariant.flags_are.visited_by ∙ ap (λ p. if has_visited_all c.self.inside.journal.items then p else None) c.self.invariant.journal_is.frozen_for in
+    let own_expected : IsExpected c.self.inside.last (if has_visited_all c.self.inside.journal.items then pending (entries_of c.self.inside.journal.items) else None) c.in-Some-read_by.found =
+    subst (λ p. IsExpected c.self.inside.last p c.in-Some-read_by.found) (c.visited_checkpoint.ensures ∙ own_awaited) c.in-Some-read_by.ensures.opens.expected in
     subst (λ v. OpensOwn v (Step (reply.Reopened c.in-Some-read_by.found))) c.self.view_is (λ found is.
-    subst (IsExpected (last (base_of c.self.inside.base) (entries_of c.self.inside.journal.items)) (if has_swept c.self.inside.journal.items then pending (entries_of c.self.inside.journal.items) else None))
+    subst (IsExpected (last (base_of c.self.inside.base) (entries_of c.self.inside.journal.items)) (if has_visited_all c.self.inside.journal.items then pending (entries_of c.self.inside.journal.items) else None))
     (same_found c.in-Some-read_by.found found is)
-    (subst (λ l. IsExpected l (if has_swept c.self.inside.journal.items then pending (entries_of c.self.inside.journal.items) else None) c.in-Some-read_by.found) c.self.invariant.journal_is.newest_is own_expected))
+    (subst (λ l. IsExpected l (if has_visited_all c.self.inside.journal.items then pending (entries_of c.self.inside.journal.items) else None) c.in-Some-read_by.found) c.self.invariant.journal_is.newest_is own_expected))
 
 pub returns-clause-beside : goal.returns-clause-beside
 returns-clause-beside c = beside_seen its.Opener (Step (reply.Reopened c.in-Some-read_by.found)) _ _ _ c.self.view_is (record {

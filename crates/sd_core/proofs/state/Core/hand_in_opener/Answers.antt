@@ -62,7 +62,7 @@ invariant_of-self c =
       merging = no_merge _ c.self.inside.merger (unmerged k);
       flags_are = c.self.invariant.flags_are;
       gated = none_works _ c.self.inside.dumper.running none;
-      swept_is = c.self.invariant.swept_is;
+      visited_is = c.self.invariant.visited_is;
     }
 
 pub returns-then-teach-clause-handed : goal.returns-then-teach-clause-handed
@@ -111,7 +111,7 @@ invariant_of-self-2 c =
       merging = no_merge _ c.self.inside.merger (unmerged k);
       flags_are = same_flags base c.self.inside.journal.items c.let_go.new.journal.items c.self.inside.swept c.self.inside.grows c.self.inside.committing gone.items c.self.invariant.flags_are;
       gated = none_works _ c.self.inside.dumper.running none;
-      swept_is = c.self.invariant.swept_is;
+      visited_is = c.self.invariant.visited_is;
     }
 
 pub returns-clause-handed : goal.returns-clause-handed

@@ -6,7 +6,7 @@ use Rattle.sd_journal.specs.Marked.{entries_of}
 use Rattle.sd_crash_safety.specs.declared.standing.Standing.TheVariants.{NotOpen, Open}
 use Rattle.sd_rounds.specs.Dumper.{Dumping}
 use Rattle.sd_core.proofs.FlagLemmas.{set_flags}
-use Rattle.sd_core.specs.Grown.{has_grown, has_swept}
+use Rattle.sd_core.specs.Grown.{has_grown, has_visited_all}
 use Rattle.sd_core.specs.Sound.{held_for}
 use Rattle.sd_crash_safety.specs.OpenerSteps.{nobody}
 use Rattle.sd_core.specs.Starts.{nothing_asked, shown_base}
@@ -32,8 +32,8 @@ invariant_of-result c =
       work = none_works _ c.new-3.result.running idle;
       little = none_works _ c.new-3.result.running idle;
       merging = no_merge _ c.new-4.result c.new-4.ensures;
-      swept_is = not_swept false None c.args.start.memory refl;
-      flags_are = set_flags _ c.new.result.items false false false (ap (λ all. has_grown (record { number = c.args.start.number; memory = memory_of c.args.start.base; origin = origins.Opened; folded = 0 }) (entries_of all)) (sym c.new.ensures.items)) refl (ap has_swept (sym c.new.ensures.items));
+      visited_is = not_swept false None c.args.start.memory refl;
+      flags_are = set_flags _ c.new.result.items false false false (ap (λ all. has_grown (record { number = c.args.start.number; memory = memory_of c.args.start.base; origin = origins.Opened; folded = 0 }) (entries_of all)) (sym c.new.ensures.items)) refl (ap has_visited_all (sym c.new.ensures.items));
       gated = none_works _ c.new-3.result.running idle;
     }
 

@@ -39,7 +39,7 @@ invariant_of-self-2 c =
       work = none_works _ c.self.inside.dumper.running none;
       little = none_works _ c.self.inside.dumper.running none;
       merging = no_merge _ c.self.inside.merger (none_merges _ inside may.closed);
-      swept_is = inside.swept_is;
+      visited_is = inside.visited_is;
       flags_are = same_flags base c.self.inside.journal.items c.fresh_opener.new.journal.items c.self.inside.swept c.self.inside.grows c.self.inside.committing held.items inside.flags_are;
       gated = none_works _ c.self.inside.dumper.running none;
     }

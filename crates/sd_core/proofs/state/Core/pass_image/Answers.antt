@@ -11,7 +11,7 @@ use Rattle.sd_rounds.specs.declared.image_order.ImageOrder.{ImageOrder}
 use Rattle.sd_rounds.specs.Dumper.{is_last}
 use Rattle.sd_rounds.specs.PlanSteps.{image_step}
 use Rattle.sd_rounds.specs.Making.{Making}
-use Rattle.sd_core.specs.Grown.{IsGatedStage, has_grown, has_swept}
+use Rattle.sd_core.specs.Grown.{IsGatedStage, has_grown, has_visited_all}
 use Rattle.sd_core.specs.Dumping.{StepsOn}
 use Rattle.sd_core.specs.Images.{begun_as}
 use Rattle.sd_core.specs.LittleWork.{TakesLittle}
@@ -55,7 +55,7 @@ invariant_of-self-in-Copied c =
       numbers_are = core.numbers_are;
       flags_are = core.flags_are;
       gated = subst (IsGatedStage (is_last w.running) c.self.inside.swept) (sym (ap (λ (m : Making). m.stage) w.steps.0.passes.1 ∙ w.steps.0.passes.0)) tt;
-      swept_is = swept_same c.self.inside.swept c.self.inside.swept c.self.inside.pending c.self.inside.pending c.self.inside.memory c.pass_on.new.memory refl refl w.steps.1 core.swept_is;
+      visited_is = swept_same c.self.inside.swept c.self.inside.swept c.self.inside.pending c.self.inside.pending c.self.inside.memory c.pass_on.new.memory refl refl w.steps.1 core.visited_is;
       counted = core.counted;
       outs_are = outs_kept w.running w.image w.next (merger.out_of_merge c.self.inside.merger) c.self.inside.outs out.1 w.making (ap (λ (m : Making). m.writes) w.steps.0.passes.1) t.out_is;
       whose = subst (λ o. IfSome o (λ i. i.worker ≡ its.Dumper)) (sym t.out_is) tt;
@@ -93,9 +93,9 @@ invariant_of-self-in-Visited c =
       journal_is = visit_journal c.step_laws.ensures.tracked _ w.running w.image w.next _ _ c.note.new.self core w.was w.making w.steps items c.note.ensures.numbers.first c.note.ensures.numbers.limit;
       numbers_are = subst (λ all. AreSoundNumbers base all c.self.inside.pending c.self.inside.last c.self.inside.numbers) (sym items)
           (numbers_noted base c.reserve_mark.new.self.items c.self.inside.pending c.self.inside.last c.self.inside.numbers (Visit w.image.order.serial c.in-Visited.visit.space c.in-Visited.visit.page) (omega (arith, given)) core.numbers_are);
-      flags_are = record { grown = core.flags_are.grown ∙ ap (λ all. has_grown base (entries_of all)) (sym items); swept_by = core.flags_are.swept_by ∙ ap has_swept (sym items); sure = core.flags_are.sure };
+      flags_are = record { grown = core.flags_are.grown ∙ ap (λ all. has_grown base (entries_of all)) (sym items); visited_by = core.flags_are.visited_by ∙ ap has_visited_all (sym items); sure = core.flags_are.sure };
       gated = subst (IsGatedStage (is_last w.running) c.self.inside.swept) (sym (ap (λ (m : Making). m.stage) w.steps.passes.1 ∙ w.steps.passes.0)) tt;
-      swept_is = λ is. ((core.swept_is is).0, clean_cleared c.clear_law.ensures c.self.inside.memory c.pass_on.new.memory c.in-Visited.visit.space c.in-Visited.visit.page w.steps.tests.cleared (core.swept_is is).1);
+      visited_is = λ is. ((core.visited_is is).0, clean_cleared c.clear_law.ensures c.self.inside.memory c.pass_on.new.memory c.in-Visited.visit.space c.in-Visited.visit.page w.steps.tests.cleared (core.visited_is is).1);
       counted = core.counted;
       outs_are = outs_kept w.running w.image w.next (merger.out_of_merge c.self.inside.merger) c.self.inside.outs out.1 w.making (ap (λ (m : Making). m.writes) w.steps.passes.1) t.out_is;
       whose = subst (λ o. IfSome o (λ i. i.worker ≡ its.Dumper)) (sym t.out_is) tt;

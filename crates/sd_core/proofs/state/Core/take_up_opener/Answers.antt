@@ -44,7 +44,7 @@ invariant_of-self-in-Call c =
       work = none_works _ c.self.inside.dumper.running none;
       little = none_works _ c.self.inside.dumper.running none;
       merging = no_merge _ c.self.inside.merger (none_merges _ inside opening.closed);
-      swept_is = inside.swept_is;
+      visited_is = inside.visited_is;
       flags_are = inside.flags_are;
       gated = none_works _ c.self.inside.dumper.running none;
     }
@@ -116,7 +116,7 @@ returns-in-Damaged-clause-opens c =
     let w = subst (λ step. WorksOpener c.self.inside.opener c.self.inside.numbers.ticket step c.step_opener.new.opener) c.in-Damaged.is c.in-Ok.ensures.works in
     let none = nobody_is _ w.opener c.self.invariant w.was (ap out_of_opener w.was ∙ w.rests) in
     subst (λ v. OpensBelieved v (Step (reply.Refused DamagedStore))) c.self.view_is
-    (believed_opens c.opener_finds.ensures (the_view c.self.inside) (Step (reply.Refused DamagedStore)) w.opener (λ commits. sym c.self.invariant.flags_are.swept_by ∙ c.self.invariant.flags_are.sure commits) w.was (ap (λ outs. slice_get outs 2) none) (λ told opener there files sees own.
+    (believed_opens c.opener_finds.ensures (the_view c.self.inside) (Step (reply.Refused DamagedStore)) w.opener (λ commits. sym c.self.invariant.flags_are.visited_by ∙ c.self.invariant.flags_are.sure commits) w.was (ap (λ outs. slice_get outs 2) none) (λ told opener there files sees own.
     w.sees files (subst (Sees files None) (same_Some opener w.opener (sym there ∙ w.was)) sees) own.images own.store))
 
 pub returns-in-AllRead-clause-opens : goal.returns-in-AllRead-clause-opens
@@ -125,5 +125,5 @@ returns-in-AllRead-clause-opens c =
     let none = nobody_is _ w.opener c.self.invariant w.was (ap out_of_opener w.was ∙ w.rests) in
     let same : c.step_opener.new.opener ≡ c.self.inside.opener = w.is ∙ ap Some w.moves.0 ∙ sym w.was in
     subst (λ v. OpensBelieved v (Step c.finish_opening.result)) c.self.view_is
-    (believed_opens c.opener_finds.ensures (the_view c.self.inside) (Step c.finish_opening.result) w.opener (λ commits. sym c.self.invariant.flags_are.swept_by ∙ c.self.invariant.flags_are.sure commits) w.was (ap (λ outs. slice_get outs 2) none)
+    (believed_opens c.opener_finds.ensures (the_view c.self.inside) (Step c.finish_opening.result) w.opener (λ commits. sym c.self.invariant.flags_are.visited_by ∙ c.self.invariant.flags_are.sure commits) w.was (ap (λ outs. slice_get outs 2) none)
     (subst (λ o. RefusesStrange (the_view (record c.self.inside { opener = o })) c.finish_opening.result) same c.finish_opening.ensures.refuses))

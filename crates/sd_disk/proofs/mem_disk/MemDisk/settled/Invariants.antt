@@ -6,6 +6,6 @@ use Rattle.sd_disk.proofs.mem_disk.MemDisk.settled.Given as goal
 abbrev pub ghost-new : goal.ghost-new
 ghost-new a = record { found = map held a.slots.now; left = [] }
 
--- of the questions and reads only their number is wanted
+-- of the questions and reads only their number is needed
 abbrev pub ghost-new-2 : goal.ghost-new-2
 ghost-new-2 a = record { found = []; left = [] }

@@ -2,22 +2,22 @@ use Rattle.std.proofs.Common.{Some, Option, sym, ◌∙◌, ap, subst}
 use Rattle.std.proofs.lemmas.Result.{IfOk-weaker}
 use Rattle.sd_chain.specs.declared.found.Found.{Found}
 use Rattle.sd_chain.specs.declared.found.Found.TheVariants as found
-use Rattle.sd_chain.specs.Passes.{IsBehind}
+use Rattle.sd_chain.specs.Passes.{IsAfterPlace}
 use Rattle.sd_chain.specs.Ways.{LiesBySerial}
 use Rattle.sd_rounds.specs.Pass.{Place}
 use Rattle.sd_merge.specs.Copying.{Copying, cursor}
 use Rattle.sd_merge.proofs.PassLemmas.{lost_ahead, lost_behind, lost_chain, never_beyond, never_there, placed, read_step, zero_step}
 use Rattle.sd_merge.proofs.copier.Copier.take.Goals as goal
-use Rattle.sd_merge.proofs.copier.Copier.take.Goals.{then-self-eq0-via-then-self-eq0, then-self-eq0-via-else-self-eq0+then-not-is_behind}
+use Rattle.sd_merge.proofs.copier.Copier.take.Goals.{then-self-eq0-via-then-self-eq0, then-self-eq0-via-else-self-eq0+then-not-is_after_entries}
 
 pub returns-then-self-eq0-clause-lost : goal.returns-then-self-eq0-clause-lost
 returns-then-self-eq0-clause-lost c = λ _.
     elim c.then-self-eq0.branch [
       | then-self-eq0-via-then-self-eq0 w ↦ lost_ahead c.args.catalog.now c.args.self.now (c.args.space, c.args.page) c.requires.stage c.requires.free c.requires.next
           (ap (λ (m : Copying). m.ahead) (sym c.self.view_is) ∙ w.if-self-eq0.true)
-      | then-self-eq0-via-else-self-eq0+then-not-is_behind w ↦ lost_behind c.args.catalog.now c.args.self.now (c.args.space, c.args.page) w.is_behind.result c.requires.stage c.requires.free c.requires.next
-          (λ behind. w.is_behind.ensures.1 (subst (λ (o : Option Place). IsBehind o (c.args.space, c.args.page)) (sym (c.last-last.ensures ∙ ap (λ (m : Copying). cursor m) c.self.view_is)) behind))
-          w.if-not-is_behind.true
+      | then-self-eq0-via-else-self-eq0+then-not-is_after_entries w ↦ lost_behind c.args.catalog.now c.args.self.now (c.args.space, c.args.page) w.is_after_entries.result c.requires.stage c.requires.free c.requires.next
+          (λ behind. w.is_after_entries.ensures.1 (subst (λ (o : Option Place). IsAfterPlace o (c.args.space, c.args.page)) (sym (c.last-last.ensures ∙ ap (λ (m : Copying). cursor m) c.self.view_is)) behind))
+          w.if-not-is_after_entries.true
     ]
 
 pub returns-in-Some-Zero-clause-steps : goal.returns-in-Some-Zero-clause-steps

@@ -10,7 +10,7 @@ use Rattle.sd_image.specs.Image.{is_open}
 use Rattle.sd_restore.specs.Scanned.{IsScanned}
 use Rattle.sd_opener.specs.declared.stage.Stage.TheVariants.{Asking}
 use Rattle.sd_opener.specs.Looking.{IsStageOf, Looking, out_of_look}
-use Rattle.sd_opener.specs.Sees.{InspectionEndsAs, InspectionHasEnded, IsToldOf, Sees, SeesSlot}
+use Rattle.sd_opener.specs.Sees.{InspectionEndsAs, InspectionHasEnded, IsLookOf, Sees, SeesSlot}
 use Rattle.sd_opener.specs.Left.{LowersLooking, slot_left}
 use Rattle.sd_opener.proofs.Inspecting.{begins, ends, goes}
 use Rattle.sd_opener.proofs.Lowers.{open_left, slot_lowers, stage_lowers, within_slots}
@@ -20,7 +20,7 @@ use Rattle.sd_opener.proofs.opener.Opener.hand_in.Goals as goal
 pub returns-in-None-clause-sees : goal.returns-in-None-clause-sees
 returns-in-None-clause-sees c files request told sees =
     let was = subst (Sees files (Some request)) (sym c.self.view_is) sees in
-    let is = subst (λ (v : Looking). IsToldOf (file_at files (length v.told)) request c.args.outcome) (sym c.self.view_is) told in
+    let is = subst (λ (v : Looking). IsLookOf (file_at files (length v.told)) request c.args.outcome) (sym c.self.view_is) told in
     let found = finds_file c.inspection_finds.ensures files request _ c.in-Asking.plan c.settle.new.self c.args.outcome c.settle.result c.in-Asking.is c.settle.ensures.settled was is c.in-Finished.is in
     let plan_is : c.settle.new.self ≡ c.in-Some.ensures.found.0 = (let same : Asking c.settle.new.self ≡ Asking c.in-Some.ensures.found.0 = c.in-Some.ensures.found.1 in cc) in
     let back = c.in-Some.ensures.found.2 ∙ ap (λ p. p.found) (sym plan_is) in
@@ -29,7 +29,7 @@ returns-in-None-clause-sees c files request told sees =
 pub returns-in-More-clause-sees : goal.returns-in-More-clause-sees
 returns-in-More-clause-sees c files request told sees =
     let was = subst (Sees files (Some request)) (sym c.self.view_is) sees in
-    let is = subst (λ (v : Looking). IsToldOf (file_at files (length v.told)) request c.args.outcome) (sym c.self.view_is) told in (
+    let is = subst (λ (v : Looking). IsLookOf (file_at files (length v.told)) request c.args.outcome) (sym c.self.view_is) told in (
       refl,
       record {
         count = was.count;
@@ -42,7 +42,7 @@ returns-in-More-clause-sees c files request told sees =
 pub returns-in-Failed-clause-sees : goal.returns-in-Failed-clause-sees
 returns-in-Failed-clause-sees c files request told sees =
     let was = subst (Sees files (Some request)) (sym c.self.view_is) sees in
-    let is = subst (λ (v : Looking). IsToldOf (file_at files (length v.told)) request c.args.outcome) (sym c.self.view_is) told in
+    let is = subst (λ (v : Looking). IsLookOf (file_at files (length v.told)) request c.args.outcome) (sym c.self.view_is) told in
     absurd (cant_fail c.inspection_finds.ensures files request _ c.in-Asking.plan c.settle.new.self c.args.outcome c.settle.result c.in-Asking.is c.settle.ensures.settled was is c.in-Failed.is)
 
 pub invariant_of-self-in-Some-Open : goal.invariant_of-self-in-Some-Open
@@ -64,7 +64,7 @@ returns-in-Some-Open-clause-free c was =
 pub returns-in-Some-Open-clause-sees : goal.returns-in-Some-Open-clause-sees
 returns-in-Some-Open-clause-sees c files request told sees =
     let was = subst (Sees files (Some request)) (sym c.self.view_is) sees in
-    let is = subst (λ (v : Looking). IsToldOf (file_at files (length v.told)) request c.args.outcome) (sym c.self.view_is) told in
+    let is = subst (λ (v : Looking). IsLookOf (file_at files (length v.told)) request c.args.outcome) (sym c.self.view_is) told in
     let n = length c.self.inside.told.items in
     let found = finds_file c.inspection_finds.ensures files request _ c.in-Asking.plan c.settle.new.self c.args.outcome c.settle.result c.in-Asking.is c.settle.ensures.settled was is c.in-Finished.is in
     let plan_is : c.settle.new.self ≡ c.in-Some.ensures.found.0 = (let same : Asking c.settle.new.self ≡ Asking c.in-Some.ensures.found.0 = c.in-Some.ensures.found.1 in cc) in
@@ -82,7 +82,7 @@ returns-in-Some-Open-clause-sees c files request told sees =
 pub returns-in-Some-Closed-clause-sees : goal.returns-in-Some-Closed-clause-sees
 returns-in-Some-Closed-clause-sees c files request told sees =
     let was = subst (Sees files (Some request)) (sym c.self.view_is) sees in
-    let is = subst (λ (v : Looking). IsToldOf (file_at files (length v.told)) request c.args.outcome) (sym c.self.view_is) told in
+    let is = subst (λ (v : Looking). IsLookOf (file_at files (length v.told)) request c.args.outcome) (sym c.self.view_is) told in
     let n = length c.self.inside.told.items in
     let found = finds_file c.inspection_finds.ensures files request _ c.in-Asking.plan c.settle.new.self c.args.outcome c.settle.result c.in-Asking.is c.settle.ensures.settled was is c.in-Finished.is in
     let plan_is : c.settle.new.self ≡ c.in-Some.ensures.found.0 = (let same : Asking c.settle.new.self ≡ Asking c.in-Some.ensures.found.0 = c.in-Some.ensures.found.1 in cc) in

@@ -11,11 +11,11 @@ use Rattle.sd_pagetable.specs.declared.access_error.AccessError.{AccessError}
 use Rattle.sd_pagetable.specs.declared.memory_error.MemoryError.{MemoryError}
 use Rattle.sd_pagetable.specs.declared.memory_error.MemoryError.TheVariants.{Denied as DeniedError, OutOfMemory}
 use Rattle.std.proofs.lemmas.Result.{err_from_is_err_and}
-use Rattle.sd_pagetable.specs.Due.{Answers, page_due, frame_due, fault_due}
+use Rattle.sd_pagetable.specs.RefusalOrder.{Answers, page_refusal, frame_refusal, fault_refusal}
 use Rattle.sd_pagetable.proofs.memory.Memory.fault.Goals as goal
 
 pub returns-then-not-is_alive-clause-due : goal.returns-then-not-is_alive-clause-due
-returns-then-not-is_alive-clause-due c = answers_err (fault_due c.args.self.now c.args.space c.args.address) _ c.into.result (Err c.into.result) (fault_dead c.args.self.now c.args.space c.args.address (ap (λ (m : Contents). is_alive m.spaces c.args.space) (sym c.self.view_is) ∙ sym c.is_alive.ensures ∙ c.if-not-is_alive.true)) c.into.ensures refl
+returns-then-not-is_alive-clause-due c = answers_err (fault_refusal c.args.self.now c.args.space c.args.address) _ c.into.result (Err c.into.result) (fault_dead c.args.self.now c.args.space c.args.address (ap (λ (m : Contents). is_alive m.spaces c.args.space) (sym c.self.view_is) ∙ sym c.is_alive.ensures ∙ c.if-not-is_alive.true)) c.into.ensures refl
 
 pub returns-in_err-page-clause-due : goal.returns-in_err-page-clause-due
 returns-in_err-page-clause-due c = grind (arith, err_from_is_err_and, answers_err, fault_stopped)
@@ -23,12 +23,12 @@ returns-in_err-page-clause-due c = grind (arith, err_from_is_err_and, answers_er
 pub make_writable-requires-clause-permitted : goal.make_writable-requires-clause-permitted
 make_writable-requires-clause-permitted c = let x = write_there c.args.self.now c.self.inside.paging c.args.space (page_of c.args.address) c.in_ok-page.page c.self.view_is c.in_ok-page.ensures.page c.in_ok-page.ensures.ok in rw x.1 x.2
 
--- what is due at the page is all that is due
-page_alone : (m n : Contents) (s address page : ℕ) → n ≡ m → page ≡ page_of address → is_alive n.spaces s ≡ true → page_due Write (value_at (plain_of m) s (page_of address)) ≡ None
-    → frame_due n (page_at n s page) ≡ fault_due m s address
+-- the refusal at the page is the only one
+page_alone : (m n : Contents) (s address page : ℕ) → n ≡ m → page ≡ page_of address → is_alive n.spaces s ≡ true → page_refusal Write (value_at (plain_of m) s (page_of address)) ≡ None
+    → frame_refusal n (page_at n s page) ≡ fault_refusal m s address
 page_alone m n s address page v e alive ok =
-    ap (λ p. frame_due n (page_at n s p)) e
-    ∙ ap (λ (z : Contents). frame_due z (page_at z s (page_of address))) v
+    ap (λ p. frame_refusal n (page_at n s p)) e
+    ∙ ap (λ (z : Contents). frame_refusal z (page_at z s (page_of address))) v
     ∙ sym (fault_goes m s address (ap (λ (z : Contents). is_alive z.spaces s) (sym v) ∙ alive) ok)
 
 -- an error is handed on

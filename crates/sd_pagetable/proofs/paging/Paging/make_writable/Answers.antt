@@ -16,7 +16,7 @@ use Rattle.sd_pagetable.specs.declared.memory_error.MemoryError.TheVariants.{Den
 use Rattle.sd_pagetable.specs.declared.access_error.AccessError.{AccessError}
 use Rattle.sd_pagetable.specs.declared.access_error.AccessError.TheVariants.{Refused}
 use Rattle.sd_pagetable.specs.declared.memory_refusal.MemoryRefusal.TheVariants.{NoFrame}
-use Rattle.sd_pagetable.specs.Due.{Answers}
+use Rattle.sd_pagetable.specs.RefusalOrder.{Answers}
 use Rattle.sd_pagetable.specs.Owning.{FailsToTake}
 use Rattle.sd_pagetable.specs.Tracking.{MakesWritable}
 use Rattle.sd_pagetable.proofs.FullLemmas.{due_room, due_full, needs_is, makes_page_writable}

@@ -14,7 +14,7 @@ invariant_of-self g c =
     c.world_laws-2.ensures.core.pre_dumps c.world_laws.ensures.core.looks c.world_laws.ensures.core.alone
 
 pub returns : goal.returns
-returns g c = subst (λ w. IsStep g.D.Disk event w c.answer_of.result new) c.self.view_is (c.made_tells.ensures.step event old c.answer_of.result new made)
+returns g c = subst (λ w. IsStep g.D.Disk event w c.answer_of.result new) c.self.view_is (c.made_event_laws.ensures.step event old c.answer_of.result new made)
   where
     event : Event
     event = Command c.args.seat c.args.command

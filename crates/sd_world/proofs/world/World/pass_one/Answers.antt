@@ -20,7 +20,7 @@ invariant_of-self-2 g c =
     c.world_laws.ensures.disk.as_read c.store_laws.ensures.performed c.store_laws.ensures.commute c.world_laws.ensures.core.looks c.world_laws.ensures.core.alone
 
 pub returns-clause-step : goal.returns-clause-step
-returns-clause-step g c = λ _. subst (λ w. IsStep g.D.Disk (Work its.Dumper) w reply.Worked new) c.self.view_is (c.made_tells.ensures.step (Work its.Dumper) old reply.Worked new made)
+returns-clause-step g c = λ _. subst (λ w. IsStep g.D.Disk (Work its.Dumper) w reply.Worked new) c.self.view_is (c.made_event_laws.ensures.step (Work its.Dumper) old reply.Worked new made)
   where
     old : WorldView g.row.D.Denot
     old = record { core = c.self.inside.core; disk = c.self.inside.disk; kept = c.self.inside.kept }

@@ -25,7 +25,7 @@ loop-event-preserved g c =
     let one_more : take (i + 1) events ≡ take i events ++ event ∷ [] =
     take_more events i event c.loop-event-test.true ∙ ap (λ e. take i events ++ e ∷ []) (sym c.event-item.is) in
     let made : IsStep g.D.Disk event c.loop-event.self c.step-answer.result c.step-answer.new.self =
-    (c.made_tells.ensures.step event c.loop-event.self c.step-answer.result c.step-answer.new.self step.does) in
+    (c.made_event_laws.ensures.step event c.loop-event.self c.step-answer.result c.step-answer.new.self step.does) in
     record {
       runs = subst (λ asked. Runs g.D.Disk c.args.self.now asked c.push_reserved.new.self.items c.step-answer.new.self) (sym one_more)
           (subst (λ answers. Runs g.D.Disk c.args.self.now (take i events ++ event ∷ []) answers c.step-answer.new.self) (sym c.push_reserved.ensures.items)

@@ -45,4 +45,4 @@ pub returns-clause-moves : goal.returns-clause-moves
 returns-clause-moves g c = λ honest first stands.
     let new : WorldView g.row.D.Denot = record { core = c.make_step-answer.new.core; disk = c.make_step-answer.new.disk; kept = c.make_step-answer.new.kept } in
     c.points_follow.ensures c.args.event.now c.args.self.now c.make_step-answer.result new
-    (c.made_tells.ensures.step c.args.event.now c.args.self.now c.make_step-answer.result new (returns-clause-does g c)) honest first stands
+    (c.made_event_laws.ensures.step c.args.event.now c.args.self.now c.make_step-answer.result new (returns-clause-does g c)) honest first stands

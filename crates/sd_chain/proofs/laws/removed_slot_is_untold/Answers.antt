@@ -1,5 +1,0 @@
-use Rattle.sd_chain.proofs.Agreement.{removed_slot_is_untold}
-use Rattle.sd_chain.proofs.laws.removed_slot_is_untold.Goals as goal
-
-pub returns : goal.returns
-returns c = removed_slot_is_untold

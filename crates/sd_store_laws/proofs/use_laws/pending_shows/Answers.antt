@@ -1,5 +1,0 @@
-use Rattle.sd_store_laws.proofs.Pending.{pending_shows_lem}
-use Rattle.sd_store_laws.proofs.use_laws.pending_shows.Goals as goal
-
-pub returns : goal.returns
-returns c = pending_shows_lem

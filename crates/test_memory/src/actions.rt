@@ -1,0 +1,126 @@
+//! What is done with memories, one after the other.
+use crate::growths::Step;
+use crate::line::Line;
+use crate::memories::{TestAction, run};
+use crate::support::{CLEAN_ALONE, CLEAN_SHARED, DIRTY_ALONE, DIRTY_SHARED, FRESH, READ_WRITE};
+use sd_pagetable::{AccessError, MemoryRefusal, Segv};
+use std::test::Fail;
+
+/// A pool of one frame: a second page gets it once the first is unmapped.
+const POOL_OF_ONE_FRAME: [Line; 6] = [
+    Line::Mmap(1, 0x1000, 4096, READ_WRITE),
+    Line::Mmap(1, 0x3000, 4096, READ_WRITE),
+    Line::StoreNow(1, 0x1000, &[1]),
+    Line::StoreNowRefused(1, 0x3000, &[2], MemoryRefusal::NoFrame),
+    Line::Munmap(1, 0x1000, 4096),
+    Line::StoreNow(1, 0x3000, &[2]),
+];
+
+/// A page that is alone in its frame takes no frame, whether it is writable or was cleared, or was shared.
+const FAULT_WITHOUT_A_FRAME: [Line; 15] = [
+    Line::Mmap(1, 0x1000, 8192, READ_WRITE),
+    Line::Fault(1, 0x1000),
+    Line::Fault(1, 0x1000),
+    Line::StoreNow(1, 0x1000, &[0x61]),
+    Line::FaultRefused(1, 0x2000, MemoryRefusal::NoFrame),
+    Line::Clear(1),
+    Line::Fault(1, 0x1000),
+    Line::Load(1, 0x1000, &[0x61]),
+    Line::LoadFails(1, 0x3000, 1, AccessError::Segv(Segv::Maperr)),
+    Line::Fork(1, 2),
+    Line::FaultRefused(1, 0x1000, MemoryRefusal::NoFrame),
+    Line::StoreNowRefused(2, 0x1000, &[0x62], MemoryRefusal::NoFrame),
+    Line::Exit(2),
+    Line::LoadFails(
+        2,
+        0x1000,
+        2,
+        AccessError::Refused(MemoryRefusal::NoSuchSpace),
+    ),
+    Line::Fault(1, 0x1000),
+];
+
+/// A clear of one side leaves the other. This and the next are scripts that ran on a Linux kernel, as those of
+/// `tests/rows/kernel_forks.ckpt`; a script of the program can't clear one space of several.
+const CLEAR_AFTER_FORK: [Line; 8] = [
+    Line::Mmap(1, 0x1_0000_0000, 8192, READ_WRITE),
+    Line::Store(1, 0x1_0000_0000, &[0x61]),
+    Line::Fork(1, 2),
+    Line::Clear(1),
+    Line::Words(1, 0x1_0000_0000, &[CLEAN_SHARED, 0]),
+    Line::Words(2, 0x1_0000_0000, &[DIRTY_SHARED, FRESH]),
+    Line::Clear(2),
+    Line::Words(2, 0x1_0000_0000, &[CLEAN_SHARED, 0]),
+];
+
+/// The child cleared, the parent stores.
+const CLEAR_CHILD_ONLY: [Line; 7] = [
+    Line::Mmap(1, 0x1_0000_0000, 4096, READ_WRITE),
+    Line::Store(1, 0x1_0000_0000, &[0x61]),
+    Line::Fork(1, 2),
+    Line::Clear(2),
+    Line::Store(1, 0x1_0000_0000, &[0x62]),
+    Line::Words(1, 0x1_0000_0000, &[DIRTY_ALONE]),
+    Line::Words(2, 0x1_0000_0000, &[CLEAN_ALONE]),
+];
+
+/// Calls that may grow a memory.
+const STEPS: [Step; 13] = [
+    Step::Mmap(1, 0x10000, 0x8000),
+    Step::Store(1, 0x10000),
+    Step::Fault(1, 0x11000),
+    Step::Store(1, 0x11000),
+    Step::Mprotect(1, 0x12000, 0x1000),
+    Step::Munmap(1, 0x13000, 0x1000),
+    Step::Mmap(1, 0x10000, 0x10000),
+    Step::Store(1, 0x14000),
+    Step::Fork(1),
+    Step::Store(2, 0x14000),
+    Step::Mmap(2, 0x40000, 0x8000),
+    Step::Fork(2),
+    Step::Fault(3, 0x14000),
+];
+
+/// The same of pages in several tables: each range ends in a table after the one that it begins in.
+const STEPS_OVER_TABLES: [Step; 7] = [
+    Step::Mmap(1, 0x1f_e000, 0x4000),
+    Step::Mmap(1, 0x3fff_f000, 0x2000),
+    Step::Mmap(1, 0x7f_ffff_f000, 0x2000),
+    Step::Store(1, 0x3fff_f000),
+    Step::Fork(1),
+    Step::Munmap(2, 0x20_0000, 0x1000),
+    Step::Fork(2),
+];
+
+/// The frames of each memory, and what is done with it. The first are those that a refused allocation is to reach.
+const ACTIONS: [(usize, TestAction); 9] = [
+    (64, TestAction::Growths(&STEPS)),
+    (64, TestAction::Growths(&STEPS_OVER_TABLES)),
+    (
+        1,
+        TestAction::Script("pool_of_one_frame", &POOL_OF_ONE_FRAME),
+    ),
+    (
+        1,
+        TestAction::Script("fault_without_a_frame", &FAULT_WITHOUT_A_FRAME),
+    ),
+    (
+        65_536,
+        TestAction::Script("clear_after_fork", &CLEAR_AFTER_FORK),
+    ),
+    (
+        65_536,
+        TestAction::Script("clear_child_only", &CLEAR_CHILD_ONLY),
+    ),
+    (16, TestAction::Bits),
+    (16, TestAction::Procfs),
+    (64, TestAction::Chance),
+];
+
+#[test]
+fn memories_do_what_they_should(rt: HostRuntime) -> Result<(), Fail> {
+    for (frames, action) in &ACTIONS {
+        run(&rt, *frames, *action)?;
+    }
+    Ok(())
+}
