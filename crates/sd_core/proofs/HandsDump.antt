@@ -37,6 +37,7 @@ use Rattle.sd_crash_safety.specs.DumperSteps.{OnlyDumps}
 use Rattle.sd_crash_safety.specs.Merges.{IsOtherImage, IsSpared, MakesOther}
 use Rattle.sd_crash_safety.specs.View.{CoreView, page_lane}
 use Rattle.sd_crash_safety.specs.declared.standing.Standing.TheVariants.{Open}
+use Rattle.sd_core.specs.Kept.{KeepsEach}
 use Rattle.sd_core.specs.Following.{FollowsOutcome}
 use Rattle.sd_core.specs.Grown.{IsGated, has_grown, has_visited_all}
 use Rattle.sd_core.specs.Images.{HasImage, HasPreDumps, IsAcked, begun_as}
@@ -44,6 +45,7 @@ use Rattle.sd_core.specs.LittleWork.{HasLittle, IsLittleDump, IsLittlePreDump, O
 use Rattle.sd_core.specs.Rounds.{OpensItsGate, SameRound}
 use Rattle.sd_core.specs.Sound.{AreOuts, AreSoundNumbers, CheckpointRuns, CheckpointsAreCounted, HasWrites, IsCore, IsHeaderOf, IsImageInMaking, IsOpening, IsStageOfImage, MergeRuns, Parts, begun_images, serials_to_come, held_for}
 use Rattle.sd_core.specs.Visited.{is_closing}
+use Rattle.sd_core.proofs.OthersLemmas.{keeps_changed}
 use Rattle.sd_core.proofs.CoreParts.{seen_of}
 use Rattle.sd_core.proofs.EnteredLemmas.{entered_held, entered_image, left_image}
 use Rattle.sd_core.proofs.FallenLemmas.{apart_after, free_after}
@@ -91,13 +93,13 @@ module _ {core : Parts} {seen : CoreView} {lane : ℕ} {made : Made} {phases : L
   in_making : IsImageInMaking core.journal.items core.places core.numbers image
   in_making = image_of_work core running image h.sound h.was h.making
 
-  its_order : image.order ≡ order_of running image.order.serial image.order.state
+  pub its_order : image.order ≡ order_of running image.order.serial image.order.state
   its_order = own_order core.dumper.since_freeze core.dumper.running running image h.orders h.was h.making
 
   its_slot : image.order.slot ≡ slot_of running
   its_slot = ap (λ (o : ImageOrder). o.slot) its_order
 
-  good : IsSoundImage image
+  pub good : IsSoundImage image
   good = sound_image core.dumper.running running image h.images h.was h.making
 
   little_so : TakesLittle core.base core.journal.items core.memory running.number image
@@ -305,6 +307,11 @@ module _ {core : Parts} {seen : CoreView} {lane : ℕ} {made : Made} {phases : L
   changes : Changes core.places places o.image.order.serial (Some (Some (image_of opened)))
   changes = subst (λ s. Changes core.places places s (Some (Some (image_of opened)))) header.serial o.changes
 
+  -- no image changes under its serial
+  pub keeps_entered : KeepsEach core.places places
+  keeps_entered = keeps_changed core.places places o.image.order.serial (Some (Some (image_of opened))) changes
+      (λ one there. none_held core.places o.image.order.serial one (in_making o.hands).held there)
+
   pub has : HasImage o.running places (image_of opened)
   has = grind arith
 
@@ -329,7 +336,7 @@ module _ {core : Parts} {seen : CoreView} {lane : ℕ} {made : Made} {phases : L
   frozen_so : is_frozen_dump o.image ≡ ((kind_number (if last then Dump else PreDump) == 2) && true)
   frozen_so = ap (λ k. (kind_number k == 2) && is_past_freeze o.image.stage) its_kind ∙ ap (λ s. (kind_number (if last then Dump else PreDump) == 2) && is_past_freeze s) o.opens.was
 
-  pends : core.frozen ≡ (if (kind_number (if last then Dump else PreDump) == 2) && true then Some o.running.number else None)
+  pub pends : core.frozen ≡ (if (kind_number (if last then Dump else PreDump) == 2) && true then Some o.running.number else None)
   pends = (work o.hands).pends ∙ ap (λ i. if is_frozen_image i then Some o.running.number else None) o.hands.making ∙ ap (λ b. if b then Some o.running.number else None) frozen_so
 
   whole_is : o.image.pass.takes_all ≡ (opened.header.parent == 0)

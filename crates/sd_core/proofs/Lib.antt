@@ -25,6 +25,12 @@ mod MergeLemmas
 mod MergerCalls
 mod MergerHands
 mod MergerSteps
+mod NextHands
+mod NextLaws
+mod NextOrders
+mod NextSound
+mod NextSteps
+mod NextOutcomes
 mod OpenedLemmas
 mod OpeningLemmas
 mod OthersLemmas

@@ -1,9 +1,10 @@
 -- What a call leaves beside the job that it is made for.
 use Rattle.std.proofs.Common.{◌≡◌, ℕ, ◌&&◌, Bool, true, false, not, if◌then◌else◌, Option, Some, None, IfSome, is_some, refl, sym, ◌∙◌, ap, subst, arith}
-use Rattle.sd_chain.specs.Catalog.{Changes, Opened, Places, place_of}
+use Rattle.sd_chain.specs.Catalog.{Changes, Opened, Places, place_of, without_slot}
 use Rattle.sd_gate.specs.declared.worker.Worker.{Worker}
 use Rattle.sd_journal.specs.declared.mark.Mark.TheVariants.{Start, Table}
 use Rattle.sd_rounds.specs.Dumper.{Running}
+use Rattle.sd_crash_safety.specs.DumperOutcomes.{LeavesCatalog}
 use Rattle.sd_crash_safety.specs.View.{CoreView}
 use Rattle.sd_core.specs.declared.taken.Taken.{Taken}
 use Rattle.sd_core.specs.Beside.{StepsBeside}
@@ -30,6 +31,14 @@ keeps_same old new same serial image other there now = same_image image other (s
 -- one place changes, at which no image stood
 pub keeps_changed : (old new : Places) (serial : ℕ) (to : Option (Option Opened)) → Changes old new serial to → ((o : Opened) → place_of old serial ≡ Some (Some o) → ⊥) → KeepsEach old new
 keeps_changed old new serial to changes none at image other there now = grind arith
+
+-- those of a slot leave it
+pub keeps_left : (closed : Bool) (slot : ℕ) (old new : Places) → LeavesCatalog closed slot old new → KeepsEach old new
+keeps_left true slot old new leaves = keeps_without slot old new leaves
+  where
+    keeps_without : (slot : ℕ) (old new : Places) → ((serial : ℕ) → place_of new serial ≡ without_slot slot (place_of old serial)) → KeepsEach old new
+    keeps_without slot old new leaves serial image other there now = grind arith
+keeps_left false slot old new same = keeps_same old new same
 
 -- as the core is seen
 pub beside_seen : (worker : Worker) (made : Taken) (inside now new : CoreView) → inside ≡ now → StepsBeside worker inside made new → StepsBeside worker now made new

@@ -29,6 +29,9 @@ use Rattle.sd_core.specs.Lasting.{FixesNoList, MergeLasts}
 use Rattle.sd_core.specs.LittleWork.{IsLittleDump, IsLittlePreDump, OpensPreDump}
 use Rattle.sd_core.specs.Merging.{EndsCut, EntersAsCopy, EntersAtRest, FixesItsList, IsMerged, ListsTheUnneeded}
 use Rattle.sd_core.specs.Merging.{MergesAs, merge_refusal}
+use Rattle.sd_core.specs.Next.{NextByBegin, NextByCancel, NextByCommand, NextByDumper, NextByDumpersOutcome}
+use Rattle.sd_core.specs.Next.{NextByMerge}
+use Rattle.sd_core.specs.Next.{NextByReopen}
 use Rattle.sd_core.specs.Noted.{KeepsMarks}
 use Rattle.sd_core.specs.Opening.{OpensBelieved, OpensOwn, RefusesAsScan, RefusesRightly}
 use Rattle.sd_core.specs.Orders.{BeginsToOpen, IsCancelled}
@@ -40,6 +43,7 @@ use Rattle.sd_core.specs.Working.{FindsSource, LeavesByOutcome, LeavesByWork}
 -- a command of a seat
 pub record IsApplied (seat : ℕ) (command : Command) (told : Result (ℕ × Reply) Refusal)
     (old new : CoreView) : Type 0 where
+  pub step : NextByCommand seat command old told new
   pub applies : Applies seat command told old new
   pub number : IfOk told (λ t. t.0 ≡ old.base.folded + length (history_of old))
   pub full : told ≡ Err JournalFull ↔ length (history_of old) + old.held ≡ old.limit
@@ -55,6 +59,7 @@ pub record IsApplied (seat : ℕ) (command : Command) (told : Result (ℕ × Rep
 
 -- the order to begin a checkpoint of so many pre-dumps
 pub record IsBegun (rounds : ℕ) (answer : Reply) (old new : CoreView) : Type 0 where
+  pub step : NextByBegin rounds old answer new
   pub adds : AddsByOrder answer (history_of old) (history_of new)
   pub keeps : Stays old new
   pub refused : (why : Refusal) → begin_refusal old rounds ≡ Some why → (answer ≡ reply.Refused why) × (new ≡ old)
@@ -64,6 +69,7 @@ pub record IsBegun (rounds : ℕ) (answer : Reply) (old new : CoreView) : Type 0
 
 -- the order to begin a merge
 pub record IsMergeOrder (answer : Reply) (old new : CoreView) : Type 0 where
+  pub step : NextByMerge old answer new
   pub adds : AddsByOrder answer (history_of old) (history_of new)
   pub keeps : Stays old new
   pub refused : (why : Refusal) → merge_refusal old ≡ Some why → (answer ≡ reply.Refused why) × (new ≡ old)
@@ -73,6 +79,7 @@ pub record IsMergeOrder (answer : Reply) (old new : CoreView) : Type 0 where
 
 -- the order to cancel
 pub record IsCancelOrder (answer : Reply) (old new : CoreView) : Type 0 where
+  pub step : NextByCancel old answer new
   pub adds : AddsByCancel answer (history_of old) (history_of new)
   pub keeps : Stays old new
   pub refused : (why : Refusal) → cancel_refusal old ≡ Some why → (answer ≡ reply.Refused why) × (new ≡ old)
@@ -82,6 +89,7 @@ pub record IsCancelOrder (answer : Reply) (old new : CoreView) : Type 0 where
 
 -- the order to open the store again
 pub record IsReopenOrder (answer : Reply) (old new : CoreView) : Type 0 where
+  pub step : NextByReopen old answer new
   pub adds : AddsByOrder answer (history_of old) (history_of new)
   pub keeps : Stays old new
   pub refused : (why : Refusal) → reopen_refusal old ≡ Some why → (answer ≡ reply.Refused why) × (new ≡ old)
@@ -91,6 +99,7 @@ pub record IsReopenOrder (answer : Reply) (old new : CoreView) : Type 0 where
 
 -- a worker's next step, or its next device call
 pub record IsTakenUp (worker : Worker) (old : CoreView) (made : Taken) (new : CoreView) : Type 0 where
+  pub step : worker ≡ Dumper → NextByDumper old made new
   pub takes : TakesUp old worker made new
   pub refused : (why : Refusal) → work_refusal old worker ≡ Some why → (made ≡ Step (reply.Refused why)) × (new ≡ old)
   pub leaves : work_refusal old worker ≡ None → LeavesByWork old worker made new
@@ -111,6 +120,8 @@ HasNoPassStep core = IsSome (work_refusal core Dumper) ⊎ NoPageIsNext core.dum
 
 -- the outcome of a device call
 pub record IsHandedIn (made : Made) (answer : Reply) (old new : CoreView) : Type 0 where
+  pub step : IsOut old made.request.id → made.request.id.worker ≡ Dumper → is_idle old Dumper ≡ false
+      → NextByDumpersOutcome old made answer new
   pub strange : (IsOut old made.request.id → ⊥) → (answer ≡ reply.Refused Idle) × (new ≡ old)
   pub handed : (out : IsOut old made.request.id) → HandedIn old out.lane made answer new
   pub failed : IsOut old made.request.id → is_done made.answer ≡ false → answer ≡ reply.Refused StoreDown

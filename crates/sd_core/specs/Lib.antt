@@ -24,3 +24,5 @@ pub mod Starts
 pub mod Trims
 pub mod Visited
 pub mod Working
+pub mod Next
+pub mod SoundView

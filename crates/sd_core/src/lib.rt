@@ -10,6 +10,7 @@ mod following;
 mod lanes;
 mod laws;
 mod merging;
+mod next_laws;
 mod numbers;
 mod opening;
 mod start;

@@ -15,6 +15,7 @@ ghost use Rattle.sd_core.specs.Working.{left_by};
 
 use crate::base::CoreBase;
 use crate::lanes::LANES;
+use crate::next_laws::{dumper_outcome_laws, sound_outcome_laws, taken_law};
 use crate::numbers::Numbers;
 use crate::opening::left_of_opener;
 use crate::start::Start;
@@ -236,6 +237,8 @@ impl Core {
         ensures { IsTakenUp worker self.old result self.new }
     {
         core_steps();
+        taken_law();
+        self.is_sound();
         match self.refusal_of_work(worker) {
             Some(why) => Taken::Step(Reply::Refused(why)),
             None => match worker {
@@ -254,6 +257,9 @@ impl Core {
     pub fn hand_in(&mut self, outcome: Outcome) -> Reply
         ensures { IsHandedIn outcome result self.old self.new }
     {
+        dumper_outcome_laws();
+        sound_outcome_laws();
+        self.is_sound();
         let id = outcome.id();
         let Some(lane) = lane_of(&self.outs, &id) else {
             drop(outcome);
@@ -263,7 +269,11 @@ impl Core {
             return self.hand_in_late(lane, outcome);
         }
         match id.worker {
-            Worker::Dumper => self.hand_in_dumper(lane, outcome),
+            Worker::Dumper => {
+                let reply = self.hand_in_dumper(lane, outcome);
+                self.is_sound();
+                reply
+            }
             Worker::Merger => self.hand_in_merger(outcome),
             Worker::Opener => self.hand_in_opener(outcome),
         }

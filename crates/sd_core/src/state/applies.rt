@@ -3,6 +3,7 @@ ghost use Rattle.sd_core.specs.Called.{IsApplied};
 
 use super::Core;
 use crate::answering::answer;
+use crate::next_laws::command_laws;
 use sd_command::{Command, Refusal, Reply};
 use sd_crash_safety::core_steps;
 use sd_journal::{Entry, tracked_laws};
@@ -40,6 +41,7 @@ impl Core {
         ensures { IsApplied seat command result self.old self.new }
     {
         core_steps();
+        command_laws();
         tracked_laws();
         self.memory.sound();
         if self.journal.free() == 0 {

@@ -9,14 +9,13 @@ ghost use Rattle.sd_gate.specs.declared.worker.Worker.TheVariants as its;
 ghost use Rattle.sd_rounds.specs.Dumper.{Running, next_slot};
 ghost use Rattle.sd_rounds.specs.PassSteps.{NoPageIsNext};
 ghost use Rattle.sd_rounds.specs.Waits.{dumper_must_wait};
-ghost use Rattle.sd_core.specs.Beside.{HandsBeside, StepsBeside};
+ghost use Rattle.sd_core.specs.Beside.{HandsBeside};
 ghost use Rattle.sd_core.specs.Images.{IsAcked};
-ghost use Rattle.sd_core.specs.LittleWork.{IsLittleDump, IsLittlePreDump, OpensPreDump};
-ghost use Rattle.sd_core.specs.Flags.{FlagsByOutcome, FlagsByStep};
-ghost use Rattle.sd_core.specs.Lasting.{MergeLasts};
+ghost use Rattle.sd_core.specs.LittleWork.{OpensPreDump};
+ghost use Rattle.sd_core.specs.Flags.{FlagsByOutcome};
 ghost use Rattle.sd_core.specs.Merging.{OpensMerged};
+ghost use Rattle.sd_core.specs.Next.{NextByDumper, NextByDumpersOutcome};
 ghost use Rattle.sd_core.specs.Refusals.{is_idle, work_refusal};
-ghost use Rattle.sd_core.specs.Rounds.{OpensItsGate, SameRound, TurnsRound};
 ghost use Rattle.sd_core.specs.Starts.{TakesUp};
 ghost use Rattle.sd_core.specs.Working.{LeavesByOutcome, LeavesByWork};
 ghost use Rattle.sd_gate.specs.Calls.{is_done};
@@ -42,11 +41,8 @@ impl Core {
     pub(super) fn take_up_dumper(&mut self) -> Taken
         requires { work_refusal self.old its.Dumper ≡ None }
         ensures takes { TakesUp self.old its.Dumper result self.new }
-        ensures flags { FlagsByStep self.old its.Dumper result self.new }
-        ensures beside { StepsBeside its.Dumper self.old result self.new }
         ensures leaves { LeavesByWork self.old its.Dumper result self.new }
-        ensures round { SameRound self.old.dumper.running self.new.dumper.running }
-        ensures merger { self.new.merger ≡ self.old.merger }
+        ensures step { NextByDumper self.old result self.new }
     {
         match self.dumper.next_slot() {
             Some(slot) => self.begin_image(slot),
@@ -61,13 +57,11 @@ impl Core {
     ///
     /// `OutOfMemory` where a growth was refused.
     pub(super) fn begin_image(&mut self, slot: usize) -> Taken
+        requires may { work_refusal self.old its.Dumper ≡ None }
         requires next { next_slot self.old.dumper.running ≡ Some slot }
         ensures takes { TakesUp self.old its.Dumper result self.new }
-        ensures flags { FlagsByStep self.old its.Dumper result self.new }
-        ensures beside { StepsBeside its.Dumper self.old result self.new }
         ensures leaves { LeavesByWork self.old its.Dumper result self.new }
-        ensures round { SameRound self.old.dumper.running self.new.dumper.running }
-        ensures merger { self.new.merger ≡ self.old.merger }
+        ensures step { NextByDumper self.old result self.new }
     {
         step_laws();
         rises_law();
@@ -109,11 +103,8 @@ impl Core {
         requires rests { slice_get self.old.outs 0 ≡ Some None }
         requires goes { dumper_must_wait self.old.dumper.running (plain_of self.old.memory) ≡ false }
         ensures takes { TakesUp self.old its.Dumper result self.new }
-        ensures flags { FlagsByStep self.old its.Dumper result self.new }
-        ensures beside { StepsBeside its.Dumper self.old result self.new }
         ensures leaves { LeavesByWork self.old its.Dumper result self.new }
-        ensures round { SameRound self.old.dumper.running self.new.dumper.running }
-        ensures merger { self.new.merger ≡ self.old.merger }
+        ensures step { NextByDumper self.old result self.new }
     {
         core_steps();
         match self.pass_image() {
@@ -136,11 +127,8 @@ impl Core {
         requires goes { dumper_must_wait self.old.dumper.running (plain_of self.old.memory) ≡ false }
         requires other { NoPageIsNext self.old.dumper.running self.old.memory }
         ensures takes { TakesUp self.old its.Dumper result self.new }
-        ensures flags { FlagsByStep self.old its.Dumper result self.new }
-        ensures beside { StepsBeside its.Dumper self.old result self.new }
         ensures leaves { LeavesByWork self.old its.Dumper result self.new }
-        ensures round { SameRound self.old.dumper.running self.new.dumper.running }
-        ensures merger { self.new.merger ≡ self.old.merger }
+        ensures step { NextByDumper self.old result self.new }
     {
         step_laws();
         self.dumper.sound();
@@ -210,18 +198,10 @@ impl Core {
         requires out { slice_get self.old.outs lane ≡ Some (Some outcome.request.id) }
         requires dumper { outcome.request.id.worker ≡ its.Dumper }
         requires runs { is_idle self.old its.Dumper ≡ false }
-        ensures handed { HandedIn self.old lane outcome result self.new }
         ensures failed { is_done outcome.answer ≡ false ↔ result ≡ reply.Refused StoreDown }
         ensures leaves { LeavesByOutcome self.old its.Dumper result self.new }
-        ensures flags { FlagsByOutcome self.old result self.new }
-        ensures beside { HandsBeside outcome self.old self.new }
-        ensures lasts { MergeLasts self.old self.new }
         ensures acked { (n : ℕ) → result ≡ reply.Acked n → IsAcked n self.old self.new }
-        ensures little { (n : ℕ) → result ≡ reply.Acked n → IsLittleDump n self.old self.new }
-        ensures round { (running : Running) → OpensPreDump running self.old self.new
-            → IsLittlePreDump running self.old self.new }
-        ensures rounds { TurnsRound self.old.dumper.running self.new.dumper.running self.new.catalog }
-        ensures gates { OpensItsGate self.old lane outcome.request result self.new }
+        ensures step { NextByDumpersOutcome self.old outcome result self.new }
     {
         outcome_laws();
         self.dumper.sound();

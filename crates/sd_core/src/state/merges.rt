@@ -5,14 +5,14 @@ ghost use Rattle.sd_command.specs.declared.reply.Reply.TheVariants as reply;
 ghost use Rattle.sd_gate.specs.Calls.{is_done};
 ghost use Rattle.sd_gate.specs.declared.worker.Worker.TheVariants as its;
 ghost use Rattle.sd_merge.specs.Merger.{slot_before};
-ghost use Rattle.sd_crash_safety.specs.Calls.{AddsByOrder, HandedIn, Stays};
-ghost use Rattle.sd_crash_safety.specs.View.{history_of};
-ghost use Rattle.sd_core.specs.Beside.{HandsBeside, OrdersBeside, StepsBeside};
+ghost use Rattle.sd_crash_safety.specs.Calls.{HandedIn, Stays};
+ghost use Rattle.sd_core.specs.Beside.{HandsBeside, StepsBeside};
 ghost use Rattle.sd_core.specs.Entering.{EntersFirst};
-ghost use Rattle.sd_core.specs.Flags.{FlagsByOutcome, FlagsByStep, KeepsFlags};
+ghost use Rattle.sd_core.specs.Flags.{FlagsByOutcome, FlagsByStep};
 ghost use Rattle.sd_core.specs.Lasting.{FixesNoList, MergeLasts};
 ghost use Rattle.sd_core.specs.Merging.{EndsCut, EntersAsCopy, EntersAtRest, FixesItsList, IsMerged, ListsTheUnneeded};
-ghost use Rattle.sd_core.specs.Merging.{MergesAs, merge_refusal};
+ghost use Rattle.sd_core.specs.Merging.{merge_refusal};
+ghost use Rattle.sd_core.specs.Next.{NextByMerge};
 ghost use Rattle.sd_core.specs.Refusals.{is_idle, work_refusal};
 ghost use Rattle.sd_core.specs.Starts.{TakesUp};
 ghost use Rattle.sd_core.specs.Working.{FindsSource, LeavesByOutcome, LeavesByWork};
@@ -55,11 +55,8 @@ impl Core {
     /// `NoSlot`, `OutOfMemory`: as `merge`.
     pub(super) fn merge_tip(&mut self) -> Reply
         requires { merge_refusal self.old ≡ None }
-        ensures adds { AddsByOrder result (history_of self.old) (history_of self.new) }
         ensures keeps { Stays self.old self.new }
-        ensures merges { MergesAs self.old result self.new }
-        ensures flags { KeepsFlags self.old self.new }
-        ensures beside { OrdersBeside its.Merger self.old self.new }
+        ensures step { NextByMerge self.old result self.new }
     {
         core_steps();
         merge_beginning_law(&self.catalog);

@@ -1,18 +1,15 @@
 //! The orders to a core: a checkpoint, a merge, the end of a checkpoint, a store opened again.
 ghost use Rattle.std.specs.Prelude.{◌≡◌, None, IfOk};
-ghost use Rattle.sd_crash_safety.specs.Calls.{AddsByCancel, AddsByOrder, Stays};
-ghost use Rattle.sd_crash_safety.specs.View.{history_of};
-ghost use Rattle.sd_gate.specs.declared.worker.Worker.TheVariants as its;
-ghost use Rattle.sd_core.specs.Beginning.{BeginsAs, FreeSlots, begin_refusal};
-ghost use Rattle.sd_core.specs.Beside.{OrdersBeside};
+ghost use Rattle.sd_crash_safety.specs.Calls.{Stays};
+ghost use Rattle.sd_core.specs.Beginning.{FreeSlots, begin_refusal};
 ghost use Rattle.sd_core.specs.Called.{IsBegun, IsCancelOrder, IsMergeOrder, IsReopenOrder};
-ghost use Rattle.sd_core.specs.Flags.{FlagsByBegin, FlagsByCancel, KeepsFlags};
-ghost use Rattle.sd_core.specs.Orders.{BeginsToOpen, IsCancelled};
+ghost use Rattle.sd_core.specs.Next.{NextByBegin, NextByCancel, NextByReopen};
 ghost use Rattle.sd_core.specs.Refusals.{cancel_refusal, reopen_refusal};
 
 use super::Core;
 use crate::beginning::{first_of, first_parent, is_down, is_not_open, reserve_slots};
 use crate::dumping::{begin_checkpoint, release_place};
+use crate::next_laws::{begun_law, cancel_laws, merge_order_laws, reopen_laws};
 use crate::opening::{fresh_opener, give_up_all, put_opener};
 use sd_command::{Refusal, Reply};
 use sd_crash_safety::{beginning_law, cancelling_law, core_steps, opener_steps};
@@ -48,6 +45,8 @@ impl Core {
         ensures { IsBegun rounds result self.old self.new }
     {
         core_steps();
+        self.is_sound();
+        begun_law(&self.catalog);
         match self.refusal_of_begin(rounds) {
             Some(why) => Reply::Refused(why),
             None => self.begin_in_slots(rounds as usize),
@@ -61,11 +60,7 @@ impl Core {
     /// `NoSlot`, `OutOfMemory`: as `begin`.
     pub(super) fn begin_in_slots(&mut self, rounds: usize) -> Reply
         requires { begin_refusal self.old rounds ≡ None }
-        ensures adds { AddsByOrder result (history_of self.old) (history_of self.new) }
-        ensures keeps { Stays self.old self.new }
-        ensures begins { BeginsAs self.old rounds result self.new }
-        ensures flags { FlagsByBegin self.old result self.new }
-        ensures beside { OrdersBeside its.Dumper self.old self.new }
+        ensures { NextByBegin rounds self.old result self.new }
     {
         core_steps();
         beginning_law(&self.catalog);
@@ -121,6 +116,7 @@ impl Core {
         ensures { IsMergeOrder result self.old self.new }
     {
         core_steps();
+        merge_order_laws();
         match self.refusal_of_merge() {
             Some(why) => Reply::Refused(why),
             None => self.merge_tip(),
@@ -138,6 +134,7 @@ impl Core {
         ensures { IsCancelOrder result self.old self.new }
     {
         core_steps();
+        cancel_laws();
         match self.refusal_of_cancel() {
             Some(why) => Reply::Refused(why),
             None => self.cancel_it(),
@@ -147,11 +144,8 @@ impl Core {
     /// Cancels the checkpoint that runs or is pending.
     pub(super) fn cancel_it(&mut self) -> Reply
         requires { cancel_refusal self.old ≡ None }
-        ensures adds { AddsByCancel result (history_of self.old) (history_of self.new) }
         ensures keeps { Stays self.old self.new }
-        ensures cancelled { IsCancelled self.old result self.new }
-        ensures flags { FlagsByCancel self.old result self.new }
-        ensures beside { OrdersBeside its.Dumper self.old self.new }
+        ensures step { NextByCancel self.old result self.new }
     {
         core_steps();
         cancelling_law();
@@ -179,6 +173,7 @@ impl Core {
         ensures { IsReopenOrder result self.old self.new }
     {
         core_steps();
+        reopen_laws();
         match self.refusal_of_reopen() {
             Some(why) => Reply::Refused(why),
             None => self.open_again(),
@@ -192,11 +187,8 @@ impl Core {
     /// `OutOfMemory` where a growth was refused. Nothing changed.
     pub(super) fn open_again(&mut self) -> Reply
         requires { reopen_refusal self.old ≡ None }
-        ensures adds { AddsByOrder result (history_of self.old) (history_of self.new) }
         ensures keeps { Stays self.old self.new }
-        ensures begun { BeginsToOpen self.old result self.new }
-        ensures flags { KeepsFlags self.old self.new }
-        ensures beside { OrdersBeside its.Opener self.old self.new }
+        ensures step { NextByReopen self.old result self.new }
     {
         core_steps();
         opener_steps();

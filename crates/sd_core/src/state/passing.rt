@@ -1,14 +1,11 @@
 //! A core's pass over the memory: pages that are visited, and sectors that are copied.
-ghost use Rattle.std.specs.Prelude.{◌≡◌, false, true, slice_get, Ok, Some, None, OnErr};
+ghost use Rattle.std.specs.Prelude.{◌≡◌, ◌⊎◌, false, true, slice_get, Ok, Some, None, OnErr};
 ghost use Rattle.sd_command.specs.declared.reply.Reply.TheVariants as reply;
 ghost use Rattle.sd_gate.specs.declared.worker.Worker.TheVariants as its;
 ghost use Rattle.sd_rounds.specs.Dumper.{next_slot};
 ghost use Rattle.sd_core.specs.declared.taken.Taken.TheVariants.{Step as StepTaken};
-ghost use Rattle.sd_core.specs.Beside.{StepsBeside};
 ghost use Rattle.sd_core.specs.Called.{HasNoPassStep, IsTakenUp};
-ghost use Rattle.sd_core.specs.Flags.{FlagsByStep};
-ghost use Rattle.sd_core.specs.Refusals.{work_refusal};
-ghost use Rattle.sd_core.specs.Rounds.{SameRound};
+ghost use Rattle.sd_core.specs.Next.{CopiesSector, VisitsPage};
 ghost use Rattle.sd_core.specs.Starts.{TakesUp};
 ghost use Rattle.sd_core.specs.Working.{LeavesByWork};
 
@@ -16,6 +13,7 @@ use super::Core;
 use crate::dumping::pass_on;
 use crate::lanes::is_resting;
 use crate::laws::step_laws;
+use crate::next_laws::taken_law;
 use sd_crash_safety::core_steps;
 use sd_gate::Worker;
 use sd_journal::Mark;
@@ -38,6 +36,8 @@ impl Core {
         ensures err { OnErr result (self.new ≡ self.old) }
     {
         core_steps();
+        taken_law();
+        self.is_sound();
         if !is_resting(&self.outs, Worker::Dumper) || self.dumper.next_slot().is_some() {
             return Ok(false);
         }
@@ -53,13 +53,9 @@ impl Core {
     pub(super) fn pass_image(&mut self) -> Result<bool, AllocError>
         requires begun { next_slot self.old.dumper.running ≡ None }
         requires rests { slice_get self.old.outs 0 ≡ Some None }
-        ensures goes { result ≡ Ok true → work_refusal self.old its.Dumper ≡ None }
         ensures takes { result ≡ Ok true → TakesUp self.old its.Dumper (StepTaken reply.Worked) self.new }
-        ensures flags { result ≡ Ok true → FlagsByStep self.old its.Dumper (StepTaken reply.Worked) self.new }
-        ensures beside { result ≡ Ok true → StepsBeside its.Dumper self.old (StepTaken reply.Worked) self.new }
         ensures leaves { result ≡ Ok true → LeavesByWork self.old its.Dumper (StepTaken reply.Worked) self.new }
-        ensures round { result ≡ Ok true → SameRound self.old.dumper.running self.new.dumper.running }
-        ensures merger { result ≡ Ok true → self.new.merger ≡ self.old.merger }
+        ensures steps { result ≡ Ok true → VisitsPage self.old self.new ⊎ CopiesSector self.old self.new }
         ensures other { result ≡ Ok false → HasNoPassStep self.old × (self.new ≡ self.old) }
         ensures err { OnErr result (self.new ≡ self.old) }
     {

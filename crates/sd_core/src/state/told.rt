@@ -15,6 +15,7 @@ ghost use Rattle.sd_core.specs.Kept.{HasItsPreDumps};
 ghost use Rattle.sd_core.specs.Lasting.{LeavesMerged};
 ghost use Rattle.sd_core.specs.Refusals.{IsPageOut};
 ghost use Rattle.sd_core.specs.Rounds.{HasFewOpen, LeavesPreDumps};
+ghost use Rattle.sd_core.specs.SoundView.{IsSoundView};
 
 use super::Core;
 use crate::beginning::is_down;
@@ -100,6 +101,15 @@ impl Core {
         ensures { IsTracked self.now.base self.now.items self.now.memory }
     {
         let _memory = &self.memory;
+    }
+
+    /// A law: what is so of every core holds of what is seen of it.
+    pub fn is_sound(&self)
+        ensures { IsSoundView self.now }
+    {
+        self.dumper.sound();
+        self.memory.sound();
+        self.catalog.sound();
     }
 
     /// A law: the next checkpoint goes on from the tip exactly where the journal has an acknowledgement since its

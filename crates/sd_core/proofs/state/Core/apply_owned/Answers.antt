@@ -1,11 +1,13 @@
-use Rattle.std.proofs.Common.{◌≡◌, ◌∷◌, length, IfSome, sym, refl, ◌∙◌, ap, subst, arith, rules}
+use Rattle.std.proofs.Common.{◌≡◌, ◌+◌, is_some, ◌∷◌, length, IfSome, sym, refl, ◌∙◌, ap, subst, arith, rules}
 use Rattle.sd_journal.specs.History.{Base}
 use Rattle.sd_journal.specs.declared.entry.Entry.TheVariants.{Applied}
 use Rattle.sd_journal.specs.Marked.{Told, entries_of}
-use Rattle.sd_crash_safety.specs.View.{CoreView, history_of}
 use Rattle.sd_core.proofs.FlagLemmas.{same_flags}
 use Rattle.sd_core.specs.Grown.{has_grown, has_visited_all}
 use Rattle.sd_core.specs.Answering.{IsAnswered}
+use Rattle.sd_core.specs.Next.{applies, out_of_memory, NextByCommand}
+use Rattle.sd_core.proofs.CoreParts.{parts_of}
+use Rattle.sd_core.proofs.NextOrders.{applied_seen, command_seen, same_seen, told_as}
 use Rattle.sd_core.specs.LittleWork.{HasLittle}
 use Rattle.sd_core.specs.Sound.{AreSoundNumbers, CheckpointRuns, IsJournal}
 use Rattle.sd_crash_safety.specs.CoreSteps.{IsCommanded}
@@ -17,6 +19,8 @@ use Rattle.sd_core.proofs.LittleLemmas.{applied_little, still_while_frozen}
 use Rattle.sd_core.proofs.OpeningLemmas.{stays_seen}
 use Rattle.sd_core.proofs.SettledLemmas.{swept_answered}
 use Rattle.sd_core.proofs.WorkLemmas.{applied_numbers, applied_work}
+use Rattle.std.specs.Prelude.{Err}
+use Rattle.sd_command.specs.declared.refusal.Refusal.TheVariants.{OutOfMemory}
 use Rattle.sd_core.proofs.state.Core.apply_owned.Goals as goal
 
 pub invariant_of-self-in_default-try_clone : goal.invariant_of-self-in_default-try_clone
@@ -47,18 +51,21 @@ pub returns-in_default-try_clone : goal.returns-in_default-try_clone
 returns-in_default-try_clone c =
     let bytes = c.in_default-try_clone.ensures.bytes refl in
     let same = bytes_pass c.is_some.result c.args.command c.in-Ok-answer.reply bytes.0 c.self.inside.memory c.answer.new.memory bytes.1 c.in-Ok-answer.ensures.answered in
+    let step : NextByCommand c.args.seat c.args.command c.args.self.now (Err OutOfMemory) _ = command_seen _ _ _ _ _ _ c.self.view_is (out_of_memory (search rules) refl
+    (same_seen (parts_of c.self.inside) c.reserve.new.self c.answer.new.memory c.reserve.ensures.grown.items c.reserve.ensures.grown.held c.reserve.ensures.grown.limit same)) in
     record {
-      applies = search rules;
-      number = search rules;
-      full = search rules;
-      stands = search rules;
-      job = search rules;
-      merge = search rules;
-      answered = search rules;
-      flags = search rules;
-      opening = search rules;
-      marks = search rules;
-      images = search rules;
+      step = step;
+      applies = c.command_laws.ensures.applies c.args.seat c.args.command _ c.args.self.now _ step;
+      number = c.command_laws.ensures.number c.args.seat c.args.command _ c.args.self.now _ step;
+      full = c.command_laws.ensures.full c.args.seat c.args.command _ c.args.self.now _ step;
+      stands = c.command_laws.ensures.stands c.args.seat c.args.command _ c.args.self.now _ step;
+      job = c.command_laws.ensures.job c.args.seat c.args.command _ c.args.self.now _ step;
+      merge = c.command_laws.ensures.merge c.args.seat c.args.command _ c.args.self.now _ step;
+      answered = c.command_laws.ensures.answered c.args.seat c.args.command _ c.args.self.now _ step;
+      flags = c.command_laws.ensures.flags c.args.seat c.args.command _ c.args.self.now _ step;
+      opening = c.command_laws.ensures.opening c.args.seat c.args.command _ c.args.self.now _ step;
+      marks = c.command_laws.ensures.marks c.args.seat c.args.command _ c.args.self.now _ step;
+      images = c.command_laws.ensures.images c.args.seat c.args.command _ c.args.self.now _ step;
       keeps = stays_seen _ _ _ c.self.view_is (stays_same c.core_steps.ensures _ _ (record {
         store = record { base = refl; phases = refl; outs = refl; opener = refl; standing = refl; catalog = refl; grows = refl; committing = refl; dumper = refl; merger = refl; serial = refl };
         history = ap entries_of c.reserve.ensures.grown.items;
@@ -96,23 +103,33 @@ invariant_of-self-2 c =
 
 pub returns : goal.returns
 returns c =
-    let count : length (entries_of c.reserve.new.self.items) ≡ length (history_of c.args.self.now) =
-    ap (λ items. length (entries_of items)) c.reserve.ensures.grown.items ∙ ap (λ (v : CoreView). length (history_of v)) c.self.view_is in
+    let grown = c.reserve.ensures.grown in
+    let count = ap (λ items. length (entries_of items)) grown.items in
     let number = c.next_number-number.ensures in
-    let folded : c.reserve.new.self.first ≡ c.args.self.now.base.folded = c.reserve.ensures.grown.first ∙ c.self.invariant.journal_is.first ∙ ap (λ (v : CoreView). v.base.folded) c.self.view_is in
+    let folded = grown.first ∙ c.self.invariant.journal_is.first in
     let answered = subst (λ frozen. IsAnswered frozen c.args.command c.in-Ok-answer.reply c.self.inside.memory c.answer.new.memory) c.is_some.ensures c.in-Ok-answer.ensures.answered in
+    let same : c.next_number-number.result ≡ (base_of c.self.inside.base).folded + length (entries_of c.self.inside.journal.items) = omega (arith, count, number, folded) in
+    let step = command_seen _ _ _ _ _ _ c.self.view_is (applies c.in-Ok-answer.reply (told_as _ _ _ _ same c.in-Ok-try_clone.ensures.copy) (record {
+      room = search rules;
+      memory = c.answer.new.memory;
+      answered = subst (λ f. IsAnswered (is_some f) c.args.command c.in-Ok-answer.reply c.self.inside.memory c.answer.new.memory) c.self.invariant.journal_is.frozen_for answered;
+      new_is = applied_seen (parts_of c.self.inside) c.append.new.self c.answer.new.memory (Applied c.args.seat c.args.command c.in-Ok-answer.reply)
+          (c.append.ensures.items ∙ ap (λ all. Told (Applied c.args.seat c.args.command c.in-Ok-answer.reply) ∷ all) grown.items)
+          (c.append.ensures.held ∙ grown.held) (c.append.ensures.numbers.limit ∙ grown.limit);
+    })) in
     record {
-      applies = search rules;
-      number = omega (arith, count, number, folded);
-      full = search rules;
-      stands = search rules;
-      job = search rules;
-      merge = search rules;
-      answered = search rules;
-      flags = search rules;
-      opening = search rules;
-      marks = search rules;
-      images = search rules;
+      step = step;
+      applies = c.command_laws.ensures.applies c.args.seat c.args.command _ c.args.self.now _ step;
+      number = c.command_laws.ensures.number c.args.seat c.args.command _ c.args.self.now _ step;
+      full = c.command_laws.ensures.full c.args.seat c.args.command _ c.args.self.now _ step;
+      stands = c.command_laws.ensures.stands c.args.seat c.args.command _ c.args.self.now _ step;
+      job = c.command_laws.ensures.job c.args.seat c.args.command _ c.args.self.now _ step;
+      merge = c.command_laws.ensures.merge c.args.seat c.args.command _ c.args.self.now _ step;
+      answered = c.command_laws.ensures.answered c.args.seat c.args.command _ c.args.self.now _ step;
+      flags = c.command_laws.ensures.flags c.args.seat c.args.command _ c.args.self.now _ step;
+      opening = c.command_laws.ensures.opening c.args.seat c.args.command _ c.args.self.now _ step;
+      marks = c.command_laws.ensures.marks c.args.seat c.args.command _ c.args.self.now _ step;
+      images = c.command_laws.ensures.images c.args.seat c.args.command _ c.args.self.now _ step;
       keeps = stays_seen _ _ _ c.self.view_is (stays_applied c.core_steps.ensures _ _ c.args.seat c.args.command c.in-Ok-answer.reply (record {
         store = record { base = refl; phases = refl; outs = refl; opener = refl; standing = refl; catalog = refl; grows = refl; committing = refl; dumper = refl; merger = refl; serial = refl };
         items = c.append.ensures.items ∙ ap (λ all. Told (Applied c.args.seat c.args.command c.in-Ok-answer.reply) ∷ all) c.reserve.ensures.grown.items;

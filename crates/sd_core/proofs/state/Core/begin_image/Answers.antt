@@ -1,4 +1,4 @@
-use Rattle.std.proofs.Common.{◌≡◌, ℕ, ◌+◌, ◌^◌, ◌<◌, ◌≤◌, ◌||◌, ◌&&◌, if◌then◌else◌, ◌∷◌, Some, None, IsSome, IfSome, is_some, length, slice_get, slice_index_or, slice_set, refl, sym, ◌∙◌, ap, subst, inl, arith}
+use Rattle.std.proofs.Common.{◌≡◌, ℕ, ◌+◌, ◌^◌, ◌<◌, ◌≤◌, ◌||◌, ◌&&◌, ◌∷◌, Some, None, IsSome, IfSome, length, slice_get, slice_index_or, slice_set, refl, sym, ◌∙◌, ap, subst, inl, arith, if◌then◌else◌}
 use Rattle.std.proofs.lemmas.Option.{same_Some, slice_get-get_or}
 use Rattle.std.proofs.Math.Bool.{and-false}
 use Rattle.sd_chain.specs.Catalog.{Opened, place_of}
@@ -8,16 +8,16 @@ use Rattle.sd_gate.specs.declared.worker.Worker.TheVariants as its
 use Rattle.sd_command.specs.declared.refusal.Refusal.TheVariants.{OutOfMemory}
 use Rattle.sd_command.specs.declared.reply.Reply.TheVariants as reply
 use Rattle.sd_journal.specs.declared.mark.Mark.TheVariants.{Start}
-use Rattle.sd_journal.specs.History.{Base, pending}
+use Rattle.sd_journal.specs.History.{Base}
 use Rattle.sd_journal.specs.Legal.{IsAbove}
 use Rattle.sd_journal.specs.Marked.{Noted, entries_of}
 use Rattle.sd_merge.specs.Merger as merger
 use Rattle.sd_rounds.specs.declared.image_order.ImageOrder.{ImageOrder}
 use Rattle.sd_crash_safety.specs.Merges.{IsSpared}
-use Rattle.sd_rounds.specs.Dumper.{AreRunning, HasSlot, is_dumping, is_frozen_image, is_last, next_slot, order_of, serial_of_running, slot_of}
-use Rattle.sd_rounds.specs.Making.{Making, begun_image, out_of}
+use Rattle.sd_rounds.specs.Dumper.{AreRunning, HasSlot, is_dumping, is_frozen_image, is_last, next_slot, order_of, slot_of}
+use Rattle.sd_rounds.specs.Making.{Making, begun_image, out_of, Steps as StepsImage}
 use Rattle.sd_rounds.specs.Writes.{no_writes}
-use Rattle.sd_crash_safety.specs.DumperSteps.{opens_gate}
+use Rattle.sd_crash_safety.specs.DumperSteps.{opens_gate, commits_dump}
 use Rattle.sd_crash_safety.specs.View.{CoreView}
 use Rattle.sd_core.proofs.FlagLemmas.{format_has_no_open, gate_swept, gated_asked, sure_asked}
 use Rattle.sd_core.specs.Grown.{IsGatedStage, has_grown, has_visited_all}
@@ -26,9 +26,6 @@ use Rattle.sd_core.specs.Images.{begun_as}
 use Rattle.sd_core.specs.LittleWork.{TakesLittle}
 use Rattle.sd_core.specs.Sound.{AreOuts, AreSoundNumbers, IsImageInMaking, IsJournal, begun_images, serials_to_come}
 use Rattle.sd_core.specs.Starts.{base_of}
-use Rattle.sd_core.specs.declared.taken.Taken.TheVariants.{Call as CallTaken}
-use Rattle.sd_core.specs.Noted.{marks_of}
-use Rattle.sd_core.proofs.OthersLemmas.{beside_seen, counted_still, keeps_changed, notes_start}
 use Rattle.sd_core.proofs.ApplyLemmas.{stays_same}
 use Rattle.sd_core.proofs.ImageLemmas.{begun_asked}
 use Rattle.sd_core.proofs.LittleLemmas.{begun_little}
@@ -42,6 +39,14 @@ use Rattle.sd_core.proofs.SettledLemmas.{swept_same}
 use Rattle.sd_core.proofs.StageLemmas.{asked_in}
 use Rattle.sd_core.proofs.StepLemmas.{begins_asking}
 use Rattle.sd_core.proofs.WorkLemmas.{asked_on, at_work, core_working, grown_core, held_at_work, held_same, free_beside, held_more, merger_out, noted_journal, open_more, rests_before, slot_within, sound_writes}
+use Rattle.sd_gate.specs.declared.worker.Worker.TheVariants.{Dumper}
+use Rattle.sd_rounds.specs.declared.image_step.ImageStep.TheVariants as image_step
+use Rattle.sd_core.specs.Flags.{ticket_after}
+use Rattle.sd_core.specs.Next.{begins_image}
+use Rattle.sd_core.specs.Refusals.{work_refusal}
+use Rattle.sd_core.proofs.CoreParts.{parts_of}
+use Rattle.sd_core.proofs.NextOrders.{dumper_seen}
+use Rattle.sd_core.proofs.NextSteps.{begun_image_seen}
 use Rattle.sd_core.proofs.state.Core.begin_image.Goals as goal
 
 pub overflow_add-serial : goal.overflow_add-serial
@@ -69,18 +74,6 @@ give-requires c =
     let opened = (subst (AreRunning c.self.inside.dumper.since_freeze) n.was c.sound.ensures.running).few in
     let serials : c.self.inside.numbers.serial + serials_to_come c.self.inside.merger ≤ 2 ^ 63 + n.running.opened = subst (λ i. c.self.inside.numbers.serial + serials_to_come c.self.inside.merger ≤ 2 ^ 63 + begun_images n.running i) n.none work.serials in
     omega (arith, serials, few, opened)
-
-pub returns-in_default-hold-clause-takes : goal.returns-in_default-hold-clause-takes
-returns-in_default-hold-clause-takes c =
-    let same = c.in_default-hold.ensures.err in
-    step_seen its.Dumper (reply.Refused OutOfMemory) _ _ _ c.self.view_is (record {
-      keeps = inl (stays_same c.step_laws.ensures.core _ _ (record {
-        store = record { base = refl; phases = refl; outs = refl; opener = refl; standing = refl; catalog = same; grows = refl; committing = refl; dumper = refl; merger = refl; serial = refl };
-        history = ap entries_of c.in-Ok.ensures.grown.items;
-        memory = refl;
-      }));
-      adds = ap entries_of c.in-Ok.ensures.grown.items;
-    })
 
 pub invariant_of-self-2 : goal.invariant_of-self-2
 invariant_of-self-2 c =
@@ -172,6 +165,54 @@ invariant_of-self-2 c =
       });
     })
 
+pub returns-clause-step : goal.returns-clause-step
+returns-clause-step c =
+    let serial = c.self.inside.numbers.serial + 1 in
+    let w = c.begin_next-request.ensures.begins in
+    let within = slot_within _ w.running c.self.invariant w.was in
+    let n = next_is c.self.inside.dumper.running c.args.slot (ap (λ v. next_slot v.dumper.running) c.self.view_is ∙ c.requires.next) in
+    let same = same_Some n.running w.running (sym n.was ∙ w.was) in
+    let at : slot_of w.running ≡ c.args.slot = sym (ap slot_of same) ∙ n.slot_is in
+    let phase = slice_index_or c.self.inside.phases.items (slot_of w.running) c.index.result.now in
+    let state = c.state.ensures ∙ ap state_of c.index.ensures ∙ ap (λ k. state_of (slice_index_or c.self.inside.phases.items k c.index.result.now)) (sym at) in
+    let grown = c.in-Ok.ensures.grown in
+    let gave = c.give.ensures in
+    let t = c.tick.ensures in
+    dumper_seen _ _ _ _ c.self.view_is (begins_image c.begin_next-request.result refl (record {
+      may = subst (λ v. work_refusal v Dumper ≡ None) (sym c.self.view_is) c.requires.may;
+      running = w.running;
+      was = w.was;
+      none = w.none;
+      phase = phase;
+      phase_is = slice_get-get_or c.self.inside.phases.items (slot_of w.running) c.index.result.now within;
+      places = c.hold.new.self;
+      held = c.in-Ok-hold.ensures.held;
+      next = w.next;
+      steps = subst (λ s. StepsImage c.self.inside.numbers.ticket (begun_image (order_of w.running serial s)) c.self.inside.memory (image_step.Call c.begin_next-request.result) w.next c.self.inside.memory) state
+          (w.steps.0, w.steps.1, refl);
+      new_is = begun_image_seen (parts_of c.self.inside) c.note.new.self c.begin_next-request.new.memory c.put_out.new.outs (slice_set c.self.inside.outs 0 (Some c.begin_next-request.result.id)) c.hold.new.self
+          c.begin_next-request.new.dumper c.self.inside.dumper.since_freeze (Some (record w.running { image = Some w.next })) c.is_committing-self-inside.result
+          (c.self.inside.committing || commits_dump w.running c.begin_next-request.result.id.call) (Noted (Start serial) ∷ c.self.inside.journal.items) c.tick.new.self
+          (c.note.ensures.items ∙ ap (λ all. Noted (Start serial) ∷ all) grown.items) (c.note.ensures.held ∙ grown.held) (c.note.ensures.numbers.limit ∙ grown.limit) w.steps.2
+          (c.put_out.ensures ∙ ap (λ id. slice_set c.self.inside.outs 0 (Some id)) c.id.ensures) w.is w.counted
+          (c.is_committing-self-inside.ensures ∙ ap (λ r. c.self.inside.committing || is_dumping r && opens_gate c.id-2.result.call) w.is
+          ∙ ap (λ (i : RequestId). c.self.inside.committing || is_last w.running && opens_gate i.call) c.id-2.ensures)
+          (t.begun ∙ ap (λ (n : Numbers). n.begun) gave) (t.given ∙ ap (λ (n : Numbers). n.given) gave) (t.checkpoint ∙ ap (λ (n : Numbers). n.checkpoint) gave)
+          (t.serial ∙ ap (λ (n : Numbers). n.serial) gave) (t.ticket ∙ ap (λ (n : Numbers). ticket_after n.ticket) gave);
+    }))
+
+pub returns-in_default-hold-clause-takes : goal.returns-in_default-hold-clause-takes
+returns-in_default-hold-clause-takes c =
+    let same = c.in_default-hold.ensures.err in
+    step_seen its.Dumper (reply.Refused OutOfMemory) _ _ _ c.self.view_is (record {
+      keeps = inl (stays_same c.step_laws.ensures.core _ _ (record {
+        store = record { base = refl; phases = refl; outs = refl; opener = refl; standing = refl; catalog = same; grows = refl; committing = refl; dumper = refl; merger = refl; serial = refl };
+        history = ap entries_of c.in-Ok.ensures.grown.items;
+        memory = refl;
+      }));
+      adds = ap entries_of c.in-Ok.ensures.grown.items;
+    })
+
 pub returns-clause-takes : goal.returns-clause-takes
 returns-clause-takes c =
     let base : Base = base_of c.self.inside.base in
@@ -237,21 +278,3 @@ returns-clause-takes c =
           ∙ ap (λ (i : RequestId). c.self.inside.committing || is_last w.running && opens_gate i.call) c.id-2.ensures;
       is = w.is;
     }) w.steps.1 (subst (λ s. s < length c.self.inside.phases.items) (sym slot) within))
-
-pub returns-clause-beside : goal.returns-clause-beside
-returns-clause-beside c =
-    let serial = c.self.inside.numbers.serial + 1 in
-    let w = c.begin_next-request.ensures.begins in
-    let items = c.note.ensures.items ∙ ap (λ all. Noted (Start serial) ∷ all) c.in-Ok.ensures.grown.items in
-    beside_seen its.Dumper (CallTaken c.begin_next-request.result) _ _ _ c.self.view_is (record {
-      others = (refl, refl);
-      notes = notes_start _ _ (next_slot c.self.inside.dumper.running) c.args.slot _ (ap (λ v. next_slot v.dumper.running) c.self.view_is ∙ c.requires.next) (record {
-        serial = serial;
-        own = ap serial_of_running w.is ∙ ap (λ (m : Making). Some m.order.serial) w.steps.0.is;
-        noted = ap marks_of items;
-      });
-      images = λ none. keeps_changed c.self.inside.catalog c.hold.new.self serial (Some None) c.in-Ok-hold.ensures.held
-          (λ o is. (let double = c.hold.ensures.double.1 (subst IsSome (sym is) refl) in cc));
-      counted = counted_still (is_some (pending (entries_of c.self.inside.journal.items))) (is_some (pending (entries_of c.note.new.self.items))) c.self.inside.dumper.since_freeze _
-          (ap (λ all. is_some (pending (entries_of all))) items) w.counted;
-    })

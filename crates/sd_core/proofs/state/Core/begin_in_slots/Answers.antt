@@ -5,22 +5,20 @@ use Rattle.sd_journal.specs.Legal.{IsAbove}
 use Rattle.sd_journal.specs.Marked.{entries_of}
 use Rattle.sd_merge.specs.Merger as merger
 use Rattle.sd_rounds.specs.Dumper.{begun_checkpoint, out_of_running, slot_of, writes_of_running}
-use Rattle.sd_crash_safety.specs.CheckpointSteps.{HasParent}
-use Rattle.sd_crash_safety.specs.View.{CoreView}
 use Rattle.sd_core.proofs.FlagLemmas.{same_flags}
-use Rattle.sd_core.specs.Beginning.{AreReserved, IsFirstParent}
+use Rattle.sd_core.specs.Beginning.{AreReserved, begin_refusal}
+use Rattle.sd_core.specs.Next.{begins}
+use Rattle.sd_core.proofs.CoreParts.{parts_of}
+use Rattle.sd_core.proofs.NextOrders.{begin_seen, begun_seen}
 use Rattle.sd_core.specs.declared.numbers.Numbers.{Numbers}
 use Rattle.sd_core.specs.Sound.{AreOuts, AreSoundNumbers, held_for}
 use Rattle.sd_core.specs.Starts.{base_of}
-use Rattle.sd_journal.specs.Kept.{JournalView}
-use Rattle.sd_core.proofs.ApplyLemmas.{same_phases, stays_same}
 use Rattle.sd_core.proofs.BeginLemmas.{MayBegin, begun_counted, begun_numbers, may_begin, none_opens}
 use Rattle.sd_core.proofs.BegunLemmas.{begun_beside, few_due}
 use Rattle.sd_core.proofs.JournalLemmas.{same_journal}
-use Rattle.sd_core.proofs.OpeningLemmas.{stays_seen}
 use Rattle.sd_core.proofs.OutsLemmas.{dumper_outs, no_write, open_outs}
 use Rattle.sd_rounds.specs.Writes.{no_writes}
-use Rattle.sd_core.proofs.SlotLemmas.{filled_free, free_unreached, free_within, has_parent, leaves_merge, slots_apart}
+use Rattle.sd_core.proofs.SlotLemmas.{filled_free, free_within, slots_apart}
 use Rattle.sd_core.proofs.WorkLemmas.{core_working, merger_out}
 use Rattle.sd_core.specs.contracts.state.Core.{the_view}
 use Rattle.sd_core.proofs.state.Core.begin_in_slots.Goals as goal
@@ -94,48 +92,31 @@ invariant_of-self-2 c =
           outs serial given (omega (arith, checkpoint)) inside.merging;
     })
 
-pub returns-clause-keeps : goal.returns-clause-keeps
-returns-clause-keeps c =
+pub returns : goal.returns
+returns c =
     let may = subst (λ v. MayBegin v c.args.rounds) (sym c.self.view_is) (may_begin c.args.self.now c.args.rounds c.requires) in
     let inside = c.self.invariant in
     let closed = none_opens c.self.inside.opener c.self.inside.standing c.self.inside.phases.items inside.opening may.stands in
+    let none = inside.rests may.idle may.stands in
     let slots = c.in-Some.slots in
     let view = the_view c.self.inside in
     let r = subst (λ v. AreReserved v c.args.rounds slots.pre_dumps.items slots.dump) (sym c.self.view_is)
     (record { slots = c.in-Ok.free.items; free = c.in-Ok.ensures; firsts = c.in-Some.ensures.firsts; next = c.in-Some.ensures.next; spare = c.in-Some.ensures.spare }) in
+    let grown = c.in-Ok-hold.ensures.ok in
+    let held = grown.held in
+    let before = inside.held ∙ ap (λ f. held_for f c.self.inside.dumper.running c.self.inside.opener) none ∙ ap (λ r. held_for None r c.self.inside.opener) may.idle
+    ∙ ap (held_for None None) closed in
+    let two : c.hold.new.self.held ≡ 2 = omega (arith, held, before) in
     let number = c.begin-number.ensures.number in
-    let running = begun_checkpoint c.begin-number.result slots.pre_dumps.items slots.dump c.first_parent-parent.result in
-    stays_seen _ _ _ c.self.view_is (record {
-      base = refl;
-      outs = refl;
-      phases = same_phases c.self.inside.outs c.self.inside.phases.items;
-      goes_on = λ asked bodies files b. c.beginning_law.ensures _ _ running asked bodies files (record {
-        rest = record { stands = may.stands; base = refl; closed = closed; grows = refl; merger = refl };
-        history = ap entries_of c.in-Ok-hold.ensures.ok.items;
-        memory = refl;
-        phases = refl;
-        outs = refl;
-        serial = ap (λ (n : Numbers). n.serial) c.begin-number.ensures.numbers;
-        its_catalog = refl;
-        catalog = refl;
-        was = may.idle;
-        is = c.begin_checkpoint.ensures.running;
-        fresh = (refl, refl);
-        some = omega (arith, number);
-        newest = λ serial o at. (let below = inside.counted serial o at in omega (arith, number, below));
-        parent = subst (λ v. HasParent c.self.inside.catalog v running) (sym c.self.view_is) (has_parent c.self.inside.catalog c.args.self.now running
-            (subst (λ (v : CoreView). IsFirstParent c.self.inside.catalog v.grows c.first_parent-parent.result) c.self.view_is c.first_parent-parent.ensures));
-        within = λ slot reserved. free_within c.free_law.ensures view r.slots slot r.free (filled_free view c.args.rounds c.begin-number.result slots.pre_dumps.items slots.dump c.first_parent-parent.result slot r reserved);
-        unreached = λ falls slot reserved. free_unreached c.free_law.ensures view r.slots slot r.free
-            (filled_free view c.args.rounds c.begin-number.result slots.pre_dumps.items slots.dump c.first_parent-parent.result slot r reserved) c.sound.ensures falls;
-        merge = λ falls. leaves_merge c.free_law.ensures view c.args.rounds c.begin-number.result slots.pre_dumps.items slots.dump c.first_parent-parent.result r c.sound.ensures falls;
-        apart = λ one other from below within. slots_apart c.free_law.ensures view c.args.rounds slots.pre_dumps.items slots.dump one other r below within;
-      }) b;
-    })
-
-pub returns-in_default-hold-clause-keeps : goal.returns-in_default-hold-clause-keeps
-returns-in_default-hold-clause-keeps c = stays_seen _ _ _ c.self.view_is (stays_same c.core_steps.ensures _ _ (record {
-  store = record { base = refl; phases = refl; outs = refl; opener = refl; standing = refl; catalog = refl; grows = refl; committing = refl; dumper = refl; merger = refl; serial = refl };
-  history = ap (λ (k : JournalView). entries_of k.items) c.in_default-hold.ensures.err;
-  memory = refl;
-}))
+    begin_seen _ _ _ _ _ c.self.view_is (begins c.begin-number.result refl (record {
+      may = subst (λ v. begin_refusal v c.args.rounds ≡ None) (sym c.self.view_is) c.requires;
+      number = number;
+      pre_dumps = slots.pre_dumps.items;
+      dump = slots.dump;
+      reserved = r;
+      parent = c.first_parent-parent.result;
+      first = c.first_parent-parent.ensures;
+      new_is = begun_seen (parts_of c.self.inside) c.hold.new.self _ c.begin-number.new.self c.begin-number.result _ grown.items grown.limit two
+          c.begin_checkpoint.ensures.running c.begin_checkpoint.ensures.counted
+          (c.begin-number.ensures.numbers ∙ ap (λ k. record c.self.inside.numbers { checkpoint = k; begun = k }) (sym number));
+    }))

@@ -1,19 +1,19 @@
-use Rattle.std.proofs.Common.{◌≡◌, ◌+◌, ◌<◌, ◌≤◌, ◌^◌, if◌then◌else◌, ◌||◌, ◌&&◌, length, Some, None, IfSome, is_some, slice_get, slice_set, ◌∷◌, refl, sym, ◌∙◌, ap, subst, arith}
+use Rattle.std.proofs.Common.{◌≡◌, ◌+◌, ◌<◌, ◌≤◌, ◌^◌, ◌||◌, ◌&&◌, length, Some, None, IfSome, is_some, slice_get, slice_set, ◌∷◌, refl, sym, ◌∙◌, ap, subst, arith, if◌then◌else◌}
 use Rattle.std.proofs.lemmas.Option.{slice_get_within}
 use Rattle.sd_gate.specs.declared.request_id.RequestId.{RequestId}
 use Rattle.sd_gate.specs.declared.worker.Worker.TheVariants as its
 use Rattle.sd_command.specs.declared.reply.Reply.TheVariants as reply
 use Rattle.sd_journal.specs.declared.entry.Entry.TheVariants.{Freeze}
-use Rattle.sd_journal.specs.History.{Base, pending}
+use Rattle.sd_journal.specs.History.{Base}
 use Rattle.sd_journal.specs.Legal.{IsLegal}
 use Rattle.sd_journal.specs.declared.mark.Mark.TheVariants.{Table}
 use Rattle.sd_journal.specs.Marked.{Noted, Told, entries_of}
 use Rattle.sd_rounds.specs.declared.image_step.ImageStep.TheVariants.{Call, PageCall, TableCall}
 use Rattle.sd_merge.specs.Merger as merger
 use Rattle.sd_rounds.specs.declared.image_order.ImageOrder.{ImageOrder}
-use Rattle.sd_rounds.specs.Dumper.{is_dumping, is_last, next_slot, slot_of}
-use Rattle.sd_rounds.specs.Making.{Making, is_passing, is_past_freeze}
-use Rattle.sd_crash_safety.specs.DumperSteps.{opens_gate}
+use Rattle.sd_rounds.specs.Dumper.{is_dumping, is_last, slot_of}
+use Rattle.sd_rounds.specs.Making.{Making, is_past_freeze}
+use Rattle.sd_crash_safety.specs.DumperSteps.{opens_gate, commits_dump}
 use Rattle.sd_crash_safety.specs.View.{page_lane}
 use Rattle.sd_core.proofs.FlagLemmas.{gate_swept, gated_asked, gated_of, sure_asked, table_gated, table_sure, table_swept_by}
 use Rattle.sd_core.specs.Grown.{IsGatedStage, has_grown, has_visited_all}
@@ -33,10 +33,12 @@ use Rattle.sd_core.proofs.WorkLemmas.{SameNumbers, asked_on, at_work, core_worki
 use Rattle.sd_core.proofs.SettledLemmas.{none_swept, swept_same, unswept}
 use Rattle.sd_core.proofs.StepLemmas.{freezes_it, hands_asked, hands_page}
 use Rattle.sd_core.proofs.SweptLemmas.{pends_last, table_swept}
-use Rattle.sd_core.specs.declared.taken.Taken.TheVariants.{Call as CallTaken}
-use Rattle.sd_core.specs.Noted.{is_at_pass, is_passing_image, marks_of}
-use Rattle.sd_crash_safety.proofs.Lanes.{plan_outside as none_passes}
-use Rattle.sd_core.proofs.OthersLemmas.{beside_seen, counted_still, keeps_same, never_passed, notes_none, notes_table, passed, still_passes}
+use Rattle.sd_gate.specs.declared.worker.Worker.TheVariants.{Dumper}
+use Rattle.sd_core.specs.Next.{asks, asks_page, asks_table, freezes}
+use Rattle.sd_core.proofs.NextOrders.{dumper_seen}
+use Rattle.sd_core.specs.Refusals.{work_refusal}
+use Rattle.sd_core.proofs.CoreParts.{parts_of}
+use Rattle.sd_core.proofs.NextSteps.{asked_seen, may_step, stepped_seen}
 use Rattle.sd_core.proofs.state.Core.call_image.Goals as goal
 
 pub invariant_of-self-in-Call : goal.invariant_of-self-in-Call
@@ -243,6 +245,88 @@ invariant_of-self-in-Frozen c =
           (same_places w.running c.self.inside.catalog) refl (same_numbers _);
     })
 
+-- ---- the step
+
+pub returns-in-Frozen-clause-step : goal.returns-in-Frozen-clause-step
+returns-in-Frozen-clause-step c =
+    let w = subst (λ step. StepsOn c.self.inside.numbers.ticket c.self.inside.dumper c.self.inside.memory step c.step_on.new.dumper c.step_on.new.memory) c.in-Frozen.is c.in-Ok-step_on.ensures.steps in
+    let may = subst (λ v. work_refusal v Dumper ≡ None) (sym c.self.view_is) (may_step c.args.self.now c.requires.rests c.requires.runs c.requires.goes) in
+    let grown = c.in-Ok.ensures.grown in
+    let work = at_work _ w.running c.self.invariant w.was in
+    let b = before_freeze _ w.running w.image w.next c.self.invariant w.was w.making c.sound.ensures.image w.steps.0 in
+    let two = held_at_work _ w.running c.self.invariant w.was ∙ ap (λ f. held_for f (Some w.running) None) b.none in
+    let less = c.append_held.ensures.held in
+    let more = grown.held in
+    let one : c.append_held.new.self.held ≡ 1 = omega (arith, less, more, two) in
+    dumper_seen _ _ _ _ c.self.view_is (freezes refl (record {
+      it = record { may = may; running = w.running; was = w.was; image = w.image; making = w.making; next = w.next; steps = (w.steps.0, refl) };
+      new_is = stepped_seen (parts_of c.self.inside) c.append_held.new.self c.step_on.new.memory c.self.inside.outs c.self.inside.outs c.step_on.new.dumper 0 (Some (record w.running { image = Some w.next }))
+          c.self.inside.committing c.self.inside.committing (Told (Freeze w.running.number) ∷ c.self.inside.journal.items) 1 (Some c.self.inside.numbers.begun) c.self.inside.swept
+          (c.append_held.ensures.items ∙ ap (λ all. Told (Freeze c.self.inside.numbers.begun) ∷ all) grown.items ∙ ap (λ n. Told (Freeze n) ∷ c.self.inside.journal.items) (sym work.number))
+          one (c.append_held.ensures.numbers.limit ∙ grown.limit) w.steps.1 refl w.is w.counted refl;
+    }))
+
+pub returns-in-TableCall-clause-step : goal.returns-in-TableCall-clause-step
+returns-in-TableCall-clause-step c =
+    let w = subst (λ step. StepsOn c.self.inside.numbers.ticket c.self.inside.dumper c.self.inside.memory step c.step_on.new.dumper c.step_on.new.memory) c.in-TableCall.is c.in-Ok-step_on.ensures.steps in
+    let may = subst (λ v. work_refusal v Dumper ≡ None) (sym c.self.view_is) (may_step c.args.self.now c.requires.rests c.requires.runs c.requires.goes) in
+    let grown = c.in-Ok.ensures.grown in
+    let t = c.tick-in-TableCall.ensures in
+    let own = its_serial _ w.running w.next c.serial.result _ w.is c.serial.ensures c.in-Some.is ∙ ap (λ (m : Making). m.order.serial) w.steps.0.is in
+    dumper_seen _ _ _ _ c.self.view_is (asks_table c.in-TableCall.request refl (record {
+      it = record { may = may; running = w.running; was = w.was; image = w.image; making = w.making; next = w.next; steps = (w.steps.0, w.steps.1, refl) };
+      new_is = asked_seen (parts_of c.self.inside) c.note.new.self c.step_on.new.memory c.put_out-in-TableCall.new.outs (slice_set c.self.inside.outs 0 (Some c.in-TableCall.request.id)) c.step_on.new.dumper
+          c.self.inside.dumper.since_freeze (Some (record w.running { image = Some w.next })) c.is_committing-self-inside-in-TableCall.result (c.self.inside.committing || commits_dump w.running c.in-TableCall.request.id.call)
+          (Noted (Table w.image.order.serial) ∷ c.self.inside.journal.items) c.self.inside.journal.held c.has_ended_its_pass-self-inside.result c.tick-in-TableCall.new.self
+          (c.note.ensures.items ∙ ap (λ s. Noted (Table s) ∷ c.reserve_mark.new.self.items) own ∙ ap (λ all. Noted (Table w.image.order.serial) ∷ all) grown.items)
+          (c.note.ensures.held ∙ grown.held) (c.note.ensures.numbers.limit ∙ grown.limit) w.steps.2
+          (c.put_out-in-TableCall.ensures ∙ ap (λ id. slice_set c.self.inside.outs 0 (Some id)) c.id-in-TableCall.ensures) w.is w.counted
+          (c.is_committing-self-inside-in-TableCall.ensures ∙ ap (λ r. c.self.inside.committing || is_dumping r && opens_gate c.id-in-TableCall-2.result.call) w.is
+          ∙ ap (λ (i : RequestId). c.self.inside.committing || is_last w.running && opens_gate i.call) c.id-in-TableCall-2.ensures)
+          t.begun t.given t.checkpoint t.serial t.ticket;
+    }))
+
+pub returns-in-Call-clause-step : goal.returns-in-Call-clause-step
+returns-in-Call-clause-step c =
+    let w = subst (λ step. StepsOn c.self.inside.numbers.ticket c.self.inside.dumper c.self.inside.memory step c.step_on.new.dumper c.step_on.new.memory) c.in-Call.is c.in-Ok-step_on.ensures.steps in
+    let may = subst (λ v. work_refusal v Dumper ≡ None) (sym c.self.view_is) (may_step c.args.self.now c.requires.rests c.requires.runs c.requires.goes) in
+    let grown = c.in-Ok.ensures.grown in
+    let t = c.tick-in-Call.ensures in
+    dumper_seen _ _ _ _ c.self.view_is (asks c.in-Call.request refl (record {
+      it = record { may = may; running = w.running; was = w.was; image = w.image; making = w.making; next = w.next; steps = (w.steps.0, w.steps.1, refl) };
+      new_is = asked_seen (parts_of c.self.inside) c.reserve_mark.new.self c.step_on.new.memory c.put_out-in-Call.new.outs (slice_set c.self.inside.outs 0 (Some c.in-Call.request.id)) c.step_on.new.dumper
+          c.self.inside.dumper.since_freeze (Some (record w.running { image = Some w.next })) c.is_committing-self-inside.result (c.self.inside.committing || commits_dump w.running c.in-Call.request.id.call)
+          c.self.inside.journal.items c.self.inside.journal.held c.self.inside.swept c.tick-in-Call.new.self grown.items grown.held grown.limit w.steps.2
+          (c.put_out-in-Call.ensures ∙ ap (λ id. slice_set c.self.inside.outs 0 (Some id)) c.id-in-Call.ensures) w.is w.counted
+          (c.is_committing-self-inside.ensures ∙ ap (λ r. c.self.inside.committing || is_dumping r && opens_gate c.id-in-Call-2.result.call) w.is
+          ∙ ap (λ (i : RequestId). c.self.inside.committing || is_last w.running && opens_gate i.call) c.id-in-Call-2.ensures)
+          t.begun t.given t.checkpoint t.serial t.ticket;
+    }))
+
+pub returns-in-PageCall-clause-step : goal.returns-in-PageCall-clause-step
+returns-in-PageCall-clause-step c =
+    let w = subst (λ step. StepsOn c.self.inside.numbers.ticket c.self.inside.dumper c.self.inside.memory step c.step_on.new.dumper c.step_on.new.memory) c.in-PageCall.is c.in-Ok-step_on.ensures.steps in
+    let may = subst (λ v. work_refusal v Dumper ≡ None) (sym c.self.view_is) (may_step c.args.self.now c.requires.rests c.requires.runs c.requires.goes) in
+    let grown = c.in-Ok.ensures.grown in
+    let t = c.tick.ensures in
+    dumper_seen _ _ _ _ c.self.view_is (asks_page c.in-PageCall.request refl (record {
+      lane = c.in-PageCall.lane;
+      it = record { may = may; running = w.running; was = w.was; image = w.image; making = w.making; next = w.next; steps = (w.steps.0, w.steps.1, refl) };
+      new_is = asked_seen (parts_of c.self.inside) c.reserve_mark.new.self c.step_on.new.memory c.put_out.new.outs (slice_set c.self.inside.outs (page_lane c.in-PageCall.lane) (Some c.in-PageCall.request.id))
+          c.step_on.new.dumper c.self.inside.dumper.since_freeze (Some (record w.running { image = Some w.next })) c.self.inside.committing c.self.inside.committing
+          c.self.inside.journal.items c.self.inside.journal.held c.self.inside.swept c.tick.new.self grown.items grown.held grown.limit w.steps.2
+          (c.put_out.ensures ∙ ap (λ k. slice_set c.self.inside.outs k (Some c.id.result)) c.page_lane.ensures.lane ∙ ap (λ id. slice_set c.self.inside.outs (page_lane c.in-PageCall.lane) (Some id)) c.id.ensures)
+          w.is w.counted refl t.begun t.given t.checkpoint t.serial t.ticket;
+    }))
+
+pub page_lane-requires : goal.page_lane-requires
+page_lane-requires c =
+    let w = subst (λ step. StepsOn c.self.inside.numbers.ticket c.self.inside.dumper c.self.inside.memory step c.step_on.new.dumper c.step_on.new.memory) c.in-PageCall.is c.in-Ok-step_on.ensures.steps in
+    let good = sound_image _ w.running w.image c.sound.ensures.image w.was w.making in
+    let within = slice_get_within w.image.writes c.in-PageCall.lane None w.steps.0.free in
+    let eight = good.lanes.count in
+    omega (arith, within, eight)
+
 pub returns-in-Frozen-clause-takes : goal.returns-in-Frozen-clause-takes
 returns-in-Frozen-clause-takes c =
     let base : Base = base_of c.self.inside.base in
@@ -358,55 +442,3 @@ returns-in-PageCall-clause-takes c =
       is = w.is;
     }) w.steps.1 (subst (λ slot. slot < length c.self.inside.phases.items) (sym slot) within)
     (page_beside _ w.running w.image w.next c.in-PageCall.lane c.in-PageCall.request c.self.invariant w.was w.making out.1 own w.steps.0))
-
-pub page_lane-requires : goal.page_lane-requires
-page_lane-requires c =
-    let w = subst (λ step. StepsOn c.self.inside.numbers.ticket c.self.inside.dumper c.self.inside.memory step c.step_on.new.dumper c.step_on.new.memory) c.in-PageCall.is c.in-Ok-step_on.ensures.steps in
-    let good = sound_image _ w.running w.image c.sound.ensures.image w.was w.making in
-    let within = slice_get_within w.image.writes c.in-PageCall.lane None w.steps.0.free in
-    let eight = good.lanes.count in
-    omega (arith, within, eight)
-
-pub returns-in-Call-clause-beside : goal.returns-in-Call-clause-beside
-returns-in-Call-clause-beside c =
-    let w = subst (λ step. StepsOn c.self.inside.numbers.ticket c.self.inside.dumper c.self.inside.memory step c.step_on.new.dumper c.step_on.new.memory) c.in-Call.is c.in-Ok-step_on.ensures.steps in
-    let none = ap (λ v. next_slot v.dumper.running) c.self.view_is ∙ c.requires.begun in
-    beside_seen its.Dumper (CallTaken c.in-Call.request) _ _ _ c.self.view_is (record {
-      others = (refl, refl);
-      notes = notes_none _ _ (next_slot c.self.inside.dumper.running) _ none
-          (never_passed (is_at_pass c.self.inside.dumper.running) (is_at_pass c.step_on.new.dumper.running) (ap is_at_pass w.was ∙ ap is_passing_image w.making ∙ none_passes w.image.stage w.steps.0.plan w.steps.0.was))
-          (ap marks_of c.in-Ok.ensures.grown.items);
-      images = λ none_opened. keeps_same c.self.inside.catalog c.self.inside.catalog refl;
-      counted = counted_still (is_some (pending (entries_of c.self.inside.journal.items))) (is_some (pending (entries_of c.reserve_mark.new.self.items))) c.self.inside.dumper.since_freeze _
-          (ap (λ all. is_some (pending (entries_of all))) c.in-Ok.ensures.grown.items) w.counted;
-    })
-
-pub returns-in-PageCall-clause-beside : goal.returns-in-PageCall-clause-beside
-returns-in-PageCall-clause-beside c =
-    let w = subst (λ step. StepsOn c.self.inside.numbers.ticket c.self.inside.dumper c.self.inside.memory step c.step_on.new.dumper c.step_on.new.memory) c.in-PageCall.is c.in-Ok-step_on.ensures.steps in
-    let none = ap (λ v. next_slot v.dumper.running) c.self.view_is ∙ c.requires.begun in
-    beside_seen its.Dumper (CallTaken c.in-PageCall.request) _ _ _ c.self.view_is (record {
-      others = (refl, refl);
-      notes = notes_none _ _ (next_slot c.self.inside.dumper.running) _ none
-          (still_passes (is_at_pass c.self.inside.dumper.running) (is_at_pass c.step_on.new.dumper.running) (ap is_at_pass w.is ∙ ap is_passing w.steps.0.still))
-          (ap marks_of c.in-Ok.ensures.grown.items);
-      images = λ none_opened. keeps_same c.self.inside.catalog c.self.inside.catalog refl;
-      counted = counted_still (is_some (pending (entries_of c.self.inside.journal.items))) (is_some (pending (entries_of c.reserve_mark.new.self.items))) c.self.inside.dumper.since_freeze _
-          (ap (λ all. is_some (pending (entries_of all))) c.in-Ok.ensures.grown.items) w.counted;
-    })
-
-pub returns-in-TableCall-clause-beside : goal.returns-in-TableCall-clause-beside
-returns-in-TableCall-clause-beside c =
-    let w = subst (λ step. StepsOn c.self.inside.numbers.ticket c.self.inside.dumper c.self.inside.memory step c.step_on.new.dumper c.step_on.new.memory) c.in-TableCall.is c.in-Ok-step_on.ensures.steps in
-    let none = ap (λ v. next_slot v.dumper.running) c.self.view_is ∙ c.requires.begun in
-    let items = c.note.ensures.items ∙ ap (λ all. Noted (Table c.in-Some.serial) ∷ all) c.in-Ok.ensures.grown.items in
-    beside_seen its.Dumper (CallTaken c.in-TableCall.request) _ _ _ c.self.view_is (record {
-      others = (refl, refl);
-      notes = notes_table _ _ (next_slot c.self.inside.dumper.running) _ none
-          (passed (is_at_pass c.self.inside.dumper.running) (is_at_pass c.step_on.new.dumper.running) (ap is_at_pass w.was ∙ ap is_passing_image w.making ∙ ap is_passing w.steps.0.stage)
-          (ap is_at_pass w.is ∙ ap (λ (m : Making). is_passing m.stage) w.steps.0.is))
-          (record { serial = c.in-Some.serial; own = sym c.serial.ensures ∙ c.in-Some.is; noted = ap marks_of items });
-      images = λ none_opened. keeps_same c.self.inside.catalog c.self.inside.catalog refl;
-      counted = counted_still (is_some (pending (entries_of c.self.inside.journal.items))) (is_some (pending (entries_of c.note.new.self.items))) c.self.inside.dumper.since_freeze _
-          (ap (λ all. is_some (pending (entries_of all))) items) w.counted;
-    })

@@ -9,12 +9,16 @@ use Rattle.sd_core.specs.Dumping.{ReleasesPlace}
 use Rattle.sd_core.specs.LittleWork.{HasLittle}
 use Rattle.sd_core.specs.Sound.{AreSoundNumbers, CheckpointRuns, held_for}
 use Rattle.sd_core.specs.Starts.{base_of}
-use Rattle.sd_core.proofs.ApplyLemmas.{same_phases}
-use Rattle.sd_core.proofs.CancelLemmas.{cancelled_journal, cancelled_numbers, counted_released, images_same, may_cancel, merges_on, rests_cancelled, written_of}
+use Rattle.sd_core.proofs.CancelLemmas.{cancelled_journal, cancelled_numbers, counted_released, may_cancel, merges_on, rests_cancelled, images_same, written_of}
 use Rattle.sd_core.proofs.JournalLemmas.{same_journal}
-use Rattle.sd_core.proofs.OpeningLemmas.{stays_seen}
+use Rattle.sd_core.specs.Next.{cancels}
+use Rattle.sd_core.specs.Refusals.{cancel_refusal}
+use Rattle.sd_core.proofs.CoreParts.{parts_of}
+use Rattle.sd_core.proofs.NextOrders.{cancel_seen, cancelled_seen, under_way}
 use Rattle.sd_core.proofs.RefusalLemmas.{MayCancel, may_cancel_now}
 use Rattle.sd_core.proofs.SettledLemmas.{not_swept}
+use Rattle.sd_core.proofs.ApplyLemmas.{same_phases}
+use Rattle.sd_core.proofs.OpeningLemmas.{stays_seen}
 use Rattle.sd_core.proofs.state.Core.cancel_it.Goals as goal
 
 pub invariant_of-self : goal.invariant_of-self
@@ -46,6 +50,23 @@ invariant_of-self c =
       gated = subst (λ r. IfSome r (IsGated false)) (sym gone) tt;
       merging = merges_on _ c.release_place.new.catalog c.cancel.new.self c.self.invariant gone released;
     }
+
+pub returns-clause-step : goal.returns-clause-step
+returns-clause-step c =
+    let may = subst MayCancel (sym c.self.view_is) (may_cancel_now c.args.self.now c.requires) in
+    let released = subst (λ own. ReleasesPlace own c.self.inside.catalog c.release_place.new.catalog) c.serial.ensures c.release_place.ensures in
+    let held = c.held-held.ensures in
+    let less = ap (λ (k : JournalView). k.held) c.release.ensures in
+    let free : c.release.new.self.held ≡ 0 = omega (arith, held, less) in
+    let items = ap (λ (k : JournalView). k.items) c.release.ensures in
+    cancel_seen _ _ _ _ c.self.view_is (cancels c.self.inside.numbers.begun refl (record {
+      may = subst (λ v. cancel_refusal v ≡ None) (sym c.self.view_is) c.requires;
+      under_way = under_way (parts_of c.self.inside) c.self.invariant may.some;
+      places = c.release_place.new.catalog;
+      released = released;
+      new_is = cancelled_seen (parts_of c.self.inside) c.release.new.self c.release_place.new.catalog c.cancel.new.self c.self.inside.numbers.begun (items ∙ c.append_held.ensures.items)
+          (ap (λ (k : JournalView). k.limit) c.release.ensures ∙ c.append_held.ensures.numbers.limit) free c.cancel.ensures may.sure;
+    }))
 
 pub returns-clause-keeps : goal.returns-clause-keeps
 returns-clause-keeps c =

@@ -1,8 +1,7 @@
-use Rattle.std.proofs.Common.{◌≡◌, ℕ, Some, slice_get, sym, ◌∙◌, ap, subst, rules}
+use Rattle.std.proofs.Common.{◌≡◌, ℕ, Some, slice_get, sym, ◌∙◌, ap, rules}
 use Rattle.sd_gate.specs.declared.request_id.RequestId.{RequestId}
 use Rattle.sd_crash_safety.specs.View.{CoreView}
 use Rattle.sd_core.specs.Refusals.{is_idle}
-use Rattle.sd_core.specs.Rounds.{OpensItsGate}
 use Rattle.sd_core.specs.Sound.{worker_of_lane}
 use Rattle.sd_core.proofs.HandedLemmas.{merger_lane, opener_lane}
 use Rattle.sd_core.proofs.LaneLemmas.{handed_at, same_lane}
@@ -23,6 +22,7 @@ whose c = sym (c.self.invariant.outs_are.whose c.in-Some.lane c.args.outcome.req
 
 pub returns-then-is_idle : goal.returns-then-is_idle
 returns-then-is_idle c = record {
+  step = search rules;
   strange = search rules;
   handed = λ out. handed_at _ _ out.lane c.in-Some.lane _ _ (same (goal.at.returns-then-is_idle c).In-Some out.lane out.is) c.hand_in_late.ensures.handed;
   failed = search rules;
@@ -49,33 +49,46 @@ returns-then-is_idle c = record {
 }
 
 pub returns-in-Dumper : goal.returns-in-Dumper
-returns-in-Dumper c = record {
-  strange = search rules;
-  handed = λ out. handed_at _ _ out.lane c.in-Some.lane _ _ (same (goal.at.returns-in-Dumper c).In-Some out.lane out.is) c.hand_in_dumper.ensures.handed;
-  failed = search rules;
-  down = search rules;
-  late = search rules;
-  goes_on = search rules;
-  leaves = search rules;
-  lasts = search rules;
-  acked = search rules;
-  little = search rules;
-  round = search rules;
-  rounds = search rules;
-  gates = λ out dumper. subst (λ lane. OpensItsGate c.args.self.now lane c.args.outcome.request c.hand_in_dumper.result _) (sym (same (goal.at.returns-in-Dumper c).In-Some out.lane out.is)) c.hand_in_dumper.ensures.gates;
-  merged = search rules;
-  opens = search rules;
-  lists = search rules;
-  retires = search rules;
-  copies = search rules;
-  rests = search rules;
-  cuts = search rules;
-  flags = search rules;
-  beside = search rules;
-}
+returns-in-Dumper c =
+    let step = c.hand_in_dumper-reply.ensures.step in
+    let sure = c.sound_outcome_laws.ensures in
+    let before = c.is_sound.ensures in
+    let after = c.is_sound-in-Dumper.ensures in
+    let laws = c.dumper_outcome_laws.ensures in
+    record {
+      step = λ out dumper runs. step;
+      strange = search rules;
+      handed = λ out. sure.handed _ _ _ _ before after step out;
+      failed = search rules;
+      down = search rules;
+      late = search rules;
+      goes_on = search rules;
+      leaves = search rules;
+      lasts = laws.lasts _ _ _ _ step;
+      acked = search rules;
+      little = λ n out. sure.little _ _ _ _ before after step n;
+      round = λ out dumper. sure.round _ _ _ _ before after step;
+      rounds = λ out dumper. sure.rounds _ _ _ _ before after step;
+      gates = λ out dumper. sure.gates _ _ _ _ before after step out;
+      merged = search rules;
+      opens = search rules;
+      lists = search rules;
+      retires = search rules;
+      copies = search rules;
+      rests = search rules;
+      cuts = search rules;
+      flags = laws.flags _ _ _ _ step;
+      beside = λ out. record {
+        others = search rules;
+        marks = laws.marks _ _ _ _ step;
+        images = sure.images _ _ _ _ before after step;
+        counted = search rules;
+      };
+    }
 
 pub returns-in-Merger : goal.returns-in-Merger
 returns-in-Merger c = record {
+  step = search rules;
   strange = search rules;
   handed = λ out. handed_at _ _ out.lane 1 _ _ (same (goal.at.returns-in-Merger c).In-Some out.lane out.is ∙ merger_lane c.in-Some.lane (whose (goal.at.returns-in-Merger c).In-Some ∙ c.in-Merger.is)) c.hand_in_merger.ensures.handed;
   failed = search rules;
@@ -102,6 +115,7 @@ returns-in-Merger c = record {
 
 pub returns-in-Opener : goal.returns-in-Opener
 returns-in-Opener c = record {
+  step = search rules;
   strange = search rules;
   handed = λ out. handed_at _ _ out.lane 2 _ _ (same (goal.at.returns-in-Opener c).In-Some out.lane out.is ∙ opener_lane c.in-Some.lane (whose (goal.at.returns-in-Opener c).In-Some ∙ c.in-Opener.is)) c.hand_in_opener.ensures.handed;
   failed = search rules;

@@ -1,33 +1,27 @@
 use Rattle.std.proofs.Common.{◌≡◌, ◌<◌, Some, slice_get, false, true, refl, sym, ◌∙◌, ap, subst}
 use Rattle.sd_gate.specs.declared.request_id.RequestId.{RequestId}
 use Rattle.sd_gate.specs.declared.worker.Worker.TheVariants.{Dumper}
-use Rattle.sd_command.specs.declared.refusal.Refusal.TheVariants.{StoreDown}
-use Rattle.sd_command.specs.declared.reply.Reply.TheVariants as reply
-use Rattle.sd_journal.specs.Marked.{entries_of}
-use Rattle.sd_pagetable.specs.Contents.{plain_of}
 use Rattle.sd_rounds.specs.declared.progress.Progress.TheVariants.{Failed, More}
-use Rattle.sd_rounds.specs.Dumper.{HasCounted, Hands, IsHanded, Running, after_pre_dump}
-use Rattle.sd_rounds.specs.Left.{left_of}
+use Rattle.sd_rounds.specs.Dumper.{Hands, IsHanded, Running, HasCounted}
 use Rattle.sd_rounds.specs.Making.{Making}
 use Rattle.sd_crash_safety.specs.DumperOutcomes.{LeavesCatalog}
 use Rattle.sd_crash_safety.specs.View.{CoreView}
-use Rattle.sd_crash_safety.specs.declared.standing.Standing.TheVariants.{Down}
-use Rattle.sd_core.specs.Images.{job_of}
 use Rattle.sd_core.specs.Refusals.{is_idle}
-use Rattle.sd_core.specs.Rounds.{TurnsRound}
-use Rattle.sd_core.specs.Sound.{Parts, held_for}
+use Rattle.sd_core.specs.Sound.{held_for}
 use Rattle.sd_core.proofs.CoreParts.{parts_of}
 use Rattle.sd_core.proofs.FallenLemmas.{fallen_core, let_go_two}
-use Rattle.sd_core.proofs.HandsDump.{GoesOn, HandsDump, OpensDump, dump_acked, dump_core, dump_gates, dump_handed, dump_little, goes_on_core, goes_on_handed, goes_on_same, handed_as, has, its_outcome, pre_dump_core, pre_dump_gates, pre_dump_handed, pre_dump_little, work}
+use Rattle.sd_core.proofs.HandsDump.{GoesOn, HandsDump, OpensDump, dump_core, goes_on_core, pre_dump_core, work, dump_acked}
 use Rattle.sd_core.proofs.LaneLemmas.{out_there}
-use Rattle.sd_core.proofs.OpenedLemmas.{image_of}
-use Rattle.sd_core.proofs.RoundLemmas.{ends_opens, next_turns, none_opens, none_turns, turns_same}
+use Rattle.sd_core.proofs.NextHands.{down_next, dump_free, dump_next, goes_on_next, pre_dump_next}
 use Rattle.sd_core.proofs.state.Core.hand_in_dumper.Goals.{After-hand_in, In-Failed}
+use Rattle.sd_pagetable.specs.Contents.{plain_of}
+use Rattle.sd_rounds.specs.Left.{left_of}
+use Rattle.sd_core.specs.Images.{job_of}
 use Rattle.sd_core.proofs.state.Core.hand_in_dumper.Goals as goal
 
 -- ---- what is known at each kind of goal
 
-hands : (c : After-hand_in) (running : Running) (image : Making) → c.self.inside.dumper.running ≡ Some running → running.image ≡ Some image
+abbrev hands : (c : After-hand_in) (running : Running) (image : Making) → c.self.inside.dumper.running ≡ Some running → running.image ≡ Some image
     → HandsDump (parts_of c.self.inside) c.args.self.now c.args.lane c.args.outcome c.follow_outcome-closed.new.phases.items c.follow_outcome-closed.new.outs c.follow_outcome-closed.result.closed running image
 hands c running image was making = record {
   sound = c.self.invariant;
@@ -42,10 +36,10 @@ hands c running image was making = record {
   outs_are = c.follow_outcome-closed.ensures.outs;
 }
 
-failed : (c : In-Failed) → IsHanded c.self.inside.dumper c.args.outcome Failed c.hand_in.new.self
+abbrev failed : (c : In-Failed) → IsHanded c.self.inside.dumper c.args.outcome Failed c.hand_in.new.self
 failed c = subst (λ p. Hands c.self.inside.dumper c.args.outcome p c.hand_in.new.self) c.in-Failed.is c.hand_in.ensures.hands
 
-more : (c : goal.After-leave_catalog)
+abbrev more : (c : goal.After-leave_catalog)
     → GoesOn (parts_of c.self.inside) c.args.self.now c.args.lane c.args.outcome c.follow_outcome-closed.new.phases.items c.follow_outcome-closed.new.outs c.leave_catalog.new.catalog c.hand_in.new.self
 more c =
     let h = subst (λ p. Hands c.self.inside.dumper c.args.outcome p c.hand_in.new.self) c.in-More.is c.hand_in.ensures.hands in
@@ -54,14 +48,14 @@ more c =
       running = h.running;
       image = h.hands.image;
       next = h.hands.next;
-      hands = hands (goal.at.returns-in-More-clause-handed c).After-hand_in h.running h.hands.image h.was h.hands.was;
+      hands = hands (goal.at.returns-in-More-clause-step c).After-hand_in h.running h.hands.image h.was h.hands.was;
       goes = h.hands.hands;
       is = ap (λ d. d.running) h.is ∙ ap Some h.hands.is;
       images = c.sound-in-More.ensures.image;
       leaves = subst (λ (i : RequestId). LeavesCatalog c.follow_outcome-closed.result.closed i.slot c.self.inside.catalog c.leave_catalog.new.catalog) c.follow_outcome-closed.ensures.id c.leave_catalog.ensures;
     }
 
-pre_dump : (c : goal.After-enter_catalog)
+abbrev pre_dump : (c : goal.After-enter_catalog)
     → OpensDump (parts_of c.self.inside) c.args.self.now c.args.lane c.args.outcome c.follow_outcome-closed.new.phases.items c.follow_outcome-closed.new.outs c.enter_catalog.new.catalog c.hand_in.new.self c.in-PreDump.image false
 pre_dump c =
     let h = subst (λ p. Hands c.self.inside.dumper c.args.outcome p c.hand_in.new.self) c.in-PreDump.is c.hand_in.ensures.hands in
@@ -69,14 +63,14 @@ pre_dump c =
       closed = c.follow_outcome-closed.result.closed;
       running = h.running;
       image = h.hands.0.image;
-      hands = hands (goal.at.returns-in-PreDump-clause-handed c).After-hand_in h.running h.hands.0.image h.was h.hands.0.was;
+      hands = hands (goal.at.returns-in-PreDump-clause-step c).After-hand_in h.running h.hands.0.image h.was h.hands.0.was;
       opens = h.hands.0.hands;
       last_is = h.hands.1;
       is = ap (λ d. d.running) h.is ∙ ap Some h.hands.2;
       changes = c.enter_catalog.ensures;
     }
 
-dump : (c : goal.After-self-in-Dump-5-1)
+abbrev dump : (c : goal.After-self-in-Dump-5-1)
     → OpensDump (parts_of c.self.inside) c.args.self.now c.args.lane c.args.outcome c.follow_outcome-closed.new.phases.items c.follow_outcome-closed.new.outs c.enter_catalog-in-Dump.new.catalog c.hand_in.new.self c.in-Dump.image true
 dump c =
     let h = subst (λ p. Hands c.self.inside.dumper c.args.outcome p c.hand_in.new.self) c.in-Dump.is c.hand_in.ensures.hands in
@@ -84,7 +78,7 @@ dump c =
       closed = c.follow_outcome-closed.result.closed;
       running = h.running;
       image = h.hands.0.image;
-      hands = hands (goal.at.returns-in-Dump-clause-handed c).After-hand_in h.running h.hands.0.image h.was h.hands.0.was;
+      hands = hands (goal.at.returns-in-Dump-clause-step c).After-hand_in h.running h.hands.0.image h.was h.hands.0.was;
       opens = h.hands.0.hands;
       last_is = h.hands.1;
       is = ap (λ d. d.running) h.is;
@@ -111,81 +105,41 @@ pub invariant_of-self-in-Dump : goal.invariant_of-self-in-Dump
 invariant_of-self-in-Dump c = dump_core (dump c) c.outcome_laws.ensures.tracked c.outcome_laws.ensures.plain c.append_held.new.self c.append_held.ensures.items c.append_held.ensures.numbers.first
     c.append_held.ensures.numbers.limit c.append_held.ensures.held c.sound-in-Dump.ensures
 
--- ---- what is believed after it
+-- ---- the step
 
-pub returns-in-Failed-clause-handed : goal.returns-in-Failed-clause-handed
-returns-in-Failed-clause-handed c =
-    let h = failed (goal.at.returns-in-Failed-clause-handed c).In-Failed in
-    let known = hands (goal.at.returns-in-Failed-clause-handed c).After-hand_in h.running h.hands.image h.was h.hands.was in
-    let history = ap entries_of c.release_unfrozen.ensures.items in
-    let fallen : Parts = record (parts_of c.self.inside) {
-      journal = c.release_unfrozen.new.journal;
-      standing = Down;
-      phases = c.follow_outcome-closed.new.phases.items;
-      outs = c.follow_outcome-closed.new.outs;
-      dumper = c.hand_in.new.self;
-      merger = c.cancel.new.self;
-    } in
-    let outcome = its_outcome known fallen c.args.lane refl refl refl refl refl refl in
-    handed_as known fallen c.args.lane (reply.Refused StoreDown) refl outcome
-    (λ asked bodies files. c.outcome_laws.ensures.outcomes.fails _ _ c.args.lane c.args.outcome known.follows.phase asked bodies files (record { outcome = outcome; history = history; down = refl; committing = refl })) history
+pub returns-in-Failed-clause-step : goal.returns-in-Failed-clause-step
+returns-in-Failed-clause-step c =
+    let h = failed (goal.at.returns-in-Failed-clause-step c).In-Failed in
+    let known = hands (goal.at.returns-in-Failed-clause-step c).After-hand_in h.running h.hands.image h.was h.hands.was in
+    down_next known c.release_unfrozen.new.journal c.hand_in.new.self c.cancel.new.self h.hands.hands.failed c.release_unfrozen.ensures.items c.release_unfrozen.ensures.limit
+    (let_go_two c.self.inside.pending _ h.running c.self.inside.journal _ h.was (c.self.invariant.held ∙ ap (held_for c.self.inside.pending c.self.inside.dumper.running) (work known).closed) c.release_unfrozen.ensures)
+    (ap (λ d. d.running) h.is) (ap (λ d. d.since_freeze) h.is) c.cancel.ensures
 
-pub returns-in-More-clause-handed : goal.returns-in-More-clause-handed
-returns-in-More-clause-handed c = goes_on_handed (more c) c.outcome_laws.ensures.outcomes
+pub returns-in-More-clause-step : goal.returns-in-More-clause-step
+returns-in-More-clause-step c =
+    let h = subst (λ p. Hands c.self.inside.dumper c.args.outcome p c.hand_in.new.self) c.in-More.is c.hand_in.ensures.hands in
+    goes_on_next (more c) (ap (λ d. d.since_freeze) h.is)
 
-pub returns-in-PreDump-clause-handed : goal.returns-in-PreDump-clause-handed
-returns-in-PreDump-clause-handed c = pre_dump_handed (pre_dump c) c.outcome_laws.ensures.outcomes
+pub returns-in-PreDump-clause-step : goal.returns-in-PreDump-clause-step
+returns-in-PreDump-clause-step c =
+    let h = subst (λ p. Hands c.self.inside.dumper c.args.outcome p c.hand_in.new.self) c.in-PreDump.is c.hand_in.ensures.hands in
+    pre_dump_next (pre_dump c) (ap (λ d. d.since_freeze) h.is)
 
-pub returns-in-Dump-clause-handed : goal.returns-in-Dump-clause-handed
-returns-in-Dump-clause-handed c = dump_handed (dump c) c.outcome_laws.ensures.outcomes c.outcome_laws.ensures.tracked c.append_held.new.self c.append_held.ensures.items
+pub returns-in-Dump-clause-step : goal.returns-in-Dump-clause-step
+returns-in-Dump-clause-step c =
+    let h = subst (λ p. Hands c.self.inside.dumper c.args.outcome p c.hand_in.new.self) c.in-Dump.is c.hand_in.ensures.hands in
+    dump_next (dump c) (ap (λ d. d.since_freeze) h.is) c.append_held.new.self c.append_held.ensures.items c.append_held.ensures.numbers.limit
+    (dump_free (dump c) c.append_held.new.self c.append_held.ensures.held)
 
--- ---- the image that is open
+pub unreachable-requires : goal.unreachable-requires
+unreachable-requires c =
+    let h = subst (λ p. Hands c.self.inside.dumper c.args.outcome p c.hand_in.new.self) c.in-Strange.is c.hand_in.ensures.hands in
+    h.other (out_there _ c.args.lane c.args.outcome.request.id c.self.invariant (ap (λ (v : CoreView). is_idle v Dumper) c.self.view_is ∙ c.requires.runs) c.requires.dumper
+    (ap (λ (v : CoreView). slice_get v.outs c.args.lane) c.self.view_is ∙ c.requires.out))
 
 pub returns-in-Dump-clause-acked : goal.returns-in-Dump-clause-acked
 returns-in-Dump-clause-acked c n is =
     dump_acked (dump c) c.append_held.new.self n (cc) (subst (λ p. HasCounted p c.hand_in.new.self.since_freeze) c.in-Dump.is c.hand_in.ensures.pages)
-
-pub returns-in-Dump-clause-little : goal.returns-in-Dump-clause-little
-returns-in-Dump-clause-little c n is = dump_little (dump c) c.outcome_laws.ensures.little c.outcome_laws.ensures.plain c.outcome_laws.ensures.due c.append_held.new.self n (cc)
-
-pub returns-in-PreDump-clause-round : goal.returns-in-PreDump-clause-round
-returns-in-PreDump-clause-round c = pre_dump_little (pre_dump c) c.outcome_laws.ensures.little
-
--- ---- its gate
-
-pub returns-in-Failed-clause-gates : goal.returns-in-Failed-clause-gates
-returns-in-Failed-clause-gates c = λ running asked bodies files enters at b. absurd
-    (ends_opens running _ _ (reply.Refused StoreDown) (λ n no. (let not : reply.Refused StoreDown ≡ reply.Acked n = no in cc)) (ap (λ d. d.running) (failed (goal.at.returns-in-Failed-clause-gates c).In-Failed).is) enters)
-
-pub returns-in-More-clause-gates : goal.returns-in-More-clause-gates
-returns-in-More-clause-gates c = λ running asked bodies files enters at b. absurd
-    (none_opens running _ _ reply.Worked (λ n no. (let not : reply.Worked ≡ reply.Acked n = no in cc)) (goes_on_same (more c)) enters)
-
-pub returns-in-PreDump-clause-gates : goal.returns-in-PreDump-clause-gates
-returns-in-PreDump-clause-gates c = pre_dump_gates (pre_dump c) c.outcome_laws.ensures.outcomes
-
-pub returns-in-Dump-clause-gates : goal.returns-in-Dump-clause-gates
-returns-in-Dump-clause-gates c = dump_gates (dump c) c.outcome_laws.ensures.outcomes c.append_held.new.self
-
--- ---- the images that are open
-
-pub returns-in-Failed-clause-rounds : goal.returns-in-Failed-clause-rounds
-returns-in-Failed-clause-rounds c = none_turns c.args.self.now.dumper.running c.hand_in.new.self.running c.self.inside.catalog (ap (λ d. d.running) (failed (goal.at.returns-in-Failed-clause-rounds c).In-Failed).is)
-
-pub returns-in-More-clause-rounds : goal.returns-in-More-clause-rounds
-returns-in-More-clause-rounds c = turns_same c.args.self.now.dumper.running c.hand_in.new.self.running c.leave_catalog.new.catalog (goes_on_same (more c))
-
-pub returns-in-PreDump-clause-rounds : goal.returns-in-PreDump-clause-rounds
-returns-in-PreDump-clause-rounds c =
-    let o = pre_dump c in
-    subst (λ (v : CoreView). TurnsRound v.dumper.running c.hand_in.new.self.running c.enter_catalog.new.catalog) c.self.view_is
-    (next_turns c.self.inside.dumper.running c.hand_in.new.self.running c.enter_catalog.new.catalog o.running (after_pre_dump o.running c.in-PreDump.image) o.hands.was o.is
-    (record { job = refl; opened = refl; image = image_of c.in-PreDump.image; has = has o; parent = refl }))
-
-pub returns-in-Dump-clause-rounds : goal.returns-in-Dump-clause-rounds
-returns-in-Dump-clause-rounds c = none_turns c.args.self.now.dumper.running c.hand_in.new.self.running c.enter_catalog-in-Dump.new.catalog (dump c).is
-
--- ---- the job
 
 pub returns-in-More-clause-leaves : goal.returns-in-More-clause-leaves
 returns-in-More-clause-leaves c =
@@ -196,9 +150,3 @@ returns-in-More-clause-leaves c =
       lowers = subst (λ (v : CoreView). left_of c.hand_in.new.self.running (plain_of c.self.inside.memory) < left_of v.dumper.running (plain_of v.memory)) c.self.view_is
           (c.outcome_laws.ensures.left.hands c.self.inside.dumper c.args.outcome More c.hand_in.new.self (plain_of c.self.inside.memory) h refl);
     }
-
-pub unreachable-requires : goal.unreachable-requires
-unreachable-requires c =
-    let h = subst (λ p. Hands c.self.inside.dumper c.args.outcome p c.hand_in.new.self) c.in-Strange.is c.hand_in.ensures.hands in
-    h.other (out_there _ c.args.lane c.args.outcome.request.id c.self.invariant (ap (λ (v : CoreView). is_idle v Dumper) c.self.view_is ∙ c.requires.runs) c.requires.dumper
-    (ap (λ (v : CoreView). slice_get v.outs c.args.lane) c.self.view_is ∙ c.requires.out))

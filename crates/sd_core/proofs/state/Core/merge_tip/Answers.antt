@@ -1,4 +1,4 @@
-use Rattle.std.proofs.Common.{◌≡◌, Some, slice_get, refl, sym, ◌∙◌, ap, subst, inl}
+use Rattle.std.proofs.Common.{◌≡◌, Some, None, slice_get, refl, sym, ◌∙◌, ap, subst, inl}
 use Rattle.std.proofs.lemmas.Option.{slice_get-get_or}
 use Rattle.sd_chain.specs.Catalog.{IsTip}
 use Rattle.sd_merge.specs.Merger.{begun_merge}
@@ -6,14 +6,17 @@ use Rattle.sd_rounds.specs.Dumper.{HasSlot}
 use Rattle.sd_crash_safety.specs.View.{CoreView}
 use Rattle.sd_core.specs.contracts.state.Core.{the_view}
 use Rattle.sd_core.specs.Beginning.{FreeSlots}
-use Rattle.sd_core.specs.Merging.{has_tip}
-use Rattle.sd_core.proofs.ApplyLemmas.{same_phases}
+use Rattle.sd_core.specs.Merging.{has_tip, merge_refusal}
+use Rattle.sd_core.specs.Next.{begins}
+use Rattle.sd_core.proofs.NextOrders.{merge_seen}
+use Rattle.sd_merge.specs.Sources.{source_from}
 use Rattle.sd_core.proofs.BeginLemmas.{none_opens}
 use Rattle.sd_core.proofs.MergeBegin.{MayMerge, free_uncalled, may_merge, merge_begun}
-use Rattle.sd_core.proofs.OpeningLemmas.{stays_seen}
 use Rattle.sd_core.proofs.OwnLemmas.{makes_in, spared_of}
 use Rattle.sd_core.proofs.SlotLemmas.{IsFreeAt, free_unreached, free_unreserved, free_within}
 use Rattle.sd_core.proofs.TipLemmas.{never_some, tip_not_none}
+use Rattle.sd_core.proofs.ApplyLemmas.{same_phases}
+use Rattle.sd_core.proofs.OpeningLemmas.{stays_seen}
 use Rattle.sd_core.proofs.state.Core.merge_tip.Goals as goal
 
 pub unreachable-requires : goal.unreachable-requires
@@ -39,6 +42,24 @@ invariant_of-self c =
     merge_begun _ tip c.in-Some.slot.now c.in-Ok-for_slots.room c.in-Ok-serials_in.before.items c.begin_merge.new.merger inside
     (c.begin_merge.ensures ∙ ap (λ s. Some (begun_merge s c.in-Some.slot.now c.in-Ok-serials_in.before.items)) c.of-source.ensures) may.stands closed may.idle may.serial
     (free_within c.free_law.ensures view c.in-Ok.slots.items c.in-Some.slot.now free f) spared (c.sound.ensures.own tip newest.member) (c.in-Ok-for_slots.ensures ∙ c.len.ensures ∙ c.self.inside.phases.ok.0)
+
+pub returns-clause-step : goal.returns-clause-step
+returns-clause-step c =
+    let item = c.in-Some.ensures.item in
+    let at : slice_get c.in-Ok.slots.items 0 ≡ Some c.in-Some.slot.now =
+    ap (λ all. slice_get all 0) (sym c.deref.ensures.value) ∙ slice_get-get_or c.deref.result.now 0 c.in-Some.slot.now item.3.0 ∙ ap Some (sym item.1) in
+    merge_seen _ _ _ _ c.self.view_is (begins refl (record {
+      may = subst (λ v. merge_refusal v ≡ None) (sym c.self.view_is) c.requires;
+      tip = c.in-Some-tip.tip.now;
+      is_tip = c.in-Some-tip.ensures.newest;
+      slots = c.in-Ok.slots.items;
+      free = subst (λ v. FreeSlots v c.in-Ok.slots.items) (sym c.self.view_is) c.in-Ok.ensures;
+      slot = c.in-Some.slot.now;
+      lowest = at;
+      new_is = ap (λ m. record (the_view c.self.inside) { merger = m })
+          (c.begin_merge.ensures ∙ ap (λ s. Some (begun_merge s c.in-Some.slot.now c.in-Ok-serials_in.before.items)) c.of-source.ensures
+          ∙ ap (λ b. Some (begun_merge (source_from c.in-Some-tip.tip.now) c.in-Some.slot.now b)) c.in-Ok-serials_in.ensures);
+    }))
 
 pub returns-clause-keeps : goal.returns-clause-keeps
 returns-clause-keeps c =

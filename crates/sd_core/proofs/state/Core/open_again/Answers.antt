@@ -1,7 +1,11 @@
-use Rattle.std.proofs.Common.{length, IfSome, Some, refl, sym, ◌∙◌, ap, subst}
+use Rattle.std.proofs.Common.{◌≡◌, length, IfSome, Some, None, refl, sym, ◌∙◌, ap, subst}
 use Rattle.sd_journal.specs.History.{Base}
 use Rattle.sd_core.proofs.FlagLemmas.{same_flags}
-use Rattle.sd_core.specs.Opening.{HoldsForOpening}
+use Rattle.sd_core.specs.Next.{reopens}
+use Rattle.sd_core.specs.Opening.{HoldsForOpening, IsFreshOpener}
+use Rattle.sd_core.specs.Refusals.{reopen_refusal}
+use Rattle.sd_core.proofs.CoreParts.{parts_of}
+use Rattle.sd_core.proofs.NextOrders.{one_held, reopen_seen, reopened_seen}
 use Rattle.sd_core.specs.Sound.{AreSoundNumbers, IsOpening, held_for, out_of_opener}
 use Rattle.sd_core.specs.Starts.{base_of}
 use Rattle.sd_core.proofs.CoreLemmas.{none_out}
@@ -43,6 +47,21 @@ invariant_of-self-2 c =
       flags_are = same_flags base c.self.inside.journal.items c.fresh_opener.new.journal.items c.self.inside.swept c.self.inside.grows c.self.inside.committing held.items inside.flags_are;
       gated = none_works _ c.self.inside.dumper.running none;
     }
+
+pub returns-clause-step : goal.returns-clause-step
+returns-clause-step c =
+    let may = subst MayReopen (sym c.self.view_is) (may_reopen c.args.self.now c.requires) in
+    let held = subst (λ r. HoldsForOpening c.self.inside.pending c.self.inside.journal r c.fresh_opener.new.journal) c.in-Ok.is c.fresh_opener.ensures.holds in
+    let none = none_closed _ c.self.invariant may.closed in
+    reopen_seen _ _ _ _ c.self.view_is (reopens refl (record {
+      may = subst (λ v. reopen_refusal v ≡ None) (sym c.self.view_is) c.requires;
+      opener = c.in-Ok.opener;
+      fresh = subst (λ n. IsFreshOpener n c.in-Ok.opener) (c.len.ensures ∙ c.self.inside.phases.ok.0) c.in-Ok.ensures.opener;
+      new_is = reopened_seen (parts_of c.self.inside) c.fresh_opener.new.journal c.give_up_all.new.phases.items c.put_opener.new.opener c.in-Ok.opener held.items held.limit
+          (held_opened c.self.inside.pending c.self.inside.dumper.running c.self.inside.opener c.in-Ok.opener c.self.inside.journal.held c.fresh_opener.new.journal.held held.held c.self.invariant.held none may.none
+          ∙ ap (λ r. held_for c.self.inside.pending r (Some c.in-Ok.opener)) none ∙ one_held c.self.inside.pending c.in-Ok.opener)
+          c.give_up_all.ensures c.put_opener.ensures;
+    }))
 
 pub returns-clause-keeps : goal.returns-clause-keeps
 returns-clause-keeps c =

@@ -1,7 +1,7 @@
-use Rattle.std.proofs.Common.{◌≡◌, Some, None, IfSome, is_some, slice_get, ◌∷◌, refl, sym, ◌∙◌, ap, subst, inl, inr, arith}
+use Rattle.std.proofs.Common.{◌≡◌, false, Some, None, IfSome, IsSome, slice_get, ◌∷◌, refl, sym, ◌∙◌, ap, subst, inl, inr, arith}
 use Rattle.sd_gate.specs.declared.worker.Worker.TheVariants as its
 use Rattle.sd_command.specs.declared.reply.Reply.TheVariants as reply
-use Rattle.sd_journal.specs.History.{Base, pending}
+use Rattle.sd_journal.specs.History.{Base}
 use Rattle.sd_journal.specs.declared.mark.Mark.TheVariants.{Visit}
 use Rattle.sd_journal.specs.Marked.{Noted, entries_of}
 use Rattle.sd_rounds.specs.declared.image_step.ImageStep.TheVariants.{Visited, Copied}
@@ -27,9 +27,10 @@ use Rattle.sd_core.proofs.PreDumpLemmas.{same_stay}
 use Rattle.sd_core.proofs.WorkLemmas.{asked_on, at_work, core_working, grown_core, image_of_work, its_serial, numbers_noted, out_at_work, own_slot, same_numbers, same_places, sound_writes, turned}
 use Rattle.sd_core.proofs.SettledLemmas.{clean_cleared, swept_same}
 use Rattle.sd_core.proofs.StepLemmas.{works_on}
-use Rattle.sd_core.specs.declared.taken.Taken.TheVariants.{Step as StepTaken}
-use Rattle.sd_core.specs.Noted.{marks_of}
-use Rattle.sd_core.proofs.OthersLemmas.{beside_seen, counted_still, keeps_same}
+use Rattle.sd_rounds.specs.Waits.{dumper_must_wait}
+use Rattle.sd_core.specs.contracts.state.Core.{the_view}
+use Rattle.sd_core.proofs.CoreParts.{parts_of}
+use Rattle.sd_core.proofs.NextSteps.{may_step, pass_seen, stepped_seen, visited_seen}
 use Rattle.sd_core.proofs.state.Core.pass_image.Goals as goal
 
 pub invariant_of-self-in-Copied : goal.invariant_of-self-in-Copied
@@ -109,6 +110,40 @@ invariant_of-self-in-Visited c =
           (sound_image _ w.running w.image c.sound.ensures.image w.was w.making).rising t.still (visit_more c.step_laws.ensures.due base c.reserve_mark.new.self.items c.self.inside.memory c.pass_on.new.memory w.image w.next c.in-Visited.visit w.image.order.serial core.journal_is.tracked w.steps) refl (little_of base c.reserve_mark.new.self.items c.self.inside.memory c.self.inside.dumper.running w.running w.image core.little w.was w.making));
     }))
 
+-- ---- the step
+
+pub returns-in-Copied-clause-steps : goal.returns-in-Copied-clause-steps
+returns-in-Copied-clause-steps c =
+    let w = subst (λ step. StepsOn c.self.inside.numbers.ticket c.self.inside.dumper c.self.inside.memory (image_step step) c.pass_on.new.dumper c.pass_on.new.memory) c.in-Copied.is (step_passed c.self.inside.dumper c.self.inside.memory c.pass_on.new.dumper c.pass_on.new.memory c.in-Ok-pass_on.found c.in-Some.step c.in-Some.is c.in-Ok-pass_on.ensures.steps c.self.inside.numbers.ticket) in
+    let goes = subst (λ f. IfSome f (λ step. IsSome c.self.inside.dumper.running × (dumper_must_wait c.self.inside.dumper.running (plain_of c.self.inside.memory) ≡ false))) c.in-Some.is c.in-Ok-pass_on.ensures.goes in
+    let may = may_step (the_view c.self.inside) (ap (λ v. slice_get v.outs 0) c.self.view_is ∙ c.requires.rests) goes.0 goes.1 in
+    let grown = c.in-Ok.ensures.grown in
+    λ _. pass_seen _ _ _ c.self.view_is (inr (record {
+      copied = c.in-Copied.field-0;
+      it = record { may = may; running = w.running; was = w.was; image = w.image; making = w.making; next = w.next; steps = (w.steps.0, refl) };
+      new_is = stepped_seen (parts_of c.self.inside) c.reserve_mark.new.self c.pass_on.new.memory c.self.inside.outs c.self.inside.outs c.pass_on.new.dumper c.self.inside.dumper.since_freeze
+          (Some (record w.running { image = Some w.next })) c.self.inside.committing c.self.inside.committing c.self.inside.journal.items c.self.inside.journal.held c.self.inside.pending c.self.inside.swept
+          grown.items grown.held grown.limit w.steps.1 refl w.is w.counted refl;
+    }))
+
+pub returns-in-Visited-clause-steps : goal.returns-in-Visited-clause-steps
+returns-in-Visited-clause-steps c =
+    let w = subst (λ step. StepsOn c.self.inside.numbers.ticket c.self.inside.dumper c.self.inside.memory (image_step step) c.pass_on.new.dumper c.pass_on.new.memory) c.in-Visited.is (step_passed c.self.inside.dumper c.self.inside.memory c.pass_on.new.dumper c.pass_on.new.memory c.in-Ok-pass_on.found c.in-Some.step c.in-Some.is c.in-Ok-pass_on.ensures.steps c.self.inside.numbers.ticket) in
+    let goes = subst (λ f. IfSome f (λ step. IsSome c.self.inside.dumper.running × (dumper_must_wait c.self.inside.dumper.running (plain_of c.self.inside.memory) ≡ false))) c.in-Some.is c.in-Ok-pass_on.ensures.goes in
+    let may = may_step (the_view c.self.inside) (ap (λ v. slice_get v.outs 0) c.self.view_is ∙ c.requires.rests) goes.0 goes.1 in
+    let grown = c.in-Ok.ensures.grown in
+    let own = its_serial _ w.running w.next c.serial.result _ w.is c.serial.ensures c.in-Some-serial.is ∙ ap (λ (m : Making). m.order.serial) w.steps.passes.1 in
+    λ _. pass_seen _ _ _ c.self.view_is (inl (record {
+      visit = c.in-Visited.visit;
+      memory = c.pass_on.new.memory;
+      it = record { may = may; running = w.running; was = w.was; image = w.image; making = w.making; next = w.next; steps = w.steps };
+      new_is = visited_seen (parts_of c.self.inside) c.note.new.self c.pass_on.new.memory c.pass_on.new.dumper c.self.inside.dumper.since_freeze (Some (record w.running { image = Some w.next }))
+          (Noted (Visit w.image.order.serial c.in-Visited.visit.space c.in-Visited.visit.page) ∷ c.self.inside.journal.items)
+          (c.note.ensures.items ∙ ap (λ s. Noted (Visit s c.in-Visited.visit.space c.in-Visited.visit.page) ∷ c.reserve_mark.new.self.items) own
+          ∙ ap (λ all. Noted (Visit w.image.order.serial c.in-Visited.visit.space c.in-Visited.visit.page) ∷ all) grown.items)
+          (c.note.ensures.held ∙ grown.held) (c.note.ensures.numbers.limit ∙ grown.limit) w.is w.counted;
+    }))
+
 pub returns-in-Copied-clause-takes : goal.returns-in-Copied-clause-takes
 returns-in-Copied-clause-takes c =
     let base : Base = base_of c.self.inside.base in
@@ -150,30 +185,3 @@ returns-in-Visited-clause-takes c =
       committing = refl;
       is = w.is;
     }))
-
-pub returns-in-Visited-clause-beside : goal.returns-in-Visited-clause-beside
-returns-in-Visited-clause-beside c =
-    let w = subst (λ step. StepsOn c.self.inside.numbers.ticket c.self.inside.dumper c.self.inside.memory (image_step step) c.pass_on.new.dumper c.pass_on.new.memory) c.in-Visited.is (step_passed c.self.inside.dumper c.self.inside.memory c.pass_on.new.dumper c.pass_on.new.memory c.in-Ok-pass_on.found c.in-Some.step c.in-Some.is c.in-Ok-pass_on.ensures.steps c.self.inside.numbers.ticket) in
-    let items = c.note.ensures.items ∙ ap (λ all. Noted (Visit c.in-Some-serial.serial c.in-Visited.visit.space c.in-Visited.visit.page) ∷ all) c.in-Ok.ensures.grown.items in
-    λ _. beside_seen its.Dumper (StepTaken reply.Worked) _ _ _ c.self.view_is (record {
-      others = (refl, refl);
-      notes = inr (record {
-        space = c.in-Visited.visit.space;
-        page = c.in-Visited.visit.page;
-        notes = record { serial = c.in-Some-serial.serial; own = sym c.serial.ensures ∙ c.in-Some-serial.is; noted = ap marks_of items };
-      });
-      images = λ none_opened. keeps_same c.self.inside.catalog c.self.inside.catalog refl;
-      counted = counted_still (is_some (pending (entries_of c.self.inside.journal.items))) (is_some (pending (entries_of c.note.new.self.items))) c.self.inside.dumper.since_freeze _
-          (ap (λ all. is_some (pending (entries_of all))) items) w.counted;
-    })
-
-pub returns-in-Copied-clause-beside : goal.returns-in-Copied-clause-beside
-returns-in-Copied-clause-beside c =
-    let w = subst (λ step. StepsOn c.self.inside.numbers.ticket c.self.inside.dumper c.self.inside.memory (image_step step) c.pass_on.new.dumper c.pass_on.new.memory) c.in-Copied.is (step_passed c.self.inside.dumper c.self.inside.memory c.pass_on.new.dumper c.pass_on.new.memory c.in-Ok-pass_on.found c.in-Some.step c.in-Some.is c.in-Ok-pass_on.ensures.steps c.self.inside.numbers.ticket) in
-    λ _. beside_seen its.Dumper (StepTaken reply.Worked) _ _ _ c.self.view_is (record {
-      others = (refl, refl);
-      notes = inl (ap marks_of c.in-Ok.ensures.grown.items);
-      images = λ none_opened. keeps_same c.self.inside.catalog c.self.inside.catalog refl;
-      counted = counted_still (is_some (pending (entries_of c.self.inside.journal.items))) (is_some (pending (entries_of c.reserve_mark.new.self.items))) c.self.inside.dumper.since_freeze _
-          (ap (λ all. is_some (pending (entries_of all))) c.in-Ok.ensures.grown.items) w.counted;
-    })
