@@ -27,6 +27,7 @@ mod MergerHands
 mod MergerSteps
 mod NextHands
 mod NextLaws
+mod NextMerger
 mod NextOrders
 mod NextSound
 mod NextSteps

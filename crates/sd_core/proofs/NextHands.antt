@@ -137,7 +137,7 @@ module _ {core : Parts} {seen : CoreView} {lane : ℕ} {made : Made} {phases : L
 abbrev pub down_core : Parts → JournalView → List Phase → List (Option RequestId) → Dumping → Option merger.Running → Parts
 down_core core journal phases outs dumper merge = record core { journal = journal; standing = Down; phases = phases; outs = outs; dumper = dumper; merger = merge }
 
-down_seen : (core : Parts) (journal : JournalView) (phases now : List Phase) (outs out : List (Option RequestId)) (dumper next : Dumping) (merge : Option merger.Running) (held : ℕ)
+pub down_seen : (core : Parts) (journal : JournalView) (phases now : List Phase) (outs out : List (Option RequestId)) (dumper next : Dumping) (merge : Option merger.Running) (held : ℕ)
     → journal.items ≡ core.journal.items → journal.limit ≡ core.journal.limit → journal.held ≡ held → phases ≡ now → outs ≡ out → dumper ≡ next → merge ≡ None
     → seen_of (down_core core journal phases outs dumper merge) ≡ record (seen_of core) { held = held; standing = Down; phases = now; outs = out; dumper = next; merger = None }
 down_seen core journal phases now outs out dumper next merge held items limit count p o d m = cc

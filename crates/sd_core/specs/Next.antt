@@ -1,8 +1,6 @@
 -- One step of a core, exactly: when it may be made, what it answers, and the core after it. A command, an order, a step
 -- of the dumper and an outcome of it are each one of these steps, and all else that is said of them follows.
-use Rattle.std.specs.Prelude.{◌≡◌, ◌≢◌, ◌⊎◌, ℕ, ◌+◌, ◌||◌, Bool, true, false, List, ◌∷◌, length, map, Option, Some}
-use Rattle.std.specs.Prelude.{None}
-use Rattle.std.specs.Prelude.{is_some, Result, Ok, Err, slice_get, slice_set}
+use Rattle.std.specs.Prelude.{◌≡◌, ◌≢◌, ◌⊎◌, ℕ, ◌+◌, ◌||◌, Bool, true, false, List, ◌∷◌, length, map, Option, Some, None, is_some, Result, Ok, Err, slice_get, slice_set}
 use Rattle.sd_chain.specs.Catalog.{Changes, IsTip, Opened, Places, images, serial_of}
 use Rattle.sd_command.specs.declared.command.Command.{Command}
 use Rattle.sd_command.specs.declared.refusal.Refusal.{Refusal}
@@ -10,7 +8,7 @@ use Rattle.sd_command.specs.declared.refusal.Refusal.TheVariants as refusal
 use Rattle.sd_command.specs.declared.reply.Reply.{Reply}
 use Rattle.sd_command.specs.declared.reply.Reply.TheVariants as reply
 use Rattle.sd_gate.specs.declared.phase.Phase.{Phase}
-use Rattle.sd_gate.specs.declared.worker.Worker.TheVariants.{Dumper}
+use Rattle.sd_gate.specs.declared.worker.Worker.TheVariants.{Dumper, Merger, Opener}
 use Rattle.sd_gate.specs.Calls.{is_done}
 use Rattle.sd_gate.specs.Phases.{given_up, phases_after, state_of}
 use Rattle.sd_gate.specs.Requests.{Asked, Made}
@@ -18,36 +16,47 @@ use Rattle.sd_journal.specs.declared.entry.Entry.{Entry}
 use Rattle.sd_journal.specs.declared.entry.Entry.TheVariants as entry
 use Rattle.sd_journal.specs.declared.mark.Mark.{Mark}
 use Rattle.sd_journal.specs.declared.mark.Mark.TheVariants as mark
-use Rattle.sd_journal.specs.History.{pending}
+use Rattle.sd_journal.specs.History.{pending, last}
 use Rattle.sd_journal.specs.Marked.{Noted, Told}
-use Rattle.sd_merge.specs.Merger.{begun_merge}
+use Rattle.sd_merge.specs.Merger.{begun_merge, HandsClosing, Loses, Retiring, TakesList, copying, due, opened, retiring}
 use Rattle.sd_merge.specs.Sources.{source_from}
-use Rattle.sd_opener.specs.Looking.{Looking}
+use Rattle.sd_opener.specs.Looking.{Looking, IsDoneAsAsked}
 use Rattle.sd_rounds.specs.declared.image_step.ImageStep.{ImageStep}
 use Rattle.sd_rounds.specs.declared.image_step.ImageStep.TheVariants as image_step
 use Rattle.sd_rounds.specs.declared.new_image.NewImage.{NewImage}
 use Rattle.sd_rounds.specs.declared.visit.Visit as visit
 use Rattle.sd_rounds.specs.declared.copied.Copied.{Copied}
-use Rattle.sd_rounds.specs.Dumper.{Running, after_pre_dump, begun_checkpoint, is_last, order_of, serial_of_running}
-use Rattle.sd_rounds.specs.Dumper.{slot_of}
+use Rattle.sd_rounds.specs.Dumper.{Running, after_pre_dump, begun_checkpoint, is_last, order_of, serial_of_running, slot_of}
 use Rattle.sd_rounds.specs.Making.{IsWritten, Making, Opens as OpensMade, PlanGoesOn, Steps as StepsImage, begun_image}
 use Rattle.sd_pagetable.specs.Contents.{Contents}
 use Rattle.sd_crash_safety.specs.declared.standing.Standing.TheVariants as standing
-use Rattle.sd_crash_safety.specs.Calls.{running_number}
+use Rattle.sd_crash_safety.specs.Calls.{running_number, IsOut}
 use Rattle.sd_crash_safety.specs.DumperOutcomes.{LeavesCatalog, closes_for_sure}
 use Rattle.sd_crash_safety.specs.DumperSteps.{commits_dump}
-use Rattle.sd_crash_safety.specs.View.{CoreView, history_of, page_lane}
+use Rattle.sd_crash_safety.specs.View.{CoreView, history_of, page_lane, Numbers}
 use Rattle.sd_core.specs.declared.taken.Taken.{Taken}
 use Rattle.sd_core.specs.declared.taken.Taken.TheVariants as taken
 use Rattle.sd_core.specs.Answering.{IsAnswered}
 use Rattle.sd_core.specs.Beginning.{AreFew, AreReserved, FreeSlots, IsFirstParent, begin_refusal}
 use Rattle.sd_core.specs.Counted.{counted_by_outcome}
 use Rattle.sd_core.specs.Dumping.{ReleasesPlace}
-use Rattle.sd_core.specs.Flags.{numbers_asked, numbers_begun}
-use Rattle.sd_core.specs.Merging.{IsFull, merge_refusal}
-use Rattle.sd_core.specs.Opening.{IsFreshOpener}
-use Rattle.sd_core.specs.Refusals.{cancel_refusal, reopen_refusal, work_refusal}
+use Rattle.sd_core.specs.Flags.{numbers_asked, numbers_begun, FindsNumbers}
+use Rattle.sd_core.specs.Merging.{IsFull, merge_refusal, MayRead, StepsAt}
+use Rattle.sd_core.specs.Opening.{IsFreshOpener, OpensAnew, SawDamage, SawStrange, TeachesOpener, WorksOpener, awaited_checkpoint}
+use Rattle.sd_core.specs.Refusals.{cancel_refusal, reopen_refusal, work_refusal, is_idle}
 use Rattle.sd_core.specs.Sound.{held_for}
+use Rattle.sd_image.specs.declared.reason.Reason.{Reason}
+use Rattle.sd_merge.specs.declared.merge_progress.MergeProgress.{MergeProgress}
+use Rattle.sd_merge.specs.declared.merge_progress.MergeProgress.TheVariants as progress
+use Rattle.sd_merge.specs.declared.merge_step.MergeStep.{MergeStep}
+use Rattle.sd_merge.specs.declared.merge_step.MergeStep.TheVariants as merge_step
+use Rattle.sd_merge.specs.declared.retired.Retired.{Retired}
+use Rattle.sd_merge.specs.Copying.{Copying, Opens as OpensCopy, Steps as StepsCopy, begun_copy}
+use Rattle.sd_merge.specs.Merger as merger
+use Rattle.sd_opener.specs.declared.opened.Opened.{Opened as OpenedStore}
+use Rattle.sd_opener.specs.declared.opener_step.OpenerStep.{OpenerStep}
+use Rattle.sd_opener.specs.declared.opener_step.OpenerStep.TheVariants as opener_step
+use Rattle.sd_free_slots.specs.Taken.{IsListOf}
 
 -- ---- words
 
@@ -361,3 +370,241 @@ pub data NextByDumpersOutcome (old : CoreView) (made : Made) (answer : Reply) (n
   goes_down : answer ≡ reply.Refused refusal.StoreDown → (it : HandsIt old made)
       → GoesDown old made it.lane it.phase (counted_by_outcome old Dumper) new
       → NextByDumpersOutcome old made answer new
+
+-- ---- the merger's steps
+
+-- The merged image begins: it gets the next serial, whose place in the catalog is held, and its slot is formatted.
+pub record BeginsMerged (old : CoreView) (request : Asked) (new : CoreView) : Type 0 where
+  pub may : work_refusal old Merger ≡ None
+  pub merge : merger.Running
+  pub was : old.merger ≡ Some merge
+  pub none : merge.doing ≡ due
+  pub phase : Phase
+  pub phase_is : slice_get old.phases merge.slot ≡ Some phase
+  pub places : Places
+  pub held : Changes old.catalog places (old.numbers.serial + 1) (Some None)
+  pub next : Copying
+  pub steps : StepsCopy old.numbers.ticket places
+      (begun_copy (merger.order_of merge (old.numbers.serial + 1) (state_of phase))) (merge_step.Call request) next
+  pub new_is : new ≡ with_request true 1 request
+      (record old { catalog = places; merger = Some (record merge { doing = copying next }) })
+
+-- What a step of the merged image, or on an image that is being closed, begins with.
+pub record StepsMerge (old : CoreView) (step : MergeStep) : Type 0 where
+  pub may : work_refusal old Merger ≡ None
+  pub merge : merger.Running
+  pub was : old.merger ≡ Some merge
+  pub next : merger.Doing
+  pub steps : StepsAt old.numbers.ticket old.catalog merge merge.doing step next
+
+abbrev pub with_doing : merger.Running → merger.Doing → CoreView → CoreView
+with_doing merge doing core = record core { merger = Some (record merge { doing = doing }) }
+
+-- Its next call is asked for. A read of the source is in a slot that the checkpoint doesn't fill.
+pub record AsksMerge (old : CoreView) (step : MergeStep) (request : Asked) (new : CoreView) : Type 0 where
+  pub it : StepsMerge old step
+  pub new_is : new ≡ with_request false 1 request (with_doing it.merge it.next old)
+
+-- A page of zeros is taken.
+pub record TakesZeros (old new : CoreView) : Type 0 where
+  pub it : StepsMerge old merge_step.Zero
+  pub new_is : new ≡ with_doing it.merge it.next old
+
+-- The source isn't there to be read: nothing changes; or the slot of what is read isn't spared, and the merge ends.
+pub record LosesSource (old new : CoreView) : Type 0 where
+  pub may : work_refusal old Merger ≡ None
+  pub lost : Loses old.catalog old.merger
+  pub new_is : new ≡ old
+
+pub record ReadsAstray (old new : CoreView) : Type 0 where
+  pub request : Asked
+  pub it : StepsMerge old (merge_step.ReadCall request)
+  pub astray : MayRead old.dumper.running (length old.phases) request.id.slot → ⊥
+  pub new_is : new ≡ record old { merger = None }
+
+pub data NextByMerger (old : CoreView) (made : Taken) (new : CoreView) : Type 0 where
+  begins_image : (request : Asked) → made ≡ taken.Call request → BeginsMerged old request new
+      → NextByMerger old made new
+  asks : (request : Asked) → made ≡ taken.Call request → AsksMerge old (merge_step.Call request) request new
+      → NextByMerger old made new
+  reads : (request : Asked) → made ≡ taken.Call request → AsksMerge old (merge_step.ReadCall request) request new
+      → MayRead old.dumper.running (length old.phases) request.id.slot → NextByMerger old made new
+  writes : (request : Asked) → made ≡ taken.Call request → AsksMerge old (merge_step.PageCall request) request new
+      → NextByMerger old made new
+  writes_table : (request : Asked) → made ≡ taken.Call request
+      → AsksMerge old (merge_step.TableCall request) request new → NextByMerger old made new
+  takes_zeros : made ≡ taken.Step reply.Worked → TakesZeros old new → NextByMerger old made new
+  lost : made ≡ taken.Step (reply.Refused refusal.Damaged) → LosesSource old new → NextByMerger old made new
+  astray : made ≡ taken.Step (reply.Refused refusal.Damaged) → ReadsAstray old new → NextByMerger old made new
+  refused : (why : Refusal) → work_refusal old Merger ≡ Some why → made ≡ taken.Step (reply.Refused why) → new ≡ old
+      → NextByMerger old made new
+  out_of_memory : work_refusal old Merger ≡ None → made ≡ taken.Step (reply.Refused refusal.OutOfMemory) → new ≡ old
+      → NextByMerger old made new
+
+-- ---- the merger's outcomes
+
+-- What an outcome of the merger begins with.
+pub record HandsMerge (old : CoreView) (made : Made) : Type 0 where
+  pub out : slice_get old.outs 1 ≡ Some (Some made.request.id)
+  pub whose : made.request.id.worker ≡ Merger
+  pub phase : Phase
+  pub phase_is : slice_get old.phases made.request.id.slot ≡ Some phase
+  pub merge : merger.Running
+  pub was : old.merger ≡ Some merge
+
+-- The merged image goes on, or the image that is being closed does, or the next one is begun.
+pub record MergeGoesOn (old : CoreView) (made : Made) (new : CoreView) : Type 0 where
+  pub it : HandsMerge old made
+  pub next : merger.Doing
+  pub progress : MergeProgress
+  pub ends : merger.ends progress ≡ false
+  pub known : merger.is_strange progress ≡ false
+  pub hands : merger.HandsAt it.merge.doing made progress next
+  pub places : Places
+  pub leaves : LeavesCatalog (closes_for_sure it.phase made.request.id.call) made.request.id.slot old.catalog places
+  pub new_is : new ≡ with_outcome 1 made it.phase (with_doing it.merge next (record old { catalog = places }))
+
+-- The merged image is open, and enters the catalog: the list of the images to close is fixed, of those that were there
+-- as the merge began and that nobody needs. Where there are none the merge has ended.
+pub record MergedOpens (old : CoreView) (made : Made) (done : MergeProgress) (new : CoreView) : Type 0 where
+  pub it : HandsMerge old made
+  pub copied : Copying
+  pub doing : it.merge.doing ≡ copying copied
+  pub image : NewImage
+  pub opens : OpensCopy copied made image
+  pub places : Places
+  pub enters : Changes old.catalog places image.header.serial (Some (Some (entered image)))
+  pub list : List Retired
+  pub is_list : IsListOf places old.dumper.running (Some (record it.merge { doing = opened image.header.serial }))
+      (slice_set old.outs 1 None) (length old.phases) list
+  pub rest : Option merger.Running
+  pub takes : TakesList (Some (record it.merge { doing = opened image.header.serial })) list done rest
+  pub new_is : new ≡ with_outcome 1 made it.phase (record old { catalog = places; merger = rest })
+
+-- The last image of the list is closed: the merge has ended.
+pub record MergeEnds (old : CoreView) (made : Made) (serial : ℕ) (new : CoreView) : Type 0 where
+  pub it : HandsMerge old made
+  pub r : Retiring
+  pub doing : it.merge.doing ≡ retiring r
+  pub hands : HandsClosing r made (progress.Merged serial) r
+  pub places : Places
+  pub leaves : LeavesCatalog (closes_for_sure it.phase made.request.id.call) made.request.id.slot old.catalog places
+  pub new_is : new ≡ with_outcome 1 made it.phase (record old { catalog = places; merger = None })
+
+pub data NextByMergersOutcome (old : CoreView) (made : Made) (answer : Reply) (new : CoreView) : Type 0 where
+  goes_on : answer ≡ reply.Worked → MergeGoesOn old made new → NextByMergersOutcome old made answer new
+  opens : answer ≡ reply.Worked → MergedOpens old made progress.More new → NextByMergersOutcome old made answer new
+  opens_last : (serial : ℕ) → answer ≡ reply.Merged serial → MergedOpens old made (progress.Merged serial) new
+      → NextByMergersOutcome old made answer new
+  ends : (serial : ℕ) → answer ≡ reply.Merged serial → MergeEnds old made serial new
+      → NextByMergersOutcome old made answer new
+  goes_down : answer ≡ reply.Refused refusal.StoreDown → (it : HandsMerge old made)
+      → GoesDown old made 1 it.phase old.dumper.since_freeze new
+      → NextByMergersOutcome old made answer new
+
+-- ---- the opener
+
+-- What a step of the opener begins with.
+pub record StepsOpener (old : CoreView) (step : OpenerStep) : Type 0 where
+  pub may : work_refusal old Opener ≡ None
+  pub after : Option Looking
+  pub works : WorksOpener old.opener old.numbers.ticket step after
+
+-- Its next call is asked for.
+pub record AsksOpener (old : CoreView) (request : Asked) (new : CoreView) : Type 0 where
+  pub it : StepsOpener old (opener_step.Call request)
+  pub new_is : new ≡ with_request false 2 request (record old { opener = it.after })
+
+-- An open slot is decoded.
+pub record DecodesSlot (old new : CoreView) : Type 0 where
+  pub it : StepsOpener old opener_step.Decoded
+  pub new_is : new ≡ record old { opener = it.after }
+
+-- Every slot was read, and the store shows the last checkpoint or the one that is awaited: the store is open, and its
+-- catalog and phases are those that were read.
+pub record OpensStore (old : CoreView) (found : Option ℕ) (new : CoreView) : Type 0 where
+  pub it : StepsOpener old opener_step.AllRead
+  pub looking : Looking
+  pub is_looking : it.after ≡ Some looking
+  pub read : OpenedStore
+  pub reads : OpensAnew looking (last old.base (history_of old)) (awaited_checkpoint old) read found
+  pub numbers : Numbers
+  pub finds : FindsNumbers old.numbers read.catalog numbers
+  pub new_is : new ≡ with_entry (entry.Reopened found) (record old {
+    held = 0;
+    standing = standing.Open;
+    phases = read.phases.items;
+    catalog = read.catalog;
+    opener = None;
+    numbers = numbers;
+    grows = false;
+    committing = false;
+  })
+
+-- A slot is damaged, or the store shows another checkpoint: the opener ends, and the store stays as it was.
+pub record RefusesStore (old : CoreView) (step : OpenerStep) (new : CoreView) : Type 0 where
+  pub it : StepsOpener old step
+  pub new_is : new ≡ with_held (record old { opener = None })
+
+-- the files that it saw aren't those of this run's store
+pub record IsStrangeStore (old : CoreView) : Type 0 where
+  pub looking : Looking
+  pub is : old.opener ≡ Some looking
+  pub strange : SawStrange looking (last old.base (history_of old)) (awaited_checkpoint old)
+  pub damage : SawDamage looking (last old.base (history_of old)) (awaited_checkpoint old)
+
+pub data NextByOpener (old : CoreView) (made : Taken) (new : CoreView) : Type 0 where
+  asks : (request : Asked) → made ≡ taken.Call request → AsksOpener old request new → NextByOpener old made new
+  decodes : made ≡ taken.Step reply.Worked → DecodesSlot old new → NextByOpener old made new
+  opens : (found : Option ℕ) → made ≡ taken.Step (reply.Reopened found) → OpensStore old found new
+      → NextByOpener old made new
+  damaged : (slot : ℕ) (reason : Reason) → made ≡ taken.Step (reply.Refused refusal.Damaged)
+      → RefusesStore old (opener_step.Damaged slot reason) new → NextByOpener old made new
+  strange : made ≡ taken.Step (reply.Refused refusal.Damaged) → RefusesStore old opener_step.AllRead new
+      → IsStrangeStore old → NextByOpener old made new
+  refused : (why : Refusal) → work_refusal old Opener ≡ Some why → made ≡ taken.Step (reply.Refused why) → new ≡ old
+      → NextByOpener old made new
+  out_of_memory : work_refusal old Opener ≡ None → made ≡ taken.Step (reply.Refused refusal.OutOfMemory) → new ≡ old
+      → NextByOpener old made new
+
+-- What an outcome of the opener begins with.
+pub record HandsOpener (old : CoreView) (made : Made) : Type 0 where
+  pub out : slice_get old.outs 2 ≡ Some (Some made.request.id)
+  pub whose : made.request.id.worker ≡ Opener
+  pub phase : Phase
+  pub phase_is : slice_get old.phases made.request.id.slot ≡ Some phase
+
+-- It learns what its call said; or the call failed, and the opener ends.
+pub record LearnsSlot (old : CoreView) (made : Made) (new : CoreView) : Type 0 where
+  pub it : HandsOpener old made
+  pub after : Option Looking
+  pub teaches : TeachesOpener old.opener made true after
+  pub new_is : new ≡ with_outcome 2 made it.phase (record old { opener = after })
+
+pub record FailsToOpen (old : CoreView) (made : Made) (new : CoreView) : Type 0 where
+  pub it : HandsOpener old made
+  pub fails : IsDoneAsAsked made → ⊥
+  pub new_is : new ≡ with_held (with_outcome 2 made it.phase (record old { opener = None }))
+
+pub data NextByOpenersOutcome (old : CoreView) (made : Made) (answer : Reply) (new : CoreView) : Type 0 where
+  learns : answer ≡ reply.Worked → LearnsSlot old made new → NextByOpenersOutcome old made answer new
+  fails : answer ≡ reply.Refused refusal.StoreDown → FailsToOpen old made new
+      → NextByOpenersOutcome old made answer new
+
+-- ---- an outcome, whoever's it is
+
+-- Its job had ended, since the store went down.
+pub record ComesLate (old : CoreView) (made : Made) (new : CoreView) : Type 0 where
+  pub lane : ℕ
+  pub out : slice_get old.outs lane ≡ Some (Some made.request.id)
+  pub idle : is_idle old made.request.id.worker ≡ true
+  pub phase : Phase
+  pub phase_is : slice_get old.phases made.request.id.slot ≡ Some phase
+  pub new_is : new ≡ with_outcome lane made phase old
+
+pub data NextByOutcome (old : CoreView) (made : Made) (answer : Reply) (new : CoreView) : Type 0 where
+  of_dumper : NextByDumpersOutcome old made answer new → NextByOutcome old made answer new
+  of_merger : NextByMergersOutcome old made answer new → NextByOutcome old made answer new
+  of_opener : NextByOpenersOutcome old made answer new → NextByOutcome old made answer new
+  late : answer ≡ reply.Refused refusal.StoreDown → ComesLate old made new → NextByOutcome old made answer new
+  strange : (IsOut old made.request.id → ⊥) → IsRefused refusal.Idle old answer new → NextByOutcome old made answer new

@@ -12,7 +12,7 @@ ghost use Rattle.sd_core.specs.Flags.{FlagsByOutcome, FlagsByStep};
 ghost use Rattle.sd_core.specs.Lasting.{FixesNoList, MergeLasts};
 ghost use Rattle.sd_core.specs.Merging.{EndsCut, EntersAsCopy, EntersAtRest, FixesItsList, IsMerged, ListsTheUnneeded};
 ghost use Rattle.sd_core.specs.Merging.{merge_refusal};
-ghost use Rattle.sd_core.specs.Next.{NextByMerge};
+ghost use Rattle.sd_core.specs.Next.{NextByMerge, NextByMerger, NextByMergersOutcome};
 ghost use Rattle.sd_core.specs.Refusals.{is_idle, work_refusal};
 ghost use Rattle.sd_core.specs.Starts.{TakesUp};
 ghost use Rattle.sd_core.specs.Working.{FindsSource, LeavesByOutcome, LeavesByWork};
@@ -94,6 +94,7 @@ impl Core {
         ensures lasts { MergeLasts self.old self.new }
         ensures fixes { FixesNoList self.old self.new }
         ensures finds { FindsSource self.old result }
+        ensures step { NextByMerger self.old result self.new }
     {
         match self.merger.next_slot() {
             Some(slot) => self.begin_merged(slot),
@@ -107,6 +108,7 @@ impl Core {
     ///
     /// `OutOfMemory` where a growth was refused.
     fn begin_merged(&mut self, slot: usize) -> Taken
+        requires may { work_refusal self.old its.Merger ≡ None }
         requires next { slot_before self.old.merger ≡ Some slot }
         ensures takes { TakesUp self.old its.Merger result self.new }
         ensures flags { FlagsByStep self.old its.Merger result self.new }
@@ -115,6 +117,7 @@ impl Core {
         ensures lasts { MergeLasts self.old self.new }
         ensures fixes { FixesNoList self.old self.new }
         ensures finds { FindsSource self.old result }
+        ensures step { NextByMerger self.old result self.new }
     {
         core_steps();
         self.merger.sound();
@@ -141,6 +144,7 @@ impl Core {
     ///
     /// `OutOfMemory` where a growth was refused. `Damaged` where the source isn't there to be read.
     fn go_on_merging(&mut self) -> Taken
+        requires may { work_refusal self.old its.Merger ≡ None }
         requires begun { slot_before self.old.merger ≡ None }
         requires runs { IsSome self.old.merger }
         requires rests { slice_get self.old.outs 1 ≡ Some None }
@@ -151,6 +155,7 @@ impl Core {
         ensures lasts { MergeLasts self.old self.new }
         ensures fixes { FixesNoList self.old self.new }
         ensures finds { FindsSource self.old result }
+        ensures step { NextByMerger self.old result self.new }
     {
         core_steps();
         merger_steps(&self.catalog);
@@ -202,6 +207,7 @@ impl Core {
         ensures copies { EntersAsCopy self.old outcome.request self.new }
         ensures rests { EntersAtRest self.old outcome.request self.new }
         ensures cuts { (serial : ℕ) → result ≡ reply.Merged serial → EndsCut self.old outcome.request self.new }
+        ensures step { NextByMergersOutcome self.old outcome result self.new }
     {
         merging_laws(&self.merger, &self.dumper);
         let Followed { id, closed } = follow_outcome(

@@ -21,6 +21,13 @@ use Rattle.sd_core.proofs.MergerSteps.{asks_header, asks_own, begun_sound}
 use Rattle.sd_core.proofs.OpeningLemmas.{hands_seen}
 use Rattle.sd_core.proofs.OwnLemmas.{makes_in, spared_of}
 use Rattle.sd_core.proofs.WorkLemmas.{at_work, held_more, open_more}
+use Rattle.sd_core.specs.Next.{begins_image}
+use Rattle.sd_core.specs.Refusals.{work_refusal}
+use Rattle.sd_merge.specs.declared.merge_step.MergeStep.TheVariants as merge_step
+use Rattle.sd_merge.specs.Copying.{Steps as StepsCopy}
+use Rattle.sd_core.specs.Flags.{ticket_after}
+use Rattle.sd_core.proofs.CoreParts.{parts_of}
+use Rattle.sd_core.proofs.NextMerger.{begun_copy_seen, merger_seen}
 use Rattle.sd_core.proofs.state.Core.begin_merged.Goals as goal
 
 pub invariant_of-self-2 : goal.invariant_of-self-2
@@ -153,3 +160,31 @@ returns-clause-takes c =
                 (c.state.ensures ∙ ap state_of c.index.ensures ∙ ap (λ k. state_of (slice_index_or c.self.inside.phases.items k c.index.result.now)) (sym at));
           }) believed);
     })
+
+pub returns-clause-step : goal.returns-clause-step
+returns-clause-step c =
+    let serial = c.self.inside.numbers.serial + 1 in
+    let w = c.begin_copy-request.ensures.begins in
+    let m = merger_works _ w.merge c.self.invariant w.was in
+    let at : w.merge.slot ≡ c.args.slot = same_Some w.merge.slot c.args.slot (sym (ap (slot_to_begin w.merge) w.must_dump) ∙ sym (ap slot_before w.was)
+    ∙ ap (λ (v : CoreView). slot_before v.merger) c.self.view_is ∙ c.requires.next) in
+    let phase = slice_index_or c.self.inside.phases.items w.merge.slot c.index.result.now in
+    let state = c.state.ensures ∙ ap state_of c.index.ensures ∙ ap (λ k. state_of (slice_index_or c.self.inside.phases.items k c.index.result.now)) (sym at) in
+    let gave = c.give.ensures in
+    let t = c.tick.ensures in
+    merger_seen _ _ _ _ c.self.view_is (begins_image c.begin_copy-request.result refl (record {
+      may = subst (λ v. work_refusal v its.Merger ≡ None) (sym c.self.view_is) c.requires.may;
+      merge = w.merge;
+      was = w.was;
+      none = w.must_dump;
+      phase = phase;
+      phase_is = slice_get-get_or c.self.inside.phases.items w.merge.slot c.index.result.now m.within;
+      places = c.hold.new.self;
+      held = c.in-Ok.ensures.held;
+      next = w.copy;
+      steps = subst (λ s. StepsCopy c.self.inside.numbers.ticket c.hold.new.self (begun_copy (merger.order_of w.merge serial s)) (merge_step.Call c.begin_copy-request.result) w.copy) state w.steps;
+      new_is = begun_copy_seen (parts_of c.self.inside) c.put_out.new.outs (slice_set c.self.inside.outs 1 (Some c.begin_copy-request.result.id)) c.hold.new.self c.begin_copy-request.new.merger
+          (Some (record w.merge { doing = copying w.copy })) c.tick.new.self (c.put_out.ensures ∙ ap (λ id. slice_set c.self.inside.outs 1 (Some id)) c.id.ensures) w.is
+          (t.begun ∙ ap (λ (n : Numbers). n.begun) gave) (t.given ∙ ap (λ (n : Numbers). n.given) gave) (t.checkpoint ∙ ap (λ (n : Numbers). n.checkpoint) gave)
+          (t.serial ∙ ap (λ (n : Numbers). n.serial) gave) (t.ticket ∙ ap (λ (n : Numbers). ticket_after n.ticket) gave);
+    }))

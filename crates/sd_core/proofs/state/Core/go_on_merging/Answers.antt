@@ -1,4 +1,4 @@
-use Rattle.std.proofs.Common.{◌≡◌, ℕ, List, length, true, false, Err, Option, Some, slice_set, refl, sym, ◌∙◌, ap, subst, inl}
+use Rattle.std.proofs.Common.{◌≡◌, ℕ, List, length, true, false, Err, Option, Some, None, slice_set, refl, sym, ◌∙◌, ap, subst, inl}
 use Rattle.sd_gate.specs.declared.request_id.RequestId.{RequestId}
 use Rattle.sd_gate.specs.declared.worker.Worker.TheVariants as its
 use Rattle.sd_gate.specs.Requests.{Asked}
@@ -15,6 +15,9 @@ use Rattle.sd_core.proofs.CoreParts.{parts_of}
 use Rattle.sd_core.proofs.MergerCalls.{StepsMerge, asked_core, call_asks, call_handed, goes_by_zeros, may_read_by, never_lost, read_asks, read_handed}
 use Rattle.sd_core.proofs.OpeningLemmas.{step_seen}
 use Rattle.sd_core.proofs.WorkLemmas.{SameNumbers}
+use Rattle.sd_core.specs.Next.{lost, reads, takes_zeros, astray}
+use Rattle.sd_core.specs.Refusals.{work_refusal}
+use Rattle.sd_core.proofs.NextMerger.{asks_merge, calls_merge, merger_seen}
 use Rattle.sd_core.proofs.state.Core.go_on_merging.Goals.{In-Ok}
 use Rattle.sd_core.proofs.state.Core.go_on_merging.Goals as goal
 
@@ -119,3 +122,31 @@ pub returns-in-Err-Lost-clause-finds : goal.returns-in-Err-Lost-clause-finds
 returns-in-Err-Lost-clause-finds c = λ asked bodies files b is.
     never_lost c.self.inside.catalog c.merger_steps.ensures _ (the_view c.self.inside) c.self.invariant refl refl refl (c.step_merger.ensures.lost (c.in-Err-Lost.is ∙ ap Err c.in-Err-Lost.field-0-is))
     asked bodies files (subst (λ (old : CoreView). Believes old asked bodies files) (sym c.self.view_is) b)
+
+-- ---- the step
+
+may_go : (c : goal.In-Ok) → work_refusal (the_view c.self.inside) its.Merger ≡ None
+may_go c = subst (λ v. work_refusal v its.Merger ≡ None) (sym c.self.view_is) c.requires.may
+
+pub returns-in-Call-clause-step : goal.returns-in-Call-clause-step
+returns-in-Call-clause-step c = merger_seen _ _ _ _ c.self.view_is
+    (calls_merge (parts_of c.self.inside) c.in-Ok.step c.step_merger.new.merger c.in-Ok.ensures.steps (may_go (goal.at.returns-in-Call-clause-step c).In-Ok) c.in-Call.request c.put_out-in-Call.new.outs
+    c.tick-in-Call.new.self c.in-Call.is (c.put_out-in-Call.ensures ∙ ap (λ id. slice_set c.self.inside.outs 1 (Some id)) c.id-in-Call.ensures)
+    (record { begun = c.tick-in-Call.ensures.begun; given = c.tick-in-Call.ensures.given; checkpoint = c.tick-in-Call.ensures.checkpoint; serial = c.tick-in-Call.ensures.serial }) c.tick-in-Call.ensures.ticket)
+
+pub returns-in-Zero-clause-step : goal.returns-in-Zero-clause-step
+returns-in-Zero-clause-step c =
+    let s = subst (λ k. IsStepOf c.self.inside.numbers.ticket c.self.inside.catalog c.self.inside.merger k c.step_merger.new.merger) c.in-Zero.is c.in-Ok.ensures.steps in
+    merger_seen _ _ _ _ c.self.view_is (takes_zeros refl (record {
+      it = record { may = may_go (goal.at.returns-in-Zero-clause-step c).In-Ok; merge = s.merge; was = s.was; next = s.doing; steps = s.steps };
+      new_is = ap (λ m. record (the_view c.self.inside) { merger = m }) s.is;
+    }))
+
+pub returns-else-not-may_read-clause-step : goal.returns-else-not-may_read-clause-step
+returns-else-not-may_read-clause-step c =
+    let s = subst (λ k. IsStepOf c.self.inside.numbers.ticket c.self.inside.catalog c.self.inside.merger k c.step_merger.new.merger) c.in-ReadCall.is c.in-Ok.ensures.steps in
+    merger_seen _ _ _ _ c.self.view_is (reads c.in-ReadCall.request refl
+    (asks_merge (parts_of c.self.inside) (ReadCall c.in-ReadCall.request) c.step_merger.new.merger s (may_go (goal.at.returns-else-not-may_read-clause-step c).In-Ok) c.in-ReadCall.request c.put_out.new.outs c.tick.new.self
+    (c.put_out.ensures ∙ ap (λ id. slice_set c.self.inside.outs 1 (Some id)) c.id-in-ReadCall.ensures)
+    (record { begun = c.tick.ensures.begun; given = c.tick.ensures.given; checkpoint = c.tick.ensures.checkpoint; serial = c.tick.ensures.serial }) c.tick.ensures.ticket)
+    (may_read c))

@@ -1,4 +1,4 @@
-use Rattle.std.proofs.Common.{◌≡◌, Some, refl, sym, ◌∙◌, ap, subst}
+use Rattle.std.proofs.Common.{◌≡◌, Some, refl, sym, ◌∙◌, ap, subst, rules, inl, inr}
 use Rattle.sd_gate.specs.declared.request_id.RequestId.{RequestId}
 use Rattle.sd_command.specs.declared.refusal.Refusal.TheVariants.{StoreDown}
 use Rattle.sd_command.specs.declared.reply.Reply.TheVariants as reply
@@ -16,6 +16,7 @@ use Rattle.sd_core.proofs.FallenLemmas.{fallen_core, let_go_all}
 use Rattle.sd_core.proofs.ListLemmas.{ended_cut, none_cut, none_enters, not_copying, not_opened, opened_enters, opened_list, opened_now, opened_rests, opened_retires, still_copies}
 use Rattle.sd_core.proofs.MergerHands.{EndsMerge, GoesOnMerge, HandsMerge, ends_core, ends_handed, ends_list, goes_on_core, goes_on_handed, handed_on, its_outcome, merge_handed, work}
 use Rattle.sd_core.proofs.OpenedLemmas.{OpensMerge, core_opened, opened_handed}
+use Rattle.sd_core.proofs.NextMerger.{down_next, ended_next, more_next, opened_next}
 use Rattle.sd_core.proofs.state.Core.hand_in_merger.Goals.{After-merger_outcomes, In-Failed, in-None, in-Some}
 use Rattle.sd_core.proofs.state.Core.hand_in_merger.Goals as goal
 
@@ -207,3 +208,26 @@ returns-after-fix_list-clause-rests c = opened_rests (opened c) c.merger_outcome
 
 pub returns-after-fix_list-clause-cuts : goal.returns-after-fix_list-clause-cuts
 returns-after-fix_list-clause-cuts c = λ serial is bodies b. none_cut (opened c)
+
+-- ---- the step
+
+pub returns-in-Failed-clause-step : goal.returns-in-Failed-clause-step
+returns-in-Failed-clause-step c =
+    let h = failed (goal.at.returns-in-Failed-clause-step c).In-Failed in
+    let known = hands (goal.at.returns-in-Failed-clause-step c).After-merger_outcomes h.running h.was in
+    let ends = c.end_checkpoint.ensures.journal in
+    down_next known c.end_checkpoint.new.journal c.end_checkpoint.new.dumper c.hand_in-progress.new.self (search rules) ends.items ends.limit
+    (let_go_all c.self.inside.pending c.self.inside.dumper.running c.self.inside.journal _ (c.self.invariant.held ∙ ap (held_for c.self.inside.pending c.self.inside.dumper.running) (work known).closed) ends)
+    c.end_checkpoint.ensures.dumper h.is
+
+pub returns-in-More-clause-step : goal.returns-in-More-clause-step
+returns-in-More-clause-step c = more_next (more c)
+
+pub returns-in-Merged-clause-step : goal.returns-in-Merged-clause-step
+returns-in-Merged-clause-step c = ended_next (merged c)
+
+pub returns-after-fix_list-clause-step : goal.returns-after-fix_list-clause-step
+returns-after-fix_list-clause-step c = opened_next (opened c) c.match-fix_list.result (elim c.match-fix_list.branch [
+  | in-None w ↦ inl (w.in-None.is, w.result-is)
+  | in-Some w ↦ inr (w.in-Some.serial, w.in-Some.is, w.result-is)
+])
