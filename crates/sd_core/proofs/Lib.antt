@@ -28,6 +28,7 @@ mod MergerSteps
 mod NextHands
 mod NextLaws
 mod NextMerger
+mod NextOpener
 mod NextOrders
 mod NextSound
 mod NextSteps

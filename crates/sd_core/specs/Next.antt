@@ -520,12 +520,16 @@ pub record DecodesSlot (old new : CoreView) : Type 0 where
   pub it : StepsOpener old opener_step.Decoded
   pub new_is : new ≡ record old { opener = it.after }
 
--- Every slot was read, and the store shows the last checkpoint or the one that is awaited: the store is open, and its
--- catalog and phases are those that were read.
+-- A slot is damaged: the opener ends, and the store stays as it was.
+pub record RefusesStore (old : CoreView) (step : OpenerStep) (new : CoreView) : Type 0 where
+  pub it : StepsOpener old step
+  pub new_is : new ≡ with_held (record old { opener = None })
+
+-- The store shows the last checkpoint or the one that is awaited: it is open, and its catalog and phases are those that
+-- were read.
 pub record OpensStore (old : CoreView) (found : Option ℕ) (new : CoreView) : Type 0 where
-  pub it : StepsOpener old opener_step.AllRead
   pub looking : Looking
-  pub is_looking : it.after ≡ Some looking
+  pub is : old.opener ≡ Some looking
   pub read : OpenedStore
   pub reads : OpensAnew looking (last old.base (history_of old)) (awaited_checkpoint old) read found
   pub numbers : Numbers
@@ -541,27 +545,26 @@ pub record OpensStore (old : CoreView) (found : Option ℕ) (new : CoreView) : T
     committing = false;
   })
 
--- A slot is damaged, or the store shows another checkpoint: the opener ends, and the store stays as it was.
-pub record RefusesStore (old : CoreView) (step : OpenerStep) (new : CoreView) : Type 0 where
-  pub it : StepsOpener old step
-  pub new_is : new ≡ with_held (record old { opener = None })
-
--- the files that it saw aren't those of this run's store
-pub record IsStrangeStore (old : CoreView) : Type 0 where
+-- The files that it saw are none that this run's store may have: the opener ends, and the store stays as it was.
+pub record FindsStrangeStore (old new : CoreView) : Type 0 where
   pub looking : Looking
   pub is : old.opener ≡ Some looking
   pub strange : SawStrange looking (last old.base (history_of old)) (awaited_checkpoint old)
   pub damage : SawDamage looking (last old.base (history_of old)) (awaited_checkpoint old)
+  pub new_is : new ≡ with_held (record old { opener = None })
+
+-- once every slot was read
+pub data NextOnceRead (old : CoreView) (answer : Reply) (new : CoreView) : Type 0 where
+  opens : (found : Option ℕ) → answer ≡ reply.Reopened found → OpensStore old found new → NextOnceRead old answer new
+  strange : answer ≡ reply.Refused refusal.Damaged → FindsStrangeStore old new → NextOnceRead old answer new
 
 pub data NextByOpener (old : CoreView) (made : Taken) (new : CoreView) : Type 0 where
   asks : (request : Asked) → made ≡ taken.Call request → AsksOpener old request new → NextByOpener old made new
   decodes : made ≡ taken.Step reply.Worked → DecodesSlot old new → NextByOpener old made new
-  opens : (found : Option ℕ) → made ≡ taken.Step (reply.Reopened found) → OpensStore old found new
-      → NextByOpener old made new
   damaged : (slot : ℕ) (reason : Reason) → made ≡ taken.Step (reply.Refused refusal.Damaged)
       → RefusesStore old (opener_step.Damaged slot reason) new → NextByOpener old made new
-  strange : made ≡ taken.Step (reply.Refused refusal.Damaged) → RefusesStore old opener_step.AllRead new
-      → IsStrangeStore old → NextByOpener old made new
+  reads_all : (answer : Reply) → made ≡ taken.Step answer → StepsOpener old opener_step.AllRead
+      → NextOnceRead old answer new → NextByOpener old made new
   refused : (why : Refusal) → work_refusal old Opener ≡ Some why → made ≡ taken.Step (reply.Refused why) → new ≡ old
       → NextByOpener old made new
   out_of_memory : work_refusal old Opener ≡ None → made ≡ taken.Step (reply.Refused refusal.OutOfMemory) → new ≡ old

@@ -14,7 +14,7 @@ ghost use Rattle.sd_core.specs.Images.{IsAcked};
 ghost use Rattle.sd_core.specs.LittleWork.{OpensPreDump};
 ghost use Rattle.sd_core.specs.Flags.{FlagsByOutcome};
 ghost use Rattle.sd_core.specs.Merging.{OpensMerged};
-ghost use Rattle.sd_core.specs.Next.{NextByDumper, NextByDumpersOutcome};
+ghost use Rattle.sd_core.specs.Next.{ComesLate, NextByDumper, NextByDumpersOutcome};
 ghost use Rattle.sd_core.specs.Refusals.{is_idle, work_refusal};
 ghost use Rattle.sd_core.specs.Starts.{TakesUp};
 ghost use Rattle.sd_core.specs.Working.{LeavesByOutcome, LeavesByWork};
@@ -185,6 +185,7 @@ impl Core {
         ensures images { (running : Running) → OpensPreDump running self.old self.new → ⊥ }
         ensures merges { outcome.request.id.worker ≡ its.Merger → (merge : RunningMerge) (serial : ℕ)
             → OpensMerged merge serial self.old self.new → ⊥ }
+        ensures step { ComesLate self.old outcome self.new }
     {
         dumper_outcomes();
         merger_outcomes(&self.catalog);

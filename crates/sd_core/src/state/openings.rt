@@ -14,6 +14,7 @@ ghost use Rattle.sd_core.specs.Refusals.{work_refusal};
 ghost use Rattle.sd_core.specs.Starts.{TakesUp};
 ghost use Rattle.sd_core.specs.Working.{LeavesByOutcome, LeavesByStep, LeavesByWork};
 ghost use Rattle.sd_core.specs.declared.taken.Taken.TheVariants as taken;
+ghost use Rattle.sd_core.specs.Next.{NextByOpener, NextByOpenersOutcome, NextOnceRead};
 
 use super::Core;
 use crate::following::follow_outcome;
@@ -42,6 +43,7 @@ impl Core {
         ensures shows { OpensOwn self.old result }
         ensures leaves { LeavesByWork self.old its.Opener result self.new }
         ensures merger { self.new.merger ≡ self.old.merger }
+        ensures step { NextByOpener self.old result self.new }
     {
         opener_steps();
         opener_finds();
@@ -79,6 +81,7 @@ impl Core {
         ensures shows { OpensOwn self.old (taken.Step result) }
         ensures leaves { LeavesByStep self.old its.Opener result self.new }
         ensures merger { self.new.merger ≡ self.old.merger }
+        ensures step { NextOnceRead self.old result self.new }
     {
         reopened_law();
         opener_steps();
@@ -122,6 +125,7 @@ impl Core {
         ensures flags { FlagsByOutcome self.old result self.new }
         ensures beside { HandsBeside outcome self.old self.new }
         ensures merger { self.new.merger ≡ self.old.merger }
+        ensures step { NextByOpenersOutcome self.old outcome result self.new }
     {
         opener_steps();
         follow_outcome(&mut self.phases, &mut self.outs, OPENER, &outcome);

@@ -1,4 +1,4 @@
-use Rattle.std.proofs.Common.{◌≡◌, false, if◌then◌else◌, ℕ, length, map, take, Option, Some, None, IfSome, is_some, refl, sym, ◌∙◌, ap, subst, arith}
+use Rattle.std.proofs.Common.{◌≡◌, false, if◌then◌else◌, ℕ, length, map, take, Option, Some, None, IfSome, is_some, refl, sym, ◌∙◌, ap, subst, arith, rules}
 use Rattle.std.proofs.Math.Seq.{take-length}
 use Rattle.std.proofs.lemmas.Option.{same_Some}
 use Rattle.sd_gate.specs.declared.worker.Worker.TheVariants as its
@@ -26,6 +26,12 @@ use Rattle.sd_core.proofs.OpeningLemmas.{ends_refused, starts_anew, step_seen}
 use Rattle.sd_core.proofs.WorkLemmas.{none_closed, none_works}
 use Rattle.sd_core.proofs.SettledLemmas.{not_swept}
 use Rattle.sd_core.proofs.StrangeLemmas.{same_own}
+use Rattle.sd_core.specs.contracts.state.Core.{the_view}
+use Rattle.sd_core.specs.Next.{opens, strange}
+use Rattle.sd_core.specs.Opening.{OpensAnew, SawDamage, SawStrange}
+use Rattle.sd_core.proofs.CoreParts.{parts_of}
+use Rattle.sd_core.proofs.CoreLemmas.{held_let_go}
+use Rattle.sd_core.proofs.NextOpener.{awaited_is, let_go_seen, opened_seen, read_seen}
 use Rattle.sd_core.proofs.state.Core.finish_opening.Goals as goal
 
 pub invariant_of-self-2 : goal.invariant_of-self-2
@@ -167,3 +173,49 @@ returns-clause-beside c = beside_seen its.Opener (Step (reply.Reopened c.in-Some
   counted = none_now (is_some (pending (entries_of c.self.inside.journal.items))) (is_some (pending (entries_of c.append_held.new.self.items))) c.self.inside.dumper.since_freeze
       (ap (λ all. is_some (pending (entries_of all))) c.append_held.ensures.items);
 })
+
+-- ---- the step
+
+pub returns-in_default-read_by-clause-step : goal.returns-in_default-read_by-clause-step
+returns-in_default-read_by-clause-step c =
+    let o = c.in-Some.opener in
+    let is : c.self.inside.opener ≡ Some o = sym c.take_opener.ensures.taken ∙ c.in-Some.is in
+    let opening = subst (λ x. IfSome x (IsOpening c.self.inside.standing c.self.inside.phases.items)) is c.self.invariant.opening in
+    let awaited = awaited_is (parts_of c.self.inside) c.self.invariant c.visited_checkpoint.result c.visited_checkpoint.ensures in
+    let newest = c.self.invariant.journal_is.newest_is in
+    let gone = c.release_for_opening.ensures in
+    read_seen _ _ _ _ c.self.view_is (strange refl (record {
+      looking = o;
+      is = is;
+      strange = subst (λ l. SawStrange o l (if has_visited_all c.self.inside.journal.items then pending (entries_of c.self.inside.journal.items) else None)) newest
+          (subst (λ p. SawStrange o c.self.inside.last p) awaited (c.in_default-read_by.ensures.strange refl));
+      damage = subst (λ l. SawDamage o l (if has_visited_all c.self.inside.journal.items then pending (entries_of c.self.inside.journal.items) else None)) newest
+          (subst (λ p. SawDamage o c.self.inside.last p) awaited (c.in_default-read_by.ensures.damaged refl));
+      new_is = let_go_seen (parts_of c.self.inside) c.self.invariant c.release_for_opening.new.journal c.take_opener.new.opener gone.items gone.limit
+          (held_let_go c.self.inside.pending c.self.inside.dumper.running o c.self.inside.journal c.release_for_opening.new.journal (none_closed _ c.self.invariant opening.closed)
+          (c.self.invariant.held ∙ ap (held_for c.self.inside.pending c.self.inside.dumper.running) is) gone)
+          c.take_opener.ensures.left;
+    }))
+
+pub returns-clause-step : goal.returns-clause-step
+returns-clause-step c =
+    let o = c.in-Some.opener in
+    let is : c.self.inside.opener ≡ Some o = sym c.take_opener.ensures.taken ∙ c.in-Some.is in
+    let opening = subst (λ x. IfSome x (IsOpening c.self.inside.standing c.self.inside.phases.items)) is c.self.invariant.opening in
+    let none = none_closed _ c.self.invariant opening.closed in
+    let awaited = awaited_is (parts_of c.self.inside) c.self.invariant c.visited_checkpoint.result c.visited_checkpoint.ensures in
+    let newest = c.self.invariant.journal_is.newest_is in
+    let held : c.self.inside.journal.held ≡ 1 = c.self.invariant.held ∙ ap (held_for c.self.inside.pending c.self.inside.dumper.running) is ∙ held_opening c.self.inside.pending c.self.inside.dumper.running o none in
+    let less = c.append_held.ensures.held in
+    let zero_is : c.append_held.new.self.held ≡ 0 = omega (arith, held, less) in
+    read_seen _ _ _ _ c.self.view_is (opens c.in-Some-read_by.found refl (record {
+      looking = o;
+      is = is;
+      read = c.in-Some-read_by.opened;
+      reads = subst (λ l. OpensAnew o l (if has_visited_all c.self.inside.journal.items then pending (entries_of c.self.inside.journal.items) else None) c.in-Some-read_by.opened c.in-Some-read_by.found) newest
+          (subst (λ p. OpensAnew o c.self.inside.last p c.in-Some-read_by.opened c.in-Some-read_by.found) awaited c.in-Some-read_by.ensures.opens);
+      numbers = (the_view (record c.self.inside { numbers = c.found.new.self })).numbers;
+      finds = search rules;
+      new_is = opened_seen (parts_of c.self.inside) c.append_held.new.self c.in-Some-read_by.opened.phases.items c.in-Some-read_by.opened.catalog c.take_opener.new.opener c.found.new.self c.in-Some-read_by.found
+          c.in-Some-read_by.found c.append_held.ensures.items c.append_held.ensures.numbers.limit zero_is c.take_opener.ensures.left;
+    }))

@@ -16,6 +16,8 @@ use Rattle.sd_core.proofs.JournalLemmas.{same_journal}
 use Rattle.sd_core.proofs.MergeLemmas.{no_merge, none_merges}
 use Rattle.sd_core.proofs.OpeningLemmas.{handed_failed, handed_on, handed_seen}
 use Rattle.sd_core.proofs.WorkLemmas.{none_closed, none_works}
+use Rattle.sd_core.specs.Next.{fails, learns}
+use Rattle.sd_core.proofs.NextOpener.{failed_seen, learnt_seen, taught_seen}
 use Rattle.sd_core.proofs.state.Core.hand_in_opener.Goals.{After-follow_outcome}
 use Rattle.sd_core.proofs.state.Core.hand_in_opener.Goals as goal
 
@@ -142,3 +144,30 @@ returns-clause-leaves c =
       lowers = λ busy. subst (λ o. opener_left o < opener_left c.args.self.now.opener) (sym ended)
           (subst (λ (v : CoreView). 0 < opener_left v.opener) c.self.view_is (subst (λ o. 0 < opener_left o) (sym looking.1) (opener_left_some looking.0)));
     }
+
+-- ---- the step
+
+pub returns-then-teach-clause-step : goal.returns-then-teach-clause-step
+returns-then-teach-clause-step c =
+    let f = c.follow_outcome.ensures.follows in
+    learnt_seen _ _ _ _ _ c.self.view_is (learns refl (record {
+      it = record { out = ap (λ (v : CoreView). slice_get v.outs 2) c.self.view_is ∙ c.requires.out; whose = c.requires.opener; phase = f.phase; phase_is = f.is };
+      after = c.teach.new.opener;
+      teaches = c.if-teach.ensures;
+      new_is = taught_seen (parts_of c.self.inside) c.follow_outcome.new.phases.items _ c.follow_outcome.new.outs _ c.teach.new.opener f.phases c.follow_outcome.ensures.outs;
+    }))
+
+pub returns-clause-step : goal.returns-clause-step
+returns-clause-step c =
+    let k = (goal.at.returns-clause-step c).After-follow_outcome in
+    let f = c.follow_outcome.ensures.follows in
+    let looking = runs_by c.self.inside.opener c.args.outcome.request.id (alone k).0 in
+    let gone = c.let_go.ensures.journal in
+    learnt_seen _ _ _ _ _ c.self.view_is (fails refl (record {
+      it = record { out = ap (λ (v : CoreView). slice_get v.outs 2) c.self.view_is ∙ c.requires.out; whose = c.requires.opener; phase = f.phase; phase_is = f.is };
+      fails = λ as_asked. not_taught c.self.inside.opener c.args.outcome c.teach.new.opener c.if-teach.ensures (alone k).0 as_asked;
+      new_is = failed_seen (parts_of c.self.inside) c.self.invariant c.let_go.new.journal c.follow_outcome.new.phases.items _ c.follow_outcome.new.outs _ c.let_go.new.opener gone.items gone.limit
+          (held_let_go c.self.inside.pending c.self.inside.dumper.running looking.0 c.self.inside.journal c.let_go.new.journal (idle k)
+          (c.self.invariant.held ∙ ap (held_for c.self.inside.pending c.self.inside.dumper.running) looking.1) gone)
+          f.phases c.follow_outcome.ensures.outs c.let_go.ensures.opener;
+    }))

@@ -1,4 +1,4 @@
-use Rattle.std.proofs.Common.{◌≡◌, None, Some, IfSome, slice_get, refl, sym, ◌∙◌, ap, subst, inl, arith}
+use Rattle.std.proofs.Common.{◌≡◌, None, Some, IfSome, slice_get, refl, sym, ◌∙◌, ap, subst, inl, arith, slice_set}
 use Rattle.std.proofs.lemmas.Option.{same_Some}
 use Rattle.sd_gate.specs.declared.worker.Worker.TheVariants as its
 use Rattle.sd_command.specs.declared.reply.Reply.TheVariants as reply
@@ -17,6 +17,11 @@ use Rattle.sd_core.proofs.MergeLemmas.{no_merge, none_merges}
 use Rattle.sd_core.proofs.OpeningLemmas.{decoded, ends_refused, hands_out, hands_seen, step_seen}
 use Rattle.sd_core.proofs.StrangeLemmas.{believed_opens}
 use Rattle.sd_core.proofs.WorkLemmas.{SameNumbers, counted_same, none_closed, none_works, numbers_same}
+use Rattle.sd_core.specs.Next.{asks, damaged, decodes, reads_all, NextOnceRead}
+use Rattle.sd_core.specs.Refusals.{work_refusal}
+use Rattle.sd_core.proofs.CoreParts.{parts_of}
+use Rattle.sd_core.proofs.CoreLemmas.{held_let_go}
+use Rattle.sd_core.proofs.NextOpener.{let_go_seen, look_asked, opener_seen}
 use Rattle.sd_core.proofs.state.Core.take_up_opener.Goals as goal
 
 pub invariant_of-self-in-Call : goal.invariant_of-self-in-Call
@@ -127,3 +132,51 @@ returns-in-AllRead-clause-opens c =
     subst (λ v. OpensBelieved v (Step c.finish_opening.result)) c.self.view_is
     (believed_opens c.opener_finds.ensures (the_view c.self.inside) (Step c.finish_opening.result) w.opener (λ commits. sym c.self.invariant.flags_are.visited_by ∙ c.self.invariant.flags_are.sure commits) w.was (ap (λ outs. slice_get outs 2) none)
     (subst (λ o. RefusesStrange (the_view (record c.self.inside { opener = o })) c.finish_opening.result) same c.finish_opening.ensures.refuses))
+
+pub returns-in-AllRead-clause-scans : goal.returns-in-AllRead-clause-scans
+returns-in-AllRead-clause-scans c =
+    let w = subst (λ step. WorksOpener c.self.inside.opener c.self.inside.numbers.ticket step c.step_opener.new.opener) c.in-AllRead.is c.in-Ok.ensures.works in
+    let same : c.step_opener.new.opener ≡ c.self.inside.opener = w.is ∙ ap Some w.moves.0 ∙ sym w.was in
+    subst (λ v. RefusesDamage v c.finish_opening.result) c.self.view_is
+    (subst (λ o. RefusesDamage (the_view (record c.self.inside { opener = o })) c.finish_opening.result) same c.finish_opening.ensures.scans)
+
+-- ---- the step
+
+pub returns-in-Call-clause-step : goal.returns-in-Call-clause-step
+returns-in-Call-clause-step c =
+    let w = subst (λ step. WorksOpener c.self.inside.opener c.self.inside.numbers.ticket step c.step_opener.new.opener) c.in-Call.is c.in-Ok.ensures.works in
+    opener_seen _ _ _ _ c.self.view_is (asks c.in-Call.request refl (record {
+      it = record { may = subst (λ v. work_refusal v its.Opener ≡ None) (sym c.self.view_is) c.requires; after = c.step_opener.new.opener; works = w };
+      new_is = look_asked (parts_of c.self.inside) c.put_out.new.outs (slice_set c.self.inside.outs 2 (Some c.in-Call.request.id)) c.step_opener.new.opener c.tick.new.self
+          (c.put_out.ensures ∙ ap (λ id. slice_set c.self.inside.outs 2 (Some id)) c.id.ensures)
+          (record { begun = c.tick.ensures.begun; given = c.tick.ensures.given; checkpoint = c.tick.ensures.checkpoint; serial = c.tick.ensures.serial }) c.tick.ensures.ticket;
+    }))
+
+pub returns-in-Decoded-clause-step : goal.returns-in-Decoded-clause-step
+returns-in-Decoded-clause-step c =
+    let w = subst (λ step. WorksOpener c.self.inside.opener c.self.inside.numbers.ticket step c.step_opener.new.opener) c.in-Decoded.is c.in-Ok.ensures.works in
+    opener_seen _ _ _ _ c.self.view_is (decodes refl (record {
+      it = record { may = subst (λ v. work_refusal v its.Opener ≡ None) (sym c.self.view_is) c.requires; after = c.step_opener.new.opener; works = w };
+      new_is = refl;
+    }))
+
+pub returns-in-Damaged-clause-step : goal.returns-in-Damaged-clause-step
+returns-in-Damaged-clause-step c =
+    let w = subst (λ step. WorksOpener c.self.inside.opener c.self.inside.numbers.ticket step c.step_opener.new.opener) c.in-Damaged.is c.in-Ok.ensures.works in
+    let closed = (subst (λ x. IfSome x (IsOpening c.self.inside.standing c.self.inside.phases.items)) w.was c.self.invariant.opening).closed in
+    let gone = c.let_go.ensures.journal in
+    opener_seen _ _ _ _ c.self.view_is (damaged c.in-Damaged.slot c.in-Damaged.reason refl (record {
+      it = record { may = subst (λ v. work_refusal v its.Opener ≡ None) (sym c.self.view_is) c.requires; after = c.step_opener.new.opener; works = w };
+      new_is = let_go_seen (parts_of c.self.inside) c.self.invariant c.let_go.new.journal c.let_go.new.opener gone.items gone.limit
+          (held_let_go c.self.inside.pending c.self.inside.dumper.running w.opener c.self.inside.journal c.let_go.new.journal (none_closed _ c.self.invariant closed)
+          (c.self.invariant.held ∙ ap (held_for c.self.inside.pending c.self.inside.dumper.running) w.was) gone)
+          c.let_go.ensures.opener;
+    }))
+
+pub returns-in-AllRead-clause-step : goal.returns-in-AllRead-clause-step
+returns-in-AllRead-clause-step c =
+    let w = subst (λ step. WorksOpener c.self.inside.opener c.self.inside.numbers.ticket step c.step_opener.new.opener) c.in-AllRead.is c.in-Ok.ensures.works in
+    let same : c.step_opener.new.opener ≡ c.self.inside.opener = w.is ∙ ap Some w.moves.0 ∙ sym w.was in
+    opener_seen _ _ _ _ c.self.view_is (reads_all c.finish_opening.result refl
+    (record { may = subst (λ v. work_refusal v its.Opener ≡ None) (sym c.self.view_is) c.requires; after = c.step_opener.new.opener; works = w })
+    (subst (λ o. NextOnceRead (the_view (record c.self.inside { opener = o })) c.finish_opening.result c.finish_opening.new.self) same c.finish_opening.ensures.step))
