@@ -15,7 +15,6 @@ use Rattle.sd_gate.specs.declared.worker.Worker.TheVariants.{Dumper, Merger, Ope
 use Rattle.sd_gate.specs.Calls.{is_done}
 use Rattle.sd_gate.specs.Phases.{phases_after}
 use Rattle.sd_gate.specs.Requests.{Made}
-use Rattle.sd_merge.specs.Merger as merger
 use Rattle.sd_opener.specs.Looking.{Looking}
 use Rattle.sd_rounds.specs.Writes.{no_writes}
 use Rattle.sd_crash_safety.specs.declared.standing.Standing.{Standing}

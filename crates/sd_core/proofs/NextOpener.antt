@@ -1,5 +1,5 @@
 -- A step and an outcome of the opener are each one of the steps of a core.
-use Rattle.std.proofs.Common.{◌≡◌, ℕ, false, true, if◌then◌else◌, ◌∷◌, List, Option, Some, None, slice_set, refl, sym, ◌∙◌, ap, subst}
+use Rattle.std.proofs.Common.{◌≡◌, ℕ, false, if◌then◌else◌, ◌∷◌, List, Option, None, ◌∙◌, ap, subst}
 use Rattle.sd_chain.specs.Catalog.{Places}
 use Rattle.sd_command.specs.declared.reply.Reply.{Reply}
 use Rattle.sd_crash_safety.specs.declared.standing.Standing.TheVariants as standing
@@ -8,7 +8,7 @@ use Rattle.sd_gate.specs.declared.phase.Phase.{Phase}
 use Rattle.sd_gate.specs.declared.request_id.RequestId.{RequestId}
 use Rattle.sd_gate.specs.Requests.{Made}
 use Rattle.sd_journal.specs.declared.entry.Entry.TheVariants as entry
-use Rattle.sd_journal.specs.History.{last, pending}
+use Rattle.sd_journal.specs.History.{pending}
 use Rattle.sd_journal.specs.Kept.{JournalView}
 use Rattle.sd_journal.specs.Marked.{Told, entries_of}
 use Rattle.sd_opener.specs.Looking.{Looking}

@@ -29,9 +29,8 @@ use Rattle.sd_core.specs.Lasting.{FixesNoList, MergeLasts}
 use Rattle.sd_core.specs.LittleWork.{IsLittleDump, IsLittlePreDump, OpensPreDump}
 use Rattle.sd_core.specs.Merging.{EndsCut, EntersAsCopy, EntersAtRest, FixesItsList, IsMerged, ListsTheUnneeded}
 use Rattle.sd_core.specs.Merging.{MergesAs, merge_refusal}
-use Rattle.sd_core.specs.Next.{NextByBegin, NextByCancel, NextByCommand, NextByDumper, NextByDumpersOutcome}
-use Rattle.sd_core.specs.Next.{NextByMerge}
-use Rattle.sd_core.specs.Next.{NextByReopen}
+use Rattle.sd_core.specs.Next.{NextByBegin, NextByCancel, NextByCommand, NextByMerge, NextByOutcome}
+use Rattle.sd_core.specs.Next.{NextByReopen, NextByWork}
 use Rattle.sd_core.specs.Noted.{KeepsMarks}
 use Rattle.sd_core.specs.Opening.{OpensBelieved, OpensOwn, RefusesAsScan, RefusesRightly}
 use Rattle.sd_core.specs.Orders.{BeginsToOpen, IsCancelled}
@@ -99,7 +98,7 @@ pub record IsReopenOrder (answer : Reply) (old new : CoreView) : Type 0 where
 
 -- a worker's next step, or its next device call
 pub record IsTakenUp (worker : Worker) (old : CoreView) (made : Taken) (new : CoreView) : Type 0 where
-  pub step : worker ≡ Dumper → NextByDumper old made new
+  pub step : NextByWork worker old made new
   pub takes : TakesUp old worker made new
   pub refused : (why : Refusal) → work_refusal old worker ≡ Some why → (made ≡ Step (reply.Refused why)) × (new ≡ old)
   pub leaves : work_refusal old worker ≡ None → LeavesByWork old worker made new
@@ -120,8 +119,7 @@ HasNoPassStep core = IsSome (work_refusal core Dumper) ⊎ NoPageIsNext core.dum
 
 -- the outcome of a device call
 pub record IsHandedIn (made : Made) (answer : Reply) (old new : CoreView) : Type 0 where
-  pub step : IsOut old made.request.id → made.request.id.worker ≡ Dumper → is_idle old Dumper ≡ false
-      → NextByDumpersOutcome old made answer new
+  pub step : NextByOutcome old made answer new
   pub strange : (IsOut old made.request.id → ⊥) → (answer ≡ reply.Refused Idle) × (new ≡ old)
   pub handed : (out : IsOut old made.request.id) → HandedIn old out.lane made answer new
   pub failed : IsOut old made.request.id → is_done made.answer ≡ false → answer ≡ reply.Refused StoreDown

@@ -1,6 +1,7 @@
--- One step of a core, exactly: when it may be made, what it answers, and the core after it. A command, an order, a step
--- of the dumper and an outcome of it are each one of these steps, and all else that is said of them follows.
-use Rattle.std.specs.Prelude.{◌≡◌, ◌≢◌, ◌⊎◌, ℕ, ◌+◌, ◌||◌, Bool, true, false, List, ◌∷◌, length, map, Option, Some, None, is_some, Result, Ok, Err, slice_get, slice_set}
+-- The machine: one step of a core, exactly. When it may be made, what it answers, and the core after it. A command, an
+-- order, a step of a worker and an outcome that is handed in are each one of these steps.
+use Rattle.std.specs.Prelude.{◌≡◌, ◌≢◌, ◌⊎◌, ℕ, ◌+◌, ◌||◌, Bool, true, false, List, ◌∷◌, length, map, Option, Some}
+use Rattle.std.specs.Prelude.{None, is_some, Result, Ok, Err, slice_get, slice_set}
 use Rattle.sd_chain.specs.Catalog.{Changes, IsTip, Opened, Places, images, serial_of}
 use Rattle.sd_command.specs.declared.command.Command.{Command}
 use Rattle.sd_command.specs.declared.refusal.Refusal.{Refusal}
@@ -8,6 +9,7 @@ use Rattle.sd_command.specs.declared.refusal.Refusal.TheVariants as refusal
 use Rattle.sd_command.specs.declared.reply.Reply.{Reply}
 use Rattle.sd_command.specs.declared.reply.Reply.TheVariants as reply
 use Rattle.sd_gate.specs.declared.phase.Phase.{Phase}
+use Rattle.sd_gate.specs.declared.worker.Worker.{Worker}
 use Rattle.sd_gate.specs.declared.worker.Worker.TheVariants.{Dumper, Merger, Opener}
 use Rattle.sd_gate.specs.Calls.{is_done}
 use Rattle.sd_gate.specs.Phases.{given_up, phases_after, state_of}
@@ -26,7 +28,8 @@ use Rattle.sd_rounds.specs.declared.image_step.ImageStep.TheVariants as image_st
 use Rattle.sd_rounds.specs.declared.new_image.NewImage.{NewImage}
 use Rattle.sd_rounds.specs.declared.visit.Visit as visit
 use Rattle.sd_rounds.specs.declared.copied.Copied.{Copied}
-use Rattle.sd_rounds.specs.Dumper.{Running, after_pre_dump, begun_checkpoint, is_last, order_of, serial_of_running, slot_of}
+use Rattle.sd_rounds.specs.Dumper.{Running, after_pre_dump, begun_checkpoint, is_last, order_of, serial_of_running}
+use Rattle.sd_rounds.specs.Dumper.{slot_of}
 use Rattle.sd_rounds.specs.Making.{IsWritten, Making, Opens as OpensMade, PlanGoesOn, Steps as StepsImage, begun_image}
 use Rattle.sd_pagetable.specs.Contents.{Contents}
 use Rattle.sd_crash_safety.specs.declared.standing.Standing.TheVariants as standing
@@ -42,7 +45,8 @@ use Rattle.sd_core.specs.Counted.{counted_by_outcome}
 use Rattle.sd_core.specs.Dumping.{ReleasesPlace}
 use Rattle.sd_core.specs.Flags.{numbers_asked, numbers_begun, FindsNumbers}
 use Rattle.sd_core.specs.Merging.{IsFull, merge_refusal, MayRead, StepsAt}
-use Rattle.sd_core.specs.Opening.{IsFreshOpener, OpensAnew, SawDamage, SawStrange, TeachesOpener, WorksOpener, awaited_checkpoint}
+use Rattle.sd_core.specs.Opening.{IsFreshOpener, OpensAnew, SawDamage, SawStrange, TeachesOpener, WorksOpener}
+use Rattle.sd_core.specs.Opening.{awaited_checkpoint}
 use Rattle.sd_core.specs.Refusals.{cancel_refusal, reopen_refusal, work_refusal, is_idle}
 use Rattle.sd_core.specs.Sound.{held_for}
 use Rattle.sd_image.specs.declared.reason.Reason.{Reason}
@@ -611,3 +615,9 @@ pub data NextByOutcome (old : CoreView) (made : Made) (answer : Reply) (new : Co
   of_opener : NextByOpenersOutcome old made answer new → NextByOutcome old made answer new
   late : answer ≡ reply.Refused refusal.StoreDown → ComesLate old made new → NextByOutcome old made answer new
   strange : (IsOut old made.request.id → ⊥) → IsRefused refusal.Idle old answer new → NextByOutcome old made answer new
+
+-- a step of a worker, or the taking up of its call
+abbrev pub NextByWork : Worker → CoreView → Taken → CoreView → Type 0
+NextByWork Dumper old made new = NextByDumper old made new
+NextByWork Merger old made new = NextByMerger old made new
+NextByWork Opener old made new = NextByOpener old made new

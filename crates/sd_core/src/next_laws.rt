@@ -20,18 +20,19 @@ ghost use Rattle.sd_core.specs.Beside.{LeavesOthers, OrdersBeside};
 ghost use Rattle.sd_core.specs.Counted.{counted_by_outcome, counted_by_step};
 ghost use Rattle.sd_core.specs.Flags.{FlagsByBegin, FlagsByCancel, FlagsByOutcome, FlagsByStep, KeepsFlags};
 ghost use Rattle.sd_core.specs.Kept.{KeepsImages, KeepsImagesOpen};
-ghost use Rattle.sd_core.specs.Lasting.{MergeLasts};
+ghost use Rattle.sd_core.specs.Lasting.{FixesNoList, MergeLasts};
 ghost use Rattle.sd_core.specs.Merging.{MergesAs, merge_refusal};
 ghost use Rattle.sd_core.specs.Next.{NextByBegin, NextByCancel, NextByCommand, NextByDumper, NextByDumpersOutcome};
-ghost use Rattle.sd_core.specs.Next.{NextByMerge, NextByReopen};
+ghost use Rattle.sd_core.specs.Next.{NextByMerge, NextByMerger, NextByOpener, NextByReopen};
 ghost use Rattle.sd_core.specs.Noted.{KeepsMarks, NotesBy};
+ghost use Rattle.sd_core.specs.Opening.{OpensBelieved, OpensOwn, RefusesAsScan, RefusesRightly};
 ghost use Rattle.sd_core.specs.Orders.{BeginsToOpen, IsCancelled};
 ghost use Rattle.sd_core.specs.Refusals.{cancel_refusal, reopen_refusal, work_refusal};
 ghost use Rattle.sd_core.specs.LittleWork.{IsLittleDump, IsLittlePreDump, OpensPreDump};
 ghost use Rattle.sd_core.specs.Rounds.{OpensItsGate, SameRound, TurnsRound};
 ghost use Rattle.sd_core.specs.SoundView.{IsSoundView};
 ghost use Rattle.sd_core.specs.Starts.{TakesUp};
-ghost use Rattle.sd_core.specs.Working.{LeavesByWork};
+ghost use Rattle.sd_core.specs.Working.{FindsSource, LeavesByWork};
 
 use crate::laws::outcome_laws;
 use sd_chain::Catalog;
@@ -170,8 +171,40 @@ pub(crate) fn dumper_step_laws()
         → new.dumper.since_freeze ≡ counted_by_step old new }
 {}
 
+/// A step of the merger.
+pub(crate) fn merger_step_laws()
+    ensures flags { (made : Taken) (old new : CoreView) → NextByMerger old made new
+        → FlagsByStep old Merger made new }
+    ensures notes { (made : Taken) (old new : CoreView) → NextByMerger old made new
+        → NotesBy Merger old made new }
+    ensures others { (made : Taken) (old new : CoreView) → NextByMerger old made new
+        → LeavesOthers Merger old new }
+    ensures lasts { (made : Taken) (old new : CoreView) → NextByMerger old made new
+        → MergeLasts old new }
+    ensures fixes { (made : Taken) (old new : CoreView) → NextByMerger old made new
+        → FixesNoList old new }
+    ensures images { (made : Taken) (old new : CoreView) → NextByMerger old made new
+        → KeepsImagesOpen old made new }
+    ensures counted { (made : Taken) (old new : CoreView) → NextByMerger old made new
+        → new.dumper.since_freeze ≡ counted_by_step old new }
+{}
+
+/// A step of the opener.
+pub(crate) fn opener_step_laws()
+    ensures flags { (made : Taken) (old new : CoreView) → NextByOpener old made new
+        → FlagsByStep old Opener made new }
+    ensures notes { (made : Taken) (old new : CoreView) → NextByOpener old made new
+        → NotesBy Opener old made new }
+    ensures others { (made : Taken) (old new : CoreView) → NextByOpener old made new
+        → LeavesOthers Opener old new }
+    ensures images { (made : Taken) (old new : CoreView) → NextByOpener old made new
+        → KeepsImagesOpen old made new }
+    ensures counted { (made : Taken) (old new : CoreView) → NextByOpener old made new
+        → new.dumper.since_freeze ≡ counted_by_step old new }
+{}
+
 /// A step of the dumper, of a sound core: all that is said of it.
-pub(crate) fn taken_law()
+pub(crate) fn dumper_taken_law()
     ensures { (old : CoreView) (made : Taken) (new : CoreView) → IsSoundView old
         → work_refusal old Dumper ≡ None
         → TakesUp old Dumper made new
@@ -180,6 +213,33 @@ pub(crate) fn taken_law()
         → IsTakenUp Dumper old made new }
 {
     dumper_step_laws();
+}
+
+/// A step of the merger: all that is said of it.
+pub(crate) fn merger_taken_law()
+    ensures { (old : CoreView) (made : Taken) (new : CoreView) → work_refusal old Merger ≡ None
+        → TakesUp old Merger made new
+        → LeavesByWork old Merger made new
+        → FindsSource old made
+        → NextByMerger old made new
+        → IsTakenUp Merger old made new }
+{
+    merger_step_laws();
+}
+
+/// A step of the opener: all that is said of it.
+pub(crate) fn opener_taken_law()
+    ensures { (old : CoreView) (made : Taken) (new : CoreView) → work_refusal old Opener ≡ None
+        → TakesUp old Opener made new
+        → LeavesByWork old Opener made new
+        → RefusesRightly old made
+        → RefusesAsScan old made
+        → OpensBelieved old made
+        → OpensOwn old made
+        → NextByOpener old made new
+        → IsTakenUp Opener old made new }
+{
+    opener_step_laws();
 }
 
 /// An outcome of the dumper's, of a core that is sound before it and after it.

@@ -15,7 +15,9 @@ ghost use Rattle.sd_core.specs.Working.{left_by};
 
 use crate::base::CoreBase;
 use crate::lanes::LANES;
-use crate::next_laws::{dumper_outcome_laws, sound_outcome_laws, taken_law};
+use crate::next_laws::{
+    dumper_outcome_laws, dumper_taken_law, merger_taken_law, opener_taken_law, sound_outcome_laws,
+};
 use crate::numbers::Numbers;
 use crate::opening::left_of_opener;
 use crate::start::Start;
@@ -237,7 +239,9 @@ impl Core {
         ensures { IsTakenUp worker self.old result self.new }
     {
         core_steps();
-        taken_law();
+        dumper_taken_law();
+        merger_taken_law();
+        opener_taken_law();
         self.is_sound();
         match self.refusal_of_work(worker) {
             Some(why) => Taken::Step(Reply::Refused(why)),

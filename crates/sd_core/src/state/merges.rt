@@ -6,10 +6,10 @@ ghost use Rattle.sd_gate.specs.Calls.{is_done};
 ghost use Rattle.sd_gate.specs.declared.worker.Worker.TheVariants as its;
 ghost use Rattle.sd_merge.specs.Merger.{slot_before};
 ghost use Rattle.sd_crash_safety.specs.Calls.{HandedIn, Stays};
-ghost use Rattle.sd_core.specs.Beside.{HandsBeside, StepsBeside};
+ghost use Rattle.sd_core.specs.Beside.{HandsBeside};
 ghost use Rattle.sd_core.specs.Entering.{EntersFirst};
-ghost use Rattle.sd_core.specs.Flags.{FlagsByOutcome, FlagsByStep};
-ghost use Rattle.sd_core.specs.Lasting.{FixesNoList, MergeLasts};
+ghost use Rattle.sd_core.specs.Flags.{FlagsByOutcome};
+ghost use Rattle.sd_core.specs.Lasting.{MergeLasts};
 ghost use Rattle.sd_core.specs.Merging.{EndsCut, EntersAsCopy, EntersAtRest, FixesItsList, IsMerged, ListsTheUnneeded};
 ghost use Rattle.sd_core.specs.Merging.{merge_refusal};
 ghost use Rattle.sd_core.specs.Next.{NextByMerge, NextByMerger, NextByMergersOutcome};
@@ -88,11 +88,7 @@ impl Core {
     pub(super) fn take_up_merger(&mut self) -> Taken
         requires { work_refusal self.old its.Merger ≡ None }
         ensures takes { TakesUp self.old its.Merger result self.new }
-        ensures flags { FlagsByStep self.old its.Merger result self.new }
-        ensures beside { StepsBeside its.Merger self.old result self.new }
         ensures leaves { LeavesByWork self.old its.Merger result self.new }
-        ensures lasts { MergeLasts self.old self.new }
-        ensures fixes { FixesNoList self.old self.new }
         ensures finds { FindsSource self.old result }
         ensures step { NextByMerger self.old result self.new }
     {
@@ -111,11 +107,7 @@ impl Core {
         requires may { work_refusal self.old its.Merger ≡ None }
         requires next { slot_before self.old.merger ≡ Some slot }
         ensures takes { TakesUp self.old its.Merger result self.new }
-        ensures flags { FlagsByStep self.old its.Merger result self.new }
-        ensures beside { StepsBeside its.Merger self.old result self.new }
         ensures leaves { LeavesByWork self.old its.Merger result self.new }
-        ensures lasts { MergeLasts self.old self.new }
-        ensures fixes { FixesNoList self.old self.new }
         ensures finds { FindsSource self.old result }
         ensures step { NextByMerger self.old result self.new }
     {
@@ -149,11 +141,7 @@ impl Core {
         requires runs { IsSome self.old.merger }
         requires rests { slice_get self.old.outs 1 ≡ Some None }
         ensures takes { TakesUp self.old its.Merger result self.new }
-        ensures flags { FlagsByStep self.old its.Merger result self.new }
-        ensures beside { StepsBeside its.Merger self.old result self.new }
         ensures leaves { LeavesByWork self.old its.Merger result self.new }
-        ensures lasts { MergeLasts self.old self.new }
-        ensures fixes { FixesNoList self.old self.new }
         ensures finds { FindsSource self.old result }
         ensures step { NextByMerger self.old result self.new }
     {

@@ -6,8 +6,8 @@ ghost use Rattle.sd_gate.specs.Calls.{is_done};
 ghost use Rattle.sd_gate.specs.declared.worker.Worker.TheVariants as its;
 ghost use Rattle.sd_opener.specs.Looking.{IsDoneAsAsked};
 ghost use Rattle.sd_crash_safety.specs.Calls.{HandedIn, MakesStep};
-ghost use Rattle.sd_core.specs.Beside.{HandsBeside, StepsBeside};
-ghost use Rattle.sd_core.specs.Flags.{FlagsByOutcome, FlagsByReply, FlagsByStep};
+ghost use Rattle.sd_core.specs.Beside.{HandsBeside};
+ghost use Rattle.sd_core.specs.Flags.{FlagsByOutcome};
 ghost use Rattle.sd_core.specs.Opening.{IsAllRead, OpensBelieved, OpensOwn, RefusesAsScan, RefusesDamage};
 ghost use Rattle.sd_core.specs.Opening.{RefusesRightly, RefusesStrange};
 ghost use Rattle.sd_core.specs.Refusals.{work_refusal};
@@ -35,14 +35,11 @@ impl Core {
     pub(super) fn take_up_opener(&mut self) -> Taken
         requires { work_refusal self.old its.Opener ≡ None }
         ensures takes { TakesUp self.old its.Opener result self.new }
-        ensures flags { FlagsByStep self.old its.Opener result self.new }
-        ensures beside { StepsBeside its.Opener self.old result self.new }
         ensures refuses { RefusesRightly self.old result }
         ensures scans { RefusesAsScan self.old result }
         ensures opens { OpensBelieved self.old result }
         ensures shows { OpensOwn self.old result }
         ensures leaves { LeavesByWork self.old its.Opener result self.new }
-        ensures merger { self.new.merger ≡ self.old.merger }
         ensures step { NextByOpener self.old result self.new }
     {
         opener_steps();
@@ -74,13 +71,10 @@ impl Core {
     fn finish_opening(&mut self) -> Reply
         requires { IsAllRead self.old.opener }
         ensures takes { MakesStep self.old its.Opener result self.new }
-        ensures flags { FlagsByReply self.old result self.new }
-        ensures beside { StepsBeside its.Opener self.old (taken.Step result) self.new }
         ensures refuses { RefusesStrange self.old result }
         ensures scans { RefusesDamage self.old result }
         ensures shows { OpensOwn self.old (taken.Step result) }
         ensures leaves { LeavesByStep self.old its.Opener result self.new }
-        ensures merger { self.new.merger ≡ self.old.merger }
         ensures step { NextOnceRead self.old result self.new }
     {
         reopened_law();

@@ -13,7 +13,7 @@ use super::Core;
 use crate::dumping::pass_on;
 use crate::lanes::is_resting;
 use crate::laws::step_laws;
-use crate::next_laws::taken_law;
+use crate::next_laws::dumper_taken_law;
 use sd_crash_safety::core_steps;
 use sd_gate::Worker;
 use sd_journal::Mark;
@@ -36,7 +36,7 @@ impl Core {
         ensures err { OnErr result (self.new ≡ self.old) }
     {
         core_steps();
-        taken_law();
+        dumper_taken_law();
         self.is_sound();
         if !is_resting(&self.outs, Worker::Dumper) || self.dumper.next_slot().is_some() {
             return Ok(false);

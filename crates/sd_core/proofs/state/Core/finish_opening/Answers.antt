@@ -1,4 +1,4 @@
-use Rattle.std.proofs.Common.{◌≡◌, false, if◌then◌else◌, ℕ, length, map, take, Option, Some, None, IfSome, is_some, refl, sym, ◌∙◌, ap, subst, arith, rules}
+use Rattle.std.proofs.Common.{◌≡◌, false, if◌then◌else◌, ℕ, length, map, take, Option, Some, None, IfSome, refl, sym, ◌∙◌, ap, subst, arith, rules}
 use Rattle.std.proofs.Math.Seq.{take-length}
 use Rattle.std.proofs.lemmas.Option.{same_Some}
 use Rattle.sd_gate.specs.declared.worker.Worker.TheVariants as its
@@ -11,8 +11,6 @@ use Rattle.sd_opener.specs.Sees.{Sees}
 use Rattle.sd_crash_safety.specs.declared.standing.Standing.TheVariants.{Open}
 use Rattle.sd_crash_safety.specs.View.{CoreView}
 use Rattle.sd_journal.specs.Marked.{entries_of}
-use Rattle.sd_core.specs.Noted.{marks_of}
-use Rattle.sd_core.proofs.OthersLemmas.{beside_seen, none_now}
 use Rattle.sd_core.proofs.FlagLemmas.{set_flags}
 use Rattle.sd_core.specs.Grown.{has_grown, has_visited_all}
 use Rattle.sd_core.specs.declared.taken.Taken.TheVariants.{Step}
@@ -164,15 +162,6 @@ returns-clause-shows c =
     subst (IsExpected (last (base_of c.self.inside.base) (entries_of c.self.inside.journal.items)) (if has_visited_all c.self.inside.journal.items then pending (entries_of c.self.inside.journal.items) else None))
     (same_found c.in-Some-read_by.found found is)
     (subst (λ l. IsExpected l (if has_visited_all c.self.inside.journal.items then pending (entries_of c.self.inside.journal.items) else None) c.in-Some-read_by.found) c.self.invariant.journal_is.newest_is own_expected))
-
-pub returns-clause-beside : goal.returns-clause-beside
-returns-clause-beside c = beside_seen its.Opener (Step (reply.Reopened c.in-Some-read_by.found)) _ _ _ c.self.view_is (record {
-  others = (refl, refl, refl);
-  notes = ap marks_of c.append_held.ensures.items;
-  images = λ none. absurd (none c.in-Some-read_by.found refl);
-  counted = none_now (is_some (pending (entries_of c.self.inside.journal.items))) (is_some (pending (entries_of c.append_held.new.self.items))) c.self.inside.dumper.since_freeze
-      (ap (λ all. is_some (pending (entries_of all))) c.append_held.ensures.items);
-})
 
 -- ---- the step
 

@@ -1,4 +1,4 @@
-use Rattle.std.proofs.Common.{◌≡◌, false, Ok, ◌∙◌, ap}
+use Rattle.std.proofs.Common.{Ok, ◌∙◌, ap}
 use Rattle.sd_core.proofs.NextOrders.{dumper_seen}
 use Rattle.sd_core.proofs.state.Core.go_on_image.Goals as goal
 

@@ -15,7 +15,7 @@ use Rattle.sd_core.proofs.CoreParts.{parts_of}
 use Rattle.sd_core.proofs.MergerCalls.{StepsMerge, asked_core, call_asks, call_handed, goes_by_zeros, may_read_by, never_lost, read_asks, read_handed}
 use Rattle.sd_core.proofs.OpeningLemmas.{step_seen}
 use Rattle.sd_core.proofs.WorkLemmas.{SameNumbers}
-use Rattle.sd_core.specs.Next.{lost, reads, takes_zeros, astray}
+use Rattle.sd_core.specs.Next.{reads, takes_zeros}
 use Rattle.sd_core.specs.Refusals.{work_refusal}
 use Rattle.sd_core.proofs.NextMerger.{asks_merge, calls_merge, merger_seen}
 use Rattle.sd_core.proofs.state.Core.go_on_merging.Goals.{In-Ok}

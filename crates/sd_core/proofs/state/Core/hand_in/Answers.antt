@@ -2,6 +2,7 @@ use Rattle.std.proofs.Common.{◌≡◌, ℕ, Some, slice_get, sym, ◌∙◌, a
 use Rattle.sd_gate.specs.declared.request_id.RequestId.{RequestId}
 use Rattle.sd_crash_safety.specs.View.{CoreView}
 use Rattle.sd_core.specs.Refusals.{is_idle}
+use Rattle.sd_core.specs.Next.{late, of_dumper, of_merger, of_opener}
 use Rattle.sd_core.specs.Sound.{worker_of_lane}
 use Rattle.sd_core.proofs.HandedLemmas.{merger_lane, opener_lane}
 use Rattle.sd_core.proofs.LaneLemmas.{handed_at, same_lane}
@@ -22,7 +23,7 @@ whose c = sym (c.self.invariant.outs_are.whose c.in-Some.lane c.args.outcome.req
 
 pub returns-then-is_idle : goal.returns-then-is_idle
 returns-then-is_idle c = record {
-  step = search rules;
+  step = late c.hand_in_late.ensures.late c.hand_in_late.ensures.step;
   strange = search rules;
   handed = λ out. handed_at _ _ out.lane c.in-Some.lane _ _ (same (goal.at.returns-then-is_idle c).In-Some out.lane out.is) c.hand_in_late.ensures.handed;
   failed = search rules;
@@ -56,7 +57,7 @@ returns-in-Dumper c =
     let after = c.is_sound-in-Dumper.ensures in
     let laws = c.dumper_outcome_laws.ensures in
     record {
-      step = λ out dumper runs. step;
+      step = of_dumper step;
       strange = search rules;
       handed = λ out. sure.handed _ _ _ _ before after step out;
       failed = search rules;
@@ -88,7 +89,7 @@ returns-in-Dumper c =
 
 pub returns-in-Merger : goal.returns-in-Merger
 returns-in-Merger c = record {
-  step = search rules;
+  step = of_merger c.hand_in_merger.ensures.step;
   strange = search rules;
   handed = λ out. handed_at _ _ out.lane 1 _ _ (same (goal.at.returns-in-Merger c).In-Some out.lane out.is ∙ merger_lane c.in-Some.lane (whose (goal.at.returns-in-Merger c).In-Some ∙ c.in-Merger.is)) c.hand_in_merger.ensures.handed;
   failed = search rules;
@@ -115,7 +116,7 @@ returns-in-Merger c = record {
 
 pub returns-in-Opener : goal.returns-in-Opener
 returns-in-Opener c = record {
-  step = search rules;
+  step = of_opener c.hand_in_opener.ensures.step;
   strange = search rules;
   handed = λ out. handed_at _ _ out.lane 2 _ _ (same (goal.at.returns-in-Opener c).In-Some out.lane out.is ∙ opener_lane c.in-Some.lane (whose (goal.at.returns-in-Opener c).In-Some ∙ c.in-Opener.is)) c.hand_in_opener.ensures.handed;
   failed = search rules;

@@ -1,9 +1,9 @@
 use Rattle.std.proofs.Common.{◌≡◌, Some, None, sym, ◌∙◌, rules}
-use Rattle.sd_core.proofs.next_laws.taken_law.Goals as goal
+use Rattle.sd_core.proofs.next_laws.dumper_taken_law.Goals as goal
 
 pub returns : goal.returns
 returns c = λ old made new sound may takes leaves step. let beside = c.dumper_step_laws.ensures.others made old new step in record {
-  step = λ is. step;
+  step = step;
   takes = takes;
   refused = λ why is. absurd (let no : Some why ≡ None = sym is ∙ may in cc);
   leaves = λ is. leaves;
