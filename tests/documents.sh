@@ -10,6 +10,7 @@ words_are_up_to_date() { made_by words; }
 lines_are_short() { made_by wrap; }
 calls_are_up_to_date() { made_by api; }
 laws_are_up_to_date() { made_by laws; }
+picture_of_the_machine_is_up_to_date() { made_by core; }
 
 # A page that a script writes says so at its top, and by which.
 generated_pages_say_so() {
@@ -197,6 +198,7 @@ try words_are_up_to_date
 try lines_are_short
 try calls_are_up_to_date
 try laws_are_up_to_date
+try picture_of_the_machine_is_up_to_date
 try generated_pages_say_so
 try documents_name_files_that_are_there
 try links_lead_to_headings
