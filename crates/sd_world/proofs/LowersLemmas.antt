@@ -48,7 +48,8 @@ module _ {D : Type 0} (g : Ghosts D) (old new : WorldView D) (world : IsWorld g 
 
   handed_lowers : (worker : Worker) (place : ℕ) (answer : Reply) → HandsInAt worker place old.core old.kept answer new.core new.kept
       → LeavesLess answer (left_by old.core worker) (left_by new.core worker)
-  handed_lowers worker place answer hands = grind (arith, by_outcome, whose, is_out)
+  handed_lowers worker place answer hands = by_outcome old.core worker answer new.core
+      (subst (λ w. LeavesByOutcome old.core w answer new.core) (whose old.kept worker place hands.lane hands.made hands.at hands.is) (hands.hands.does.leaves (is_out g old new world hands.lane hands.made hands.is)))
 
   works_lowers : (worker : Worker) (answer : Reply) → WorkerWorks worker old.core old.kept answer new.core new.kept
       → LeavesLess answer (left_by old.core worker) (left_by new.core worker)
