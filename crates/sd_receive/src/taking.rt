@@ -4,7 +4,7 @@ ghost use Rattle.sd_image.specs.Header.{IsHeader};
 
 use crate::receive_error::ReceiveError;
 use sd_image::{GATE, HEADER_SIZE, Header, Reason, decode_header};
-use sd_stream::StreamReader;
+use sd_stream::{MAX_FILE_LEN, StreamError, StreamReader};
 use std::alloc::Global;
 use std::io::Read;
 
@@ -28,7 +28,11 @@ pub(crate) fn take_header<R: Read>(
     len: u64,
 ) -> Result<Header, ReceiveError>
     ensures header { IfOk result (λ header. IsHeader header len) }
+    ensures few { IfOk result (λ header. header.pages ≤ 2 ^ 39) }
 {
+    if len > MAX_FILE_LEN {
+        return Err(ReceiveError::Stream(StreamError::Length(len)));
+    }
     let mut bytes = [0; HEADER_SIZE];
     take_bytes(reader, &mut bytes)?;
     if bytes[0] != GATE {
@@ -46,8 +50,12 @@ pub(crate) fn take_table<R: Read>(
     reader: &mut StreamReader<R>,
     len: usize,
 ) -> Result<Vec<u8>, ReceiveError>
+    ensures some { OnOk result (0 < len) }
     ensures len { IfOk result (λ bytes. length bytes.items ≡ len) }
 {
+    if len == 0 {
+        return Err(ReceiveError::Image(Reason::PastEnd));
+    }
     let mut bytes = vec![in alloc; 0u8; len]?;
     take_bytes(reader, &mut bytes)?;
     Ok(bytes)
