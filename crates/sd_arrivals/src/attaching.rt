@@ -1,112 +1,110 @@
 //! Whether a stream continues what a store shows.
-ghost use Rattle.std.specs.Prelude.{◌<◌, length};
+ghost use Rattle.std.specs.Prelude.{◌≡◌, true, ℕ, List, Option, IfOk, OnOk, Ok};
+ghost use Rattle.std.specs.Option.{option_map};
+ghost use Rattle.sd_areas.specs.PlainMemory.{PlainMemory};
+ghost use Rattle.sd_disk.specs.Crash.{Within};
 ghost use Rattle.sd_disk.specs.Reads.{OnlyReads};
+ghost use Rattle.sd_disk.specs.Spans.{LeavesOnly};
+ghost use Rattle.sd_image.specs.Shows.{Shows};
+ghost use Rattle.sd_chain.specs.Ways.{AreImages};
+ghost use Rattle.sd_receive.specs.Arrived.{IsReady};
+ghost use Rattle.sd_receive.specs.Arriving.{IsSettled};
+ghost use Rattle.sd_send.specs.Sent.{IsDigestAt};
+ghost use Rattle.sd_arrivals.specs.Arrivals.{Continues, IsAttached};
 
-use sd_chain::{Catalog, OpenImage};
-use sd_disk::{DeviceError, Disk};
-use sd_drop::{DropError, drop_image};
-use sd_image::Kind;
-use sd_receive::{ReceiveError, Receiver};
-use sd_restore::{Fault, newest_checkpoint, scan};
+use crate::leftovers::close_leftovers;
+use sd_disk::Disk;
+use sd_receive::{ReceiveError, Receiver, settle};
+use sd_restore::{Fault, verify};
 use sd_send::memory_digest;
 use sd_stream::{Base, StreamReader};
-use std::alloc::{AllocError, Global};
+use std::alloc::Global;
 use std::io::Read;
 
-/// Waits until every slot is on the device as it reads.
-fn sync_all<D: Disk>(disk: &mut D) -> Result<(), DeviceError> {
-    for slot in 0..disk.slots() {
-        disk.sync(slot)?;
-    }
-    Ok(())
+/// Whether two digests are the same.
+fn is_same_digest(one: [u8; 32], other: [u8; 32]) -> bool
+    ensures { result ≡ true → one ≡ other }
+{
+    one == other
 }
 
-/// Whether a store has the memory of a base.
+/// Whether a store has the memory of a base at its checkpoint.
 fn has_memory<D: Disk>(alloc: Global, disk: &mut D, base: Base) -> Result<bool, Fault>
+    ensures yes { D.is_honest disk.new → IfOk result (λ has. has ≡ true
+        → IsDigestAt (D.contents disk.old) base.number base.digest) }
     ensures reads { OnlyReads D.Disk disk.old disk.new }
 {
     let digest = memory_digest(alloc, disk, base.number)?;
-    Ok(digest == base.digest)
+    Ok(is_same_digest(digest, base.digest))
 }
 
-/// Checks that a store of these images shows the checkpoint that a stream continues, or none where it continues none.
+/// Checks that a store with the memory of a base shows its checkpoint.
+fn check_memory<D: Disk>(
+    alloc: Global,
+    disk: &mut D,
+    shows: Option<u64>,
+    base: Base,
+) -> Result<(), ReceiveError>
+    ensures memory { D.is_honest disk.new
+        → OnOk result (IsDigestAt (D.contents disk.old) base.number base.digest) }
+    ensures reads { OnlyReads D.Disk disk.old disk.new }
+{
+    if has_memory(alloc, disk, base)? {
+        return Ok(());
+    }
+    let base = Some(base);
+    Err(ReceiveError::BaseDiffers { shows, base })
+}
+
+/// Checks that a store shows the checkpoint that a stream continues, or none where it continues none.
 fn check_base<D: Disk>(
     alloc: Global,
     disk: &mut D,
-    catalog: &Catalog,
+    shows: Option<u64>,
     base: Option<Base>,
-) -> Result<(), ReceiveError> {
-    let shows = newest_checkpoint(catalog);
-    let differs = ReceiveError::BaseDiffers { shows, base };
+) -> Result<(), ReceiveError>
+    ensures continues { D.is_honest disk.new → (shown : Option (ℕ × PlainMemory))
+        → shows ≡ option_map (λ moment. moment.0) shown
+        → OnOk result (Continues (D.contents disk.old) shown base) }
+    ensures reads { OnlyReads D.Disk disk.old disk.new }
+{
     match (shows, base) {
         (None, None) => Ok(()),
-        (Some(number), Some(base)) if number == base.number => {
-            if has_memory(alloc, disk, base)? {
-                Ok(())
-            } else {
-                Err(differs)
-            }
+        (Some(number), Some(found)) if number == found.number => {
+            check_memory(alloc, disk, shows, found)
         }
-        _ => Err(differs),
+        _ => Err(ReceiveError::BaseDiffers { shows, base }),
     }
 }
 
-/// Whether an image is a pre-dump after all dumps and merged images, as a stream that was cut off leaves it.
-fn is_left(image: &OpenImage, newest: u64) -> bool {
-    image.header().kind == Kind::PreDump && image.header().serial > newest
+/// Waits until each slot is on the device, and checks that the store is in order and shows what a stream continues.
+fn check_store<D: Disk>(alloc: Global, disk: &mut D, base: Option<Base>) -> Result<(), ReceiveError>
+    ensures attached { D.is_honest disk.new → OnOk result (IsAttached (D.contents disk.old) base) }
+    ensures reads { OnlyReads D.Disk disk.old disk.new }
+{
+    settle(disk)?;
+    let report = verify(alloc, disk)?;
+    check_base(alloc, disk, report.checkpoint, base)
 }
 
-/// The greatest serial of the dumps and merged images, or 0.
-fn newest_dump(images: &[&OpenImage]) -> u64 {
-    let mut newest = 0;
-    for image in images {
-        if image.header().kind != Kind::PreDump {
-            newest = newest.max(image.header().serial);
-        }
-    }
-    newest
-}
-
-/// The slots of the pre-dumps after all dumps and merged images.
-fn slots_left(alloc: Global, catalog: &Catalog) -> Result<Vec<usize>, AllocError> {
-    let images = catalog.list()?;
-    let newest = newest_dump(&images);
-    let mut slots = Vec::new(alloc);
-    for image in images.iter() {
-        if is_left(image, newest) {
-            slots.push(image.slot())?;
-        }
-    }
-    Ok(slots)
-}
-
-/// Closes the image of a slot that the newest checkpoint doesn't need.
-fn close<D: Disk>(alloc: Global, disk: &mut D, slot: usize) -> Result<(), ReceiveError> {
-    match drop_image(alloc, disk, slot, false) {
-        Ok(()) | Err(DropError::Closed | DropError::Needed) => Ok(()),
-        Err(DropError::Damaged { slot, reason }) => {
-            Err(ReceiveError::Fault(Fault::Damaged { slot, reason }))
-        }
-        Err(DropError::Device) => Err(ReceiveError::Fault(Fault::Device)),
-        Err(DropError::OutOfMemory) => Err(ReceiveError::Fault(Fault::OutOfMemory)),
-    }
-}
-
-/// Closes the pre-dumps of these slots.
-fn close_all<D: Disk>(alloc: Global, disk: &mut D, slots: &[usize]) -> Result<(), ReceiveError> {
-    for slot in slots {
-        close(alloc, disk, *slot)?;
-    }
-    Ok(())
-}
-
-/// The images of a store in which every slot is on the device as it reads, and no pre-dump stands after all dumps.
-fn settle<D: Disk>(alloc: Global, disk: &mut D, catalog: Catalog) -> Result<Catalog, ReceiveError> {
-    let slots = slots_left(alloc, &catalog)?;
-    close_all(alloc, disk, &slots)?;
-    sync_all(disk)?;
-    let catalog = scan(alloc, disk)?;
-    Ok(catalog)
+/// Closes what streams left that were cut off, and makes a store ready for what a stream still has.
+fn make_ready<D: Disk, R: Read + Drop>(
+    alloc: Global,
+    disk: &mut D,
+    reader: StreamReader<R>,
+) -> Result<Receiver<R>, ReceiveError>
+    ensures keeps { D.is_honest disk.new → (shown : Option (ℕ × PlainMemory))
+        → Shows (D.contents disk.old) shown → Within (D.may_leave disk.old) (λ c. Shows c shown)
+        → LeavesOnly D.Disk disk.old disk.new (λ c. Shows c shown) }
+    ensures ready { D.is_honest disk.new → IfOk result (λ receiver.
+        IsReady (D.contents disk.new) (D.may_leave disk.new) receiver.catalog) }
+    ensures images { IfOk result (λ receiver. AreImages receiver.catalog) }
+    ensures reader { IfOk result (λ receiver. receiver.reader ≡ reader) }
+    ensures honest { D.is_honest disk.new → D.is_honest disk.old }
+{
+    close_leftovers(alloc, disk)?;
+    let receiver = Receiver::begin(alloc, disk, reader)?;
+    Ok(receiver)
 }
 
 /// Reads the head of a stream, and makes a store ready for its images: it shows the checkpoint that the stream
@@ -115,15 +113,25 @@ fn settle<D: Disk>(alloc: Global, disk: &mut D, catalog: Catalog) -> Result<Cata
 ///
 /// # Errors
 ///
-/// `BaseDiffers`; `Stream` where the head is none; `Fault`.
+/// `Stream` where the head is none; `BaseDiffers`; `Fault`. But for `Fault` the store is as it was.
 pub fn begin<D: Disk, R: Read + Drop>(
     alloc: Global,
     disk: &mut D,
     input: R,
-) -> Result<Receiver<R>, ReceiveError> {
+) -> Result<Receiver<R>, ReceiveError>
+    // What the store shows it shows at a crash at each moment, where it would at a crash before.
+    ensures keeps { D.is_honest disk.new → (shown : Option (ℕ × PlainMemory))
+        → Shows (D.contents disk.old) shown → Within (D.may_leave disk.old) (λ c. Shows c shown)
+        → LeavesOnly D.Disk disk.old disk.new (λ c. Shows c shown) }
+    // It is attached only where the stream's base is what the store shows.
+    ensures attached { D.is_honest disk.new → IfOk result (λ receiver.
+        IsAttached (D.contents disk.old) receiver.reader.base) }
+    ensures ready { D.is_honest disk.new → IfOk result (λ receiver.
+        IsReady (D.contents disk.new) (D.may_leave disk.new) receiver.catalog) }
+    ensures images { IfOk result (λ receiver. AreImages receiver.catalog) }
+    ensures honest { D.is_honest disk.new → D.is_honest disk.old }
+{
     let reader = StreamReader::begin(input)?;
-    let catalog = scan(alloc, disk)?;
-    check_base(alloc, disk, &catalog, reader.base())?;
-    let catalog = settle(alloc, disk, catalog)?;
-    Ok(Receiver::new(reader, catalog))
+    check_store(alloc, disk, reader.base())?;
+    make_ready(alloc, disk, reader)
 }

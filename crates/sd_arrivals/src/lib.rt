@@ -2,9 +2,10 @@
 #![tactic(auto)]
 
 mod attaching;
-mod receive;
+mod leftovers;
+mod programs;
 mod receiving;
 
 pub use attaching::begin;
-pub use receive::{receive_program, tip_program};
+pub use programs::{receive_program, tip_program};
 pub use receiving::receive;

@@ -1,7 +1,11 @@
 //! A stream, received to its end.
+ghost use Rattle.std.specs.Prelude.{OnOk};
+ghost use Rattle.std.specs.Io.KnownBytes.{Appends};
+ghost use Rattle.sd_arrivals.specs.Arrivals.{received_line};
 
 use crate::attaching::begin;
 use sd_disk::Disk;
+use sd_exit::Output;
 use sd_receive::{ReceiveError, Received, Receiver};
 use sd_stream::StreamError;
 use std::alloc::Global;
@@ -9,26 +13,11 @@ use std::io;
 use std::io::{Read, Write};
 
 /// Prints that a checkpoint was received, and flushes it.
-fn report<W: Write>(out: &mut W, number: u64) -> io::Result<()> {
+fn report<W: Write>(out: &mut Output<W>, number: u64) -> io::Result<()>
+    ensures { OnOk result (Appends (W.contents out.old.writer) (W.contents out.new.writer) (received_line number)) }
+{
     writeln!(out, "received {number}")?;
     out.flush()
-}
-
-/// Receives the next image, and reports its checkpoint. Returns whether more may come.
-fn receive_next<D: Disk, R: Read, W: Write>(
-    alloc: Global,
-    disk: &mut D,
-    receiver: &mut Receiver<R>,
-    out: &mut W,
-) -> Result<bool, ReceiveError> {
-    match receiver.next(alloc, disk)? {
-        Received::PreDump => Ok(true),
-        Received::Checkpoint(number) => {
-            report(out, number)?;
-            Ok(true)
-        }
-        Received::End => Ok(false),
-    }
 }
 
 /// Takes the images of a stream into a store, and prints `received N` after each checkpoint, once it is durable.
@@ -40,12 +29,16 @@ pub fn receive<D: Disk, R: Read + Drop, W: Write>(
     alloc: Global,
     disk: &mut D,
     input: R,
-    out: &mut W,
-) -> Result<(), ReceiveError> {
+    out: &mut Output<W>,
+) -> Result<(), ReceiveError>
+    ensures honest { D.is_honest disk.new → D.is_honest disk.old }
+{
     let mut receiver = begin(alloc, disk, input)?;
     for _ in 0..u64::MAX {
-        if !receive_next(alloc, disk, &mut receiver, out)? {
-            return Ok(());
+        match receiver.next(alloc, disk)? {
+            Received::PreDump => {}
+            Received::Checkpoint(number) => report(out, number)?,
+            Received::End => return Ok(()),
         }
     }
     Err(ReceiveError::Stream(StreamError::Over))

@@ -108,10 +108,13 @@ module _ {D E : Type 0} (g : Ghosts D) (shown : Option (ℕ × PlainMemory)) (la
   -- an error before a gate is opened
   pub receives_nothing : (old new : D) (result : Result Received E) → IsErr result → Shows (g.contents old) shown → LeavesOnly g old new (KeepsImages (g.contents old))
       → (memory : PlainMemory) × Receives g old new shown last memory result
-  receives_nothing old new result is shows keeps = (no_memory, record {
-    any_moment = span_shows g shown (Some (last, no_memory)) old new shows keeps;
-    at_end = IfOk-from_err result (ShowsThen (g.may_leave new) shown last no_memory) is;
-  })
+  receives_nothing old new result is shows keeps = (
+    no_memory,
+    record {
+      any_moment = span_shows g shown (Some (last, no_memory)) old new shows keeps;
+      at_end = IfOk-from_err result (ShowsThen (g.may_leave new) shown last no_memory) is;
+    },
+  )
 
 module _ (shown : Option (ℕ × PlainMemory)) (last : ℕ) where
   -- what the gate of an image opens to, by its kind
@@ -140,7 +143,10 @@ module _ (shown : Option (ℕ × PlainMemory)) (last : ℕ) where
 pub receives_still : {D E : Type 0} (g : Ghosts D) (shown : Option (ℕ × PlainMemory)) (last : ℕ) (disk : D) → ((c : List (List ℕ)) → g.left_since disk (g.moment disk) c → g.may_leave disk c)
     → ((c : List (List ℕ)) → g.may_leave disk c → length c ≡ length (g.contents disk)) → IsSettled (g.contents disk) (g.may_leave disk) → Shows (g.contents disk) shown
     → (memory : PlainMemory) × Receives {D = D} {E = E} g disk disk shown last memory (Ok kinds.End)
-receives_still g shown last disk only_now same_slots rests shows = (no_memory, record {
-  any_moment = span_shows g shown (Some (last, no_memory)) disk disk shows (keeps_still g disk only_now same_slots rests);
-  at_end = λ c left. keeps_shows (g.contents disk) c shown (settled_leaves (g.contents disk) c (g.may_leave disk) rests (same_slots c left) left) shows;
-})
+receives_still g shown last disk only_now same_slots rests shows = (
+  no_memory,
+  record {
+    any_moment = span_shows g shown (Some (last, no_memory)) disk disk shows (keeps_still g disk only_now same_slots rests);
+    at_end = λ c left. keeps_shows (g.contents disk) c shown (settled_leaves (g.contents disk) c (g.may_leave disk) rests (same_slots c left) left) shows;
+  },
+)

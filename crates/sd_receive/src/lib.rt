@@ -6,8 +6,10 @@ mod arriving;
 mod plans;
 mod receive_error;
 mod receiver;
+mod settling;
 mod taking;
 
 pub use arriving::{format, open_gate, put_page};
 pub use receive_error::ReceiveError;
 pub use receiver::{Received, Receiver};
+pub use settling::settle;

@@ -3,6 +3,7 @@ ghost use Rattle.std.specs.Prelude.{◌≡◌, ◌≢◌, ◌<◌, ◌≤◌, �
 ghost use Rattle.std.specs.Prelude.{IfOk, IfSome, OnOk};
 ghost use Rattle.std.specs.Borrow.{Bor};
 ghost use Rattle.sd_areas.specs.PlainMemory.{PlainMemory};
+ghost use Rattle.sd_disk.specs.Reads.{OnlyReads};
 ghost use Rattle.sd_image.specs.declared.header.Kind.TheVariants.{PreDump};
 ghost use Rattle.sd_image.specs.Header.{IsHeader};
 ghost use Rattle.sd_image.specs.Shows.{Shows};
@@ -16,11 +17,12 @@ ghost use Rattle.sd_receive.specs.declared.receiver.Received.TheVariants as rece
 use crate::arrived::{Arrived, arrive};
 use crate::arriving::open_gate;
 use crate::receive_error::ReceiveError;
+use crate::settling::settle;
 use crate::taking::take_header;
 use sd_chain::{Catalog, CatalogError, OpenImage, PlacedTable};
 use sd_disk::Disk;
 use sd_image::{Header, Kind};
-use sd_restore::{Fault, place_newest};
+use sd_restore::{Fault, place_newest, scan};
 use sd_stream::{Item, StreamReader};
 use std::alloc::{AllocError, Global};
 use std::io::Read;
@@ -126,16 +128,31 @@ fn received_with(header: &Header) -> Received
 }
 
 impl<R: Read> Receiver<R> {
-    /// A receiver of what a stream still has, into the store of these images.
-    pub fn new(reader: StreamReader<R>, catalog: Catalog) -> Receiver<R>
-        ensures reader { result.reader ≡ reader }
-        ensures catalog { result.catalog ≡ catalog }
+    /// Makes a store ready for what a stream still has: each slot is synced, and read.
+    ///
+    /// # Errors
+    ///
+    /// Those of a scan of the store.
+    pub fn begin<D: Disk>(
+        alloc: Global,
+        disk: &mut D,
+        reader: StreamReader<R>,
+    ) -> Result<Receiver<R>, Fault>
+    where
+        R: Drop,
+        ensures ready { D.is_honest disk.new → IfOk result (λ receiver.
+            IsReady (D.contents disk.new) (D.may_leave disk.new) receiver.catalog) }
+        ensures images { IfOk result (λ receiver. AreImages receiver.catalog) }
+        ensures reader { IfOk result (λ receiver. receiver.reader ≡ reader) }
+        ensures reads { OnlyReads D.Disk disk.old disk.new }
     {
-        Receiver {
+        settle(disk)?;
+        let catalog = scan(alloc, disk)?;
+        Ok(Receiver {
             reader,
             catalog,
             last: 0,
-        }
+        })
     }
 
     /// Reads the header of an image of so many bytes, and chooses one of so many slots for it.

@@ -74,15 +74,17 @@ returns-in_err-open_gate-clause-keeps g c = λ honest ready shown shows.
     (c.open_gate.ensures.opens has.pages (sym has.complete.stored) has.complete.words has.fills) in
     let last = c.prepare.new.self.last in
     let there = keeps_shows (d.contents old) (d.contents mid) shown between shows in
-    let to = opens_to shown last (d.contents mid) (d.may_leave mid) places next slot header arrived a there c.in_ok-bytes.ensures.last c.in_ok-bytes.ensures.shown in
-    (to.0, record {
-      any_moment = span_opens d shown (Some (last, to.0)) old mid new after shows keeps between opens
-          (elim to.1 [
-            | inl pre ↦ inl pre.1
-            | inr dump ↦ inr dump.1
-          ]);
-      at_end = IfOk-from_err c.from_residual-in_err-open_gate.result (ShowsThen (d.may_leave new) shown last to.0) c.from_residual-in_err-open_gate.ensures.0;
-    })
+    let to = opens_to shown last (d.contents mid) (d.may_leave mid) places next slot header arrived a there c.in_ok-bytes.ensures.last c.in_ok-bytes.ensures.shown in (
+      to.0,
+      record {
+        any_moment = span_opens d shown (Some (last, to.0)) old mid new after shows keeps between opens
+            (elim to.1 [
+              | inl pre ↦ inl pre.1
+              | inr dump ↦ inr dump.1
+            ]);
+        at_end = IfOk-from_err c.from_residual-in_err-open_gate.result (ShowsThen (d.may_leave new) shown last to.0) c.from_residual-in_err-open_gate.ensures.0;
+      },
+    )
 
 pub returns-clause-keeps : goal.returns-clause-keeps
 returns-clause-keeps g c = λ honest ready shown shows.
@@ -122,21 +124,29 @@ returns-clause-keeps g c = λ honest ready shown shows.
     (at_end d mid new (λ files. KeepsImages (d.contents mid) files ⊎ KeepsImages after files) (g.met.D.Disk.as_read new) (λ t files since may. g.met.D.Disk.counts_now new t files since may) opens) in
     let last = c.prepare.new.self.last in
     let there = keeps_shows (d.contents old) (d.contents mid) shown between shows in
-    let to = opens_to shown last (d.contents mid) (d.may_leave mid) places next slot header arrived a there c.in_ok-bytes.ensures.last c.in_ok-bytes.ensures.shown in
-    (to.0, record {
-      any_moment = span_opens d shown (Some (last, to.0)) old mid new after shows keeps between opens
-          (elim to.1 [
-            | inl pre ↦ inl pre.1
-            | inr dump ↦ inr dump.1
-          ]);
-      at_end = received_then shown last header c.received_with.result to.0 (d.may_leave new) c.received_with.ensures.pre_dump c.received_with.ensures.dump c.in_ok-bytes.ensures.last
-          (elim to.1 [
-            | inl pre ↦ inl (pre.0, shows_after (d.contents mid) (d.may_leave mid) places next slot header arrived a (d.contents new) (d.may_leave new) shown opened.0
-                (λ files may. g.met.D.Disk.same_slots new files may) kept pre.1)
-            | inr dump ↦ inr (dump.0, shows_after (d.contents mid) (d.may_leave mid) places next slot header arrived a (d.contents new) (d.may_leave new) (Some (last, to.0)) opened.0
-                (λ files may. g.met.D.Disk.same_slots new files may) kept dump.1)
-          ]);
-    })
+    let to = opens_to shown last (d.contents mid) (d.may_leave mid) places next slot header arrived a there c.in_ok-bytes.ensures.last c.in_ok-bytes.ensures.shown in (
+      to.0,
+      record {
+        any_moment = span_opens d shown (Some (last, to.0)) old mid new after shows keeps between opens
+            (elim to.1 [
+              | inl pre ↦ inl pre.1
+              | inr dump ↦ inr dump.1
+            ]);
+        at_end = received_then shown last header c.received_with.result to.0 (d.may_leave new) c.received_with.ensures.pre_dump c.received_with.ensures.dump c.in_ok-bytes.ensures.last
+            (elim to.1 [
+              | inl pre ↦ inl (
+                pre.0,
+                shows_after (d.contents mid) (d.may_leave mid) places next slot header arrived a (d.contents new) (d.may_leave new) shown opened.0
+                    (λ files may. g.met.D.Disk.same_slots new files may) kept pre.1,
+              )
+              | inr dump ↦ inr (
+                dump.0,
+                shows_after (d.contents mid) (d.may_leave mid) places next slot header arrived a (d.contents new) (d.may_leave new) (Some (last, to.0)) opened.0
+                    (λ files may. g.met.D.Disk.same_slots new files may) kept dump.1,
+              )
+            ]);
+      },
+    )
 
 pub returns-clause-ready : goal.returns-clause-ready
 returns-clause-ready g c = λ honest ready.

@@ -38,8 +38,8 @@ struct Begins(Option<Base>);
 impl fmt::Display for Begins {
     fn fmt<W: fmt::Write>(&self, f: &mut fmt::Formatter<W>) -> fmt::Result {
         match self.0 {
-            Some(base) => write!(f, "{}", base.number),
-            None => f.write_str("a whole image"),
+            Some(base) => write!(f, "at {}", base.number),
+            None => f.write_str("with a whole image"),
         }
     }
 }
@@ -58,7 +58,7 @@ fn print_base<W: Write>(
     let begins = Begins(base);
     writeln!(
         out,
-        "base differs: {folder} shows {which}{shows}, the stream begins at {begins}"
+        "base differs: {folder} shows {which}{shows}, the stream begins {begins}"
     )?;
     Ok(())
 }
