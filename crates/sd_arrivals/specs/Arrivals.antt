@@ -24,9 +24,12 @@ pub record IsAttached (contents : List (List ℕ)) (base : Option Base) : Type 0
   pub shows : Shows contents shown
   pub continues : Continues contents shown base
 
--- From one moment to another a store received the checkpoints of these numbers, one after the other, and what it showed
--- first it shows until the first of them: at each moment a crash leaves the last that was received, or the next; once
--- that is received, that.
+-- a crash leaves what is shown now, or the next checkpoint
+abbrev pub ShowsOrNext : Option (ℕ × PlainMemory) → ℕ → PlainMemory → List (List ℕ) → Type 0
+ShowsOrNext now next memory c = Shows c now ⊎ Shows c (Some (next, memory))
+
+-- From one moment to another a store received the checkpoints of these numbers, one after the other: at each moment a
+-- crash leaves the last that was received, or what was shown first where none was; or the next, while that arrives.
 pub data HasReceived {D : Type 0} (g : Ghosts D) (old : D) (shown : Option (ℕ × PlainMemory)) :
     D → Option (ℕ × PlainMemory) → List ℕ → Type 0 where
   nothing : HasReceived g old shown old shown []
@@ -34,8 +37,7 @@ pub data HasReceived {D : Type 0} (g : Ghosts D) (old : D) (shown : Option (ℕ 
       → HasReceived g old shown mid now numbers → LeavesOnly g mid new (λ c. Shows c now)
       → HasReceived g old shown new now numbers
   one_more : (mid new : D) (now : Option (ℕ × PlainMemory)) (numbers : List ℕ) (n : ℕ) (memory : PlainMemory)
-      → HasReceived g old shown mid now numbers
-      → LeavesOnly g mid new (λ c. Shows c now ⊎ Shows c (Some (n, memory)))
+      → HasReceived g old shown mid now numbers → LeavesOnly g mid new (ShowsOrNext now n memory)
       → Within (g.may_leave new) (λ c. Shows c (Some (n, memory)))
       → HasReceived g old shown new (Some (n, memory)) (numbers ++ n ∷ [])
 
@@ -43,16 +45,31 @@ pub data HasReceived {D : Type 0} (g : Ghosts D) (old : D) (shown : Option (ℕ 
 abbrev pub received_line : ℕ → List ℕ
 received_line n = codes "received " ++ decimal n ++ 10 ∷ []
 
--- A store received checkpoints; after the last that was received, a crash leaves that or the next, and at the end of
--- the stream that. For each a line was printed.
-pub record IsReceived {D E : Type 0} (g : Ghosts D) (old new : D) (shown : Option (ℕ × PlainMemory))
-    (before after : Option (List ℕ)) (result : Result Unit E) : Type 0 where
+-- a store received no checkpoint, or one, whose line was printed
+abbrev pub IsOneMore : {D : Type 0} → Ghosts D → D → D → Option (ℕ × PlainMemory) → ℕ → PlainMemory → Option (List ℕ)
+    → Option (List ℕ) → Type 0
+IsOneMore g old new shown next memory before after =
+    (LeavesOnly g old new (λ c. Shows c shown) × Appends before after [])
+    ⊎ (Within (g.may_leave new) (λ c. Shows c (Some (next, memory))) × Appends before after (received_line next))
+
+-- so it is at the end of a step, within which a crash leaves what was shown, or the next
+pub record ReceivesNext {D X E : Type 0} (g : Ghosts D) (old new : D) (shown : Option (ℕ × PlainMemory))
+    (before after : Option (List ℕ)) (result : Result X E) : Type 0 where
+  pub next : ℕ
+  pub memory : PlainMemory
+  pub any_moment : LeavesOnly g old new (ShowsOrNext shown next memory)
+  pub at_end : OnOk result (IsOneMore g old new shown next memory before after)
+
+-- A store received checkpoints. After the last of them a crash leaves that, or the next; at the end of the stream that.
+-- For each a line was printed, and nothing else.
+pub record IsReceived {D X E : Type 0} (g : Ghosts D) (old new : D) (shown : Option (ℕ × PlainMemory))
+    (before after : Option (List ℕ)) (result : Result X E) : Type 0 where
   pub at : D
   pub now : Option (ℕ × PlainMemory)
   pub numbers : List ℕ
   pub next : ℕ
   pub memory : PlainMemory
   pub so_far : HasReceived g old shown at now numbers
-  pub since : LeavesOnly g at new (λ c. Shows c now ⊎ Shows c (Some (next, memory)))
+  pub since : LeavesOnly g at new (ShowsOrNext now next memory)
   pub at_end : OnOk result (Within (g.may_leave new) (λ c. Shows c now))
   pub printed : OnOk result (Appends before after (flat_map received_line numbers))

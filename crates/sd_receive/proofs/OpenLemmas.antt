@@ -1,5 +1,5 @@
 -- The gate of an image that has arrived is opened.
-use Rattle.std.proofs.Common.{◌≡◌, ◌≢◌, ◌⊎◌, ◌<◌, ℕ, false, List, ◌∷◌, ◌++◌, length, Option, Some, Contains, Result, Ok, slice_set, refl, sym, ◌∙◌, ap, subst, inl, inr}
+use Rattle.std.proofs.Common.{◌≡◌, ◌≢◌, ◌⊎◌, ⊎_elim, ◌<◌, ℕ, false, List, ◌∷◌, ◌++◌, length, Option, Some, Contains, Result, Ok, slice_set, refl, sym, ◌∙◌, ap, subst, inl, inr}
 use Rattle.std.specs.List.{concat}
 use Rattle.std.specs.FinMap as finmap
 use Rattle.std.specs.Result.{IsErr}
@@ -112,7 +112,7 @@ module _ {D E : Type 0} (g : Ghosts D) (shown : Option (ℕ × PlainMemory)) (la
     no_memory,
     record {
       any_moment = span_shows g shown (Some (last, no_memory)) old new shows keeps;
-      at_end = IfOk-from_err result (ShowsThen (g.may_leave new) shown last no_memory) is;
+      at_end = IfOk-from_err result (ShowsThen g old new shown last no_memory) is;
     },
   )
 
@@ -132,12 +132,20 @@ module _ (shown : Option (ℕ × PlainMemory)) (last : ℕ) where
         (m.0, inr (dump, subst (λ (n : ℕ). Shows (slice_set contents slot (opened_file contents may_leave places next slot header arrived a)) (Some (n, m.0))) (sym (number dump)) m.1))
   ]
 
-  pub received_then : (header : Header) (received : Received) (memory : PlainMemory) (may : List (List ℕ) → Type 0)
+  pub received_then : {D : Type 0} (g : Ghosts D) (old new : D) (header : Header) (received : Received) (memory : PlainMemory)
       → (header.kind ≡ PreDump → received ≡ kinds.PreDump) → (header.kind ≢ PreDump → received ≡ kinds.Checkpoint header.checkpoint) → (header.kind ≢ PreDump → last ≡ header.checkpoint)
-      → ((header.kind ≡ PreDump) × Within may (λ c. Shows c shown)) ⊎ ((header.kind ≢ PreDump) × Within may (λ c. Shows c (Some (last, memory))))
-      → ShowsThen may shown last memory received
-  received_then header received memory may pre dump number (inl is) = subst (ShowsThen may shown last memory) (sym (pre is.0)) is.1
-  received_then header received memory may pre dump number (inr is) = subst (ShowsThen may shown last memory) (sym (dump is.0)) (sym (number is.0), is.1)
+      → ((header.kind ≡ PreDump) × LeavesOnly g old new (λ c. Shows c shown)) ⊎ ((header.kind ≢ PreDump) × Within (g.may_leave new) (λ c. Shows c (Some (last, memory))))
+      → ShowsThen g old new shown last memory received
+  received_then g old new header received memory pre dump number (inl is) = subst (ShowsThen g old new shown last memory) (sym (pre is.0)) is.1
+  received_then g old new header received memory pre dump number (inr is) = subst (ShowsThen g old new shown last memory) (sym (dump is.0)) (sym (number is.0), is.1)
+
+-- a gate that is opened to what was shown
+pub span_same : {D : Type 0} (g : Ghosts D) (shown : Option (ℕ × PlainMemory)) (old mid new : D) (after : List (List ℕ)) → Shows (g.contents old) shown
+    → LeavesOnly g old mid (KeepsImages (g.contents old)) → KeepsImages (g.contents old) (g.contents mid)
+    → LeavesOnly g mid new (λ c. KeepsImages (g.contents mid) c ⊎ KeepsImages after c) → Shows after shown → LeavesOnly g old new (λ c. Shows c shown)
+span_same g shown old mid new after shows keeps between opens then =
+    span_widened g old new (λ c. Shows c shown ⊎ Shows c shown) (λ c. Shows c shown) (λ c either. ⊎_elim (λ is. is) (λ is. is) either)
+    (span_opens g shown shown old mid new after shows keeps between opens (inl then))
 
 -- the end of a stream
 pub receives_still : {D E : Type 0} (g : Ghosts D) (shown : Option (ℕ × PlainMemory)) (last : ℕ) (disk : D) → ((c : List (List ℕ)) → g.left_since disk (g.moment disk) c → g.may_leave disk c)
@@ -147,6 +155,6 @@ receives_still g shown last disk only_now same_slots rests shows = (
   no_memory,
   record {
     any_moment = span_shows g shown (Some (last, no_memory)) disk disk shows (keeps_still g disk only_now same_slots rests);
-    at_end = λ c left. keeps_shows (g.contents disk) c shown (settled_leaves (g.contents disk) c (g.may_leave disk) rests (same_slots c left) left) shows;
+    at_end = span_widened g disk disk (KeepsImages (g.contents disk)) (λ c. Shows c shown) (λ c k. keeps_shows (g.contents disk) c shown k shows) (keeps_still g disk only_now same_slots rests);
   },
 )

@@ -66,16 +66,16 @@ pub record AddsImage (old new : Places) (i : Opened) : Type 0 where
   pub fresh : (other : Opened) → place_of old i.header.serial ≡ Some (Some other) → ⊥
   pub changes : Changes old new i.header.serial (Some (Some i))
 
--- what a crash leaves once an image, a checkpoint of this memory, or the end of a stream was received
-abbrev pub ShowsThen : (List (List ℕ) → Type 0) → Option (ℕ × PlainMemory) → ℕ → PlainMemory → Received → Type 0
-ShowsThen may_leave shown last memory received.PreDump = Within may_leave (λ c. Shows c shown)
-ShowsThen may_leave shown last memory (received.Checkpoint n) =
-    (n ≡ last) × Within may_leave (λ c. Shows c (Some (last, memory)))
-ShowsThen may_leave shown last memory received.End = Within may_leave (λ c. Shows c shown)
+-- What a crash leaves once something was received: with a pre-dump, or the end of a stream, at each moment what was
+-- shown; with a checkpoint that, with this memory.
+abbrev pub ShowsThen : {D : Type 0} → Ghosts D → D → D → Option (ℕ × PlainMemory) → ℕ → PlainMemory → Received → Type 0
+ShowsThen g old new shown last memory received.PreDump = LeavesOnly g old new (λ c. Shows c shown)
+ShowsThen g old new shown last memory (received.Checkpoint n) =
+    (n ≡ last) × Within (g.may_leave new) (λ c. Shows c (Some (last, memory)))
+ShowsThen g old new shown last memory received.End = LeavesOnly g old new (λ c. Shows c shown)
 
--- At each moment a crash leaves what was shown, or the checkpoint that was acknowledged last, with this memory; once it
--- is received, that.
+-- At each moment a crash leaves what was shown, or the checkpoint that was acknowledged last, with this memory.
 pub record Receives {D E : Type 0} (g : Ghosts D) (old new : D) (shown : Option (ℕ × PlainMemory)) (last : ℕ)
     (memory : PlainMemory) (result : Result Received E) : Type 0 where
   pub any_moment : LeavesOnly g old new (λ c. Shows c shown ⊎ Shows c (Some (last, memory)))
-  pub at_end : IfOk result (ShowsThen (g.may_leave new) shown last memory)
+  pub at_end : IfOk result (ShowsThen g old new shown last memory)

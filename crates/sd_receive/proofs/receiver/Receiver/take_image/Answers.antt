@@ -7,7 +7,7 @@ use Rattle.sd_receive.specs.Arrived.{AddsImage, ShowsThen, opened_with}
 use Rattle.sd_receive.specs.Arriving.{IsSettled, KeepsImages, file_of}
 use Rattle.sd_receive.proofs.ArriveLemmas.{at_end, keeps_still}
 use Rattle.sd_receive.proofs.CatalogLemmas.{catalog_kept, free_is_closed}
-use Rattle.sd_receive.proofs.OpenLemmas.{Arrives, kept_after, opened_file, opens_to, ready_after, received_then, receives_nothing, shows_after, span_opens}
+use Rattle.sd_receive.proofs.OpenLemmas.{Arrives, kept_after, opened_file, opens_to, ready_after, received_then, receives_nothing, shows_after, span_opens, span_same}
 use Rattle.sd_receive.proofs.ShowLemmas.{keeps_shows}
 use Rattle.sd_receive.proofs.receiver.Receiver.take_image.Goals as goal
 
@@ -82,7 +82,7 @@ returns-in_err-open_gate-clause-keeps g c = λ honest ready shown shows.
               | inl pre ↦ inl pre.1
               | inr dump ↦ inr dump.1
             ]);
-        at_end = IfOk-from_err c.from_residual-in_err-open_gate.result (ShowsThen (d.may_leave new) shown last to.0) c.from_residual-in_err-open_gate.ensures.0;
+        at_end = IfOk-from_err c.from_residual-in_err-open_gate.result (ShowsThen d old new shown last to.0) c.from_residual-in_err-open_gate.ensures.0;
       },
     )
 
@@ -132,13 +132,9 @@ returns-clause-keeps g c = λ honest ready shown shows.
               | inl pre ↦ inl pre.1
               | inr dump ↦ inr dump.1
             ]);
-        at_end = received_then shown last header c.received_with.result to.0 (d.may_leave new) c.received_with.ensures.pre_dump c.received_with.ensures.dump c.in_ok-bytes.ensures.last
+        at_end = received_then shown last d old new header c.received_with.result to.0 c.received_with.ensures.pre_dump c.received_with.ensures.dump c.in_ok-bytes.ensures.last
             (elim to.1 [
-              | inl pre ↦ inl (
-                pre.0,
-                shows_after (d.contents mid) (d.may_leave mid) places next slot header arrived a (d.contents new) (d.may_leave new) shown opened.0
-                    (λ files may. g.met.D.Disk.same_slots new files may) kept pre.1,
-              )
+              | inl pre ↦ inl (pre.0, span_same d shown old mid new after shows keeps between opens pre.1)
               | inr dump ↦ inr (
                 dump.0,
                 shows_after (d.contents mid) (d.may_leave mid) places next slot header arrived a (d.contents new) (d.may_leave new) (Some (last, to.0)) opened.0
