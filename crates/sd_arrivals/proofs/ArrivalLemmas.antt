@@ -1,5 +1,5 @@
 -- Calls that leave what a store shows, one after the other.
-use Rattle.std.proofs.Common.{◌≡◌, ◌≤◌, ℕ, List, Option}
+use Rattle.std.proofs.Common.{◌≤◌, ℕ, List, Option}
 use Rattle.sd_areas.specs.PlainMemory.{PlainMemory}
 use Rattle.sd_disk.specs.Crash.{Within}
 use Rattle.sd_disk.specs.Spans.{LeavesOnly, nothing_called, spans_join}

@@ -1,5 +1,5 @@
 -- Checkpoints that are received, one after the other.
-use Rattle.std.proofs.Common.{◌≡◌, ◌⊎◌, ◌≤◌, ℕ, true, false, List, [], ◌∷◌, ◌++◌, Option, Some, Result, Ok, Err, sym, ◌∙◌, ap, subst, inl, inr, append-nil}
+use Rattle.std.proofs.Common.{◌≡◌, ◌≤◌, ℕ, true, false, List, [], ◌∷◌, ◌++◌, Option, Some, Result, Ok, Err, sym, ◌∙◌, ap, subst, inl, inr, append-nil}
 use Rattle.std.specs.FinMap as finmap
 use Rattle.std.specs.Io.KnownBytes.{Appends}
 use Rattle.std.specs.List.{flat_map}
@@ -12,16 +12,16 @@ use Rattle.sd_disk.specs.Crash.{Within}
 use Rattle.sd_disk.specs.Spans.{LeavesOnly, nothing_called, span_widened}
 use Rattle.sd_disk.specs.declared.disk.Disk.{Ghosts}
 use Rattle.sd_image.specs.Shows.{Shows}
-use Rattle.sd_arrivals.specs.Arrivals.{HasReceived, IsOneMore, IsReceived, ReceivesNext, ShowsOrNext, received_line}
+use Rattle.sd_arrivals.specs.Arrivals.{HasReceived, IsOneMore, IsReceived, ShowsOrNext, received_line}
 use Rattle.sd_arrivals.specs.Arrivals.HasReceived.{nothing, no_more, one_more}
 use Rattle.sd_arrivals.proofs.ArrivalLemmas.{within_now}
 
 abbrev pub no_memory : PlainMemory
 no_memory = finmap.empty
 
-pub on_err : {X E P : Type 0} (r : Result X E) → IsErr r → OnOk r P
-on_err (Ok x) is = absurd (let no_it : false ≡ true = is in cc)
-on_err (Err e) is = tt
+pub on_err : {X E : Type 0} (r : Result X E) (P : Type 0) → IsErr r → OnOk r P
+on_err (Ok x) P is = absurd (let no_it : false ≡ true = is in cc)
+on_err (Err e) P is = tt
 
 always_ok : {X E P : Type 0} (r : Result X E) → P → OnOk r P
 always_ok (Ok x) p = p
@@ -65,16 +65,27 @@ module _ {D : Type 0} (g : Ghosts D) where
     pub received_err : (old mid new : D) (shown : Option (ℕ × PlainMemory)) (before at after : Option (List ℕ)) (s : SoFar old mid shown before at) (next : ℕ) (memory : PlainMemory)
         → LeavesOnly g mid new (ShowsOrNext s.now next memory) → IsErr result → IsReceived g old new shown before after result
     received_err old mid new shown before at after s next memory span is = record {
-      at = mid; now = s.now; numbers = s.numbers; next = next; memory = memory; so_far = s.has; since = span;
-      at_end = on_err result is;
-      printed = on_err result is;
+      at = mid;
+      now = s.now;
+      numbers = s.numbers;
+      next = next;
+      memory = memory;
+      so_far = s.has;
+      since = span;
+      at_end = on_err result _ is;
+      printed = on_err result _ is;
     }
 
     -- nothing after that
     pub received_now : (old new : D) (shown : Option (ℕ × PlainMemory)) (before after : Option (List ℕ)) → ((c : List (List ℕ)) → g.left_since new (g.moment new) c → g.may_leave new c)
         → SoFar old new shown before after → IsReceived g old new shown before after result
     received_now old new shown before after only_now s = record {
-      at = new; now = s.now; numbers = s.numbers; next = 0; memory = no_memory; so_far = s.has;
+      at = new;
+      now = s.now;
+      numbers = s.numbers;
+      next = 0;
+      memory = no_memory;
+      so_far = s.has;
       since = nothing_called g new (ShowsOrNext s.now 0 no_memory) (g.may_leave new) only_now (λ c left. inl (s.shows c left));
       at_end = always_ok result s.shows;
       printed = always_ok result s.printed;
@@ -84,10 +95,15 @@ module _ {D : Type 0} (g : Ghosts D) where
     pub received_none : (old new : D) (shown : Option (ℕ × PlainMemory)) (before after : Option (List ℕ)) → LeavesOnly g old new (λ c. Shows c shown) → IsErr result
         → IsReceived g old new shown before after result
     received_none old new shown before after span is = record {
-      at = old; now = shown; numbers = []; next = 0; memory = no_memory; so_far = nothing;
+      at = old;
+      now = shown;
+      numbers = [];
+      next = 0;
+      memory = no_memory;
+      so_far = nothing;
       since = span_widened g old new (λ c. Shows c shown) (ShowsOrNext shown 0 no_memory) (λ c shows. inl shows) span;
-      at_end = on_err result is;
-      printed = on_err result is;
+      at_end = on_err result _ is;
+      printed = on_err result _ is;
     }
 
     -- what is shown was shown before
@@ -100,7 +116,11 @@ module _ {D : Type 0} (g : Ghosts D) where
     pub received_after : (old mid new : D) (shown : Option (ℕ × PlainMemory)) (before after : Option (List ℕ)) → LeavesOnly g old mid (λ c. Shows c shown)
         → IsReceived g mid new shown before after result → IsReceived g old new shown before after result
     received_after old mid new shown before after first r = record {
-      at = r.at; now = r.now; numbers = r.numbers; next = r.next; memory = r.memory;
+      at = r.at;
+      now = r.now;
+      numbers = r.numbers;
+      next = r.next;
+      memory = r.memory;
       so_far = prefixed old mid shown first r.at r.now r.numbers r.so_far;
       since = r.since;
       at_end = r.at_end;

@@ -56,22 +56,22 @@ fn receive_next<D: Disk, R: Read, W: Write>(
 }
 
 /// Receives what a stream still has.
-fn receive_all<D: Disk, R: Read + Drop, W: Write>(
+fn receive_all<D: Disk, R: Read, W: Write>(
     alloc: Global,
     disk: &mut D,
-    mut receiver: Receiver<R>,
+    receiver: &mut Receiver<R>,
     out: &mut Output<W>,
 ) -> Result<(), ReceiveError>
-    requires { AreImages receiver.catalog }
+    requires { AreImages receiver.old.catalog }
     ensures keeps { D.is_honest disk.new
-        → IsReady (D.contents disk.old) (D.may_leave disk.old) receiver.catalog
+        → IsReady (D.contents disk.old) (D.may_leave disk.old) receiver.old.catalog
         → (shown : Option (ℕ × PlainMemory)) → Shows (D.contents disk.old) shown
         → IsReceived D.Disk disk.old disk.new shown
         (W.contents out.old.writer) (W.contents out.new.writer) result }
     ensures honest { D.is_honest disk.new → D.is_honest disk.old }
 {
     for _ in 0..u64::MAX {
-        if !receive_next(alloc, disk, &mut receiver, out)? {
+        if !receive_next(alloc, disk, receiver, out)? {
             return Ok(());
         }
     }
@@ -97,6 +97,6 @@ pub fn receive<D: Disk, R: Read + Drop, W: Write>(
         (W.contents out.old.writer) (W.contents out.new.writer) result }
     ensures honest { D.is_honest disk.new → D.is_honest disk.old }
 {
-    let receiver = begin(alloc, disk, input)?;
-    receive_all(alloc, disk, receiver, out)
+    let mut receiver = begin(alloc, disk, input)?;
+    receive_all(alloc, disk, &mut receiver, out)
 }

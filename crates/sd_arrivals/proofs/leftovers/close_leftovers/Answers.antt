@@ -1,4 +1,3 @@
-use Rattle.std.proofs.Common.{ℕ, List}
 use Rattle.sd_image.specs.Shows.{Shows}
 use Rattle.sd_receive.proofs.FillLemmas.{span_of_reads}
 use Rattle.sd_arrivals.proofs.ArrivalLemmas.{shows_join}

@@ -1,4 +1,4 @@
-use Rattle.std.proofs.Common.{ℕ, List, Option}
+use Rattle.std.proofs.Common.{ℕ, Option}
 use Rattle.sd_areas.specs.PlainMemory.{PlainMemory}
 use Rattle.sd_chain.specs.Ways.{AreImages}
 use Rattle.sd_image.specs.Shows.{Shows}
