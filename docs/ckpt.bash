@@ -28,7 +28,7 @@ _ckpt_offer() {  # _ckpt_offer OPTION-OF-COMPGEN..
 
 _ckpt() {
   local word=${COMP_WORDS[COMP_CWORD]} before=${COMP_WORDS[COMP_CWORD - 1]} program options=
-  local programs="run shell merge mutate restore list verify history diff drop show export import send"
+  local programs="run shell merge mutate restore list verify history diff drop show export import send receive"
   local place
   place=$(_ckpt_program)
   COMPREPLY=()
@@ -45,6 +45,7 @@ _ckpt() {
     export) options="--checkpoint --force --notes --space" ;;
     drop) options="--force" ;;
     send) options="--since" ;;
+    receive) options="--tip" ;;
     import) options="--rounds --space --stats --summary" ;;
     merge) options="--stats --summary" ;;
     help)

@@ -242,6 +242,13 @@ pub const NEW: Item = Item {
 };
 
 /// The checkpoint that the receiver has.
+/// Only what a stream has to continue.
+pub const TIP: Item = Item {
+    name: "tip",
+    help: "Only prints the checkpoint that the store shows, for send --since, and the SHA-256 of its memory",
+    ..FLAG
+};
+
 pub const SINCE: Item = Item {
     name: "since",
     help: "The checkpoint that the receiver shows, which the images that are sent continue; without it all are sent",

@@ -3,11 +3,11 @@
 use crate::arguments::{
     AT_LEAST, CHECK, CHECKPOINT, CORES, DIR, DIR_TO_RUN, FORCE, FORCE_DROP, Form, Item, JSON, NEW,
     NOTES, Numbers, OLD, ONE_SPACE, OUT, QUIET, RESTORES, ROUNDS, SCRIPT, SINCE, SLOT,
-    SLOT_TO_DROP, SPACE, STATS, STRICT, SUMMARY, THREADS, VERBOSE,
+    SLOT_TO_DROP, SPACE, STATS, STRICT, SUMMARY, THREADS, TIP, VERBOSE,
 };
 use crate::help::{
-    DIFF, DROP, EXPORT, HISTORY, IMPORT, LIMITS, LIST, MERGE, MUTATE, RESTORE, RUN_HEAD, RUN_TAIL,
-    SEND, SHELL, SHOW, VERIFY,
+    DIFF, DROP, EXPORT, HISTORY, IMPORT, LIMITS, LIST, MERGE, MUTATE, RECEIVE, RESTORE, RUN_HEAD,
+    RUN_TAIL, SEND, SHELL, SHOW, VERIFY,
 };
 use clap::builder::ValueParser;
 use clap::{Arg, ArgAction, ArgMatches, Command};
@@ -35,6 +35,7 @@ pub enum Work {
     Export,
     Import,
     Send,
+    Receive,
 }
 
 /// One of the programs.
@@ -49,7 +50,7 @@ struct Program {
 }
 
 /// The programs, in the order of the help.
-const PROGRAMS: [Program; 14] = [
+const PROGRAMS: [Program; 15] = [
     Program {
         name: "run",
         work: Work::Run,
@@ -147,6 +148,13 @@ const PROGRAMS: [Program; 14] = [
         about: "Writes the images of the newest checkpoint of a folder's store as a stream",
         items: &[DIR, SINCE],
         after: Some(SEND),
+    },
+    Program {
+        name: "receive",
+        work: Work::Receive,
+        about: "Takes the images of a stream from the standard input into the store in a folder",
+        items: &[DIR, TIP],
+        after: Some(RECEIVE),
     },
 ];
 

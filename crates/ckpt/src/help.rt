@@ -234,3 +234,25 @@ Status: 0 where all was sent; 3 where the store shows no checkpoint, or has no i
 N; 1 where the store, its device, memory or the writing failed, DIR isn't opened, or the standard
 output is a terminal; 2 for a fault of the command line. Standard output has a stream or a beginning
 of one, and nothing else.";
+
+pub const RECEIVE: &str = "Example:
+  ckpt send store | ckpt receive other
+  ckpt send --since 5 store | ckpt receive other
+  ckpt receive --tip other
+
+Takes the images of a stream of send into free slots of the store in DIR, and prints received N
+after each checkpoint, once it is durable: the store shows it then, with the sender's memory. If it
+is cut off at any moment, the store shows what it showed before, or a checkpoint that had arrived,
+and none before the last received N. An image is there only after its header, its table and its
+digest were checked. A stream of send --since N is taken where the store shows N with the same
+memory, one without --since where it shows no checkpoint. Pre-dumps that a stream left which was cut
+off are closed before. With --tip it only prints tip N DIGEST: what the store shows, and the SHA-256
+of what restore prints of it.
+
+Status: 0 where all was received, or the tip was printed; 3 where there is no tip (empty chain); 1
+where the stream ends early, is damaged (damaged stream WHY) or continues another checkpoint (base
+differs: DIR shows N, the stream begins at M), no slot is free (no-slot), or the store, its device,
+the memory or the printing failed (damaged SSS WHY, device, out-of-memory, cannot open DIR), or the
+standard input is a terminal; 2 for a fault of the command line. What was received stays.
+
+Only one of run, shell, merge, mutate, import, drop and receive can have a store open at a time.";

@@ -9,6 +9,7 @@ use called::{NOTHING, hold_descriptors, print_words_fault, words_of};
 use clap::ArgMatches;
 use command_line::{Work, asked_of};
 use mutating::mutate_program;
+use sd_arrivals::{receive_program, tip_program};
 use sd_cores::export_program;
 use sd_disk::Found;
 use sd_exit::{Output, Stop, Taken, exit};
@@ -35,6 +36,19 @@ mod mutating;
 
 /// The exit status of a program that was refused or stopped.
 const FAILED: u8 = 1;
+
+/// `ckpt receive`, also with `--tip`.
+fn receive_or_tip<R: Clock + Wait, W: Write>(
+    called: Called<'_>,
+    clock: &R,
+    words: &ArgMatches<'_>,
+    out: &mut Output<W>,
+) -> Result<u8, Stop> {
+    if words.get_flag("tip") {
+        return tip_program(called, out);
+    }
+    receive_program(called, clock, out)
+}
 
 /// Runs a program that only reads, or that changes no more than one image.
 fn read_by<R: Clock + Wait, W: Write>(
@@ -86,6 +100,7 @@ fn run_matches<R: Clock + Threads + Wait + Sync, W: Write>(
     match work {
         Work::Run => run_or_check(called, threads, words, out),
         Work::Shell => shell_program(called, threads, out),
+        Work::Receive => receive_or_tip(called, threads, words, out),
         Work::Merge => merge_program(called, threads, counts_asked(words), out),
         Work::Import => {
             let names = words.get_strs("CORE").unwrap_or(&[]);

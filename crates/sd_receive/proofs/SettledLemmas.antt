@@ -1,5 +1,5 @@
 -- What a crash leaves of a disk on which each slot is closed or has its image.
-use Rattle.std.proofs.Common.{◌≡◌, ◌≢◌, ◌⊎◌, ⊎_elim, ℕ, zero, suc, ◌<◌, ◌≤◌, Bool, true, false, List, [], ◌∷◌, length, slice_get, slice_set, drop, Some, inl, inr, refl, sym, ◌∙◌, ap, subst, arith}
+use Rattle.std.proofs.Common.{◌≡◌, ◌≢◌, ◌⊎◌, ⊎_elim, ℕ, zero, suc, ◌<◌, ◌≤◌, Bool, true, false, List, [], ◌∷◌, length, slice_get, slice_set, drop, map, Some, inl, inr, refl, sym, ◌∙◌, ap, subst, arith}
 use Rattle.std.proofs.lemmas.Bool.{cases_eq}
 use Rattle.std.proofs.lemmas.List.{get_or-set_same, get_or-set_other, length-set}
 use Rattle.sd_disk.specs.Contents.{file_at}
@@ -9,7 +9,7 @@ use Rattle.sd_gate.specs.declared.phase.Phase.{Phase}
 use Rattle.sd_gate.specs.declared.phase.Phase.TheVariants.{Raw, RawClosing, Whole, Closing, Shut, ShutSynced, Bare}
 use Rattle.sd_gate.specs.declared.phase.Phase.TheVariants.{Writing, Ready, Opening, Doubt, DoubtSynced}
 use Rattle.sd_gate.specs.Fits.{IsBehindClosed, IsClosed, IsShort, PhaseLeaves, PhaseReads, SlotFits}
-use Rattle.sd_gate.specs.Laws.{FoundFits, IsClosedOrWhole, found_phase}
+use Rattle.sd_gate.specs.Laws.{AllFoundFit, FoundFits, IsClosedOrWhole, found_phase}
 use Rattle.sd_receive.specs.Arriving.{IsSettled, KeepsImages, is_settled}
 use Rattle.sd_receive.specs.PlanRuns.{IsLeftBeside}
 use Rattle.sd_receive.proofs.RunLemmas.{get_set_other, get_set_same}
@@ -160,3 +160,35 @@ module _ (contents : List (List ℕ)) (before now : List (List ℕ) → Type 0) 
   pub synced_phase : slice_get settled_synced.phases slot ≡ Some (found_phase file)
   unfolding settled_synced
   synced_phase = get_set_same rest.phases slot (found_phase file) here
+
+-- so is each slot of a disk whose slots were all synced
+pub all_settled : (contents : List (List ℕ)) (may_leave : List (List ℕ) → Type 0) → AllFoundFit contents may_leave
+    → ((slot : ℕ) → slot < length contents → OnlyAt slot (file_at contents slot) may_leave) → IsSettled contents may_leave
+all_settled contents may_leave fits synced = record {
+  phases = map found_phase contents;
+  bodies = map (drop 1) contents;
+  fits = fits synced;
+  settled = settled contents;
+}
+  where
+    found_settled : (f : List ℕ) → is_settled (found_phase f) ≡ true
+    found_settled f = grind arith
+
+    settled : (files : List (List ℕ)) (slot : ℕ) (phase : Phase) → slice_get (map found_phase files) slot ≡ Some phase → is_settled phase ≡ true
+    settled [] slot phase is = absurd (let no_it : slice_get {X = Phase} [] slot ≡ Some phase = is in cc)
+    settled (f ∷ files) zero phase is = subst (λ p. is_settled p ≡ true) (let e : Some (found_phase f) ≡ Some phase = is in cc) (found_settled f)
+    settled (f ∷ files) (suc slot) phase is = settled files slot phase is
+
+-- where a crash leaves less
+pub settled_fewer : (contents : List (List ℕ)) (before now : List (List ℕ) → Type 0) → Within now before → IsSettled contents before → IsSettled contents now
+settled_fewer contents before now fewer rest = record {
+  phases = rest.phases;
+  bodies = rest.bodies;
+  fits = record {
+    count = rest.fits.count;
+    slots = rest.fits.slots;
+    each = λ slot phase is. let fits = rest.fits.each slot phase is in
+        record { reads = fits.reads; leaves = λ c may. fits.leaves c (fewer c may); as_read = λ synced c may. fits.as_read synced c (fewer c may) };
+  };
+  settled = rest.settled;
+}

@@ -1,2 +1,3 @@
 pub mod PlanRuns
 pub mod Arriving
+pub mod Arrived

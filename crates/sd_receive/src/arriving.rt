@@ -39,7 +39,7 @@ fn synced_state<D: Disk>(disk: &mut D, slot: usize) -> Result<SlotState, DeviceE
 }
 
 /// Waits until a slot is on the device as it reads.
-fn sync<D: Disk>(disk: &mut D, slot: usize) -> Result<(), DeviceError>
+pub(crate) fn sync<D: Disk>(disk: &mut D, slot: usize) -> Result<(), DeviceError>
     requires { slot < length (D.contents disk.old) }
     ensures synced { OnOk result
         (OnlyAt slot (file_at (D.contents disk.old) slot) (D.may_leave disk.new)) }

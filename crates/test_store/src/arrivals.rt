@@ -60,7 +60,11 @@ fn synced(alloc: Global) -> Result<MemDisk, AllocError> {
 }
 
 /// The checkpoint that a crash of a disk by a rule leaves.
-fn left(alloc: Global, disk: &MemDisk, mut rule: Rule) -> Result<Option<u64>, AllocError> {
+pub(crate) fn left(
+    alloc: Global,
+    disk: &MemDisk,
+    mut rule: Rule,
+) -> Result<Option<u64>, AllocError> {
     let mut crashed = disk.crash(alloc, &mut rule)?;
     let newest = match scan(alloc, &mut crashed) {
         Ok(catalog) => {

@@ -90,6 +90,13 @@ fn put_file(file: &mut Vec<u8>, image: &Image) -> Result<(), AllocError> {
     file.extend_from_slice(text)
 }
 
+/// The file of an image.
+pub(crate) fn image_file(alloc: Global, image: &Image) -> Result<Vec<u8>, AllocError> {
+    let mut file = vec![in alloc; 0xA5; 1]?;
+    put_file(&mut file, image)?;
+    Ok(file)
+}
+
 /// Writes the file of an image into a slot. Returns whether it is written.
 fn put_image(
     alloc: Global,
@@ -97,8 +104,7 @@ fn put_image(
     slot: usize,
     image: &Image,
 ) -> Result<bool, AllocError> {
-    let mut file = vec![in alloc; 0xA5; 1]?;
-    put_file(&mut file, image)?;
+    let file = image_file(alloc, image)?;
     let may_write = slot < disk.slots() && !file.is_empty();
     Ok(may_write && disk.write_at(slot, 0, &file).is_ok())
 }

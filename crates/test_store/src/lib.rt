@@ -24,6 +24,8 @@ mod picks;
 #[cfg(test)]
 mod plans;
 #[cfg(test)]
+mod receipts;
+#[cfg(test)]
 mod relays;
 #[cfg(test)]
 mod steps;

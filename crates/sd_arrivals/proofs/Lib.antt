@@ -1,0 +1,2 @@
+pub mod ArrivalLemmas
+pub mod ReceivedLemmas

@@ -1,0 +1,279 @@
+//! A store that receives a stream, image by image.
+ghost use Rattle.std.specs.Prelude.{◌≡◌, ◌≢◌, ◌<◌, ◌≤◌, ◌^◌, ℕ, true, List, All, Contains, Option, Some, length, map};
+ghost use Rattle.std.specs.Prelude.{IfOk, IfSome, OnOk};
+ghost use Rattle.std.specs.Borrow.{Bor};
+ghost use Rattle.sd_areas.specs.PlainMemory.{PlainMemory};
+ghost use Rattle.sd_disk.specs.Reads.{OnlyReads};
+ghost use Rattle.sd_image.specs.declared.header.Kind.TheVariants.{PreDump};
+ghost use Rattle.sd_image.specs.Header.{IsHeader};
+ghost use Rattle.sd_image.specs.Shows.{Shows};
+ghost use Rattle.sd_image.specs.Table.{IsTable, listing_of};
+ghost use Rattle.sd_chain.specs.Catalog.{Opened, images};
+ghost use Rattle.sd_chain.specs.Store.{IsCatalogOf};
+ghost use Rattle.sd_chain.specs.Ways.{AreImages};
+ghost use Rattle.sd_receive.specs.Arrived.{AddsImage, IsReady, Receives, opened_with};
+ghost use Rattle.sd_receive.specs.declared.receiver.Received.TheVariants as received;
+
+use crate::arrived::{Arrived, arrive};
+use crate::arriving::open_gate;
+use crate::receive_error::ReceiveError;
+use crate::settling::settle;
+use crate::taking::take_header;
+use sd_chain::{Catalog, CatalogError, OpenImage, PlacedTable};
+use sd_disk::Disk;
+use sd_image::{Header, Kind};
+use sd_restore::{Fault, place_newest, scan};
+use sd_stream::{Item, StreamReader};
+use std::alloc::{AllocError, Global};
+use std::io::Read;
+
+/// What was received.
+#[derive(Clone, Copy, PartialEq, Eq)]
+pub enum Received {
+    /// A pre-dump, which shows nothing by itself.
+    PreDump,
+    /// The checkpoint of this number, which is durable.
+    Checkpoint(u64),
+    /// The stream to its end.
+    End,
+}
+
+/// Takes the images of a stream into a store, one by one.
+#[derive(Drop)]
+pub struct Receiver<R> {
+    reader: StreamReader<R>,
+    /// The images of the store.
+    catalog: Catalog,
+    /// The checkpoint that was acknowledged last, or 0.
+    last: u64,
+}
+
+/// Whether none of these images stands in a slot.
+fn is_free(images: &[&OpenImage], slot: usize) -> bool
+    ensures { result ≡ true → All (λ (i : Bor Opened). i.now.slot ≢ slot) images.now }
+{
+    for image in images {
+        if image.slot() == slot {
+            return false;
+        }
+    }
+    true
+}
+
+/// The first of so many slots in which no image of a catalog stands.
+fn free_slot(catalog: &Catalog, slots: usize) -> Result<Option<usize>, AllocError>
+    ensures slot { IfOk result (λ found. IfSome found (λ slot. slot < slots)) }
+    ensures free { IfOk result (λ found. IfSome found (λ slot.
+        All (λ (i : Opened). i.slot ≢ slot) (images catalog.now))) }
+{
+    let images = catalog.list()?;
+    for slot in 0..slots {
+        if is_free(&images, slot) {
+            return Ok(Some(slot));
+        }
+    }
+    Ok(None)
+}
+
+/// Checks that the checkpoint of a dump or a merged image is the newest of a catalog that has it, and that each of its
+/// pages stands in an image.
+fn check_shown(alloc: Global, catalog: &Catalog, header: &Header) -> Result<(), ReceiveError>
+    requires { AreImages catalog.now }
+    ensures { header.now.kind ≢ PreDump → (contents : List (List ℕ)) → IsCatalogOf contents catalog.now
+        → OnOk result ((memory : PlainMemory) × Shows contents (Some (header.now.checkpoint, memory))) }
+{
+    if header.kind == Kind::PreDump {
+        return Ok(());
+    }
+    match place_newest(alloc, catalog) {
+        Ok(placed) if placed.checkpoint == header.checkpoint => Ok(()),
+        Ok(_) | Err(Fault::EmptyChain | Fault::Damaged { .. }) => {
+            Err(ReceiveError::LacksPages(header.checkpoint))
+        }
+        Err(fault) => Err(ReceiveError::Fault(fault)),
+    }
+}
+
+/// Adds an image that arrived to a catalog, and gives the bytes of its table back.
+fn add(
+    alloc: Global,
+    catalog: &mut Catalog,
+    slot: usize,
+    header: Header,
+    arrived: Arrived,
+) -> Result<Vec<u8>, ReceiveError>
+    ensures adds { OnOk result (AddsImage catalog.old catalog.new (opened_with slot header arrived)) }
+    ensures images { AreImages catalog.old → header.parent < header.stands_for
+        → IsTable header (map listing_of arrived.table.spaces.items) → OnOk result (AreImages catalog.new) }
+    ensures bytes { IfOk result (λ bytes. bytes ≡ arrived.bytes) }
+{
+    let Arrived { bytes, table } = arrived;
+    let placed = PlacedTable::new(alloc, table)?;
+    match catalog.add(slot, header, placed) {
+        Ok(()) => Ok(bytes),
+        Err(CatalogError::DoubleSerial) => Err(ReceiveError::Serial(header.serial)),
+        Err(CatalogError::OutOfMemory) => Err(ReceiveError::Fault(Fault::OutOfMemory)),
+    }
+}
+
+/// What is received with an image.
+fn received_with(header: &Header) -> Received
+    ensures pre_dump { header.now.kind ≡ PreDump → result ≡ received.PreDump }
+    ensures dump { header.now.kind ≢ PreDump → result ≡ received.Checkpoint header.now.checkpoint }
+{
+    match header.kind {
+        Kind::PreDump => Received::PreDump,
+        Kind::Dump | Kind::Merged => Received::Checkpoint(header.checkpoint),
+    }
+}
+
+impl<R: Read> Receiver<R> {
+    /// Makes a store ready for what a stream still has: each slot is synced, and read.
+    ///
+    /// # Errors
+    ///
+    /// Those of a scan of the store.
+    pub fn begin<D: Disk>(
+        alloc: Global,
+        disk: &mut D,
+        reader: StreamReader<R>,
+    ) -> Result<Receiver<R>, Fault>
+    where
+        R: Drop,
+        ensures ready { D.is_honest disk.new → IfOk result (λ receiver.
+            IsReady (D.contents disk.new) (D.may_leave disk.new) receiver.catalog) }
+        ensures images { IfOk result (λ receiver. AreImages receiver.catalog) }
+        ensures reader { IfOk result (λ receiver. receiver.reader ≡ reader) }
+        ensures reads { OnlyReads D.Disk disk.old disk.new }
+    {
+        settle(disk)?;
+        let catalog = scan(alloc, disk)?;
+        Ok(Receiver {
+            reader,
+            catalog,
+            last: 0,
+        })
+    }
+
+    /// Reads the header of an image of so many bytes, and chooses one of so many slots for it.
+    fn choose(&mut self, slots: usize, len: u64) -> Result<(usize, Header), ReceiveError>
+        ensures catalog { self.new.catalog ≡ self.old.catalog }
+        ensures header { IfOk result (λ chosen. IsHeader chosen.1 len) }
+        ensures few { IfOk result (λ chosen. chosen.1.pages ≤ 2 ^ 39) }
+        ensures slot { IfOk result (λ chosen. chosen.0 < slots) }
+        ensures free { IfOk result (λ chosen.
+            All (λ (i : Opened). i.slot ≢ chosen.0) (images self.old.catalog)) }
+        ensures under { IfOk result (λ chosen. (j : Opened) → Contains (images self.old.catalog) j
+            → j.header.serial < chosen.1.serial) }
+    {
+        let header = take_header(&mut self.reader, len)?;
+        if header.serial <= self.catalog.greatest_serial() {
+            return Err(ReceiveError::Serial(header.serial));
+        }
+        match free_slot(&self.catalog, slots)? {
+            Some(slot) => Ok((slot, header)),
+            None => Err(ReceiveError::NoSlot),
+        }
+    }
+
+    /// Reads that the checkpoint of a dump or a merged image is acknowledged.
+    fn take_acknowledged(&mut self, header: &Header) -> Result<(), ReceiveError>
+        ensures catalog { self.new.catalog ≡ self.old.catalog }
+        ensures last { header.now.kind ≢ PreDump
+            → OnOk result (self.new.last ≡ header.now.checkpoint) }
+    {
+        if header.kind == Kind::PreDump {
+            return Ok(());
+        }
+        match self.reader.next()? {
+            Item::Acknowledged(number) if number == header.checkpoint => {
+                self.last = number;
+                Ok(())
+            }
+            _ => Err(ReceiveError::Unacknowledged(header.checkpoint)),
+        }
+    }
+
+    /// Adds an image that arrived in a slot to the catalog. Of a dump or a merged image the checkpoint is acknowledged,
+    /// and all its pages are there. It gives the bytes of the table back.
+    fn prepare(
+        &mut self,
+        alloc: Global,
+        slot: usize,
+        header: Header,
+        arrived: Arrived,
+    ) -> Result<Vec<u8>, ReceiveError>
+        requires images { AreImages self.old.catalog }
+        requires falls { header.parent < header.stands_for }
+        requires table { IsTable header (map listing_of arrived.table.spaces.items) }
+        ensures adds { OnOk result
+            (AddsImage self.old.catalog self.new.catalog (opened_with slot header arrived)) }
+        ensures images { OnOk result (AreImages self.new.catalog) }
+        ensures last { header.kind ≢ PreDump → OnOk result (self.new.last ≡ header.checkpoint) }
+        ensures shown { header.kind ≢ PreDump → (contents : List (List ℕ))
+            → IsCatalogOf contents self.new.catalog → OnOk result ((memory : PlainMemory)
+            × Shows contents (Some (header.checkpoint, memory))) }
+        ensures bytes { IfOk result (λ bytes. bytes ≡ arrived.bytes) }
+    {
+        self.take_acknowledged(&header)?;
+        let bytes = add(alloc, &mut self.catalog, slot, header, arrived)?;
+        check_shown(alloc, &self.catalog, &header)?;
+        Ok(bytes)
+    }
+
+    /// Takes an image of so many bytes into a free slot.
+    fn take_image<D: Disk>(
+        &mut self,
+        alloc: Global,
+        disk: &mut D,
+        len: u64,
+    ) -> Result<Received, ReceiveError>
+        requires { AreImages self.old.catalog }
+        ensures keeps { D.is_honest disk.new
+            → IsReady (D.contents disk.old) (D.may_leave disk.old) self.old.catalog
+            → (shown : Option (ℕ × PlainMemory)) → Shows (D.contents disk.old) shown
+            → (memory : PlainMemory) × Receives D.Disk disk.old disk.new shown self.new.last memory result }
+        ensures ready { D.is_honest disk.new
+            → IsReady (D.contents disk.old) (D.may_leave disk.old) self.old.catalog
+            → OnOk result (IsReady (D.contents disk.new) (D.may_leave disk.new) self.new.catalog) }
+        ensures images { OnOk result (AreImages self.new.catalog) }
+        ensures honest { D.is_honest disk.new → D.is_honest disk.old }
+    {
+        self.catalog.sound();
+        self.catalog.has_the_images();
+        let (slot, header) = self.choose(disk.slots(), len)?;
+        let arrived = arrive(alloc, disk, slot, &header, &mut self.reader)?;
+        let bytes = self.prepare(alloc, slot, header, arrived)?;
+        open_gate(disk, slot, header, bytes)?;
+        Ok(received_with(&header))
+    }
+
+    /// Receives the next image into a slot that has none. A pre-dump is there once this is done. A dump or a merged
+    /// image is received where the stream acknowledges its checkpoint and all its pages are there. No gate is opened
+    /// before the header, the table and the digest of the image were checked.
+    ///
+    /// # Errors
+    ///
+    /// `Stream`; `Image`, `Closed`, `Serial`, `Unacknowledged`, `WithoutDump` and `LacksPages` where an image is
+    /// refused; `NoSlot`; `Fault`. After an error nothing more is received.
+    pub fn next<D: Disk>(&mut self, alloc: Global, disk: &mut D) -> Result<Received, ReceiveError>
+        requires { AreImages self.old.catalog }
+        // At each moment a crash leaves what was shown, or the checkpoint that was acknowledged last; once it is
+        // received, that.
+        ensures keeps { D.is_honest disk.new
+            → IsReady (D.contents disk.old) (D.may_leave disk.old) self.old.catalog
+            → (shown : Option (ℕ × PlainMemory)) → Shows (D.contents disk.old) shown
+            → (memory : PlainMemory) × Receives D.Disk disk.old disk.new shown self.new.last memory result }
+        ensures ready { D.is_honest disk.new
+            → IsReady (D.contents disk.old) (D.may_leave disk.old) self.old.catalog
+            → OnOk result (IsReady (D.contents disk.new) (D.may_leave disk.new) self.new.catalog) }
+        ensures images { OnOk result (AreImages self.new.catalog) }
+        ensures honest { D.is_honest disk.new → D.is_honest disk.old }
+    {
+        match self.reader.next()? {
+            Item::Image(len) => self.take_image(alloc, disk, len),
+            Item::Acknowledged(number) => Err(ReceiveError::WithoutDump(number)),
+            Item::End => Ok(Received::End),
+        }
+    }
+}

@@ -1,0 +1,203 @@
+# A stream of `ckpt send`, taken into another store by `ckpt receive`: what was received is there, and stays.
+
+# A store whose second checkpoint has two rounds, so that pre-dumps arrive too.
+make_sender() {  # make_sender DIR
+  printf '%s\n' 'mmap 1 0x10000 8192 rw' 'store 1 0x10000 61' 'checkpoint 0' 'store 1 0x11000 62' 'checkpoint 2' \
+    'store 1 0x10000 63' 'checkpoint 0' > script
+  "$ckpt" run "$1" script > made || { cat made; return 1; }
+  same "the run" "$(grep -c acked made)" 3
+}
+
+# Whether a store is in order, and what it shows.
+shown() {  # shown DIR
+  "$ckpt" verify -q "$1" | cut -d ' ' -f 1-3
+  "$ckpt" restore -q "$1"
+}
+
+# A store with the checkpoint that follows checkpoint 3, and its increment in a file.
+make_more() {  # make_more DIR
+  printf '%s\n' 'store 1 0x11000 64' 'checkpoint 1' 'store 1 0x10000 65' 'checkpoint 0' > script
+  "$ckpt" run "$1" script > made || { cat made; return 1; }
+  "$ckpt" send -q --since 3 "$1" > more
+}
+
+a_stream_is_received() {
+  make_sender store || return 1
+  "$ckpt" send -q store > stream || return 1
+  ends_with 0 "received 1
+received 2
+received 3" "" "$ckpt" receive other < stream || return 1
+  same "the memory" "$(shown other)" "$(shown store)" || return 1
+  for checkpoint in 1 2; do
+    same "checkpoint $checkpoint" "$("$ckpt" restore --checkpoint $checkpoint other)" \
+      "$("$ckpt" restore --checkpoint $checkpoint store)" || return 1
+  done
+  same "the tip" "$("$ckpt" receive --tip other)" "tip 3 $("$ckpt" restore store | sha256sum | cut -d ' ' -f 1)"
+}
+
+what_came_since_is_received() {
+  make_sender store || return 1
+  "$ckpt" send -q store | "$ckpt" receive other > out || return 1
+  make_more store || return 1
+  ends_with 0 "received 4
+received 5" "" "$ckpt" receive other < more || return 1
+  same "the memory" "$(shown other)" "$(shown store)" || return 1
+  ends_with 1 "base differs: other shows 5, the stream begins at 3" "" "$ckpt" receive other < more || return 1
+  same "nothing new" "$("$ckpt" send -q --since 5 store | "$ckpt" receive other)" "" || return 1
+  same "the memory" "$(shown other)" "$(shown store)"
+}
+
+a_merged_store_is_received() {
+  make_sender store || return 1
+  "$ckpt" send -q store | "$ckpt" receive other > out || return 1
+  "$ckpt" merge store > out || return 1
+  make_more store || return 1
+  same "the increment" "$("$ckpt" receive other < more)" "received 4
+received 5" || return 1
+  same "the whole" "$("$ckpt" send -q store | "$ckpt" receive third | tail -n 1)" "received 5" || return 1
+  same "the memory" "$(shown other)" "$(shown store)" || return 1
+  same "the memory" "$(shown third)" "$(shown store)"
+}
+
+other_bases_are_refused() {
+  make_sender store || return 1
+  make_more store || return 1
+  "$ckpt" send -q store > stream
+  printf '%s\n' 'mmap 1 0x10000 4096 rw' 'store 1 0x10000 61' 'checkpoint 0' 'checkpoint 0' 'checkpoint 0' > script
+  "$ckpt" run other script > made || { cat made; return 1; }
+  local files
+  files=$(sums other)
+  ends_with 1 "base differs: other shows another memory at 3, the stream begins at 3" "" "$ckpt" receive other < more \
+    || return 1
+  ends_with 1 "base differs: other shows 3, the stream begins with a whole image" "" "$ckpt" receive other < stream \
+    || return 1
+  ends_with 1 "base differs: empty shows no checkpoint, the stream begins at 3" "" "$ckpt" receive empty < more \
+    || return 1
+  same "the files" "$(sums other)" "$files" || return 1
+  ends_with 3 "empty chain" "" "$ckpt" receive -q --tip empty || return 1
+  "$ckpt" send -q store | "$ckpt" receive third > out || return 1
+  "$ckpt" merge third > out || return 1
+  printf '%s\n' 'checkpoint 0' > script
+  "$ckpt" run store script > out || return 1
+  "$ckpt" send -q --since 5 store > more
+  files=$(sums third)
+  ends_with 1 "damaged stream serial 9 isn't above those of the store" "" "$ckpt" receive third < more || return 1
+  same "the files" "$(sums third)" "$files"
+}
+
+# What stands in a store after a stream was refused is a checkpoint of the sender, and the one that was printed last.
+is_of_the_sender() {  # is_of_the_sender STORE OUT
+  local last
+  last=$(grep received "$2" | tail -n 1 | cut -d ' ' -f 2)
+  [ -n "$last" ] || { same "nothing" "$("$ckpt" verify -q "$1")" "ok empty"; return; }
+  same "the verdict" "$("$ckpt" verify -q "$1" | cut -d ' ' -f 1-3)" "ok checkpoint $last" || return 1
+  same "the memory" "$("$ckpt" restore "$1")" "$("$ckpt" restore --checkpoint "$last" store)"
+}
+
+a_stream_that_is_cut_keeps_what_arrived() {
+  make_sender store || return 1
+  "$ckpt" send -q store > stream
+  local len at
+  len=$(stat -c %s stream)
+  for at in 0 55 72 4000 8344 8360 8376 $((RANDOM % len)) $((RANDOM % len)) $((len - 32)) $((len - 1)); do
+    rm -rf other
+    head -c "$at" stream | "$ckpt" receive other > out
+    same "the status at $at" $? 1 || return 1
+    same "the last line at $at" "$(tail -n 1 out)" "stream ends early" || return 1
+    is_of_the_sender other out || { echo "at $at"; return 1; }
+    # A stream that goes on from there is taken.
+    last=$(grep received out | tail -n 1 | cut -d ' ' -f 2)
+    "$ckpt" send -q ${last:+--since "$last"} store | "$ckpt" receive other > rest || { cat rest; echo "at $at"; return 1; }
+    same "the memory at $at" "$(shown other)" "$(shown store)" || return 1
+  done
+}
+
+a_changed_byte_is_refused() {
+  needs_python || return
+  make_sender store || return 1
+  "$ckpt" send -q store > stream
+  local len at
+  len=$(stat -c %s stream)
+  for at in 0 8 16 24 56 64 72 80 88 100 136 168 4200 8300 8350 8360 8370 $((RANDOM % len)) $((RANDOM % len)) \
+    $((len - 48)) $((len - 1)); do
+    rm -rf other
+    python3 -c "import sys; b = bytearray(open('stream', 'rb').read()); b[$at] ^= 1; sys.stdout.buffer.write(b)" > bad
+    "$ckpt" receive other < bad > out 2> err
+    same "the status at $at" $? 1 || return 1
+    grep -qE "^(damaged stream |stream ends early|base differs)" out || { cat out; echo "at $at"; return 1; }
+    is_of_the_sender other out || { echo "at $at"; return 1; }
+  done
+}
+
+a_killed_receiver_keeps_what_it_printed() {
+  make_sender store || return 1
+  "$ckpt" send -q store > stream
+  local turn last
+  for turn in $(seq 1 20); do
+    rm -rf other
+    { cat stream; sleep 1; } | "$ckpt" receive other > out 2> err &
+    sleep 0.0$((RANDOM % 5))$((RANDOM % 10))
+    kill -9 $! 2> /dev/null
+    wait $! 2> /dev/null
+    last=$(grep received out | tail -n 1 | cut -d ' ' -f 2)
+    case $("$ckpt" verify -q other 2> err | cut -d ' ' -f 1-3) in
+      "ok checkpoint "*) ;;
+      "ok empty" | "" | "cannot open DIR") [ -z "$last" ] || { echo "nothing after received $last"; return 1; }; continue ;;
+      *) "$ckpt" verify other; return 1 ;;
+    esac
+    "$ckpt" verify -q --at-least "${last:-1}" other > verdict || { cat verdict; return 1; }
+    last=$("$ckpt" receive --tip other | cut -d ' ' -f 2)
+    same "the memory" "$("$ckpt" restore other)" "$("$ckpt" restore --checkpoint "$last" store)" || return 1
+  done
+}
+
+a_damaged_store_takes_nothing() {
+  make_sender store || return 1
+  "$ckpt" send -q store | "$ckpt" receive other > out || return 1
+  make_more store || return 1
+  cp other/img-000 other/img-063
+  "$ckpt" receive other < more > out
+  same "a serial that stands twice" "$(cat out)" "damaged 063 19"
+}
+
+# A store whose 64 slots all have an image that the newest checkpoint needs.
+no_slot_is_left() {
+  { echo 'mmap 1 0x10000 4096 rw'; for i in $(seq 1 63); do echo 'checkpoint 0'; done; } > script
+  "$ckpt" run store script > made
+  same "the run" "$(grep -c acked made)" 63 || return 1
+  "$ckpt" send -q store | "$ckpt" receive other > out || { tail -n 1 out; return 1; }
+  "$ckpt" merge store > out || return 1
+  printf '%s\n' 'checkpoint 0' 'checkpoint 0' > script
+  "$ckpt" run store script > out || return 1
+  "$ckpt" send -q --since 63 store > more || return 1
+  ends_with 1 "received 64
+no-slot" "" "$ckpt" receive other < more || return 1
+  same "the verdict" "$("$ckpt" verify other)" "ok checkpoint 64 images 64"
+}
+
+a_locked_store_is_refused() {
+  command -v flock > /dev/null || { echo "needs flock"; return 77; }
+  make_sender store || return 1
+  "$ckpt" send -q store > stream
+  mkfifo words
+  "$ckpt" shell other < words > out &
+  exec 9> words
+  sleep 0.3
+  same "the status" "$(ends "$ckpt" receive other < stream)" 1 || return 1
+  same "the line" "$(cat out)" "cannot open DIR"
+  local was=$?
+  exec 9>&-
+  wait
+  return $was
+}
+
+try a_stream_is_received
+try what_came_since_is_received
+try a_merged_store_is_received
+try other_bases_are_refused
+try a_stream_that_is_cut_keeps_what_arrived
+try a_changed_byte_is_refused
+try a_killed_receiver_keeps_what_it_printed
+try a_damaged_store_takes_nothing
+try no_slot_is_left
+try a_locked_store_is_refused
