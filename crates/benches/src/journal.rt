@@ -20,20 +20,22 @@ fn entry(alloc: Global, number: u64) -> Result<Entry, AllocError> {
 }
 
 /// Adds stores to a journal until it is full.
-fn fill(alloc: Global) -> Result<u64, AllocError> {
-    let mut journal = Journal::new(alloc);
+fn fill(alloc: Global, journal: &mut Journal) -> Result<(), AllocError> {
     for number in 0..u64::MAX {
         if journal.free() == 0 {
-            break;
+            return Ok(());
         }
         journal.reserve()?;
         journal.append(entry(alloc, number)?);
     }
-    Ok(journal.next_number())
+    Ok(())
 }
 
 /// Fills a journal, and says how many entries it has.
-pub(crate) fn timed(alloc: Global) -> Result<Ended, AllocError> {
-    let count = fill(alloc)?;
-    Ok(Ended::Done(format!(in alloc; "{count} entries")?))
+pub(crate) fn timed(alloc: Global) -> Ended {
+    let mut journal = Journal::new(alloc);
+    match fill(alloc, &mut journal) {
+        Ok(()) => Ended::Counted(journal.next_number(), "entries"),
+        Err(AllocError) => Ended::Failed("out of memory"),
+    }
 }

@@ -11,9 +11,9 @@ mod rounds;
 mod shared;
 mod world;
 
-use ended::{Ended, unnamed};
+use ended::Ended;
 use named::named;
-use std::alloc::{AllocError, Global};
+use std::alloc::Global;
 use std::io;
 use std::process::ExitCode;
 use std::sync::Wait;
@@ -21,8 +21,11 @@ use std::thread::Threads;
 use std::time::Clock;
 
 const USAGE: &str =
-    "usage: benches journal | memory CASE | restore CASE IMAGES | rounds CASE | shared CASE [N] | \
-    world SEED LISTS [figures] | all";
+    "usage: benches journal | memory CASE | restore copied|made|restored IMAGES | rounds CASE | \
+    shared calls|steps N | shared beside | world SEED LISTS [figures] | all
+IMAGES: 1 to 64
+CASE of memory: stores random loads words pages fork child ranges anew protects walk sparse sparse_walk
+CASE of rounds: made touched plain dumps digests walks emptied rounds";
 
 /// The exit status of a case that failed.
 const FAILED: u8 = 1;
@@ -34,7 +37,7 @@ const UNNAMED: u8 = 2;
 const ALL: &str = "all";
 
 /// A part of which calls are made.
-#[derive(Clone, Copy, PartialEq, Eq)]
+#[derive(Clone, Copy)]
 enum Part {
     Journal,
     Memory,
@@ -44,7 +47,7 @@ enum Part {
     World,
 }
 
-const PARTS: [(&str, Part); 6] = [
+const PARTS: &[(&str, Part)] = &[
     ("journal", Part::Journal),
     ("memory", Part::Memory),
     ("restore", Part::Restore),
@@ -66,24 +69,24 @@ fn number(words: &[String], place: usize) -> Option<u64> {
     word(words, place).parse::<u64>().ok()
 }
 
-/// Prints what is said of a case, on the standard error where it wasn't made. Returns the exit status.
-fn tell(rt: &(impl Print + Eprint), ended: Result<Ended, AllocError>) -> io::Result<u8> {
+/// Prints how a case ended, on the standard error where it wasn't made. Returns the exit status.
+fn tell(rt: &(impl Print + Eprint), ended: Ended) -> io::Result<u8> {
     match ended {
-        Ok(Ended::Done(told)) => {
-            println!(rt; "{told}")?;
+        Ended::Done => {
+            println!(rt; "done")?;
             Ok(0)
         }
-        Ok(Ended::Failed(why)) => {
+        Ended::Counted(count, things) => {
+            println!(rt; "{count} {things}")?;
+            Ok(0)
+        }
+        Ended::Failed(why) => {
             eprintln!(rt; "{why}")?;
             Ok(FAILED)
         }
-        Ok(Ended::Unnamed(usage)) => {
-            eprintln!(rt; "{usage}")?;
+        Ended::Unnamed => {
+            eprintln!(rt; "{USAGE}")?;
             Ok(UNNAMED)
-        }
-        Err(AllocError) => {
-            eprintln!(rt; "out of memory")?;
-            Ok(FAILED)
         }
     }
 }
@@ -97,35 +100,53 @@ fn each<R: Threads + Wait + Clock + Sync + Print + Eprint>(
     status = status.max(tell(rt, memory::timed(alloc, "child"))?);
     status = status.max(tell(rt, restore::timed(alloc, "restored", Some(30)))?);
     status = status.max(tell(rt, rounds::timed(alloc, "dumps"))?);
-    status = status.max(tell(rt, shared::timed(rt, alloc, "calls", Some(10)))?);
-    status = status.max(tell(rt, world::timed(alloc, 1, 10, false))?);
+    status = status.max(tell(rt, shared::counted(rt, alloc, "calls", Some(10)))?);
+    status = status.max(world::tell(rt, alloc, 1, 10, false)?);
     Ok(status)
 }
 
 /// Tries lists of events, where both numbers are there.
-fn tried(alloc: Global, words: &[String]) -> Result<Ended, AllocError> {
-    let (Some(seed), Some(lists)) = (number(words, 2), number(words, 3)) else {
-        return unnamed(alloc, USAGE);
-    };
-    world::timed(alloc, seed, lists, word(words, 4) == "figures")
+fn tried(rt: &(impl Print + Eprint), alloc: Global, words: &[String]) -> io::Result<u8> {
+    match (number(words, 2), number(words, 3)) {
+        (Some(seed), Some(lists)) => {
+            world::tell(rt, alloc, seed, lists, word(words, 4) == "figures")
+        }
+        _ => tell(rt, Ended::Unnamed),
+    }
 }
 
-/// Makes the calls that the words name.
-fn timed<R: Threads + Wait + Clock + Sync>(
+/// Makes the calls of a part on threads: beside a checkpoint, or so many.
+fn on_threads<R: Threads + Wait + Clock + Sync + Print + Eprint>(
     rt: &R,
     alloc: Global,
     words: &[String],
-) -> Result<Ended, AllocError> {
-    let Some(part) = named(&PARTS, word(words, 1)) else {
-        return unnamed(alloc, USAGE);
+) -> io::Result<u8> {
+    if word(words, 2) == "beside" {
+        return shared::tell_beside(rt, alloc);
+    }
+    tell(
+        rt,
+        shared::counted(rt, alloc, word(words, 2), number(words, 3)),
+    )
+}
+
+/// Makes the calls that the words name.
+fn timed<R: Threads + Wait + Clock + Sync + Print + Eprint>(
+    rt: &R,
+    alloc: Global,
+    words: &[String],
+) -> io::Result<u8> {
+    let Some(part) = named(PARTS, word(words, 1)) else {
+        return tell(rt, Ended::Unnamed);
     };
+    let case = word(words, 2);
     match part {
-        Part::Journal => journal::timed(alloc),
-        Part::Memory => memory::timed(alloc, word(words, 2)),
-        Part::Restore => restore::timed(alloc, word(words, 2), number(words, 3)),
-        Part::Rounds => rounds::timed(alloc, word(words, 2)),
-        Part::Shared => shared::timed(rt, alloc, word(words, 2), number(words, 3)),
-        Part::World => tried(alloc, words),
+        Part::Journal => tell(rt, journal::timed(alloc)),
+        Part::Memory => tell(rt, memory::timed(alloc, case)),
+        Part::Restore => tell(rt, restore::timed(alloc, case, number(words, 3))),
+        Part::Rounds => tell(rt, rounds::timed(alloc, case)),
+        Part::Shared => on_threads(rt, alloc, words),
+        Part::World => tried(rt, alloc, words),
     }
 }
 
@@ -135,7 +156,7 @@ fn main(rt: HostRuntime) -> io::Result<ExitCode> {
     let status = if word(&words, 1) == ALL {
         each(&rt, alloc)?
     } else {
-        tell(&rt, timed(&rt, alloc, &words))?
+        timed(&rt, alloc, &words)?
     };
     Ok(ExitCode::from(status))
 }

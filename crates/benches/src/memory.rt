@@ -1,9 +1,9 @@
 //! Many calls on a memory.
-use crate::ended::{Ended, done, unnamed};
+use crate::ended::{Ended, made};
 use crate::named::named;
 use sd_areas::{PageNo, Prot, SpaceId};
-use sd_pagetable::{Memory, MemoryError};
-use std::alloc::{AllocError, Global};
+use sd_pagetable::Memory;
+use std::alloc::Global;
 
 /// How many stores, loads or words are asked for.
 const CALLS: u64 = 1_000_000;
@@ -37,42 +37,62 @@ const READ_WRITE: Prot = Prot {
     execute: false,
 };
 
-/// What is done.
+/// What is done, over a memory with one space, or over what was done before.
 #[derive(Clone, Copy)]
-enum Case {
-    Stores,
-    Random,
-    Loads,
-    Words,
-    Pages,
+enum Step {
+    /// Maps so many pages, from address 0 on.
+    Map(u64),
+    /// Stores so many times into the pages of a space, over so many pages in turn.
+    Store(u64, u64, u64),
+    /// Stores to pages in random order.
+    RandomStores,
+    /// Loads from pages in random order.
+    RandomLoads,
+    /// The words of pages in random order.
+    RandomWords,
     Fork,
-    Child,
+    /// Maps all pages at once and unmaps them, some times.
     Ranges,
+    /// Maps all pages at once, and anew, some times.
     Anew,
+    /// Protects all pages at once, some times.
     Protects,
+    /// Walks over as many pages as can be mapped, some times.
     Walk,
+    /// Makes spaces, each of lone pages.
     Sparse,
-    SparseWalk,
 }
 
-const CASES: [(&str, Case); 13] = [
-    ("stores", Case::Stores),
-    ("random", Case::Random),
-    ("loads", Case::Loads),
-    ("words", Case::Words),
-    ("pages", Case::Pages),
-    ("fork", Case::Fork),
-    ("child", Case::Child),
-    ("ranges", Case::Ranges),
-    ("anew", Case::Anew),
-    ("protects", Case::Protects),
-    ("walk", Case::Walk),
-    ("sparse", Case::Sparse),
-    ("sparse_walk", Case::SparseWalk),
+/// What the cases do.
+const CASES: &[(&str, &[Step])] = &[
+    (
+        "stores",
+        &[Step::Map(FEW_PAGES), Step::Store(1, CALLS, FEW_PAGES)],
+    ),
+    ("random", &[Step::Map(ALL_PAGES), Step::RandomStores]),
+    ("loads", &[Step::Map(ALL_PAGES), Step::RandomLoads]),
+    ("words", &[Step::Map(ALL_PAGES), Step::RandomWords]),
+    ("pages", &[Step::Map(MANY_PAGES), STORE_EACH]),
+    ("fork", &[Step::Map(MANY_PAGES), STORE_EACH, Step::Fork]),
+    (
+        "child",
+        &[
+            Step::Map(MANY_PAGES),
+            STORE_EACH,
+            Step::Fork,
+            Step::Store(2, MANY_PAGES, MANY_PAGES),
+        ],
+    ),
+    ("ranges", &[Step::Ranges]),
+    ("anew", &[Step::Anew]),
+    ("protects", &[Step::Map(ALL_PAGES), Step::Protects]),
+    ("walk", &[Step::Map(ALL_PAGES), Step::Walk]),
+    ("sparse", &[Step::Sparse]),
+    ("sparse_walk", &[Step::Sparse, Step::Walk]),
 ];
 
-const USAGE: &str =
-    "usage: benches memory stores|random|loads|words|pages|fork|child|ranges|anew|protects|walk|sparse|sparse_walk";
+/// A store to each of many pages.
+const STORE_EACH: Step = Step::Store(1, MANY_PAGES, MANY_PAGES);
 
 /// The one space that a memory begins with.
 fn first_space() -> SpaceId {
@@ -80,41 +100,28 @@ fn first_space() -> SpaceId {
 }
 
 /// Maps so many pages, from address 0 on.
-fn map(memory: &mut Memory, pages: u64) -> Result<(), MemoryError> {
-    memory.mmap(first_space(), 0, pages.saturating_mul(4096), READ_WRITE)
+fn map(memory: &mut Memory, pages: u64) -> bool {
+    memory
+        .mmap(first_space(), 0, pages.saturating_mul(4096), READ_WRITE)
+        .is_ok()
+}
+
+/// Stores a few bytes at an address.
+fn store_at(memory: &mut Memory, space: SpaceId, address: u64) -> bool {
+    memory
+        .store_now(space, address, &[1, 2, 3, 4, 5, 6, 7, 8])
+        .is_ok()
 }
 
 /// Stores so many times, over so many pages in turn.
-fn store(memory: &mut Memory, space: SpaceId, count: u64, pages: u64) -> Result<(), MemoryError> {
+fn store(memory: &mut Memory, space: u64, count: u64, pages: u64) -> bool {
     for turn in 0..count {
         let page = turn.checked_rem(pages).unwrap_or(0);
-        memory.store_now(space, page.saturating_mul(4096), &[1, 2, 3, 4, 5, 6, 7, 8])?;
+        if !store_at(memory, SpaceId::new(space), page.saturating_mul(4096)) {
+            return false;
+        }
     }
-    Ok(())
-}
-
-/// Many stores over few pages.
-fn stores(memory: &mut Memory) -> Result<(), MemoryError> {
-    map(memory, FEW_PAGES)?;
-    store(memory, first_space(), CALLS, FEW_PAGES)
-}
-
-/// A store to each of many pages.
-fn pages(memory: &mut Memory) -> Result<(), MemoryError> {
-    map(memory, MANY_PAGES)?;
-    store(memory, first_space(), MANY_PAGES, MANY_PAGES)
-}
-
-/// A store to each of many pages, and then a fork. Returns the child.
-fn fork(memory: &mut Memory) -> Result<SpaceId, MemoryError> {
-    pages(memory)?;
-    memory.fork(first_space())
-}
-
-/// A store to each of many pages, a fork, and then a store to each page of the child.
-fn child(memory: &mut Memory) -> Result<(), MemoryError> {
-    let child = fork(memory)?;
-    store(memory, child, MANY_PAGES, MANY_PAGES)
+    true
 }
 
 /// The first address of one of all the pages, at random.
@@ -126,153 +133,143 @@ fn by_chance(seed: &mut u64) -> u64 {
 }
 
 /// Stores to pages in random order.
-fn random_stores(memory: &mut Memory) -> Result<(), MemoryError> {
-    map(memory, ALL_PAGES)?;
+fn random_stores(memory: &mut Memory) -> bool {
     let mut seed = 1;
     for _ in 0..CALLS {
-        let address = by_chance(&mut seed);
-        memory.store_now(first_space(), address, &[1, 2, 3, 4, 5, 6, 7, 8])?;
+        if !store_at(memory, first_space(), by_chance(&mut seed)) {
+            return false;
+        }
     }
-    Ok(())
+    true
 }
 
 /// Loads from pages in random order, none of which has a frame.
-fn random_loads(memory: &mut Memory) -> Result<(), MemoryError> {
-    map(memory, ALL_PAGES)?;
+fn random_loads(memory: &Memory) -> bool {
     let mut seed = 1;
     let mut buffer = [0; 8];
     for _ in 0..CALLS {
-        memory.load(first_space(), by_chance(&mut seed), &mut buffer)?;
+        if memory
+            .load(first_space(), by_chance(&mut seed), &mut buffer)
+            .is_err()
+        {
+            return false;
+        }
     }
-    Ok(())
+    true
 }
 
 /// The words of pages in random order.
-fn random_words(memory: &mut Memory) -> Result<(), MemoryError> {
-    map(memory, ALL_PAGES)?;
+fn random_words(memory: &Memory) -> bool {
     let mut seed = 1;
     for _ in 0..CALLS {
-        let number = by_chance(&mut seed) / 4096;
-        if let Some(page) = PageNo::new(number) {
+        if let Some(page) = PageNo::new(by_chance(&mut seed) / 4096) {
             let _word = memory.word(first_space(), page);
         }
     }
-    Ok(())
+    true
 }
 
-/// Maps all pages at once and unmaps them, some times.
-fn ranges(memory: &mut Memory) -> Result<(), MemoryError> {
-    for _ in 0..TURNS {
-        map(memory, ALL_PAGES)?;
-        memory.munmap(first_space(), 0, ALL_PAGES.saturating_mul(4096))?;
-    }
-    Ok(())
+/// Maps all pages at once and unmaps them.
+fn map_and_unmap(memory: &mut Memory) -> bool {
+    map(memory, ALL_PAGES)
+        && memory
+            .munmap(first_space(), 0, ALL_PAGES.saturating_mul(4096))
+            .is_ok()
 }
 
-/// Maps all pages at once, and anew, some times.
-fn anew(memory: &mut Memory) -> Result<(), MemoryError> {
-    for _ in 0..TURNS {
-        map(memory, ALL_PAGES)?;
-    }
-    Ok(())
-}
-
-/// Protects all pages at once, some times.
-fn protects(memory: &mut Memory) -> Result<(), MemoryError> {
-    map(memory, ALL_PAGES)?;
-    let bytes = ALL_PAGES.saturating_mul(4096);
-    for _ in 0..TURNS {
-        memory.mprotect(first_space(), 0, bytes, READ_WRITE)?;
-    }
-    Ok(())
+/// Protects all pages at once.
+fn protect(memory: &mut Memory) -> bool {
+    memory
+        .mprotect(first_space(), 0, ALL_PAGES.saturating_mul(4096), READ_WRITE)
+        .is_ok()
 }
 
 /// Walks over all pages once.
-fn walk_once(memory: &Memory) {
+fn walk(memory: &Memory) -> bool {
     let mut after = None;
     for _ in 0..ALL_PAGES {
         after = memory.next_page(after);
     }
+    true
 }
 
-/// Walks over all pages, some times.
-fn walk_over(memory: &Memory) {
-    for _ in 0..TURNS {
-        walk_once(memory);
+/// Makes a call over all pages, as a step says.
+fn turn(memory: &mut Memory, step: Step) -> bool {
+    match step {
+        Step::Ranges => map_and_unmap(memory),
+        Step::Anew => map(memory, ALL_PAGES),
+        Step::Protects => protect(memory),
+        _ => walk(memory),
     }
 }
 
-/// A walk over all pages in one range.
-fn walk(memory: &mut Memory) -> Result<(), MemoryError> {
-    map(memory, ALL_PAGES)?;
-    walk_over(memory);
-    Ok(())
+/// Makes it some times.
+fn turns(memory: &mut Memory, step: Step) -> bool {
+    for _ in 0..TURNS {
+        if !turn(memory, step) {
+            return false;
+        }
+    }
+    true
 }
 
 /// Maps the lone pages of a space.
-fn map_lone(memory: &mut Memory, space: SpaceId) -> Result<(), MemoryError> {
+fn map_lone(memory: &mut Memory, space: SpaceId) -> bool {
     for page in 0..LONE_PAGES {
-        memory.mmap(space, page.saturating_mul(LONE_STEP), 4096, READ_WRITE)?;
+        if memory
+            .mmap(space, page.saturating_mul(LONE_STEP), 4096, READ_WRITE)
+            .is_err()
+        {
+            return false;
+        }
     }
-    Ok(())
+    true
 }
 
-/// Makes spaces without a page, beside the first.
-fn add_spaces(memory: &mut Memory) -> Result<(), MemoryError> {
+/// Makes spaces of lone pages.
+fn sparse(memory: &mut Memory) -> bool {
     for _ in 1..LONE_SPACES {
-        memory.fork(first_space())?;
+        let _child = memory.fork(first_space());
     }
-    Ok(())
-}
-
-/// Spaces of lone pages.
-fn sparse(memory: &mut Memory) -> Result<(), MemoryError> {
-    add_spaces(memory)?;
     for number in 1..LONE_SPACES + 1 {
-        map_lone(memory, SpaceId::new(number))?;
+        if !map_lone(memory, SpaceId::new(number)) {
+            return false;
+        }
     }
-    Ok(())
+    true
 }
 
-/// A walk over lone pages, as many steps as over all pages.
-fn sparse_walk(memory: &mut Memory) -> Result<(), MemoryError> {
-    sparse(memory)?;
-    walk_over(memory);
-    Ok(())
-}
-
-/// Makes the calls of a case on a memory without a page.
-fn act(memory: &mut Memory, case: Case) -> Result<(), MemoryError> {
-    match case {
-        Case::Stores => stores(memory),
-        Case::Random => random_stores(memory),
-        Case::Loads => random_loads(memory),
-        Case::Words => random_words(memory),
-        Case::Pages => pages(memory),
-        Case::Fork => fork(memory).map(|_child| ()),
-        Case::Child => child(memory),
-        Case::Ranges => ranges(memory),
-        Case::Anew => anew(memory),
-        Case::Protects => protects(memory),
-        Case::Walk => walk(memory),
-        Case::Sparse => sparse(memory),
-        Case::SparseWalk => sparse_walk(memory),
+/// Does what a step says.
+fn act(memory: &mut Memory, step: Step) -> bool {
+    match step {
+        Step::Map(pages) => map(memory, pages),
+        Step::Store(space, count, pages) => store(memory, space, count, pages),
+        Step::RandomStores => random_stores(memory),
+        Step::RandomLoads => random_loads(memory),
+        Step::RandomWords => random_words(memory),
+        Step::Fork => memory.fork(first_space()).is_ok(),
+        Step::Sparse => sparse(memory),
+        _ => turns(memory, step),
     }
 }
 
-/// Makes a memory, and the calls of a case on it.
-fn make(alloc: Global, case: Case) -> Result<(), MemoryError> {
-    let mut memory = Memory::new(alloc, FRAMES)?;
-    act(&mut memory, case)
+/// Does what the steps say, up to the first that fails.
+fn act_all(memory: &mut Memory, steps: &[Step]) -> bool {
+    for step in steps {
+        if !act(memory, *step) {
+            return false;
+        }
+    }
+    true
 }
 
 /// Makes the calls that a word names, and says how they ended.
-pub(crate) fn timed(alloc: Global, word: &str) -> Result<Ended, AllocError> {
-    let Some(case) = named(&CASES, word) else {
-        return unnamed(alloc, USAGE);
+pub(crate) fn timed(alloc: Global, word: &str) -> Ended {
+    let Some(steps) = named(CASES, word) else {
+        return Ended::Unnamed;
     };
-    match make(alloc, case) {
-        Ok(()) => done(alloc),
-        Err(error) => Ok(Ended::Failed(format!(in alloc; "{error}")?)),
+    match Memory::new(alloc, FRAMES) {
+        Ok(mut memory) => made(act_all(&mut memory, steps)),
+        Err(_) => made(false),
     }
 }

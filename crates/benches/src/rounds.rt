@@ -2,11 +2,11 @@
 mod bench;
 mod digest;
 
-use crate::ended::{Ended, done, unnamed};
+use crate::ended::{Ended, made};
 use crate::named::named;
-use bench::{Bench, BenchError};
+use bench::{Bench, copy_touched, empty_slot, look_up, touch, write};
 use digest::digest;
-use std::alloc::{AllocError, Global};
+use std::alloc::Global;
 
 /// How often a case is repeated.
 const TURNS: u64 = 20;
@@ -24,7 +24,7 @@ enum Case {
     Rounds,
 }
 
-const CASES: [(&str, Case); 8] = [
+const CASES: &[(&str, Case)] = &[
     ("made", Case::Made),
     ("touched", Case::Touched),
     ("plain", Case::Plain),
@@ -35,90 +35,48 @@ const CASES: [(&str, Case); 8] = [
     ("rounds", Case::Rounds),
 ];
 
-const USAGE: &str = "usage: benches rounds made|touched|plain|dumps|digests|walks|emptied|rounds";
-
-/// Touches pages, some times.
-fn touched(bench: &mut Bench) -> Result<(), BenchError> {
-    for _ in 0..TURNS {
-        bench.touch()?;
-    }
-    Ok(())
-}
-
-/// Touches pages, and reads and writes them, some times.
-fn plain(bench: &mut Bench) -> Result<(), BenchError> {
-    for _ in 0..TURNS {
-        bench.touch()?;
-        bench.copy_touched()?;
-    }
-    Ok(())
-}
-
-/// Touches pages, and makes a dump, some times.
-fn dumps(alloc: Global, bench: &mut Bench) -> Result<(), BenchError> {
-    for _ in 0..TURNS {
-        bench.touch()?;
-        bench.dump(Vec::new(alloc))?;
-    }
-    Ok(())
-}
-
-/// Looks all pages up, some times.
-fn walks(bench: &mut Bench) {
-    for _ in 0..TURNS + 1 {
-        bench.look_up();
-    }
-}
-
-/// Closes, cuts and opens a slot, as often as `rounds` does.
-fn emptied(bench: &mut Bench) -> Result<(), BenchError> {
-    for _ in 0..TURNS + 1 {
-        bench.empty_slot()?;
-    }
-    Ok(())
-}
-
-/// Makes rounds over clean pages, and a dump.
-fn rounds(alloc: Global, bench: &mut Bench) -> Result<(), BenchError> {
-    bench.dump(vec![in alloc; 0; TURNS as usize]?)
-}
-
-/// Digests as many bytes as a dump has, some times, and writes each digest.
-fn digests(bench: &mut Bench) -> Result<(), BenchError> {
-    for _ in 0..TURNS {
-        bench.write_first(&digest())?;
-    }
-    Ok(())
-}
-
-/// Does what a case says.
-fn act(alloc: Global, bench: &mut Bench, case: Case) -> Result<(), BenchError> {
+/// Does once what a case does some times. Returns whether it is done.
+fn turn(bench: &mut Bench, case: Case) -> bool {
     match case {
-        Case::Made => {}
-        Case::Touched => touched(bench)?,
-        Case::Plain => plain(bench)?,
-        Case::Dumps => dumps(alloc, bench)?,
-        Case::Digests => digests(bench)?,
-        Case::Walks => walks(bench),
-        Case::Emptied => emptied(bench)?,
-        Case::Rounds => rounds(alloc, bench)?,
+        Case::Touched => touch(&mut bench.memory),
+        Case::Plain => {
+            touch(&mut bench.memory)
+                && copy_touched(&bench.memory, &mut bench.disk, &mut bench.buffer)
+        }
+        Case::Dumps => touch(&mut bench.memory) && bench.dump(0),
+        Case::Digests => write(&mut bench.disk, 0, &digest()),
+        Case::Emptied => empty_slot(&mut bench.disk),
+        _ => look_up(&mut bench.memory),
     }
-    Ok(())
 }
 
-/// Makes a bench, and does what a case says.
-fn make(alloc: Global, case: Case) -> Result<(), BenchError> {
-    let mut bench = Bench::new(alloc)?;
-    act(alloc, &mut bench, case)
+/// Does it so often.
+fn turns(bench: &mut Bench, case: Case, count: u64) -> bool {
+    for _ in 0..count {
+        if !turn(bench, case) {
+            return false;
+        }
+    }
+    true
+}
+
+/// Does what a case says. A slot is emptied, and all pages are looked up, as often as pre-dumps and a dump do.
+fn act(bench: &mut Bench, case: Case) -> bool {
+    match case {
+        Case::Made => true,
+        Case::Rounds => bench.dump(TURNS as usize),
+        Case::Walks | Case::Emptied => turns(bench, case, TURNS + 1),
+        _ => turns(bench, case, TURNS),
+    }
 }
 
 /// Does what a word names, and says how it ended.
-pub(crate) fn timed(alloc: Global, word: &str) -> Result<Ended, AllocError> {
-    let Some(case) = named(&CASES, word) else {
-        return unnamed(alloc, USAGE);
+pub(crate) fn timed(alloc: Global, word: &str) -> Ended {
+    let Some(case) = named(CASES, word) else {
+        return Ended::Unnamed;
     };
-    match make(alloc, case) {
-        Ok(()) => done(alloc),
-        Err(error) => Ok(Ended::Failed(format!(in alloc; "{error:?}")?)),
+    match Bench::new(alloc) {
+        Ok(mut bench) => made(bench.begin() && act(&mut bench, case)),
+        Err(_) => made(false),
     }
 }

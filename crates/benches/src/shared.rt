@@ -1,81 +1,60 @@
 //! Calls of threads on a shared core.
 mod beside;
 mod calls;
-mod fault;
 mod place;
-mod slow;
-mod writers;
 
-use crate::ended::{Ended, unnamed};
-use crate::named::named;
-use beside::save_beside;
+use crate::ended::Ended;
+use beside::{Beside, PAGES, ROUNDS, save_beside};
 use calls::{make_calls, make_steps};
-use fault::BenchFault;
-use std::alloc::{AllocError, Global};
+use sd_command::Refusal;
+use std::alloc::Global;
+use std::io;
 use std::sync::Wait;
 use std::thread::Threads;
 use std::time::Clock;
-use writers::write_pages;
 
-/// What is made.
-#[derive(Clone, Copy, PartialEq, Eq)]
-enum Case {
-    Calls,
-    Steps,
-    Writers,
-    Beside,
-}
-
-const CASES: [(&str, Case); 4] = [
-    ("calls", Case::Calls),
-    ("steps", Case::Steps),
-    ("writers", Case::Writers),
-    ("beside", Case::Beside),
-];
-
-const USAGE: &str =
-    "usage: benches shared calls N, benches shared steps N, benches shared beside, or benches shared writers N";
-
-/// Makes what a case says, so many, and says how it went.
-fn make<R: Threads + Wait + Clock + Sync>(
-    rt: &R,
-    alloc: Global,
-    case: Case,
-    count: u64,
-) -> Result<String, BenchFault> {
-    let told = match case {
-        Case::Calls => format!(in alloc; "{} calls", make_calls(rt, alloc, count)?)?,
-        Case::Steps => format!(in alloc; "{} steps", make_steps(alloc, count)?)?,
-        Case::Writers => {
-            let took = write_pages(rt, alloc, count as usize)?;
-            format!(in alloc; "{} us", took.as_micros())?
-        }
-        Case::Beside => format!(in alloc; "{}", save_beside(rt, alloc)?)?,
-    };
-    Ok(told)
-}
-
-/// The case that a word names, and its number, which all but `beside` need.
-fn asked(word: &str, count: Option<u64>) -> Option<(Case, u64)> {
-    let case = named(&CASES, word)?;
-    if case == Case::Beside {
-        return Some((case, 0));
+/// How a case ended that makes so many of these.
+fn ended(count: u64, things: &'static str, made: Result<(), Refusal>) -> Ended {
+    match made {
+        Ok(()) => Ended::Counted(count, things),
+        Err(why) => Ended::Failed(why.name()),
     }
-    Some((case, count?))
 }
 
-/// Makes what a word names, and says how it went, or why it didn't.
-pub(crate) fn timed<R: Threads + Wait + Clock + Sync>(
+/// Makes as many calls of a seat, or events of a world, as a word names, and says how it ended.
+pub(crate) fn counted(rt: &impl Wait, alloc: Global, word: &str, count: Option<u64>) -> Ended {
+    match count {
+        Some(count) if word == "calls" => ended(count, "calls", make_calls(rt, alloc, count)),
+        Some(count) if word == "steps" => ended(count, "steps", make_steps(alloc, count)),
+        _ => Ended::Unnamed,
+    }
+}
+
+/// Prints what four seats were answered beside a checkpoint.
+fn print_beside(rt: &impl Print, beside: &Beside) -> io::Result<()> {
+    let micros = beside.took.as_micros().max(1);
+    let a_second = u128::from(beside.done).saturating_mul(1_000_000) / micros;
+    let longest = beside.longest.as_micros();
+    println!(rt;
+        "checkpoint of {PAGES} pages and {ROUNDS} rounds in {micros} us; {a_second} stores a second beside it; \
+         {} refused as frozen; the longest freeze {longest} us",
+        beside.frozen
+    )
+}
+
+/// Makes a checkpoint beside four seats, and prints what these were answered. Returns the exit status.
+pub(crate) fn tell_beside<R: Threads + Wait + Clock + Sync + Print + Eprint>(
     rt: &R,
     alloc: Global,
-    word: &str,
-    count: Option<u64>,
-) -> Result<Ended, AllocError> {
-    let Some((case, count)) = asked(word, count) else {
-        return unnamed(alloc, USAGE);
-    };
-    match make(rt, alloc, case, count) {
-        Ok(told) => Ok(Ended::Done(told)),
-        Err(fault) => Ok(Ended::Failed(format!(in alloc; "{fault:?}")?)),
+) -> io::Result<u8> {
+    match save_beside(rt, alloc) {
+        Ok(beside) => {
+            print_beside(rt, &beside)?;
+            Ok(0)
+        }
+        Err(why) => {
+            eprintln!(rt; "{}", why.name())?;
+            Ok(1)
+        }
     }
 }

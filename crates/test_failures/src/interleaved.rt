@@ -2,12 +2,11 @@
 use crate::line::{HELLO, Line};
 use crate::picks::FOUR;
 use crate::stops::shown_by_stops;
-use crate::told::Ended;
+use crate::told::{Ended, Told};
 use crate::worlds::{MOST, made_of};
 use sd_command::Reply;
 use sd_gate::Worker;
-use std::process::Abort;
-use std::test::Fail;
+use std::alloc::{AllocError, Global};
 
 /// What the second checkpoint saves.
 const BELLO: &[u8] = b"bello";
@@ -41,95 +40,124 @@ fn cut_in(first: &'static [u8], events: u64) -> [Line; 11] {
     ]
 }
 
-/// How many calls lines make, which are so many at least.
+/// How lines end of which the call after so many fails.
+fn ended_of(
+    rt: &impl Eprint,
+    alloc: Global,
+    lines: &[Line],
+    calls: u64,
+) -> Result<Ended, AllocError> {
+    let mut told = Told::new(alloc)?;
+    let _disk = made_of(rt, alloc, lines, calls, &mut told)?;
+    Ok(told.end())
+}
+
+/// How many calls lines make, which are so many at least; `MOST` where they never end.
 fn calls_of(
-    rt: &(impl Abort + Eprint + AllocGlobal),
+    rt: &impl Eprint,
+    alloc: Global,
     lines: &[Line],
     least: u64,
-) -> Result<u64, Fail> {
+) -> Result<u64, AllocError> {
     for calls in least..MOST {
-        let (_, told) = made_of(rt, lines, calls)?;
-        if told.end() == Ended::Done {
+        if ended_of(rt, alloc, lines, calls)? == Ended::Done {
             return Ok(calls);
         }
     }
-    Err("the lines never end".into())
+    Ok(MOST)
 }
 
-/// Stops a run after this call. What is shown is the checkpoint that was acknowledged last, or the one after it.
-/// Returns whether the run ended before the call.
+/// Whether the checkpoint that was acknowledged last is shown, or the one after it.
+fn is_next(numbers: Option<(u64, u64)>, last: u64) -> bool {
+    match numbers {
+        Some((least, greatest)) => last <= least && greatest <= last.saturating_add(1),
+        None => false,
+    }
+}
+
+/// Stops a run after this call. Returns how it ended, and whether what is shown is the checkpoint that was acknowledged
+/// last, or the one after it.
 fn stops(
-    rt: &(impl Abort + Eprint + AllocGlobal),
+    rt: &impl Eprint,
+    alloc: Global,
     lines: &[Line],
     saved: &[&[u8]],
     calls: u64,
-) -> Result<bool, Fail> {
-    let (disk, told) = made_of(rt, lines, calls)?;
-    let (least, greatest) = shown_by_stops(rt, &disk, &FOUR, saved)?;
-    let last = told.last();
-    assert!(rt; last <= least && greatest <= last.saturating_add(1));
-    Ok(told.end() == Ended::Done)
+) -> Result<(Ended, bool), AllocError> {
+    let mut told = Told::new(alloc)?;
+    let disk = made_of(rt, alloc, lines, calls, &mut told)?;
+    let numbers = shown_by_stops(alloc, &disk, FOUR, saved)?;
+    Ok((told.end(), is_next(numbers, told.last())))
 }
 
-/// Stops a run after each of its calls that come after so many.
+/// Stops a run after each of its calls that come after so many. Returns whether that is shown each time, and the run
+/// ends.
 fn stops_everywhere(
-    rt: &(impl Abort + Eprint + AllocGlobal),
+    rt: &impl Eprint,
+    alloc: Global,
     lines: &[Line],
     saved: &[&[u8]],
     behind: u64,
-) -> Result<(), Fail> {
+) -> Result<bool, AllocError> {
     for calls in behind..MOST {
-        if stops(rt, lines, saved, calls)? {
-            return Ok(());
+        let (ended, is_next) = stops(rt, alloc, lines, saved, calls)?;
+        if !is_next || ended == Ended::Done {
+            return Ok(is_next);
         }
     }
-    Err("a call fails however many come before it".into())
+    Ok(false)
 }
 
 /// A merge is cut in at each place of the checkpoint. A run that stops before its merge is the one that stops there
 /// before a later merge, so calls that were made before the merge of the last run are after it. Returns how many
-/// places there are.
-fn cuts_in(rt: &(impl Abort + Eprint + AllocGlobal), first: &'static [u8]) -> Result<u64, Fail> {
-    let mut behind = calls_of(rt, &[Line::Open], 0)?;
+/// places there are; 0 where something else is shown, or the checkpoint never ends.
+fn cuts_in(rt: &impl Eprint, alloc: Global, first: &'static [u8]) -> Result<u64, AllocError> {
+    let mut behind = calls_of(rt, alloc, &[Line::Open], 0)?;
     for events in (0..MOST).step_by(EACH as usize) {
         let lines = cut_in(first, events);
-        stops_everywhere(rt, &lines, &[&[], first, BELLO], behind)?;
-        if is_over(rt, &lines)? {
+        if !stops_everywhere(rt, alloc, &lines, &[&[], first, BELLO], behind)? {
+            return Ok(0);
+        }
+        if is_over(rt, alloc, &lines)? {
             return Ok(events);
         }
-        behind = calls_of(rt, &lines[..BEFORE_THE_MERGE], behind)?;
+        behind = calls_of(rt, alloc, &lines[..BEFORE_THE_MERGE], behind)?;
     }
-    Err("the checkpoint never ends".into())
+    Ok(0)
 }
 
-/// Whether the checkpoint is over before the merge begins.
-fn is_over(rt: &(impl Abort + Eprint + AllocGlobal), lines: &[Line]) -> Result<bool, Fail> {
-    let (_, told) = made_of(rt, lines, u64::MAX)?;
-    let mut merged = false;
-    for reply in &told.replies {
+/// Whether the second checkpoint is acknowledged before a merge ends.
+fn is_saved_first(replies: &[Reply]) -> bool {
+    for reply in replies {
         match reply {
-            Reply::Merged(_) => merged = true,
-            Reply::Acked(2) => return Ok(!merged),
+            Reply::Merged(_) => return false,
+            Reply::Acked(2) => return true,
             _ => {}
         }
     }
-    Err("a checkpoint that isn't acknowledged".into())
+    false
+}
+
+/// Whether the checkpoint is over before the merge begins.
+fn is_over(rt: &impl Eprint, alloc: Global, lines: &[Line]) -> Result<bool, AllocError> {
+    let mut told = Told::new(alloc)?;
+    let _disk = made_of(rt, alloc, lines, u64::MAX, &mut told)?;
+    Ok(is_saved_first(&told.replies))
+}
+
+/// Whether there are as many places as there should be.
+fn are_all_cut(rt: &impl Eprint, alloc: Global, first: &'static [u8]) -> Result<bool, AllocError> {
+    Ok(cuts_in(rt, alloc, first)? == PLACES.div_ceil(EACH).saturating_mul(EACH))
 }
 
 #[test]
-fn merges_of_a_page_are_cut_into_rounds(rt: HostRuntime) -> Result<(), Fail> {
-    assert_eq!(&rt;
-        cuts_in(&rt, HELLO)?,
-        PLACES.div_ceil(EACH).saturating_mul(EACH)
-    );
+fn merges_of_a_page_are_cut_into_rounds(rt: HostRuntime) -> Result<(), AllocError> {
+    assert!(rt; are_all_cut(&rt, rt.alloc(), HELLO)?);
     Ok(())
 }
 
 #[test]
-fn merges_of_zeros_are_cut_into_rounds(rt: HostRuntime) -> Result<(), Fail> {
-    assert_eq!(&rt;
-        cuts_in(&rt, ZEROS)?,
-        PLACES.div_ceil(EACH).saturating_mul(EACH)
-    );
+fn merges_of_zeros_are_cut_into_rounds(rt: HostRuntime) -> Result<(), AllocError> {
+    assert!(rt; are_all_cut(&rt, rt.alloc(), ZEROS)?);
     Ok(())
 }

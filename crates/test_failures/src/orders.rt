@@ -2,8 +2,6 @@
 ghost use Rattle.std.specs.Prelude.{◌<◌};
 
 use std::alloc::{AllocError, Global};
-use std::process::Abort;
-use std::test::Fail;
 use world_trials::{Failing, Line, Trouble, store_of, try_lines};
 
 /// Of so many orders, one is tried. tests/quick raises it in its copy.
@@ -16,7 +14,7 @@ const BEFORE_THE_PASS: usize = 10;
 const OF_A_PAGE: usize = 10;
 
 /// A checkpoint of one page.
-const ONE: [Line; 4] = [
+const ONE: &[Line] = &[
     Line::Map(1),
     Line::Store(0, 9),
     Line::Begin(0),
@@ -40,10 +38,9 @@ fn place_in(order: u64, left: u64) -> u64 {
     order / orders(left.saturating_sub(1)) % left.max(1)
 }
 
-/// A checkpoint of pages that aren't all zeros: all their writes are out at once, are made in one order and handed in
-/// in another.
-fn in_orders(alloc: Global, count: u64, made: u64, handed: u64) -> Result<Vec<Line>, AllocError> {
-    let mut lines = Vec::new(alloc);
+/// Adds a checkpoint of pages that aren't all zeros: all their writes are out at once, are made in one order and handed
+/// in in another.
+fn add_orders(lines: &mut Vec<Line>, count: u64, made: u64, handed: u64) -> Result<(), AllocError> {
     lines.push(Line::Map(count))?;
     for page in 0..count {
         lines.push(Line::Store(page.saturating_mul(4096), 1 + (page % 200) as u8))?;
@@ -58,46 +55,40 @@ fn in_orders(alloc: Global, count: u64, made: u64, handed: u64) -> Result<Vec<Li
         lines.push(Line::HandInAt(place_in(handed, left)))?;
     }
     lines.push(Line::Finish)?;
-    Ok(lines)
+    Ok(())
 }
 
-/// A crash after each call leaves what it may, and the checkpoint is acknowledged.
-fn is_right(
-    rt: &impl Abort,
-    alloc: Global,
-    count: u64,
-    made: u64,
-    handed: u64,
-) -> Result<(), Trouble> {
-    let lines = in_orders(alloc, count, made, handed)?;
-    let store = store_of(alloc, &ONE, &lines)?;
+/// Whether a crash after each call leaves what it may, and the checkpoint is acknowledged.
+fn is_right(alloc: Global, count: u64, made: u64, handed: u64) -> Result<bool, Trouble> {
+    let mut lines = Vec::new(alloc);
+    add_orders(&mut lines, count, made, handed)?;
+    let store = store_of(alloc, ONE, &lines)?;
     let figures = try_lines(alloc, &store, &lines, Failing::Nothing)?;
     let crashed = figures.pending > 0 && figures.last > 0;
-    assert!(rt;
-        figures.is_right() && crashed && figures.acked == 1,
-        "{figures:?}: {made}, {handed} of {count}"
-    );
-    Ok(())
+    Ok(figures.is_right() && crashed && figures.acked == 1)
 }
 
-/// So many writes are made in each order, and handed in in each order once.
-fn each_order(rt: &impl Abort, alloc: Global, count: u64) -> Result<(), Trouble> {
+/// Whether that is so where so many writes are made in each order, and handed in in each order once.
+fn each_order(alloc: Global, count: u64) -> Result<bool, Trouble> {
     let all = orders(count);
     for made in (0..all).step_by(EACH) {
-        is_right(rt, alloc, count, made, all.saturating_sub(1 + made))?;
+        if !is_right(alloc, count, made, all.saturating_sub(1 + made))? {
+            return Ok(false);
+        }
     }
-    Ok(())
+    Ok(true)
 }
 
 #[test]
-fn each_order_of_up_to_three_writes(rt: HostRuntime) -> Result<(), Fail> {
+fn each_order_of_up_to_three_writes(rt: HostRuntime) -> Result<(), Trouble> {
     for count in 1..=3 {
-        each_order(&rt, rt.alloc(), count)?;
+        assert!(rt; each_order(rt.alloc(), count)?);
     }
     Ok(())
 }
 
 #[test]
-fn each_order_of_four_writes(rt: HostRuntime) -> Result<(), Fail> {
-    Ok(each_order(&rt, rt.alloc(), 4)?)
+fn each_order_of_four_writes(rt: HostRuntime) -> Result<(), Trouble> {
+    assert!(rt; each_order(rt.alloc(), 4)?);
+    Ok(())
 }

@@ -20,7 +20,7 @@ pub(crate) struct Outcome {
 }
 
 /// All kinds of bytes, each with the least and the greatest lengths.
-pub(crate) const ALL: [Outcome; 10] = [
+pub(crate) const ALL: &[Outcome] = &[
     Outcome {
         bytes: Bytes::Now,
         is_long: false,
@@ -64,7 +64,7 @@ pub(crate) const ALL: [Outcome; 10] = [
 ];
 
 /// Four of them.
-pub(crate) const FOUR: [Outcome; 4] = [
+pub(crate) const FOUR: &[Outcome] = &[
     Outcome {
         bytes: Bytes::Now,
         is_long: true,

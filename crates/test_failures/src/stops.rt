@@ -3,8 +3,7 @@ use crate::picks::Outcome;
 use sd_areas::{Snapshot, SpaceId};
 use sd_disk::MemDisk;
 use sd_restore::{Fault, restore};
-use std::process::Abort;
-use std::test::Fail;
+use std::alloc::{AllocError, Global};
 
 /// The space has one page, which begins with these bytes.
 fn begins_with(snapshot: &Snapshot, bytes: &[u8]) -> bool {
@@ -16,41 +15,51 @@ fn begins_with(snapshot: &Snapshot, bytes: &[u8]) -> bool {
     }
 }
 
-/// The number of the checkpoint that a store shows, 0 where it shows none. Its page begins with the bytes that belong
-/// to the number.
-fn shown(
-    rt: &(impl Abort + AllocGlobal),
-    disk: &mut MemDisk,
-    saved: &[&[u8]],
-) -> Result<u64, Fail> {
-    match restore(rt.alloc(), disk) {
-        Ok(snapshot) => {
-            let bytes = saved
-                .get(snapshot.checkpoint as usize)
-                .ok_or("a checkpoint that wasn't saved is shown")?;
-            assert!(rt; begins_with(&snapshot, bytes));
-            Ok(snapshot.checkpoint)
-        }
-        Err(Fault::EmptyChain) => Ok(0),
-        Err(_) => Err("a store isn't restored".into()),
+/// Whether its page begins with the bytes that belong to its checkpoint's number.
+fn is_saved(snapshot: &Snapshot, saved: &[&[u8]]) -> bool {
+    match saved.get(snapshot.checkpoint as usize) {
+        Some(bytes) => begins_with(snapshot, bytes),
+        None => false,
     }
 }
 
-/// The least and the greatest number that a store shows which a stop leaves. Its page begins with the bytes that belong
-/// to the number.
+/// The number of the checkpoint that a store shows, 0 where it shows none. Nothing where its page doesn't begin with
+/// the bytes that belong to the number, or the store isn't restored.
+fn shown(alloc: Global, disk: &mut MemDisk, saved: &[&[u8]]) -> Option<u64> {
+    match restore(alloc, disk) {
+        Ok(snapshot) if is_saved(&snapshot, saved) => Some(snapshot.checkpoint),
+        Err(Fault::EmptyChain) => Some(0),
+        _ => None,
+    }
+}
+
+/// The same of a store that a stop leaves.
+fn shown_by_stop(
+    alloc: Global,
+    disk: &MemDisk,
+    mut pick: Outcome,
+    saved: &[&[u8]],
+) -> Result<Option<u64>, AllocError> {
+    let mut left = disk.crash(alloc, &mut pick)?;
+    Ok(shown(alloc, &mut left, saved))
+}
+
+/// The least and the greatest number that a store shows which a stop leaves; nothing where one shows none of those.
 pub(crate) fn shown_by_stops(
-    rt: &(impl Abort + AllocGlobal),
+    alloc: Global,
     disk: &MemDisk,
     picks: &[Outcome],
     saved: &[&[u8]],
-) -> Result<(u64, u64), Fail> {
+) -> Result<Option<(u64, u64)>, AllocError> {
     let (mut least, mut greatest) = (u64::MAX, 0);
     for pick in picks {
-        let mut pick = *pick;
-        let mut left = disk.crash(rt.alloc(), &mut pick)?;
-        let number = shown(rt, &mut left, saved)?;
-        least = least.min(number);
-        greatest = greatest.max(number);
+        match shown_by_stop(alloc, disk, *pick, saved)? {
+            Some(number) => {
+                least = least.min(number);
+                greatest = greatest.max(number);
+            }
+            None => return Ok(None),
+        }
     }
-    Ok((least, greatest))
+    Ok(Some((least, greatest)))
 }

@@ -94,15 +94,15 @@ pub(crate) fn make(
     try_run(rt, alloc, disk, run, told).0.into_inner()
 }
 
-/// Makes lines over an empty store of which a call fails after so many. Returns the disk, and what was said.
+/// Makes lines over an empty store of which a call fails after so many. Returns the disk.
 pub(crate) fn made_of(
-    rt: &(impl Eprint + AllocGlobal),
+    rt: &impl Eprint,
+    alloc: Global,
     lines: &[Line],
     calls: u64,
-) -> Result<(MemDisk, Told), AllocError> {
-    let mut told = Told::new(rt.alloc())?;
+    told: &mut Told,
+) -> Result<MemDisk, AllocError> {
+    let disk = fused(alloc, calls, false)?;
     let run = Run { lines, then: None };
-    let disk = fused(rt.alloc(), calls, false)?;
-    let disk = make(rt, rt.alloc(), disk, run, &mut told);
-    Ok((disk, told))
+    Ok(make(rt, alloc, disk, run, told))
 }

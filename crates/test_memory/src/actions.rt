@@ -1,13 +1,13 @@
 //! What is done with memories, one after the other.
 use crate::growths::Step;
 use crate::line::Line;
-use crate::memories::{TestAction, run};
+use crate::memories::{TestAction, runs};
 use crate::support::{CLEAN_ALONE, CLEAN_SHARED, DIRTY_ALONE, DIRTY_SHARED, FRESH, READ_WRITE};
-use sd_pagetable::{AccessError, MemoryRefusal, Segv};
-use std::test::Fail;
+use sd_pagetable::{AccessError, MemoryError, MemoryRefusal, Segv};
+use std::alloc::Global;
 
 /// A pool of one frame: a second page gets it once the first is unmapped.
-const POOL_OF_ONE_FRAME: [Line; 6] = [
+const POOL_OF_ONE_FRAME: &[Line] = &[
     Line::Mmap(1, 0x1000, 4096, READ_WRITE),
     Line::Mmap(1, 0x3000, 4096, READ_WRITE),
     Line::StoreNow(1, 0x1000, &[1]),
@@ -17,7 +17,7 @@ const POOL_OF_ONE_FRAME: [Line; 6] = [
 ];
 
 /// A page that is alone in its frame takes no frame, whether it is writable or was cleared, or was shared.
-const FAULT_WITHOUT_A_FRAME: [Line; 15] = [
+const FAULT_WITHOUT_A_FRAME: &[Line] = &[
     Line::Mmap(1, 0x1000, 8192, READ_WRITE),
     Line::Fault(1, 0x1000),
     Line::Fault(1, 0x1000),
@@ -42,7 +42,7 @@ const FAULT_WITHOUT_A_FRAME: [Line; 15] = [
 
 /// A clear of one side leaves the other. This and the next are scripts that ran on a Linux kernel, as those of
 /// `tests/rows/kernel_forks.ckpt`; a script of the program can't clear one space of several.
-const CLEAR_AFTER_FORK: [Line; 8] = [
+const CLEAR_AFTER_FORK: &[Line] = &[
     Line::Mmap(1, 0x1_0000_0000, 8192, READ_WRITE),
     Line::Store(1, 0x1_0000_0000, &[0x61]),
     Line::Fork(1, 2),
@@ -54,7 +54,7 @@ const CLEAR_AFTER_FORK: [Line; 8] = [
 ];
 
 /// The child cleared, the parent stores.
-const CLEAR_CHILD_ONLY: [Line; 7] = [
+const CLEAR_CHILD_ONLY: &[Line] = &[
     Line::Mmap(1, 0x1_0000_0000, 4096, READ_WRITE),
     Line::Store(1, 0x1_0000_0000, &[0x61]),
     Line::Fork(1, 2),
@@ -65,7 +65,7 @@ const CLEAR_CHILD_ONLY: [Line; 7] = [
 ];
 
 /// Calls that may grow a memory.
-const STEPS: [Step; 13] = [
+const STEPS: &[Step] = &[
     Step::Mmap(1, 0x10000, 0x8000),
     Step::Store(1, 0x10000),
     Step::Fault(1, 0x11000),
@@ -82,7 +82,7 @@ const STEPS: [Step; 13] = [
 ];
 
 /// The same of pages in several tables: each range ends in a table after the one that it begins in.
-const STEPS_OVER_TABLES: [Step; 7] = [
+const STEPS_OVER_TABLES: &[Step] = &[
     Step::Mmap(1, 0x1f_e000, 0x4000),
     Step::Mmap(1, 0x3fff_f000, 0x2000),
     Step::Mmap(1, 0x7f_ffff_f000, 0x2000),
@@ -93,34 +93,30 @@ const STEPS_OVER_TABLES: [Step; 7] = [
 ];
 
 /// The frames of each memory, and what is done with it. The first are those that a refused allocation is to reach.
-const ACTIONS: [(usize, TestAction); 9] = [
-    (64, TestAction::Growths(&STEPS)),
-    (64, TestAction::Growths(&STEPS_OVER_TABLES)),
-    (
-        1,
-        TestAction::Script("pool_of_one_frame", &POOL_OF_ONE_FRAME),
-    ),
-    (
-        1,
-        TestAction::Script("fault_without_a_frame", &FAULT_WITHOUT_A_FRAME),
-    ),
-    (
-        65_536,
-        TestAction::Script("clear_after_fork", &CLEAR_AFTER_FORK),
-    ),
-    (
-        65_536,
-        TestAction::Script("clear_child_only", &CLEAR_CHILD_ONLY),
-    ),
+const ACTIONS: &[(usize, TestAction)] = &[
+    (64, TestAction::Growths(STEPS)),
+    (64, TestAction::Growths(STEPS_OVER_TABLES)),
+    (1, TestAction::Script(POOL_OF_ONE_FRAME)),
+    (1, TestAction::Script(FAULT_WITHOUT_A_FRAME)),
+    (65_536, TestAction::Script(CLEAR_AFTER_FORK)),
+    (65_536, TestAction::Script(CLEAR_CHILD_ONLY)),
     (16, TestAction::Bits),
     (16, TestAction::Procfs),
     (64, TestAction::Chance),
 ];
 
-#[test]
-fn memories_do_what_they_should(rt: HostRuntime) -> Result<(), Fail> {
-    for (frames, action) in &ACTIONS {
-        run(&rt, *frames, *action)?;
+/// Whether each memory does what it should.
+fn runs_each(alloc: Global) -> Result<bool, MemoryError> {
+    for (frames, action) in ACTIONS {
+        if !runs(alloc, *frames, *action)? {
+            return Ok(false);
+        }
     }
+    Ok(true)
+}
+
+#[test]
+fn memories_do_what_they_should(rt: HostRuntime) -> Result<(), MemoryError> {
+    assert!(rt; runs_each(rt.alloc())?);
     Ok(())
 }

@@ -1,15 +1,12 @@
 //! Calls on the areas of one space, also over more pages than a memory maps, and snapshots.
 ghost use Rattle.std.specs.Prelude.{◌≡◌, IfOk};
 
-use crate::support::{READ, READ_WRITE, page, snapshot_of, told_of_areas};
+use crate::support::{FirstByte, READ, READ_WRITE, put, snapshot_of};
 use sd_areas::{
-    Area, AreaError, AreaMap, Errno, PAGE_SIZE, PageNo, Prot, Snapshot, SnapshotPage, SpaceId,
-    areas_in,
+    Area, AreaError, AreaMap, Errno, PageNo, Prot, Snapshot, SnapshotPage, SpaceId, areas_in,
 };
 use std::alloc::{AllocError, Global};
 use std::collections::BTreeMap;
-use std::process::Abort;
-use std::test::Fail;
 
 const ENOMEM: AreaError = AreaError::Refused(Errno::Enomem);
 
@@ -26,7 +23,7 @@ type Run = (u64, u64, Prot);
 type Pages = BTreeMap<PageNo, SnapshotPage>;
 
 /// A call on a space: the address and the length are in bytes.
-#[derive(Clone, Copy, Debug)]
+#[derive(Clone, Copy)]
 enum Call {
     Map(u64, u64, Prot),
     Unmap(u64, u64),
@@ -41,24 +38,23 @@ fn made(map: &mut AreaMap, call: Call) -> Result<(), AreaError> {
     }
 }
 
-fn area(rt: &impl Abort, first: u64, count: u64, prot: Prot) -> Area {
-    let first = page(rt, first);
-    Area { first, count, prot }
-}
-
 fn is_run(found: &Area, wanted: &Run) -> bool {
     let (first, count, prot) = *wanted;
     found.first.number() == first && found.count == count && found.prot == prot
 }
 
-/// Whether a space has these areas, and no others.
-fn has_areas(map: &AreaMap, wanted: &[Run]) -> bool {
-    let found = map.areas();
+/// Whether areas are these, in this order.
+fn are_runs(found: &[Area], wanted: &[Run]) -> bool {
     found.len() == wanted.len()
         && found
             .iter()
             .zip(wanted)
             .all(|(area, run)| is_run(area, run))
+}
+
+/// Whether a space has these areas, and no others.
+fn has_areas(map: &AreaMap, wanted: &[Run]) -> bool {
+    are_runs(map.areas(), wanted)
 }
 
 /// A caller of `clone` knows that the copy is the same space.
@@ -81,14 +77,16 @@ fn leaves(map: &mut AreaMap, call: Call, before: &[Run], after: &[Run]) -> bool 
     given == Ok(()) && has_areas(map, after)
 }
 
-/// Makes calls in turn, each with the areas after it.
-fn follows(rt: &impl Abort, map: &mut AreaMap, steps: &[(Call, &[Run])]) {
+/// Whether calls that are made in turn leave the areas beside each.
+fn follows(map: &mut AreaMap, steps: &[(Call, &[Run])]) -> bool {
     let mut before: &[Run] = &[];
     for (call, after) in steps {
-        let is = leaves(map, *call, before, after);
-        assert!(rt; is, "after {call:?}");
+        if !leaves(map, *call, before, after) {
+            return false;
+        }
         before = after;
     }
+    true
 }
 
 const FIVE: &[Run] = &[
@@ -113,7 +111,7 @@ const ALL_BUT_ONE: u64 = 0x7_FFFF_FFFF;
 const ALL: u64 = 0x8_0000_0000;
 
 /// The list of areas grows, and then it has more pages than a memory has. The last calls leave a hole.
-const STEPS: [(Call, &[Run]); 20] = [
+const STEPS: &[(Call, &[Run])] = &[
     (Call::Map(0, 1, READ), &[(0, 1, READ)]),
     (Call::Map(0x2000, 1, READ), &[(0, 1, READ), (2, 1, READ)]),
     (
@@ -155,7 +153,7 @@ const STEPS: [(Call, &[Run]); 20] = [
 ];
 
 /// Pages in and beside two areas, and their permissions.
-const PROTS: [(u64, Option<Prot>); 9] = [
+const PROTS: &[(u64, Option<Prot>)] = &[
     (0, None),
     (15, None),
     (16, Some(READ)),
@@ -169,7 +167,7 @@ const PROTS: [(u64, Option<Prot>); 9] = [
 
 /// Whether each page has its permissions.
 fn has_prots(map: &AreaMap) -> bool {
-    for (number, prot) in &PROTS {
+    for (number, prot) in PROTS {
         let found = match PageNo::new(*number) {
             Some(page) => map.prot_of(page),
             None => return false,
@@ -186,89 +184,88 @@ fn is_copied(map: &AreaMap) -> Result<bool, AllocError> {
     Ok(copied(map)?.areas() == map.areas())
 }
 
-fn changes_areas(rt: &impl Abort, map: &mut AreaMap) -> Result<(), AllocError> {
-    follows(rt, map, &STEPS);
-    let is = is_copied(map)?;
-    assert!(rt; is && has_prots(map));
-    Ok(())
+fn changes_areas(map: &mut AreaMap) -> Result<bool, AllocError> {
+    Ok(follows(map, STEPS) && has_prots(map) && is_copied(map)?)
 }
 
-#[test]
-fn calls_on_areas(rt: HostRuntime) -> Result<(), Fail> {
-    Ok(changes_areas(&rt, &mut AreaMap::new(rt.alloc()))?)
+/// Whether there is a page with these first and last bytes.
+fn is_between(page: Option<&SnapshotPage>, first: u8, last: u8) -> bool {
+    match page {
+        Some(page) => page.bytes[0] == first && page.bytes[4095] == last,
+        None => false,
+    }
 }
 
-/// A space has three pages, which lie in two areas.
-fn lies_in_areas(rt: &impl Abort, alloc: Global, pages: &Pages) -> Result<(), Fail> {
-    let found = pages.get(&page(rt, 5)).expect(rt, "the page");
-    assert_eq!(rt; (found.bytes[0], found.bytes[4095]), (1, 0));
-    let areas = areas_in(alloc, pages)?;
-    assert_eq!(rt;
-        areas.as_slice(),
-        [area(rt, 4, 2, READ), area(rt, 6, 1, READ_WRITE)].as_slice()
-    );
-    Ok(())
+/// Whether the first and the last byte of a page are these.
+fn has_ends(pages: &Pages, number: u64, first: u8, last: u8) -> bool {
+    PageNo::new(number).is_some_and(|page| is_between(pages.get(&page), first, last))
 }
 
-fn is_kept(rt: &impl Abort, alloc: Global, snapshot: &Snapshot) -> Result<(), Fail> {
-    assert_eq!(rt; snapshot.checkpoint, 7);
-    let pages = snapshot
-        .spaces
-        .get(&SpaceId::new(3))
-        .expect(rt, "the space");
-    lies_in_areas(rt, alloc, pages)
+/// Whether a space's pages lie in these areas.
+fn lies_in(alloc: Global, pages: &Pages, wanted: &[Run]) -> Result<bool, AllocError> {
+    Ok(are_runs(&areas_in(alloc, pages)?, wanted))
 }
 
-#[test]
-fn keeps_a_snapshot(rt: HostRuntime) -> Result<(), Fail> {
-    let pages = [(3, 5, READ, 1), (3, 4, READ, 2), (3, 6, READ_WRITE, 3)];
-    let snapshot = snapshot_of(rt.alloc(), &[3], &pages)?;
-    is_kept(&rt, rt.alloc(), &snapshot)
+/// Whether the space has its three pages, which lie in two areas.
+fn is_kept(alloc: Global, snapshot: &Snapshot) -> Result<bool, AllocError> {
+    match snapshot.spaces.get(&SpaceId::new(3)) {
+        Some(pages) => Ok(has_ends(pages, 5, 1, 0) && lies_in(alloc, pages, TWO)?),
+        None => Ok(false),
+    }
 }
 
-/// Adds a readable page of zeros.
-fn add_page(
-    rt: &impl Abort,
-    alloc: Global,
-    pages: &mut Pages,
-    number: u64,
-) -> Result<(), AllocError> {
-    let bytes = Box::new(alloc, [0; PAGE_SIZE])?;
-    pages.insert(page(rt, number), SnapshotPage { prot: READ, bytes })?;
-    Ok(())
+/// The pages of a space, and the areas in which they lie.
+const THREE: &[FirstByte] = &[(3, 5, READ, 1), (3, 4, READ, 2), (3, 6, READ_WRITE, 3)];
+
+const TWO: &[Run] = &[(4, 2, READ), (6, 1, READ_WRITE)];
+
+fn keeps_a_snapshot(alloc: Global) -> Result<bool, AllocError> {
+    let snapshot = snapshot_of(alloc, &[3], THREE)?;
+    Ok(snapshot.checkpoint == 7 && is_kept(alloc, &snapshot)?)
 }
 
 /// Adds single pages with a hole between any two.
-fn add_apart(rt: &impl Abort, alloc: Global, pages: &mut Pages) -> Result<(), AllocError> {
+fn add_apart(alloc: Global, pages: &mut Pages) -> Result<(), AllocError> {
     for number in 0..1025u64 {
-        add_page(rt, alloc, pages, 2 * number)?;
+        put(alloc, pages, &(0, 2 * number, READ, 0))?;
     }
     Ok(())
 }
 
-/// Pages with more areas than a space has.
-fn are_refused(rt: &impl Abort, alloc: Global, pages: &Pages) -> Result<(), Fail> {
-    let refused = told_of_areas(AreaMap::from_pages(alloc, pages).map(|_| ()))?;
-    assert_eq!(rt; refused, Err(ENOMEM));
-    Ok(())
+/// Whether pages have more areas than a space has.
+fn are_refused(alloc: Global, pages: &Pages) -> Result<bool, AllocError> {
+    match AreaMap::from_pages(alloc, pages) {
+        Ok(_) => Ok(false),
+        Err(AreaError::OutOfMemory) => Err(AllocError),
+        Err(error) => Ok(error == ENOMEM),
+    }
 }
 
-fn are_taken(rt: &impl Abort, alloc: Global, pages: &Pages) -> Result<(), Fail> {
-    let map = AreaMap::from_pages(alloc, pages)?;
-    assert_eq!(rt; map.areas().len(), 1024);
-    assert_eq!(rt; map.areas()[3], area(rt, 6, 3, READ));
-    Ok(())
+/// Whether areas are as many as a space has, of which the fourth has three pages.
+fn are_most(areas: &[Area]) -> bool {
+    areas.len() == 1024 && is_run(&areas[3], &(6, 3, READ))
 }
 
-fn begins(rt: &impl Abort, alloc: Global, pages: &mut Pages) -> Result<(), Fail> {
-    add_apart(rt, alloc, pages)?;
-    are_refused(rt, alloc, pages)?;
-    add_page(rt, alloc, pages, 7)?;
-    are_taken(rt, alloc, pages)
+fn are_taken(alloc: Global, pages: &Pages) -> Result<bool, AllocError> {
+    match AreaMap::from_pages(alloc, pages) {
+        Ok(map) => Ok(are_most(map.areas())),
+        Err(AreaError::OutOfMemory) => Err(AllocError),
+        Err(_) => Ok(false),
+    }
 }
 
-/// A space of single pages with a hole between any two, which a page then fills.
+/// Whether a space of single pages begins once a page fills one of the holes, and not before.
+fn begins(alloc: Global, pages: &mut Pages) -> Result<bool, AllocError> {
+    add_apart(alloc, pages)?;
+    let is_refused = are_refused(alloc, pages)?;
+    put(alloc, pages, &(0, 7, READ, 0))?;
+    Ok(are_taken(alloc, pages)? && is_refused)
+}
+
 #[test]
-fn begins_with_pages(rt: HostRuntime) -> Result<(), Fail> {
-    begins(&rt, rt.alloc(), &mut BTreeMap::new(rt.alloc()))
+fn areas_and_snapshots(rt: HostRuntime) -> Result<(), AllocError> {
+    assert!(rt; changes_areas(&mut AreaMap::new(rt.alloc()))?);
+    assert!(rt; keeps_a_snapshot(rt.alloc())?);
+    assert!(rt; begins(rt.alloc(), &mut BTreeMap::new(rt.alloc()))?);
+    Ok(())
 }

@@ -1,52 +1,58 @@
 //! The bits of a page, and what else is read of it.
-use crate::support::{CLEAN_ALONE, DIRTY_ALONE, FRESH, READ_WRITE, page};
+use crate::support::{CLEAN_ALONE, DIRTY_ALONE, FRESH, READ_WRITE};
 use sd_areas::{PageNo, SpaceId};
-use sd_pagetable::{Memory, StoreOutcome};
-use std::process::Abort;
-use std::test::Fail;
+use sd_pagetable::{Memory, MemoryError, StoreOutcome};
 
-/// Stores to the only page, which is fresh.
-fn stores_to_fresh(rt: &impl Abort, memory: &mut Memory, page: PageNo) -> Result<(), Fail> {
+/// Whether the only page is fresh, and a store to it needs a fault, after which it is soft-dirty.
+fn stores_to_fresh(memory: &mut Memory, page: PageNo) -> Result<bool, MemoryError> {
     let space = SpaceId::new(1);
-    assert_eq!(rt; memory.word(space, page), FRESH);
-    assert_eq!(rt; memory.framed_sector(space, page, 7), Some(None));
-    let needs_fault = Ok(StoreOutcome::NeedsFault);
-    assert_eq!(rt; memory.try_store(space, 0x10000, &[0x61]), needs_fault);
+    let is_fresh = memory.word(space, page) == FRESH
+        && memory.framed_sector(space, page, 7) == Some(None);
+    let tried = memory.try_store(space, 0x10000, &[0x61]);
     memory.store_now(space, 0x10000, &[0x61])?;
-    assert_eq!(rt; memory.word(space, page), DIRTY_ALONE);
-    Ok(())
+    let is_dirty = memory.word(space, page) == DIRTY_ALONE;
+    Ok(is_fresh && tried == Ok(StoreOutcome::NeedsFault) && is_dirty)
 }
 
-fn is_cleared(rt: &impl Abort, memory: &mut Memory, page: PageNo) {
+/// Whether the page was soft-dirty, isn't any more, and a store to it needs a fault again.
+fn is_cleared(memory: &mut Memory, page: PageNo) -> bool {
     let space = SpaceId::new(1);
-    assert_eq!(rt; memory.test_and_clear(space, page), Some(true));
-    assert_eq!(rt; memory.word(space, page), CLEAN_ALONE);
-    let needs_fault = Ok(StoreOutcome::NeedsFault);
-    assert_eq!(rt; memory.try_store(space, 0x10000, &[0x62]), needs_fault);
+    memory.test_and_clear(space, page) == Some(true)
+        && memory.word(space, page) == CLEAN_ALONE
+        && memory.try_store(space, 0x10000, &[0x62]) == Ok(StoreOutcome::NeedsFault)
 }
 
-fn is_read(rt: &impl Abort, memory: &Memory, page: PageNo) {
+/// Whether the page's first sector is read in both ways.
+fn is_read(memory: &Memory, page: PageNo) -> bool {
     let space = SpaceId::new(1);
     let mut sector = [7; 512];
-    assert!(rt; memory.read_sector(space, page, 0, &mut sector));
-    assert_eq!(rt; (sector[0], sector[1]), (0x61, 0));
-    assert_eq!(rt;
-        memory.framed_sector(space, page, 0),
-        Some(Some(&sector[..]))
-    );
-    assert_eq!(rt; memory.next_page(None), Some((space, page)));
-    assert_eq!(rt; memory.next_page(Some((space, page))), None);
+    memory.read_sector(space, page, 0, &mut sector)
+        && sector[0] == 0x61
+        && sector[1] == 0
+        && memory.framed_sector(space, page, 0) == Some(Some(&sector[..]))
 }
 
-/// The words of a fresh, a stored and a cleared page are exact, and so is what else is read of it.
-pub(crate) fn has_exact_bits(rt: &impl Abort, memory: &mut Memory) -> Result<(), Fail> {
+/// Whether a walk finds the page alone.
+fn is_only(memory: &Memory, page: PageNo) -> bool {
+    let place = Some((SpaceId::new(1), page));
+    memory.next_page(None) == place && memory.next_page(place) == None
+}
+
+/// Whether the words of a fresh, a stored and a cleared page are exact, and so is what else is read of it.
+pub(crate) fn has_exact_bits(memory: &mut Memory) -> Result<bool, MemoryError> {
     let space = SpaceId::new(1);
-    let page = page(rt, 16);
-    assert_eq!(rt; memory.word(space, page), 0);
+    let Some(page) = PageNo::new(16) else {
+        return Ok(false);
+    };
+    let was_bare = memory.word(space, page) == 0;
     memory.mmap(space, 0x10000, 4096, READ_WRITE)?;
     memory.sound();
-    stores_to_fresh(rt, memory, page)?;
-    is_cleared(rt, memory, page);
-    is_read(rt, memory, page);
-    Ok(())
+    let is_stored = stores_to_fresh(memory, page)?;
+    Ok(
+        was_bare
+            && is_stored
+            && is_cleared(memory, page)
+            && is_read(memory, page)
+            && is_only(memory, page),
+    )
 }

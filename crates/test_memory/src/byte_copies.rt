@@ -1,63 +1,87 @@
 //! Copies of commands, replies and pages.
-use sd_areas::{PageNo, Prot, SnapshotPage, SpaceId};
-use sd_command::{Bytes, Command, Reply};
+use crate::support::{READ_WRITE, bytes_of};
+use sd_areas::{PageNo, SnapshotPage, SpaceId};
+use sd_command::{Command, Reply};
 use sd_journal::{Pages, copy_of_pages, zero_page};
 use std::alloc::{AllocError, Global};
 use std::collections::BTreeMap;
-use std::test::Fail;
-
-const WRITABLE: Prot = Prot {
-    read: true,
-    write: true,
-    execute: false,
-};
 
 /// A page that can be written, with a 7 as its last byte.
 fn page_with_seven(alloc: Global) -> Result<SnapshotPage, AllocError> {
-    let mut page = zero_page(alloc, WRITABLE)?;
+    let mut page = zero_page(alloc, READ_WRITE)?;
     page.bytes[4095] = 7;
     Ok(page)
 }
 
-/// Whether two pages have the same permissions and bytes.
-fn are_same(one: &SnapshotPage, other: &SnapshotPage) -> bool {
-    one.prot == other.prot && *one.bytes == *other.bytes
+/// Whether a page has the permissions and bytes of the one with a 7.
+fn has_seven(page: Option<&SnapshotPage>) -> bool {
+    match page {
+        Some(page) => {
+            page.prot == READ_WRITE
+                && page.bytes[4095] == 7
+                && page.bytes[..4095].iter().all(|byte| *byte == 0)
+        }
+        None => false,
+    }
 }
 
-/// Whether a copy of a space with one page has that page.
-fn copies_a_space(alloc: Global, page: SnapshotPage) -> Result<bool, AllocError> {
-    let mut pages: Pages = BTreeMap::new(alloc);
+/// Whether a copy of a page is the same.
+fn copies_a_page(alloc: Global, page: &SnapshotPage) -> Result<bool, AllocError> {
+    let copy = page.try_clone(alloc)?;
+    Ok(has_seven(Some(&copy)))
+}
+
+/// Whether a copy of a space has its page.
+fn copies_a_space(alloc: Global, pages: &Pages, page: PageNo) -> Result<bool, AllocError> {
+    let copied = copy_of_pages(alloc, pages)?;
+    Ok(has_seven(copied.get(&page)))
+}
+
+/// Whether a page is copied, alone and in a space.
+fn are_copied(alloc: Global, pages: &Pages, page: PageNo) -> Result<bool, AllocError> {
+    match pages.get(&page) {
+        Some(found) => Ok(copies_a_page(alloc, found)? && copies_a_space(alloc, pages, page)?),
+        None => Ok(false),
+    }
+}
+
+/// Puts a page into a space, and says whether both are copied.
+fn copies_pages(alloc: Global, pages: &mut Pages) -> Result<bool, AllocError> {
     let Some(third) = PageNo::new(3) else {
         return Ok(false);
     };
-    let copy = page.try_clone(alloc)?;
+    let page = page_with_seven(alloc)?;
     pages.insert(third, page)?;
-    let copied = copy_of_pages(alloc, &pages)?;
-    Ok(
-        copied
-            .get(&third)
-            .is_some_and(|found| are_same(found, &copy)),
-    )
+    are_copied(alloc, pages, third)
 }
 
-#[test]
-fn a_copied_page_is_the_same(rt: HostRuntime) -> Result<(), Fail> {
-    let page = page_with_seven(rt.alloc())?;
-    let copy = page.try_clone(rt.alloc())?;
-    let is_same = are_same(&page, &copy) && copy.bytes[4095] == 7;
-    assert!(rt; is_same && copies_a_space(rt.alloc(), page)?);
-    Ok(())
+fn copies_a_command(command: &Command) -> Result<bool, AllocError> {
+    let copy = command.try_clone()?;
+    Ok(copy == *command)
 }
 
-#[test]
-fn a_copied_command_and_reply_are_equal(rt: HostRuntime) -> Result<(), Fail> {
-    let store = Command::Store {
+fn copies_a_reply(reply: &Reply) -> Result<bool, AllocError> {
+    let copy = reply.try_clone()?;
+    Ok(copy == *reply)
+}
+
+fn copies_a_store(alloc: Global) -> Result<bool, AllocError> {
+    let bytes = bytes_of(alloc, &[1, 2])?;
+    copies_a_command(&Command::Store {
         space: SpaceId::new(1),
         address: 4096,
-        bytes: Bytes::new(vec![in rt.alloc(); 1, 2]?),
-    };
-    let told = Reply::Bytes(Bytes::new(vec![in rt.alloc(); 3]?));
-    let are_equal = store.try_clone()? == store && told.try_clone()? == told;
-    assert!(rt; are_equal);
+        bytes,
+    })
+}
+
+fn copies_bytes(alloc: Global) -> Result<bool, AllocError> {
+    let bytes = bytes_of(alloc, &[3])?;
+    copies_a_reply(&Reply::Bytes(bytes))
+}
+
+#[test]
+fn copies_are_equal(rt: HostRuntime) -> Result<(), AllocError> {
+    assert!(rt; copies_pages(rt.alloc(), &mut BTreeMap::new(rt.alloc()))?);
+    assert!(rt; copies_a_store(rt.alloc())? && copies_bytes(rt.alloc())?);
     Ok(())
 }

@@ -1,9 +1,10 @@
 //! What commands and refusals are made of.
+use crate::support::bytes_of;
 use sd_command::{Bytes, Refusal};
-use std::test::Fail;
+use std::alloc::{AllocError, Global};
 
 /// Each refusal with the number and the name under which it is printed.
-const REFUSALS: [(Refusal, u8, &str); 19] = [
+const REFUSALS: &[(Refusal, u8, &str)] = &[
     (Refusal::Einval, 1, "EINVAL"),
     (Refusal::Enomem, 2, "ENOMEM"),
     (Refusal::NoSuchSpace, 3, "no-such-space"),
@@ -31,20 +32,26 @@ fn is_named(row: &(Refusal, u8, &str)) -> bool {
     refusal.number() == *number && refusal.name() == *name
 }
 
-#[test]
-fn refusals_have_numbers_and_names(rt: HostRuntime) {
-    for row in REFUSALS.iter() {
-        assert!(rt; is_named(row), "{}", row.2);
-    }
+/// Whether bytes are equal to others with these values.
+fn is_equal(alloc: Global, bytes: &Bytes, values: &[u8]) -> Result<bool, AllocError> {
+    let other = bytes_of(alloc, values)?;
+    Ok(*bytes == other)
+}
+
+/// Whether bytes are equal to those of the same length and values, and to no others.
+fn are_equal_by_value(alloc: Global) -> Result<bool, AllocError> {
+    let bytes = bytes_of(alloc, &[1, 2])?;
+    Ok(
+        bytes.as_slice() == [1, 2].as_slice()
+            && is_equal(alloc, &bytes, &[1, 2])?
+            && !is_equal(alloc, &bytes, &[1, 3])?
+            && !is_equal(alloc, &bytes, &[1])?,
+    )
 }
 
 #[test]
-fn bytes_are_equal_by_value(rt: HostRuntime) -> Result<(), Fail> {
-    let bytes = Bytes::new(vec![in rt.alloc(); 1, 2]?);
-    let same = Bytes::new(vec![in rt.alloc(); 1, 2]?);
-    let other = Bytes::new(vec![in rt.alloc(); 1, 3]?);
-    let shorter = Bytes::new(vec![in rt.alloc(); 1]?);
-    assert!(rt; bytes == same && bytes != other && bytes != shorter);
-    assert_eq!(rt; bytes.as_slice(), [1, 2].as_slice());
+fn refusals_and_bytes(rt: HostRuntime) -> Result<(), AllocError> {
+    assert!(rt; REFUSALS.iter().all(is_named));
+    assert!(rt; are_equal_by_value(rt.alloc())?);
     Ok(())
 }

@@ -1,11 +1,9 @@
 //! Page tables that are copied, by the public names of `sd_tables`.
-use crate::support::{READ_WRITE, page};
-use sd_areas::SpaceId;
+use crate::support::READ_WRITE;
+use sd_areas::{PageNo, SpaceId};
 use sd_tables::{Entry, Tables};
 use std::alloc::AllocError;
 use std::ops::Bound;
-use std::process::Abort;
-use std::test::Fail;
 
 /// The first of the pages, the last but one of a table, and the end after them, in the next one.
 const FIRST: u64 = 510;
@@ -27,20 +25,22 @@ fn child() -> SpaceId {
     SpaceId::new(2)
 }
 
-/// Puts the pages of a space, each with a frame.
-fn fill(rt: &impl Abort, tables: &mut Tables, space: SpaceId) -> Result<(), AllocError> {
-    for number in FIRST..END {
-        if tables.is_alive(space) {
-            tables.insert(space, page(rt, number), ENTRY)?;
-        }
+/// Puts a page of a space that is there.
+fn put(tables: &mut Tables, space: SpaceId, number: u64) -> Result<(), AllocError> {
+    if let Some(page) = PageNo::new(number)
+        && tables.is_alive(space)
+    {
+        tables.insert(space, page, ENTRY)?;
     }
     Ok(())
 }
 
-/// Adds a space with pages, and a copy of it.
-fn copy(rt: &impl Abort, tables: &mut Tables) -> Result<(), AllocError> {
+/// Adds a space with pages, each with a frame, and a copy of it.
+fn copy(tables: &mut Tables) -> Result<(), AllocError> {
     tables.add_space(original())?;
-    fill(rt, tables, original())?;
+    for number in FIRST..END {
+        put(tables, original(), number)?;
+    }
     tables.add_copy(original(), child())
 }
 
@@ -59,12 +59,15 @@ fn has_pages(tables: &Tables, space: SpaceId, entry: Entry) -> bool {
     tables.first_entry_from(space, start).is_none()
 }
 
-/// A copy has the pages of its original, as ones just mapped, and the original is as before.
+/// Whether a copy has the pages of its original, as ones just mapped, and the original is as before.
+fn copies(tables: &mut Tables) -> Result<bool, AllocError> {
+    copy(tables)?;
+    let fresh = Entry::fresh(READ_WRITE);
+    Ok(has_pages(tables, original(), ENTRY) && has_pages(tables, child(), fresh))
+}
+
 #[test]
-fn copies_tables(rt: HostRuntime) -> Result<(), Fail> {
-    let mut tables = Tables::new(rt.alloc());
-    copy(&rt, &mut tables)?;
-    assert!(&rt; has_pages(&tables, original(), ENTRY));
-    assert!(&rt; has_pages(&tables, child(), Entry::fresh(READ_WRITE)));
+fn copies_tables(rt: HostRuntime) -> Result<(), AllocError> {
+    assert!(rt; copies(&mut Tables::new(rt.alloc()))?);
     Ok(())
 }

@@ -143,15 +143,12 @@ fn returns(memory: &mut Memory, line: Line) -> Result<bool, AllocError> {
     }
 }
 
-/// The first line of a script that returns something else.
-pub(crate) fn first_other(
-    memory: &mut Memory,
-    script: &[Line],
-) -> Result<Option<usize>, AllocError> {
-    for (index, line) in script.iter().enumerate() {
+/// Whether each line of a script returns what it says.
+pub(crate) fn returns_each(memory: &mut Memory, script: &[Line]) -> Result<bool, AllocError> {
+    for line in script {
         if !returns(memory, *line)? {
-            return Ok(Some(index));
+            return Ok(false);
         }
     }
-    Ok(None)
+    Ok(true)
 }

@@ -3,78 +3,93 @@ use crate::support::{ENOMEM, FirstByte, NO_FRAME, READ, READ_WRITE, snapshot_of,
 use sd_areas::{Snapshot, SpaceId};
 use sd_pagetable::{Memory, MemoryError, StoreOutcome};
 use std::alloc::{AllocError, Global};
-use std::process::Abort;
-use std::test::Fail;
 
 /// Two pages of space 1, the second all zeros, and one of space 3.
-const SAVED: [FirstByte; 3] = [
+const SAVED: &[FirstByte] = &[
     (1, 16, READ_WRITE, 0x61),
     (1, 17, READ_WRITE, 0),
     (3, 16, READ, 0x62),
 ];
 
-fn stores_to_a_frame(rt: &impl Abort, memory: &mut Memory) -> Result<(), Fail> {
+/// Whether a store to a page that has a frame needs a fault, and no other page gets one.
+fn stores_to_a_frame(memory: &mut Memory) -> Result<bool, MemoryError> {
     let one = SpaceId::new(1);
-    assert_eq!(rt;
-        memory.try_store(one, 0x10000, &[1]),
-        Ok(StoreOutcome::NeedsFault)
-    );
+    let tried = memory.try_store(one, 0x10000, &[1]);
     memory.store_now(one, 0x10001, &[1])?;
-    assert_eq!(rt; told(memory.store_now(one, 0x11000, &[1]))?, Err(NO_FRAME));
-    assert_eq!(rt; memory.fork(one)?, SpaceId::new(2));
-    Ok(())
+    let refused = told(memory.store_now(one, 0x11000, &[1]))?;
+    let child = memory.fork(one)?;
+    Ok(
+        tried == Ok(StoreOutcome::NeedsFault)
+            && refused == Err(NO_FRAME)
+            && child == SpaceId::new(2),
+    )
 }
 
 fn snapshot(alloc: Global) -> Result<Snapshot, AllocError> {
-    snapshot_of(alloc, &[1, 3], &SAVED)
+    snapshot_of(alloc, &[1, 3], SAVED)
 }
 
-/// A memory that begins with a snapshot. Where that is refused, it is for lack of memory, and is tried again.
-fn loaded(rt: &impl Abort, alloc: Global, saved: &Snapshot) -> Result<Memory, MemoryError> {
+/// A memory that begins with a snapshot. Where that is refused for lack of memory, it is tried again.
+fn loaded(alloc: Global, saved: &Snapshot) -> Result<Memory, MemoryError> {
     match Memory::from_snapshot(alloc, 2, saved) {
-        Ok(memory) => Ok(memory),
-        Err(error) => {
-            assert_eq!(rt; error, MemoryError::OutOfMemory);
-            Memory::from_snapshot(alloc, 2, saved)
-        }
+        Err(MemoryError::OutOfMemory) => Memory::from_snapshot(alloc, 2, saved),
+        loaded => loaded,
     }
 }
 
-fn is_loaded(rt: &impl Abort, alloc: Global, saved: &Snapshot) -> Result<(), Fail> {
-    let mut memory = loaded(rt, alloc, saved)?;
-    stores_to_a_frame(rt, &mut memory)
+fn is_loaded(alloc: Global, saved: &Snapshot) -> Result<bool, MemoryError> {
+    stores_to_a_frame(&mut loaded(alloc, saved)?)
 }
 
-/// Each page needs a fault, and only one that isn't all zeros has a frame.
-#[test]
-fn begins_with_a_snapshot(rt: HostRuntime) -> Result<(), Fail> {
-    let saved = match snapshot(rt.alloc()) {
-        Ok(snapshot) => snapshot,
-        Err(_) => snapshot(rt.alloc())?,
-    };
-    is_loaded(&rt, rt.alloc(), &saved)
+/// The snapshot, begun again where memory is refused.
+fn saved(alloc: Global) -> Result<Snapshot, AllocError> {
+    match snapshot(alloc) {
+        Ok(snapshot) => Ok(snapshot),
+        Err(_) => snapshot(alloc),
+    }
 }
 
-const TWO_PAGES: [FirstByte; 2] = [(1, 16, READ_WRITE, 1), (1, 17, READ_WRITE, 1)];
+/// Whether each page needs a fault, and only one that isn't all zeros has a frame.
+fn begins_with_a_snapshot(alloc: Global) -> Result<bool, MemoryError> {
+    let saved = saved(alloc)?;
+    is_loaded(alloc, &saved)
+}
+
+const TWO_PAGES: &[FirstByte] = &[(1, 16, READ_WRITE, 1), (1, 17, READ_WRITE, 1)];
 
 /// The frames, a space of a snapshot of two pages, and why a memory doesn't begin with it.
-const REFUSED: [(usize, u64, MemoryError); 4] = [
+type Refused = (usize, u64, MemoryError);
+
+const REFUSED: &[Refused] = &[
     (1, 1, NO_FRAME),
     (1, 17, ENOMEM),
     (2, 0, ENOMEM),
     (2, 17, ENOMEM),
 ];
 
-fn refusal_of(alloc: Global, frames: usize, space: u64) -> Result<Option<MemoryError>, Fail> {
-    let snapshot = snapshot_of(alloc, &[space], &TWO_PAGES)?;
-    Ok(Memory::from_snapshot(alloc, frames.clamp(1, 65_536), &snapshot).err())
+/// Whether a memory doesn't begin so.
+fn is_refused(alloc: Global, row: &Refused) -> Result<bool, AllocError> {
+    let (frames, space, wanted) = *row;
+    let snapshot = snapshot_of(alloc, &[space], TWO_PAGES)?;
+    match Memory::from_snapshot(alloc, frames.clamp(1, 65_536), &snapshot) {
+        Ok(_) => Ok(false),
+        Err(error) => Ok(error == wanted),
+    }
 }
 
-/// What a memory can't begin with, and in which order it is refused.
-#[test]
-fn refuses_a_snapshot(rt: HostRuntime) -> Result<(), Fail> {
-    for (frames, space, error) in &REFUSED {
-        assert_eq!(rt; refusal_of(rt.alloc(), *frames, *space)?, Some(*error));
+fn are_refused(alloc: Global) -> Result<bool, AllocError> {
+    for row in REFUSED {
+        if !is_refused(alloc, row)? {
+            return Ok(false);
+        }
     }
+    Ok(true)
+}
+
+/// What a memory can begin with, what it can't, and in which order it is refused.
+#[test]
+fn begins_with_snapshots(rt: HostRuntime) -> Result<(), MemoryError> {
+    assert!(rt; begins_with_a_snapshot(rt.alloc())?);
+    assert!(rt; are_refused(rt.alloc())?);
     Ok(())
 }

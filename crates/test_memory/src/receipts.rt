@@ -4,9 +4,7 @@ use sd_areas::SpaceId;
 use sd_command::{Command, Reply};
 use sd_journal::{CloseFault, Entry, Journal, Receipt};
 use sd_receipts::check_receipts;
-use std::alloc::Global;
-use std::process::Abort;
-use std::test::Fail;
+use std::alloc::{AllocError, Global};
 
 fn exit() -> Command {
     Command::Exit {
@@ -32,7 +30,7 @@ fn receipt(seat: usize, number: u64) -> Receipt {
 }
 
 /// Adds an entry to a journal that has a free one.
-fn add(journal: &mut Journal, entry: Entry) -> Result<(), Fail> {
+fn add(journal: &mut Journal, entry: Entry) -> Result<(), AllocError> {
     journal.reserve()?;
     if journal.free() > 0 {
         journal.append(entry);
@@ -41,7 +39,7 @@ fn add(journal: &mut Journal, entry: Entry) -> Result<(), Fail> {
 }
 
 /// Adds a command of a seat, with the reply that its number has.
-fn apply(journal: &mut Journal, seat: usize) -> Result<(), Fail> {
+fn apply(journal: &mut Journal, seat: usize) -> Result<(), AllocError> {
     let reply = reply_at(journal.next_number());
     let command = exit();
     add(
@@ -54,102 +52,137 @@ fn apply(journal: &mut Journal, seat: usize) -> Result<(), Fail> {
     )
 }
 
-/// A journal of a command of each of these seats, of which the second made space 2, and an acknowledgement.
-fn journal(alloc: Global, seats: &[usize]) -> Result<Journal, Fail> {
-    let mut journal = Journal::new(alloc);
+/// Adds a command of each of these seats, of which the second makes space 2, and an acknowledgement.
+fn apply_each(journal: &mut Journal, seats: &[usize]) -> Result<(), AllocError> {
     for seat in seats {
-        apply(&mut journal, *seat)?;
+        apply(journal, *seat)?;
     }
-    add(&mut journal, Entry::Acked(7))?;
-    Ok(journal)
+    add(journal, Entry::Acked(7))
 }
 
-/// Receipts of a seat at these numbers.
-fn receipts(alloc: Global, seat: usize, numbers: &[u64]) -> Result<Vec<Receipt>, Fail> {
-    let mut receipts = Vec::new(alloc);
+/// Adds receipts of a seat at these numbers.
+fn receive(receipts: &mut Vec<Receipt>, seat: usize, numbers: &[u64]) -> Result<(), AllocError> {
     for number in numbers {
         receipts.push(receipt(seat, *number))?;
     }
-    Ok(receipts)
+    Ok(())
 }
+
+/// The numbers of a seat's receipts, the acknowledgements, and what they are answered. A seat that is out of order is
+/// the one that the receipts have.
+type Row = (&'static [u64], &'static [u64], Result<(), CloseFault>);
 
 /// Each fault of receipts of one seat, at the numbers 0, 1 and 2.
-fn each_fault(rt: &(impl Abort + AllocGlobal), seat: usize) -> Result<(), Fail> {
-    let rows: [(&[u64], &[u64], Result<(), CloseFault>); 8] = [
-        (&[0, 1, 2], &[7], Ok(())),
-        (&[0, 1], &[7], Err(CloseFault::Count)),
-        (&[1, 0, 2], &[7], Err(CloseFault::OutOfOrder(seat))),
-        (&[0, 1, 1], &[7], Err(CloseFault::OutOfOrder(seat))),
-        (&[0, 1, 9], &[7], Err(CloseFault::NotThere(9))),
-        (&[0, 1, 3], &[7], Err(CloseFault::NotThere(3))),
-        (&[0, 1, 2], &[7, 8], Err(CloseFault::Acks)),
-        (&[0, 1, 2], &[], Err(CloseFault::Acks)),
-    ];
-    let journal = journal(rt.alloc(), &[seat, seat, seat])?;
-    for (numbers, acks, wanted) in rows {
-        let receipts = receipts(rt.alloc(), seat, numbers)?;
-        assert_eq!(rt; check_receipts(&journal, &receipts, acks), wanted);
+const ROWS: &[Row] = &[
+    (&[0, 1, 2], &[7], Ok(())),
+    (&[0, 1], &[7], Err(CloseFault::Count)),
+    (&[1, 0, 2], &[7], Err(CloseFault::OutOfOrder(0))),
+    (&[0, 1, 1], &[7], Err(CloseFault::OutOfOrder(0))),
+    (&[0, 1, 9], &[7], Err(CloseFault::NotThere(9))),
+    (&[0, 1, 3], &[7], Err(CloseFault::NotThere(3))),
+    (&[0, 1, 2], &[7, 8], Err(CloseFault::Acks)),
+    (&[0, 1, 2], &[], Err(CloseFault::Acks)),
+];
+
+/// What a row is answered where its receipts are of this seat.
+fn answer_of(wanted: Result<(), CloseFault>, seat: usize) -> Result<(), CloseFault> {
+    match wanted {
+        Err(CloseFault::OutOfOrder(_)) => Err(CloseFault::OutOfOrder(seat)),
+        other => other,
     }
-    Ok(())
 }
 
-#[test]
-fn each_fault_of_the_first_seat(rt: HostRuntime) -> Result<(), Fail> {
-    each_fault(&rt, 0)
+/// Whether receipts of a seat are answered as a row says.
+fn is_answered(
+    alloc: Global,
+    journal: &Journal,
+    seat: usize,
+    row: &Row,
+) -> Result<bool, AllocError> {
+    let (numbers, acks, wanted) = *row;
+    let mut receipts = Vec::new(alloc);
+    receive(&mut receipts, seat, numbers)?;
+    Ok(check_receipts(journal, &receipts, acks) == answer_of(wanted, seat))
 }
 
-#[test]
-fn each_fault_of_the_last_seat(rt: HostRuntime) -> Result<(), Fail> {
-    each_fault(&rt, 999)
+/// Whether receipts of a seat are answered as each row says.
+fn are_answered(alloc: Global, journal: &Journal, seat: usize) -> Result<bool, AllocError> {
+    for row in ROWS {
+        if !is_answered(alloc, journal, seat, row)? {
+            return Ok(false);
+        }
+    }
+    Ok(true)
 }
 
-/// A seat that has no place in the table.
-#[test]
-fn each_fault_of_seat_1000(rt: HostRuntime) -> Result<(), Fail> {
-    each_fault(&rt, 1000)
+fn finds_each_fault(alloc: Global, seat: usize) -> Result<bool, AllocError> {
+    let mut journal = Journal::new(alloc);
+    apply_each(&mut journal, &[seat, seat, seat])?;
+    are_answered(alloc, &journal, seat)
 }
 
-#[test]
-fn another_reply_differs(rt: HostRuntime) -> Result<(), Fail> {
-    let journal = journal(rt.alloc(), &[0, 0, 0])?;
-    let mut altered = receipt(0, 1);
-    altered.reply = Reply::NeedsFault;
-    let receipts = [receipt(0, 0), altered, receipt(0, 2)];
-    assert_eq!(rt;
-        check_receipts(&journal, &receipts, &[7]),
-        Err(CloseFault::Differs(1))
-    );
-    Ok(())
+/// Whether that is so of the first and the last seat of the table, and of one that has no place there.
+fn finds_faults(alloc: Global) -> Result<bool, AllocError> {
+    Ok(
+        finds_each_fault(alloc, 0)?
+            && finds_each_fault(alloc, 999)?
+            && finds_each_fault(alloc, 1000)?,
+    )
 }
 
-#[test]
-fn another_seat_differs(rt: HostRuntime) -> Result<(), Fail> {
-    let journal = journal(rt.alloc(), &[0, 0, 0])?;
-    let receipts = [receipt(0, 0), receipt(0, 1), receipt(1, 2)];
-    assert_eq!(rt;
-        check_receipts(&journal, &receipts, &[7]),
-        Err(CloseFault::Differs(2))
-    );
-    Ok(())
+/// Whether another reply than that of the journal is found.
+fn other_reply_differs(journal: &Journal, receipts: &mut Vec<Receipt>) -> Result<bool, AllocError> {
+    receive(receipts, 0, &[0])?;
+    receipts.push(Receipt {
+        seat: 0,
+        number: 1,
+        command: exit(),
+        reply: Reply::NeedsFault,
+    })?;
+    receive(receipts, 0, &[2])?;
+    Ok(check_receipts(journal, receipts, &[7]) == Err(CloseFault::Differs(1)))
+}
+
+/// Whether another seat than that of the journal is found.
+fn other_seat_differs(journal: &Journal, receipts: &mut Vec<Receipt>) -> Result<bool, AllocError> {
+    receive(receipts, 0, &[0, 1])?;
+    receive(receipts, 1, &[2])?;
+    Ok(check_receipts(journal, receipts, &[7]) == Err(CloseFault::Differs(2)))
+}
+
+fn others_differ(alloc: Global) -> Result<bool, AllocError> {
+    let mut journal = Journal::new(alloc);
+    apply_each(&mut journal, &[0, 0, 0])?;
+    Ok(
+        other_reply_differs(&journal, &mut Vec::new(alloc))?
+            && other_seat_differs(&journal, &mut Vec::new(alloc))?,
+    )
+}
+
+fn is_ordered(journal: &Journal, receipts: &mut Vec<Receipt>) -> Result<bool, AllocError> {
+    receive(receipts, 5, &[3])?;
+    receive(receipts, 1000, &[1])?;
+    receive(receipts, 0, &[0, 2])?;
+    Ok(check_receipts(journal, receipts, &[7]) == Ok(()))
 }
 
 /// Only those of one seat have an order.
-#[test]
-fn seats_come_in_any_order(rt: HostRuntime) -> Result<(), Fail> {
-    let journal = journal(rt.alloc(), &[0, 1000, 0, 5])?;
-    let receipts = [
-        receipt(5, 3),
-        receipt(1000, 1),
-        receipt(0, 0),
-        receipt(0, 2),
-    ];
-    assert_eq!(rt; check_receipts(&journal, &receipts, &[7]), Ok(()));
-    Ok(())
+fn seats_are_ordered(alloc: Global) -> Result<bool, AllocError> {
+    let mut journal = Journal::new(alloc);
+    apply_each(&mut journal, &[0, 1000, 0, 5])?;
+    is_ordered(&journal, &mut Vec::new(alloc))
+}
+
+/// Whether an empty journal accounts for nothing alone.
+fn is_nothing(journal: &Journal) -> bool {
+    check_receipts(journal, &[], &[]) == Ok(())
+        && check_receipts(journal, &[], &[7]) == Err(CloseFault::Acks)
 }
 
 #[test]
-fn nothing_accounts_for_nothing(rt: HostRuntime) {
-    let journal = Journal::new(rt.alloc());
-    assert_eq!(rt; check_receipts(&journal, &[], &[]), Ok(()));
-    assert_eq!(rt; check_receipts(&journal, &[], &[7]), Err(CloseFault::Acks));
+fn receipts_account_for_a_journal(rt: HostRuntime) -> Result<(), AllocError> {
+    assert!(rt; finds_faults(rt.alloc())?);
+    assert!(rt; others_differ(rt.alloc())? && seats_are_ordered(rt.alloc())?);
+    assert!(rt; is_nothing(&Journal::new(rt.alloc())));
+    Ok(())
 }

@@ -1,12 +1,13 @@
 //! Commands on a memory and the replay of their entries give one memory.
+ghost use Rattle.std.specs.Prelude.{OnOk};
 ghost use Rattle.test_memory.specs.Told.{TellsMemory};
 
 use crate::told::{beginning, made, tell};
 use sd_areas::{PageNo, Prot, Snapshot, SnapshotPage, SpaceId};
 use sd_command::{Bytes, Command};
+use sd_journal::Entry;
 use sd_pagetable::Memory;
-use std::alloc::Global;
-use std::test::Fail;
+use std::alloc::{AllocError, Global};
 
 const COMMANDS: usize = 400;
 
@@ -30,7 +31,7 @@ fn next(draw: u64) -> u64 {
 }
 
 /// A command on one of 3 spaces and 6 pages.
-fn command(alloc: Global, draw: u64) -> Result<Command, Fail> {
+fn command(alloc: Global, draw: u64) -> Result<Command, AllocError> {
     let space = SpaceId::new(1 + (draw >> 20) % 3);
     let address = ((draw >> 24) % 6) * 4096;
     let length = ((draw >> 28) % 3) * 4096;
@@ -112,19 +113,39 @@ pub(crate) fn has_just(memory: &Memory, made: &Snapshot) -> bool {
     count == page_count(memory)
 }
 
-#[test]
-fn random_commands(rt: HostRuntime) -> Result<(), Fail> {
-    let alloc = rt.alloc();
-    let mut memory = beginning(alloc)?;
-    let mut entries = Vec::new(alloc);
+/// Applies random commands, and adds each as an entry.
+fn tell_random(
+    alloc: Global,
+    memory: &mut Memory,
+    entries: &mut Vec<Entry>,
+) -> Result<(), AllocError>
+    requires { TellsMemory entries.old.items memory.old }
+    ensures { OnOk result (TellsMemory entries.new.items memory.new) }
+{
     let mut draw = 20261123;
     for _ in 0..COMMANDS {
         draw = next(draw);
-        let command = command(alloc, draw)?;
-        tell(alloc, &mut memory, &mut entries, command)?;
+        tell(alloc, memory, entries, command(alloc, draw)?)?;
     }
-    let made = made(alloc, &memory, &entries)?;
-    assert!(rt; page_count(&memory) > 0);
-    assert!(rt; has_just(&memory, &made));
+    Ok(())
+}
+
+/// Whether random commands leave pages, and their replay has the same.
+fn is_replayed(
+    alloc: Global,
+    memory: &mut Memory,
+    entries: &mut Vec<Entry>,
+) -> Result<bool, AllocError>
+    requires { TellsMemory entries.old.items memory.old }
+{
+    tell_random(alloc, memory, entries)?;
+    let made = made(alloc, memory, entries)?;
+    Ok(page_count(memory) > 0 && has_just(memory, &made))
+}
+
+#[test]
+fn random_commands(rt: HostRuntime) -> Result<(), AllocError> {
+    let mut memory = beginning(rt.alloc())?;
+    assert!(rt; is_replayed(rt.alloc(), &mut memory, &mut Vec::new(rt.alloc()))?);
     Ok(())
 }

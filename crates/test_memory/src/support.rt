@@ -1,8 +1,9 @@
 //! What several tests use: permissions, words, errors and a page of bytes.
-use sd_areas::{AreaError, PAGE_SIZE, PageNo, Prot, Snapshot, SnapshotPage, SpaceId};
+use sd_areas::{PageNo, Prot, Snapshot, SnapshotPage, SpaceId};
+use sd_command::Bytes;
+use sd_journal::{Pages, zero_page};
 use sd_pagetable::{AccessError, MemoryError, MemoryRefusal, Segv};
 use std::alloc::{AllocError, Global};
-use std::process::Abort;
 
 pub(crate) const READ: Prot = Prot {
     read: true,
@@ -72,27 +73,56 @@ pub(crate) fn told<T: Drop>(
     }
 }
 
-/// The same of a call on areas.
-pub(crate) fn told_of_areas(
-    returned: Result<(), AreaError>,
-) -> Result<Result<(), AreaError>, AllocError> {
-    match returned {
-        Err(AreaError::OutOfMemory) => Err(AllocError),
-        Ok(()) | Err(AreaError::Refused(_)) => Ok(returned),
-    }
-}
-
-pub(crate) fn page(rt: &impl Abort, number: u64) -> PageNo {
-    PageNo::new(number).expect(rt, "a page number")
-}
-
-/// What was printed is this text.
-pub(crate) fn prints(rt: &impl Abort, printed: String, text: &str) {
-    assert_eq!(rt; printed.as_str(), text);
+/// A copy of bytes.
+pub(crate) fn bytes_of(alloc: Global, values: &[u8]) -> Result<Bytes, AllocError> {
+    let mut bytes = Vec::new(alloc);
+    bytes.extend_from_slice(values)?;
+    Ok(Bytes::new(bytes))
 }
 
 /// A page of a snapshot, by its space, its number, its permissions and its first byte.
 pub(crate) type FirstByte = (u64, u64, Prot, u8);
+
+/// A page with this first byte, whose other bytes are 0.
+fn page_of(alloc: Global, prot: Prot, byte: u8) -> Result<SnapshotPage, AllocError> {
+    let mut page = zero_page(alloc, prot)?;
+    page.bytes[0] = byte;
+    Ok(page)
+}
+
+/// Puts a page into a space.
+pub(crate) fn put(alloc: Global, pages: &mut Pages, row: &FirstByte) -> Result<(), AllocError> {
+    let (_, number, prot, byte) = *row;
+    if let Some(page) = PageNo::new(number) {
+        let found = page_of(alloc, prot, byte)?;
+        pages.insert(page, found)?;
+    }
+    Ok(())
+}
+
+/// Puts a page into its space, where that is there.
+fn add(alloc: Global, snapshot: &mut Snapshot, row: &FirstByte) -> Result<(), AllocError> {
+    match snapshot.spaces.get_mut(&SpaceId::new(row.0)) {
+        Some(pages) => put(alloc, pages, row),
+        None => Ok(()),
+    }
+}
+
+/// Adds spaces with pages.
+fn fill(
+    alloc: Global,
+    snapshot: &mut Snapshot,
+    spaces: &[u64],
+    pages: &[FirstByte],
+) -> Result<(), AllocError> {
+    for space in spaces {
+        snapshot.add_space(alloc, SpaceId::new(*space))?;
+    }
+    for page in pages {
+        add(alloc, snapshot, page)?;
+    }
+    Ok(())
+}
 
 /// A snapshot of these spaces with these pages, whose other bytes are 0.
 pub(crate) fn snapshot_of(
@@ -101,18 +131,6 @@ pub(crate) fn snapshot_of(
     pages: &[FirstByte],
 ) -> Result<Snapshot, AllocError> {
     let mut snapshot = Snapshot::new(alloc, 7);
-    for space in spaces {
-        snapshot.add_space(alloc, SpaceId::new(*space))?;
-    }
-    for (space, number, prot, byte) in pages {
-        let mut bytes = Box::new(alloc, [0; PAGE_SIZE])?;
-        bytes[0] = *byte;
-        let prot = *prot;
-        if let Some(page) = PageNo::new(*number)
-            && let Some(found) = snapshot.spaces.get_mut(&SpaceId::new(*space))
-        {
-            found.insert(page, SnapshotPage { prot, bytes })?;
-        }
-    }
+    fill(alloc, &mut snapshot, spaces, pages)?;
     Ok(snapshot)
 }

@@ -1,11 +1,12 @@
 //! What permissions and errors print.
 use crate::support::{
-    EINVAL, ENOMEM, LAST_SPACE, NO_FRAME, NO_SUCH_SPACE, NOT_MAPPED, TOO_MANY_SPACES, prints,
+    EINVAL, ENOMEM, LAST_SPACE, NO_FRAME, NO_SUCH_SPACE, NOT_MAPPED, TOO_MANY_SPACES,
 };
 use sd_areas::{AreaError, Errno, Prot};
 use sd_pagetable::MemoryError;
 use sd_procfs::{ClearError, NoSuchSpace};
-use std::test::Fail;
+use std::alloc::{AllocError, Global};
+use std::fmt::Display;
 
 /// Whether these bits are those of permissions.
 fn are_bits(bits: u8) -> bool {
@@ -15,29 +16,39 @@ fn are_bits(bits: u8) -> bool {
     }
 }
 
-#[test]
-fn permissions_have_three_bits(rt: HostRuntime) {
+/// Whether permissions have three bits.
+fn have_three_bits() -> bool {
     for bits in 0..16u8 {
-        assert_eq!(rt; are_bits(bits), bits < 8, "{bits}");
+        if are_bits(bits) != (bits < 8) {
+            return false;
+        }
     }
+    true
 }
 
-const ERRORS: [(AreaError, &str); 3] = [
+/// Whether a value prints this text.
+fn prints<T: Display>(alloc: Global, value: &T, text: &str) -> Result<bool, AllocError> {
+    Ok(format!(in alloc; "{value}")?.as_str() == text)
+}
+
+/// Whether each value prints its text.
+fn prints_each<T: Display>(alloc: Global, rows: &[(T, &str)]) -> Result<bool, AllocError> {
+    for (value, text) in rows {
+        if !prints(alloc, value, text)? {
+            return Ok(false);
+        }
+    }
+    Ok(true)
+}
+
+const ERRORS: &[(AreaError, &str)] = &[
     (AreaError::Refused(Errno::Einval), "1 EINVAL"),
     (AreaError::Refused(Errno::Enomem), "2 ENOMEM"),
     (AreaError::OutOfMemory, "out-of-memory"),
 ];
 
-#[test]
-fn prints_area_errors(rt: HostRuntime) -> Result<(), Fail> {
-    for (error, text) in &ERRORS {
-        prints(&rt, format!(in rt.alloc(); "{error}")?, text);
-    }
-    Ok(())
-}
-
 /// Errors, and what they print.
-const PRINTED: [(MemoryError, &str); 8] = [
+const PRINTED: &[(MemoryError, &str)] = &[
     (EINVAL, "1 EINVAL"),
     (ENOMEM, "2 ENOMEM"),
     (NO_SUCH_SPACE, "3 no-such-space"),
@@ -48,26 +59,16 @@ const PRINTED: [(MemoryError, &str); 8] = [
     (MemoryError::OutOfMemory, "out-of-memory"),
 ];
 
-/// What refusals print.
-#[test]
-fn prints_refusals(rt: HostRuntime) -> Result<(), Fail> {
-    for (error, text) in &PRINTED {
-        prints(&rt, format!(in rt.alloc(); "{error}")?, text);
-    }
-    Ok(())
-}
+const CLEARS: &[(ClearError, &str)] = &[
+    (ClearError::NoSuchSpace, "3 no-such-space"),
+    (ClearError::UnsupportedValue, "9 unsupported-value"),
+];
 
-/// What refusals print.
 #[test]
-fn prints_clear_errors(rt: HostRuntime) -> Result<(), Fail> {
-    let (space, value) = (ClearError::NoSuchSpace, ClearError::UnsupportedValue);
-    let no_space = "3 no-such-space";
-    prints(&rt, format!(in rt.alloc(); "{space}")?, no_space);
-    prints(
-        &rt,
-        format!(in rt.alloc(); "{value}")?,
-        "9 unsupported-value",
-    );
-    prints(&rt, format!(in rt.alloc(); "{NoSuchSpace}")?, no_space);
+fn permissions_and_errors(rt: HostRuntime) -> Result<(), AllocError> {
+    assert!(rt; have_three_bits());
+    assert!(rt; prints_each(rt.alloc(), ERRORS)?);
+    assert!(rt; prints_each(rt.alloc(), PRINTED)? && prints_each(rt.alloc(), CLEARS)?);
+    assert!(rt; prints(rt.alloc(), &NoSuchSpace, "3 no-such-space")?);
     Ok(())
 }

@@ -9,14 +9,13 @@ use sd_command::{Command, apply_to};
 use sd_fold::replay;
 use sd_journal::Entry;
 use sd_pagetable::Memory;
-use std::alloc::Global;
-use std::test::Fail;
+use std::alloc::{AllocError, Global};
 
 /// A memory as a run begins without a store: space 1 alone.
-pub fn beginning(alloc: Global) -> Result<Memory, Fail>
+pub fn beginning(alloc: Global) -> Result<Memory, AllocError>
     ensures { IfOk result (TellsMemory []) }
 {
-    Ok(Memory::new(alloc, 65536)?)
+    Memory::new(alloc, 65536)
 }
 
 /// Applies a command, and adds it with its reply as an entry.
@@ -25,7 +24,7 @@ pub fn tell(
     memory: &mut Memory,
     entries: &mut Vec<Entry>,
     command: Command,
-) -> Result<(), Fail>
+) -> Result<(), AllocError>
     requires { TellsMemory entries.old.items memory.old }
     ensures { OnOk result (TellsMemory entries.new.items memory.new) }
 {
@@ -39,10 +38,10 @@ pub fn tell(
 }
 
 /// The memory that the entries make of the beginning.
-pub fn made(alloc: Global, memory: &Memory, entries: &[Entry]) -> Result<Snapshot, Fail>
+pub fn made(alloc: Global, memory: &Memory, entries: &[Entry]) -> Result<Snapshot, AllocError>
     requires { TellsMemory entries.now memory.now }
 {
     let mut base = Snapshot::new(alloc, 0);
     base.add_space(alloc, SpaceId::new(1))?;
-    Ok(replay(alloc, base, entries)?)
+    replay(alloc, base, entries)
 }

@@ -23,12 +23,33 @@ const TRIES: u64 = 100_000;
 /// What a mutator works with, and how many numbers it stores.
 #[derive(Drop)]
 pub(crate) struct Place<'a, R> {
-    pub(crate) rt: &'a R,
-    pub(crate) shared: &'a Shared<Store>,
-    pub(crate) way: Way,
-    pub(crate) alloc: Global,
-    pub(crate) page: u64,
-    pub(crate) stores: u64,
+    rt: &'a R,
+    shared: &'a Shared<Store>,
+    way: Way,
+    alloc: Global,
+    page: u64,
+    stores: u64,
+}
+
+impl<'a, R> Place<'a, R> {
+    /// A page of a core, a way, and how many numbers are stored in it.
+    pub(crate) fn new(
+        rt: &'a R,
+        alloc: Global,
+        shared: &'a Shared<Store>,
+        work: (Way, u64),
+        page: u64,
+    ) -> Place<'a, R> {
+        let (way, stores) = work;
+        Place {
+            rt,
+            shared,
+            way,
+            alloc,
+            page,
+            stores,
+        }
+    }
 }
 
 impl<R: Wait + Clock> Place<'_, R> {
@@ -107,60 +128,66 @@ impl<R: Wait + Clock> Place<'_, R> {
 /// Makes a checkpoint of one round to its end. The mutators begin at the latest when the dumper was first answered.
 fn save<R: Wait + Clock>(rt: &R, shared: &Shared<Store>, flags: &Flags) -> Reply {
     let job = Job::Saving(1);
-    let gate = Gate { rt, flags };
+    let gate = Gate {
+        rt,
+        flags,
+        millis: 0,
+    };
     let reply = job.run(rt, shared, &gate);
     flags.begun.store(1, Ordering::SeqCst);
     job.end(rt, shared, &gate, reply)
 }
 
-/// A checkpoint of one round beside two mutators. Returns the dumper's reply, and why each mutator ended early, if it
-/// did.
+/// Why each of two mutators ended early, if it did.
+pub(crate) type Ended = (Option<Refusal>, Option<Refusal>);
+
+/// Two mutators, each in a thread of its own and with a place of its own.
+pub(crate) fn mutate_both<R: Threads + Wait + Clock + Sync>(
+    rt: &R,
+    places: (&Place<'_, R>, &Place<'_, R>),
+    mutators: (&mut Mutator<'_>, &mut Mutator<'_>),
+    flags: &Flags,
+) -> Ended {
+    let (first, last) = mutators;
+    thread::join(
+        rt,
+        || places.0.mutate(first, flags),
+        || places.1.mutate(last, flags),
+    )
+}
+
+/// A checkpoint of one round beside two mutators. Returns the dumper's reply.
 fn run_beside<R: Threads + Wait + Clock + Sync>(
     rt: &R,
     shared: &Shared<Store>,
     places: (&Place<'_, R>, &Place<'_, R>),
     mutators: (&mut Mutator<'_>, &mut Mutator<'_>),
     flags: &Flags,
-) -> (Reply, (Option<Refusal>, Option<Refusal>)) {
-    let (first, last) = mutators;
+) -> (Reply, Ended) {
     thread::join(
         rt,
         || save(rt, shared, flags),
-        || {
-            thread::join(
-                rt,
-                || places.0.mutate(first, flags),
-                || places.1.mutate(last, flags),
-            )
-        },
+        || mutate_both(rt, places, mutators, flags),
     )
 }
 
-/// Two mutators store a thousand numbers each, and load each back, beside a checkpoint whose first page write is held
-/// until one of their stores is answered.
-pub(crate) fn save_beside<R: Threads + Wait + Clock + Abort + Sync>(
+/// Whether two mutators store a thousand numbers each, and load each back, beside a checkpoint whose first page write
+/// is held until one of their stores is answered.
+pub(crate) fn saves_beside<R: Threads + Wait + Clock + Abort + Sync>(
     rt: &R,
     alloc: Global,
     shared: &Shared<Store>,
     mutators: (&mut Mutator<'_>, &mut Mutator<'_>),
     way: Way,
-) {
+) -> bool {
     let flags = Flags::new();
-    let place = |page| Place {
-        rt,
-        shared,
-        way,
-        alloc,
-        page,
-        stores: STORES,
-    };
-    let (low, high) = (place(0), place(1));
+    let low = Place::new(rt, alloc, shared, (way, STORES), 0);
+    let high = Place::new(rt, alloc, shared, (way, STORES), 1);
     let (reply, (first, last)) = run_beside(rt, shared, (&low, &high), mutators, &flags);
-    assert!(rt; is_acked(reply, 1));
-    assert!(rt;
-        !(is_for(first, Refusal::Idle) && is_for(last, Refusal::Idle)),
-        "no thread could be made"
-    );
-    assert!(rt; first.is_none() && last.is_none());
-    assert!(rt; flags.missed.load(Ordering::SeqCst) == 0);
+    let are_idle = is_for(first, Refusal::Idle) && is_for(last, Refusal::Idle);
+    assert!(rt; !are_idle, "no thread could be made");
+    is_acked(reply, 1)
+        && first.is_none()
+        && last.is_none()
+        && flags.missed.load(Ordering::SeqCst) == 0
 }

@@ -1,22 +1,25 @@
 //! A checkpoint that another thread cancels, which then makes one of its own, while a third thread waits for thaws.
 use crate::cases::Store;
-use crate::holds::Free;
+use crate::holds::{FIRST_PAGE, Free, await_flag};
 use crate::mutator::Mutator;
 use crate::replies::{is_for, is_refused};
 use crate::thaws::{Thaws, wait_for_thaws};
+use crate::waiting::cancel_and_look;
 use sd_command::{Refusal, Reply};
 use sd_shared::{Hold, Shared, Thaw};
-use std::process::Abort;
 use std::sync::Wait;
 use std::thread;
 use std::thread::Threads;
-use std::time::Clock;
+use std::time::{Clock, Duration};
 
 /// How many checkpoints are cancelled.
 const ROUNDS: u64 = 300;
 
 /// How many checkpoints are made at most until one is cancelled.
 const CHECKPOINTS: u64 = 100_000;
+
+/// How many where each is frozen for 20 milliseconds or more.
+const DELAYED: u64 = 1_000;
 
 /// How often a cancel is tried.
 const TRIES: u64 = 100_000_000;
@@ -45,7 +48,7 @@ fn save_once<R: Wait>(
 
 /// Makes so many checkpoints at most, of so many pre-dumps each, until one is refused. Returns the refusal, and keeps
 /// the numbers that were acknowledged.
-pub(crate) fn save_until_refused<R: Wait>(
+fn save_until_refused<R: Wait>(
     rt: &R,
     shared: &Shared<Store>,
     most: u64,
@@ -102,40 +105,121 @@ fn number_in(reply: Reply) -> u64 {
     }
 }
 
-/// Cancels a checkpoint while it is made, and makes one of its own, whose number is kept after the others. Returns
-/// whether the first dumper was idle, the other one acknowledged, and the third thread woken each time.
-fn cancel_beside<R: Threads + Wait + Clock + Sync>(
+/// What a thread does that cancels a checkpoint while a third thread waits for thaws.
+#[derive(Clone, Copy)]
+pub(crate) enum Cancel {
+    /// It makes one of its own at once. The one that is cancelled has so many pre-dumps.
+    Saves(u64),
+    /// It cancels while the third thread waits, and looks whether that is woken.
+    Looks,
+}
+
+/// A hold that lets the first page's write begin once the third thread waits, and delays each call from there on, where
+/// it does so at all.
+#[derive(Drop)]
+struct Awaiting<'a, R> {
+    rt: &'a R,
+    thaws: &'a Thaws,
+    delays: bool,
+}
+
+impl<R: Clock> Hold for Awaiting<'_, R> {
+    fn before(&self, call: u64) {
+        if self.delays && call == FIRST_PAGE {
+            let _ = await_flag(self.rt, &self.thaws.waits);
+        }
+        if self.delays && call >= FIRST_PAGE {
+            thread::sleep(self.rt, Duration::from_millis(1));
+        }
+    }
+}
+
+impl Cancel {
+    /// Makes checkpoints until one is cancelled. Returns why that one was refused, if so.
+    fn save<R: Wait + Clock>(
+        self,
+        rt: &R,
+        shared: &Shared<Store>,
+        thaws: &Thaws,
+        acks: &mut Vec<u64>,
+    ) -> Option<Refusal> {
+        let (delays, pre_dumps, most) = match self {
+            Cancel::Saves(pre_dumps) => (false, pre_dumps, CHECKPOINTS),
+            Cancel::Looks => (true, 0, DELAYED),
+        };
+        let hold = Awaiting { rt, thaws, delays };
+        save_until_refused(rt, shared, most, pre_dumps, &hold, acks)
+    }
+
+    /// Cancels a checkpoint. Returns the number of the one that it makes then, 0 where it makes none, and nothing where
+    /// something went wrong.
+    fn cancel<R: Wait + Clock>(self, rt: &R, shared: &Shared<Store>, thaws: &Thaws) -> Option<u64> {
+        match self {
+            Cancel::Saves(_) => match cancel_and_save(rt, shared, thaws) {
+                0 => None,
+                number => Some(number),
+            },
+            Cancel::Looks if cancel_and_look(rt, shared, thaws) => Some(0),
+            Cancel::Looks => None,
+        }
+    }
+}
+
+/// Cancels a checkpoint while it is made, beside a third thread that waits for each thaw. Returns the number of the one
+/// that was made then, or 0; nothing where the first dumper wasn't idle, the third thread not woken each time, or
+/// something else went wrong.
+pub(crate) fn cancel_beside<R: Threads + Wait + Clock + Sync>(
+    rt: &R,
+    shared: &Shared<Store>,
+    cancel: Cancel,
+    mutator: &mut Mutator<'_>,
+    acks: &mut Vec<u64>,
+) -> Option<u64> {
+    let thaws = Thaws::new();
+    let (ended, (number, woken)) = thread::join(
+        rt,
+        || cancel.save(rt, shared, &thaws, acks),
+        || {
+            thread::join(
+                rt,
+                || cancel.cancel(rt, shared, &thaws),
+                || wait_for_thaws(rt, shared, mutator, &thaws),
+            )
+        },
+    );
+    if woken && is_for(ended, Refusal::Idle) {
+        number
+    } else {
+        None
+    }
+}
+
+/// Cancels one, and keeps the number of the one that was made then, after the others. Returns whether it is kept.
+fn is_cancelled<R: Threads + Wait + Clock + Sync>(
     rt: &R,
     shared: &Shared<Store>,
     pre_dumps: u64,
     mutator: &mut Mutator<'_>,
     acks: &mut Vec<u64>,
 ) -> bool {
-    let thaws = Thaws::new();
-    let (ended, (number, woken)) = thread::join(
-        rt,
-        || save_until_refused(rt, shared, CHECKPOINTS, pre_dumps, &Free, acks),
-        || {
-            thread::join(
-                rt,
-                || cancel_and_save(rt, shared, &thaws),
-                || wait_for_thaws(rt, shared, mutator, &thaws),
-            )
-        },
-    );
-    number != 0 && acks.push(number).is_ok() && is_for(ended, Refusal::Idle) && woken
+    match cancel_beside(rt, shared, Cancel::Saves(pre_dumps), mutator, acks) {
+        Some(number) => acks.push(number).is_ok(),
+        None => false,
+    }
 }
 
-/// In each round a checkpoint is cancelled by another thread, which makes one of its own at once: the first dumper is
-/// answered that none of its own runs, and the other one is acknowledged.
-pub(crate) fn cancels_beside<R: Threads + Wait + Clock + Abort + Sync>(
+/// Whether in each round a checkpoint is cancelled by another thread, which makes one of its own at once: the first
+/// dumper is answered that none of its own runs, and the other one is acknowledged.
+pub(crate) fn cancels_beside<R: Threads + Wait + Clock + Sync>(
     rt: &R,
     shared: &Shared<Store>,
     mutator: &mut Mutator<'_>,
     acks: &mut Vec<u64>,
-) {
+) -> bool {
     for round in 0..ROUNDS {
-        assert!(rt; cancel_beside(rt, shared, round % 3, mutator, acks));
+        if !is_cancelled(rt, shared, round % 3, mutator, acks) {
+            return false;
+        }
     }
-    assert!(rt; shared.wait_thaw(rt) == Thaw::Thawed);
+    shared.wait_thaw(rt) == Thaw::Thawed
 }

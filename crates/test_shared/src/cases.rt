@@ -1,7 +1,7 @@
 //! A shared core over a store of eight slots, what is done with it, and its closing. Only this file owns one.
 ghost use Rattle.std.specs.Prelude.{◌≤◌};
 
-use crate::beside::save_beside;
+use crate::beside::saves_beside;
 use crate::cancelling::cancels_beside;
 use crate::case::Case;
 use crate::device::Device;
@@ -14,7 +14,7 @@ use crate::mutator::{Mutator, Way};
 use crate::replies::{is_acked, is_merged, is_opened};
 use crate::told::Told;
 use crate::trimming::trims_beside;
-use crate::waiting::{ends_waits, loads_thawed, waits_asleep, wakes_by_a_cancel};
+use crate::waiting::{awaits_each, wakes_by_a_cancel};
 use crate::writers::{falls_beside, writes_beside, writes_twenty_pages};
 use sd_core::Core;
 use sd_disk::{Disk, Fused, MemDisk};
@@ -87,35 +87,23 @@ fn open(alloc: Global, case: Case) -> Result<(Shared<Store>, Vec<Seat>), Fail> {
     }
 }
 
-/// Makes a checkpoint without pre-dumps.
-fn save(rt: &(impl Abort + Wait), shared: &Shared<Store>, told: &mut Told) {
-    assert!(rt; is_acked(shared.run_dumper(rt, 0, &Free), 1));
-    assert!(rt; told.keep_ack(1));
-}
-
-/// Two checkpoints whose data pages are written by other threads.
-fn relays<R: Threads + Wait + Clock + Abort + Sync>(
-    rt: &R,
-    shared: &Shared<Store>,
-    told: &mut Told,
-) {
-    writes_beside(rt, shared);
-    saves_in_16_calls(rt, shared);
-    assert!(rt; told.keep_ack(1) && told.keep_ack(2));
+/// Makes a checkpoint without pre-dumps. Returns whether it is acknowledged, and kept, as what follows does.
+fn saves(rt: &impl Wait, shared: &Shared<Store>, told: &mut Told) -> bool {
+    is_acked(shared.run_dumper(rt, 0, &Free), 1) && told.keep_ack(1)
 }
 
 /// Checkpoints that a mutator waits for: until waits are ended, to a thaw, and to a cancel.
-fn awaits<R: Threads + Wait + Clock + Files + Alloc + Abort + Sync>(
+fn awaits<R: Threads + Wait + Clock + Files + Alloc + Sync>(
     rt: &R,
     shared: &Shared<Store>,
     mutator: &mut Mutator<'_>,
     told: &mut Told,
-) {
-    ends_waits(rt, shared);
-    waits_asleep(rt, shared);
-    loads_thawed(rt, shared, mutator);
-    assert!(rt; told.keep_ack(1) && told.keep_ack(2) && told.keep_ack(3));
-    wakes_by_a_cancel(rt, shared, mutator, &mut told.acks);
+) -> bool {
+    awaits_each(rt, shared, mutator)
+        && told.keep_ack(1)
+        && told.keep_ack(2)
+        && told.keep_ack(3)
+        && wakes_by_a_cancel(rt, shared, mutator, &mut told.acks)
 }
 
 /// A checkpoint beside two mutators, and a merge after it.
@@ -126,55 +114,51 @@ fn merges_beside<R: Threads + Wait + Clock + Abort + Sync>(
     way: Way,
     mutators: (&mut Mutator<'_>, &mut Mutator<'_>),
     told: &mut Told,
-) {
-    save_beside(rt, alloc, shared, mutators, way);
-    assert!(rt; is_merged(Job::Merging.make(rt, shared, &Free), 3));
-    assert!(rt; told.keep_ack(1));
+) -> bool {
+    saves_beside(rt, alloc, shared, mutators, way)
+        && is_merged(Job::Merging.make(rt, shared, &Free), 3)
+        && told.keep_ack(1)
 }
 
-/// Does what a case says that needs no second mutator.
-fn act_alone<R: Threads + Wait + Clock + Files + Alloc + Abort + Sync>(
+/// Does what a case says that needs no mutator.
+fn acts_alone<R: Threads + Wait + Clock + Sync>(
     rt: &R,
     shared: &Shared<Store>,
     case: Case,
-    mutator: &mut Mutator<'_>,
     told: &mut Told,
-) {
+) -> bool {
     match case {
-        Case::Falls => falls(rt, shared, mutator),
-        Case::Merged => {
-            save(rt, shared, told);
-            merges_in_13_calls(rt, shared);
+        Case::Merged => saves(rt, shared, told) && merges_in_13_calls(rt, shared),
+        Case::Relayed => {
+            writes_beside(rt, shared)
+                && saves_in_16_calls(rt, shared)
+                && told.keep_ack(1)
+                && told.keep_ack(2)
         }
-        Case::Relayed => relays(rt, shared, told),
-        Case::RelayFalls => {
-            falls_beside(rt, shared);
-            assert!(rt; told.keep_ack(2));
-        }
-        Case::Awaited => awaits(rt, shared, mutator, told),
-        Case::TwentyPages => {
-            writes_twenty_pages(rt, shared);
-            assert!(rt; told.keep_ack(1));
-        }
-        Case::Cancelled => cancels_beside(rt, shared, mutator, &mut told.acks),
+        Case::RelayFalls => falls_beside(rt, shared) && told.keep_ack(2),
+        Case::TwentyPages => writes_twenty_pages(rt, shared) && told.keep_ack(1),
         Case::Driven => drives_beside(rt, shared, &mut told.acks),
-        _ => save(rt, shared, told),
+        _ => saves(rt, shared, told),
     }
 }
 
-/// Does what a case says, by two mutators, after the commands that map the pages.
-fn act<R: Threads + Wait + Clock + Files + Alloc + Abort + Sync>(
+/// Does what a case says, by two mutators, after the commands that map the pages. Returns whether all went as it
+/// should.
+fn acts<R: Threads + Wait + Clock + Files + Alloc + Abort + Sync>(
     rt: &R,
     alloc: Global,
     shared: &Shared<Store>,
     case: Case,
     mutators: (&mut Mutator<'_>, &mut Mutator<'_>),
     told: &mut Told,
-) {
+) -> bool {
     match case {
         Case::Beside(way) => merges_beside(rt, alloc, shared, way, mutators, told),
         Case::Trimmed => trims_beside(rt, alloc, shared, mutators, told),
-        _ => act_alone(rt, shared, case, mutators.0, told),
+        Case::Falls => falls(rt, shared, mutators.0),
+        Case::Awaited => awaits(rt, shared, mutators.0, told),
+        Case::Cancelled => cancels_beside(rt, shared, mutators.0, &mut told.acks),
+        _ => acts_alone(rt, shared, case, told),
     }
 }
 
@@ -193,51 +177,60 @@ fn spoil(case: Case, told: &mut Told) {
     }
 }
 
-/// Maps the pages of two seats, and does what a case says.
-fn work_by_two<R: Threads + Wait + Clock + Files + Alloc + Abort + Sync>(
+/// Maps the pages of two mutators, and does what a case says. Returns whether all went as it should, and the receipts
+/// are kept.
+fn works_by<R: Threads + Wait + Clock + Files + Alloc + Abort + Sync>(
     rt: &R,
     alloc: Global,
     shared: &Shared<Store>,
-    seats: (&mut Seat, &mut Seat),
     case: Case,
+    mutators: (&mut Mutator<'_>, &mut Mutator<'_>),
     told: &mut Told,
-) {
-    let (low, high) = seats;
-    let mut first = Mutator {
-        seat: low,
-        receipts: Vec::new(alloc),
-    };
-    let mut last = Mutator {
-        seat: high,
-        receipts: Vec::new(alloc),
-    };
-    assert!(rt; first.prepare(rt, alloc, shared, case.pages()));
-    act(rt, alloc, shared, case, (&mut first, &mut last), told);
-    let Mutator { receipts, .. } = first;
-    assert!(rt; told.take(receipts));
-    let Mutator { receipts, .. } = last;
-    assert!(rt; told.take(receipts));
-    spoil(case, told);
+) -> bool {
+    let (first, last) = mutators;
+    first.prepare(rt, alloc, shared, case.pages())
+        && acts(rt, alloc, shared, case, (&mut *first, &mut *last), told)
+        && told.take(first.take(alloc))
+        && told.take(last.take(alloc))
 }
 
-/// Opens the store of a shared core, and does what a case says.
+/// Does what a case says by two seats.
+fn works_by_two<R: Threads + Wait + Clock + Files + Alloc + Abort + Sync>(
+    rt: &R,
+    alloc: Global,
+    shared: &Shared<Store>,
+    seats: &mut [Seat],
+    case: Case,
+    told: &mut Told,
+) -> bool {
+    let mut seats = seats.iter_mut();
+    match (seats.next(), seats.next()) {
+        (Some(low), Some(high)) => {
+            let mut first = Mutator::new(alloc, low);
+            let mut last = Mutator::new(alloc, high);
+            works_by(rt, alloc, shared, case, (&mut first, &mut last), told)
+        }
+        _ => false,
+    }
+}
+
+/// Opens the store of a shared core, and does what a case says. Returns what was answered, and whether all went as it
+/// should.
 fn work<R: Threads + Wait + Clock + Files + Alloc + Abort + Sync>(
     rt: &R,
     alloc: Global,
     shared: &Shared<Store>,
     seats: &mut [Seat],
     case: Case,
-) -> Result<Told, AllocError> {
+) -> Result<(Told, bool), AllocError> {
     let mut told = Told::new(alloc)?;
-    assert!(rt; is_opened(Job::Opening.make(rt, shared, &Free)));
+    let opened = is_opened(Job::Opening.make(rt, shared, &Free));
     if let Case::Random(seed) = case {
         return Ok(plays(rt, alloc, shared, seats, seed, told));
     }
-    let mut seats = seats.iter_mut();
-    if let (Some(first), Some(last)) = (seats.next(), seats.next()) {
-        work_by_two(rt, alloc, shared, (first, last), case, &mut told);
-    }
-    Ok(told)
+    let worked = works_by_two(rt, alloc, shared, seats, case, &mut told);
+    spoil(case, &mut told);
+    Ok((told, opened && worked))
 }
 
 /// What an audit returns, again where memory is refused once.
@@ -280,17 +273,15 @@ fn closes(alloc: Global, shared: Shared<Store>, told: &Told) -> bool {
     }
 }
 
-fn run<R: Threads + Wait + Clock + Files + Alloc + Abort + Sync>(
+/// Does what a case says, and closes. Returns whether all went as it should.
+fn runs<R: Threads + Wait + Clock + Files + Alloc + Abort + Sync>(
     rt: &R,
     alloc: Global,
     case: Case,
-) -> Result<(), Fail> {
+) -> Result<bool, Fail> {
     let (shared, mut seats) = open(alloc, case)?;
     match work(rt, alloc, &shared, &mut seats, case) {
-        Ok(told) => {
-            assert!(rt; closes(alloc, shared, &told));
-            Ok(())
-        }
+        Ok((told, worked)) => Ok(closes(alloc, shared, &told) && worked),
         Err(_) => {
             shared.discard();
             Err(Fail::from("out of memory"))
@@ -298,89 +289,77 @@ fn run<R: Threads + Wait + Clock + Files + Alloc + Abort + Sync>(
     }
 }
 
-/// What one seat and the dumper were answered closes; the audit of the run's disk is true, and that of another isn't.
-#[test]
-fn what_was_told_closes(rt: HostRuntime) -> Result<(), Fail> {
-    run(&rt, rt.alloc(), Case::Saved)
+/// Whether all went as it should in each of these cases.
+fn run_each<R: Threads + Wait + Clock + Files + Alloc + Abort + Sync>(
+    rt: &R,
+    alloc: Global,
+    cases: &[Case],
+) -> Result<(), Fail> {
+    for (place, case) in cases.iter().enumerate() {
+        assert!(rt; runs(rt, alloc, *case)?, "case {place}");
+    }
+    Ok(())
 }
 
-/// A receipt too few, and an acknowledgement too many.
-#[test]
-fn what_was_not_told_is_a_fault(rt: HostRuntime) -> Result<(), Fail> {
-    run(&rt, rt.alloc(), Case::LacksReceipt)?;
-    run(&rt, rt.alloc(), Case::TellsMore)
-}
+/// What is closed: a checkpoint, a receipt too few, an acknowledgement too many, a merge after a checkpoint; and a disk
+/// that drops what it is given, of which the audit isn't true.
+const CLOSED: &[Case] = &[
+    Case::Saved,
+    Case::LacksReceipt,
+    Case::TellsMore,
+    Case::Merged,
+    Case::Dropped,
+];
 
 #[test]
-fn a_merge_holds_13_times(rt: HostRuntime) -> Result<(), Fail> {
-    run(&rt, rt.alloc(), Case::Merged)
+fn what_was_told_closes_or_is_a_fault(rt: HostRuntime) -> Result<(), Fail> {
+    run_each(&rt, rt.alloc(), CLOSED)
 }
 
 /// Two mutators store while the dumper's first page write is held.
 #[test]
 fn threads(rt: HostRuntime) -> Result<(), Fail> {
-    run(&rt, rt.alloc(), Case::Beside(Way::Waits))
+    run_each(&rt, rt.alloc(), &[Case::Beside(Way::Waits)])
 }
 
-/// They try again where the lock isn't free.
+/// Two mutators that try again where the lock isn't free; another thread that cancels the checkpoint, and makes one:
+/// the first dumper is answered as idle, and nothing stays frozen; two threads that drive the same checkpoints: of each
+/// one is acknowledged, and the other idle; each checkpoint trimmed after its acknowledgement, while two mutators
+/// store.
+const BESIDE: &[Case] = &[
+    Case::Beside(Way::Tries),
+    Case::Cancelled,
+    Case::Driven,
+    Case::Trimmed,
+];
+
 #[test]
-fn threads_that_try(rt: HostRuntime) -> Result<(), Fail> {
-    run(&rt, rt.alloc(), Case::Beside(Way::Tries))
+fn threads_beside_a_dumper(rt: HostRuntime) -> Result<(), Fail> {
+    run_each(&rt, rt.alloc(), BESIDE)
 }
 
-/// Another thread cancels the checkpoint, and makes one: the first dumper is answered as idle, and nothing stays
-/// frozen.
+/// The device fails while all is frozen, and whoever waits for the thaw is answered that the store is down; and a
+/// thread that waits for the thaw sleeps meanwhile, and a cancel wakes it.
+const WAITS: &[Case] = &[Case::Falls, Case::Awaited];
+
 #[test]
-fn a_cancelled_dumper_is_idle(rt: HostRuntime) -> Result<(), Fail> {
-    run(&rt, rt.alloc(), Case::Cancelled)
+fn a_wait_sleeps_until_it_is_woken(rt: HostRuntime) -> Result<(), Fail> {
+    run_each(&rt, rt.alloc(), WAITS)
 }
 
-/// Two threads drive the same checkpoints: of each one is acknowledged, and the other idle.
-#[test]
-fn a_job_has_one_driver(rt: HostRuntime) -> Result<(), Fail> {
-    run(&rt, rt.alloc(), Case::Driven)
-}
+/// Two pages are written beside each other, each by a thread of its own, and a checkpoint after that has its pre-dump;
+/// and a write fails that another thread makes.
+const WRITERS: &[Case] = &[Case::Relayed, Case::RelayFalls];
 
-/// The device fails while all is frozen: whoever waits for the thaw is answered that the store is down.
-#[test]
-fn a_store_that_falls_ends_a_wait(rt: HostRuntime) -> Result<(), Fail> {
-    run(&rt, rt.alloc(), Case::Falls)
-}
-
-/// A disk drops what it is given, and the audit isn't true.
-#[test]
-fn drops_device_calls(rt: HostRuntime) -> Result<(), Fail> {
-    run(&rt, rt.alloc(), Case::Dropped)
-}
-
-/// Two pages are written beside each other, each by a thread of its own; and a checkpoint after that has its pre-dump.
 #[test]
 fn two_writers(rt: HostRuntime) -> Result<(), Fail> {
-    run(&rt, rt.alloc(), Case::Relayed)
-}
-
-/// A write fails that another thread makes.
-#[test]
-fn a_write_of_another_thread_fails(rt: HostRuntime) -> Result<(), Fail> {
-    run(&rt, rt.alloc(), Case::RelayFalls)
+    run_each(&rt, rt.alloc(), WRITERS)
 }
 
 /// Twenty pages are written by eight threads, each write delayed by another length.
 #[test]
 fn twenty_pages(rt: HostRuntime) -> Result<(), Fail> {
-    run(&rt, rt.alloc(), Case::TwentyPages)
-}
-
-/// A thread that waits for the thaw sleeps meanwhile, and a cancel wakes it.
-#[test]
-fn a_wait_sleeps_until_it_is_woken(rt: HostRuntime) -> Result<(), Fail> {
-    run(&rt, rt.alloc(), Case::Awaited)
-}
-
-/// Each checkpoint is trimmed after its acknowledgement, while two mutators store.
-#[test]
-fn trims_while_threads_store(rt: HostRuntime) -> Result<(), Fail> {
-    run(&rt, rt.alloc(), Case::Trimmed)
+    run_each(&rt, rt.alloc(), &[Case::TwentyPages])
 }
 
 /// Ten runs of eight seats, of another seed each time.
@@ -392,7 +371,8 @@ fn eight_seats_at_random(rt: HostRuntime) -> Result<(), Fail> {
         Err(_) => 1,
     };
     for number in 0..RUNS {
-        run(&rt, rt.alloc(), Case::Random(seed.wrapping_add(number)))?;
+        let case = Case::Random(seed.wrapping_add(number));
+        assert!(rt; runs(&rt, rt.alloc(), case)?, "seed {seed}, run {number}");
     }
     Ok(())
 }

@@ -4,7 +4,6 @@ use crate::holds::Free;
 use crate::replies::{is_acked, is_refused};
 use sd_command::{Refusal, Reply};
 use sd_shared::Shared;
-use std::process::Abort;
 use std::sync::Wait;
 use std::sync::atomic::{AtomicU64, Ordering};
 use std::thread;
@@ -67,14 +66,16 @@ fn is_driven<R: Threads + Wait + Sync>(rt: &R, shared: &Shared<Store>, number: u
     }
 }
 
-/// Makes checkpoints that two threads drive, of each of which one is acknowledged. Its number is kept.
-pub(crate) fn drives_beside<R: Threads + Wait + Abort + Sync>(
+/// Makes checkpoints that two threads drive. Returns whether of each one is acknowledged. Its number is kept.
+pub(crate) fn drives_beside<R: Threads + Wait + Sync>(
     rt: &R,
     shared: &Shared<Store>,
     acks: &mut Vec<u64>,
-) {
+) -> bool {
     for number in 1..=ROUNDS {
-        assert!(rt; is_driven(rt, shared, number));
-        assert!(rt; acks.push(number).is_ok());
+        if !is_driven(rt, shared, number) || acks.push(number).is_err() {
+            return false;
+        }
     }
+    true
 }

@@ -8,7 +8,6 @@ use sd_command::{Command, Refusal, Reply};
 use sd_journal::Receipt;
 use sd_shared::{Seat, Shared};
 use std::alloc::Global;
-use std::process::Abort;
 use std::sync::atomic::{AtomicU64, Ordering};
 use std::sync::{Mutex, Wait};
 use std::thread;
@@ -214,15 +213,15 @@ impl<R: Threads + Wait + Sync> Board<'_, R> {
 }
 
 /// Lets the seats play. Returns what they were answered that the journal still has: what was folded accounts for the
-/// rest.
-pub(crate) fn plays<R: Threads + Wait + Abort + Sync>(
+/// rest; and whether all went well.
+pub(crate) fn plays<R: Threads + Wait + Sync>(
     rt: &R,
     alloc: Global,
     shared: &Shared<Store>,
     seats: &mut [Seat],
     seed: u64,
     told: Told,
-) -> Told {
+) -> (Told, bool) {
     let told = Mutex::new(told);
     let board = Board {
         rt,
@@ -233,6 +232,6 @@ pub(crate) fn plays<R: Threads + Wait + Abort + Sync>(
     let played = board.play_all(seats, seed);
     let mut told = told.into_inner();
     told.acks.sort_unstable();
-    assert!(rt; played && told.are_folded(alloc), "seed {seed}");
-    told
+    let folded = told.are_folded(alloc);
+    (told, played && folded)
 }

@@ -3,7 +3,6 @@ use crate::cases::Store;
 use crate::jobs::Job;
 use crate::replies::{is_acked, is_merged};
 use sd_shared::{Hold, Shared};
-use std::process::Abort;
 use std::sync::Wait;
 use std::sync::atomic::{AtomicU64, Ordering};
 use std::thread;
@@ -37,22 +36,20 @@ impl Hold for Counting<'_> {
     }
 }
 
-/// A checkpoint of one round after another one, of which no page was touched since: eight calls for each of its
-/// images.
-pub(crate) fn saves_in_16_calls(rt: &(impl Abort + Wait), shared: &Shared<Store>) {
+/// Whether a checkpoint of one round after another one, of which no page was touched since, makes eight calls for each
+/// of its images.
+pub(crate) fn saves_in_16_calls(rt: &impl Wait, shared: &Shared<Store>) -> bool {
     let calls = AtomicU64::new(0);
     let hold = Counting { calls: &calls };
-    assert!(rt; is_acked(Job::Saving(1).run(rt, shared, &hold), 2));
-    assert!(rt; calls.load(Ordering::SeqCst) == 16);
+    is_acked(Job::Saving(1).run(rt, shared, &hold), 2) && calls.load(Ordering::SeqCst) == 16
 }
 
-/// On a fresh store, after a checkpoint without rounds of which one page isn't all zeros, a merge makes 13 device
-/// calls.
-pub(crate) fn merges_in_13_calls(rt: &(impl Abort + Wait), shared: &Shared<Store>) {
+/// Whether a merge makes 13 device calls, on a fresh store, after a checkpoint without rounds of which one page isn't
+/// all zeros.
+pub(crate) fn merges_in_13_calls(rt: &impl Wait, shared: &Shared<Store>) -> bool {
     let calls = AtomicU64::new(0);
     let hold = Counting { calls: &calls };
-    assert!(rt; is_merged(Job::Merging.run(rt, shared, &hold), 2));
-    assert!(rt; calls.load(Ordering::SeqCst) == 13);
+    is_merged(Job::Merging.run(rt, shared, &hold), 2) && calls.load(Ordering::SeqCst) == 13
 }
 
 /// What a hold and other threads say to each other.
@@ -92,38 +89,33 @@ pub(crate) fn await_flag<R: Clock>(rt: &R, flag: &AtomicU64) -> bool {
     await_in(rt, flag, TURNS)
 }
 
-/// A hold that at the first page's write lets other threads begin, and waits until they are through.
+/// A hold that at the first page's write lets other threads begin. It waits until they are through, or else keeps the
+/// write for so many milliseconds, and says when that ends.
 #[derive(Drop)]
 pub(crate) struct Gate<'a, R> {
     pub(crate) rt: &'a R,
     pub(crate) flags: &'a Flags,
+    /// 0: until they are through.
+    pub(crate) millis: u64,
+}
+
+impl<R: Clock> Gate<'_, R> {
+    /// Holds the first page's write.
+    fn hold(&self) {
+        self.flags.begun.store(1, Ordering::SeqCst);
+        if self.millis != 0 {
+            thread::sleep(self.rt, Duration::from_millis(self.millis));
+            self.flags.ended.store(1, Ordering::SeqCst);
+        } else if !await_flag(self.rt, &self.flags.ended) {
+            self.flags.missed.store(1, Ordering::SeqCst);
+        }
+    }
 }
 
 impl<R: Clock> Hold for Gate<'_, R> {
     fn before(&self, call: u64) {
         if call == FIRST_PAGE {
-            self.flags.begun.store(1, Ordering::SeqCst);
-            if !await_flag(self.rt, &self.flags.ended) {
-                self.flags.missed.store(1, Ordering::SeqCst);
-            }
-        }
-    }
-}
-
-/// A hold that keeps the first page's write for a while, and says when that begins and ends.
-#[derive(Drop)]
-pub(crate) struct Keeping<'a, R> {
-    pub(crate) rt: &'a R,
-    pub(crate) flags: &'a Flags,
-    pub(crate) millis: u64,
-}
-
-impl<R: Clock> Hold for Keeping<'_, R> {
-    fn before(&self, call: u64) {
-        if call == FIRST_PAGE {
-            self.flags.begun.store(1, Ordering::SeqCst);
-            thread::sleep(self.rt, Duration::from_millis(self.millis));
-            self.flags.ended.store(1, Ordering::SeqCst);
+            self.hold();
         }
     }
 }

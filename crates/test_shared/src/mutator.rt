@@ -26,8 +26,18 @@ pub(crate) enum Way {
 /// A seat, and the receipts of its commands.
 #[derive(Drop)]
 pub(crate) struct Mutator<'a> {
-    pub(crate) seat: &'a mut Seat,
-    pub(crate) receipts: Vec<Receipt>,
+    seat: &'a mut Seat,
+    receipts: Vec<Receipt>,
+}
+
+impl<'a> Mutator<'a> {
+    /// A seat that has made no command.
+    pub(crate) fn new(alloc: Global, seat: &'a mut Seat) -> Mutator<'a> {
+        Mutator {
+            seat,
+            receipts: Vec::new(alloc),
+        }
+    }
 }
 
 impl Mutator<'_> {

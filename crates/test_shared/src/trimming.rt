@@ -1,5 +1,5 @@
 //! Checkpoints beside two mutators, each trimmed after its acknowledgement.
-use crate::beside::Place;
+use crate::beside::{Place, mutate_both};
 use crate::cases::Store;
 use crate::holds::{Flags, Free};
 use crate::mutator::{Mutator, Way};
@@ -7,7 +7,6 @@ use crate::told::Told;
 use sd_command::Reply;
 use sd_shared::Shared;
 use std::alloc::Global;
-use std::process::Abort;
 use std::sync::Wait;
 use std::sync::atomic::Ordering;
 use std::thread;
@@ -46,39 +45,38 @@ fn save_all(rt: &impl Wait, shared: &Shared<Store>, told: &mut Told) -> bool {
     true
 }
 
-/// Two mutators store numbers, and load them back, beside checkpoints of one round, each of which is trimmed: what is
-/// folded accounts for the receipts of its entries. The other receipts are left.
-pub(crate) fn trims_beside<R: Threads + Wait + Clock + Abort + Sync>(
+/// Checkpoints with a trim after each, beside two mutators. Returns whether all went well.
+fn save_beside<R: Threads + Wait + Clock + Sync>(
+    rt: &R,
+    shared: &Shared<Store>,
+    places: (&Place<'_, R>, &Place<'_, R>),
+    mutators: (&mut Mutator<'_>, &mut Mutator<'_>),
+    told: &mut Told,
+) -> bool {
+    let flags = Flags::new();
+    flags.begun.store(1, Ordering::SeqCst);
+    let (saved, (first, last)) = thread::join(
+        rt,
+        || save_all(rt, shared, told),
+        || mutate_both(rt, places, mutators, &flags),
+    );
+    saved && first.is_none() && last.is_none()
+}
+
+/// Two mutators store numbers, and load them back, beside checkpoints of one round, each of which is trimmed. Returns
+/// whether what is folded accounts for the receipts of its entries. The other receipts are left.
+pub(crate) fn trims_beside<R: Threads + Wait + Clock + Sync>(
     rt: &R,
     alloc: Global,
     shared: &Shared<Store>,
     mutators: (&mut Mutator<'_>, &mut Mutator<'_>),
     told: &mut Told,
-) {
-    let flags = Flags::new();
-    flags.begun.store(1, Ordering::SeqCst);
-    let place = |page| Place {
-        rt,
-        shared,
-        way: Way::Waits,
-        alloc,
-        page,
-        stores: STORES,
-    };
-    let (low, high) = (place(0), place(1));
+) -> bool {
+    let low = Place::new(rt, alloc, shared, (Way::Waits, STORES), 0);
+    let high = Place::new(rt, alloc, shared, (Way::Waits, STORES), 1);
     let (first, last) = mutators;
-    let (saved, ended) = thread::join(
-        rt,
-        || save_all(rt, shared, told),
-        || {
-            thread::join(
-                rt,
-                || low.mutate(first, &flags),
-                || high.mutate(last, &flags),
-            )
-        },
-    );
-    assert!(rt; saved && ended.0.is_none() && ended.1.is_none());
-    assert!(rt; told.take(first.take(alloc)) && told.take(last.take(alloc)));
-    assert!(rt; told.are_folded(alloc));
+    save_beside(rt, shared, (&low, &high), (&mut *first, &mut *last), told)
+        && told.take(first.take(alloc))
+        && told.take(last.take(alloc))
+        && told.are_folded(alloc)
 }

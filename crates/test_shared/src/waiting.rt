@@ -1,14 +1,13 @@
 //! A thread that waits for thaws: until when it waits, how much of a processor it uses meanwhile, and that a cancel
 //! wakes it.
-use crate::cancelling::save_until_refused;
+use crate::cancelling::{Cancel, cancel_beside};
 use crate::cases::Store;
-use crate::holds::{FIRST_PAGE, Flags, Gate, Keeping, TURNS, await_flag};
+use crate::holds::{Flags, Gate, TURNS, await_flag};
 use crate::mutator::{Mutator, Way, load};
-use crate::replies::{is_acked, is_for};
-use crate::thaws::{Thaws, wait_for_thaws};
-use sd_command::{Refusal, Reply};
-use sd_shared::{Hold, Shared, Thaw};
-use std::process::Abort;
+use crate::replies::is_acked;
+use crate::thaws::Thaws;
+use sd_command::Reply;
+use sd_shared::{Shared, Thaw};
 use std::rt::Files;
 use std::sync::Wait;
 use std::sync::atomic::Ordering;
@@ -19,6 +18,9 @@ use std::{fs, thread};
 /// How many milliseconds a freeze is held.
 const HELD_MILLIS: u64 = 200;
 
+/// How many milliseconds it is held where the device then fails, so that the other thread has time to wait.
+const SHORT_MILLIS: u64 = 20;
+
 /// How many nanoseconds of a processor's time a thread may use that waits meanwhile.
 const MOST_NANOS: u64 = 20_000_000;
 
@@ -27,9 +29,6 @@ const ROUNDS: u64 = 10;
 
 /// How often a cancel is tried, a tenth of a millisecond apart.
 const TRIES: u64 = 100_000;
-
-/// How many checkpoints are made at most until one is cancelled. Each is frozen for 20 milliseconds or more.
-const CHECKPOINTS: u64 = 1_000;
 
 /// How many nanoseconds of a processor's time this thread has used, as Linux counts them.
 fn nanos_used<R: Files + Alloc>(rt: &R) -> Option<u64> {
@@ -42,117 +41,127 @@ fn nanos_used<R: Files + Alloc>(rt: &R) -> Option<u64> {
     }
 }
 
-/// Waits for the thaw, until which all was kept frozen. Returns how many nanoseconds of a processor's time it took.
+/// Waits for the thaw, until which all was kept frozen. Returns whether it took next to none of a processor's time: not
+/// where the wait ended early, or the thread's time can't be read.
 fn wait_kept<R: Wait + Clock + Files + Alloc>(
     rt: &R,
     shared: &Shared<Store>,
     flags: &Flags,
-) -> Option<u64> {
-    if !await_flag(rt, &flags.begun) {
-        return None;
-    }
-    let before = nanos_used(rt)?;
+) -> bool {
+    let before = nanos_used(rt);
     let is_thawed = shared.wait_thaw(rt) == Thaw::Thawed;
-    if !is_thawed || flags.ended.load(Ordering::SeqCst) == 0 {
-        return None;
+    let is_kept = is_thawed && flags.ended.load(Ordering::SeqCst) != 0;
+    match (before, nanos_used(rt)) {
+        (Some(before), Some(now)) => is_kept && now.saturating_sub(before) < MOST_NANOS,
+        _ => false,
     }
-    Some(nanos_used(rt)?.saturating_sub(before))
 }
 
 /// Loads once nothing is frozen. Returns whether that was answered, and after the end of the freeze.
-fn load_kept<R: Wait + Clock>(
-    rt: &R,
+fn load_kept(
+    rt: &impl Wait,
     shared: &Shared<Store>,
     mutator: &mut Mutator<'_>,
     flags: &Flags,
 ) -> bool {
-    await_flag(rt, &flags.begun)
-        && mutator.make_by(rt, shared, Way::Thawed, load(0)).is_none()
+    mutator.make_by(rt, shared, Way::Thawed, load(0)).is_none()
         && flags.ended.load(Ordering::SeqCst) != 0
 }
 
 /// Ends the waits while all is frozen, and then waits. Returns whether the wait was ended.
-fn end_and_wait<R: Wait + Clock>(rt: &R, shared: &Shared<Store>, flags: &Flags) -> bool {
-    if !await_flag(rt, &flags.begun) {
-        return false;
-    }
+fn end_and_wait(rt: &impl Wait, shared: &Shared<Store>, flags: &Flags) -> bool {
     drop(shared.end_waits(rt));
     let thaw = shared.wait_thaw(rt);
     flags.ended.store(1, Ordering::SeqCst);
     thaw == Thaw::Ended
 }
 
-/// Waits are ended while all is frozen for the first checkpoint: a wait ends as ended.
-pub(crate) fn ends_waits<R: Threads + Wait + Clock + Abort + Sync>(rt: &R, shared: &Shared<Store>) {
-    let flags = Flags::new();
-    let gate = Gate { rt, flags: &flags };
-    let (reply, ended) = thread::join(
-        rt,
-        || shared.run_dumper(rt, 0, &gate),
-        || end_and_wait(rt, shared, &flags),
-    );
-    assert!(rt; ended && is_acked(reply, 1));
+/// What a thread does while all is frozen.
+#[derive(Clone, Copy)]
+pub(crate) enum Wake {
+    /// It waits for the thaw, and learns that the store is down.
+    Down,
+    /// It ends the waits, and its wait ends as ended.
+    Ends,
+    /// It waits for the thaw, and sleeps meanwhile.
+    Sleeps,
+    /// It loads after the thaw.
+    Loads,
 }
 
-/// A thread waits as long as all is frozen, and not longer, and uses next to none of a processor's time. The checkpoint
-/// is the second one, before which waits were ended.
-pub(crate) fn waits_asleep<R: Threads + Wait + Clock + Files + Alloc + Abort + Sync>(
-    rt: &R,
-    shared: &Shared<Store>,
-) {
-    let flags = Flags::new();
-    let hold = Keeping {
-        rt,
-        flags: &flags,
-        millis: HELD_MILLIS,
-    };
-    let (reply, nanos) = thread::join(
-        rt,
-        || shared.run_dumper(rt, 0, &hold),
-        || wait_kept(rt, shared, &flags),
-    );
-    assert!(rt; is_acked(reply, 2));
-    // None: nothing was frozen, the wait ended early, or the thread's time can't be read.
-    let nanos = nanos.unwrap_or(u64::MAX);
-    assert!(rt; nanos < MOST_NANOS, "{nanos} ns");
+impl Wake {
+    /// How many milliseconds the first page's write is held, and 0 until the other thread is through.
+    fn millis(self) -> u64 {
+        match self {
+            Wake::Ends => 0,
+            Wake::Down => SHORT_MILLIS,
+            Wake::Sleeps | Wake::Loads => HELD_MILLIS,
+        }
+    }
 }
 
-/// A command that waits for the thaw is made after it. The checkpoint is the third one.
-pub(crate) fn loads_thawed<R: Threads + Wait + Clock + Abort + Sync>(
+/// Waits until all is frozen, and does what is done then. Returns whether it ended so.
+fn wakes<R: Wait + Clock + Files + Alloc>(
     rt: &R,
     shared: &Shared<Store>,
     mutator: &mut Mutator<'_>,
-) {
+    flags: &Flags,
+    wake: Wake,
+) -> bool {
+    if !await_flag(rt, &flags.begun) {
+        return false;
+    }
+    match wake {
+        Wake::Down => shared.wait_thaw(rt) == Thaw::Down,
+        Wake::Ends => end_and_wait(rt, shared, flags),
+        Wake::Sleeps => wait_kept(rt, shared, flags),
+        Wake::Loads => load_kept(rt, shared, mutator, flags),
+    }
+}
+
+/// A checkpoint without pre-dumps, all of which is frozen while another thread does this. Returns the dumper's reply,
+/// and whether the other thread ended as it should.
+pub(crate) fn dump_beside<R: Threads + Wait + Clock + Files + Alloc + Sync>(
+    rt: &R,
+    shared: &Shared<Store>,
+    mutator: &mut Mutator<'_>,
+    wake: Wake,
+) -> (Reply, bool) {
     let flags = Flags::new();
-    let hold = Keeping {
+    let hold = Gate {
         rt,
         flags: &flags,
-        millis: HELD_MILLIS,
+        millis: wake.millis(),
     };
-    let (reply, loaded) = thread::join(
+    thread::join(
         rt,
         || shared.run_dumper(rt, 0, &hold),
-        || load_kept(rt, shared, mutator, &flags),
-    );
-    assert!(rt; loaded && is_acked(reply, 3));
+        || wakes(rt, shared, mutator, &flags, wake),
+    )
 }
 
-/// A hold that lets the first page's write begin once the other thread waits, and delays each call from there on.
-#[derive(Drop)]
-struct Awaiting<'a, R> {
-    rt: &'a R,
-    thaws: &'a Thaws,
+/// Whether the checkpoint of this number is made, and the other thread ended as it should.
+fn saves_beside<R: Threads + Wait + Clock + Files + Alloc + Sync>(
+    rt: &R,
+    shared: &Shared<Store>,
+    mutator: &mut Mutator<'_>,
+    wake: Wake,
+    number: u64,
+) -> bool {
+    let (reply, is_woken) = dump_beside(rt, shared, mutator, wake);
+    is_woken && is_acked(reply, number)
 }
 
-impl<R: Clock> Hold for Awaiting<'_, R> {
-    fn before(&self, call: u64) {
-        if call == FIRST_PAGE {
-            let _ = await_flag(self.rt, &self.thaws.waits);
-        }
-        if call >= FIRST_PAGE {
-            thread::sleep(self.rt, Duration::from_millis(1));
-        }
-    }
+/// Whether waits that are ended while all is frozen end so, a thread sleeps as long as all is frozen by the next
+/// checkpoint, and not longer, and a command that waits for the thaw is made after that of the third one.
+pub(crate) fn awaits_each<R: Threads + Wait + Clock + Files + Alloc + Sync>(
+    rt: &R,
+    shared: &Shared<Store>,
+    mutator: &mut Mutator<'_>,
+) -> bool {
+    saves_beside(rt, shared, mutator, Wake::Ends, 1)
+        && saves_beside(rt, shared, mutator, Wake::Sleeps, 2)
+        && saves_beside(rt, shared, mutator, Wake::Loads, 3)
 }
 
 /// Waits until the other thread doesn't wait any more. Returns whether it was woken.
@@ -183,7 +192,11 @@ fn cancel_one<R: Wait + Clock>(rt: &R, shared: &Shared<Store>, thaws: &Thaws) ->
 }
 
 /// Cancels a checkpoint while the other thread waits. Returns whether that woke it; if not, its wait is ended.
-fn cancel_and_look<R: Wait + Clock>(rt: &R, shared: &Shared<Store>, thaws: &Thaws) -> bool {
+pub(crate) fn cancel_and_look<R: Wait + Clock>(
+    rt: &R,
+    shared: &Shared<Store>,
+    thaws: &Thaws,
+) -> bool {
     let woken = cancel_one(rt, shared, thaws) && await_woken(rt, thaws);
     thaws.end();
     if !woken {
@@ -192,37 +205,18 @@ fn cancel_and_look<R: Wait + Clock>(rt: &R, shared: &Shared<Store>, thaws: &Thaw
     woken
 }
 
-/// Cancels a checkpoint while a thread waits for its thaw. Returns whether that thread went on, with the dumper idle.
-fn is_woken<R: Threads + Wait + Clock + Sync>(
+/// Whether in each round a checkpoint is cancelled while a thread waits for its thaw, that thread goes on, and the
+/// dumper is idle.
+pub(crate) fn wakes_by_a_cancel<R: Threads + Wait + Clock + Sync>(
     rt: &R,
     shared: &Shared<Store>,
     mutator: &mut Mutator<'_>,
     acks: &mut Vec<u64>,
 ) -> bool {
-    let thaws = Thaws::new();
-    let hold = Awaiting { rt, thaws: &thaws };
-    let (ended, (woken, waited)) = thread::join(
-        rt,
-        || save_until_refused(rt, shared, CHECKPOINTS, 0, &hold, acks),
-        || {
-            thread::join(
-                rt,
-                || cancel_and_look(rt, shared, &thaws),
-                || wait_for_thaws(rt, shared, mutator, &thaws),
-            )
-        },
-    );
-    woken && waited && is_for(ended, Refusal::Idle)
-}
-
-/// In each round a checkpoint is cancelled while a thread waits for its thaw: that thread goes on.
-pub(crate) fn wakes_by_a_cancel<R: Threads + Wait + Clock + Abort + Sync>(
-    rt: &R,
-    shared: &Shared<Store>,
-    mutator: &mut Mutator<'_>,
-    acks: &mut Vec<u64>,
-) {
     for _ in 0..ROUNDS {
-        assert!(rt; is_woken(rt, shared, mutator, acks));
+        if cancel_beside(rt, shared, Cancel::Looks, mutator, acks) != Some(0) {
+            return false;
+        }
     }
+    true
 }

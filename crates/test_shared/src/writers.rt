@@ -5,7 +5,6 @@ use crate::jobs::Job;
 use crate::replies::{is_acked, is_opened, is_refused};
 use sd_command::{Refusal, Reply};
 use sd_shared::{Hold, Shared};
-use std::process::Abort;
 use std::sync::Wait;
 use std::sync::atomic::{AtomicU64, Ordering};
 use std::thread;
@@ -63,28 +62,40 @@ impl<R: Clock> Hold for Keeping<'_, R> {
     }
 }
 
-/// Two pages are written beside each other by two writers: the first page's write is held until the second's begins.
-/// The hold is called once for each call. No writers, and nine of them, are refused before anything begins.
-pub(crate) fn writes_beside<R: Threads + Wait + Clock + Abort + Sync>(
-    rt: &R,
-    shared: &Shared<Store>,
-) {
-    assert!(rt; is_refused(&shared.run_relay(rt, 1, 0, &Free), Refusal::Einval));
-    assert!(rt; is_refused(&shared.run_relay(rt, 1, 9, &Free), Refusal::Einval));
-    let seen = Seen::new();
-    let hold = Keeping { rt, seen: &seen };
-    assert!(rt; is_acked(shared.run_relay(rt, 1, 2, &hold), 1));
-    assert!(rt; seen.missed.load(Ordering::SeqCst) == 0);
-    assert!(rt; seen.calls.load(Ordering::SeqCst) == CALLS);
-    assert!(rt; seen.sum.load(Ordering::SeqCst) == SUM);
+impl Seen {
+    /// Whether it has seen each call of a checkpoint once, and held the first page's write.
+    fn is_right(&self) -> bool {
+        self.missed.load(Ordering::SeqCst) == 0
+            && self.calls.load(Ordering::SeqCst) == CALLS
+            && self.sum.load(Ordering::SeqCst) == SUM
+    }
 }
 
-/// The device fails at the first page's write, which a writer makes: the checkpoint ends with the store down. It is
-/// opened again, and a checkpoint with eight writers is made.
-pub(crate) fn falls_beside<R: Threads + Wait + Abort + Sync>(rt: &R, shared: &Shared<Store>) {
-    assert!(rt; is_refused(&shared.run_relay(rt, 0, 2, &Free), Refusal::StoreDown));
-    assert!(rt; is_opened(Job::Opening.make(rt, shared, &Free)));
-    assert!(rt; is_acked(shared.run_relay(rt, 0, 8, &Free), 2));
+/// Whether a checkpoint by so many writers is refused.
+fn is_invalid<R: Threads + Wait + Sync>(rt: &R, shared: &Shared<Store>, writers: usize) -> bool {
+    is_refused(&shared.run_relay(rt, 1, writers, &Free), Refusal::Einval)
+}
+
+/// Whether two pages are written beside each other by two writers: the first page's write is held until the second's
+/// begins. The hold is called once for each call. No writers, and nine of them, are refused before anything begins.
+pub(crate) fn writes_beside<R: Threads + Wait + Clock + Sync>(
+    rt: &R,
+    shared: &Shared<Store>,
+) -> bool {
+    let seen = Seen::new();
+    let hold = Keeping { rt, seen: &seen };
+    is_invalid(rt, shared, 0)
+        && is_invalid(rt, shared, 9)
+        && is_acked(shared.run_relay(rt, 1, 2, &hold), 1)
+        && seen.is_right()
+}
+
+/// The device fails at the first page's write, which a writer makes. Returns whether the checkpoint ends with the store
+/// down, it is opened again, and a checkpoint with eight writers is made.
+pub(crate) fn falls_beside<R: Threads + Wait + Sync>(rt: &R, shared: &Shared<Store>) -> bool {
+    is_refused(&shared.run_relay(rt, 0, 2, &Free), Refusal::StoreDown)
+        && is_opened(Job::Opening.make(rt, shared, &Free))
+        && is_acked(shared.run_relay(rt, 0, 8, &Free), 2)
 }
 
 /// A hold that delays each call by another length.
@@ -114,15 +125,15 @@ fn go_further<R: Threads + Wait + Sync, H: Hold + Sync>(
     }
 }
 
-/// Eight writers make a checkpoint of one round. Where memory was refused it is gone on with, or begun again.
-pub(crate) fn writes_twenty_pages<R: Threads + Wait + Clock + Abort + Sync>(
+/// Whether eight writers make a checkpoint of one round. Where memory was refused it is gone on with, or begun again.
+pub(crate) fn writes_twenty_pages<R: Threads + Wait + Clock + Sync>(
     rt: &R,
     shared: &Shared<Store>,
-) {
+) -> bool {
     let hold = Delaying { rt };
     let mut reply = shared.run_relay(rt, 1, 8, &hold);
     for _ in 0..TRIES {
         reply = go_further(rt, shared, &hold, reply);
     }
-    assert!(rt; is_acked(reply, 1));
+    is_acked(reply, 1)
 }

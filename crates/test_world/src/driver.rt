@@ -1,8 +1,10 @@
 //! What is asked of a world. Its few functions alone know the contracts of a world.
+use crate::lines::{Line, Word, load, map, reply_of, store};
 use crate::store::Device;
-use sd_command::Reply;
+use sd_command::{Command, Reply};
 use sd_gate::Worker;
 use sd_world::{Event, PassEnd, World};
+use std::alloc::{AllocError, Global};
 
 /// A world of these tests.
 pub(crate) type Tested = World<Device>;
@@ -17,7 +19,7 @@ pub(crate) fn steps(world: &mut Tested, count: u64) -> Reply {
 }
 
 /// So many steps of the dumper's pass in one call. `Worked` where it made them all, and else `Done`.
-pub(crate) fn pass(world: &mut Tested, count: u64) -> Reply {
+fn pass(world: &mut Tested, count: u64) -> Reply {
     match world.pass_on(count).end {
         PassEnd::AllMade => Reply::Worked,
         PassEnd::AnotherIsNext | PassEnd::OutOfMemory => Reply::Done,
@@ -25,10 +27,51 @@ pub(crate) fn pass(world: &mut Tested, count: u64) -> Reply {
 }
 
 /// One event so often. Returns the last reply.
-pub(crate) fn repeat(world: &mut Tested, event: &Event, count: u64) -> Reply {
+fn repeat(world: &mut Tested, event: &Event, count: u64) -> Reply {
     let mut last = Reply::Worked;
     for _ in 0..count {
         last = world.step(event);
     }
     last
+}
+
+/// The event of a command.
+fn event_of(command: Command) -> Event {
+    Event::Command { seat: 0, command }
+}
+
+/// The event of a line.
+pub(crate) fn event(alloc: Global, line: Line<'_>) -> Result<Event, AllocError> {
+    Ok(match line.word {
+        Word::Begin => Event::Begin(line.number),
+        Word::Reopen => Event::Reopen,
+        Word::Cancel => Event::Cancel,
+        Word::Trim => Event::Trim,
+        Word::Merge => Event::Merge,
+        Word::Work(worker) => Event::Work(worker),
+        Word::Perform(worker) => Event::Perform(worker),
+        Word::Map => event_of(map()),
+        Word::Store => event_of(store(alloc, line.number)?),
+        _ => event_of(load()),
+    })
+}
+
+/// Makes an event.
+fn step(alloc: Global, world: &mut Tested, line: Line<'_>) -> Result<Reply, AllocError> {
+    let event = event(alloc, line)?;
+    Ok(world.step(&event))
+}
+
+/// Makes what a line asks: an event, or several. Returns the last reply.
+pub(crate) fn ask(alloc: Global, world: &mut Tested, line: Line<'_>) -> Result<Reply, AllocError> {
+    match line.word {
+        Word::Steps => Ok(steps(world, line.number)),
+        Word::Pass => Ok(pass(world, line.number)),
+        Word::Loads => Ok(repeat(world, &event_of(load()), line.number)),
+        Word::Finish(worker) => Ok(world.finish(worker)),
+        Word::Map => Ok(world.apply(0, map())),
+        Word::Store => Ok(world.apply(0, store(alloc, line.number)?)),
+        Word::Out(worker) => Ok(reply_of(world.is_out(worker))),
+        _ => step(alloc, world, line),
+    }
 }

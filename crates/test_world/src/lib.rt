@@ -2,15 +2,9 @@
 #![tactic(auto)]
 
 #[cfg(test)]
-mod again;
-#[cfg(test)]
 mod by_hand;
 #[cfg(test)]
-mod checkpoints;
-#[cfg(test)]
 mod driver;
-#[cfg(test)]
-mod full;
 #[cfg(test)]
 mod lines;
 #[cfg(test)]
@@ -19,5 +13,7 @@ mod opening;
 mod reopening;
 #[cfg(test)]
 mod runs;
+#[cfg(test)]
+mod scripts;
 #[cfg(test)]
 mod store;

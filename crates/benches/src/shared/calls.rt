@@ -1,25 +1,18 @@
 //! Calls of one seat, and the same commands as events of a world. Neither is dropped: the process ends with it.
-use super::fault::BenchFault;
-use super::place::{mmap, store};
-use sd_command::{Command, Refusal, Reply};
+use super::place::{call, done, mmap, store};
+use sd_command::{Command, Refusal};
 use sd_disk::MemDisk;
 use sd_shared::{Seat, Shared};
 use sd_world::{Event, World};
-use std::alloc::{AllocError, Global};
+use std::alloc::Global;
 use std::mem::forget;
 use std::sync::Wait;
 
 /// A small store in memory.
-fn small(alloc: Global) -> Result<MemDisk, AllocError> {
-    MemDisk::new(alloc, 2, 10_000, 100)
-}
-
-/// A command that wasn't carried out ends a bench.
-pub(crate) fn done(reply: Reply) -> Result<(), Refusal> {
-    match reply {
-        Reply::Done => Ok(()),
-        Reply::Refused(why) => Err(why),
-        _ => Err(Refusal::Einval),
+fn small(alloc: Global) -> Result<MemDisk, Refusal> {
+    match MemDisk::new(alloc, 2, 10_000, 100) {
+        Ok(disk) => Ok(disk),
+        Err(_) => Err(Refusal::OutOfMemory),
     }
 }
 
@@ -30,27 +23,37 @@ fn call_all(
     shared: &Shared<MemDisk>,
     seat: &mut Seat,
     count: u64,
-) -> Result<u64, BenchFault> {
-    done(shared.call(rt, seat, mmap(1))?.reply)?;
+) -> Result<(), Refusal> {
+    call(rt, shared, seat, mmap(1))?;
     for number in 0..count {
-        let command = store(alloc, 0, (number % 256) as u8)?;
-        done(shared.call(rt, seat, command)?.reply)?;
+        call(rt, shared, seat, store(alloc, 0, (number % 256) as u8)?)?;
     }
-    Ok(count)
+    Ok(())
+}
+
+/// Makes so many stores by the first seat.
+fn call_by_first(
+    rt: &impl Wait,
+    alloc: Global,
+    shared: &Shared<MemDisk>,
+    seats: &mut [Seat],
+    count: u64,
+) -> Result<(), Refusal> {
+    match seats.first_mut() {
+        Some(seat) => call_all(rt, alloc, shared, seat, count),
+        None => Err(Refusal::NotOpen),
+    }
 }
 
 /// Makes so many stores by one seat of a shared core.
-pub(crate) fn make_calls(rt: &impl Wait, alloc: Global, count: u64) -> Result<u64, BenchFault> {
+pub(crate) fn make_calls(rt: &impl Wait, alloc: Global, count: u64) -> Result<(), Refusal> {
     match Shared::open(alloc, small(alloc)?, 16, 1) {
         Ok((shared, mut seats)) => {
-            let made = match seats.first_mut() {
-                Some(seat) => call_all(rt, alloc, &shared, seat, count),
-                None => Err(BenchFault::NotOpened),
-            };
+            let made = call_by_first(rt, alloc, &shared, &mut seats, count);
             forget(shared);
             made
         }
-        Err(_) => Err(BenchFault::NotOpened),
+        Err(_) => Err(Refusal::NotOpen),
     }
 }
 
@@ -60,22 +63,22 @@ fn step(world: &mut World<MemDisk>, command: Command) -> Result<(), Refusal> {
 }
 
 /// Maps a page, and makes so many stores as events of a world.
-fn step_all(alloc: Global, world: &mut World<MemDisk>, count: u64) -> Result<u64, BenchFault> {
+fn step_all(alloc: Global, world: &mut World<MemDisk>, count: u64) -> Result<(), Refusal> {
     step(world, mmap(1))?;
     for number in 0..count {
         step(world, store(alloc, 0, (number % 256) as u8)?)?;
     }
-    Ok(count)
+    Ok(())
 }
 
 /// Makes so many stores as events of a world.
-pub(crate) fn make_steps(alloc: Global, count: u64) -> Result<u64, BenchFault> {
+pub(crate) fn make_steps(alloc: Global, count: u64) -> Result<(), Refusal> {
     match World::open(alloc, small(alloc)?, 16) {
         Ok(mut world) => {
             let made = step_all(alloc, &mut world, count);
             forget(world);
             made
         }
-        Err(_) => Err(BenchFault::NotOpened),
+        Err(_) => Err(Refusal::NotOpen),
     }
 }

@@ -1,0 +1,229 @@
+//! What worlds are asked, and what they answer.
+use crate::runs::{Run, is_run};
+use crate::store::{EIGHT, FOUR, Store, TWO};
+use std::alloc::AllocError;
+
+/// An opener begins.
+const BEGINS: &str = "\
+reopen = worked
+reopen = refused 11 busy";
+
+/// An opener's device call: it is asked for, isn't asked for again, is made, and its outcome is taken.
+const CALL: &str = "\
+work-opener = worked
+work-opener = refused 11 busy
+perform-opener = worked
+work-opener = worked";
+
+/// An opener's last step. Then it is idle, and the store isn't opened again.
+const ENDS: &str = "\
+work-opener = reopened none
+work-opener = refused 14 idle
+reopen = refused 11 busy";
+
+/// The opener's second call fails: the opener ends, and the store can be opened again.
+const ENDS_WITH_ITS_FAILURE: &str = "\
+reopen = worked
+work-opener = worked
+perform-opener = worked
+work-opener = worked
+work-opener = worked
+perform-opener = refused 22 device
+work-opener = refused 13 store-down
+work-opener = refused 14 idle
+begin 0 = refused 10 not-open
+reopen = worked";
+
+/// A page that is mapped and loaded before the store is opened. Of an empty store no worker has anything to do.
+const NOT_OPEN: &str = "\
+map = done
+load = bytes 00
+perform-dumper = refused 14 idle
+work-merger = refused 14 idle
+perform-opener = refused 14 idle
+cancel = refused 14 idle
+begin 1 = refused 10 not-open
+merge = refused 10 not-open";
+
+/// No call of the dumper is out.
+const NO_CALL: &str = "out-dumper = done";
+
+/// A checkpoint, whose one page is visited and copied in one call, and a store after it.
+const FIRST: &str = "\
+reopen = worked
+finish-opener = reopened none
+map = done
+store 4 = done
+begin 0 = begun 1
+pass 1 = done
+steps 10 = worked
+pass 9 = worked
+pass 1 = done
+finish-dumper = acked 1
+store 5 = done";
+
+/// What was acknowledged is what a second run starts from, also before it opens the store again; the checkpoints of
+/// a store are numbered on.
+const SECOND: &str = "\
+begin 0 = refused 10 not-open
+merge = refused 10 not-open
+load = bytes 04
+reopen = worked
+finish-opener = reopened 1
+begin 0 = begun 2
+finish-dumper = acked 2";
+
+/// A call of the second checkpoint fails at its gate or after it: it is in doubt, and can't be cancelled.
+const DOUBTFUL: &str = "\
+reopen = worked
+finish-opener = reopened none
+map = done
+store 1 = done
+begin 0 = begun 1
+finish-dumper = acked 1
+begin 0 = begun 2
+finish-dumper = refused 22 device
+steps 1 = refused 13 store-down
+load = refused 6 frozen
+cancel = refused 11 busy
+begin 0 = refused 13 store-down
+merge = refused 13 store-down";
+
+/// The opener finds the checkpoint.
+const FOUND: &str = "\
+reopen = worked
+finish-opener = reopened 2
+load = bytes 01
+begin 0 = begun 3
+finish-dumper = acked 3";
+
+/// The opener finds the checkpoint before.
+const NOT_FOUND: &str = "\
+reopen = worked
+finish-opener = reopened 1
+load = bytes 01
+begin 0 = begun 3
+finish-dumper = acked 3";
+
+/// What a beginning is refused for, by priority, in a store of four slots.
+const REFUSED: &str = "\
+reopen = worked
+finish-opener = reopened none
+begin 9 = refused 1 EINVAL
+begin 3 = refused 12 no-slot
+begin 1 = begun 1
+finish-dumper = acked 1
+begin 1 = refused 12 no-slot
+begin 0 = begun 2
+finish-dumper = acked 2";
+
+/// In a store of two slots the first checkpoint is acknowledged, and for a second one a slot is missing.
+const TWO_SLOTS: &str = "\
+reopen = worked
+finish-opener = reopened none
+begin 0 = begun 1
+finish-dumper = acked 1
+begin 0 = refused 12 no-slot";
+
+/// Five entries, up to the acknowledgement, and loads until the journal has 1,048,576 entries. Another load is
+/// refused, and so is a checkpoint, which needs two entries; after a trim both are there.
+const FULL: &str = "\
+reopen = worked
+finish-opener = reopened none
+map = done
+store 97 = done
+begin 0 = begun 1
+finish-dumper = acked 1
+loads 1048571 = bytes 61
+load = refused 7 journal-full
+begin 0 = refused 7 journal-full
+trim = trimmed 5
+begin 0 = begun 2
+finish-dumper = acked 2
+trim = trimmed 1048573
+load = bytes 61";
+
+/// A run of one world over a store of two slots.
+const ONE: Run = Run {
+    store: TWO,
+    at_once: false,
+    first: &[],
+    second: &[],
+};
+
+const RUNS: &[Run] = &[
+    // An empty store is opened again: of each of two slots a sync and a length, three events a call, and a last step.
+    Run {
+        first: &[BEGINS, CALL, CALL, CALL, CALL, ENDS],
+        ..ONE
+    },
+    // The opening of the world makes 6 calls; the opener's second call is the one that fails.
+    Run {
+        store: Store { calls: 7, ..TWO },
+        at_once: true,
+        first: &[ENDS_WITH_ITS_FAILURE],
+        ..ONE
+    },
+    Run {
+        at_once: true,
+        first: &[NOT_OPEN],
+        ..ONE
+    },
+    Run {
+        first: &[NOT_OPEN, NO_CALL],
+        ..ONE
+    },
+    Run {
+        store: EIGHT,
+        first: &[FIRST],
+        second: &[SECOND],
+        ..ONE
+    },
+    // The sync after the gate fails.
+    Run {
+        store: Store { calls: 56, ..EIGHT },
+        first: &[DOUBTFUL, FOUND],
+        ..ONE
+    },
+    // The write of the gate fails, and isn't made.
+    Run {
+        store: Store {
+            calls: 55,
+            drops: true,
+            ..EIGHT
+        },
+        first: &[DOUBTFUL, NOT_FOUND],
+        ..ONE
+    },
+    Run {
+        store: FOUR,
+        first: &[REFUSED],
+        ..ONE
+    },
+    Run {
+        first: &[TWO_SLOTS],
+        ..ONE
+    },
+];
+
+/// Each world answers what its scripts say.
+#[test]
+fn worlds_answer(rt: HostRuntime) -> Result<(), AllocError> {
+    for (place, run) in RUNS.iter().enumerate() {
+        assert!(rt; is_run(rt.alloc(), run)?, "run {place}");
+    }
+    Ok(())
+}
+
+/// A run with a journal that is full.
+const FILLED: Run = Run {
+    store: FOUR,
+    first: &[FULL],
+    ..ONE
+};
+
+#[test]
+fn a_full_journal_is_trimmed(rt: HostRuntime) -> Result<(), AllocError> {
+    assert!(rt; is_run(rt.alloc(), &FILLED)?);
+    Ok(())
+}
