@@ -33,7 +33,7 @@ from pathlib import Path
 
 top = Path(sys.argv[1])
 calls = {}
-programs = ["ckpt", "sd_queries", "sd_cores", "sd_jobs", "sd_send", "sd_shell"]
+programs = ["ckpt", "sd_queries", "sd_cores", "sd_jobs", "sd_send", "sd_arrivals", "sd_shell"]
 for file in sorted(file for name in programs for file in (top / "crates" / name / "src").glob("*.rt")):
     for indent, name, body in re.findall(r"^( *)(?:pub(?:\(\w+\))? )?fn (\w+).*?\{\n(.*?)^\1\}$", file.read_text(), re.M | re.S):
         calls.setdefault(name, set()).update(re.findall(r"\b(\w+)\(", body))
