@@ -15,7 +15,7 @@ abbrev pub secs_left_of : ℕ → ℕ → ℕ → ℕ
 secs_left_of done of millis =
     if done == 0 then 0 else min (millis * (of - done)) (2 ^ 128 - 1) / done / 1000
 
--- A line is due, a second or more after the beginning or the last one: so long it took.
+-- A line is written, a second or more after the beginning or the last one: so long it took.
 pub record IsDue (old new : Pace) (took : Duration) : Type 0 where
   pub begun : Instant
   pub last : Instant
@@ -31,6 +31,6 @@ pub record Begins (old new : Pace) : Type 0 where
   pub fresh : IsNone old.begun ⊎ IsNone old.last
   pub stands : new ≡ record { begun = Some now; last = Some now }
 
--- no line is due: nothing changed, or this is the beginning
+-- no line is written: nothing changed, or this is the beginning
 abbrev pub IsNotDue : Pace → Pace → Type 0
 IsNotDue old new = (new ≡ old) ⊎ Begins old new
