@@ -1,4 +1,5 @@
 //! How far the reading of a core file is that takes long, as a line on a terminal.
+ghost use Rattle.std.specs.Prelude.{◌≡◌};
 
 use sd_areas::PAGE_SIZE;
 use sd_elf::CoreFile;
@@ -30,7 +31,10 @@ pub struct ShownCore<'r, 'f> {
 
 impl<'r, 'f> ShownCore<'r, 'f> {
     /// A core file of which nothing was read yet.
-    pub fn new(rt: &'r HostRuntime, file: &'f File, is_on: bool) -> Self {
+    pub fn new(rt: &'r HostRuntime, file: &'f File, is_on: bool) -> Self
+        ensures file { result.file ≡ file.entry }
+        ensures shows { result.is_on ≡ is_on }
+    {
         let size = file.size().unwrap_or(0);
         ShownCore {
             rt,

@@ -1,7 +1,11 @@
 //! Core files that are read: their memory, and their notes.
-ghost use Rattle.std.specs.Prelude.{◌≡◌, MatchResult};
+ghost use Rattle.std.specs.Prelude.{◌≡◌, IfErr, IfOk};
+ghost use Rattle.sd_cores.specs.Cores.{EndsUnread, IsSaid, IsUnopened};
+ghost use Rattle.sd_cores.specs.Texts.{core_fault_text};
 
-use sd_elf::{Core, NotesError, NotesFault, ReadError, idle_thread, read_core, read_notes};
+use sd_elf::{
+    Core, CoreFault, NotesError, NotesFault, ReadError, idle_thread, read_core, read_notes,
+};
 use sd_exit::{Output, Stop};
 use sd_program::{Causes, tell};
 use sd_restore::Fault;
@@ -33,7 +37,9 @@ fn open_file(rt: &HostRuntime, name: &str) -> io::Result<File> {
 }
 
 /// Opens a core file, and reads its headers.
-fn open_core<'a>(rt: &HostRuntime, name: &'a str) -> Result<Source<'a>, ReadError> {
+fn open_core<'a>(rt: &HostRuntime, name: &'a str) -> Result<Source<'a>, ReadError>
+    ensures { IfOk result (λ source. source.name ≡ name.entry) }
+{
     let file = open_file(rt, name)?;
     let core = read_core(rt.alloc(), &file)?;
     Ok(Source { name, file, core })
@@ -45,11 +51,15 @@ fn source_of<'a, W: Write>(
     causes: Causes,
     name: &'a str,
     out: &mut Output<W>,
-) -> Result<Source<'a>, Stop> {
+) -> Result<Source<'a>, Stop>
+    ensures name { IfOk result (λ source. source.name ≡ name.entry) }
+    ensures same { IfOk result (λ _. out.new ≡ out.old) }
+    ensures stopped { IfErr result (IsUnopened out.new.refused) }
+{
     match open_core(rt, name) {
         Ok(source) if source.core.segments.is_empty() => {
             tell(rt, causes, name, &NO_MEMORY);
-            Err(stopped(out.write_all(NO_CORE)))
+            Err(end_after(NO_CORE, out))
         }
         Ok(source) => Ok(source),
         Err(error) => Err(unread(rt, causes, name, error, out)),
@@ -62,7 +72,12 @@ pub fn open_cores<'a, W: Write>(
     causes: Causes,
     names: &[&'a str],
     out: &mut Output<W>,
-) -> Result<Vec<Source<'a>>, Stop> {
+) -> Result<Vec<Source<'a>>, Stop>
+    // Where all are opened, nothing is printed.
+    ensures same { IfOk result (λ _. out.new ≡ out.old) }
+    // Else one is no core, which is printed, or memory ran out.
+    ensures stopped { IfErr result (IsUnopened out.new.refused) }
+{
     let mut sources = Vec::new(rt.alloc());
     for name in names {
         let source = source_of(rt, causes, name, out)?;
@@ -86,7 +101,10 @@ pub(crate) fn threads_of<W: Write>(
     causes: Causes,
     name: Option<&str>,
     out: &mut Output<W>,
-) -> Result<Vec<u8>, Stop> {
+) -> Result<Vec<u8>, Stop>
+    ensures same { IfOk result (λ _. out.new ≡ out.old) }
+    ensures stopped { IfErr result (IsUnopened out.new.refused) }
+{
     let Some(name) = name else {
         return Ok(idle_thread(rt.alloc())?);
     };
@@ -95,7 +113,7 @@ pub(crate) fn threads_of<W: Write>(
         Err(NotesError::Read(error)) => Err(unread(rt, causes, name, error, out)),
         Err(NotesError::Fault(fault)) => {
             tell(rt, causes, name, &fault);
-            Err(stopped(out.write_all(line_of(fault))))
+            Err(end_after(line_of(fault), out))
         }
     }
 }
@@ -108,11 +126,11 @@ fn line_of(fault: NotesFault) -> &'static [u8] {
     }
 }
 
-/// How a program ends after its last line.
-pub fn stopped(printed: io::Result<()>) -> Stop
-    ensures { MatchResult printed (λ _. result ≡ Stop.Refused) (λ error. result ≡ Stop.Writer error) }
+/// Prints the last line of a program that can't go on, and returns how it ends.
+pub fn end_after<W: Write>(line: &[u8], out: &mut Output<W>) -> Stop
+    ensures { IsSaid line.now (W.contents out.old.writer) (W.contents out.new.writer) out.new.refused result }
 {
-    match printed {
+    match out.write_all(line) {
         Ok(()) => Stop::Refused,
         Err(error) => Stop::Writer(error),
     }
@@ -131,21 +149,29 @@ pub fn unread<W: Write>(
     name: &str,
     error: ReadError,
     out: &mut Output<W>,
-) -> Stop {
-    let printed = match error {
+) -> Stop
+    ensures { EndsUnread error (W.contents out.old.writer) (W.contents out.new.writer) out.new.refused result }
+{
+    match error {
         ReadError::Fault(fault) => {
             tell(rt, causes, name, &fault);
-            out.write_all(if fault.is_too_large() {
-                TOO_LARGE
-            } else {
-                NO_CORE
-            })
+            end_after(line_of_core(fault), out)
         }
         ReadError::File(error) => {
             tell(rt, causes, name, &error);
-            out.write_all(b"cannot read CORE\n")
+            end_after(b"cannot read CORE\n", out)
         }
-        ReadError::OutOfMemory => return Stop::Fault(Fault::OutOfMemory),
-    };
-    stopped(printed)
+        ReadError::OutOfMemory => Stop::Fault(Fault::OutOfMemory),
+    }
+}
+
+/// The line that is printed of a core whose bytes a space can't have.
+fn line_of_core(fault: CoreFault) -> &'static [u8]
+    ensures { result.now ≡ core_fault_text fault }
+{
+    if fault.is_too_large() {
+        TOO_LARGE
+    } else {
+        NO_CORE
+    }
 }

@@ -1,4 +1,6 @@
 //! `ckpt export`: the memory that a store shows, as ELF core files.
+ghost use Rattle.std.specs.Prelude.{IfOk};
+ghost use Rattle.sd_cores.specs.Exports.{EndsExport, ExportSays};
 
 use crate::cores::threads_of;
 use crate::parts::{Left, core_name, is_folder, is_there, make_part, part_name};
@@ -9,8 +11,8 @@ use sd_elf::{CoreFiles, HoleFile, WriteError, write_shown, write_shown_at};
 use sd_exit::{Output, Stop, exit};
 use sd_image::SpaceTable;
 use sd_program::{
-    Advised, BESIDE, Called, PAUSES, Seen, is_same_file, is_slot_file, may_change, print_not_there,
-    slot_error, tell, unseen,
+    Advised, BESIDE, Called, Seen, is_same_file, is_slot_file, may_change, print_not_there,
+    read_until_steady, slot_error, tell, unseen,
 };
 use sd_readers::fronts;
 use sd_restore::Fault;
@@ -19,8 +21,8 @@ use std::fs::File;
 use std::io::Write;
 use std::rt::Files;
 use std::sync::Wait;
-use std::time::{Clock, Duration};
-use std::{fs, io, thread};
+use std::time::Clock;
+use std::{fs, io};
 
 /// What is said of a folder of core files that is none.
 const IS_NO_FOLDER: &str = "; OUT is the folder of the core files";
@@ -121,13 +123,6 @@ impl<R: Files<File = File>> Export<'_, '_, R> {
         folder.sync_all()
     }
 
-    /// Forgets what was tried before.
-    fn begin_anew(&mut self) {
-        self.begun.clear();
-        self.lock = None;
-        self.lacks = false;
-    }
-
     /// Takes away what was written.
     fn remove_all(&self) {
         for space in &self.begun {
@@ -208,7 +203,14 @@ fn write_files<D: Disk, R: Files<File = File>>(
 }
 
 /// A store that was exported, and how that ended.
-type Exported = (DirDisk, Result<(), WriteError>);
+#[derive(Drop)]
+struct Exported {
+    disk: DirDisk,
+    ended: Result<(), WriteError>,
+    /// Whether the store doesn't show the one space that is asked for.
+    lacks: bool,
+    left: Left,
+}
 
 /// The fault of the store with which an export ended, if it did.
 fn fault_of(ended: &Result<(), WriteError>) -> Option<Fault> {
@@ -218,76 +220,37 @@ fn fault_of(ended: &Result<(), WriteError>) -> Option<Fault> {
     }
 }
 
-/// Writes the files of a store once, as if nothing was tried before. Where that fails, those that were begun are taken
-/// away.
-fn export_once(
-    called: Called<'_>,
-    seen: Seen<'_>,
-    threads: &[u8],
-    export: &mut Export<'_, '_, HostRuntime>,
-) -> Result<Exported, Stop> {
-    export.begin_anew();
-    let mut disk = seen.disk("export", called.open_store()?);
-    let ended = write_files(&mut disk, threads, export);
-    if ended.is_err() {
-        export.remove_all();
-    }
-    Ok((unseen(disk), ended))
-}
-
-/// Writes the files of a store that a run is writing: again where that came between.
-fn export_beside<R: Clock + Wait>(
-    called: Called<'_>,
-    clock: &R,
-    seen: Seen<'_>,
-    threads: &[u8],
-    export: &mut Export<'_, '_, HostRuntime>,
-) -> Result<Exported, Stop> {
-    for pause in PAUSES {
-        let (disk, ended) = export_once(called, seen, threads, export)?;
-        if !may_change(fault_of(&ended)) {
-            return Ok((disk, ended));
-        }
-        thread::sleep(clock, Duration::from_millis(pause));
-    }
-    export_once(called, seen, threads, export)
-}
-
 /// Reports why files weren't written, and how many of them have their names all the same.
-fn report_error<R: Eprint>(called: Called<'_>, export: &Export<'_, '_, R>, error: &io::Error) {
+fn report_error(called: Called<'_>, folder: &str, left: Left, error: &io::Error) {
     let advice = match error.kind() {
         io::ErrorKind::NotADirectory => IS_NO_FOLDER,
         _ => "",
     };
     let cause = error;
-    tell(
-        export.rt,
-        called.causes,
-        export.folder,
-        &Advised { cause, advice },
-    );
-    if export.named > 0 {
-        let left = Left {
-            named: export.named,
-            of: export.begun.len(),
-        };
-        tell(export.rt, called.causes, export.folder, &left);
+    let (rt, causes) = (called.rt, called.causes);
+    tell(rt, causes, folder, &Advised { cause, advice });
+    if left.named > 0 {
+        tell(rt, causes, folder, &left);
     }
 }
 
 /// How the program ends, and a line of why no file was made where the store isn't at fault.
-fn ended_with<R: Eprint, W: Write>(
+fn ended_with<W: Write>(
     called: Called<'_>,
-    export: &Export<'_, '_, R>,
+    folder: &str,
     ended: Result<(), WriteError>,
+    lacks: bool,
+    left: Left,
     out: &mut Output<W>,
-) -> Result<(), Stop> {
+) -> Result<(), Stop>
+    ensures { ExportSays result out.new.refused (W.contents out.old.writer) (W.contents out.new.writer) }
+{
     match ended {
         Ok(()) => Ok(()),
         Err(WriteError::Fault(fault)) => Err(Stop::Fault(fault)),
-        Err(WriteError::File(_)) if export.lacks => Err(Stop::Order(Refusal::NoSuchSpace)),
+        Err(WriteError::File(_)) if lacks => Err(Stop::Order(Refusal::NoSuchSpace)),
         Err(WriteError::File(error)) => {
-            report_error(called, export, &error);
+            report_error(called, folder, left, &error);
             out.write_all(b"cannot write OUT\n")?;
             Err(Stop::Refused)
         }
@@ -328,6 +291,48 @@ fn export_of<'a>(called: Called<'a>, asked: ExportAsked<'a>) -> Export<'a, 'a, H
     }
 }
 
+/// An export of a store, with these notes of threads, and what is to be seen of it.
+#[derive(Clone, Copy)]
+struct Exporting<'a> {
+    called: Called<'a>,
+    seen: Seen<'a>,
+    threads: &'a [u8],
+    asked: ExportAsked<'a>,
+}
+
+impl Exporting<'_> {
+    /// Writes the files of the store once. Where that fails, those that were begun are taken away.
+    fn export_once(self) -> Result<Exported, Stop> {
+        let mut export = export_of(self.called, self.asked);
+        let mut disk = self.seen.disk("export", self.called.open_store()?);
+        let ended = write_files(&mut disk, self.threads, &mut export);
+        if ended.is_err() {
+            export.remove_all();
+        }
+        Ok(Exported {
+            disk: unseen(disk),
+            ended,
+            lacks: export.lacks,
+            left: Left {
+                named: export.named,
+                of: export.begun.len(),
+            },
+        })
+    }
+
+    /// The same, and again where a run is writing the store and came between.
+    fn export<R: Clock + Wait>(self, clock: &R, is_beside: bool) -> Result<Exported, Stop> {
+        if !is_beside {
+            return self.export_once();
+        }
+        read_until_steady(
+            clock,
+            || self.export_once(),
+            |exported| may_change(fault_of(&exported.ended)),
+        )
+    }
+}
+
 /// Reports that a run may have disturbed an export, where one was writing the store as it began, or is now.
 fn report_export_beside(called: Called<'_>, is_beside: bool) {
     if is_beside {
@@ -342,34 +347,44 @@ fn report_export_beside(called: Called<'_>, is_beside: bool) {
 /// # Errors
 ///
 /// Those of a folder that isn't opened, and of a core whose notes aren't read.
-pub fn export_program<R: Clock + Wait, W: Write>(
-    called: Called<'_>,
+pub fn export_program<'a, R: Clock + Wait, W: Write>(
+    called: Called<'a>,
     clock: &R,
-    asked: ExportAsked<'_>,
+    asked: ExportAsked<'a>,
     out: &mut Output<W>,
-) -> Result<u8, Stop> {
+) -> Result<u8, Stop>
+    // What stands on the output, and the exit status; 3 where a checkpoint that is asked for isn't there.
+    ensures exits { IfOk result (EndsExport asked.entry.checkpoint (W.contents out.old.writer)
+        (W.contents out.new.writer) out.new.refused) }
+{
     let threads = threads_of(called.rt, called.causes, asked.notes, out)?;
     let log = called.logger();
-    let seen = called.seen(&log, called.is_watched());
-    let mut export = export_of(called, asked);
-    let is_beside = called.is_beside();
-    let (disk, ended) = if is_beside {
-        export_beside(called, clock, seen, &threads, &mut export)?
-    } else {
-        export_once(called, seen, &threads, &mut export)?
+    let exporting = Exporting {
+        called,
+        seen: called.seen(&log, called.is_watched()),
+        threads: &threads,
+        asked,
     };
+    let is_beside = called.is_beside();
+    let Exported {
+        disk,
+        ended,
+        lacks,
+        left,
+    } = exporting.export(clock, is_beside)?;
     called.report_device(&disk);
     if may_change(fault_of(&ended)) {
         report_export_beside(called, is_beside);
     }
-    if let (Some(number), Some(Fault::EmptyChain)) = (export.checkpoint, fault_of(&ended)) {
+    if let (Some(number), Some(Fault::EmptyChain)) = (asked.checkpoint, fault_of(&ended)) {
         let status = print_not_there(number, out);
         called.report_numbers(disk);
         return Ok(status);
     }
     if let (Ok(()), Some(name)) = (&ended, asked.notes) {
         let taken = format_args!("the threads and the mapped files are those of {name}");
-        tell(called.rt, called.causes, export.folder, &taken);
+        tell(called.rt, called.causes, asked.folder, &taken);
     }
-    Ok(exit(&ended_with(called, &export, ended, out), out))
+    let ended = ended_with(called, asked.folder, ended, lacks, left, out);
+    Ok(exit(&ended, out))
 }

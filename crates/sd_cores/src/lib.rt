@@ -7,5 +7,5 @@ mod export;
 mod parts;
 
 pub use core_line::ShownCore;
-pub use cores::{Source, open_cores, stopped, unread};
+pub use cores::{Source, end_after, open_cores, unread};
 pub use export::{ExportAsked, export_program};

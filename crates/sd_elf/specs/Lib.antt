@@ -1,8 +1,9 @@
-pub mod Headers
-pub mod Segments
-pub mod Cores
-pub mod Pieces
-pub mod Texts
-pub mod Files
 pub mod At
+pub mod Cores
+pub mod Faults
+pub mod Files
+pub mod Headers
 pub mod Notes
+pub mod Pieces
+pub mod Segments
+pub mod Texts

@@ -1,4 +1,7 @@
 //! Why bytes are no core that a space can have.
+ghost use Rattle.std.specs.Prelude.{◌≡◌};
+ghost use Rattle.sd_elf.specs.Faults.{has_too_much};
+
 use thiserror::Error;
 
 /// What is wrong with the file header of a core, in the order in which it is tested.
@@ -65,7 +68,9 @@ pub enum CoreFault {
 
 impl CoreFault {
     /// Whether the file is a core, but has more than a space can have.
-    pub fn is_too_large(&self) -> bool {
+    pub fn is_too_large(&self) -> bool
+        ensures { result ≡ has_too_much self.now }
+    {
         matches!(
             self,
             CoreFault::Segment {

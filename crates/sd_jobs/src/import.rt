@@ -2,7 +2,7 @@
 
 use sd_areas::SpaceId;
 use sd_command::Reply;
-use sd_cores::{ShownCore, Source, open_cores, stopped, unread};
+use sd_cores::{ShownCore, Source, end_after, open_cores, unread};
 use sd_disk::Disk;
 use sd_exit::{Output, Stop, exit};
 use sd_gate::Worker;
@@ -145,7 +145,7 @@ fn ended_with<W: Write>(
         ImportError::Answer(reply) => refused(called.rt.alloc(), reply, out),
         ImportError::Changed => {
             tell(called.rt, called.causes, name, &CHANGED);
-            stopped(out.write_all(b"core changed\n"))
+            end_after(b"core changed\n", out)
         }
         ImportError::OutOfMemory => Stop::Fault(Fault::OutOfMemory),
     }

@@ -12,8 +12,8 @@ use sd_exit::{Output, Stop, exit};
 use sd_program::{Called, Causes, FewSlots, Inputs, read_script};
 use sd_readers::restore_to;
 use sd_run::{Rule, RunWatch, run_lines, unfit};
-use sd_script::{Line, QuotedLine, Script, ScriptError, blame_line};
-use sd_watching::{CountsAsked, Course, Failure, Session, line_of};
+use sd_script::{QuotedLine, Script, ScriptError, blame_line};
+use sd_watching::{CountsAsked, Course, Failure, Session, line_of, slots_for};
 use std::alloc::Global;
 use std::io::{IsTerminal, Write};
 use std::sync::Wait;
@@ -164,17 +164,6 @@ struct FewSlotsAt {
 impl fmt::Display for FewSlotsAt {
     fn fmt<W: fmt::Write>(&self, f: &mut fmt::Formatter<W>) -> fmt::Result {
         write!(f, "script line {}: {}", self.line, self.slots)
-    }
-}
-
-/// How many slots are free where a request needs some.
-fn slots_for(request: &Line, free: usize) -> Option<FewSlots> {
-    match request {
-        Line::Begin(rounds) | Line::Checkpoint(rounds) => Some(FewSlots::of_checkpoint(
-            free, *rounds,
-        )),
-        Line::BeginMerge | Line::Merge => Some(FewSlots::of_merge(free)),
-        _ => None,
     }
 }
 

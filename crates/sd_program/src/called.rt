@@ -1,6 +1,8 @@
 //! How a program is called.
-ghost use Rattle.std.specs.Prelude.{◌≡◌, IfOk};
+ghost use Rattle.std.specs.Prelude.{◌≡◌, ◌<◌, ◌↔◌, false, IfOk, IsTrue};
+ghost use Rattle.log.specs.Handle.{max_level};
 ghost use Rattle.sd_disk.specs.Folder.{folder_failures, folder_files, outside_of};
+ghost use Rattle.sd_program.specs.Verbose.{level_asked};
 
 use crate::beside::BESIDE;
 use crate::cause::{Causes, tell};
@@ -64,17 +66,25 @@ impl<'a> Called<'a> {
     }
 
     /// Whether it is shown how far a job is.
-    pub fn is_watched(self) -> bool {
+    pub fn is_watched(self) -> bool
+        ensures kept { self.entry.causes ≡ Causes.Kept → result ≡ false }
+    {
         self.causes == Causes::Told && self.rt.stderr().is_terminal()
     }
 
     /// A logger of the level that is asked for.
-    pub fn logger(self) -> Logger<'a> {
+    pub fn logger(self) -> Logger<'a>
+        ensures { max_level result ≡ level_asked self.entry.verbose }
+    {
         logger_of(self.rt, self.verbose)
     }
 
     /// What is to be seen of a program. `shows` says whether it is shown how far its reading is.
-    pub fn seen(self, log: &'a Logger<'a>, shows: bool) -> Seen<'a> {
+    pub fn seen(self, log: &'a Logger<'a>, shows: bool) -> Seen<'a>
+        ensures log { result.log ≡ log.entry }
+        ensures verbose { IsTrue result.verbose ↔ (0 < self.entry.verbose) }
+        ensures shows { result.shows ≡ shows }
+    {
         Seen {
             rt: self.rt,
             log,

@@ -20,6 +20,11 @@ pub struct Advised<'a, C> {
 }
 
 impl<C: Display> Display for Advised<'_, C> {
+    ghost use Rattle.std.specs.Prelude.{◌++◌};
+    ghost use Rattle.std.specs.Option.{option_map};
+
+    ghost output = { λ advised. option_map (λ text. text ++ advised.advice.now) (C.output advised.cause.now) };
+
     fn fmt<W: fmt::Write>(&self, f: &mut fmt::Formatter<W>) -> fmt::Result {
         write!(f, "{}{}", self.cause, self.advice)
     }

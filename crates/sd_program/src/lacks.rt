@@ -1,4 +1,6 @@
 //! What a program prints and reports where a store has no image of the checkpoint that is asked for.
+ghost use Rattle.sd_exit.specs.Ending.{Exits};
+ghost use Rattle.sd_program.specs.Texts.{not_there_text};
 
 use crate::called::Called;
 use sd_disk::DirDisk;
@@ -16,7 +18,10 @@ pub const NOT_THERE: u8 = 3;
 const NONE_THERE: &str = "it has no checkpoint that can be restored";
 
 /// Prints that a store has no image of a checkpoint, and returns the exit status.
-pub fn print_not_there<W: Write>(number: u64, out: &mut Output<W>) -> u8 {
+pub fn print_not_there<W: Write>(number: u64, out: &mut Output<W>) -> u8
+    ensures { Exits (W.contents out.old.writer) (W.contents out.new.writer) out.new.refused
+        (not_there_text number) 3 result }
+{
     let _ = writeln!(out, "no checkpoint {number}");
     out.finish(NOT_THERE)
 }

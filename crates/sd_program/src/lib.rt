@@ -15,7 +15,7 @@ mod shown;
 mod slots;
 mod verbose;
 
-pub use beside::{BESIDE, PAUSES, may_change, read_until_steady};
+pub use beside::{BESIDE, may_change, read_until_steady};
 pub use called::Called;
 pub use cause::{Advised, Causes, tell};
 pub use few_slots::FewSlots;

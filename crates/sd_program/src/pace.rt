@@ -1,4 +1,7 @@
 //! When a line of progress is written, and how far something is.
+ghost use Rattle.std.specs.Prelude.{◌≡◌, ◌/◌, IfNone, IfSome};
+ghost use Rattle.std.specs.Duration.{as_nanos};
+ghost use Rattle.sd_program.specs.Pace.{IsDue, IsNotDue, percent_of, secs_left_of};
 
 use std::fmt;
 use std::time::{Clock, Duration, Instant};
@@ -20,13 +23,17 @@ pub struct Done {
 
 impl Done {
     /// How much of a hundred is done, less than a hundred before the end.
-    pub fn percent(self) -> u128 {
+    pub fn percent(self) -> u128
+        ensures { result ≡ percent_of self.done self.of }
+    {
         let hundredfold = self.done.saturating_mul(100);
         hundredfold.checked_div(self.of).unwrap_or(0).min(100)
     }
 
     /// How many seconds are left, if the rest goes on as fast.
-    pub fn secs_left(self) -> u128 {
+    pub fn secs_left(self) -> u128
+        ensures { result ≡ secs_left_of self.done self.of (as_nanos self.took / 1_000_000) }
+    {
         let rest = self.of.saturating_sub(self.done);
         let millis = self.took.as_millis().saturating_mul(rest);
         millis.checked_div(self.done).unwrap_or(0) / 1000
@@ -34,6 +41,11 @@ impl Done {
 }
 
 impl fmt::Display for Done {
+    ghost use Rattle.std.specs.Prelude.{Some};
+    ghost use Rattle.sd_program.specs.Texts.{done_text};
+
+    ghost output = { λ done. Some (done_text done) };
+
     fn fmt<W: fmt::Write>(&self, f: &mut fmt::Formatter<W>) -> fmt::Result {
         write!(f, "{} %", self.percent())?;
         if self.done > 0 {
@@ -58,7 +70,10 @@ impl Pace {
     };
 
     /// How long it took so far, where it is time for a line. The first call is the beginning.
-    pub fn due<R: Clock>(&mut self, clock: &R) -> Option<Duration> {
+    pub fn due<R: Clock>(&mut self, clock: &R) -> Option<Duration>
+        ensures due { IfSome result (IsDue self.old self.new) }
+        ensures waits { IfNone result (IsNotDue self.old self.new) }
+    {
         let now = Instant::now(clock).ok()?;
         let (Some(begun), Some(last)) = (self.begun, self.last) else {
             self.begun = Some(now);

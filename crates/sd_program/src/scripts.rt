@@ -1,11 +1,14 @@
 //! The files that a program reads beside its store: scripts, from a file or from the standard input, and cores.
+ghost use Rattle.std.specs.Prelude.{◌≡◌, ◌≢◌, ◌⊎◌, [], codes, false, All, IfErr};
+ghost use Rattle.std.specs.IoError.{error_kind};
+ghost use Rattle.sd_restore.specs.declared.fault.Fault.TheVariants as fault;
 
 use crate::cause::{Advised, Causes, tell};
 use crate::slots::is_same_file;
 use sd_exit::Stop;
 use sd_restore::Fault;
 use std::io;
-use std::io::{Input, Read};
+use std::io::{ErrorKind, Input, Read};
 use std::rt::Files;
 
 /// The name of the standard input, as a script.
@@ -28,17 +31,22 @@ fn bytes_of(rt: &HostRuntime, script: &str) -> io::Result<Vec<u8>> {
 }
 
 /// Reads a script.
-pub fn read_script(rt: &HostRuntime, causes: Causes, script: &str) -> Result<Vec<u8>, Stop> {
+pub fn read_script(rt: &HostRuntime, causes: Causes, script: &str) -> Result<Vec<u8>, Stop>
+    ensures { IfErr result (λ stop. (stop ≡ Stop.Fault fault.OutOfMemory) ⊎ (stop ≡ Stop.CannotReadScript)) }
+{
     bytes_of(rt, script).map_err(|error| unread(rt, causes, script, &error))
 }
 
 /// Why a program ends that can't read its script, with the cause.
-pub fn unread(rt: &impl Eprint, causes: Causes, script: &str, error: &io::Error) -> Stop {
-    if error.kind() == io::ErrorKind::OutOfMemory {
+pub fn unread(rt: &impl Eprint, causes: Causes, script: &str, error: &io::Error) -> Stop
+    ensures memory { error_kind error.now ≡ ErrorKind.OutOfMemory → result ≡ Stop.Fault fault.OutOfMemory }
+    ensures other { error_kind error.now ≢ ErrorKind.OutOfMemory → result ≡ Stop.CannotReadScript }
+{
+    if error.kind() == ErrorKind::OutOfMemory {
         return Stop::Fault(Fault::OutOfMemory);
     }
     let advice = match error.kind() {
-        io::ErrorKind::IsADirectory if script != STANDARD_INPUT => IS_FOLDER,
+        ErrorKind::IsADirectory if script != STANDARD_INPUT => IS_FOLDER,
         _ => "",
     };
     let cause = error;
@@ -62,7 +70,11 @@ impl<'a> Inputs<'a> {
     };
 
     /// The script as the one input of a run. The standard input is no file of its own.
-    pub fn of_script(names: &'a [&'a str; 1]) -> Inputs<'a> {
+    pub fn of_script(names: &'a [&'a str; 1]) -> Inputs<'a>
+        ensures standard { All (λ name. name.now ≡ codes "-") names.now → result.paths.now ≡ [] }
+        ensures file { All (λ name. name.now ≢ codes "-") names.now → result.paths.now ≡ names.now }
+        ensures cause { result.cause.now ≡ IS_SCRIPT.now }
+    {
         let is_file = names[0] != STANDARD_INPUT;
         Inputs {
             paths: if is_file { names.as_slice() } else { &[] },
@@ -71,7 +83,9 @@ impl<'a> Inputs<'a> {
     }
 
     /// Whether a path leads to one of them.
-    pub fn has(self, rt: &impl Files, path: &str) -> bool {
+    pub fn has(self, rt: &impl Files, path: &str) -> bool
+        ensures none { self.entry.paths.now ≡ [] → result ≡ false }
+    {
         self.paths.iter().any(|input| is_same_file(rt, path, input))
     }
 }

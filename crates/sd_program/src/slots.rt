@@ -1,8 +1,12 @@
 //! Which files are those of a store's slots, under whatever name. None of them is written as another file.
+ghost use Rattle.std.specs.Prelude.{◌≡◌, ◌++◌, IfErr, IfOk, codes, string_bytes};
+ghost use Rattle.std.specs.IoError.{error_kind};
+ghost use Rattle.sd_exit.specs.Texts.{slot_text};
 
 use sd_disk::FOLDER_SLOTS;
 use std::alloc::{AllocError, Global};
 use std::fs::{File, Metadata};
+use std::io::ErrorKind;
 use std::os::unix::fs::MetadataExt;
 use std::path::PathBuf;
 use std::rt::Files;
@@ -15,7 +19,9 @@ const IS_SLOT: &str = "a slot's file of the store, which isn't written over: nam
 const LINKS: usize = 40;
 
 /// The path of a slot's file.
-fn slot_path(alloc: Global, folder: &str, slot: usize) -> Result<String, AllocError> {
+fn slot_path(alloc: Global, folder: &str, slot: usize) -> Result<String, AllocError>
+    ensures { IfOk result (λ path. string_bytes path ≡ folder.now ++ codes "/img-" ++ slot_text slot) }
+{
     format!(in alloc; "{folder}/img-{slot:03}")
 }
 
@@ -55,7 +61,9 @@ pub fn is_slot_file(
     alloc: Global,
     folder: &str,
     file: &Metadata,
-) -> io::Result<bool> {
+) -> io::Result<bool>
+    ensures { IfErr result (λ error. error_kind error ≡ ErrorKind.OutOfMemory) }
+{
     for slot in 0..FOLDER_SLOTS {
         let path = slot_path(alloc, folder, slot)?;
         if fs::metadata(rt, path.as_str()).is_ok_and(|found| are_one(&found, file)) {
@@ -113,8 +121,10 @@ fn names_slot_file(
 }
 
 /// The error of a slot's file that was to be written as another.
-pub fn slot_error() -> io::Error {
-    io::Error::new(io::ErrorKind::InvalidInput, IS_SLOT)
+pub fn slot_error() -> io::Error
+    ensures { error_kind result ≡ ErrorKind.InvalidInput }
+{
+    io::Error::new(ErrorKind::InvalidInput, IS_SLOT)
 }
 
 /// Opens a file to be written, which is made where it is missing. What stands in it stays.

@@ -1,8 +1,10 @@
 //! `--verbose`: what is logged on the standard error.
-ghost use Rattle.std.specs.Prelude.{◌≡◌, ◌<◌, length};
+ghost use Rattle.std.specs.Prelude.{◌≡◌, ◌<◌, ◌||◌, length};
+ghost use Rattle.log.specs.Handle.{max_level};
 ghost use Rattle.sd_disk.specs.Reads.{OnlyReads};
 ghost use Rattle.sd_disk.specs.Folder.{folder_files};
 ghost use Rattle.sd_program.specs.Seen.{within};
+ghost use Rattle.sd_program.specs.Verbose.{level_asked};
 
 use crate::logging::{CallLogger, Logging};
 use crate::shown::{Shown, shown, unshown};
@@ -16,7 +18,9 @@ use std::fmt::Display;
 pub type Logger<'a> = Logged<&'a HostRuntime, Console<&'a HostRuntime>>;
 
 /// The level that a count of `--verbose` asks for: nothing, then jobs, images and slots, then device calls too.
-fn level_of(count: u8) -> LevelFilter {
+fn level_of(count: u8) -> LevelFilter
+    ensures { result ≡ level_asked count }
+{
     match count {
         0 => LevelFilter::Off,
         1 => LevelFilter::Info,
@@ -25,7 +29,9 @@ fn level_of(count: u8) -> LevelFilter {
 }
 
 /// A logger of the level that a count of `--verbose` asks for.
-pub(crate) fn logger_of(rt: &HostRuntime, count: u8) -> Logger<'_> {
+pub(crate) fn logger_of(rt: &HostRuntime, count: u8) -> Logger<'_>
+    ensures { max_level result ≡ level_asked count }
+{
     Logged::new(rt, level_of(count), Console(rt))
 }
 
@@ -86,7 +92,9 @@ pub struct Seen<'a> {
 
 impl<'a> Seen<'a> {
     /// Whether anything is to be seen.
-    pub fn is_asked(self) -> bool {
+    pub fn is_asked(self) -> bool
+        ensures { result ≡ self.entry.verbose || self.entry.shows }
+    {
         self.verbose || self.shows
     }
 

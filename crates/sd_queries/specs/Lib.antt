@@ -1,1 +1,4 @@
+pub mod Asked
+pub mod Dropping
 pub mod Reading
+pub mod Showing

@@ -1,4 +1,8 @@
 //! `ckpt diff`: what differs between the memories of a store at two checkpoints.
+ghost use Rattle.std.specs.Prelude.{◌≡◌, ◌≢◌, ◌⊎◌, IfErr};
+ghost use Rattle.sd_disk.specs.Reads.{OnlyReads};
+ghost use Rattle.sd_exit.specs.Ending.{status_of};
+ghost use Rattle.sd_restore.specs.declared.fault.Fault.TheVariants as restore;
 
 use crate::queries::{lacks_printed, print_fault, status_or};
 use sd_diff::{DiffFault, Difference, diff, difference_json, difference_text};
@@ -20,7 +24,9 @@ pub struct Compared {
 }
 
 /// Why a difference isn't shown that a reading may have disturbed.
-fn unread(fault: Fault) -> DiffFault {
+fn unread(fault: Fault) -> DiffFault
+    ensures { (result ≡ DiffFault.Device) ⊎ (result ≡ DiffFault.OutOfMemory) }
+{
     match fault {
         Fault::OutOfMemory => DiffFault::OutOfMemory,
         _ => DiffFault::Device,
@@ -32,7 +38,9 @@ fn diff_steady<D: Disk>(
     alloc: Global,
     compared: Compared,
     disk: &mut D,
-) -> Result<Difference, DiffFault> {
+) -> Result<Difference, DiffFault>
+    ensures reads { OnlyReads D.Disk disk.old disk.new }
+{
     let before = fronts(alloc, disk).map_err(unread)?;
     let difference = diff(alloc, disk, compared.old, compared.new)?;
     if fronts(alloc, disk).map_err(unread)? != before {
@@ -47,7 +55,9 @@ fn print_difference<W: Write>(
     is_document: bool,
     difference: &Difference,
     out: &mut Output<W>,
-) -> Result<(), Stop> {
+) -> Result<(), Stop>
+    ensures stopped { IfErr result (λ why. status_of why ≡ 1) }
+{
     let text = if is_document {
         difference_json(alloc, difference)?
     } else {
@@ -58,7 +68,9 @@ fn print_difference<W: Write>(
 }
 
 /// Prints a fault of the store, and returns the exit status.
-fn end_with<W: Write>(alloc: Global, is_document: bool, fault: Fault, out: &mut Output<W>) -> u8 {
+fn end_with<W: Write>(alloc: Global, is_document: bool, fault: Fault, out: &mut Output<W>) -> u8
+    ensures failed { fault ≢ restore.EmptyChain → result ≡ 1 }
+{
     if is_document {
         status_or(print_fault(alloc, fault, out), out)
     } else {
@@ -67,7 +79,9 @@ fn end_with<W: Write>(alloc: Global, is_document: bool, fault: Fault, out: &mut 
 }
 
 /// Prints that a store has no image of a checkpoint, and returns the exit status.
-fn end_without<W: Write>(alloc: Global, is_document: bool, number: u64, out: &mut Output<W>) -> u8 {
+fn end_without<W: Write>(alloc: Global, is_document: bool, number: u64, out: &mut Output<W>) -> u8
+    ensures { (result ≡ 3) ⊎ (result ≡ 1) }
+{
     if is_document {
         status_or(lacks_printed(alloc, number, out), out)
     } else {
@@ -76,12 +90,14 @@ fn end_without<W: Write>(alloc: Global, is_document: bool, number: u64, out: &mu
 }
 
 /// Prints what differs between two checkpoints, or why there is nothing, and returns the exit status.
-pub fn print_compared<D: Disk, W: Write>(
+pub(crate) fn print_compared<D: Disk, W: Write>(
     alloc: Global,
     compared: Compared,
     disk: &mut D,
     out: &mut Output<W>,
-) -> u8 {
+) -> u8
+    ensures reads { OnlyReads D.Disk disk.old disk.new }
+{
     let is_document = compared.is_document;
     match diff_steady(alloc, compared, disk) {
         Ok(difference) => exit(&print_difference(alloc, is_document, &difference, out), out),

@@ -1,13 +1,18 @@
 //! `ckpt drop`: closes one image of a store, where the newest checkpoint doesn't need it.
+ghost use Rattle.std.specs.Prelude.{◌≡◌, ◌∷◌, ◌++◌, [], true, IfOk, OnErr, OnOk, codes};
+ghost use Rattle.std.specs.Io.KnownBytes.{Appends};
+ghost use Rattle.sd_exit.specs.Ending.{Exits};
+ghost use Rattle.sd_exit.specs.Texts.{slot_text};
+ghost use Rattle.sd_queries.specs.Dropping.{EndsDropping, dropped_text, kept_text};
 
 use sd_drop::{DropError, drop_image};
-use sd_exit::{Output, Stop, exit};
+use sd_exit::{Output, Stop};
 use sd_program::{Called, Seen, has_slot_files, unseen};
 use sd_restore::Fault;
-use std::fmt;
 use std::io::Write;
 use std::sync::Wait;
 use std::time::Clock;
+use std::{fmt, io};
 
 /// The exit status where an image stays as it is.
 const KEPT: u8 = 1;
@@ -40,6 +45,15 @@ struct DropAsked<'a> {
     force: bool,
 }
 
+/// Prints what became of the image of a slot.
+fn print_line<W: Write>(word: &str, slot: usize, why: &str, out: &mut Output<W>) -> io::Result<()>
+    ensures line { OnOk result (Appends (W.contents out.old.writer) (W.contents out.new.writer)
+        (word.now ++ codes " " ++ slot_text slot ++ why.now ++ 10 ∷ [])) }
+    ensures refused { OnErr result (out.new.refused ≡ true) }
+{
+    writeln!(out, "{word} {slot:03}{why}")
+}
+
 impl DropAsked<'_> {
     /// Closes the image, and reports what the system answered where that failed.
     fn close<R: Clock + Wait>(&self, clock: &R) -> Result<Result<(), DropError>, Stop> {
@@ -51,24 +65,33 @@ impl DropAsked<'_> {
     }
 
     /// Prints that the image was closed, and returns the exit status.
-    fn print_dropped<W: Write>(&self, out: &mut Output<W>) -> Result<u8, Stop> {
-        writeln!(out, "dropped {:03}", self.slot)?;
-        Ok(exit(&Ok(()), out))
+    fn print_dropped<W: Write>(&self, out: &mut Output<W>) -> Result<u8, Stop>
+        ensures { IfOk result (Exits (W.contents out.old.writer) (W.contents out.new.writer) out.new.refused
+            (dropped_text self.now.slot) 0) }
+    {
+        print_line("dropped", self.slot, "", out)?;
+        Ok(out.finish(0))
     }
 
     /// Prints that the image stays as it is and why, and returns the exit status.
-    fn print_kept<W: Write>(&self, why: Kept, out: &mut Output<W>) -> Result<u8, Stop> {
+    fn print_kept<W: Write>(&self, why: Kept, out: &mut Output<W>) -> Result<u8, Stop>
+        ensures { IfOk result (EndsDropping self.now.slot (W.contents out.old.writer) (W.contents out.new.writer)
+            out.new.refused) }
+    {
         let word = match why {
-            Kept::Needed(_) => "needed",
-            Kept::Closed(_) => "closed",
+            Kept::Needed(_) => " needed",
+            Kept::Closed(_) => " closed",
         };
-        writeln!(out, "kept {:03} {word}", self.slot)?;
+        print_line("kept", self.slot, word, out)?;
         self.called.tell(&why);
         Ok(out.finish(KEPT))
     }
 
     /// Prints how it ended, and returns the exit status.
-    fn end<W: Write>(&self, ended: Result<(), DropError>, out: &mut Output<W>) -> Result<u8, Stop> {
+    fn end<W: Write>(&self, ended: Result<(), DropError>, out: &mut Output<W>) -> Result<u8, Stop>
+        ensures { IfOk result (EndsDropping self.now.slot (W.contents out.old.writer) (W.contents out.new.writer)
+            out.new.refused) }
+    {
         match ended {
             Ok(()) => self.print_dropped(out),
             Err(DropError::Closed) => self.print_kept(Kept::Closed(self.slot), out),
@@ -94,7 +117,11 @@ pub fn drop_program<R: Clock + Wait, W: Write>(
     slot: usize,
     force: bool,
     out: &mut Output<W>,
-) -> Result<u8, Stop> {
+) -> Result<u8, Stop>
+    // One line says what became of the image: it was closed, with status 0, or stays, with status 1.
+    ensures ends { IfOk result (EndsDropping slot (W.contents out.old.writer) (W.contents out.new.writer)
+        out.new.refused) }
+{
     let log = called.logger();
     let asked = DropAsked {
         called,

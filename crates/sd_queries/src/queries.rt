@@ -1,8 +1,10 @@
 //! What is asked of a store that is only read, and its answer.
-ghost use Rattle.std.specs.Prelude.{◌≡◌, false};
+ghost use Rattle.std.specs.Prelude.{◌≡◌, false, if◌then◌else◌, Err, IfErr, IfOk, MatchResult, Some};
 ghost use Rattle.sd_disk.specs.Reads.{OnlyReads};
+ghost use Rattle.sd_exit.specs.Ending.{ExitsAs, status_of};
 ghost use Rattle.sd_readers.specs.declared.steady.Reader.{Reader};
 ghost use Rattle.sd_readers.specs.Reading.{ReaderEnds};
+ghost use Rattle.sd_queries.specs.Asked.{has_document, names_one_checkpoint, reader_at_verb, reader_verb, verb_text};
 ghost use Rattle.sd_queries.specs.declared.queries.Query.TheVariants as query;
 
 use crate::difference::{Compared, print_compared};
@@ -38,7 +40,9 @@ pub enum Query {
 }
 
 /// What is done with a store by a program that reads it.
-fn verb_of(reader: Reader) -> &'static str {
+fn verb_of(reader: Reader) -> &'static str
+    ensures { result.now ≡ reader_verb reader }
+{
     match reader {
         Reader::Restore => "restore",
         Reader::List => "list",
@@ -47,7 +51,9 @@ fn verb_of(reader: Reader) -> &'static str {
 }
 
 /// What is done with a store by a program that reads a checkpoint of it.
-fn verb_at(reader: ReaderAt) -> &'static str {
+fn verb_at(reader: ReaderAt) -> &'static str
+    ensures { result.now ≡ reader_at_verb reader }
+{
     match reader {
         ReaderAt::Restore => "restore",
         ReaderAt::Verify => "verify",
@@ -56,7 +62,9 @@ fn verb_at(reader: ReaderAt) -> &'static str {
 
 impl Query {
     /// What is done with the store.
-    pub fn verb(self) -> &'static str {
+    pub fn verb(self) -> &'static str
+        ensures { result.now ≡ verb_text self }
+    {
         match self {
             Query::Newest(reader) | Query::Document(Document::Newest(reader)) => verb_of(reader),
             Query::At(reader, _) | Query::Document(Document::At(reader, _)) => verb_at(reader),
@@ -67,7 +75,9 @@ impl Query {
     }
 
     /// Whether it is reported which checkpoints there are, where the one that is asked for isn't.
-    pub fn names_one(self) -> bool {
+    pub fn names_one(self) -> bool
+        ensures { result ≡ names_one_checkpoint self }
+    {
         match self {
             Query::At(_, _) | Query::Document(Document::At(_, _)) => true,
             Query::Difference(compared) => !compared.is_document,
@@ -77,7 +87,7 @@ impl Query {
 
     /// Whether the answer is one JSON document, which has a fault too.
     pub fn is_document(self) -> bool
-        ensures newest { (reader : Reader) → self ≡ query.Newest reader → result ≡ false }
+        ensures { result ≡ has_document self }
     {
         match self {
             Query::HistoryDocument | Query::Document(_) => true,
@@ -92,7 +102,8 @@ impl Query {
             → ReaderEnds reader (D.is_honest disk.new) (D.contents disk.old)
             (D.failed disk.old) (D.failed disk.new) (W.contents out.old.writer)
             (W.contents out.new.writer) out.new.refused result }
-        ensures reads { (reader : Reader) → self ≡ query.Newest reader → OnlyReads D.Disk disk.old disk.new }
+        // Whatever is asked, it only reads.
+        ensures reads { OnlyReads D.Disk disk.old disk.new }
     {
         match self {
             Query::Newest(reader) => read_to(alloc, reader, disk, out),
@@ -137,7 +148,10 @@ fn fault_of(ended: &Result<(), Stop>) -> Option<Fault> {
 }
 
 /// The exit status of an answer, or of why there is none, which is printed then.
-pub fn status_or<W: Write>(ended: Result<u8, Stop>, out: &mut Output<W>) -> u8 {
+pub(crate) fn status_or<W: Write>(ended: Result<u8, Stop>, out: &mut Output<W>) -> u8
+    ensures { MatchResult ended (λ status. (result ≡ status) × (out.new ≡ out.old)) (λ why. ExitsAs (Err why)
+        (W.contents out.old.writer) (W.contents out.new.writer) out.new.refused result) }
+{
     match ended {
         Ok(status) => status,
         Err(stop) => exit(&Err(stop), out),
@@ -151,7 +165,9 @@ fn print_one<D: Disk, W: Write>(
     disk: &mut D,
     number: u64,
     out: &mut Output<W>,
-) -> u8 {
+) -> u8
+    ensures reads { OnlyReads D.Disk disk.old disk.new }
+{
     let ended = print_at(alloc, reader, disk, number, out);
     match fault_of(&ended) {
         Some(Fault::EmptyChain) => print_not_there(number, out),
@@ -168,7 +184,16 @@ fn end_document<W: Write>(alloc: Global, ended: Result<(), Stop>, out: &mut Outp
 }
 
 /// Prints the document of a fault, and returns the exit status that the fault's line has.
-pub fn print_fault<W: Write>(alloc: Global, fault: Fault, out: &mut Output<W>) -> Result<u8, Stop> {
+pub(crate) fn print_fault<W: Write>(
+    alloc: Global,
+    fault: Fault,
+    out: &mut Output<W>,
+) -> Result<u8, Stop>
+    ensures status { IfOk result (λ status.
+        status ≡ (if out.new.refused then 1 else status_of (Stop.Fault fault))) }
+    ensures fault { IfOk result (λ _. out.new.fault ≡ Some fault) }
+    ensures stopped { IfErr result (λ why. status_of why ≡ 1) }
+{
     writeln!(out, "{}", fault_text(alloc, &fault)?)?;
     Ok(exit_with_fault(fault, out))
 }
@@ -179,7 +204,9 @@ fn print_document<D: Disk, W: Write>(
     document: Document,
     disk: &mut D,
     out: &mut Output<W>,
-) -> Result<(), Stop> {
+) -> Result<(), Stop>
+    ensures reads { OnlyReads D.Disk disk.old disk.new }
+{
     writeln!(out, "{}", document_text(alloc, document, disk)?)?;
     Ok(())
 }
@@ -190,7 +217,9 @@ fn print_other<D: Disk, W: Write>(
     document: Document,
     disk: &mut D,
     out: &mut Output<W>,
-) -> u8 {
+) -> u8
+    ensures reads { OnlyReads D.Disk disk.old disk.new }
+{
     let ended = print_document(alloc, document, disk, out);
     match (document, fault_of(&ended)) {
         (Document::At(_, number), Some(Fault::EmptyChain)) => {
@@ -201,23 +230,30 @@ fn print_other<D: Disk, W: Write>(
 }
 
 /// Prints the document of a store without an image of a checkpoint, and returns the exit status.
-pub fn lacks_printed<W: Write>(
+pub(crate) fn lacks_printed<W: Write>(
     alloc: Global,
     number: u64,
     out: &mut Output<W>,
-) -> Result<u8, Stop> {
+) -> Result<u8, Stop>
+    ensures status { IfOk result (λ status. status ≡ (if out.new.refused then 1 else 3)) }
+    ensures stopped { IfErr result (λ why. status_of why ≡ 1) }
+{
     writeln!(out, "{}", lacks_text(alloc, number)?)?;
     Ok(out.finish(NOT_THERE))
 }
 
 /// The history of a store that is read once.
-fn read_history<D: Disk>(alloc: Global, disk: &mut D) -> Result<History, Fault> {
+fn read_history<D: Disk>(alloc: Global, disk: &mut D) -> Result<History, Fault>
+    ensures reads { OnlyReads D.Disk disk.old disk.new }
+{
     let catalog = scan(alloc, disk)?;
     Ok(history_of(alloc, &catalog)?)
 }
 
 /// The history of a store, of one moment.
-fn steady_history<D: Disk>(alloc: Global, disk: &mut D) -> Result<History, Fault> {
+fn steady_history<D: Disk>(alloc: Global, disk: &mut D) -> Result<History, Fault>
+    ensures reads { OnlyReads D.Disk disk.old disk.new }
+{
     let before = fronts(alloc, disk)?;
     let history = read_history(alloc, disk)?;
     if fronts(alloc, disk)? == before {
@@ -242,7 +278,9 @@ fn print_history<D: Disk, W: Write>(
     disk: &mut D,
     is_document: bool,
     out: &mut Output<W>,
-) -> Result<(), Stop> {
+) -> Result<(), Stop>
+    ensures reads { OnlyReads D.Disk disk.old disk.new }
+{
     let history = steady_history(alloc, disk)?;
     let text = text_of(alloc, &history, is_document)?;
     out.write_all(text.as_bytes())?;
@@ -250,7 +288,9 @@ fn print_history<D: Disk, W: Write>(
 }
 
 /// What `verify` finds in a store, of one moment.
-fn steady_report<D: Disk>(alloc: Global, disk: &mut D) -> Result<Report, Fault> {
+fn steady_report<D: Disk>(alloc: Global, disk: &mut D) -> Result<Report, Fault>
+    ensures reads { OnlyReads D.Disk disk.old disk.new }
+{
     let before = fronts(alloc, disk)?;
     let report = verify(alloc, disk)?;
     if fronts(alloc, disk)? == before {
@@ -266,7 +306,9 @@ fn print_at_least<D: Disk, W: Write>(
     disk: &mut D,
     least: u64,
     out: &mut Output<W>,
-) -> Result<(), Stop> {
+) -> Result<(), Stop>
+    ensures reads { OnlyReads D.Disk disk.old disk.new }
+{
     let report = steady_report(alloc, disk)?;
     print_verdict(report, out)?;
     match report.checkpoint {

@@ -9,13 +9,12 @@ ghost use Rattle.sd_queries.specs.declared.queries.Query.TheVariants as query;
 use crate::queries::Query;
 use sd_disk::{DirDisk, Disk};
 use sd_exit::{Output, Stop, exit_with_fault};
-use sd_program::{BESIDE, Called, NOT_THERE, PAUSES, Seen, may_change, unseen};
+use sd_program::{BESIDE, Called, NOT_THERE, Seen, may_change, read_until_steady, unseen};
 use sd_readers::print_held;
 use sd_restore::Fault;
 use std::io::Write;
 use std::sync::Wait;
-use std::thread;
-use std::time::{Clock, Duration};
+use std::time::Clock;
 
 /// The exit status of an answer that says no.
 const FAILED: u8 = 1;
@@ -81,14 +80,7 @@ impl ReadAsked<'_> {
             ReadsFound self.entry.called.found.now reader (tried.disk, tried.status) (Some []) (Some tried.text.items)
             false) }
     {
-        for pause in PAUSES {
-            let tried = self.try_once()?;
-            if !may_change(tried.fault) {
-                return Ok(tried);
-            }
-            thread::sleep(clock, Duration::from_millis(pause));
-        }
-        self.try_once()
+        read_until_steady(clock, || self.try_once(), |tried| may_change(tried.fault))
     }
 
     /// Ends a reading with a fault that was found beside a run: it stands alone, but where the answer is a document,

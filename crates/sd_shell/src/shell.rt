@@ -15,7 +15,7 @@ use sd_program::{Called, FewSlots, Inputs, STANDARD_INPUT, unread};
 use sd_restore::Fault;
 use sd_run::{FRAMES, Watch, run_line, unopened};
 use sd_script::{Answer, Line, Script, ScriptError};
-use sd_watching::{CountsAsked, Course, Session};
+use sd_watching::{CountsAsked, Course, Session, slots_for};
 use sd_world::{OpenError, World};
 use std::alloc::Global;
 use std::cell::Cell;
@@ -217,7 +217,7 @@ fn answer_request<D: Disk, W: Write, S: Watch>(
     out: &mut Output<W>,
     watch: &mut S,
 ) -> Result<(), Stop> {
-    let wanted = wanted_slots(&request);
+    let wanted = slots_for(&request, 0);
     let rounds = rounds_of(&request);
     let worker = worker_of(&request);
     if let (Line::Reopen, Some(failed)) = (&request, asked.failed.get()) {
@@ -227,15 +227,6 @@ fn answer_request<D: Disk, W: Write, S: Watch>(
     asked.report_answer(world.core(), wanted, &given);
     asked.note(&given, worker, rounds);
     Ok(())
-}
-
-/// How many free slots a request needs, if it is one that needs some; none are counted yet.
-fn wanted_slots(request: &Line) -> Option<FewSlots> {
-    match request {
-        Line::Begin(rounds) | Line::Checkpoint(rounds) => Some(FewSlots::of_checkpoint(0, *rounds)),
-        Line::BeginMerge | Line::Merge => Some(FewSlots::of_merge(0)),
-        _ => None,
-    }
 }
 
 /// How many rounds a request asks for, if it begins a checkpoint.

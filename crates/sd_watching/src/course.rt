@@ -1,5 +1,8 @@
 //! How far the run of a script is: the request that was answered last, the first that found too few free slots, and the
 //! one that ended a strict run.
+ghost use Rattle.std.specs.Prelude.{◌≡◌, [], false};
+ghost use Rattle.std.specs.Option.{option_copied};
+ghost use Rattle.sd_watching.specs.Course.{IsFresh};
 
 use sd_command::{Refusal, Reply};
 use sd_core::Core;
@@ -65,7 +68,11 @@ pub struct Course<'a> {
 impl<'a> Course<'a> {
     /// The course of a script of which nothing was answered yet. `shows` says whether its line is written where it
     /// takes long.
-    pub fn new(rt: &'a HostRuntime, script: &'a [u8], shows: bool) -> Self {
+    pub fn new(rt: &'a HostRuntime, script: &'a [u8], shows: bool) -> Self
+        ensures script { result.script ≡ script.entry }
+        ensures shows { result.shows ≡ shows }
+        ensures fresh { IsFresh result }
+    {
         Course {
             rt,
             script,
@@ -80,22 +87,32 @@ impl<'a> Course<'a> {
     }
 
     /// The course of a program that runs no script.
-    pub fn none(rt: &'a HostRuntime) -> Self {
+    pub fn none(rt: &'a HostRuntime) -> Self
+        ensures script { result.script.now ≡ [] }
+        ensures shows { result.shows ≡ false }
+        ensures fresh { IsFresh result }
+    {
         Course::new(rt, &[], false)
     }
 
     /// The first request whose answer is a refusal or `segv`.
-    pub fn failure(&self) -> Option<&Failure> {
+    pub fn failure(&self) -> Option<&Failure>
+        ensures { option_copied result ≡ self.now.failure }
+    {
         self.failure.as_ref()
     }
 
     /// The first request that found too few free slots.
-    pub fn few(&self) -> Option<FewAt> {
+    pub fn few(&self) -> Option<FewAt>
+        ensures { result ≡ self.now.few }
+    {
         self.few
     }
 
     /// Whether an order had nothing to do.
-    pub fn was_idle(&self) -> bool {
+    pub fn was_idle(&self) -> bool
+        ensures { result ≡ self.now.idle }
+    {
         self.idle
     }
 

@@ -7,9 +7,11 @@ mod counts;
 mod course;
 mod progress;
 mod session;
+mod wanted;
 mod watching;
 
 pub use counts::CountsAsked;
 pub use course::{Course, Failure, line_of};
 pub use session::{CountedDisk, Session};
+pub use wanted::slots_for;
 pub use watching::Watching;

@@ -1,4 +1,5 @@
 //! What watches the jobs and answers of a run.
+ghost use Rattle.std.specs.Prelude.{◌≡◌};
 
 use crate::counting::{Counting, MissingCounts, log_end, log_job};
 use crate::course::Course;
@@ -37,7 +38,9 @@ impl<'a> Watching<'a> {
     }
 
     /// How far the run is.
-    pub fn course(&self) -> &Course<'a> {
+    pub fn course(&self) -> &Course<'a>
+        ensures { result.now ≡ self.now.course }
+    {
         &self.course
     }
 

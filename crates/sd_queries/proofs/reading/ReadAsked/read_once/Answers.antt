@@ -15,5 +15,5 @@ returns g c = record {
       let status = c.answer-status.result in
       subst (λ disk. ReadsFound found reader (disk, status) before after refused) (sym c.unseen.ensures)
       (answers_folder reader found (within c.disk-disk.result) (within c.answer-status.new.disk) before after refused status
-      (c.disk-disk.ensures.files ∙ c.in_ok-disk.ensures.files) (c.answer-status.ensures.reads reader is).same (c.answer-status.ensures.newest reader is));
+      (c.disk-disk.ensures.files ∙ c.in_ok-disk.ensures.files) c.answer-status.ensures.reads.same (c.answer-status.ensures.newest reader is));
 }

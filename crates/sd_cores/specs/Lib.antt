@@ -1,0 +1,3 @@
+pub mod Cores
+pub mod Exports
+pub mod Texts
