@@ -1,6 +1,7 @@
 pub mod RunLemmas
 pub mod SettledLemmas
 pub mod FillLemmas
+pub mod StreamLemmas
 pub mod ArriveLemmas
 pub mod ShowLemmas
 pub mod CatalogLemmas

@@ -1,5 +1,5 @@
 -- An image that is read from a stream into a slot, and a store that is ready for one.
-use Rattle.std.specs.Prelude.{◌≡◌, ◌⊎◌, ℕ, List, ◌++◌, Option, Some, Result, IfOk, length, map}
+use Rattle.std.specs.Prelude.{◌≡◌, ◌⊎◌, ℕ, List, [], ◌∷◌, ◌++◌, Option, Some, Result, IfOk, length, map}
 use Rattle.std.specs.List.{concat}
 use Rattle.sha2.specs.Sha256.{sha256}
 use Rattle.sd_areas.specs.PlainMemory.{PlainMemory}
@@ -8,6 +8,8 @@ use Rattle.sd_disk.specs.Spans.{LeavesOnly}
 use Rattle.sd_disk.specs.declared.disk.Disk.{Ghosts}
 use Rattle.sd_image.specs.declared.digester.Digester.{Digester}
 use Rattle.sd_image.specs.declared.header.Header.{Header}
+use Rattle.sd_image.specs.declared.header.Kind.{Kind}
+use Rattle.sd_image.specs.declared.header.Kind.TheVariants.{PreDump, Dump, Merged}
 use Rattle.sd_image.specs.declared.header.Version.TheVariants.{Two}
 use Rattle.sd_image.specs.Digests.{HasFed}
 use Rattle.sd_image.specs.Header.{header_front}
@@ -17,6 +19,10 @@ use Rattle.sd_image.specs.Shows.{Shows}
 use Rattle.sd_image.specs.Table.{IsTable, listing_of, table_text}
 use Rattle.sd_chain.specs.Catalog.{Changes, Opened, Places, place_of}
 use Rattle.sd_chain.specs.Store.{IsCatalogOf}
+use Rattle.sd_stream.specs.declared.reader.StreamReader.{StreamReader}
+use Rattle.sd_stream.specs.Progress.{Progress}
+use Rattle.sd_stream.specs.Reading.{HasRead}
+use Rattle.sd_stream.specs.Stream.{Group}
 use Rattle.sd_receive.specs.declared.arrived.Arrived.{Arrived}
 use Rattle.sd_receive.specs.declared.receiver.Received.{Received}
 use Rattle.sd_receive.specs.declared.receiver.Received.TheVariants as received
@@ -79,3 +85,31 @@ pub record Receives {D E : Type 0} (g : Ghosts D) (old new : D) (shown : Option 
     (memory : PlainMemory) (result : Result Received E) : Type 0 where
   pub any_moment : LeavesOnly g old new (λ c. Shows c shown ⊎ Shows c (Some (last, memory)))
   pub at_end : IfOk result (ShowsThen g old new shown last memory)
+
+-- the numbers of the checkpoints so far
+abbrev pub numbers_so_far : Progress → List ℕ
+numbers_so_far p = map (λ (g : Group). g.number) p.groups
+
+-- of a stream the checkpoints of these numbers came more
+pub record HasMore {R : Type 0} (remaining : R → Option (List ℕ)) (before : Option (List ℕ)) (p : Progress)
+    (numbers : List ℕ) (reader : StreamReader R) : Type 0 where
+  pub now : Progress
+  pub read : HasRead remaining before now reader
+  pub more : numbers_so_far now ≡ numbers_so_far p ++ numbers
+
+-- from one reader to another
+abbrev pub GoesOn : {R : Type 0} → (R → Option (List ℕ)) → StreamReader R → List ℕ → StreamReader R → Type 0
+GoesOn remaining old numbers new =
+    (before : Option (List ℕ)) (p : Progress) → HasRead remaining before p old → HasMore remaining before p numbers new
+
+-- the checkpoint that an image of this kind ends
+abbrev pub number_with : Kind → ℕ → List ℕ
+number_with PreDump number = []
+number_with Dump number = number ∷ []
+number_with Merged number = number ∷ []
+
+-- the checkpoint that was received
+abbrev pub numbers_received : Received → List ℕ
+numbers_received received.PreDump = []
+numbers_received (received.Checkpoint n) = n ∷ []
+numbers_received received.End = []

@@ -10,7 +10,7 @@ ghost use Rattle.sd_image.specs.Header.{IsHeader, header_front};
 ghost use Rattle.sd_image.specs.Image.{is_open};
 ghost use Rattle.sd_image.specs.Table.{IsTable, listing_of, table_text};
 ghost use Rattle.sd_gate.specs.Sequences.{IsBody};
-ghost use Rattle.sd_receive.specs.Arrived.{GoesWith, HasArrived, HasPages};
+ghost use Rattle.sd_receive.specs.Arrived.{GoesOn, GoesWith, HasArrived, HasPages};
 ghost use Rattle.sd_receive.specs.Arriving.{IsFilled, IsSettled, KeepsImages};
 
 use crate::arriving::{format, put_page};
@@ -60,6 +60,7 @@ fn take_page<D: Disk, R: Read>(
     ensures others { (other : ℕ) → other ≢ slot
         → file_at (D.contents disk.new) other ≡ file_at (D.contents disk.old) other }
     ensures count { length (D.contents disk.new) ≡ length (D.contents disk.old) }
+    ensures reads { OnOk result (GoesOn R.remaining reader.old [] reader.new) }
     ensures honest { D.is_honest disk.new → D.is_honest disk.old }
 {
     let mut buffer = vec![in alloc; 0u8; PAGE_SIZE]?;
@@ -87,6 +88,7 @@ fn take_pages<D: Disk, R: Read>(
     ensures others { (other : ℕ) → other ≢ slot
         → file_at (D.contents disk.new) other ≡ file_at (D.contents disk.old) other }
     ensures count { length (D.contents disk.new) ≡ length (D.contents disk.old) }
+    ensures reads { OnOk result (GoesOn R.remaining reader.old [] reader.new) }
     ensures honest { D.is_honest disk.new → D.is_honest disk.old }
 {
     for place in 0..pages {
@@ -114,6 +116,7 @@ fn fill<D: Disk, R: Read>(
     ensures others { (other : ℕ) → other ≢ slot
         → file_at (D.contents disk.new) other ≡ file_at (D.contents disk.old) other }
     ensures count { length (D.contents disk.new) ≡ length (D.contents disk.old) }
+    ensures reads { OnOk result (GoesOn R.remaining reader.old [] reader.new) }
     ensures honest { D.is_honest disk.new → D.is_honest disk.old }
 {
     format(disk, slot)?;
@@ -161,6 +164,7 @@ fn take_rest<R: Read>(
         → IfOk result (GoesWith header.now pages) }
     ensures body { IfOk result (λ arrived. IsBody header.now arrived.bytes.items) }
     ensures table { IfOk result (λ arrived. IsTable header.now (map listing_of arrived.table.spaces.items)) }
+    ensures reads { OnOk result (GoesOn R.remaining reader.old [] reader.new) }
 {
     let bytes = take_table(alloc, reader, header.table_len as usize)?;
     let table = table_of(alloc, header, &bytes)?;
@@ -191,6 +195,7 @@ pub(crate) fn arrive<D: Disk, R: Read>(
     ensures others { (other : ℕ) → other ≢ slot
         → file_at (D.contents disk.new) other ≡ file_at (D.contents disk.old) other }
     ensures count { length (D.contents disk.new) ≡ length (D.contents disk.old) }
+    ensures reads { OnOk result (GoesOn R.remaining reader.old [] reader.new) }
     ensures honest { D.is_honest disk.new → D.is_honest disk.old }
 {
     let digester = fill(alloc, disk, slot, header.pages as usize, reader)?;

@@ -1,5 +1,5 @@
 //! A store that receives a stream, image by image.
-ghost use Rattle.std.specs.Prelude.{◌≡◌, ◌≢◌, ◌<◌, ◌≤◌, ◌^◌, ℕ, true, List, All, Contains, Option, Some, length, map};
+ghost use Rattle.std.specs.Prelude.{◌≡◌, ◌≢◌, ◌<◌, ◌≤◌, ◌^◌, ℕ, true, List, [], All, Contains, Option, Some, length, map};
 ghost use Rattle.std.specs.Prelude.{IfOk, IfSome, OnOk};
 ghost use Rattle.std.specs.Borrow.{Bor};
 ghost use Rattle.sd_areas.specs.PlainMemory.{PlainMemory};
@@ -11,7 +11,7 @@ ghost use Rattle.sd_image.specs.Table.{IsTable, listing_of};
 ghost use Rattle.sd_chain.specs.Catalog.{Opened, images};
 ghost use Rattle.sd_chain.specs.Store.{IsCatalogOf};
 ghost use Rattle.sd_chain.specs.Ways.{AreImages};
-ghost use Rattle.sd_receive.specs.Arrived.{AddsImage, IsReady, Receives, opened_with};
+ghost use Rattle.sd_receive.specs.Arrived.{AddsImage, GoesOn, IsReady, Receives, number_with, numbers_received, opened_with};
 ghost use Rattle.sd_receive.specs.declared.receiver.Received.TheVariants as received;
 
 use crate::arrived::{Arrived, arrive};
@@ -120,6 +120,7 @@ fn add(
 fn received_with(header: &Header) -> Received
     ensures pre_dump { header.now.kind ≡ PreDump → result ≡ received.PreDump }
     ensures dump { header.now.kind ≢ PreDump → result ≡ received.Checkpoint header.now.checkpoint }
+    ensures number { numbers_received result ≡ number_with header.now.kind header.now.checkpoint }
 {
     match header.kind {
         Kind::PreDump => Received::PreDump,
@@ -158,6 +159,7 @@ impl<R: Read> Receiver<R> {
     /// Reads the header of an image of so many bytes, and chooses one of so many slots for it.
     fn choose(&mut self, slots: usize, len: u64) -> Result<(usize, Header), ReceiveError>
         ensures catalog { self.new.catalog ≡ self.old.catalog }
+        ensures reads { OnOk result (GoesOn R.remaining self.old.reader [] self.new.reader) }
         ensures header { IfOk result (λ chosen. IsHeader chosen.1 len) }
         ensures few { IfOk result (λ chosen. chosen.1.pages ≤ 2 ^ 39) }
         ensures slot { IfOk result (λ chosen. chosen.0 < slots) }
@@ -179,6 +181,8 @@ impl<R: Read> Receiver<R> {
     /// Reads that the checkpoint of a dump or a merged image is acknowledged.
     fn take_acknowledged(&mut self, header: &Header) -> Result<(), ReceiveError>
         ensures catalog { self.new.catalog ≡ self.old.catalog }
+        ensures reads { OnOk result (GoesOn R.remaining self.old.reader
+            (number_with header.now.kind header.now.checkpoint) self.new.reader) }
         ensures last { header.now.kind ≢ PreDump
             → OnOk result (self.new.last ≡ header.now.checkpoint) }
     {
@@ -209,6 +213,8 @@ impl<R: Read> Receiver<R> {
         ensures adds { OnOk result
             (AddsImage self.old.catalog self.new.catalog (opened_with slot header arrived)) }
         ensures images { OnOk result (AreImages self.new.catalog) }
+        ensures reads { OnOk result (GoesOn R.remaining self.old.reader
+            (number_with header.kind header.checkpoint) self.new.reader) }
         ensures last { header.kind ≢ PreDump → OnOk result (self.new.last ≡ header.checkpoint) }
         ensures shown { header.kind ≢ PreDump → (contents : List (List ℕ))
             → IsCatalogOf contents self.new.catalog → OnOk result ((memory : PlainMemory)
@@ -237,6 +243,7 @@ impl<R: Read> Receiver<R> {
             → IsReady (D.contents disk.old) (D.may_leave disk.old) self.old.catalog
             → OnOk result (IsReady (D.contents disk.new) (D.may_leave disk.new) self.new.catalog) }
         ensures images { OnOk result (AreImages self.new.catalog) }
+        ensures reads { IfOk result (λ r. GoesOn R.remaining self.old.reader (numbers_received r) self.new.reader) }
         ensures honest { D.is_honest disk.new → D.is_honest disk.old }
     {
         self.catalog.sound();
@@ -268,6 +275,9 @@ impl<R: Read> Receiver<R> {
             → IsReady (D.contents disk.old) (D.may_leave disk.old) self.old.catalog
             → OnOk result (IsReady (D.contents disk.new) (D.may_leave disk.new) self.new.catalog) }
         ensures images { OnOk result (AreImages self.new.catalog) }
+        // A checkpoint is one that the stream acknowledged.
+        ensures acknowledged { IfOk result (λ r. r ≢ received.End
+            → GoesOn R.remaining self.old.reader (numbers_received r) self.new.reader) }
         ensures honest { D.is_honest disk.new → D.is_honest disk.old }
     {
         match self.reader.next()? {

@@ -1,6 +1,7 @@
 //! The parts of an image, as they come in a stream.
-ghost use Rattle.std.specs.Prelude.{◌≡◌, ◌≤◌, ◌<◌, ◌^◌, length, IfOk, OnOk};
+ghost use Rattle.std.specs.Prelude.{◌≡◌, ◌≤◌, ◌<◌, ◌^◌, [], length, IfOk, OnOk};
 ghost use Rattle.sd_image.specs.Header.{IsHeader};
+ghost use Rattle.sd_receive.specs.Arrived.{GoesOn};
 
 use crate::receive_error::ReceiveError;
 use sd_image::{GATE, HEADER_SIZE, Header, Reason, decode_header};
@@ -14,6 +15,7 @@ pub(crate) fn take_bytes<R: Read>(
     buffer: &mut [u8],
 ) -> Result<(), ReceiveError>
     ensures len { length buffer.new ≡ length buffer.old }
+    ensures reads { OnOk result (GoesOn R.remaining reader.old [] reader.new) }
 {
     let count = reader.bytes(buffer)?;
     if count < buffer.len() {
@@ -29,6 +31,7 @@ pub(crate) fn take_header<R: Read>(
 ) -> Result<Header, ReceiveError>
     ensures header { IfOk result (λ header. IsHeader header len) }
     ensures few { IfOk result (λ header. header.pages ≤ 2 ^ 39) }
+    ensures reads { OnOk result (GoesOn R.remaining reader.old [] reader.new) }
 {
     if len > MAX_FILE_LEN {
         return Err(ReceiveError::Stream(StreamError::Length(len)));
@@ -52,6 +55,7 @@ pub(crate) fn take_table<R: Read>(
 ) -> Result<Vec<u8>, ReceiveError>
     ensures some { OnOk result (0 < len) }
     ensures len { IfOk result (λ bytes. length bytes.items ≡ len) }
+    ensures reads { OnOk result (GoesOn R.remaining reader.old [] reader.new) }
 {
     if len == 0 {
         return Err(ReceiveError::Image(Reason::PastEnd));

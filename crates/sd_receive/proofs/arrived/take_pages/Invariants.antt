@@ -1,7 +1,7 @@
-use Rattle.std.proofs.Common.{◌≡◌, ◌≢◌, ℕ, length}
+use Rattle.std.proofs.Common.{[], ◌≡◌, ◌≢◌, ℕ, length}
 use Rattle.sd_disk.specs.Contents.{file_at}
 use Rattle.sd_disk.specs.Spans.{LeavesOnly}
-use Rattle.sd_receive.specs.Arrived.{HasPages}
+use Rattle.sd_receive.specs.Arrived.{GoesOn, HasPages}
 use Rattle.sd_receive.specs.Arriving.{KeepsImages}
 use Rattle.sd_receive.proofs.arrived.take_pages.Given as goal
 
@@ -11,6 +11,7 @@ invariant-loop-place g l = record {
   count : length (g.D.Disk.contents l.disk) ≡ length (g.D.Disk.contents l.fn.disk);
   others : (other : ℕ) → other ≢ l.slot → file_at (g.D.Disk.contents l.disk) other ≡ file_at (g.D.Disk.contents l.fn.disk) other;
   honest : g.D.Disk.is_honest l.disk → g.D.Disk.is_honest l.fn.disk;
+  reads : GoesOn g.R.Read.remaining l.fn.reader [] l.reader;
   taken : HasPages (g.D.Disk.contents l.fn.disk) (g.D.Disk.may_leave l.fn.disk) l.slot 0 l.fn.digester
       → HasPages (g.D.Disk.contents l.disk) (g.D.Disk.may_leave l.disk) l.slot l.place l.digester;
   keeps : HasPages (g.D.Disk.contents l.fn.disk) (g.D.Disk.may_leave l.fn.disk) l.slot 0 l.fn.digester

@@ -1,13 +1,14 @@
-use Rattle.std.proofs.Common.{◌≡◌, ◌⊎◌, ◌<◌, ℕ, false, List, Some, inl, inr, sym, ap, subst, length, slice_set}
+use Rattle.std.proofs.Common.{◌≡◌, ◌⊎◌, ◌<◌, ℕ, false, List, [], Some, inl, inr, sym, ap, subst, length, slice_set}
 use Rattle.std.proofs.lemmas.Result.{IfOk-from_err}
 use Rattle.sd_disk.specs.Contents.{file_at}
 use Rattle.sd_image.specs.Image.{is_open}
 use Rattle.sd_disk.specs.Spans.{LeavesOnly}
-use Rattle.sd_receive.specs.Arrived.{AddsImage, ShowsThen, opened_with}
+use Rattle.sd_receive.specs.Arrived.{AddsImage, GoesOn, ShowsThen, number_with, opened_with}
 use Rattle.sd_receive.specs.Arriving.{IsSettled, KeepsImages, file_of}
 use Rattle.sd_receive.proofs.ArriveLemmas.{at_end, keeps_still}
 use Rattle.sd_receive.proofs.CatalogLemmas.{catalog_kept, free_is_closed}
 use Rattle.sd_receive.proofs.OpenLemmas.{Arrives, kept_after, opened_file, opens_to, ready_after, received_then, receives_nothing, shows_after, span_opens, span_same}
+use Rattle.sd_receive.proofs.StreamLemmas.{goes_on_more}
 use Rattle.sd_receive.proofs.ShowLemmas.{keeps_shows}
 use Rattle.sd_receive.proofs.receiver.Receiver.take_image.Goals as goal
 
@@ -181,3 +182,11 @@ returns-clause-ready g c = λ honest ready.
     let kept = kept_after (d.contents mid) (d.may_leave mid) places next slot header arrived a (d.contents new) opened.1
     (at_end d mid new (λ files. KeepsImages (d.contents mid) files ⊎ KeepsImages after files) (g.met.D.Disk.as_read new) (λ t files since may. g.met.D.Disk.counts_now new t files since may) opens) in
     ready_after (d.contents mid) (d.may_leave mid) places next slot header arrived a (d.contents new) (d.may_leave new) opened.0 kept
+
+pub returns-clause-reads : goal.returns-clause-reads
+returns-clause-reads g c =
+    let from = g.R.Read.remaining in
+    let header = c.in_ok-slot.header in
+    subst (λ (numbers : List ℕ). GoesOn from c.args.self.now.reader numbers c.prepare.new.self.reader) (sym c.received_with.ensures.number)
+    (goes_on_more from c.args.self.now.reader c.arrive.new.reader c.prepare.new.self.reader [] (number_with header.kind header.checkpoint)
+    (goes_on_more from c.args.self.now.reader c.choose.new.self.reader c.arrive.new.reader [] [] c.in_ok-slot.ensures.reads c.in_ok-arrived.ensures.reads) c.in_ok-bytes.ensures.reads)
