@@ -226,7 +226,8 @@ fn work<R: Threads + Wait + Clock + Files + Alloc + Abort + Sync>(
     let mut told = Told::new(alloc)?;
     let opened = is_opened(Job::Opening.make(rt, shared, &Free));
     if let Case::Random(seed) = case {
-        return Ok(plays(rt, alloc, shared, seats, seed, told));
+        let (told, played) = plays(rt, alloc, shared, seats, seed, told);
+        return Ok((told, opened && played));
     }
     let worked = works_by_two(rt, alloc, shared, seats, case, &mut told);
     spoil(case, &mut told);
