@@ -51,7 +51,8 @@ fn receive(alloc: Global, disk: &mut Fused<MemDisk>, stream: &[u8]) -> u64 {
     last
 }
 
-/// Whether after so many calls a crash by each of three rules leaves the last checkpoint that was received, or the next.
+/// Whether after so many calls a crash by each of three rules leaves the last checkpoint that was received, or the
+/// next.
 fn is_cut_off_so(alloc: Global, calls: u64, stream: &[u8]) -> Result<bool, AllocError> {
     let mut fused = Fused::new(store(alloc, &[])?, calls);
     let last = receive(alloc, &mut fused, stream);
