@@ -1,6 +1,6 @@
 //! A store that receives a stream, image by image.
-ghost use Rattle.std.specs.Prelude.{◌≡◌, ◌≢◌, ◌<◌, ◌≤◌, ◌^◌, ℕ, true, List, [], All, Contains, Option, Some, length, map};
-ghost use Rattle.std.specs.Prelude.{IfOk, IfSome, OnOk};
+ghost use Rattle.std.specs.Prelude.{◌≡◌, ◌≢◌, ◌<◌, ◌≤◌, ◌^◌, ℕ, true, List, [], All, Contains};
+ghost use Rattle.std.specs.Prelude.{Option, Some, length, map, IfOk, IfSome, OnOk};
 ghost use Rattle.std.specs.Borrow.{Bor};
 ghost use Rattle.sd_areas.specs.PlainMemory.{PlainMemory};
 ghost use Rattle.sd_disk.specs.Reads.{OnlyReads};
@@ -11,7 +11,8 @@ ghost use Rattle.sd_image.specs.Table.{IsTable, listing_of};
 ghost use Rattle.sd_chain.specs.Catalog.{Opened, images};
 ghost use Rattle.sd_chain.specs.Store.{IsCatalogOf};
 ghost use Rattle.sd_chain.specs.Ways.{AreImages};
-ghost use Rattle.sd_receive.specs.Arrived.{AddsImage, GoesOn, IsReady, Receives, number_with, numbers_received, opened_with};
+ghost use Rattle.sd_receive.specs.Arrived.{AddsImage, GoesOn, IsReady, Receives, number_with, numbers_received};
+ghost use Rattle.sd_receive.specs.Arrived.{opened_with};
 ghost use Rattle.sd_receive.specs.declared.receiver.Received.TheVariants as received;
 
 use crate::arrived::{Arrived, arrive};
