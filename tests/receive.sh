@@ -191,6 +191,16 @@ a_locked_store_is_refused() {
   return $was
 }
 
+# examples/migrate: what was stored over one store is there over the other, which goes on.
+a_program_goes_on_over_another_store() {
+  needs_python || return
+  [ -z "${CHECKED:-}" ] || { echo "a build with checks is too slow"; return 77; }
+  python3 "$here/../examples/migrate" "$ckpt" old new --mib 2 --rounds 2 > line || { cat line; return 1; }
+  grep -qE '^mib 2 rounds 2 whole_ms [0-9]+ last_pages [0-9]+ still_ms [0-9]+$' line || { cat line; return 1; }
+  same "the new store's checkpoint" "$("$ckpt" list -q new | tail -n 1 | grep -c .)" 1 || return 1
+  same "the verdict" "$("$ckpt" verify -q new | cut -d ' ' -f 1-2)" "ok checkpoint"
+}
+
 try a_stream_is_received
 try what_came_since_is_received
 try a_merged_store_is_received
@@ -201,3 +211,4 @@ try a_killed_receiver_keeps_what_it_printed
 try a_damaged_store_takes_nothing
 try no_slot_is_left
 try a_locked_store_is_refused
+try a_program_goes_on_over_another_store
