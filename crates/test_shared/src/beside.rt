@@ -141,21 +141,6 @@ fn save<R: Wait + Clock>(rt: &R, shared: &Shared<Store>, flags: &Flags) -> Reply
 /// Why each of two mutators ended early, if it did.
 pub(crate) type Ended = (Option<Refusal>, Option<Refusal>);
 
-/// Two mutators, each in a thread of its own and with a place of its own.
-pub(crate) fn mutate_both<R: Threads + Wait + Clock + Sync>(
-    rt: &R,
-    places: (&Place<'_, R>, &Place<'_, R>),
-    mutators: (&mut Mutator<'_>, &mut Mutator<'_>),
-    flags: &Flags,
-) -> Ended {
-    let (first, last) = mutators;
-    thread::join(
-        rt,
-        || places.0.mutate(first, flags),
-        || places.1.mutate(last, flags),
-    )
-}
-
 /// A checkpoint of one round beside two mutators. Returns the dumper's reply.
 fn run_beside<R: Threads + Wait + Clock + Sync>(
     rt: &R,
@@ -164,10 +149,17 @@ fn run_beside<R: Threads + Wait + Clock + Sync>(
     mutators: (&mut Mutator<'_>, &mut Mutator<'_>),
     flags: &Flags,
 ) -> (Reply, Ended) {
+    let (first, last) = mutators;
     thread::join(
         rt,
         || save(rt, shared, flags),
-        || mutate_both(rt, places, mutators, flags),
+        || {
+            thread::join(
+                rt,
+                || places.0.mutate(first, flags),
+                || places.1.mutate(last, flags),
+            )
+        },
     )
 }
 

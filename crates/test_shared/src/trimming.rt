@@ -1,5 +1,5 @@
 //! Checkpoints beside two mutators, each trimmed after its acknowledgement.
-use crate::beside::{Place, mutate_both};
+use crate::beside::Place;
 use crate::cases::Store;
 use crate::holds::{Flags, Free};
 use crate::mutator::{Mutator, Way};
@@ -45,24 +45,6 @@ fn save_all(rt: &impl Wait, shared: &Shared<Store>, told: &mut Told) -> bool {
     true
 }
 
-/// Checkpoints with a trim after each, beside two mutators. Returns whether all went well.
-fn save_beside<R: Threads + Wait + Clock + Sync>(
-    rt: &R,
-    shared: &Shared<Store>,
-    places: (&Place<'_, R>, &Place<'_, R>),
-    mutators: (&mut Mutator<'_>, &mut Mutator<'_>),
-    told: &mut Told,
-) -> bool {
-    let flags = Flags::new();
-    flags.begun.store(1, Ordering::SeqCst);
-    let (saved, (first, last)) = thread::join(
-        rt,
-        || save_all(rt, shared, told),
-        || mutate_both(rt, places, mutators, &flags),
-    );
-    saved && first.is_none() && last.is_none()
-}
-
 /// Two mutators store numbers, and load them back, beside checkpoints of one round, each of which is trimmed. Returns
 /// whether what is folded accounts for the receipts of its entries. The other receipts are left.
 pub(crate) fn trims_beside<R: Threads + Wait + Clock + Sync>(
@@ -74,8 +56,23 @@ pub(crate) fn trims_beside<R: Threads + Wait + Clock + Sync>(
 ) -> bool {
     let low = Place::new(rt, alloc, shared, (Way::Waits, STORES), 0);
     let high = Place::new(rt, alloc, shared, (Way::Waits, STORES), 1);
+    let flags = Flags::new();
+    flags.begun.store(1, Ordering::SeqCst);
     let (first, last) = mutators;
-    save_beside(rt, shared, (&low, &high), (&mut *first, &mut *last), told)
+    let (saved, ended) = thread::join(
+        rt,
+        || save_all(rt, shared, told),
+        || {
+            thread::join(
+                rt,
+                || low.mutate(first, &flags),
+                || high.mutate(last, &flags),
+            )
+        },
+    );
+    saved
+        && ended.0.is_none()
+        && ended.1.is_none()
         && told.take(first.take(alloc))
         && told.take(last.take(alloc))
         && told.are_folded(alloc)
