@@ -60,7 +60,7 @@ fn is_cut_off_so(alloc: Global, calls: u64, stream: &[u8]) -> Result<bool, Alloc
     let mut is_so = (last == 2) == (calls >= CALLS);
     for rule in [RULES[1], RULES[2], RULES[3]] {
         let newest = left(alloc, &disk, rule)?.unwrap_or(0);
-        is_so = is_so && (newest == last || newest == last + 1) && newest <= 2;
+        is_so = is_so && newest >= last && newest - last <= 1 && newest <= 2;
     }
     forget(disk);
     Ok(is_so)
