@@ -2,7 +2,7 @@
 use Rattle.std.proofs.Common.{◌≡◌, ℕ, ◌<◌, true, false, cond, ◌||◌, nat_eq, is_some, IsSome, List, [], ◌∷◌, zero, suc, length, set, Option, Some, None, refl, sym, ◌∙◌, ap, subst, inl, inr, arith}
 use Rattle.std.specs.List.{slice_get}
 use Rattle.std.specs.Option.{option_map}
-use Rattle.std.proofs.lemmas.Bool.{cases_eq, eq-eqb, ne_eqb, or_left, cond-true, cond-false}
+use Rattle.std.proofs.lemmas.Bool.{cases_Bool, cases_eq, eq-eqb, ne_eqb, or_left, cond-true, cond-false}
 use Rattle.sd_tables.specs.declared.entry.Entry.{Entry}
 use Rattle.sd_tables.specs.declared.leaf_entry.LeafEntry.{LeafEntry}
 use Rattle.sd_tables.specs.Radix.{is_used, entry_in, leaf_at, HasMappedPage, IsNextUsed}
@@ -38,3 +38,10 @@ leaf_has words entries l (Some place) e next = (
 pub leaf_there : (words : List ℕ) (entries : List LeafEntry) (place : ℕ) → place < length entries → is_used words place ≡ true → IsSome (leaf_at words entries place)
 leaf_there words entries place l used =
     subst (λ (o : Option Entry). IsSome o) (sym (cond-true (is_used words place) (option_map entry_in (slice_get entries place)) None used)) (there entries place l)
+
+-- a place with an entry is used
+pub leaf_used : (words : List ℕ) (entries : List LeafEntry) (place : ℕ) → IsSome (leaf_at words entries place) → is_used words place ≡ true
+leaf_used words entries place some = elim (cases_Bool (is_used words place)) [
+  | inl t ↦ t
+  | inr f ↦ absurd (let n : None ≡ leaf_at words entries place = sym (cond-false (is_used words place) (option_map entry_in (slice_get entries place)) None f) in let e : false ≡ true = ap is_some n ∙ some in cc)
+]

@@ -5,8 +5,8 @@ use Rattle.std.specs.Int.Bits.{bit_and, bit_or}
 use Rattle.std.proofs.lemmas.Bool.{cases_eq, cases_lt, eq-eqb, ne_eqb, or_left, and_left, not_from_true}
 use Rattle.std.proofs.lemmas.List.{get_or_past}
 use Rattle.std.proofs.lemmas.Nat.{shr-shr, shr_le}
-use Rattle.std.proofs.lemmas.Nat.Bits.{bit_at-zero, bit_at_set_same, bit_at_set_other, bit_at_clear_same, bit_at_clear_other, bit_at-trailing_zeros, bit_at_above}
-use Rattle.sd_tables.specs.Radix.{is_used, IsNextUsed, IsNextInWord, IsFirstBitOf, IsNextBit}
+use Rattle.std.proofs.lemmas.Nat.Bits.{bit_at-zero, bit_at_set_same, bit_at_set_other, bit_at_clear_same, bit_at_clear_other, bit_at-trailing_zeros, bit_at_above, bit_at_not}
+use Rattle.sd_tables.specs.Radix.{is_used, IsNextUsed, IsNextInWord, IsFirstBitOf, IsNextBit, IsUsedTo, IsHoleInWord, IsNextClearBit}
 
 -- ---- one bit
 bit_shr : (n a j : ℕ) → bit_at (n / 2 ^ a) j ≡ bit_at n (a + j)
@@ -108,3 +108,40 @@ module _ (words : List ℕ) (word from : ℕ) (below : (place : ℕ) → from �
   -- the first used place is one of the word
   pub next_found : (o : Option ℕ) → is_some o ≡ true → word < 8 → IsNextInWord words word from o → IsNextUsed words from o
   next_found o e w none = grind arith
+
+-- ---- the first place that isn't used
+pub clear_next : (word from : ℕ) → word < 2 ^ 64 → (o : Option ℕ) → IsNextBit (bit_not w64 word) from o → IsNextClearBit word from o
+clear_next word from fits None none = λ bit l m. set_of bit m (none bit l)
+  where
+    set_of : (bit : ℕ) → bit < 64 → bit_at (bit_not w64 word) bit ≡ 0 → bit_at word bit ≡ 1
+    set_of bit m z = let n = bit_at_not w64 word bit fits m in let b : bit_at word bit < 2 = omega arith in omega arith
+clear_next word from fits (Some next) some = (some.0, some.1, λ bit l m. set_of bit (let b = some.1 in omega arith) (some.3 bit l m))
+  where
+    set_of : (bit : ℕ) → bit < 64 → bit_at (bit_not w64 word) bit ≡ 0 → bit_at word bit ≡ 1
+    set_of bit m z = let n = bit_at_not w64 word bit fits m in let b : bit_at word bit < 2 = omega arith in omega arith
+
+module _ (words : List ℕ) (word from low : ℕ) (first : IsFirstBitOf word from low) where
+  set_at : (place : ℕ) → place / 64 ≡ word → bit_at (get_or words word 0) (place % 64) ≡ 1 → is_used words place ≡ true
+  set_at place here z = eq-eqb (bit_at (get_or words (place / 64) 0) (place % 64)) 1 (ap (λ w. bit_at (get_or words w 0) (place % 64)) here ∙ z)
+
+  pub hole_none : IsNextClearBit (get_or words word 0) low None → IsHoleInWord words word from None
+  hole_none none = λ place l here. set_at place here (none (place % 64) (first.1 place l here) (omega arith))
+
+  pub hole_some : (bit : ℕ) → IsNextClearBit (get_or words word 0) low (Some bit) → IsHoleInWord words word from (Some (word * 64 + bit))
+  hole_some bit some = (
+    (let a = first.0 in let b = some.0 in omega arith),
+    (let b = some.1 in omega arith),
+    λ place l m here. set_at place here (some.2 (place % 64) (first.1 place l here) (let b = some.1 in omega arith)),
+  )
+
+module _ (words : List ℕ) (word from : ℕ) (below : (place : ℕ) → from ≤ place → place / 64 < word → is_used words place ≡ true) where
+  -- each place of the word is used too
+  pub used_more : (o : Option ℕ) → o ≡ None → IsHoleInWord words word from o → (place : ℕ) → from ≤ place → place / 64 < word + 1 → is_used words place ≡ true
+  used_more o e none = grind arith
+
+  -- the places up to the first one of the word that isn't
+  pub used_found : (hole : ℕ) → IsHoleInWord words word from (Some hole) → IsUsedTo words from hole
+  used_found hole found = λ place l m. elim (cases_lt (place / 64) word) [
+    | inl b ↦ below place l b
+    | inr g ↦ found.2 place l m (let w = found.1 in omega arith)
+  ]

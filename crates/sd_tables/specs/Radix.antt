@@ -26,6 +26,16 @@ IsNextInWord words word from None = (place : ℕ) → from ≤ place → place /
 IsNextInWord words word from (Some next) = (from ≤ next) × (next / 64 ≡ word) × (is_used words next ≡ true)
     × ((place : ℕ) → from ≤ place → place < next → place / 64 ≡ word → is_used words place ≡ false)
 
+-- the places from one on, up to another, are used
+abbrev pub IsUsedTo : List ℕ → ℕ → ℕ → Type 0
+IsUsedTo words from to = (place : ℕ) → from ≤ place → place < to → is_used words place ≡ true
+
+-- the first place from one on that isn't used, among the 64 places of a word
+abbrev pub IsHoleInWord : List ℕ → ℕ → ℕ → Option ℕ → Type 0
+IsHoleInWord words word from None = (place : ℕ) → from ≤ place → place / 64 ≡ word → is_used words place ≡ true
+IsHoleInWord words word from (Some hole) = (from ≤ hole) × (hole / 64 ≡ word)
+    × ((place : ℕ) → from ≤ place → place < hole → place / 64 ≡ word → is_used words place ≡ true)
+
 -- the first bit of a word whose place isn't before another
 abbrev pub IsFirstBitOf : ℕ → ℕ → ℕ → Type 0
 IsFirstBitOf word from bit =
@@ -36,6 +46,12 @@ abbrev pub IsNextBit : ℕ → ℕ → Option ℕ → Type 0
 IsNextBit word from None = (bit : ℕ) → from ≤ bit → bit_at word bit ≡ 0
 IsNextBit word from (Some next) = (from ≤ next) × (next < 64) × (bit_at word next ≡ 1)
     × ((bit : ℕ) → from ≤ bit → bit < next → bit_at word bit ≡ 0)
+
+-- the first bit of a word from one on that isn't set, below 64
+abbrev pub IsNextClearBit : ℕ → ℕ → Option ℕ → Type 0
+IsNextClearBit word from None = (bit : ℕ) → from ≤ bit → bit < 64 → bit_at word bit ≡ 1
+IsNextClearBit word from (Some next) = (from ≤ next) × (next < 64)
+    × ((bit : ℕ) → from ≤ bit → bit < next → bit_at word bit ≡ 1)
 
 -- an entry of a leaf
 abbrev pub entry_in : LeafEntry → Entry

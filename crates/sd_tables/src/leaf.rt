@@ -1,4 +1,4 @@
-ghost use Rattle.std.specs.Prelude.{◌≡◌, ℕ, ◌+◌, ◌==◌, ◌<◌, if◌then◌else◌, true, false, Some, None};
+ghost use Rattle.std.specs.Prelude.{◌≡◌, ℕ, ◌+◌, ◌==◌, ◌<◌, if◌then◌else◌, true, false, Some, None, IsSome};
 
 use crate::entry::Entry;
 use crate::leaf_entry::LeafEntry;
@@ -41,19 +41,17 @@ impl Leaf {
         self.used.add(place);
     }
 
-    /// Changes the entry in a place, and returns whether there is one that keeps its frame.
+    /// Changes the entry in a used place, where it keeps its frame, and returns whether it does.
     #[inline]
     fn change(&mut self, place: usize, change: RunChange) -> bool
-        requires { place < 512 }
+        requires within { place < 512 }
+        requires there { IsSome (leaf_at self.old.used.words self.old.entries place) }
         ensures changed { result ≡ true
             → ChangesRun change (leaf_at self.old.used.words self.old.entries)
             (leaf_at self.new.used.words self.new.entries) place (place + 1) }
         ensures same { result ≡ false → (page : ℕ) → leaf_at self.new.used.words self.new.entries page
             ≡ leaf_at self.old.used.words self.old.entries page }
     {
-        if !self.used.has(place) {
-            return false;
-        }
         let Some(entry) = change.of(self.entries[place].entry()) else {
             return false;
         };
@@ -95,7 +93,7 @@ impl Node for Leaf {
         Ok(leaf)
     }
 
-    #[inline]
+    #[inline(always)]
     fn get(&self, page: u64) -> Option<Entry> {
         let place = page as usize;
         if self.used.has(place) {
@@ -130,13 +128,8 @@ impl Node for Leaf {
     }
 
     fn mapped_to(&self, from: u64, end: u64) -> u64 {
-        let end = end.min(PLACES as u64);
-        for page in from..end {
-            if !self.used.has(page as usize) {
-                return page;
-            }
-        }
-        end
+        let reached = self.used.used_to(from as usize);
+        end.min(reached as u64)
     }
 
     fn fill_run(
@@ -157,7 +150,7 @@ impl Node for Leaf {
     }
 
     fn change_run(&mut self, from: u64, end: u64, change: RunChange) -> u64 {
-        let end = end.min(PLACES as u64);
+        let end = self.mapped_to(from, end);
         for page in from..end {
             if !self.change(page as usize, change) {
                 return page;

@@ -93,7 +93,7 @@ impl<T: Node> Node for Level<T> {
         Ok(level)
     }
 
-    #[inline]
+    #[inline(always)]
     fn get(&self, page: u64) -> Option<Entry> {
         let place = (page / T::span()) as usize;
         get_in(&self.tables[place], page % T::span())

@@ -12,7 +12,7 @@ use crate::level::Level;
 use crate::node::Node;
 use crate::run_change::RunChange;
 use crate::slot::{
-    bare_copy_in, change_in, fill_in, first_in, get_in, insert_in, mapped_in, remove_in, replace_in,
+    bare_copy_in, change_in, fill_in, get_in, insert_in, mapped_in, next_in, remove_in, replace_in,
 };
 use sd_areas::PageNo;
 use std::alloc::{AllocError, Global};
@@ -69,6 +69,7 @@ impl PageTable {
     }
 
     /// The entry of a page, if it is mapped.
+    #[inline(always)]
     pub(crate) fn get(&self, page: PageNo) -> Option<Entry>
         ensures { result ≡ finmap.get self.now page }
     {
@@ -190,7 +191,7 @@ impl PageTable {
         ensures first { IsFirstFrom self.now start (option_map (λ found. found.0) result) }
         ensures entry { IfSome result (λ found. finmap.get self.now found.0 ≡ Some found.1) }
     {
-        let (number, entry) = first_in(&self.top, start_of(start))?;
+        let (number, entry) = next_in(&self.top, start_of(start))?;
         let page = PageNo::new(number)?;
         Some((page, entry))
     }

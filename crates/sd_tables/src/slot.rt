@@ -12,7 +12,7 @@ use crate::run_change::RunChange;
 use std::alloc::{AllocError, Global};
 
 /// The entry of a page, if there is a table that has it.
-#[inline]
+#[inline(always)]
 pub(crate) fn get_in<T: Node>(slot: &Option<Box<T>>, page: u64) -> Option<Entry>
     requires fits { T.span ≤ 2 ^ 36 }
     requires kept { IsSlot (λ table. T.at table.value) (λ table. T.IsKept table.value) T.span slot.now }
@@ -59,6 +59,21 @@ pub(crate) fn first_in<T: Node>(slot: &Option<Box<T>>, page: u64) -> Option<(u64
     match slot {
         Some(table) => table.first_from(page),
         None => None,
+    }
+}
+
+/// The first mapped page from one on with its entry, as `first_in` finds it. Pages lie side by side, so that one is
+/// tried first.
+#[inline(always)]
+pub(crate) fn next_in<T: Node>(slot: &Option<Box<T>>, page: u64) -> Option<(u64, Entry)>
+    requires fits { T.span ≤ 2 ^ 36 }
+    requires kept { IsSlot (λ table. T.at table.value) (λ table. T.IsKept table.value) T.span slot.now }
+    requires within { page < T.span }
+    ensures { IsFirstAt T.span (slot_at (λ table. T.at table.value) slot.now) page result }
+{
+    match get_in(slot, page) {
+        Some(entry) => Some((page, entry)),
+        None => first_in(slot, page),
     }
 }
 

@@ -63,10 +63,22 @@ impl Tables {
     }
 
     /// The entry of a page, if it is mapped.
+    #[inline(always)]
     pub fn get(&self, space: SpaceId, page: PageNo) -> Option<Entry>
         ensures { result ≡ value_at self.now space page }
     {
-        self.spaces.get(&space)?.get(page)
+        self.table(space)?.get(page)
+    }
+
+    /// The table of a space, if it is alive. The first space is tried first, since most memories have one.
+    #[inline(always)]
+    fn table(&self, space: SpaceId) -> Option<&PageTable>
+        ensures { option_map (λ table. table.now) result ≡ finmap.get self.now space }
+    {
+        match self.spaces.first_key_value() {
+            Some((first, table)) if *first == space => Some(table),
+            _ => self.spaces.get(&space),
+        }
     }
 
     /// How many pages a space has.
@@ -92,7 +104,7 @@ impl Tables {
         ensures first { IsFirstFrom (inside self.now space) start (option_map (λ found. found.0) result) }
         ensures entry { IfSome result (λ found. value_at self.now space found.0 ≡ Some found.1) }
     {
-        self.spaces.get(&space)?.first_entry_from(start)
+        self.table(space)?.first_entry_from(start)
     }
 
     /// The page up to which those of a space from one on are mapped, at most an end.

@@ -1,6 +1,7 @@
 //! Which of a table's 512 places are used, a bit for each.
 ghost use Rattle.std.specs.Prelude.{◌≡◌, ℕ, ◌+◌, ◌/◌, ◌<◌, ◌≤◌, ◌==◌, ◌||◌, ◌&&◌, not, true, false, IfSome, IfNone};
 ghost use Rattle.sd_tables.specs.Radix.{is_used, IsNextUsed, IsNextInWord, IsFirstBitOf, IsNextBit};
+ghost use Rattle.sd_tables.specs.Radix.{IsUsedTo, IsHoleInWord, IsNextClearBit};
 
 /// How many places a table has.
 pub(crate) const PLACES: usize = 512;
@@ -78,9 +79,38 @@ impl UsedPlaces {
         let bit = next_bit(self.words[word], low)?;
         Some(word * WORD_BITS + bit)
     }
+
+    /// The place up to which those from one on are used.
+    pub(crate) fn used_to(&self, from: usize) -> usize
+        requires { from ≤ 512 }
+        ensures reached { from ≤ result }
+        ensures end { result ≤ 512 }
+        ensures used { IsUsedTo self.now.words from result }
+    {
+        for word in from / WORD_BITS..WORDS {
+            let hole = self.hole_in_word(word, from);
+            if let Some(place) = hole {
+                return place;
+            }
+        }
+        PLACES
+    }
+
+    /// The first place from one on that isn't used, among those of a word.
+    #[inline]
+    fn hole_in_word(&self, word: usize, from: usize) -> Option<usize>
+        requires within { word < 8 }
+        requires reached { from / 64 ≤ word }
+        ensures { IsHoleInWord self.now.words word from result }
+    {
+        let low = first_bit_of(word, from);
+        let bit = next_clear_bit(self.words[word], low)?;
+        Some(word * WORD_BITS + bit)
+    }
 }
 
 /// The first bit of a word whose place isn't before another.
+#[inline]
 fn first_bit_of(word: usize, from: usize) -> usize
     requires { from / 64 ≤ word }
     ensures within { result < 64 }
@@ -94,6 +124,7 @@ fn first_bit_of(word: usize, from: usize) -> usize
 }
 
 /// The lowest bit of a word that is set, from one on.
+#[inline]
 fn next_bit(word: u64, from: usize) -> Option<usize>
     requires { from < 64 }
     ensures { IsNextBit word from result }
@@ -103,4 +134,13 @@ fn next_bit(word: u64, from: usize) -> Option<usize>
         return None;
     }
     Some(from + rest.trailing_zeros() as usize)
+}
+
+/// The lowest bit of a word that isn't set, from one on.
+#[inline]
+fn next_clear_bit(word: u64, from: usize) -> Option<usize>
+    requires { from < 64 }
+    ensures { IsNextClearBit word from result }
+{
+    next_bit(!word, from)
 }

@@ -15,5 +15,5 @@ loop-page-preserved c = changes-both c.args.change _ _ _ c.args.from c.loop-page
 
 pub returns-clause-run : goal.returns-clause-run
 returns-clause-run c =
-    let all : c.loop-page.page ≡ c.min-end.result = omega arith in
+    let all : c.loop-page.page ≡ c.mapped_to-end.result = omega arith in
     subst (ChangesRun c.args.change (leaf_at c.args.self.now.used.words c.args.self.now.entries) (leaf_at c.loop-page.self.used.words c.loop-page.self.entries) c.args.from) all c.loop-page.invariant
