@@ -35,4 +35,5 @@ pub mod SnapshotLemmas
 pub mod LoadingLemmas
 pub mod RunKept
 pub mod RunSteps
+pub mod UnmapSteps
 pub mod ExitLemmas

@@ -24,7 +24,7 @@ use Rattle.sd_pagetable.specs.View.{entry_of, HasEntry}
 use Rattle.sd_pagetable.specs.Access.{allows, stored_at, is_bad_access}
 use Rattle.sd_pagetable.specs.declared.memory_refusal.MemoryRefusal.TheVariants.{NoSuchSpace, Einval}
 use Rattle.sd_pagetable.specs.Effects.{after_store}
-use Rattle.sd_pagetable.specs.RefusalOrder.{page_refusal, access_refusal, fault_refusal, frame_refusal, or_else, Answers}
+use Rattle.sd_pagetable.specs.RefusalOrder.{page_refusal, access_refusal, fault_refusal, frame_refusal, in_space, or_else, Answers}
 use Rattle.sd_pagetable.specs.Tracking.{MakesWritable, IsBeginning}
 use Rattle.std.specs.Prelude.{Result, Ok, Err, OnOk, OnErr, IfSome}
 use Rattle.std.proofs.Math.Bool.{or_self_left}
@@ -137,6 +137,21 @@ access_bad m s address bytes need h b = cond-true _ _ _ (plain_alive m s ∙ h) 
 
 pub access_at : (m : Contents) (s address bytes : ℕ) (need : Access) → is_alive m.spaces s ≡ true → is_bad_access address bytes ≡ false → access_refusal (plain_of m) s address bytes need ≡ page_refusal need (value_at (plain_of m) s (page_of address))
 access_at m s address bytes need h b = cond-true _ _ _ (plain_alive m s ∙ h) ∙ cond-false _ _ _ b
+
+-- a refusal in a space, which has to be alive for it
+in_plain : (m : Contents) (s : ℕ) (due : Option AccessError) → in_space (plain_of m) s due ≡ in_space m.spaces s due
+in_plain m s due = ap (λ b. cond b due (Some (Refused NoSuchSpace))) (plain_alive m s)
+
+pub bad_in : (m : Contents) (s address bytes : ℕ) (need : Access) (d : AccessError) → is_bad_access address bytes ≡ true → in_space m.spaces s (Some (Refused Einval)) ≡ Some d → access_refusal (plain_of m) s address bytes need ≡ Some d
+bad_in m s address bytes need d b h = ap (in_space (plain_of m) s) (cond-true _ _ _ b) ∙ in_plain m s (Some (Refused Einval)) ∙ h
+
+pub stopped_in : (m : Contents) (s address bytes : ℕ) (need : Access) (e d : AccessError) → is_bad_access address bytes ≡ false → page_refusal need (value_at (plain_of m) s (page_of address)) ≡ Some e → in_space m.spaces s (Some e) ≡ Some d
+    → access_refusal (plain_of m) s address bytes need ≡ Some d
+stopped_in m s address bytes need e d b stop h = ap (in_space (plain_of m) s) (cond-false _ _ _ b ∙ stop) ∙ in_plain m s (Some e) ∙ h
+
+-- the space of a page that has an entry is alive
+pub alive_seen : (m : Contents) (s p : ℕ) (entry : Entry) → HasEntry m s p entry → is_alive m.spaces s ≡ true
+alive_seen m s p entry h = let x = page_of_seen m s p entry h in alive_at m.spaces s p x.0 x.1
 
 pub access_within : (address bytes : ℕ) → is_bad_access address bytes ≡ false → address % 4096 + bytes ≤ 4096
 access_within address bytes h = let p = or_parts _ _ h in ltb-false 4096 (address % 4096 + bytes) p.1

@@ -100,6 +100,7 @@ impl Paging {
     }
 
     /// The entry of a page, if it is mapped.
+    #[inline(always)]
     pub(crate) fn entry(&self, space: SpaceId, page: PageNo) -> Option<Entry>
         ensures value { result ≡ option_map entry_of (page_at self.now space page) }
         ensures sound { IsSound self.now }
@@ -108,6 +109,7 @@ impl Paging {
     }
 
     /// The page of an address and its entry, if it is mapped.
+    #[inline(always)]
     pub(crate) fn find(&self, space: SpaceId, address: u64) -> Option<(PageNo, Entry)>
         ensures found { IfSome result (λ found. (found.0 ≡ page_of address)
             × (option_map entry_of (page_at self.now space (page_of address)) ≡ Some found.1)) }

@@ -208,18 +208,51 @@ pub(crate) fn renew(paging: &mut Paging, space: SpaceId, first: u64, end: u64, p
     }
 }
 
+/// Unmaps each page of a run, all of them mapped.
+fn unmap_mapped(paging: &mut Paging, space: SpaceId, first: u64, end: u64)
+    requires ordered { first ≤ end }
+    requires within { end ≤ 2 ^ 35 }
+    requires alive { is_alive paging.old.spaces space ≡ true }
+    requires there { (page : ℕ) → first ≤ page → page < end
+        → IsSome (page_at paging.old space page) }
+    ensures { IsCleared paging.old paging.new space (is_within first (end - first)) }
+{
+    for number in first..end {
+        let page = PageNo::new(number).unwrap();
+        paging.remove(space, page);
+    }
+}
+
+/// Unmaps the first pages of a run that are mapped, one after the other. It returns the page that it came to.
+fn unmap_next(paging: &mut Paging, space: SpaceId, first: u64, end: u64) -> u64
+    requires less { first < end }
+    requires within { end ≤ 2 ^ 35 }
+    requires alive { is_alive paging.old.spaces space ≡ true }
+    ensures more { first < result }
+    ensures end { result ≤ end }
+    ensures value { IsCleared paging.old paging.new space (is_within first (result - first)) }
+{
+    let mapped = next_mapped(paging, space, first, end);
+    if mapped == end {
+        return end;
+    }
+    let reached = next_hole(paging, space, mapped + 1, end);
+    unmap_mapped(paging, space, mapped, reached);
+    reached
+}
+
 /// Unmaps each page of a run.
 pub(crate) fn unmap(paging: &mut Paging, space: SpaceId, first: PageNo, end: u64)
+    requires ordered { first ≤ end }
+    requires within { end ≤ 2 ^ 35 }
     requires alive { is_alive paging.old.spaces space ≡ true }
     ensures { paging.new
         ≡ with_space paging.old space
         (remove_within (inside paging.old.spaces space) first (end - first)) }
 {
-    while let Some(page) = paging.first_from(space, Bound::Included(first)) {
-        if page.number() >= end {
-            return;
-        }
-        paging.remove(space, page);
+    let mut reached = first.number();
+    while reached < end {
+        reached = unmap_next(paging, space, reached, end);
     }
 }
 

@@ -18,7 +18,7 @@ impl Memory {
     ghost use Rattle.sd_pagetable.specs.Page.{PageState};
     ghost use Rattle.sd_pagetable.specs.Contents.{page_at, plain_of};
     ghost use Rattle.sd_pagetable.specs.Effects.{after_store};
-    ghost use Rattle.sd_pagetable.specs.RefusalOrder.{answer, Answers, needs_frame, page_refusal, access_refusal};
+    ghost use Rattle.sd_pagetable.specs.RefusalOrder.{answer, Answers, in_space, needs_frame, page_refusal, access_refusal};
     ghost use Rattle.sd_pagetable.specs.RefusalOrder.{fault_refusal, store_refusal};
     ghost use Rattle.sd_pagetable.specs.RefusalOrder.{try_outcome};
     ghost use Rattle.sd_pagetable.specs.Tracking.{Step, Faulted, Tried as TriedEvent, Stored};
@@ -28,6 +28,7 @@ impl Memory {
     ghost use Rattle.sd_pagetable.specs.declared.store_outcome.StoreOutcome.TheVariants.{Done, NeedsFault};
 
     /// Where an access is, if it may be made.
+    #[inline(always)]
     pub(super) fn place(
         &self,
         space: SpaceId,
@@ -45,19 +46,30 @@ impl Memory {
         ensures refused { IfErr result
             (λ denied. access_refusal (plain_of self.now) space address bytes need ≡ Some denied) }
     {
-        if !self.paging.is_alive(space) {
-            return Err(AccessError::Refused(MemoryRefusal::NoSuchSpace));
-        }
         let offset = (address % PAGE_BYTES) as usize;
         if is_bad_access(offset, bytes) {
-            return Err(AccessError::Refused(MemoryRefusal::Einval));
+            return Err(self.refused_in(space, AccessError::Refused(MemoryRefusal::Einval)));
         }
-        let (page, entry) = self.permitted(space, address, need)?;
-        Ok(Place {
-            page,
-            offset,
-            entry,
-        })
+        match self.permitted(space, address, need) {
+            Ok((page, entry)) => Ok(Place {
+                page,
+                offset,
+                entry,
+            }),
+            Err(denied) => Err(self.refused_in(space, denied)),
+        }
+    }
+
+    /// Why an access is refused, if not for the space: that it isn't alive comes first.
+    #[cold]
+    fn refused_in(&self, space: SpaceId, denied: AccessError) -> AccessError
+        ensures { in_space self.now.spaces space (Some denied) ≡ Some result }
+    {
+        if self.paging.is_alive(space) {
+            denied
+        } else {
+            AccessError::Refused(MemoryRefusal::NoSuchSpace)
+        }
     }
 
     /// The page of an address and its entry, if it is mapped with the permission that the access needs.

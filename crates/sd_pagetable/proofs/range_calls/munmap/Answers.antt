@@ -20,8 +20,11 @@ returns-in_err-unmap_areas-clause-due c = grind (arith, munmap_seen)
 pub unwrap-page-requires : goal.unwrap-page-requires
 unwrap-page-requires c = grind (arith, unmapped_within)
 
-pub unmap-requires : goal.unmap-requires
-unmap-requires c = record { alive = (c.in_ok-unmap_areas.ensures.ok c.args.paging.now c.requires.kept).1 }
+pub unmap-requires-clause-alive : goal.unmap-requires-clause-alive
+unmap-requires-clause-alive c = (c.in_ok-unmap_areas.ensures.ok c.args.paging.now c.requires.kept).1
+
+pub unmap-requires-clause-within : goal.unmap-requires-clause-within
+unmap-requires-clause-within c = grind (arith, unmapped_within)
 
 pub returns-clause-kept : goal.returns-clause-kept
 returns-clause-kept c =

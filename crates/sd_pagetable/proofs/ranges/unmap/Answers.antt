@@ -1,22 +1,33 @@
-use Rattle.std.proofs.Common.{◌<◌, refl, sym, subst, arith}
-use Rattle.sd_pagetable.specs.Contents.{Contents, page_count}
-use Rattle.sd_pagetable.proofs.RangeLemmas.{with_itself}
-use Rattle.sd_pagetable.proofs.RangeCounts.{one_less}
-use Rattle.sd_pagetable.proofs.RangeSteps.{in_run, none_in_run, past_run, still_outside, still_others, unmapped_run}
+use Rattle.std.proofs.Common.{rules, ◌≡◌, ◌-◌, sym, subst, arith}
+use Rattle.sd_areas.specs.Pages.{is_within}
+use Rattle.sd_pagetable.specs.Ranges.{IsCleared}
+use Rattle.sd_pagetable.proofs.RangeSteps.{cleared_alive}
+use Rattle.sd_pagetable.proofs.UnmapSteps.{unmaps_none, unmaps_run, unmaps_all}
 use Rattle.sd_pagetable.proofs.ranges.unmap.Goals as goal
 
-pub loop-page-init : goal.loop-page-init
-loop-page-init c = record { outside = λ q without. refl; others = sym (with_itself c.args.paging.now c.args.space c.requires.alive) }
+pub loop-reached-init : goal.loop-reached-init
+loop-reached-init c =
+    let is : c.number-reached.result ≡ c.args.first = search rules in
+    record {
+      begun = omega arith;
+      within = (let le = c.requires.ordered in omega arith);
+      done = subst (λ n. IsCleared c.args.paging.now c.args.paging.now c.args.space (is_within c.args.first (n - c.args.first))) (sym is) (unmaps_none c.args.paging.now c.args.space c.args.first c.requires.alive);
+    }
 
-pub returns-then-number-end : goal.returns-then-number-end
-returns-then-number-end c = grind (arith, unmapped_run, past_run)
+pub unmap_next-reached-requires-clause-alive : goal.unmap_next-reached-requires-clause-alive
+unmap_next-reached-requires-clause-alive c = cleared_alive _ _ c.args.space _ c.loop-reached.invariant.done
 
-pub loop-page-smaller : goal.loop-page-smaller
-loop-page-smaller c = subst (λ (m : Contents). page_count m.spaces < page_count c.loop-page.paging.spaces) (sym c.remove.ensures) (one_less c.loop-page.paging c.args.space c.in-Some.page c.in-Some.ensures.0)
-
-pub loop-page-preserved : goal.loop-page-preserved
-loop-page-preserved c = grind (arith, still_outside, in_run, still_others)
+pub loop-reached-preserved : goal.loop-reached-preserved
+loop-reached-preserved c = record {
+  begun = (let was = c.loop-reached.invariant.begun in let more = c.unmap_next-reached.ensures.more in omega arith);
+  within = c.unmap_next-reached.ensures.end;
+  done = unmaps_run c.args.paging.now c.loop-reached.paging c.unmap_next-reached.new.paging c.args.space c.args.first c.loop-reached.reached c.unmap_next-reached.result
+      c.loop-reached.invariant.begun (let more = c.unmap_next-reached.ensures.more in omega arith) c.loop-reached.invariant.done c.unmap_next-reached.ensures.value;
+}
 
 pub returns : goal.returns
-returns c = unmapped_run c.args.paging.now c.loop-page.paging c.args.space c.args.first _ c.loop-page.invariant.others c.loop-page.invariant.outside
-    (none_in_run c.loop-page.paging c.args.space c.args.first c.args.end c.in_default.ensures)
+returns c =
+    let was = c.loop-reached.invariant in
+    let all : c.loop-reached.reached ≡ c.args.end = omega arith in
+    unmaps_all c.args.paging.now c.loop-reached.paging c.args.space c.args.first (c.args.end - c.args.first)
+    (subst (λ n. IsCleared c.args.paging.now c.loop-reached.paging c.args.space (is_within c.args.first (n - c.args.first))) all was.done)
