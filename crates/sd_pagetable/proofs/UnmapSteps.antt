@@ -1,7 +1,6 @@
 -- Runs of mapped pages that are unmapped, one after the other.
-use Rattle.std.proofs.Common.{◌≡◌, ℕ, ◌+◌, ◌-◌, ◌<◌, ◌≤◌, Bool, true, false, cond, nat_eq, ◌||◌, IsSome, Option, None, refl, sym, ◌∙◌, ap, inl, inr, arith}
+use Rattle.std.proofs.Common.{◌≡◌, ℕ, ◌+◌, ◌-◌, ◌<◌, ◌≤◌, Bool, true, false, cond, nat_eq, ◌||◌, IsSome, Option, None, sym, ◌∙◌, ap, arith}
 use Rattle.std.proofs.lemmas.Bool.Decides.{nat_tests}
-use Rattle.std.proofs.lemmas.Bool.{cases_Bool}
 use Rattle.sd_areas.specs.Pages.{is_within}
 use Rattle.sd_pagetable.specs.Nested.{inside, is_alive, remove_within}
 use Rattle.sd_pagetable.specs.Page.{PageState}
@@ -10,7 +9,7 @@ use Rattle.sd_pagetable.specs.Ranges.{IsCleared}
 use Rattle.sd_pagetable.specs.Tracking.{with_space}
 use Rattle.sd_pagetable.proofs.TableLemmas.{same_table, get-remove_within}
 use Rattle.sd_pagetable.proofs.RangeLemmas.{within_none, within_more, with_itself}
-use Rattle.sd_pagetable.proofs.RangeSteps.{cleared_none, cleared_same, cleared_both, dropped}
+use Rattle.sd_pagetable.proofs.RangeSteps.{cleared_none, cleared_both, dropped}
 
 or_turned : (a b : Bool) → (a || b) ≡ (b || a)
 or_turned a b = grind arith

@@ -18,7 +18,8 @@ impl Memory {
     ghost use Rattle.sd_pagetable.specs.Page.{PageState};
     ghost use Rattle.sd_pagetable.specs.Contents.{page_at, plain_of};
     ghost use Rattle.sd_pagetable.specs.Effects.{after_store};
-    ghost use Rattle.sd_pagetable.specs.RefusalOrder.{answer, Answers, in_space, needs_frame, page_refusal, access_refusal};
+    ghost use Rattle.sd_pagetable.specs.RefusalOrder.{answer, Answers, in_space, needs_frame, page_refusal};
+    ghost use Rattle.sd_pagetable.specs.RefusalOrder.{access_refusal};
     ghost use Rattle.sd_pagetable.specs.RefusalOrder.{fault_refusal, store_refusal};
     ghost use Rattle.sd_pagetable.specs.RefusalOrder.{try_outcome};
     ghost use Rattle.sd_pagetable.specs.Tracking.{Step, Faulted, Tried as TriedEvent, Stored};

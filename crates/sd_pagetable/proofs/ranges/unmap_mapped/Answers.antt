@@ -1,4 +1,4 @@
-use Rattle.std.proofs.Common.{rules, ◌≡◌, sym, subst, IsSome, arith}
+use Rattle.std.proofs.Common.{rules, ◌≡◌, sym, subst, IsSome}
 use Rattle.sd_pagetable.specs.Contents.{page_at}
 use Rattle.sd_pagetable.proofs.RangeSteps.{cleared_alive}
 use Rattle.sd_pagetable.proofs.UnmapSteps.{unmaps_none, unmaps_more, still_mapped}

@@ -1,4 +1,4 @@
-use Rattle.std.proofs.Common.{ap, ◌∙◌, sym, refl}
+use Rattle.std.proofs.Common.{◌∙◌, sym, refl}
 use Rattle.sd_pagetable.proofs.MemoryLemmas.{access_at, access_within, alive_seen, bad_in, stopped_in}
 use Rattle.sd_pagetable.proofs.memory.Memory.place.Goals as goal
 

@@ -1,4 +1,4 @@
-use Rattle.std.proofs.Common.{ap, sym, ◌∙◌, arith}
+use Rattle.std.proofs.Common.{ap, ◌∙◌, arith}
 use Rattle.sd_tables.specs.Runs.{change_of}
 use Rattle.sd_tables.proofs.LeafLemmas.{leaf_used}
 use Rattle.sd_tables.proofs.RunLemmas.{leaf_changed}
