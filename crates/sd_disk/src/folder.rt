@@ -215,15 +215,16 @@ pub(crate) fn sync(folder: &Folder, slot: usize) -> Result<Made, Made>
     }
 }
 
-/// The end of a file is asked for, since no call here reads or writes where one before it ended.
 fn len_of(image: &Option<File>) -> io::Result<usize> {
     match image {
-        Some(file) => {
-            let mut end = file;
-            Ok(end.seek(SeekFrom::End(0))? as usize)
-        }
+        Some(file) => Ok(uninterrupted(|| end_of(file))? as usize),
         None => Ok(0),
     }
+}
+
+/// Where a file ends. Each read and write here names its own place, so it's free to move there.
+fn end_of(mut file: &File) -> io::Result<u64> {
+    file.seek(SeekFrom::End(0))
 }
 
 fn read_from(image: &Option<File>, at: usize, buffer: &mut [u8]) -> io::Result<()> {

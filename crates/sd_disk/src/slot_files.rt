@@ -88,6 +88,14 @@ fn is_folder(rt: &impl Files, path: &str) -> bool {
 ///
 /// What the system answered for the first folder that can't be made, or whose name can't be synced.
 pub fn make_folders(rt: &impl Files<File = File>, path: &str) -> io::Result<()> {
+    match make_folder(rt, path) {
+        Err(error) if error.kind() == io::ErrorKind::NotFound => make_each_folder(rt, path),
+        ended => ended,
+    }
+}
+
+/// Makes the folders of a path one after another, from the first on.
+fn make_each_folder(rt: &impl Files<File = File>, path: &str) -> io::Result<()> {
     for (end, byte) in path.bytes().enumerate() {
         if byte == b'/' && end > 0 {
             make_folder(rt, path.get(..end).unwrap_or(path))?;
