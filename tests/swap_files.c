@@ -1,5 +1,5 @@
 /* Put before the C library (LD_PRELOAD), this counts the calls by which a program asks a slot's file for its length or
-   its bytes (lseek, pread), from 1, and runs a command before one of them. It takes from the environment:
+   its bytes (lseek to its end, pread), from 1, and runs a command before one of them. It takes from the environment:
      SWAP_AT   the number of the call before which the command is run; 0 for none
      SWAP      the command
      COUNTED   a file to which the count is written at each call */
@@ -39,7 +39,8 @@ static void count(void) {
 }
 
 off_t lseek(int file, off_t at, int from) {
-  count();
+  if (from == SEEK_END)
+    count();
   return next_lseek(file, at, from);
 }
 

@@ -88,9 +88,10 @@ fn is_folder(rt: &impl Files, path: &str) -> bool {
 ///
 /// What the system answered for the first folder that can't be made, or whose name can't be synced.
 pub fn make_folders(rt: &impl Files<File = File>, path: &str) -> io::Result<()> {
-    match make_folder(rt, path) {
-        Err(error) if error.kind() == io::ErrorKind::NotFound => make_each_folder(rt, path),
-        ended => ended,
+    match uninterrupted(|| fs::create_dir(rt, path)) {
+        Ok(()) => sync_folder(rt, parent_of(path)),
+        Err(_) if is_folder(rt, path) => Ok(()),
+        Err(_) => make_each_folder(rt, path),
     }
 }
 
