@@ -1,4 +1,4 @@
-/* Put before the C library (LD_PRELOAD), this counts the file calls of a program (open, statx, pread, pwrite,
+/* Put before the C library (LD_PRELOAD), this counts the file calls of a program (open, statx, lseek, pread, pwrite,
    ftruncate, fsync, fdatasync), from 1, and makes some fail. It takes from the environment:
      ONLY      the name of the calls that are counted, or a path whose opening is; else all of them are
      COUNTED   a file to which the count is written at each call, since a program may end by _exit
@@ -31,6 +31,7 @@ static const char *looked_at = "";
 
 static int (*next_open)(const char *, int, ...);
 static int (*next_statx)(int, const char *, int, unsigned, struct statx *);
+static off_t (*next_lseek)(int, off_t, int);
 static ssize_t (*next_pread)(int, void *, size_t, off_t);
 static ssize_t (*next_pwrite)(int, const void *, size_t, off_t);
 static int (*next_ftruncate)(int, off_t);
@@ -41,6 +42,7 @@ __attribute__((constructor)) static void begin(void) {
   const char *number = getenv("FAILED"), *way = getenv("HOW"), *file = getenv("COUNTED");
   next_open = dlsym(RTLD_NEXT, "open");
   next_statx = dlsym(RTLD_NEXT, "statx");
+  next_lseek = dlsym(RTLD_NEXT, "lseek");
   next_pread = dlsym(RTLD_NEXT, "pread");
   next_pwrite = dlsym(RTLD_NEXT, "pwrite");
   next_ftruncate = dlsym(RTLD_NEXT, "ftruncate");
@@ -139,6 +141,8 @@ int statx(int folder, const char *restrict path, int flags, unsigned mask, struc
   FAIL_OR("statx", 0, next_statx(folder, path, flags, mask, found));
 }
 
+off_t lseek(int file, off_t at, int from) { FAIL_OR("lseek", 0, next_lseek(file, at, from)); }
+
 int ftruncate(int file, off_t length) { FAIL_OR("ftruncate", 1, next_ftruncate(file, length)); }
 
 int fsync(int file) {
@@ -172,6 +176,7 @@ ssize_t pwrite(int file, const void *bytes, size_t length, off_t at) {
 }
 
 int open64(const char *, int, ...) __attribute__((alias("open")));
+off_t lseek64(int, off_t, int) __attribute__((alias("lseek")));
 ssize_t pread64(int, void *, size_t, off_t) __attribute__((alias("pread")));
 ssize_t pwrite64(int, const void *, size_t, off_t) __attribute__((alias("pwrite")));
 int ftruncate64(int, off_t) __attribute__((alias("ftruncate")));

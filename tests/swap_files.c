@@ -1,5 +1,5 @@
 /* Put before the C library (LD_PRELOAD), this counts the calls by which a program asks a slot's file for its length or
-   its bytes (statx of a descriptor, pread), from 1, and runs a command before one of them. It takes from the environment:
+   its bytes (lseek to its end, pread), from 1, and runs a command before one of them. It takes from the environment:
      SWAP_AT   the number of the call before which the command is run; 0 for none
      SWAP      the command
      COUNTED   a file to which the count is written at each call */
@@ -13,12 +13,12 @@
 
 static unsigned long calls, swap_at;
 static int counted = -1;
-static int (*next_statx)(int, const char *, int, unsigned, struct statx *);
+static off_t (*next_lseek)(int, off_t, int);
 static ssize_t (*next_pread)(int, void *, size_t, off_t);
 
 __attribute__((constructor)) static void begin(void) {
   const char *number = getenv("SWAP_AT"), *file = getenv("COUNTED");
-  next_statx = dlsym(RTLD_NEXT, "statx");
+  next_lseek = dlsym(RTLD_NEXT, "lseek");
   next_pread = dlsym(RTLD_NEXT, "pread");
   swap_at = number ? strtoul(number, NULL, 10) : 0;
   if (file)
@@ -38,10 +38,10 @@ static void count(void) {
   }
 }
 
-int statx(int folder, const char *restrict path, int flags, unsigned mask, struct statx *restrict found) {
-  if (!path || !*path)
+off_t lseek(int file, off_t at, int from) {
+  if (from == SEEK_END)
     count();
-  return next_statx(folder, path, flags, mask, found);
+  return next_lseek(file, at, from);
 }
 
 ssize_t pread(int file, void *bytes, size_t length, off_t at) {
@@ -49,4 +49,5 @@ ssize_t pread(int file, void *bytes, size_t length, off_t at) {
   return next_pread(file, bytes, length, at);
 }
 
+off_t lseek64(int, off_t, int) __attribute__((alias("lseek")));
 ssize_t pread64(int, void *, size_t, off_t) __attribute__((alias("pread")));

@@ -11,9 +11,9 @@ use crate::file_fault::FileFault;
 use crate::file_limit::FileLimit;
 use crate::open_error::OpenError;
 use crate::retry::uninterrupted;
-use crate::slot_files::{are_own, make_missing, of_folder, open_present, prepare, sync_folder};
+use crate::slot_files::{make_missing, of_folder, open_own, open_present, prepare, sync_folder};
 use std::fs::File;
-use std::io;
+use std::io::{self, Seek, SeekFrom};
 use std::os::unix::fs::FileExt;
 use std::rt::Files;
 
@@ -53,12 +53,14 @@ impl Folder {
         ensures { IfOk result (λ folder. folder_slots folder ≡ FOLDER_SLOTS) }
     {
         let lock = prepare(rt, path, make)?;
-        let mut images = open_present(rt, path, make)?;
-        if make {
-            are_own(rt.alloc(), &images)?;
+        let images = if make {
+            let mut images = open_own(rt, path)?;
             make_missing(rt, path, &mut images)?;
             sync_folder(rt, path).map_err(of_folder)?;
-        }
+            images
+        } else {
+            open_present(rt, path)?
+        };
         let limit = FileLimit::of_process(rt);
         Ok(Folder {
             images,
@@ -215,9 +217,14 @@ pub(crate) fn sync(folder: &Folder, slot: usize) -> Result<Made, Made>
 
 fn len_of(image: &Option<File>) -> io::Result<usize> {
     match image {
-        Some(file) => Ok(uninterrupted(|| file.metadata())?.len() as usize),
+        Some(file) => Ok(uninterrupted(|| end_of(file))? as usize),
         None => Ok(0),
     }
+}
+
+/// Where a file ends. Each read and write here names its own place, so it's free to move there.
+fn end_of(mut file: &File) -> io::Result<u64> {
+    file.seek(SeekFrom::End(0))
 }
 
 fn read_from(image: &Option<File>, at: usize, buffer: &mut [u8]) -> io::Result<()> {

@@ -8,6 +8,7 @@ use crate::open_error::OpenError;
 use crate::retry::uninterrupted;
 use std::alloc::Global;
 use std::fs::{File, Metadata, OpenOptions, TryLockError};
+use std::io::Read;
 use std::os::unix::fs::MetadataExt;
 use std::rt::Files;
 use std::{fs, io};
@@ -87,6 +88,15 @@ fn is_folder(rt: &impl Files, path: &str) -> bool {
 ///
 /// What the system answered for the first folder that can't be made, or whose name can't be synced.
 pub fn make_folders(rt: &impl Files<File = File>, path: &str) -> io::Result<()> {
+    match uninterrupted(|| fs::create_dir(rt, path)) {
+        Ok(()) => sync_folder(rt, parent_of(path)),
+        Err(_) if is_folder(rt, path) => Ok(()),
+        Err(_) => make_each_folder(rt, path),
+    }
+}
+
+/// Makes the folders of a path one after another, from the first on.
+fn make_each_folder(rt: &impl Files<File = File>, path: &str) -> io::Result<()> {
     for (end, byte) in path.bytes().enumerate() {
         if byte == b'/' && end > 0 {
             make_folder(rt, path.get(..end).unwrap_or(path))?;
@@ -156,29 +166,104 @@ fn path_of(alloc: Global, folder: &str, slot: usize) -> Result<String, OpenError
     format!(in alloc; "{folder}/img-{slot:03}").map_err(|_| OpenError::OutOfMemory)
 }
 
-/// Opens the slots' files that are there, for reading alone unless they may be written.
+/// Opens the slots' files that are there, for reading alone.
 pub(crate) fn open_present(
     rt: &(impl Files<File = File> + AllocGlobal),
     folder: &str,
+) -> Result<Vec<Option<File>>, OpenError>
+    ensures { IfOk result (λ images. length images.items ≡ FOLDER_SLOTS) }
+{
+    let mut seen = SeenFiles::new(rt.alloc())?;
+    open_files(rt, folder, false, &mut seen)
+}
+
+/// Opens the slots' files that are there, to be written. Each is its slot's alone: it has no other name, and is no
+/// other slot's. An empty folder isn't asked for each of them.
+pub(crate) fn open_own(
+    rt: &(impl Files<File = File> + AllocGlobal),
+    folder: &str,
+) -> Result<Vec<Option<File>>, OpenError>
+    ensures { IfOk result (λ images. length images.items ≡ FOLDER_SLOTS) }
+{
+    let mut seen = SeenFiles::new(rt.alloc())?;
+    seen.are_none = is_empty(rt, folder);
+    let images = open_files(rt, folder, true, &mut seen)?;
+    if seen.are_shared {
+        are_own(rt.alloc(), &images)?;
+    }
+    Ok(images)
+}
+
+/// Opens the slots' files that are there, for reading alone unless they may be written.
+fn open_files(
+    rt: &(impl Files<File = File> + AllocGlobal),
+    folder: &str,
     write: bool,
+    seen: &mut SeenFiles,
 ) -> Result<Vec<Option<File>>, OpenError>
     ensures { IfOk result (λ images. length images.items ≡ FOLDER_SLOTS) }
 {
     let mut images = Vec::with_capacity(rt.alloc(), FOLDER_SLOTS)?;
     for slot in 0..FOLDER_SLOTS {
-        let path = path_of(rt.alloc(), folder, slot)?;
-        let image = open_image(rt, path.as_str(), write).map_err(|error| of_slot(slot, error))?;
-        images.push(image)?;
+        images.push(open_slot(rt, folder, slot, write, seen)?)?;
     }
     Ok(images)
 }
 
 /// Opens a slot's file, or says that it is missing.
-fn open_image(rt: &impl Files<File = File>, path: &str, write: bool) -> io::Result<Option<File>> {
+fn open_slot(
+    rt: &(impl Files<File = File> + AllocGlobal),
+    folder: &str,
+    slot: usize,
+    write: bool,
+    seen: &mut SeenFiles,
+) -> Result<Option<File>, OpenError> {
+    if seen.are_none {
+        return Ok(None);
+    }
+    let path = path_of(rt.alloc(), folder, slot)?;
+    let path = path.as_str();
+    let Some(found) = file_at(rt, path).map_err(|error| of_slot(slot, error))? else {
+        return Ok(None);
+    };
+    let file = open_found(rt, path, write).map_err(|error| of_slot(slot, error))?;
+    seen.note(&found)?;
+    Ok(Some(file))
+}
+
+/// Whether a folder has no name in it but its own two. One that can't be read is taken to have some.
+fn is_empty(rt: &impl Files, folder: &str) -> bool {
+    match rt.open_dir(folder) {
+        Ok(mut names) => has_no_name(&mut names).unwrap_or(false),
+        Err(_) => false,
+    }
+}
+
+/// Whether an open folder reads as `.` and `..` alone, at most one of them in a read.
+fn has_no_name(names: &mut impl Read) -> io::Result<bool> {
+    let mut bytes = [0; 256];
+    for _ in 0..3 {
+        let count = names.read(&mut bytes)?;
+        if count == 0 {
+            return Ok(true);
+        }
+        if bytes
+            .iter()
+            .take(count)
+            .any(|byte| *byte != b'.' && *byte != 0)
+        {
+            return Ok(false);
+        }
+    }
+    Ok(false)
+}
+
+/// What the system says of the file at a path, if there is one. A symbolic link leads to it.
+fn file_at(rt: &impl Files, path: &str) -> io::Result<Option<Metadata>> {
     match entry_of(rt, path)? {
         None => Ok(None),
-        Some(entry) if entry.is_file() => open_found(rt, path, write).map(Some),
-        Some(entry) if entry.is_symlink() => open_linked(rt, path, write).map(Some),
+        Some(entry) if entry.is_file() => Ok(Some(entry)),
+        Some(entry) if entry.is_symlink() => linked_file(rt, path).map(Some),
         Some(_) => Err(not_regular()),
     }
 }
@@ -192,10 +277,10 @@ fn entry_of(rt: &impl Files, path: &str) -> io::Result<Option<Metadata>> {
     }
 }
 
-/// Opens the file to which a symbolic link leads.
-fn open_linked(rt: &impl Files<File = File>, path: &str, write: bool) -> io::Result<File> {
+/// What the system says of the file to which a symbolic link leads.
+fn linked_file(rt: &impl Files, path: &str) -> io::Result<Metadata> {
     match look(rt, path) {
-        Ok(found) if found.is_file() => open_found(rt, path, write),
+        Ok(found) if found.is_file() => Ok(found),
         Ok(_) => Err(not_regular()),
         Err(error) if error.kind() == io::ErrorKind::NotFound => Err(io::Error::new(
             io::ErrorKind::NotFound,
@@ -230,8 +315,35 @@ impl FileId {
     }
 }
 
-/// Sees that each file is its slot's alone: it has no other name, and is no other slot's.
-pub(crate) fn are_own(alloc: Global, images: &[Option<File>]) -> Result<(), OpenError> {
+/// The files that were found as they were opened.
+#[derive(Drop)]
+struct SeenFiles {
+    /// None is looked for.
+    are_none: bool,
+    files: Vec<FileId>,
+    /// One of them had another name, or was another slot's.
+    are_shared: bool,
+}
+
+impl SeenFiles {
+    fn new(alloc: Global) -> Result<SeenFiles, OpenError> {
+        Ok(SeenFiles {
+            are_none: false,
+            files: Vec::with_capacity(alloc, FOLDER_SLOTS)?,
+            are_shared: false,
+        })
+    }
+
+    fn note(&mut self, found: &Metadata) -> Result<(), OpenError> {
+        let id = FileId::of(found);
+        self.are_shared |= found.nlink() > 1 || self.files.contains(&id);
+        self.files.push(id)?;
+        Ok(())
+    }
+}
+
+/// Sees that each open file is its slot's alone: it has no other name, and is no other slot's.
+fn are_own(alloc: Global, images: &[Option<File>]) -> Result<(), OpenError> {
     let mut seen = Vec::with_capacity(alloc, FOLDER_SLOTS)?;
     for (slot, image) in images.iter().enumerate() {
         if let Some(file) = image {

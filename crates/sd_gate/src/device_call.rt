@@ -4,12 +4,13 @@ ghost use Rattle.sd_disk.specs.Contents.{file_at};
 ghost use Rattle.sd_disk.specs.Crash.{Follows, OnlyAt};
 ghost use Rattle.sd_disk.specs.OneCall.{IsOneCall};
 ghost use Rattle.sd_disk.specs.Spans.{LeavesOnly};
+ghost use Rattle.sd_image.specs.Header.{header_text};
 ghost use Rattle.sd_gate.specs.Calls.{call_of, bytes_of, is_done, contents_after, Makes, IsInside, IsSoundOrder};
 ghost use Rattle.sd_gate.specs.Calls.{IsAnswerTo};
 ghost use Rattle.sd_gate.specs.Calls.{IsLook, AreKept, CallFinds, AnswerHasCause};
 ghost use Rattle.sd_gate.specs.Phases.{is_ready, after, body_after, Waits, phases_after, bodies_after};
 ghost use Rattle.sd_gate.specs.Fits.{PhaseLeaves, SlotFits, DiskFits, DiskLeaves};
-ghost use Rattle.sd_gate.specs.declared.call.Call.TheVariants.{Sync};
+ghost use Rattle.sd_gate.specs.declared.call.Call.TheVariants.{Sync, WriteHeader};
 ghost use Rattle.sd_gate.specs.declared.phase.Phase.{Phase};
 
 use crate::answer::Answer;
@@ -17,7 +18,7 @@ use crate::order::Order;
 use crate::outcome::Outcome;
 use crate::request::Request;
 use sd_disk::{DeviceError, Disk};
-use sd_image::{GATE, encode_header};
+use sd_image::{GATE, Header, encode_header};
 
 /// How a call ended that says nothing else.
 fn answer_of(ended: Result<(), DeviceError>) -> Answer
@@ -37,6 +38,22 @@ fn length_of(ended: Result<usize, DeviceError>) -> Answer
         Ok(len) => Answer::Len(len),
         Err(_) => Answer::Failed,
     }
+}
+
+/// Writes a header after the gate. It alone has room for a header's bytes, so that no other call clears them.
+fn write_header<D: Disk>(disk: &mut D, slot: usize, header: &Header) -> Answer
+    requires slot { slot < length (D.contents disk.old) }
+    ensures answer { is_done result ≡ true → result ≡ Answer.Done }
+    ensures done { is_done result ≡ true → D.contents disk.new
+        ≡ contents_after WriteHeader (header_text header.now) slot (D.contents disk.old) }
+    ensures torn { Makes WriteHeader (header_text header.now) slot (D.contents disk.old)
+        (D.contents disk.new) }
+    ensures crash { Follows (Makes WriteHeader (header_text header.now) slot) (D.may_leave disk.old)
+        (D.may_leave disk.new) }
+    ensures one_call { IsOneCall D.Disk disk.old disk.new }
+    ensures cause { AnswerHasCause (D.failed disk.old) (D.failed disk.new) result }
+{
+    answer_of(disk.write_at(slot, 1, &encode_header(header)))
 }
 
 /// Makes the call of an order, and no other.
@@ -74,7 +91,7 @@ fn make<D: Disk>(disk: &mut D, slot: usize, order: Order) -> (Order, Answer)
             (Order::Write { at, buffer }, answer)
         }
         Order::WriteHeader { header } => {
-            let answer = answer_of(disk.write_at(slot, 1, &encode_header(&header)));
+            let answer = write_header(disk, slot, &header);
             (Order::WriteHeader { header }, answer)
         }
         Order::Close => (Order::Close, answer_of(disk.write_at(slot, 0, &[0]))),
