@@ -27,7 +27,9 @@ mod MergerHands
 mod MergerSteps
 mod NextHands
 mod NextLaws
+mod NextLooking
 mod NextMerger
+mod NextMerging
 mod NextOpener
 mod NextOrders
 mod NextSound

@@ -22,12 +22,12 @@ use Rattle.sd_crash_safety.specs.MergerOutcomes.{MergerOutcomes}
 use Rattle.sd_crash_safety.specs.View.{CoreView}
 use Rattle.sd_crash_safety.specs.declared.standing.Standing.TheVariants.{Open}
 use Rattle.sd_free_slots.specs.Taken.{IsListOf}
-use Rattle.sd_core.specs.Merging.{AreCut, HasItsList, IsAsBelieved, IsMergedImage, IsOneByte, OpensMerged, RetiresThese, opened_merge, retires_as}
+use Rattle.sd_core.specs.Merging.{AreCut, HasItsList, IsAsBelieved, IsMergedImage, IsMore, IsOneByte, OpensMerged, RetiresThese, opened_merge, retires_as}
 use Rattle.sd_core.specs.Refusals.{is_idle}
 use Rattle.sd_core.specs.Sound.{IsCore, Parts}
 use Rattle.sd_core.proofs.OwnLemmas.{spared_of}
 use Rattle.sd_core.proofs.CoreParts.{seen_of}
-use Rattle.sd_core.proofs.MergerHands.{EndsMerge, GoesOnMerge, IsMore, LeavesMerge, ended_goes_on, free_then, list_free, merged_core, work}
+use Rattle.sd_core.proofs.MergerHands.{EndsMerge, GoesOnMerge, LeavesMerge, ended_goes_on, free_then, list_free, merged_core, work}
 use Rattle.sd_core.proofs.OpenedLemmas.{OpensMerge, beside, fixed, merged_image, merged_opens, opened_core}
 use Rattle.sd_core.proofs.OutcomeLemmas.{left_held}
 

@@ -27,6 +27,7 @@ use Rattle.sd_crash_safety.specs.MergerSteps.{OnlyMerges}
 use Rattle.sd_crash_safety.specs.Merges.{IsSpared}
 use Rattle.sd_crash_safety.specs.View.{CoreView}
 use Rattle.sd_core.specs.Following.{FollowsOutcome}
+use Rattle.sd_core.specs.Merging.{IsMore}
 use Rattle.sd_core.specs.Sound.{ClosesWithHeader, IsCore, IsDoing, MergeRuns, Parts, serials_to_come}
 use Rattle.sd_core.proofs.BesideLemmas.{LeavesWork, copy_goes_on, core_beside, free_spared, jobs_out, merger_works, retiring_goes_on}
 use Rattle.sd_core.proofs.CoreParts.{seen_of}
@@ -112,10 +113,6 @@ module _ {core : Parts} {seen : CoreView} {made : Made} {phases : List Phase} {o
       (handed_merger (seen_of core) (seen_of new) made h.follows.phase answer o base (ap length (o.phases ∙ sym h.follows.phases) ∙ h.follows.count) goes adds)
 
 -- ---- the merge that goes on
-
--- an outcome with which the merge goes on
-abbrev pub IsMore : MergeProgress → Type 0
-IsMore done = (done ≡ progress.More) ⊎ ((one : Retired) × (done ≡ progress.Closed one))
 
 -- the merge that goes on
 pub record IsHandedOn (old : Option merger.Running) (made : Made) (done : MergeProgress) (new : Option merger.Running) : Type 0 where

@@ -107,20 +107,13 @@ module _ {core : Parts} {seen : CoreView} {made : Made} {phases : List Phase} {o
 -- it goes on
 module _ {core : Parts} {seen : CoreView} {made : Made} {phases : List Phase} {outs : List (Option RequestId)} {places : Places} {done : MergeProgress} {now : Option merger.Running}
     (g : GoesOnMerge core seen made phases outs places done now) where
-  goes : (merger.ends done ≡ false) × (merger.is_strange done ≡ false)
-  goes = elim g.more [
-    | inl is ↦ subst (λ d. (merger.ends d ≡ false) × (merger.is_strange d ≡ false)) (sym is) (refl, refl)
-    | inr one ↦ subst (λ d. (merger.ends d ≡ false) × (merger.is_strange d ≡ false)) (sym one.1) (refl, refl)
-  ]
-
   pub more_next : NextByMergersOutcome seen made reply.Worked (seen_of (merged_core core phases outs places core.room now))
   more_next = subst (λ v. NextByMergersOutcome v made reply.Worked (seen_of (merged_core core phases outs places core.room now))) g.leaves.hands.seen_is
       (goes_on refl (record {
         it = takes g.leaves.hands;
         next = g.doing;
         progress = done;
-        ends = goes.0;
-        known = goes.1;
+        more = g.more;
         hands = g.goes;
         places = places;
         leaves = subst (λ b. LeavesCatalog b made.request.id.slot core.places places) g.leaves.hands.follows.closes g.leaves.leaves;

@@ -35,6 +35,11 @@ use Rattle.sd_core.proofs.WorkLemmas.{at_work}
 
 -- ---- how many images are open
 
+-- nothing changes
+pub same_round : (running : Option Running) → SameRound running running
+same_round None = tt
+same_round (Some running) = (running, refl, record { job = refl; opened = refl; parent = refl })
+
 -- the image in the making turns
 pub round_goes_on : (old new : Option Running) (from to : Running) → old ≡ Some from → new ≡ Some to → IsSameRound from to → SameRound old new
 round_goes_on old new from to was is same = subst (SameRound old) (sym is) (from, was, same)

@@ -1,5 +1,5 @@
 -- The merger of a core: when a merge is refused, how one begins, and what its steps and outcomes are.
-use Rattle.std.specs.Prelude.{◌≡◌, ◌↔◌, ℕ, ◌+◌, ◌<◌, ◌^◌, Bool, true, false, not, nat_le, is_some, List, [], ◌∷◌}
+use Rattle.std.specs.Prelude.{◌≡◌, ◌⊎◌, ◌↔◌, ℕ, ◌+◌, ◌<◌, ◌^◌, Bool, true, false, not, nat_le, is_some, List, [], ◌∷◌}
 use Rattle.std.specs.Prelude.{length, map, Contains, Option, Some, None, slice_get}
 use Rattle.std.specs.List.{list_any}
 use Rattle.sd_chain.specs.Catalog.{IsTip, Opened, Places, images, place_of, serial_of}
@@ -112,6 +112,10 @@ pub record IsStepOf (ticket : ℕ) (places : Places) (old : Option merger.Runnin
   pub doing : merger.Doing
   pub steps : StepsAt ticket places merge merge.doing made doing
   pub is : new ≡ Some (record merge { doing = doing })
+
+-- an outcome with which a merge goes on: its image isn't open yet, or its list isn't over
+abbrev pub IsMore : MergeProgress → Type 0
+IsMore done = (done ≡ progress.More) ⊎ ((one : Retired) × (done ≡ progress.Closed one))
 
 -- a slot of the store that the running checkpoint doesn't fill
 pub record MayRead (running : Option Running) (count slot : ℕ) : Type 0 where

@@ -44,7 +44,7 @@ use Rattle.sd_core.specs.Beginning.{AreFew, AreReserved, FreeSlots, IsFirstParen
 use Rattle.sd_core.specs.Counted.{counted_by_outcome}
 use Rattle.sd_core.specs.Dumping.{ReleasesPlace}
 use Rattle.sd_core.specs.Flags.{numbers_asked, numbers_begun, FindsNumbers}
-use Rattle.sd_core.specs.Merging.{IsFull, merge_refusal, MayRead, StepsAt}
+use Rattle.sd_core.specs.Merging.{IsFull, IsMore, merge_refusal, MayRead, StepsAt}
 use Rattle.sd_core.specs.Opening.{IsFreshOpener, OpensAnew, SawDamage, SawStrange, TeachesOpener, WorksOpener}
 use Rattle.sd_core.specs.Opening.{awaited_checkpoint}
 use Rattle.sd_core.specs.Refusals.{cancel_refusal, reopen_refusal, work_refusal, is_idle}
@@ -461,8 +461,7 @@ pub record MergeGoesOn (old : CoreView) (made : Made) (new : CoreView) : Type 0 
   pub it : HandsMerge old made
   pub next : merger.Doing
   pub progress : MergeProgress
-  pub ends : merger.ends progress ≡ false
-  pub known : merger.is_strange progress ≡ false
+  pub more : IsMore progress
   pub hands : merger.HandsAt it.merge.doing made progress next
   pub places : Places
   pub leaves : LeavesCatalog (closes_for_sure it.phase made.request.id.call) made.request.id.slot old.catalog places

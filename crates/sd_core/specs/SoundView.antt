@@ -2,6 +2,7 @@
 use Rattle.std.specs.Prelude.{ℕ}
 use Rattle.sd_chain.specs.Catalog.{IsSoundCatalog}
 use Rattle.sd_journal.specs.History.{last, pending}
+use Rattle.sd_merge.specs.Merger.{AreRunning as MergesInOrder, HasSoundCopy}
 use Rattle.sd_pagetable.specs.Contents.{IsSound}
 use Rattle.sd_rounds.specs.Dumper.{AreRunning}
 use Rattle.sd_rounds.specs.Sound.{HasSoundImage}
@@ -52,3 +53,5 @@ pub record IsSoundView (core : CoreView) : Type 0 where
   pub images : HasSoundImage core.dumper.running
   pub memory : IsSound core.memory
   pub catalog : IsSoundCatalog core.catalog
+  pub merges : MergesInOrder core.merger
+  pub copies : HasSoundCopy core.merger

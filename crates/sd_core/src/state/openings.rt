@@ -4,16 +4,11 @@ ghost use Rattle.sd_command.specs.declared.refusal.Refusal.TheVariants.{StoreDow
 ghost use Rattle.sd_command.specs.declared.reply.Reply.TheVariants as reply;
 ghost use Rattle.sd_gate.specs.Calls.{is_done};
 ghost use Rattle.sd_gate.specs.declared.worker.Worker.TheVariants as its;
-ghost use Rattle.sd_opener.specs.Looking.{IsDoneAsAsked};
-ghost use Rattle.sd_crash_safety.specs.Calls.{HandedIn, MakesStep};
-ghost use Rattle.sd_core.specs.Beside.{HandsBeside};
-ghost use Rattle.sd_core.specs.Flags.{FlagsByOutcome};
-ghost use Rattle.sd_core.specs.Opening.{IsAllRead, OpensBelieved, OpensOwn, RefusesAsScan, RefusesDamage};
-ghost use Rattle.sd_core.specs.Opening.{RefusesRightly, RefusesStrange};
+ghost use Rattle.sd_crash_safety.specs.Calls.{MakesStep};
+ghost use Rattle.sd_core.specs.Opening.{IsAllRead};
 ghost use Rattle.sd_core.specs.Refusals.{work_refusal};
 ghost use Rattle.sd_core.specs.Starts.{TakesUp};
 ghost use Rattle.sd_core.specs.Working.{LeavesByOutcome, LeavesByStep, LeavesByWork};
-ghost use Rattle.sd_core.specs.declared.taken.Taken.TheVariants as taken;
 ghost use Rattle.sd_core.specs.Next.{NextByOpener, NextByOpenersOutcome, NextOnceRead};
 
 use super::Core;
@@ -24,7 +19,7 @@ use crate::opening::{
 };
 use crate::taken::Taken;
 use sd_command::{Refusal, Reply};
-use sd_crash_safety::{Standing, opener_finds, opener_steps, reopened_law};
+use sd_crash_safety::{Standing, opener_steps, reopened_law};
 use sd_gate::{Outcome, Worker};
 use sd_journal::{Entry, tracked_laws};
 use sd_opener::{Opened, OpenerStep};
@@ -35,15 +30,10 @@ impl Core {
     pub(super) fn take_up_opener(&mut self) -> Taken
         requires { work_refusal self.old its.Opener ≡ None }
         ensures takes { TakesUp self.old its.Opener result self.new }
-        ensures refuses { RefusesRightly self.old result }
-        ensures scans { RefusesAsScan self.old result }
-        ensures opens { OpensBelieved self.old result }
-        ensures shows { OpensOwn self.old result }
         ensures leaves { LeavesByWork self.old its.Opener result self.new }
         ensures step { NextByOpener self.old result self.new }
     {
         opener_steps();
-        opener_finds();
         let Ok(step) = step_opener(&mut self.opener, self.numbers.ticket) else {
             return Taken::Step(Reply::Refused(Refusal::OutOfMemory));
         };
@@ -71,9 +61,6 @@ impl Core {
     fn finish_opening(&mut self) -> Reply
         requires { IsAllRead self.old.opener }
         ensures takes { MakesStep self.old its.Opener result self.new }
-        ensures refuses { RefusesStrange self.old result }
-        ensures scans { RefusesDamage self.old result }
-        ensures shows { OpensOwn self.old (taken.Step result) }
         ensures leaves { LeavesByStep self.old its.Opener result self.new }
         ensures step { NextOnceRead self.old result self.new }
     {
@@ -112,16 +99,10 @@ impl Core {
     pub(super) fn hand_in_opener(&mut self, outcome: Outcome) -> Reply
         requires out { slice_get self.old.outs 2 ≡ Some (Some outcome.request.id) }
         requires opener { outcome.request.id.worker ≡ its.Opener }
-        ensures handed { HandedIn self.old 2 outcome result self.new }
         ensures failed { is_done outcome.answer ≡ false → result ≡ reply.Refused StoreDown }
-        ensures goes_on { IsDoneAsAsked outcome → result ≡ reply.Worked }
         ensures leaves { LeavesByOutcome self.old its.Opener result self.new }
-        ensures flags { FlagsByOutcome self.old result self.new }
-        ensures beside { HandsBeside outcome self.old self.new }
-        ensures merger { self.new.merger ≡ self.old.merger }
         ensures step { NextByOpenersOutcome self.old outcome result self.new }
     {
-        opener_steps();
         follow_outcome(&mut self.phases, &mut self.outs, OPENER, &outcome);
         if teach(&mut self.opener, outcome) {
             return Reply::Worked;

@@ -110,6 +110,7 @@ impl Core {
         self.dumper.sound();
         self.memory.sound();
         self.catalog.sound();
+        self.merger.sound();
     }
 
     /// A law: the next checkpoint goes on from the tip exactly where the journal has an acknowledgement since its

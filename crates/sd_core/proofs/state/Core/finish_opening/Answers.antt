@@ -119,50 +119,6 @@ returns-clause-takes c =
       outs = nobody_is _ o c.self.invariant is rests;
     }))
 
-pub returns-in_default-read_by-clause-refuses : goal.returns-in_default-read_by-clause-refuses
-returns-in_default-read_by-clause-refuses c =
-    let o = c.in-Some.opener in
-    let is : c.self.inside.opener ≡ Some o = sym c.take_opener.ensures.taken ∙ c.in-Some.is in
-    let same : c.requires.looking ≡ o = same_Some c.requires.looking o (sym c.requires.is ∙ sym (ap (λ (v : CoreView). v.opener) c.self.view_is) ∙ is) in
-    let all : length o.told ≡ o.slots = subst (λ (l : Looking). length l.told ≡ l.slots) same c.requires.all in
-    let own_awaited : (if c.self.inside.swept then c.self.inside.pending else None) ≡ (if has_visited_all c.self.inside.journal.items then pending (entries_of c.self.inside.journal.items) else None) =
-    ap (λ b. if b then c.self.inside.pending else None) c.self.invariant.flags_are.visited_by ∙ ap (λ p. if has_visited_all c.self.inside.journal.items then p else None) c.self.invariant.journal_is.frozen_for in
-    subst (λ v. RefusesStrange v (reply.Refused DamagedStore)) c.self.view_is (λ told opener there files sees own.
-    let own_opener : opener ≡ o = same_Some opener o (sym there ∙ is) in
-    let seen : Sees files None o = subst (Sees files None) own_opener sees in
-    c.in_default-read_by.ensures.strange refl files seen (all ∙ sym seen.count) (same_own _ _ _ _ files (λ found expected.
-    subst (λ p. IsExpected c.self.inside.last p found) (sym (c.visited_checkpoint.ensures ∙ own_awaited))
-    (subst (λ l. IsExpected l (if has_visited_all c.self.inside.journal.items then pending (entries_of c.self.inside.journal.items) else None) found) (sym c.self.invariant.journal_is.newest_is) expected)) own))
-
-pub returns-in_default-read_by-clause-scans : goal.returns-in_default-read_by-clause-scans
-returns-in_default-read_by-clause-scans c =
-    let o = c.in-Some.opener in
-    let is : c.self.inside.opener ≡ Some o = sym c.take_opener.ensures.taken ∙ c.in-Some.is in
-    let same : c.requires.looking ≡ o = same_Some c.requires.looking o (sym c.requires.is ∙ sym (ap (λ (v : CoreView). v.opener) c.self.view_is) ∙ is) in
-    let all : length o.told ≡ o.slots = subst (λ (l : Looking). length l.told ≡ l.slots) same c.requires.all in
-    let own_awaited : (if c.self.inside.swept then c.self.inside.pending else None) ≡ (if has_visited_all c.self.inside.journal.items then pending (entries_of c.self.inside.journal.items) else None) =
-    ap (λ b. if b then c.self.inside.pending else None) c.self.invariant.flags_are.visited_by ∙ ap (λ p. if has_visited_all c.self.inside.journal.items then p else None) c.self.invariant.journal_is.frozen_for in
-    subst (λ v. RefusesDamage v (reply.Refused DamagedStore)) c.self.view_is (λ told opener there files sees right.
-    let own_opener : opener ≡ o = same_Some opener o (sym there ∙ is) in
-    let seen : Sees files None o = subst (Sees files None) own_opener sees in
-    subst (λ l. IsDamagedOrOther l (if has_visited_all c.self.inside.journal.items then pending (entries_of c.self.inside.journal.items) else None) files) c.self.invariant.journal_is.newest_is
-    (subst (λ p. IsDamagedOrOther c.self.inside.last p files) (c.visited_checkpoint.ensures ∙ own_awaited)
-    (c.in_default-read_by.ensures.damaged refl files seen (all ∙ sym seen.count) right)))
-
-same_found : (a b : Option ℕ) → Step (reply.Reopened a) ≡ Step (reply.Reopened b) → a ≡ b
-same_found a b e = cc
-
-pub returns-clause-shows : goal.returns-clause-shows
-returns-clause-shows c =
-    let own_awaited : (if c.self.inside.swept then c.self.inside.pending else None) ≡ (if has_visited_all c.self.inside.journal.items then pending (entries_of c.self.inside.journal.items) else None) =
-    ap (λ b. if b then c.self.inside.pending else None) c.self.invariant.flags_are.visited_by ∙ ap (λ p. if has_visited_all c.self.inside.journal.items then p else None) c.self.invariant.journal_is.frozen_for in
-    let own_expected : IsExpected c.self.inside.last (if has_visited_all c.self.inside.journal.items then pending (entries_of c.self.inside.journal.items) else None) c.in-Some-read_by.found =
-    subst (λ p. IsExpected c.self.inside.last p c.in-Some-read_by.found) (c.visited_checkpoint.ensures ∙ own_awaited) c.in-Some-read_by.ensures.opens.expected in
-    subst (λ v. OpensOwn v (Step (reply.Reopened c.in-Some-read_by.found))) c.self.view_is (λ found is.
-    subst (IsExpected (last (base_of c.self.inside.base) (entries_of c.self.inside.journal.items)) (if has_visited_all c.self.inside.journal.items then pending (entries_of c.self.inside.journal.items) else None))
-    (same_found c.in-Some-read_by.found found is)
-    (subst (λ l. IsExpected l (if has_visited_all c.self.inside.journal.items then pending (entries_of c.self.inside.journal.items) else None) c.in-Some-read_by.found) c.self.invariant.journal_is.newest_is own_expected))
-
 -- ---- the step
 
 pub returns-in_default-read_by-clause-step : goal.returns-in_default-read_by-clause-step

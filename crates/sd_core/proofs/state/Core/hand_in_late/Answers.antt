@@ -37,16 +37,6 @@ invariant_of-self c =
 
 -- ---- what each clause says
 
-pub returns-clause-handed : goal.returns-clause-handed
-returns-clause-handed c =
-    let k = (goal.at.returns-clause-handed c).After-follow_outcome in
-    handed_seen c.args.lane c.args.outcome _ _ _ _ c.self.view_is
-    (handed_late c.dumper_outcomes.ensures c.merger_outcomes.ensures (parts_of c.self.inside) c.args.lane c.args.outcome c.follow_outcome.new.phases.items c.follow_outcome.new.outs c.follow_outcome.result.closed
-    c.self.invariant (late k) (out k) c.follow_outcome.ensures.outs c.follow_outcome.ensures.follows)
-
-pub returns-clause-merges : goal.returns-clause-merges
-returns-clause-merges c = λ whose merge serial opens. late_opens _ _ _ c.requires.idle whose merge serial opens
-
 pub returns-clause-leaves : goal.returns-clause-leaves
 returns-clause-leaves c =
     let k = (goal.at.returns-clause-leaves c).After-follow_outcome in
@@ -56,5 +46,3 @@ returns-clause-leaves c =
       lowers = none_busy c.args.self.now c.args.outcome.request.id.worker c.requires.idle;
     }
 
-pub returns-clause-closed : goal.returns-clause-closed
-returns-clause-closed c = (late (goal.at.returns-clause-closed c).After-follow_outcome).other

@@ -67,27 +67,6 @@ invariant_of-self c =
       visited_is = c.self.invariant.visited_is;
     }
 
-pub returns-then-teach-clause-handed : goal.returns-then-teach-clause-handed
-returns-then-teach-clause-handed c =
-    let k = (goal.at.returns-then-teach-clause-handed c).After-follow_outcome in
-    let t = taught_opener c.self.inside.opener c.args.outcome c.teach.new.opener c.if-teach.ensures in
-    handed_seen 2 c.args.outcome reply.Worked _ _ _ c.self.view_is
-    (handed_on c.opener_steps.ensures _ _ c.args.outcome t.opener t.next (record {
-      rest = record { closed = closed k; base = refl; items = refl; memory = refl; standing = refl; catalog = refl; dumper = refl; numbers = refl; grows = refl; committing = refl };
-      alone = (alone k).1;
-      outs = none_now k;
-      whose = c.requires.opener;
-      sure = c.follow_outcome.result.closed;
-      follows = c.follow_outcome.ensures.follows;
-    }) (λ phase handed. record {
-      handed = handed;
-      done = t.goes_on.done (ap out_of_opener (sym t.was) ∙ (alone k).0);
-      was = t.was;
-      is = t.is;
-      moves = t.goes_on.moves;
-      sees = t.goes_on.sees;
-    }))
-
 -- ---- it has ended
 
 pub invariant_of-self-2 : goal.invariant_of-self-2
@@ -115,23 +94,6 @@ invariant_of-self-2 c =
       gated = none_works _ c.self.inside.dumper.running none;
       visited_is = c.self.invariant.visited_is;
     }
-
-pub returns-clause-handed : goal.returns-clause-handed
-returns-clause-handed c =
-    let k = (goal.at.returns-clause-handed c).After-follow_outcome in
-    handed_seen 2 c.args.outcome (reply.Refused StoreDown) _ _ _ c.self.view_is
-    (handed_failed c.opener_steps.ensures _ _ c.args.outcome StoreDown (record {
-      rest = record { closed = closed k; base = refl; items = c.let_go.ensures.journal.items; memory = refl; standing = refl; catalog = refl; dumper = refl; numbers = refl; grows = refl; committing = refl };
-      alone = (alone k).1;
-      outs = none_now k;
-      whose = c.requires.opener;
-      sure = c.follow_outcome.result.closed;
-      follows = c.follow_outcome.ensures.follows;
-    }) c.let_go.ensures.opener)
-
-pub returns-clause-goes_on : goal.returns-clause-goes_on
-returns-clause-goes_on c as_asked = absurd
-    (not_taught c.self.inside.opener c.args.outcome c.teach.new.opener c.if-teach.ensures (alone (goal.at.returns-clause-goes_on c).After-follow_outcome).0 as_asked)
 
 pub returns-clause-leaves : goal.returns-clause-leaves
 returns-clause-leaves c =

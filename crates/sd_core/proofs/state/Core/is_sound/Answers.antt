@@ -12,4 +12,6 @@ returns c = subst IsSoundView c.self.view_is (record {
   images = c.sound.ensures.image;
   memory = c.sound-2.ensures;
   catalog = c.sound-3.ensures;
+  merges = c.sound-4.ensures.running;
+  copies = c.sound-4.ensures.copy;
 })

@@ -8,6 +8,7 @@ use Rattle.sd_core.specs.declared.taken.Taken.TheVariants.{Step}
 use Rattle.sd_core.specs.Called.{IsTakenUp}
 use Rattle.sd_core.specs.Next.{NextByWork, refused}
 use Rattle.sd_core.specs.Refusals.{work_refusal}
+use Rattle.sd_core.proofs.RoundLemmas.{same_round}
 use Rattle.sd_core.proofs.state.Core.take_up.Goals as goal
 
 refused_by : (core : CoreView) (worker : Worker) (why : Refusal) → work_refusal core worker ≡ Some why → NextByWork worker core (Step (reply.Refused why)) core
@@ -24,7 +25,7 @@ returns-in-Some c = record {
   lasts = search rules;
   fixes = search rules;
   finds = search rules;
-  rounds = search rules;
+  rounds = λ dumper. same_round c.args.self.now.dumper.running;
   flags = search rules;
   beside = search rules;
   refuses = search rules;
@@ -49,6 +50,6 @@ pub returns-in-Opener : goal.returns-in-Opener
 returns-in-Opener c =
     let o = c.take_up_opener.ensures in
     subst (λ w. IsTakenUp w c.args.self.now c.take_up_opener.result c.take_up_opener.new.self) (sym c.in-Opener.is)
-    (c.opener_taken_law.ensures c.args.self.now c.take_up_opener.result c.take_up_opener.new.self
+    (c.opener_taken_law.ensures c.args.self.now c.take_up_opener.result c.take_up_opener.new.self c.is_sound.ensures
     (subst (λ w. work_refusal c.args.self.now w ≡ None) c.in-Opener.is (sym c.refusal_of_work.ensures ∙ c.in-None.is))
-    o.takes o.leaves o.refuses o.scans o.opens o.shows o.step)
+    o.takes o.leaves o.step)

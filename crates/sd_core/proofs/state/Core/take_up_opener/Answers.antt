@@ -102,44 +102,6 @@ returns-in-Damaged-clause-takes c =
       opener = c.let_go.ensures.opener;
     }))
 
-pub returns-in-Damaged-clause-refuses : goal.returns-in-Damaged-clause-refuses
-returns-in-Damaged-clause-refuses c =
-    let w = subst (λ step. WorksOpener c.self.inside.opener c.self.inside.numbers.ticket step c.step_opener.new.opener) c.in-Damaged.is c.in-Ok.ensures.works in
-    subst (λ v. RefusesStrange v (reply.Refused DamagedStore)) c.self.view_is (λ told opener there files sees own.
-    let own_opener : opener ≡ w.opener = same_Some opener w.opener (sym there ∙ w.was) in
-    w.sees files (subst (Sees files None) own_opener sees) own.images own.store)
-
-pub returns-in-Damaged-clause-scans : goal.returns-in-Damaged-clause-scans
-returns-in-Damaged-clause-scans c =
-    let w = subst (λ step. WorksOpener c.self.inside.opener c.self.inside.numbers.ticket step c.step_opener.new.opener) c.in-Damaged.is c.in-Ok.ensures.works in
-    subst (λ v. RefusesDamage v (reply.Refused DamagedStore)) c.self.view_is (λ told opener there files sees right.
-    let own_opener : opener ≡ w.opener = same_Some opener w.opener (sym there ∙ w.was) in
-    inl (record { slot = _; reason = _; damage = inl (w.names files (subst (Sees files None) own_opener sees) right) }))
-
-pub returns-in-Damaged-clause-opens : goal.returns-in-Damaged-clause-opens
-returns-in-Damaged-clause-opens c =
-    let w = subst (λ step. WorksOpener c.self.inside.opener c.self.inside.numbers.ticket step c.step_opener.new.opener) c.in-Damaged.is c.in-Ok.ensures.works in
-    let none = nobody_is _ w.opener c.self.invariant w.was (ap out_of_opener w.was ∙ w.rests) in
-    subst (λ v. OpensBelieved v (Step (reply.Refused DamagedStore))) c.self.view_is
-    (believed_opens c.opener_finds.ensures (the_view c.self.inside) (Step (reply.Refused DamagedStore)) w.opener (λ commits. sym c.self.invariant.flags_are.visited_by ∙ c.self.invariant.flags_are.sure commits) w.was (ap (λ outs. slice_get outs 2) none) (λ told opener there files sees own.
-    w.sees files (subst (Sees files None) (same_Some opener w.opener (sym there ∙ w.was)) sees) own.images own.store))
-
-pub returns-in-AllRead-clause-opens : goal.returns-in-AllRead-clause-opens
-returns-in-AllRead-clause-opens c =
-    let w = subst (λ step. WorksOpener c.self.inside.opener c.self.inside.numbers.ticket step c.step_opener.new.opener) c.in-AllRead.is c.in-Ok.ensures.works in
-    let none = nobody_is _ w.opener c.self.invariant w.was (ap out_of_opener w.was ∙ w.rests) in
-    let same : c.step_opener.new.opener ≡ c.self.inside.opener = w.is ∙ ap Some w.moves.0 ∙ sym w.was in
-    subst (λ v. OpensBelieved v (Step c.finish_opening.result)) c.self.view_is
-    (believed_opens c.opener_finds.ensures (the_view c.self.inside) (Step c.finish_opening.result) w.opener (λ commits. sym c.self.invariant.flags_are.visited_by ∙ c.self.invariant.flags_are.sure commits) w.was (ap (λ outs. slice_get outs 2) none)
-    (subst (λ o. RefusesStrange (the_view (record c.self.inside { opener = o })) c.finish_opening.result) same c.finish_opening.ensures.refuses))
-
-pub returns-in-AllRead-clause-scans : goal.returns-in-AllRead-clause-scans
-returns-in-AllRead-clause-scans c =
-    let w = subst (λ step. WorksOpener c.self.inside.opener c.self.inside.numbers.ticket step c.step_opener.new.opener) c.in-AllRead.is c.in-Ok.ensures.works in
-    let same : c.step_opener.new.opener ≡ c.self.inside.opener = w.is ∙ ap Some w.moves.0 ∙ sym w.was in
-    subst (λ v. RefusesDamage v c.finish_opening.result) c.self.view_is
-    (subst (λ o. RefusesDamage (the_view (record c.self.inside { opener = o })) c.finish_opening.result) same c.finish_opening.ensures.scans)
-
 -- ---- the step
 
 pub returns-in-Call-clause-step : goal.returns-in-Call-clause-step
