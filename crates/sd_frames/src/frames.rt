@@ -188,7 +188,7 @@ impl Frames {
         ensures same { self.new ≡ self.old }
     {
         let Some(mut page) = self.spare.take() else {
-            return self.copy_of_page(&ZEROS);
+            return Ok(Box::new(self.alloc, [0; PAGE_SIZE])?);
         };
         fill(&mut page, &ZEROS);
         Ok(page)
@@ -212,8 +212,6 @@ impl Frames {
     /// # Errors
     ///
     /// Out of memory where its bytes can't be allocated.
-    // Not inlined, so that a page of zeros is copied: a `memset` of a page counts an instruction for each byte.
-    #[inline(never)]
     pub fn copy_of_page(&self, bytes: &[u8; PAGE_SIZE]) -> Result<Box<[u8; PAGE_SIZE]>, AllocError>
         ensures { IfOk result (λ copy. copy.value ≡ bytes.now) }
     {

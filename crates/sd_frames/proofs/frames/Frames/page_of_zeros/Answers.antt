@@ -3,7 +3,7 @@ use Rattle.sd_frames.proofs.frames.Frames.page_of_zeros.Goals as goal
 
 pub returns-in_default-clause-zeros : goal.returns-in_default-clause-zeros
 unfolding zeros
-returns-in_default-clause-zeros c = c.copy_of_page.ensures
+returns-in_default-clause-zeros c = c.in_ok-new.ensures.ok
 
 pub returns-clause-zeros : goal.returns-clause-zeros
 unfolding zeros
