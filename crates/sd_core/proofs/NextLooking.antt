@@ -61,13 +61,13 @@ module _ (old : CoreView) (made : Taken) (new : CoreView) (may : work_refusal ol
   refuses_rightly (asks request is a) = subst (RefusesRightly old) (sym is) tt
   refuses_rightly (decodes is d) = subst (RefusesRightly old) (sym is) (λ told opener there files sees own. absurd (not_damaged reply.Worked refl told))
   refuses_rightly (damaged slot reason is d) = subst (RefusesRightly old) (sym is) (λ told opener there files sees own.
-    let own_opener = ran _ d.it opener there in
-    d.it.works.sees files (subst (Sees files None) own_opener sees) own.images own.store)
+      let own_opener = ran _ d.it opener there in
+      d.it.works.sees files (subst (Sees files None) own_opener sees) own.images own.store)
   refuses_rightly (reads_all answer is s (opens found told o)) = subst (RefusesRightly old) (sym is) (λ no opener there files sees own. absurd (found_not answer found told no))
   refuses_rightly (reads_all answer is s (strange told f)) = subst (RefusesRightly old) (sym is) (λ _ opener there files sees own.
-    let same : opener ≡ f.looking = same_Some opener f.looking (sym there ∙ f.is) in
-    let seen = subst (Sees files None) same sees in
-    f.strange files seen (read_all s f.looking f.is ∙ sym seen.count) own)
+      let same : opener ≡ f.looking = same_Some opener f.looking (sym there ∙ f.is) in
+      let seen = subst (Sees files None) same sees in
+      f.strange files seen (read_all s f.looking f.is ∙ sym seen.count) own)
   refuses_rightly (refused why is told same) = none_refused why is
   refuses_rightly (out_of_memory none is same) = subst (RefusesRightly old) (sym is) (λ told opener there files sees own. absurd (let no : reply.Refused OutOfMemory ≡ reply.Refused Damaged = told in cc))
 
@@ -75,13 +75,13 @@ module _ (old : CoreView) (made : Taken) (new : CoreView) (may : work_refusal ol
   refuses_as_scan (asks request is a) = subst (RefusesAsScan old) (sym is) tt
   refuses_as_scan (decodes is d) = subst (RefusesAsScan old) (sym is) (λ told opener there files sees right. absurd (not_damaged reply.Worked refl told))
   refuses_as_scan (damaged slot reason is d) = subst (RefusesAsScan old) (sym is) (λ told opener there files sees right.
-    let own_opener = ran _ d.it opener there in
-    inl (record { slot = slot; reason = reason; damage = inl (d.it.works.names files (subst (Sees files None) own_opener sees) right) }))
+      let own_opener = ran _ d.it opener there in
+      inl (record { slot = slot; reason = reason; damage = inl (d.it.works.names files (subst (Sees files None) own_opener sees) right) }))
   refuses_as_scan (reads_all answer is s (opens found told o)) = subst (RefusesAsScan old) (sym is) (λ no opener there files sees right. absurd (found_not answer found told no))
   refuses_as_scan (reads_all answer is s (strange told f)) = subst (RefusesAsScan old) (sym is) (λ _ opener there files sees right.
-    let same : opener ≡ f.looking = same_Some opener f.looking (sym there ∙ f.is) in
-    let seen = subst (Sees files None) same sees in
-    f.damage files seen (read_all s f.looking f.is ∙ sym seen.count) right)
+      let same : opener ≡ f.looking = same_Some opener f.looking (sym there ∙ f.is) in
+      let seen = subst (Sees files None) same sees in
+      f.damage files seen (read_all s f.looking f.is ∙ sym seen.count) right)
   refuses_as_scan (refused why is told same) = none_refused why is
   refuses_as_scan (out_of_memory none is same) = subst (RefusesAsScan old) (sym is) (λ told opener there files sees right. absurd (let no : reply.Refused OutOfMemory ≡ reply.Refused Damaged = told in cc))
 

@@ -45,4 +45,3 @@ returns-clause-leaves c =
       idle = by_worker _ (ap is_none (none_closed _ c.self.invariant (not_open k))) (ap is_none (none_merges _ c.self.invariant (not_open k))) (ap is_none (late k).closed);
       lowers = none_busy c.args.self.now c.args.outcome.request.id.worker c.requires.idle;
     }
-
