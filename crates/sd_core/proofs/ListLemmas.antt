@@ -1,13 +1,11 @@
 -- The list of the images that a merge closes, where its image enters the catalog, and what is so at its end.
-use Rattle.std.proofs.Common.{◌≡◌, ℕ, true, List, length, Contains, Option, Some, None, slice_get, sym, ◌∙◌, ap, subst, arith}
+use Rattle.std.proofs.Common.{◌≡◌, ℕ, List, length, Contains, Option, Some, None, slice_get, sym, ◌∙◌, ap, subst, arith}
 use Rattle.std.proofs.lemmas.Option.{same_Some}
 use Rattle.sd_image.proofs.Members.{place_in}
 use Rattle.sd_chain.specs.Catalog.{IsHeld, Places}
 use Rattle.sd_gate.specs.declared.phase.Phase.{Phase}
 use Rattle.sd_gate.specs.declared.phase.Phase.TheVariants.{Bare}
 use Rattle.sd_gate.specs.declared.request_id.RequestId.{RequestId}
-use Rattle.sd_gate.specs.declared.worker.Worker.{Worker}
-use Rattle.sd_gate.specs.declared.worker.Worker.TheVariants as its
 use Rattle.sd_gate.specs.Phases.{bodies_after}
 use Rattle.sd_gate.specs.Requests.{Made}
 use Rattle.sd_merge.specs.declared.merge_progress.MergeProgress.{MergeProgress}
@@ -23,7 +21,6 @@ use Rattle.sd_crash_safety.specs.View.{CoreView}
 use Rattle.sd_crash_safety.specs.declared.standing.Standing.TheVariants.{Open}
 use Rattle.sd_free_slots.specs.Taken.{IsListOf}
 use Rattle.sd_core.specs.Merging.{AreCut, HasItsList, IsAsBelieved, IsMergedImage, IsMore, IsOneByte, OpensMerged, RetiresThese, opened_merge, retires_as}
-use Rattle.sd_core.specs.Refusals.{is_idle}
 use Rattle.sd_core.specs.Sound.{IsCore, Parts}
 use Rattle.sd_core.proofs.OwnLemmas.{spared_of}
 use Rattle.sd_core.proofs.CoreParts.{seen_of}
@@ -43,10 +40,6 @@ pub none_enters : {core : Parts} {seen : CoreView} {made : Made} {phases : List 
     (l : LeavesMerge core seen made phases outs places now) (merge : merger.Running) (serial : ℕ) → OpensMerged merge serial seen (seen_of (merged_core core phases outs places core.room now)) → ⊥
 none_enters {core} {seen} {made} {phases} {outs} {places} {now} l = not_opened core seen (seen_of (merged_core core phases outs places core.room now)) l.hands.sound l.hands.seen_is
     (λ n held. left_held l.closed made.request.id.slot core.places places n l.leaves held)
-
--- nor after a call that comes late
-pub late_opens : (old new : CoreView) (worker : Worker) → is_idle old worker ≡ true → worker ≡ its.Merger → (merge : merger.Running) (serial : ℕ) → OpensMerged merge serial old new → ⊥
-late_opens old new worker idle whose merge serial opens = grind arith
 
 -- a merge that goes on with its image goes on repeating its source
 pub still_copies : {core : Parts} {seen : CoreView} {made : Made} {phases : List Phase} {outs : List (Option RequestId)} {places : Places} {done : MergeProgress} {now : Option merger.Running}

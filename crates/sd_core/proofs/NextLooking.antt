@@ -1,5 +1,5 @@
 -- What follows of a step and an outcome of the opener, and of an outcome that comes late, where the core is sound.
-use Rattle.std.proofs.Common.{◌≡◌, ◌≢◌, ◌⊎◌, ℕ, length, Option, Some, None, slice_get, slice_set, refl, sym, ◌∙◌, ap, subst, inl, inr}
+use Rattle.std.proofs.Common.{◌≡◌, ◌≢◌, ℕ, length, Option, Some, None, slice_get, slice_set, refl, sym, ◌∙◌, ap, subst, inl}
 use Rattle.std.proofs.lemmas.Option.{same_Some}
 use Rattle.sd_command.specs.declared.refusal.Refusal.{Refusal}
 use Rattle.sd_command.specs.declared.refusal.Refusal.TheVariants.{Damaged, OutOfMemory, StoreDown}
@@ -23,7 +23,7 @@ use Rattle.sd_crash_safety.specs.declared.standing.Standing.TheVariants.{Open}
 use Rattle.sd_core.specs.declared.taken.Taken.{Taken}
 use Rattle.sd_core.specs.declared.taken.Taken.TheVariants as taken
 use Rattle.sd_core.specs.Following.{FollowsOutcome}
-use Rattle.sd_core.specs.Next.{ComesLate, FailsToOpen, HandsOpener, LearnsSlot, NextByOpener, NextByOpenersOutcome, NextOnceRead, StepsOpener, asks, damaged, decodes, fails, learns, opens, out_of_memory, reads_all, refused, strange}
+use Rattle.sd_core.specs.Next.{ComesLate, FailsToOpen, HandsOpener, LearnsSlot, NextByOpener, NextByOpenersOutcome, StepsOpener, asks, damaged, decodes, fails, learns, opens, out_of_memory, reads_all, refused, strange}
 use Rattle.sd_core.specs.Opening.{IsExpected, OpensBelieved, OpensOwn, RefusesAsScan, RefusesRightly}
 use Rattle.sd_core.specs.Refusals.{work_refusal}
 use Rattle.sd_core.specs.Sound.{out_of_opener}

@@ -196,9 +196,6 @@ step_seen worker answer seen now new is makes = subst (λ old. MakesStep old wor
 pub hands_seen : (worker : Worker) (request : Asked) (seen now new : CoreView) → seen ≡ now → HandsOut seen worker request new → HandsOut now worker request new
 hands_seen worker request seen now new is hands = subst (λ old. HandsOut old worker request new) is hands
 
-pub handed_seen : (lane : ℕ) (made : Made) (answer : Reply) (seen now new : CoreView) → seen ≡ now → HandedIn seen lane made answer new → HandedIn now lane made answer new
-handed_seen lane made answer seen now new is handed = subst (λ old. HandedIn old lane made answer new) is handed
-
 pub stays_seen : (seen now new : CoreView) → seen ≡ now → Stays seen new → Stays now new
 stays_seen seen now new is stays = subst (λ old. Stays old new) is stays
 

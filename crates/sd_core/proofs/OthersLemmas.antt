@@ -1,16 +1,13 @@
 -- What a call leaves beside the job that it is made for.
 use Rattle.std.proofs.Common.{◌≡◌, ℕ, ◌&&◌, Bool, true, false, not, if◌then◌else◌, Option, Some, None, IfSome, is_some, refl, sym, ◌∙◌, ap, subst, arith}
 use Rattle.sd_chain.specs.Catalog.{Changes, Opened, Places, place_of, without_slot}
-use Rattle.sd_gate.specs.declared.worker.Worker.{Worker}
 use Rattle.sd_journal.specs.declared.mark.Mark.TheVariants.{Start, Table}
 use Rattle.sd_rounds.specs.Dumper.{Running}
 use Rattle.sd_crash_safety.specs.DumperOutcomes.{LeavesCatalog}
 use Rattle.sd_crash_safety.specs.View.{CoreView}
-use Rattle.sd_core.specs.declared.taken.Taken.{Taken}
-use Rattle.sd_core.specs.Beside.{StepsBeside}
 use Rattle.sd_core.specs.Images.{HasPreDumps, begun_as}
 use Rattle.sd_core.specs.Kept.{KeepsEach}
-use Rattle.sd_core.specs.Noted.{KeepsMarks, NotesByCall, NotesMark}
+use Rattle.sd_core.specs.Noted.{NotesByCall, NotesMark}
 use Rattle.sd_core.specs.Sound.{IsCore, Parts}
 use Rattle.sd_core.proofs.WorkLemmas.{at_work}
 
@@ -40,15 +37,7 @@ keeps_left true slot old new leaves = keeps_without slot old new leaves
     keeps_without slot old new leaves serial image other there now = grind arith
 keeps_left false slot old new same = keeps_same old new same
 
--- as the core is seen
-pub beside_seen : (worker : Worker) (made : Taken) (inside now new : CoreView) → inside ≡ now → StepsBeside worker inside made new → StepsBeside worker now made new
-beside_seen worker made inside now new same beside = subst (λ v. StepsBeside worker v made new) same beside
-
 -- ---- the dumper's steps
-
--- the memory stays frozen, or not
-pub counted_still : (old now : Bool) (since new : ℕ) → now ≡ old → new ≡ since → new ≡ (if not old && now then 0 else since)
-counted_still old now since new same is = is ∙ counted_same old since ∙ ap (λ b. if not old && b then 0 else since) (sym same)
 
 -- the memory isn't frozen after it
 pub none_now : (old now : Bool) (since : ℕ) → now ≡ false → since ≡ (if not old && now then 0 else since)
@@ -58,23 +47,14 @@ none_now old now since thawed = by old ∙ ap (λ b. if not old && b then 0 else
     by true = refl
     by false = refl
 
--- the marks after no request but those of the table
-pub notes_none : (old new : CoreView) (slot : Option ℕ) (ends : Bool) → slot ≡ None → ends ≡ false → KeepsMarks old new → NotesByCall (is_some slot) ends old new
-notes_none old new slot ends none over keeps = subst (λ s. NotesByCall (is_some s) ends old new) (sym none) (subst (λ e. NotesByCall false e old new) (sym over) keeps)
-
+-- the marks after a request
 pub notes_table : (old new : CoreView) (slot : Option ℕ) (ends : Bool) → slot ≡ None → ends ≡ true → NotesMark Table old new → NotesByCall (is_some slot) ends old new
 notes_table old new slot ends none over notes = subst (λ s. NotesByCall (is_some s) ends old new) (sym none) (subst (λ e. NotesByCall false e old new) (sym over) notes)
 
 pub notes_start : (old new : CoreView) (slot : Option ℕ) (own : ℕ) (ends : Bool) → slot ≡ Some own → NotesMark Start old new → NotesByCall (is_some slot) ends old new
 notes_start old new slot own ends is notes = subst (λ s. NotesByCall (is_some s) ends old new) (sym is) notes
 
--- a pass that stays one, or wasn't one, doesn't end
-pub still_passes : (was now : Bool) → now ≡ true → (was && not now) ≡ false
-still_passes was now is = grind arith
-
-pub never_passed : (was now : Bool) → was ≡ false → (was && not now) ≡ false
-never_passed was now is = ap (λ b. b && not now) is
-
+-- a pass that ends
 pub passed : (was now : Bool) → was ≡ true → now ≡ false → (was && not now) ≡ true
 passed was now is over = ap (λ b. b && not now) is ∙ ap not over
 

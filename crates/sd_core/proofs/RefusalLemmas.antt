@@ -3,14 +3,13 @@ use Rattle.std.proofs.Common.{◌≡◌, ◌≢◌, ◌<◌, ◌==◌, ◌&&◌,
 use Rattle.std.proofs.lemmas.Bool.Decides.{eqb_tells}
 use Rattle.std.proofs.lemmas.Bool.{or_parts, not-true, not-false}
 use Rattle.sd_command.specs.declared.refusal.Refusal.TheVariants as refusal
-use Rattle.sd_gate.specs.declared.request_id.RequestId.{RequestId}
 use Rattle.sd_journal.specs.History.{pending}
 use Rattle.sd_gate.specs.Lanes.{is_any_out}
 use Rattle.sd_crash_safety.specs.declared.standing.Standing.TheVariants as standing
 use Rattle.sd_crash_safety.specs.OpenerSteps.{nobody}
 use Rattle.sd_crash_safety.specs.View.{CoreView, history_of}
 use Rattle.sd_core.specs.Beginning.{free_entries}
-use Rattle.sd_core.specs.Refusals.{are_resting, cancel_refusal, is_store_busy, is_page_out, is_store_open, none_at, reopen_refusal, needs_entry}
+use Rattle.sd_core.specs.Refusals.{are_resting, cancel_refusal, is_store_busy, is_page_out, is_store_open, reopen_refusal, needs_entry}
 use Rattle.sd_core.specs.Sound.{IsCore, Parts}
 use Rattle.sd_core.proofs.BeginLemmas.{first_no, none_some}
 use Rattle.sd_core.proofs.OutsLemmas.{nobody_of}
@@ -24,9 +23,6 @@ some_false : {X : Type 0} (one : Option X) → one ≡ None → is_some one ≡ 
 some_false one is = grind arith
 
 -- ---- requests that are out
-
-pub rests_where : (one : Option (Option RequestId)) → none_at one ≡ true → one ≡ Some None
-rests_where one is = grind arith
 
 pub nobody_rests : (core : Parts) → IsCore core → are_resting core.outs ≡ true → core.outs ≡ nobody
 nobody_rests core sound is = nobody_of core.outs sound.outs_are.count (not-true (is_any_out core.outs) is)

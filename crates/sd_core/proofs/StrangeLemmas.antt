@@ -1,5 +1,5 @@
 -- When an opener refuses a store as damaged.
-use Rattle.std.proofs.Common.{◌≡◌, ◌≢◌, ◌⊎◌, ℕ, true, if◌then◌else◌, List, Option, Some, None, Result, Ok, Err, IfErr, slice_get, refl, sym, ◌∙◌, ap, subst, inl, inr}
+use Rattle.std.proofs.Common.{◌≡◌, ◌≢◌, ◌⊎◌, ℕ, true, if◌then◌else◌, List, Some, None, Result, Ok, Err, IfErr, slice_get, refl, sym, ◌∙◌, ap, subst, inl, inr}
 use Rattle.sd_image.specs.Shows.{Shows}
 use Rattle.sd_journal.specs.Allowed.{IsLastPair, IsPendingPair, Shown}
 use Rattle.sd_journal.specs.History.{last, pending}
@@ -12,11 +12,7 @@ use Rattle.sd_crash_safety.specs.Laws.{OpenerFinds}
 use Rattle.sd_crash_safety.specs.View.{CoreView, history_of}
 use Rattle.sd_core.specs.declared.taken.Taken.{Taken}
 use Rattle.sd_core.specs.Grown.{has_visited_all}
-use Rattle.sd_core.specs.Opening.{IsDamaged, IsExpected, IsOwnStore, OpensBelieved, RefusesRightly, awaited_checkpoint}
-
-pub same_own : (last pending other_last other : Option ℕ) (files : List (List ℕ)) → ((found : Option ℕ) → IsExpected last pending found → IsExpected other_last other found)
-    → IsOwnStore last pending files → IsOwnStore other_last other files
-same_own last pending other_last other files more own = record { images = own.images; store = own.store; number = own.number; tip = own.tip; expected = more own.number own.expected }
+use Rattle.sd_core.specs.Opening.{IsDamaged, IsOwnStore, OpensBelieved, RefusesRightly, awaited_checkpoint}
 
 is_own : (core : CoreView) (files : List (List ℕ)) (shown : Shown) → (core.committing ≡ true → has_visited_all core.items ≡ true) → Shows files shown
     → IsLastPair core.base (history_of core) shown ⊎ ((core.committing ≡ true) × IsPendingPair core.base (history_of core) shown)

@@ -1,4 +1,4 @@
-use Rattle.std.proofs.Common.{◌≡◌, false, if◌then◌else◌, ℕ, length, map, take, Option, Some, None, IfSome, refl, sym, ◌∙◌, ap, subst, arith, rules}
+use Rattle.std.proofs.Common.{◌≡◌, false, if◌then◌else◌, length, map, take, Some, None, IfSome, refl, sym, ◌∙◌, ap, subst, arith, rules}
 use Rattle.std.proofs.Math.Seq.{take-length}
 use Rattle.std.proofs.lemmas.Option.{same_Some}
 use Rattle.sd_gate.specs.declared.worker.Worker.TheVariants as its
@@ -7,14 +7,12 @@ use Rattle.sd_command.specs.declared.refusal.Refusal.TheVariants.{Damaged as Dam
 use Rattle.sd_command.specs.declared.reply.Reply.TheVariants as reply
 use Rattle.sd_journal.specs.History.{Base, last, pending}
 use Rattle.sd_opener.specs.Looking.{Looking, out_of_look}
-use Rattle.sd_opener.specs.Sees.{Sees}
 use Rattle.sd_crash_safety.specs.declared.standing.Standing.TheVariants.{Open}
 use Rattle.sd_crash_safety.specs.View.{CoreView}
 use Rattle.sd_journal.specs.Marked.{entries_of}
 use Rattle.sd_core.proofs.FlagLemmas.{set_flags}
 use Rattle.sd_core.specs.Grown.{has_grown, has_visited_all}
-use Rattle.sd_core.specs.declared.taken.Taken.TheVariants.{Step}
-use Rattle.sd_core.specs.Opening.{IsDamagedOrOther, IsExpected, OpensOwn, RefusesDamage, RefusesStrange}
+use Rattle.sd_core.specs.Opening.{IsExpected}
 use Rattle.sd_core.specs.Sound.{AreSoundNumbers, IsOpening, held_for, out_of_opener}
 use Rattle.sd_core.specs.Starts.{base_of}
 use Rattle.sd_core.proofs.CoreLemmas.{held_idle, held_opening, nobody_is, none_out}
@@ -23,7 +21,6 @@ use Rattle.sd_core.proofs.MergeLemmas.{no_merge, none_merges}
 use Rattle.sd_core.proofs.OpeningLemmas.{ends_refused, starts_anew, step_seen}
 use Rattle.sd_core.proofs.WorkLemmas.{none_closed, none_works}
 use Rattle.sd_core.proofs.SettledLemmas.{not_swept}
-use Rattle.sd_core.proofs.StrangeLemmas.{same_own}
 use Rattle.sd_core.specs.contracts.state.Core.{the_view}
 use Rattle.sd_core.specs.Next.{opens, strange}
 use Rattle.sd_core.specs.Opening.{OpensAnew, SawDamage, SawStrange}

@@ -4,8 +4,8 @@ use Rattle.sd_crash_safety.specs.View.{CoreView}
 use Rattle.sd_core.specs.Refusals.{is_idle}
 use Rattle.sd_core.specs.Next.{late, of_dumper, of_merger, of_opener}
 use Rattle.sd_core.specs.Sound.{worker_of_lane}
-use Rattle.sd_core.proofs.HandedLemmas.{merger_lane, opener_lane}
-use Rattle.sd_core.proofs.LaneLemmas.{handed_at, same_lane}
+use Rattle.sd_core.proofs.HandedLemmas.{merger_lane}
+use Rattle.sd_core.proofs.LaneLemmas.{same_lane}
 use Rattle.sd_core.proofs.RoundLemmas.{late_turns, none_enters}
 use Rattle.sd_core.proofs.state.Core.hand_in.Goals.{In-Some}
 use Rattle.sd_core.proofs.state.Core.hand_in.Goals as goal

@@ -6,10 +6,8 @@ use Rattle.sd_core.specs.Sound.{held_for}
 use Rattle.sd_core.specs.Working.{fallen}
 use Rattle.sd_core.proofs.CoreParts.{parts_of}
 use Rattle.sd_core.proofs.FallenLemmas.{by_worker, none_busy, fallen_core}
-use Rattle.sd_core.proofs.HandedLemmas.{IsLate, handed_late, is_late}
+use Rattle.sd_core.proofs.HandedLemmas.{IsLate, is_late}
 use Rattle.sd_core.proofs.MergeLemmas.{none_merges}
-use Rattle.sd_core.proofs.ListLemmas.{late_opens}
-use Rattle.sd_core.proofs.OpeningLemmas.{handed_seen}
 use Rattle.sd_core.proofs.WorkLemmas.{none_closed}
 use Rattle.sd_core.proofs.state.Core.hand_in_late.Goals.{After-follow_outcome}
 use Rattle.sd_core.proofs.state.Core.hand_in_late.Goals as goal

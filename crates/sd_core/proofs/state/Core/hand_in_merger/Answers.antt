@@ -1,4 +1,4 @@
-use Rattle.std.proofs.Common.{◌≡◌, Some, refl, sym, ◌∙◌, ap, subst, rules, inl, inr}
+use Rattle.std.proofs.Common.{◌≡◌, Some, refl, ◌∙◌, ap, subst, rules, inl, inr}
 use Rattle.sd_gate.specs.declared.request_id.RequestId.{RequestId}
 use Rattle.sd_merge.specs.declared.merge_progress.MergeProgress.TheVariants.{Failed}
 use Rattle.sd_merge.specs.Merger.{Hands, IsHanded}

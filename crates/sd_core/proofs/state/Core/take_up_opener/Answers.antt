@@ -1,21 +1,17 @@
-use Rattle.std.proofs.Common.{◌≡◌, None, Some, IfSome, slice_get, refl, sym, ◌∙◌, ap, subst, inl, arith, slice_set}
-use Rattle.std.proofs.lemmas.Option.{same_Some}
+use Rattle.std.proofs.Common.{◌≡◌, None, Some, IfSome, refl, sym, ◌∙◌, ap, subst, arith, slice_set}
 use Rattle.sd_gate.specs.declared.worker.Worker.TheVariants as its
 use Rattle.sd_command.specs.declared.reply.Reply.TheVariants as reply
 use Rattle.sd_command.specs.declared.refusal.Refusal.TheVariants.{Damaged as DamagedStore}
 use Rattle.sd_journal.specs.History.{Base}
 use Rattle.sd_crash_safety.specs.OpenerSteps.{opener_alone}
 use Rattle.sd_opener.specs.Looking.{out_of_look}
-use Rattle.sd_opener.specs.Sees.{Sees}
 use Rattle.sd_core.specs.contracts.state.Core.{the_view}
-use Rattle.sd_core.specs.declared.taken.Taken.TheVariants.{Step}
-use Rattle.sd_core.specs.Opening.{OpensBelieved, RefusesDamage, RefusesStrange, WorksOpener}
+use Rattle.sd_core.specs.Opening.{WorksOpener}
 use Rattle.sd_core.specs.Sound.{IsOpening, held_for, out_of_opener}
 use Rattle.sd_core.specs.Starts.{base_of}
 use Rattle.sd_core.proofs.CoreLemmas.{held_opening, nobody_is, one_out, set_alone}
 use Rattle.sd_core.proofs.MergeLemmas.{no_merge, none_merges}
 use Rattle.sd_core.proofs.OpeningLemmas.{decoded, ends_refused, hands_out, hands_seen, step_seen}
-use Rattle.sd_core.proofs.StrangeLemmas.{believed_opens}
 use Rattle.sd_core.proofs.WorkLemmas.{SameNumbers, counted_same, none_closed, none_works, numbers_same}
 use Rattle.sd_core.specs.Next.{asks, damaged, decodes, reads_all, NextOnceRead}
 use Rattle.sd_core.specs.Refusals.{work_refusal}
