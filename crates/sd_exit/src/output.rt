@@ -123,8 +123,10 @@ impl<W: Write> Output<W> {
         ensures first { IsSome self.old.error → self.new.error ≡ self.old.error }
         ensures fault { self.new.fault ≡ self.old.fault }
     {
-        let ended = write_from(&mut self.writer, bytes);
-        self.note(ended)
+        match write_from(&mut self.writer, bytes) {
+            Ok(()) => Ok(()),
+            Err(error) => self.note(Err(error)),
+        }
     }
 
     /// Prints a text, as `writeln!` makes it.

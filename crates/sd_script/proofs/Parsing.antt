@@ -14,7 +14,7 @@ use Rattle.sd_script.specs.declared.script.Script.{Script}
 use Rattle.sd_script.specs.declared.script_error.ScriptError.{ScriptError}
 use Rattle.sd_script.specs.declared.script_error.ScriptError.TheVariants as error
 use Rattle.sd_script.specs.Script.{IfUnfit, is_unfit, request_in, lines_of, requests_of, first_unfit_line}
-use Rattle.sd_script.proofs.Fields.{one_part}
+use Rattle.sd_script.proofs.Fields.{is_space, one_part}
 
 abbrev pub is_newline : ℕ → Bool
 is_newline byte = byte == 10
@@ -36,6 +36,19 @@ line_at text end first = grind (arith, position_or_len_is, false_from_ne_true, s
 pub line_alone : (text : List ℕ) → IsFirstByte (is_byte 10) text None → lines_of text ≡ text ∷ []
 line_alone text none = one_part is_newline text
     (position_or_len_is is_newline text (length text) 0 (omega arith) (λ k l. false_from_ne_true (is_newline (get_or text k 0)) (none k (omega arith) l)) (λ l. absurd (omega arith)))
+
+-- and byte 10 stands there
+pub newline_at : (text : List ℕ) (end : ℕ) → IsFirstByte (is_byte 10) text (Some end) → (end < length text) × (get_or text end 0 ≡ 10)
+newline_at text end first = grind (arith, position_or_len_is, false_from_ne_true)
+
+-- ---- where a text's first field ends
+
+pub space_at : (text : List ℕ) (end : ℕ) → IsFirstByte (is_byte 32) text (Some end) → (position_or_len is_space text ≡ end) × (end < length text) × (get_or text end 0 ≡ 32)
+space_at text end first = grind (arith, position_or_len_is, false_from_ne_true)
+
+pub no_space : (text : List ℕ) → IsFirstByte (is_byte 32) text None → position_or_len is_space text ≡ length text
+no_space text none =
+    position_or_len_is is_space text (length text) 0 (omega arith) (λ k l. false_from_ne_true (is_space (get_or text k 0)) (none k (omega arith) l)) (λ l. absurd (omega arith))
 
 -- ---- lists of which none passes a test
 module _ {X : Type 0} (p : X → Bool) where

@@ -1,6 +1,6 @@
 //! One line of a script.
 ghost use Rattle.std.specs.Prelude.{◌≡◌, ◌<◌, ◌≤◌, ◌==◌, false, map, take, length, bytes_eq, codes, IfSome, IfNone};
-ghost use Rattle.std.specs.List.{slice_split};
+ghost use Rattle.std.specs.List.{after_first, before_first, position_or_len, slice_split};
 ghost use Rattle.sd_script.specs.Line.{ParsesLine, asked_by, asked_by_word, at_least_one, begin_of, begin_merge_of};
 ghost use Rattle.sd_script.specs.Line.{cancel_of, checkpoint_of, exit_of, fault_of, finish_of, fork_of, load_of};
 ghost use Rattle.sd_script.specs.Line.{merge_of, mmap_of, mprotect_of, munmap_of, perform_at_of, perform_of, reopen_of};
@@ -8,6 +8,7 @@ ghost use Rattle.sd_script.specs.Line.{step_of, store_of, trim_of, try_of, words
 
 use crate::field_values::{hex_bytes, number, permissions, worker_named};
 use crate::line_error::LineError;
+use memchr::memchr;
 use sd_areas::SpaceId;
 use sd_command::{Bytes, Command};
 use sd_gate::Worker;
@@ -83,7 +84,7 @@ fn split_into<'a>(fields: &mut [&'a str; MOST_FIELDS], line: &'a str) -> Option<
 {
     let mut rest = line;
     let mut count = 0;
-    while let Some((field, others)) = rest.split_once(' ') {
+    while let Some((field, others)) = first_field(rest) {
         if count + 1 == MOST_FIELDS {
             return None;
         }
@@ -93,6 +94,19 @@ fn split_into<'a>(fields: &mut [&'a str; MOST_FIELDS], line: &'a str) -> Option<
     }
     fields[count] = rest;
     Some(count + 1)
+}
+
+/// The first field of a text, and what stands after the space that ends it, if one does.
+fn first_field(text: &str) -> Option<(&str, &str)>
+    ensures first { IfSome result
+        (λ parts. (parts.0.now ≡ before_first (λ byte. byte == 32) text.now)
+        × (parts.1.now ≡ after_first (λ byte. byte == 32) text.now)
+        × (position_or_len (λ byte. byte == 32) text.now < length text.now)) }
+    ensures last { IfNone result
+        (position_or_len (λ byte. byte == 32) text.now ≡ length text.now) }
+{
+    let end = memchr(b' ', text.as_bytes())?;
+    Some((&text[..end], &text[end + 1..]))
 }
 
 /// What a word and its arguments ask for.

@@ -1,0 +1,12 @@
+-- The lines so far fit, and made the requests so far.
+use Rattle.std.proofs.Common.{length}
+use denote.Text.{Utf8}
+use denote.Shadow.{shadow}
+use Rattle.sd_script.proofs.Parsing.{Parsed}
+use Rattle.sd_script.proofs.script.parse_text.Given as goal
+
+abbrev pub invariant-loop-line : goal.invariant-loop-line
+invariant-loop-line l = shadow (Utf8 l.rest) × Parsed l.script l.rest l.number l.lines.items
+
+abbrev pub decreases-loop-line : goal.decreases-loop-line
+decreases-loop-line l = length l.rest
