@@ -47,7 +47,7 @@ a_line_costs_few_instructions() {
   few=$(instructions_of few.ckpt) || { echo "$few"; return 1; }
   rm -rf store
   many=$(instructions_of many.ckpt) || { echo "$many"; return 1; }
-  is_at_most "a line" $(((many - few) / 10000)) 2500
+  is_at_most "a line" $(((many - few) / 10000)) 2700
 }
 
 try a_start_costs_few_instructions
