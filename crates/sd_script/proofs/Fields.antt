@@ -1,5 +1,5 @@
 -- Lemmas on the fields of a line.
-use Rattle.std.proofs.Common.{◌≡◌, ◌≢◌, ◌<◌, ◌≤◌, ◌+◌, ◌==◌, ◌++◌, ℕ, Bool, List, [], ◌∷◌, map, length, take, slice_set, Bor, None, refl, arith, ap, sym, ◌∙◌, inl, inr, append_assoc, length-append, length-drop}
+use Rattle.std.proofs.Common.{◌≡◌, ◌≢◌, ◌<◌, ◌≤◌, ◌+◌, ◌==◌, ◌++◌, ℕ, Bool, List, [], ◌∷◌, map, length, take, slice_set, ◌-◌, Bor, None, refl, arith, ap, sym, ◌∙◌, inl, inr, append_assoc, length-append, length-drop}
 use Rattle.std.specs.List.{slice_split, onto_first, position_or_len, before_first, after_first}
 use Rattle.std.proofs.lemmas.Bool.{cases_Bool}
 use Rattle.std.proofs.lemmas.List.{take_more_set, length-map, length-take-le, map-append}

@@ -37,10 +37,6 @@ pub line_alone : (text : List ℕ) → IsFirstByte (is_byte 10) text None → li
 line_alone text none = one_part is_newline text
     (position_or_len_is is_newline text (length text) 0 (omega arith) (λ k l. false_from_ne_true (is_newline (get_or text k 0)) (none k (omega arith) l)) (λ l. absurd (omega arith)))
 
--- and byte 10 stands there
-pub newline_at : (text : List ℕ) (end : ℕ) → IsFirstByte (is_byte 10) text (Some end) → (end < length text) × (get_or text end 0 ≡ 10)
-newline_at text end first = grind (arith, position_or_len_is, false_from_ne_true)
-
 -- ---- where a text's first field ends
 
 pub space_at : (text : List ℕ) (end : ℕ) → IsFirstByte (is_byte 32) text (Some end) → (position_or_len is_space text ≡ end) × (end < length text) × (get_or text end 0 ≡ 32)

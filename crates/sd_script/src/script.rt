@@ -26,61 +26,20 @@ impl Script {
         ensures requests { IfOk result (λ s. s.lines.items ≡ requests_of script.now) }
         ensures unfit { IfUnfit result (λ n. first_unfit_line script.now ≡ Some n) }
     {
-        match str::from_utf8(script) {
-            Ok(text) => parse_text(alloc, text),
-            Err(_) => parse_bytes(alloc, script),
+        let mut lines = Vec::new(alloc);
+        let mut rest = script;
+        let mut number = 1;
+        while let Some((line, others)) = first_line(rest) {
+            take_line(alloc, line, number, &mut lines)?;
+            rest = others;
+            number += 1;
         }
+        take_line(alloc, rest, number, &mut lines)?;
+        Ok(Script { lines })
     }
-}
-
-/// Parses a script that is UTF-8 as a whole, so that no line has to be looked at for that.
-fn parse_text(alloc: Global, script: &str) -> Result<Script, ScriptError>
-    ensures fits { OnOk result (first_unfit_line script.now ≡ None) }
-    ensures requests { IfOk result (λ s. s.lines.items ≡ requests_of script.now) }
-    ensures unfit { IfUnfit result (λ n. first_unfit_line script.now ≡ Some n) }
-{
-    let mut lines = Vec::new(alloc);
-    let mut rest = script;
-    let mut number = 1;
-    while let Some((line, others)) = first_text_line(rest) {
-        take_text(alloc, line, number, &mut lines)?;
-        rest = others;
-        number += 1;
-    }
-    take_text(alloc, rest, number, &mut lines)?;
-    Ok(Script { lines })
-}
-
-/// Parses any other script.
-fn parse_bytes(alloc: Global, script: &[u8]) -> Result<Script, ScriptError>
-    ensures fits { OnOk result (first_unfit_line script.now ≡ None) }
-    ensures requests { IfOk result (λ s. s.lines.items ≡ requests_of script.now) }
-    ensures unfit { IfUnfit result (λ n. first_unfit_line script.now ≡ Some n) }
-{
-    let mut lines = Vec::new(alloc);
-    let mut rest = script;
-    let mut number = 1;
-    while let Some((line, others)) = first_line(rest) {
-        take_line(alloc, line, number, &mut lines)?;
-        rest = others;
-        number += 1;
-    }
-    take_line(alloc, rest, number, &mut lines)?;
-    Ok(Script { lines })
 }
 
 /// The first line of a text and what stands after its end, if byte 10 ends it.
-fn first_text_line(text: &str) -> Option<(&str, &str)>
-    ensures first { IfSome result
-        (λ parts. lines_of text.now ≡ parts.0.now ∷ lines_of parts.1.now) }
-    ensures shorter { IfSome result (λ parts. length parts.1.now < length text.now) }
-    ensures last { IfNone result (lines_of text.now ≡ text.now ∷ []) }
-{
-    let end = memchr(b'\n', text.as_bytes())?;
-    Some((&text[..end], &text[end + 1..]))
-}
-
-/// The same of bytes.
 fn first_line(text: &[u8]) -> Option<(&[u8], &[u8])>
     ensures first { IfSome result
         (λ parts. lines_of text.now ≡ parts.0.now ∷ lines_of parts.1.now) }
@@ -92,9 +51,9 @@ fn first_line(text: &[u8]) -> Option<(&[u8], &[u8])>
 }
 
 /// Adds what a line asks for, if anything, to the requests.
-fn take_text(
+fn take_line(
     alloc: Global,
-    line: &str,
+    line: &[u8],
     number: usize,
     lines: &mut Vec<Line>,
 ) -> Result<(), ScriptError>
@@ -112,28 +71,13 @@ fn take_text(
     Ok(())
 }
 
-/// The same of bytes, which may be no text.
-fn take_line(
-    alloc: Global,
-    line: &[u8],
-    number: usize,
-    lines: &mut Vec<Line>,
-) -> Result<(), ScriptError>
-    ensures fits { OnOk result (is_unfit line.now ≡ false) }
-    ensures asked { OnOk result
-        (lines.new.items ≡ lines.old.items ++ filter_map request_in (line.now ∷ [])) }
-    ensures unfit { IfUnfit result (λ n. (n ≡ number) × (is_unfit line.now ≡ true)) }
-{
-    match str::from_utf8(line) {
-        Ok(text) => take_text(alloc, text, number, lines),
-        Err(_) => Err(ScriptError::Line(number)),
-    }
-}
-
 /// What a line asks for, if anything.
-fn request(alloc: Global, text: &str) -> Result<Option<Line>, LineError>
-    ensures { GivesMeaning result (meaning_of text.now) }
+fn request(alloc: Global, bytes: &[u8]) -> Result<Option<Line>, LineError>
+    ensures { GivesMeaning result (meaning_of bytes.now) }
 {
+    let Ok(text) = str::from_utf8(bytes) else {
+        return Err(LineError::Unfit);
+    };
     if text.is_empty() || text.starts_with('#') {
         return Ok(None);
     }

@@ -2,7 +2,7 @@
 use Rattle.std.proofs.Common.{◌+◌, ◌∙◌, sym, subst}
 use Rattle.std.proofs.lemmas.Result.{err_from_is_err_and}
 use Rattle.sd_script.proofs.Parsing.{Parsed, parsed-more, blamed-by, all_requests}
-use Rattle.sd_script.proofs.script.parse_bytes.Goals as goal
+use Rattle.sd_script.proofs.script.Script.parse.Goals as goal
 
 pub returns-in_err-take_line-clause-unfit : goal.returns-in_err-take_line-clause-unfit
 returns-in_err-take_line-clause-unfit c =
