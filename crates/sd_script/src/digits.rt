@@ -1,8 +1,8 @@
 //! Bytes in hexadecimal digits.
-ghost use Rattle.std.specs.Prelude.{◌≡◌, ◌<◌, ◌*◌, ℕ, true, false, length, min, None, Ok, slice_index, unwrap_or};
+ghost use Rattle.std.specs.Prelude.{◌≡◌, ◌*◌, ℕ, true, false, length, min, None, Ok, unwrap_or};
 ghost use Rattle.std.specs.Char.{digit_value};
 ghost use Rattle.std.specs.Result.{result_ok};
-ghost use Rattle.hex.specs.Hex.{decode_pairs, encode_lower, hex_digit_value, lower_digits, pair_value};
+ghost use Rattle.hex.specs.Hex.{decode_pairs, hex_digit_value, pair_value};
 
 /// For each byte its value as a digit, in either case, or 16 where it is none. A table has no branch, and digits come
 /// at random.
@@ -55,30 +55,4 @@ pub(crate) fn decode_into(digits: &[u8], bytes: &mut [u8]) -> bool
         }
     }
     true
-}
-
-/// The digit of a value. Without a table many are made at once.
-#[inline]
-fn lower_digit(value: u8) -> u8
-    requires { value < 16 }
-    ensures { result ≡ slice_index lower_digits value }
-{
-    if value > 9 {
-        value + (b'a' - 10)
-    } else {
-        value + b'0'
-    }
-}
-
-/// Fills a text with the two digits of each byte.
-#[inline]
-pub(crate) fn encode_into(bytes: &[u8], digits: &mut [u8])
-    requires { length digits.old ≡ 2 * length bytes.now }
-    ensures { digits.new ≡ encode_lower bytes.now }
-{
-    'bytes: for place in 0..bytes.len() {
-        let byte = bytes[place];
-        digits[2 * place] = lower_digit(byte / 16);
-        digits[2 * place + 1] = lower_digit(byte % 16);
-    }
 }

@@ -6,7 +6,6 @@ ghost use Rattle.hex.specs.Hex.{encode_lower};
 ghost use Rattle.sd_script.specs.Texts.{HasNoShortLine, answer_line, reply_line, word_text};
 
 use crate::answer::Answer;
-use crate::digits::encode_into;
 use sd_command::Reply;
 use std::io;
 use std::io::Write;
@@ -127,7 +126,7 @@ fn put_bytes(bytes: &[u8], text: &mut [u8])
     let (word, rest) = text.split_at_mut(6);
     let (digits, end) = rest.split_at_mut(2 * bytes.len());
     word.copy_from_slice(b"bytes ");
-    encode_into(bytes, &mut *digits);
+    hex::encode_to_slice(bytes, &mut *digits).unwrap();
     end.copy_from_slice(b"\n");
 }
 
@@ -152,7 +151,7 @@ fn print_part<W: Write>(bytes: &[u8], out: &mut W) -> io::Result<()>
 {
     let mut text = [0; 2 * PART];
     let digits = &mut text[..2 * bytes.len()];
-    encode_into(bytes, &mut *digits);
+    hex::encode_to_slice(bytes, &mut *digits).unwrap();
     out.write_all(digits)
 }
 

@@ -1,7 +1,0 @@
--- The digits so far and those of the other bytes are those of all.
-use Rattle.std.proofs.Common.{◌≡◌, ◌*◌, ◌++◌, take, drop}
-use Rattle.hex.specs.Hex.{encode_lower}
-use Rattle.sd_script.proofs.digits.encode_into.Given as goal
-
-abbrev pub invariant-bytes : goal.invariant-bytes
-invariant-bytes l = take (2 * l.place) l.digits ++ encode_lower (drop l.place l.bytes) ≡ encode_lower l.bytes
