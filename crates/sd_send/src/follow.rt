@@ -14,7 +14,7 @@ use std::thread;
 use std::time::{Clock, Duration};
 
 /// How long a sender waits before it looks at the store again, in milliseconds.
-const PAUSE: u64 = 10;
+const PAUSE: u64 = 20;
 
 /// The base of a stream, or why the store has none.
 type FoundBase = Result<Option<Base>, SendError>;

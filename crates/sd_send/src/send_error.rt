@@ -14,7 +14,7 @@ pub enum SendError {
     Fault(Fault),
     /// The store has no image of the checkpoint that the receiver has.
     NotThere,
-    /// The store has no longer the checkpoint that was sent last, nor a newer one that is whole without it.
+    /// The store has no longer the checkpoint that was sent last, nor a newer one.
     Gone(u64),
     /// The stream's output failed, or the images can't stand in a stream.
     Stream(WriteError),

@@ -13,7 +13,7 @@ use crate::sending::{PIECE, send_images};
 use crate::sent::Sent;
 use sd_chain::{Catalog, OpenImage};
 use sd_disk::Disk;
-use sd_restore::{Fault, place_newest};
+use sd_restore::Fault;
 use sd_stream::{Base, StreamWriter};
 use std::alloc::Global;
 use std::io::Write;
@@ -53,15 +53,6 @@ fn are_in_slots(images: &[&OpenImage], slots: usize) -> bool
         }
     }
     true
-}
-
-/// Checks that each page of the newest checkpoint stands in an image, where there is one.
-fn check_pages(alloc: Global, catalog: &Catalog) -> Result<(), Fault> {
-    catalog.sound();
-    match place_newest(alloc, catalog) {
-        Ok(_) | Err(Fault::EmptyChain) => Ok(()),
-        Err(fault) => Err(fault),
-    }
 }
 
 /// The newest checkpoint of a catalog.
@@ -125,7 +116,7 @@ impl<W: Write> Sender<W> {
     ///
     /// # Errors
     ///
-    /// `Gone` where the store has neither the checkpoint that was sent last nor a newer one that is whole without it.
+    /// `Gone` where the store has neither the checkpoint that was sent last nor a newer one.
     /// `Fault`: what is wrong with the store; `Device` also where an image was closed meanwhile. `Stream`: the output
     /// failed, or an image can't stand in the stream. After an error of `Fault` or `Stream` the stream can't go on.
     pub fn more<D: Disk>(
@@ -140,7 +131,6 @@ impl<W: Write> Sender<W> {
         ensures reads { OnlyReads D.Disk disk.old disk.new }
     {
         let stop = stop_after(catalog, self.last)?;
-        check_pages(alloc, catalog)?;
         let images = images_since(alloc, catalog, stop)?;
         if !are_in_slots(&images, disk.slots()) {
             return Err(SendError::Fault(Fault::Device));
