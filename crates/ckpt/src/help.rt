@@ -234,8 +234,8 @@ further checkpoint is sent as it comes, until the run ends.
 
 Status: 0 where all was sent; 3 where the store shows no checkpoint, or has no image of checkpoint
 N; 1 where the store, its device, memory or the writing failed, DIR isn't opened, the checkpoint
-that was sent last is gone (with --follow), or the standard output is a terminal; 2 for a fault of the command line. Standard output has a stream or a beginning
-of one, and nothing else.";
+that was sent last is gone (with --follow), or the standard output is a terminal; 2 for a fault of
+the command line. Standard output has a stream or a beginning of one, and nothing else.";
 
 pub const RECEIVE: &str = "Example:
   ckpt send store | ckpt receive other

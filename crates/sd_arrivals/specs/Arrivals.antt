@@ -69,8 +69,8 @@ abbrev pub lines_with : Result Received ReceiveError → List ℕ
 lines_with (Ok received) = flat_map received_line (numbers_received received)
 lines_with (Err error) = []
 
--- A store received the checkpoints of these numbers. After the last of them a crash leaves that, or the next; at the end
--- of the stream that. For each a line was printed, and nothing else.
+-- A store received the checkpoints of these numbers. After the last of them a crash leaves that, or the next; at the
+-- end of the stream that. For each a line was printed, and nothing else.
 pub record IsReceived {D X : Type 0} (g : Ghosts D) (old new : D) (shown : Option (ℕ × PlainMemory)) (numbers : List ℕ)
     (before after : Option (List ℕ)) (result : Result X ReceiveError) : Type 0 where
   pub at : D

@@ -18,9 +18,9 @@ const FAILED: u8 = 1;
 /// What is reported of an input on a terminal.
 const IS_TERMINAL: &str = "a stream isn't read from a terminal: lead one into the standard input";
 
-/// What is reported where no slot is free but one for a merge.
+/// What is reported where no slot is free.
 const IS_FULL: &str =
-    "too few slots are free: merge DIR first, where the sender's store was merged too";
+    "no slot is free, and a merge needs one: receive the whole into another folder";
 
 /// A checkpoint by its number, or none.
 #[derive(Clone, Copy)]

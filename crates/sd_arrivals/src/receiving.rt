@@ -89,8 +89,8 @@ fn receive_all<D: Disk, R: Read, W: Write>(
     Err(ReceiveError::Stream(StreamError::Over))
 }
 
-/// Takes the images of a stream into a store, and prints `received N` after each checkpoint, once it is durable. Returns
-/// how many images were received.
+/// Takes the images of a stream into a store, and prints `received N` after each checkpoint, once it is durable.
+/// Returns how many images were received.
 ///
 /// # Errors
 ///

@@ -34,8 +34,8 @@ pub record HasSent {W : Type 0} (text : W → Option (List ℕ)) (before : Optio
   pub base : now.base ≡ p.base
   pub groups : now.groups ++ grouped contents (files_of now) left ≡ p.groups ++ grouped contents (files_of p) all
 
--- After what was there the images of the newest checkpoint of a catalog were written, parents first, back to that of some
--- slot, or to the first.
+-- After what was there the images of the newest checkpoint of a catalog were written, parents first, back to that of
+-- some slot, or to the first.
 pub record SendsNewest {W : Type 0} (text : W → Option (List ℕ)) (before : Option (List ℕ)) (p : Progress)
     (contents : List (List ℕ)) (places : Places) (writer : StreamWriter W) : Type 0 where
   pub stop : Option ℕ
