@@ -44,8 +44,8 @@ _ckpt() {
     verify) options="--checkpoint --at-least --json" ;;
     export) options="--checkpoint --force --notes --space" ;;
     drop) options="--force" ;;
-    send) options="--since" ;;
-    receive) options="--tip" ;;
+    send) options="--follow --json --since" ;;
+    receive) options="--json --tip" ;;
     import) options="--rounds --space --stats --summary" ;;
     merge) options="--stats --summary" ;;
     help)

@@ -26,7 +26,7 @@ a_stream_is_received() {
   "$ckpt" send -q store > stream || return 1
   ends_with 0 "received 1
 received 2
-received 3" "" "$ckpt" receive other < stream || return 1
+received 3" "received 5 images" "$ckpt" receive other < stream || return 1
   same "the memory" "$(shown other)" "$(shown store)" || return 1
   for checkpoint in 1 2; do
     same "checkpoint $checkpoint" "$("$ckpt" restore --checkpoint $checkpoint other)" \
@@ -40,7 +40,7 @@ what_came_since_is_received() {
   "$ckpt" send -q store | "$ckpt" receive other > out || return 1
   make_more store || return 1
   ends_with 0 "received 4
-received 5" "" "$ckpt" receive other < more || return 1
+received 5" "received 3 images" "$ckpt" receive other < more || return 1
   same "the memory" "$(shown other)" "$(shown store)" || return 1
   ends_with 1 "base differs: other shows 5, the stream begins at 3" "" "$ckpt" receive other < more || return 1
   same "nothing new" "$("$ckpt" send -q --since 5 store | "$ckpt" receive other)" "" || return 1
@@ -129,26 +129,133 @@ a_changed_byte_is_refused() {
   done
 }
 
+# What a store has whose receiver was cut off: nothing, where none was printed, or a checkpoint of the sender from the
+# last that was printed on.
+keeps_what_was_printed() {  # keeps_what_was_printed STORE OUT
+  local last
+  last=$(grep received "$2" | tail -n 1 | cut -d ' ' -f 2)
+  case $("$ckpt" verify -q "$1" 2> err | cut -d ' ' -f 1-3) in
+    "ok checkpoint "*) ;;
+    "ok empty" | "" | "cannot open DIR") [ -z "$last" ] || { echo "nothing after received $last"; return 1; }; return 0 ;;
+    *) "$ckpt" verify "$1"; return 1 ;;
+  esac
+  "$ckpt" verify -q --at-least "${last:-1}" "$1" > verdict || { cat verdict; return 1; }
+  last=$("$ckpt" receive --tip "$1" | cut -d ' ' -f 2)
+  same "the memory" "$("$ckpt" restore "$1")" "$("$ckpt" restore --checkpoint "$last" store)"
+}
+
+# How often a receiver or a sender is killed.
+kills() {
+  if [ -z "${CHECKED:-}" ]; then echo 50; else echo 6; fi
+}
+
 a_killed_receiver_keeps_what_it_printed() {
   make_sender store || return 1
   "$ckpt" send -q store > stream
-  local turn last
-  for turn in $(seq 1 20); do
+  local turn
+  for turn in $(seq 1 "$(kills)"); do
     rm -rf other
-    { cat stream; sleep 1; } | "$ckpt" receive other > out 2> err &
+    { cat stream; sleep 1; } | "$ckpt" receive -q other > out 2> err &
     sleep 0.0$((RANDOM % 5))$((RANDOM % 10))
     kill -9 $! 2> /dev/null
     wait $! 2> /dev/null
-    last=$(grep received out | tail -n 1 | cut -d ' ' -f 2)
-    case $("$ckpt" verify -q other 2> err | cut -d ' ' -f 1-3) in
-      "ok checkpoint "*) ;;
-      "ok empty" | "" | "cannot open DIR") [ -z "$last" ] || { echo "nothing after received $last"; return 1; }; continue ;;
-      *) "$ckpt" verify other; return 1 ;;
-    esac
-    "$ckpt" verify -q --at-least "${last:-1}" other > verdict || { cat verdict; return 1; }
-    last=$("$ckpt" receive --tip other | cut -d ' ' -f 2)
-    same "the memory" "$("$ckpt" restore other)" "$("$ckpt" restore --checkpoint "$last" store)" || return 1
+    keeps_what_was_printed other out || return 1
   done
+}
+
+a_killed_sender_leaves_what_arrived() {
+  { echo 'mmap 1 0x10000 0x100000 rw'
+    for i in 1 2 3; do
+      for page in $(seq 0 255); do printf 'store 1 0x%x 0%d\n' $((0x10000 + page * 4096)) $i; done
+      echo 'checkpoint 0'
+    done; } > script
+  "$ckpt" run store script > made
+  same "the run" "$(grep -c acked made)" 3 || return 1
+  local turn sender
+  mkfifo pipe
+  for turn in $(seq 1 "$(kills)"); do
+    rm -rf other
+    "$ckpt" receive -q other < pipe > out 2> err &
+    "$ckpt" send -q store > pipe 2> err &
+    sender=$!
+    sleep 0.0$((RANDOM % 6))$((RANDOM % 10))
+    kill -9 $sender 2> /dev/null
+    wait 2> /dev/null
+    case $(tail -n 1 out) in
+      "stream ends early" | "received 3") ;;
+      *) cat out; return 1 ;;
+    esac
+    keeps_what_was_printed other out || return 1
+  done
+}
+
+# Waits until a file has a line, for some seconds.
+waits_for() {  # waits_for LINE FILE
+  local turn
+  for turn in $(seq 1 300); do
+    grep -qx "$1" "$2" && return 0
+    sleep 0.1
+  done
+  echo "no $1 in $2:"
+  cat "$2"
+  return 1
+}
+
+# `send --follow` beside a shell: each checkpoint arrives as it is made, also after a merge, and the stream ends with the
+# run.
+a_run_is_followed() {
+  mkfifo words
+  "$ckpt" shell store < words > answers 2> err &
+  exec 9> words
+  printf '%s\n' 'mmap 1 0x10000 8192 rw' 'store 1 0x10000 61' 'checkpoint 0' >&9
+  waits_for "acked 1" answers || return 1
+  "$ckpt" send --follow store 2> sent 9>&- | "$ckpt" receive --json other > got 2> told 9>&- &
+  local receiver=$!
+  waits_for "received 1" got || return 1
+  printf '%s\n' 'store 1 0x11000 62' 'checkpoint 2' >&9
+  waits_for "received 2" got || return 1
+  printf '%s\n' 'merge' 'store 1 0x10000 63' 'checkpoint 0' >&9
+  waits_for "received 3" got || return 1
+  exec 9>&-
+  wait $receiver
+  same "the status" $? 0 || return 1
+  same "the images" "$(cat told)" '{"images":5}' || return 1
+  same "what was sent" "$(cut -d ' ' -f 1-3 sent)" "sent 5 images" || return 1
+  same "the memory" "$("$ckpt" restore other)" "$("$ckpt" restore store)"
+}
+
+# A sender that follows a run and is killed: what the receiver printed is there, and a second one goes on from it.
+a_killed_follower_is_taken_up_again() {
+  mkfifo words pipe
+  "$ckpt" shell store < words > answers 2> err &
+  exec 9> words
+  printf '%s\n' 'mmap 1 0x10000 8192 rw' 'store 1 0x10000 61' 'checkpoint 0' >&9
+  waits_for "acked 1" answers || return 1
+  "$ckpt" receive -q other < pipe > got 9>&- &
+  local receiver=$! sender
+  "$ckpt" send -q --follow store > pipe 9>&- &
+  sender=$!
+  waits_for "received 1" got || return 1
+  kill -9 $sender
+  wait $receiver
+  same "the end" "$(tail -n 1 got)" "stream ends early" || return 1
+  printf '%s\n' 'store 1 0x11000 62' 'checkpoint 0' >&9
+  waits_for "acked 2" answers || return 1
+  "$ckpt" send -q --follow --since 1 store 9>&- | "$ckpt" receive -q other > got 9>&- &
+  receiver=$!
+  waits_for "received 2" got || return 1
+  exec 9>&-
+  wait $receiver
+  same "the status" $? 0 || return 1
+  same "the memory" "$("$ckpt" restore other)" "$("$ckpt" restore store)"
+}
+
+a_receiver_stands_behind_ssh() {
+  ssh -o BatchMode=yes -o ConnectTimeout=2 localhost true 2> err || { echo "needs ssh to localhost"; return 77; }
+  make_sender store || return 1
+  "$ckpt" send -q store | ssh -o BatchMode=yes localhost "'$ckpt' receive -q '$PWD/other'" > out || { cat out; return 1; }
+  same "the last line" "$(tail -n 1 out)" "received 3" || return 1
+  same "the memory" "$(shown other)" "$(shown store)"
 }
 
 a_damaged_store_takes_nothing() {
@@ -165,13 +272,14 @@ no_slot_is_left() {
   { echo 'mmap 1 0x10000 4096 rw'; for i in $(seq 1 63); do echo 'checkpoint 0'; done; } > script
   "$ckpt" run store script > made
   same "the run" "$(grep -c acked made)" 63 || return 1
-  "$ckpt" send -q store | "$ckpt" receive other > out || { tail -n 1 out; return 1; }
+  "$ckpt" send -q store | "$ckpt" receive -q other > out || { tail -n 1 out; return 1; }
   "$ckpt" merge store > out || return 1
   printf '%s\n' 'checkpoint 0' 'checkpoint 0' > script
   "$ckpt" run store script > out || return 1
   "$ckpt" send -q --since 63 store > more || return 1
   ends_with 1 "received 64
-no-slot" "" "$ckpt" receive other < more || return 1
+no-slot" "ckpt: other: no slot is free, and a merge needs one: receive the whole into another folder" \
+    "$ckpt" receive other < more || return 1
   same "the verdict" "$("$ckpt" verify other)" "ok checkpoint 64 images 64"
 }
 
@@ -208,6 +316,10 @@ try other_bases_are_refused
 try a_stream_that_is_cut_keeps_what_arrived
 try a_changed_byte_is_refused
 try a_killed_receiver_keeps_what_it_printed
+try a_killed_sender_leaves_what_arrived
+try a_run_is_followed
+try a_killed_follower_is_taken_up_again
+try a_receiver_stands_behind_ssh
 try a_damaged_store_takes_nothing
 try no_slot_is_left
 try a_locked_store_is_refused

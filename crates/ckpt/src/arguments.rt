@@ -241,7 +241,20 @@ pub const NEW: Item = Item {
     ..OLD
 };
 
-/// The checkpoint that the receiver has.
+/// How much was sent or received, as a document.
+pub const JSON_REPORT: Item = Item {
+    name: "json",
+    help: "Reports how much it was as one JSON document on standard error",
+    ..FLAG
+};
+
+/// Whether a sender goes on beside a run.
+pub const FOLLOW: Item = Item {
+    name: "follow",
+    help: "Goes on beside a run that writes the store: sends each further checkpoint as it comes, until the run ends",
+    ..FLAG
+};
+
 /// Only what a stream has to continue.
 pub const TIP: Item = Item {
     name: "tip",
@@ -249,6 +262,7 @@ pub const TIP: Item = Item {
     ..FLAG
 };
 
+/// The checkpoint that the receiver has.
 pub const SINCE: Item = Item {
     name: "since",
     help: "The checkpoint that the receiver shows, which the images that are sent continue; without it all are sent",

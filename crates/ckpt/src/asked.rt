@@ -10,6 +10,7 @@ use sd_program::{Called, Causes};
 use sd_queries::{Compared, Query};
 use sd_readers::{Reader, ReaderAt};
 use sd_run::Rule;
+use sd_send::SendAsked;
 use sd_watching::CountsAsked;
 
 /// Whether the words ask for causes and progress on the standard error.
@@ -76,6 +77,15 @@ pub fn import_asked<'a>(words: &ArgMatches<'a>) -> ImportAsked<'a> {
         space: SpaceId::new(words.get_one::<u64>("space").unwrap_or(1)),
         rounds: words.get_one::<u64>("rounds").unwrap_or(0),
         counts: counts_asked(words),
+    }
+}
+
+/// What the words ask of a sender.
+pub fn send_asked(words: &ArgMatches<'_>) -> SendAsked {
+    SendAsked {
+        since: words.get_one::<u64>("since"),
+        follow: words.get_flag("follow"),
+        as_json: words.get_flag("json"),
     }
 }
 

@@ -1,9 +1,9 @@
 //! The words that the program is called with: each program's arguments as tables, and the command line that they make.
 
 use crate::arguments::{
-    AT_LEAST, CHECK, CHECKPOINT, CORES, DIR, DIR_TO_RUN, FORCE, FORCE_DROP, Form, Item, JSON, NEW,
-    NOTES, Numbers, OLD, ONE_SPACE, OUT, QUIET, RESTORES, ROUNDS, SCRIPT, SINCE, SLOT,
-    SLOT_TO_DROP, SPACE, STATS, STRICT, SUMMARY, THREADS, TIP, VERBOSE,
+    AT_LEAST, CHECK, CHECKPOINT, CORES, DIR, DIR_TO_RUN, FOLLOW, FORCE, FORCE_DROP, Form, Item,
+    JSON, JSON_REPORT, NEW, NOTES, Numbers, OLD, ONE_SPACE, OUT, QUIET, RESTORES, ROUNDS, SCRIPT,
+    SINCE, SLOT, SLOT_TO_DROP, SPACE, STATS, STRICT, SUMMARY, THREADS, TIP, VERBOSE,
 };
 use crate::help::{
     DIFF, DROP, EXPORT, HISTORY, IMPORT, LIMITS, LIST, MERGE, MUTATE, RECEIVE, RESTORE, RUN_HEAD,
@@ -146,14 +146,14 @@ const PROGRAMS: [Program; 15] = [
         name: "send",
         work: Work::Send,
         about: "Writes the images of the newest checkpoint of a folder's store as a stream",
-        items: &[DIR, SINCE],
+        items: &[DIR, SINCE, FOLLOW, JSON_REPORT],
         after: Some(SEND),
     },
     Program {
         name: "receive",
         work: Work::Receive,
         about: "Takes the images of a stream from the standard input into the store in a folder",
-        items: &[DIR, TIP],
+        items: &[DIR, TIP, JSON_REPORT],
         after: Some(RECEIVE),
     },
 ];

@@ -222,18 +222,20 @@ Only one of run, shell, merge, mutate, import and drop can have a store open at 
 pub const SEND: &str = "Example:
   ckpt send store > stream
   ckpt send --since 5 store > stream
+  ckpt send --follow store | ssh HOST ckpt receive other
 
 Writes the images of the newest checkpoint as a stream, parents first, with the number of each
 checkpoint after its last image, and at the end the SHA-256 of all of it; docs/FORMATS.md has its
 bytes. With --since N the images that lead from checkpoint N to the newest, for a receiver that
 has N; all of them where its image doesn't lead there. It never writes into DIR. When all is sent,
-standard error has sent COUNT images BYTES bytes. Beside a run it fails where an image that it
-sends is closed meanwhile.
+standard error has sent COUNT images BYTES bytes, with --json a document of both. Beside a run it
+fails where an image that it sends is closed meanwhile. With --follow it goes on beside a run: each
+further checkpoint is sent as it comes, until the run ends.
 
 Status: 0 where all was sent; 3 where the store shows no checkpoint, or has no image of checkpoint
-N; 1 where the store, its device, memory or the writing failed, DIR isn't opened, or the standard
-output is a terminal; 2 for a fault of the command line. Standard output has a stream or a beginning
-of one, and nothing else.";
+N; 1 where the store, its device, memory or the writing failed, DIR isn't opened, the checkpoint
+that was sent last is gone (with --follow), or the standard output is a terminal; 2 for a fault of
+the command line. Standard output has a stream or a beginning of one, and nothing else.";
 
 pub const RECEIVE: &str = "Example:
   ckpt send store | ckpt receive other
@@ -247,7 +249,8 @@ and none before the last received N. An image is there only after its header, it
 digest were checked. A stream of send --since N is taken where the store shows N with the same
 memory, one without --since where it shows no checkpoint. Pre-dumps that a stream left which was cut
 off are closed before. With --tip it only prints tip N DIGEST: what the store shows, and the SHA-256
-of what restore prints of it.
+of what restore prints of it. When all was received, standard error has received COUNT images. With
+--json that is a document, and so is what --tip prints.
 
 Status: 0 where all was received, or the tip was printed; 3 where there is no tip (empty chain); 1
 where the stream ends early, is damaged (damaged stream WHY) or continues another checkpoint (base

@@ -3,7 +3,7 @@
 
 use asked::{
     called_by, counts_asked, difference_asked, export_asked, history_asked, import_asked,
-    query_asked, run_asked,
+    query_asked, run_asked, send_asked,
 };
 use called::{NOTHING, hold_descriptors, print_words_fault, words_of};
 use clap::ArgMatches;
@@ -44,10 +44,11 @@ fn receive_or_tip<R: Clock + Wait, W: Write>(
     words: &ArgMatches<'_>,
     out: &mut Output<W>,
 ) -> Result<u8, Stop> {
+    let as_json = words.get_flag("json");
     if words.get_flag("tip") {
-        return tip_program(called, out);
+        return tip_program(called, as_json, out);
     }
-    receive_program(called, clock, out)
+    receive_program(called, clock, as_json, out)
 }
 
 /// Runs a program that only reads, or that changes no more than one image.
@@ -71,7 +72,7 @@ fn read_by<R: Clock + Wait, W: Write>(
             words.get_flag("force"),
             out,
         ),
-        Work::Send => send_program(called, words.get_one::<u64>("since"), out),
+        Work::Send => send_program(called, clock, send_asked(words), out),
         _ => export_program(called, clock, export_asked(words), out),
     }
 }

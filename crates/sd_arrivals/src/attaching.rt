@@ -10,6 +10,8 @@ ghost use Rattle.sd_chain.specs.Ways.{AreImages};
 ghost use Rattle.sd_receive.specs.Arrived.{IsReady};
 ghost use Rattle.sd_receive.specs.Arriving.{IsSettled};
 ghost use Rattle.sd_send.specs.Sent.{IsDigestAt};
+ghost use Rattle.sd_stream.specs.Progress.{started};
+ghost use Rattle.sd_stream.specs.Reading.{HasRead};
 ghost use Rattle.sd_arrivals.specs.Arrivals.{Continues, IsAttached};
 
 use crate::leftovers::close_leftovers;
@@ -126,6 +128,9 @@ pub fn begin<D: Disk, R: Read + Drop>(
     // It is attached only where the stream's base is what the store shows.
     ensures attached { D.is_honest disk.new → IfOk result (λ receiver.
         IsAttached (D.contents disk.old) receiver.reader.base) }
+    // Of the stream the head was read.
+    ensures begun { IfOk result (λ receiver.
+        HasRead R.remaining (R.remaining input) (started receiver.reader.base) receiver.reader) }
     ensures ready { D.is_honest disk.new → IfOk result (λ receiver.
         IsReady (D.contents disk.new) (D.may_leave disk.new) receiver.catalog) }
     ensures images { IfOk result (λ receiver. AreImages receiver.catalog) }

@@ -2,7 +2,7 @@
 
 use crate::receiving::receive;
 use sd_exit::{Output, Stop, exit};
-use sd_program::{Called, unseen};
+use sd_program::{Called, Causes, unseen};
 use sd_receive::ReceiveError;
 use sd_restore::{Fault, newest_checkpoint, scan};
 use sd_send::memory_digest;
@@ -17,6 +17,10 @@ const FAILED: u8 = 1;
 
 /// What is reported of an input on a terminal.
 const IS_TERMINAL: &str = "a stream isn't read from a terminal: lead one into the standard input";
+
+/// What is reported where no slot is free.
+const IS_FULL: &str =
+    "no slot is free, and a merge needs one: receive the whole into another folder";
 
 /// A checkpoint by its number, or none.
 #[derive(Clone, Copy)]
@@ -73,12 +77,26 @@ fn print_error<W: Write>(
         ReceiveError::Fault(fault) => return Err(Stop::Fault(fault)),
         ReceiveError::Output(error) => return Err(Stop::Writer(error)),
         ReceiveError::BaseDiffers { shows, base } => print_base(called, shows, base, out)?,
-        ReceiveError::NoSlot | ReceiveError::Stream(StreamError::EndsEarly) => {
+        ReceiveError::NoSlot => {
+            called.tell(&IS_FULL);
             writeln!(out, "{error}")?
         }
+        ReceiveError::Stream(StreamError::EndsEarly) => writeln!(out, "{error}")?,
         error => writeln!(out, "damaged stream {error}")?,
     }
     Ok(())
+}
+
+/// Reports how many images were received.
+fn tell_received(called: Called<'_>, as_json: bool, images: u64) {
+    if called.causes != Causes::Told {
+        return;
+    }
+    if as_json {
+        let _ = eprintln!(called.rt; "{{\"images\":{images}}}");
+    } else {
+        let _ = eprintln!(called.rt; "received {images} images");
+    }
 }
 
 /// `ckpt receive`. The folder is made where it is missing.
@@ -89,6 +107,7 @@ fn print_error<W: Write>(
 pub fn receive_program<R: Clock + Wait, W: Write>(
     called: Called<'_>,
     clock: &R,
+    as_json: bool,
     out: &mut Output<W>,
 ) -> Result<u8, Stop> {
     if called.rt.stdin().is_terminal() {
@@ -101,11 +120,27 @@ pub fn receive_program<R: Clock + Wait, W: Write>(
     let ended = receive(called.rt.alloc(), &mut disk, called.rt.stdin(), out);
     called.report_device(&unseen(disk));
     match ended {
-        Ok(()) => Ok(exit(&Ok(()), out)),
+        Ok(images) => {
+            tell_received(called, as_json, images);
+            Ok(exit(&Ok(()), out))
+        }
         Err(error) => {
             print_error(called, error, out)?;
             Ok(out.finish(FAILED))
         }
+    }
+}
+
+/// A digest, as it is printed.
+#[derive(Clone, Copy)]
+struct Hex([u8; 32]);
+
+impl fmt::Display for Hex {
+    fn fmt<W: fmt::Write>(&self, f: &mut fmt::Formatter<W>) -> fmt::Result {
+        for byte in self.0 {
+            write!(f, "{byte:02x}")?;
+        }
+        Ok(())
     }
 }
 
@@ -114,17 +149,21 @@ pub fn receive_program<R: Clock + Wait, W: Write>(
 /// # Errors
 ///
 /// Those of a folder that isn't opened, of the store, and of the printing.
-pub fn tip_program<W: Write>(called: Called<'_>, out: &mut Output<W>) -> Result<u8, Stop> {
+pub fn tip_program<W: Write>(
+    called: Called<'_>,
+    as_json: bool,
+    out: &mut Output<W>,
+) -> Result<u8, Stop> {
     let mut disk = called.open_store()?;
     let catalog = scan(called.rt.alloc(), &mut disk)?;
     let Some(number) = newest_checkpoint(&catalog) else {
         return Err(Stop::Fault(Fault::EmptyChain));
     };
-    let digest = memory_digest(called.rt.alloc(), &mut disk, number)?;
-    write!(out, "tip {number} ")?;
-    for byte in digest {
-        write!(out, "{byte:02x}")?;
+    let digest = Hex(memory_digest(called.rt.alloc(), &mut disk, number)?);
+    if as_json {
+        writeln!(out, "{{\"digest\":\"{digest}\",\"tip\":{number}}}")?;
+    } else {
+        writeln!(out, "tip {number} {digest}")?;
     }
-    writeln!(out)?;
     Ok(exit(&Ok(()), out))
 }

@@ -21,7 +21,7 @@ use Rattle.sd_chain.specs.Catalog.{Changes, Opened, Places, place_of}
 use Rattle.sd_chain.specs.Store.{IsCatalogOf}
 use Rattle.sd_stream.specs.declared.reader.StreamReader.{StreamReader}
 use Rattle.sd_stream.specs.Progress.{Progress}
-use Rattle.sd_stream.specs.Reading.{HasRead}
+use Rattle.sd_stream.specs.Reading.{HasRead, HasReadAll}
 use Rattle.sd_stream.specs.Stream.{Group}
 use Rattle.sd_receive.specs.declared.arrived.Arrived.{Arrived}
 use Rattle.sd_receive.specs.declared.receiver.Received.{Received}
@@ -95,12 +95,24 @@ pub record HasMore {R : Type 0} (remaining : R → Option (List ℕ)) (before : 
     (numbers : List ℕ) (reader : StreamReader R) : Type 0 where
   pub now : Progress
   pub read : HasRead remaining before now reader
+  pub base : now.base ≡ p.base
   pub more : numbers_so_far now ≡ numbers_so_far p ++ numbers
 
 -- from one reader to another
 abbrev pub GoesOn : {R : Type 0} → (R → Option (List ℕ)) → StreamReader R → List ℕ → StreamReader R → Type 0
 GoesOn remaining old numbers new =
     (before : Option (List ℕ)) (p : Progress) → HasRead remaining before p old → HasMore remaining before p numbers new
+
+-- to the end of a stream: no checkpoint came more
+abbrev pub ReadsAll : {R : Type 0} → (R → Option (List ℕ)) → StreamReader R → StreamReader R → Type 0
+ReadsAll remaining old new =
+    (before : Option (List ℕ)) (p : Progress) → HasRead remaining before p old → HasReadAll remaining before p new
+
+-- what was read with what was received: a pre-dump, a checkpoint that is acknowledged, or the end of the stream
+abbrev pub ReadsNext : {R : Type 0} → (R → Option (List ℕ)) → StreamReader R → StreamReader R → Received → Type 0
+ReadsNext remaining old new received.PreDump = GoesOn remaining old [] new
+ReadsNext remaining old new (received.Checkpoint n) = GoesOn remaining old (n ∷ []) new
+ReadsNext remaining old new received.End = ReadsAll remaining old new
 
 -- the checkpoint that an image of this kind ends
 abbrev pub number_with : Kind → ℕ → List ℕ

@@ -11,7 +11,8 @@ ghost use Rattle.sd_image.specs.Table.{IsTable, listing_of};
 ghost use Rattle.sd_chain.specs.Catalog.{Opened, images};
 ghost use Rattle.sd_chain.specs.Store.{IsCatalogOf};
 ghost use Rattle.sd_chain.specs.Ways.{AreImages};
-ghost use Rattle.sd_receive.specs.Arrived.{AddsImage, GoesOn, IsReady, Receives, number_with, numbers_received};
+ghost use Rattle.sd_receive.specs.Arrived.{AddsImage, GoesOn, IsReady, ReadsNext, Receives, number_with};
+ghost use Rattle.sd_receive.specs.Arrived.{numbers_received};
 ghost use Rattle.sd_receive.specs.Arrived.{opened_with};
 ghost use Rattle.sd_receive.specs.declared.receiver.Received.TheVariants as received;
 
@@ -122,6 +123,7 @@ fn received_with(header: &Header) -> Received
     ensures pre_dump { header.now.kind ≡ PreDump → result ≡ received.PreDump }
     ensures dump { header.now.kind ≢ PreDump → result ≡ received.Checkpoint header.now.checkpoint }
     ensures number { numbers_received result ≡ number_with header.now.kind header.now.checkpoint }
+    ensures image { result ≢ received.End }
 {
     match header.kind {
         Kind::PreDump => Received::PreDump,
@@ -244,7 +246,8 @@ impl<R: Read> Receiver<R> {
             → IsReady (D.contents disk.old) (D.may_leave disk.old) self.old.catalog
             → OnOk result (IsReady (D.contents disk.new) (D.may_leave disk.new) self.new.catalog) }
         ensures images { OnOk result (AreImages self.new.catalog) }
-        ensures reads { IfOk result (λ r. GoesOn R.remaining self.old.reader (numbers_received r) self.new.reader) }
+        ensures image { IfOk result (λ r. r ≢ received.End) }
+        ensures reads { IfOk result (ReadsNext R.remaining self.old.reader self.new.reader) }
         ensures honest { D.is_honest disk.new → D.is_honest disk.old }
     {
         self.catalog.sound();
@@ -276,9 +279,8 @@ impl<R: Read> Receiver<R> {
             → IsReady (D.contents disk.old) (D.may_leave disk.old) self.old.catalog
             → OnOk result (IsReady (D.contents disk.new) (D.may_leave disk.new) self.new.catalog) }
         ensures images { OnOk result (AreImages self.new.catalog) }
-        // A checkpoint is one that the stream acknowledged.
-        ensures acknowledged { IfOk result (λ r. r ≢ received.End
-            → GoesOn R.remaining self.old.reader (numbers_received r) self.new.reader) }
+        // A checkpoint is the one that the stream acknowledges next, and at the end the stream is whole.
+        ensures reads { IfOk result (ReadsNext R.remaining self.old.reader self.new.reader) }
         ensures honest { D.is_honest disk.new → D.is_honest disk.old }
     {
         match self.reader.next()? {

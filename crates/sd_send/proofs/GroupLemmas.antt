@@ -3,7 +3,8 @@ use Rattle.std.proofs.Common.{◌≡◌, ℕ, ◌+◌, ◌-◌, ◌<◌, List, [
 use Rattle.std.specs.Prelude.{slice_range}
 use Rattle.std.proofs.Math.Seq.{take-add}
 use Rattle.std.proofs.lemmas.List.{drop_more, get_or-map, length-map}
-use Rattle.std.specs.Io.KnownBytes.{Appends}
+use Rattle.std.specs.Io.KnownBytes.{Appends, Keeps}
+use Rattle.std.proofs.KnownBytes.{Appends-kept}
 use Rattle.sd_disk.specs.Contents.{file_at}
 use Rattle.sd_image.specs.declared.header.Kind.{Kind}
 use Rattle.sd_image.specs.declared.header.Kind.TheVariants.{PreDump, Dump, Merged}
@@ -11,8 +12,10 @@ use Rattle.sd_chain.specs.Catalog.{Opened, Places}
 use Rattle.sd_chain.specs.Store.{IsCatalogOf}
 use Rattle.sd_stream.specs.declared.base.Base.{Base}
 use Rattle.sd_stream.specs.declared.writer.StreamWriter.{StreamWriter}
-use Rattle.sd_stream.specs.Progress.{Progress, files_of, started}
+use Rattle.sd_stream.specs.declared.tally.Tally.{Tally}
+use Rattle.sd_stream.specs.Progress.{Progress, files_of, progress_text, started}
 use Rattle.sd_stream.specs.Stream.{IsStream, stream_text}
+use Rattle.sd_stream.specs.Tallies.{HasTaken}
 use Rattle.sd_stream.specs.Writing.{HasWritten}
 use Rattle.sd_send.specs.Sent.{AreSince, IsBaseAt, IsStop, closes, grouped}
 use Rattle.sd_send.specs.Sending.{HasSent, SendsStream, with_file, with_kind, with_opened}
@@ -78,3 +81,16 @@ piece_more file done count = ap (λ k. take done file ++ take k (drop done file)
 
 pub appended : (before after text : List ℕ) → before ≡ [] → Appends (Some before) (Some after) text → after ≡ text
 appended before after text none is = is ∙ ap (λ xs. xs ++ text) none
+
+-- what was written is written once it is flushed
+pub flushed : {W : Type 0} (text : W → Option (List ℕ)) (before : Option (List ℕ)) (p : Progress) (old new : StreamWriter W) → HasWritten text before p old
+    → Keeps (text old.out) (text new.out) → new.tally ≡ old.tally → HasWritten text before p new
+flushed text before p old new was keeps same = record {
+  text = subst (λ (t : Tally). Appends before (text new.out) (progress_text p t.left)) (sym same) (Appends-kept before (text old.out) (text new.out) (progress_text p old.tally.left) was.text keeps);
+  taken = subst (λ (t : Tally). HasTaken t p) (sym same) was.taken;
+}
+
+pub sent_flushed : {W : Type 0} (text : W → Option (List ℕ)) (before : Option (List ℕ)) (p : Progress) (contents : List (List ℕ)) (all : List Opened) (old new : StreamWriter W)
+    → HasSent text before p contents all [] old → Keeps (text old.out) (text new.out) → new.tally ≡ old.tally → HasSent text before p contents all [] new
+sent_flushed text before p contents all old new sent keeps same =
+    record { now = sent.now; written = flushed text before sent.now old new sent.written keeps same; base = sent.base; groups = sent.groups }

@@ -1,16 +1,16 @@
 -- How far a store is sent.
-use Rattle.std.specs.Prelude.{◌≡◌, ℕ, List, ◌++◌, Option}
+use Rattle.std.specs.Prelude.{◌≡◌, ℕ, List, [], ◌++◌, Option}
 use Rattle.std.specs.Io.KnownBytes.{Appends}
 use Rattle.sd_disk.specs.Contents.{file_at}
 use Rattle.sd_image.specs.declared.header.Kind.{Kind}
 use Rattle.sd_image.specs.declared.header.Kind.TheVariants.{PreDump, Dump, Merged}
-use Rattle.sd_chain.specs.Catalog.{Opened}
+use Rattle.sd_chain.specs.Catalog.{Opened, Places}
 use Rattle.sd_stream.specs.declared.base.Base.{Base}
 use Rattle.sd_stream.specs.declared.writer.StreamWriter.{StreamWriter}
 use Rattle.sd_stream.specs.Progress.{Progress, files_of, with_acknowledged, with_bytes, with_image}
 use Rattle.sd_stream.specs.Stream.{Group, IsStream, stream_text}
 use Rattle.sd_stream.specs.Writing.{HasWritten}
-use Rattle.sd_send.specs.Sent.{IsSent, grouped}
+use Rattle.sd_send.specs.Sent.{AreSince, IsSent, grouped}
 
 -- after a whole file
 abbrev pub with_file : Progress → List ℕ → Progress
@@ -33,6 +33,15 @@ pub record HasSent {W : Type 0} (text : W → Option (List ℕ)) (before : Optio
   pub written : HasWritten text before now writer
   pub base : now.base ≡ p.base
   pub groups : now.groups ++ grouped contents (files_of now) left ≡ p.groups ++ grouped contents (files_of p) all
+
+-- After what was there the images of the newest checkpoint of a catalog were written, parents first, back to that of
+-- some slot, or to the first.
+pub record SendsNewest {W : Type 0} (text : W → Option (List ℕ)) (before : Option (List ℕ)) (p : Progress)
+    (contents : List (List ℕ)) (places : Places) (writer : StreamWriter W) : Type 0 where
+  pub stop : Option ℕ
+  pub found : List Opened
+  pub reaches : AreSince places stop found
+  pub sent : HasSent text before p contents found [] writer
 
 -- on an output stands what stood there before, and then the stream of what is sent, to its end
 pub record SendsStream (contents : List (List ℕ)) (since : Option ℕ) (before after : Option (List ℕ)) : Type 0 where

@@ -14,8 +14,12 @@ pub enum SendError {
     Fault(Fault),
     /// The store has no image of the checkpoint that the receiver has.
     NotThere,
+    /// The store has no longer the checkpoint that was sent last, nor a newer one.
+    Gone(u64),
     /// The stream's output failed, or the images can't stand in a stream.
     Stream(WriteError),
+    /// The folder isn't opened.
+    Folder(Stop),
 }
 
 impl From<Fault> for SendError {
@@ -50,6 +54,17 @@ impl From<AllocError> for SendError {
 
     fn from(_error: AllocError) -> SendError {
         SendError::Fault(Fault::OutOfMemory)
+    }
+}
+
+impl From<Stop> for SendError {
+    ghost use Rattle.std.specs.Prelude.{◌≡◌};
+    ghost use Rattle.sd_send.specs.declared.send_error.SendError.TheVariants as send;
+
+    ghost from_gives = { λ stop error. error ≡ send.Folder stop };
+
+    fn from(stop: Stop) -> SendError {
+        SendError::Folder(stop)
     }
 }
 

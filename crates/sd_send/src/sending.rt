@@ -20,13 +20,13 @@ use std::alloc::Global;
 use std::io::Write;
 
 /// How many bytes of a file are read at once.
-const PIECE: usize = 65_536;
+pub(crate) const PIECE: usize = 65_536;
 
 /// How much of a slot's file distinguishes its image: with its serial and its digest.
 const FRONT: usize = 96;
 
 /// The base of a stream that continues a checkpoint: its number, and the digest of its memory.
-fn base_of<D: Disk>(
+pub(crate) fn base_of<D: Disk>(
     alloc: Global,
     disk: &mut D,
     since: Option<u64>,
@@ -110,7 +110,7 @@ fn send_image<D: Disk, W: Write>(
 }
 
 /// Writes images, one after the other, and says how much they are.
-fn send_images<D: Disk, W: Write>(
+pub(crate) fn send_images<D: Disk, W: Write>(
     disk: &mut D,
     images: &[&OpenImage],
     writer: &mut StreamWriter<W>,

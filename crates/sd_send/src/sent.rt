@@ -3,10 +3,18 @@
 use std::fmt;
 
 /// How many images were sent, and how many bytes they have.
-#[derive(Clone, Copy)]
+#[derive(Clone, Copy, Default)]
 pub struct Sent {
     pub images: usize,
     pub bytes: u64,
+}
+
+impl Sent {
+    /// Counts what was sent more.
+    pub(crate) fn add(&mut self, more: Sent) {
+        self.images = self.images.saturating_add(more.images);
+        self.bytes = self.bytes.saturating_add(more.bytes);
+    }
 }
 
 impl fmt::Display for Sent {

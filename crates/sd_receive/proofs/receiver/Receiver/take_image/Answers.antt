@@ -8,7 +8,7 @@ use Rattle.sd_receive.specs.Arriving.{IsSettled, KeepsImages, file_of}
 use Rattle.sd_receive.proofs.ArriveLemmas.{at_end, keeps_still}
 use Rattle.sd_receive.proofs.CatalogLemmas.{catalog_kept, free_is_closed}
 use Rattle.sd_receive.proofs.OpenLemmas.{Arrives, kept_after, opened_file, opens_to, ready_after, received_then, receives_nothing, shows_after, span_opens, span_same}
-use Rattle.sd_receive.proofs.StreamLemmas.{goes_on_more}
+use Rattle.sd_receive.proofs.StreamLemmas.{goes_on_more, reads_image}
 use Rattle.sd_receive.proofs.ShowLemmas.{keeps_shows}
 use Rattle.sd_receive.proofs.receiver.Receiver.take_image.Goals as goal
 
@@ -187,6 +187,7 @@ pub returns-clause-reads : goal.returns-clause-reads
 returns-clause-reads g c =
     let from = g.R.Read.remaining in
     let header = c.in_ok-slot.header in
-    subst (λ (numbers : List ℕ). GoesOn from c.args.self.now.reader numbers c.prepare.new.self.reader) (sym c.received_with.ensures.number)
+    reads_image from c.args.self.now.reader c.prepare.new.self.reader c.received_with.result c.received_with.ensures.image
+    (subst (λ (numbers : List ℕ). GoesOn from c.args.self.now.reader numbers c.prepare.new.self.reader) (sym c.received_with.ensures.number)
     (goes_on_more from c.args.self.now.reader c.arrive.new.reader c.prepare.new.self.reader [] (number_with header.kind header.checkpoint)
-    (goes_on_more from c.args.self.now.reader c.choose.new.self.reader c.arrive.new.reader [] [] c.in_ok-slot.ensures.reads c.in_ok-arrived.ensures.reads) c.in_ok-bytes.ensures.reads)
+    (goes_on_more from c.args.self.now.reader c.choose.new.self.reader c.arrive.new.reader [] [] c.in_ok-slot.ensures.reads c.in_ok-arrived.ensures.reads) c.in_ok-bytes.ensures.reads))

@@ -1,0 +1,7 @@
+use Rattle.std.proofs.Common.{◌<◌, ℕ, Bor, slice_index_or}
+use Rattle.sd_chain.specs.Catalog.{Opened}
+use Rattle.sd_send.proofs.sender.are_in_slots.Given as goal
+
+-- each of the images so far stands in one of the slots
+abbrev pub invariant-loop-image : goal.invariant-loop-image
+invariant-loop-image l = (k : ℕ) (d : Bor Opened) → k < l.image-index → (slice_index_or l.images k d).now.slot < l.slots
