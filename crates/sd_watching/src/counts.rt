@@ -1,4 +1,5 @@
 //! `--stats` and `--summary`: what is done with the records of what each image, checkpoint and merge took.
+ghost use Rattle.std.specs.Prelude.{◌≡◌, IfOk};
 
 use sd_exit::{Output, Stop};
 use sd_program::{Advised, Called, Inputs, is_same_file, open_beside_slots, tell};
@@ -84,7 +85,9 @@ fn lines_to<W: Write>(
     inputs: Inputs<'_>,
     name: Option<&str>,
     out: &mut Output<W>,
-) -> Result<Lines, Stop> {
+) -> Result<Lines, Stop>
+    ensures quiet { IfOk result (λ _. out.new ≡ out.old) }
+{
     let Some(name) = name else {
         return Ok(Lines::Nowhere);
     };
@@ -142,7 +145,9 @@ pub(crate) fn counts_asked<W: Write>(
     asked: CountsAsked<'_>,
     inputs: Inputs<'_>,
     out: &mut Output<W>,
-) -> Result<Counts, Stop> {
+) -> Result<Counts, Stop>
+    ensures quiet { IfOk result (λ _. out.new ≡ out.old) }
+{
     let lines = lines_to(called, inputs, asked.stats, out)?;
     let summary = asked.summary;
     Ok(Counts { lines, summary })

@@ -75,6 +75,8 @@ impl<'a> Session<'a> {
         // The files are what is found in the folder.
         ensures files { IfOk result (λ opened.
             folder_files opened.0.disk.disk.disk ≡ (outside_of self.now.called.found.now).found) }
+        // Nothing was printed.
+        ensures quiet { IfOk result (λ _. out.new ≡ out.old) }
     {
         let called = self.called;
         let seen = called.seen(&self.log, called.is_watched());
