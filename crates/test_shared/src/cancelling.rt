@@ -19,7 +19,7 @@ const ROUNDS: u64 = 300;
 const CHECKPOINTS: u64 = 100_000;
 
 /// How many where each is frozen for 20 milliseconds or more.
-const DELAYED: u64 = 1_000;
+const DELAYED: u64 = 100_000;
 
 /// How often a cancel is tried.
 const TRIES: u64 = 100_000_000;

@@ -28,7 +28,7 @@ const MOST_NANOS: u64 = 20_000_000;
 const ROUNDS: u64 = 10;
 
 /// How often a cancel is tried, a tenth of a millisecond apart.
-const TRIES: u64 = 100_000;
+const TRIES: u64 = 10_000_000;
 
 /// How many nanoseconds of a processor's time this thread has used, as Linux counts them.
 fn nanos_used<R: Files + Alloc>(rt: &R) -> Option<u64> {
