@@ -250,7 +250,7 @@ a_killed_follower_is_taken_up_again() {
   same "the memory" "$("$ckpt" restore other)" "$("$ckpt" restore store)"
 }
 
-a_receiver_stands_behind_ssh() {
+a_receiver_is_reached_by_ssh() {
   ssh -o BatchMode=yes -o ConnectTimeout=2 localhost true 2> err || { echo "needs ssh to localhost"; return 77; }
   make_sender store || return 1
   "$ckpt" send -q store | ssh -o BatchMode=yes localhost "'$ckpt' receive -q '$PWD/other'" > out || { cat out; return 1; }
@@ -319,7 +319,7 @@ try a_killed_receiver_keeps_what_it_printed
 try a_killed_sender_leaves_what_arrived
 try a_run_is_followed
 try a_killed_follower_is_taken_up_again
-try a_receiver_stands_behind_ssh
+try a_receiver_is_reached_by_ssh
 try a_damaged_store_takes_nothing
 try no_slot_is_left
 try a_locked_store_is_refused
