@@ -333,7 +333,7 @@ module _ {core : Parts} {seen : CoreView} {lane : ℕ} {made : Made} {phases : L
   its_kind = ap (λ (i : ImageOrder). i.kind) (its_order o.hands) ∙ ap (λ b. if b then Dump else PreDump) o.last_is
 
   -- a dump is made while its checkpoint is pending, and a pre-dump while none is
-  frozen_so : is_frozen_dump o.image ≡ ((kind_number (if last then Dump else PreDump) == 2) && true)
+  pub frozen_so : is_frozen_dump o.image ≡ ((kind_number (if last then Dump else PreDump) == 2) && true)
   frozen_so = ap (λ k. (kind_number k == 2) && is_past_freeze o.image.stage) its_kind ∙ ap (λ s. (kind_number (if last then Dump else PreDump) == 2) && is_past_freeze s) o.opens.was
 
   pub pends : core.frozen ≡ (if (kind_number (if last then Dump else PreDump) == 2) && true then Some o.running.number else None)

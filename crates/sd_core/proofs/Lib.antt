@@ -6,11 +6,14 @@ mod BesideLemmas
 mod CancelLemmas
 mod CoreLemmas
 mod CoreParts
+mod DumperTakes
 mod EnteredLemmas
 pub mod FallenLemmas
 mod FlagLemmas
+mod FoundNumbers
 mod GiveUp
 mod GoOnLemmas
+mod HandedLaws
 pub mod HandedLemmas
 mod HandsDump
 mod ImageLemmas
@@ -25,6 +28,7 @@ mod MergeLemmas
 mod MergerCalls
 mod MergerHands
 mod MergerSteps
+mod MergerTakes
 mod NextHands
 mod NextLaws
 mod NextLooking
@@ -36,9 +40,13 @@ mod NextSound
 mod NextSteps
 mod NextOutcomes
 mod OpenedLemmas
+mod OpenerTakes
 mod OpeningLemmas
+mod OrderLaws
+mod OrdersKeep
 mod OthersLemmas
 mod OutcomeLemmas
+mod OutcomesLeave
 mod OutsLemmas
 mod OwnLemmas
 mod PassLemmas
@@ -51,6 +59,7 @@ mod StageLemmas
 mod StartLemmas
 mod StepLemmas
 mod StrangeLemmas
+mod TakenLaws
 mod TipLemmas
 mod WorkLemmas
 pub mod FrontLemmas

@@ -1,19 +1,17 @@
 -- What the steps of a merger leave of its merge.
-use Rattle.std.proofs.Common.{◌≡◌, ◌≢◌, ℕ, List, [], ◌∷◌, Some, slice_get, refl, sym, ◌∙◌, ap, subst, arith}
+use Rattle.std.proofs.Common.{◌≡◌, ◌≢◌, [], Some, refl, sym, ◌∙◌, ap, subst, arith}
 use Rattle.std.proofs.Math.Nat.{min-le_right}
 use Rattle.std.proofs.lemmas.Option.{same_Some}
 use Rattle.sd_chain.specs.Catalog.{Places}
-use Rattle.sd_gate.specs.declared.call.Call.{Call}
-use Rattle.sd_gate.specs.declared.call.Call.TheVariants.{Read, Sync}
 use Rattle.sd_gate.specs.declared.slot_state.SlotState.{SlotState}
 use Rattle.sd_gate.specs.declared.slot_state.SlotState.TheVariants.{Raw, Closed, Open as OpenSlot, Writing}
 use Rattle.sd_gate.specs.PlanRuns.{AreChanges}
 use Rattle.sd_gate.specs.Plans.{Planned}
 use Rattle.sd_gate.specs.Requests.{Asked}
-use Rattle.sd_gate.specs.Sequences.{Calls, data_place, format_calls}
+use Rattle.sd_gate.specs.Sequences.{format_calls}
 use Rattle.sd_merge.specs.declared.copy_order.CopyOrder.{CopyOrder}
 use Rattle.sd_merge.specs.declared.stage.Stage.{Stage}
-use Rattle.sd_merge.specs.Copying.{Asks, Copying, IsOwnPlan, IsReadyFor, IsSoundCopying, StepsRead, StepsTable, WritesPage, begun_copy, out_of, plan_of, with_plan}
+use Rattle.sd_merge.specs.Copying.{Asks, Copying, IsOwnPlan, IsReadyFor, IsSoundCopying, StepsTable, WritesPage, begun_copy, out_of, plan_of, with_plan}
 use Rattle.sd_core.specs.Sound.{ClosesWithHeader, IsMergedHeader}
 
 -- ---- a request on the slot of the merged image
@@ -62,26 +60,6 @@ begun_sound order = record {
     some : (state : SlotState) → format_calls state ≢ []
     some state none = grind arith
 
--- ---- a read of the source
-
-pub record AsksRead (copy next : Copying) (request : Asked) : Type 0 where
-  pub order : next.order ≡ copy.order
-  pub no_sync : request.id.call ≢ Sync
-  pub out : out_of next.stage ≡ Some request.id
-
-pub reads_source : (places : Places) (copy next : Copying) (request : Asked) → StepsRead places copy request next → AsksRead copy next request
-reads_source places copy next request s = record {
-  order = ap (λ (k : Copying). k.order) s.reads.is;
-  no_sync = λ sync. read_only (s.reads.gives.next) sync;
-  out = ap (λ (k : Copying). out_of k.stage) s.reads.is ∙ s.reads.gives.out;
-}
-  where
-    read_only : (Read (data_place s.place), request.bytes) ∷ [] ≡ (request.id.call, request.bytes) ∷ s.reads.next.calls → request.id.call ≡ Sync → ⊥
-    read_only e sync =
-        let first = same_Some (Read (data_place s.place), request.bytes) (request.id.call, request.bytes) (ap (λ (all : Calls). slice_get all 0) e) in
-        let no : Read (data_place s.place) ≡ Sync = ap (λ (call : Call × List ℕ). call.0) first ∙ sync in
-        cc
-
 -- ---- the header
 
 -- a plan that goes on ends with the same header
@@ -98,6 +76,3 @@ writes_header copy next request w has = subst (ClosesWithHeader copy.order) (sym
 pub tables_header : (places : Places) (copy next : Copying) (request : Asked) → StepsTable places copy request next → ClosesWithHeader copy.order copy.stage → ClosesWithHeader copy.order next.stage
 tables_header places copy next request t has = subst (ClosesWithHeader copy.order) (sym (ap (λ (k : Copying). k.stage) t.writes.is)) (subst (IsMergedHeader copy.order) (sym t.writes.numbers)
     (record { kind = refl; serial = refl; stands = refl; parent = refl; checkpoint = refl }))
-
-pub reads_header : (places : Places) (copy next : Copying) (request : Asked) → StepsRead places copy request next → ClosesWithHeader copy.order copy.stage → ClosesWithHeader copy.order next.stage
-reads_header places copy next request s has = subst (ClosesWithHeader copy.order) (sym (ap (λ (k : Copying). k.stage) s.reads.is)) tt

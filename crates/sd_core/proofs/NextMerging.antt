@@ -40,12 +40,12 @@ use Rattle.sd_core.proofs.OthersLemmas.{keeps_changed, keeps_left, keeps_same}
 use Rattle.sd_core.proofs.PreDumpLemmas.{none_held}
 
 -- what is answered where the merged image is open: the merge goes on, or has ended
-abbrev answer_of : Option ℕ → Reply
+abbrev pub answer_of : Option ℕ → Reply
 answer_of None = reply.Worked
 answer_of (Some serial) = reply.Merged serial
 
 -- each case of it, for whatever is said of an answer and the core after it
-by_merge : (P : Reply → CoreView → Type 0) (old : CoreView) (made : Made) (answer : Reply) (new : CoreView)
+pub by_merge : (P : Reply → CoreView → Type 0) (old : CoreView) (made : Made) (answer : Reply) (new : CoreView)
     → (MergeGoesOn old made new → P reply.Worked new) → ((ended : Option ℕ) → MergedOpens old made (retires_as ended) new → P (answer_of ended) new)
     → ((serial : ℕ) → MergeEnds old made serial new → P (reply.Merged serial) new)
     → ((it : Takes old made) → GoesDown old made 1 it.phase old.dumper.since_freeze new → P (reply.Refused StoreDown) new)

@@ -1,5 +1,5 @@
 -- A step of the pass, as one of the image in the making.
-use Rattle.std.proofs.Common.{◌≡◌, ◌<◌, ◌||◌, ℕ, Bool, true, false, not, if◌then◌else◌, is_none, is_some, [], ◌∷◌, Option, None, Some, IfSome, IsSome, slice_get, ◌⊎◌, refl, sym, ◌∙◌, ap, subst, arith}
+use Rattle.std.proofs.Common.{◌≡◌, ◌||◌, ℕ, Bool, true, false, not, if◌then◌else◌, is_none, is_some, [], ◌∷◌, Option, None, Some, IfSome, IsSome, slice_get, ◌⊎◌, refl, sym, ◌∙◌, ap, subst, arith}
 use Rattle.sd_command.specs.declared.refusal.Refusal.TheVariants as refusal
 use Rattle.sd_gate.specs.declared.slot_state.SlotState.{SlotState}
 use Rattle.sd_gate.specs.declared.slot_state.SlotState.TheVariants.{Raw}
@@ -9,17 +9,14 @@ use Rattle.sd_rounds.specs.declared.image_step.ImageStep.{ImageStep}
 use Rattle.sd_rounds.specs.declared.pass_step.PassStep.{PassStep}
 use Rattle.sd_rounds.specs.Dumper.{Dumping, Running, Works, next_slot, serial_of_running, slot_before}
 use Rattle.sd_rounds.specs.Making.{Making}
-use Rattle.sd_rounds.specs.Left.{LeftLaws, left_of}
 use Rattle.sd_rounds.specs.PassSteps.{NoPageIsNext, Passes}
 use Rattle.sd_rounds.specs.PlanSteps.{image_step}
 use Rattle.sd_rounds.specs.Waits.{dumper_must_wait}
 use Rattle.sd_crash_safety.specs.View.{CoreView}
 use Rattle.sd_core.specs.Beginning.{first_of}
 use Rattle.sd_core.specs.Called.{HasNoPassStep}
-use Rattle.sd_core.specs.Dumping.{StepsOn}
-use Rattle.sd_core.specs.Images.{job_of}
+use Rattle.sd_core.specs.Dumping.{PassesOn, StepsOn}
 use Rattle.sd_core.specs.Refusals.{is_idle, is_page_out, is_resting, must_wait, must_wait_for_pages, none_at, work_refusal}
-use Rattle.sd_core.specs.Rounds.{SameRound}
 use Rattle.sd_core.proofs.GoOnLemmas.{goes_by}
 
 -- the work of a dumper that has an image is a step of that image
@@ -31,50 +28,25 @@ module _ (ticket serial : ℕ) (state : SlotState) (old : Dumping) (before : Con
   pub steps_on : next_slot old.running ≡ None → StepsOn ticket old before step new after
   steps_on none = on_image work.running.image refl (sym (ap next_slot work.was) ∙ none)
 
--- what stays with a step of an image
-module _ (ticket : ℕ) (old : Dumping) (before : Contents) (step : ImageStep) (new : Dumping) (after : Contents) (on : StepsOn ticket old before step new after) where
-  pub serial_on : IsSome (serial_of_running new.running)
-  serial_on = subst (λ r. IsSome (serial_of_running r)) (sym on.is) refl
-
-  pub job_on : job_of new.running ≡ job_of old.running
-  job_on = ap job_of on.is ∙ sym (ap job_of on.was)
-
-  pub round_on : SameRound old.running new.running
-  round_on = subst (λ r. SameRound old.running r) (sym on.is) (on.running, on.was, record { job = refl; opened = refl; parent = refl })
-
 -- and so for each step that a pass finds
 module _ (old : Dumping) (before : Contents) (new : Dumping) (after : Contents) (none : next_slot old.running ≡ None) where
-  on_passed : (step : PassStep) → Passes old before (Some step) new after → (ticket : ℕ) → StepsOn ticket old before (image_step step) new after
-  on_passed step passes ticket = steps_on ticket 0 Raw old before (image_step step) new after (passes 0 Raw ticket) none
-
-  pub steps_passed : (found : Option PassStep) → Passes old before found new after
-      → IfSome found (λ step. (ticket : ℕ) → StepsOn ticket old before (image_step step) new after)
-  steps_passed None passes = tt
-  steps_passed (Some step) passes = on_passed step passes
-
-  pub serial_passed : (found : Option PassStep) → Passes old before found new after → IfSome found (λ step. IsSome (serial_of_running new.running))
-  serial_passed None passes = tt
-  serial_passed (Some step) passes = serial_on 0 old before (image_step step) new after (on_passed step passes 0)
-
-  pub job_passed : (found : Option PassStep) → Passes old before found new after → IfSome found (λ step. job_of new.running ≡ job_of old.running)
-  job_passed None passes = tt
-  job_passed (Some step) passes = job_on 0 old before (image_step step) new after (on_passed step passes 0)
-
-  pub round_passed : (found : Option PassStep) → Passes old before found new after → IfSome found (λ step. SameRound old.running new.running)
-  round_passed None passes = tt
-  round_passed (Some step) passes = round_on 0 old before (image_step step) new after (on_passed step passes 0)
-
-  pub lowers_passed : LeftLaws → (found : Option PassStep) → Passes old before found new after
-      → IfSome found (λ step. left_of new.running (plain_of after) < left_of old.running (plain_of before))
-  lowers_passed laws None passes = tt
-  lowers_passed laws (Some step) passes = laws.works 0 Raw 0 old before (image_step step) new after (passes 0 Raw 0)
+  pub passes_on : (found : Option PassStep) → IsSome old.running → dumper_must_wait old.running (plain_of before) ≡ false → Passes old before found new after
+      → IfSome found (λ step. PassesOn old before step new after)
+  passes_on None runs goes passes = tt
+  passes_on (Some step) runs goes passes = record {
+    runs = runs;
+    goes = goes;
+    steps = λ ticket. steps_on ticket 0 Raw old before (image_step step) new after (passes 0 Raw ticket) none;
+  }
 
 -- the step of a pass that found one
 pub step_passed : (old : Dumping) (before : Contents) (new : Dumping) (after : Contents) (found : Option PassStep) (step : PassStep) → found ≡ Some step
-    → IfSome found (λ step. (ticket : ℕ) → StepsOn ticket old before (image_step step) new after)
-    → (ticket : ℕ) → StepsOn ticket old before (image_step step) new after
-step_passed old before new after found step is steps =
-    subst (λ f. IfSome f (λ step. (ticket : ℕ) → StepsOn ticket old before (image_step step) new after)) is steps
+    → IfSome found (λ step. PassesOn old before step new after) → PassesOn old before step new after
+step_passed old before new after found step is steps = subst (λ f. IfSome f (λ step. PassesOn old before step new after)) is steps
+
+-- the image that made a step has its serial
+pub serial_on : {ticket : ℕ} {old : Dumping} {before : Contents} {step : ImageStep} {new : Dumping} {after : Contents} → StepsOn ticket old before step new after → IsSome (serial_of_running new.running)
+serial_on on = subst (λ r. IsSome (serial_of_running r)) (sym on.is) refl
 
 -- ---- where a step is refused
 

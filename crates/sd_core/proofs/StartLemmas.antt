@@ -17,7 +17,7 @@ use Rattle.sd_pagetable.specs.Tracking.{IsBeginning, clears, is_dirty, since, to
 use Rattle.sd_core.specs.declared.numbers.Numbers.{Numbers}
 use Rattle.sd_core.specs.Sound.{AreSoundNumbers, IsJournal}
 use Rattle.sd_crash_safety.specs.LiveImages.{id_of, ids_of}
-use Rattle.sd_core.specs.Starts.{nothing_asked, shown_base}
+use Rattle.sd_core.specs.Starts.{nothing_asked, shown_base, started}
 use Rattle.sd_core.proofs.OutsLemmas.{nobody_out}
 
 -- in no lane was anything asked for
@@ -42,6 +42,10 @@ due_at_first base opened space page =
 pub start_journal : (base : Base) (journal : JournalView) (memory : Contents) (number : Option ℕ) → base.origin ≡ origins.Opened → IsBeginning memory → plain_of memory ≡ base.memory → base.number ≡ number → base.folded ≡ 0
     → journal.items ≡ [] → journal.first ≡ 0 → journal.limit ≡ 1048576 → IsJournal base journal memory None number
 start_journal base journal memory number opened begins same own none_folded items first limit = grind arith
+
+pub begun_from : (number : Option ℕ) (numbers : Numbers) → numbers ≡ started number → IfSome number (λ n. n ≡ numbers.begun)
+begun_from None numbers is = tt
+begun_from (Some n) numbers is = sym (ap (λ (m : Numbers). m.begun) is)
 
 pub start_numbers : (base : Base) (items : Marked) (number : Option ℕ) (numbers : Numbers) → base.number ≡ number → items ≡ [] → IfSome number (λ n. n ≡ numbers.begun)
     → numbers.checkpoint ≡ numbers.begun → numbers.serial ≡ 0 → numbers.given ≡ 0 → AreSoundNumbers base items None number numbers

@@ -28,6 +28,7 @@ use Rattle.sd_crash_safety.specs.Calls.{IsFree}
 use Rattle.sd_crash_safety.specs.declared.standing.Standing.{Standing}
 use Rattle.sd_crash_safety.specs.declared.standing.Standing.TheVariants.{Open}
 use Rattle.sd_crash_safety.specs.Merges.{IsOtherImage, IsSpared, MakesOther}
+use Rattle.sd_core.specs.Flags.{ticket_after}
 use Rattle.sd_core.specs.Grown.{AreFlags, IsGated}
 use Rattle.sd_core.specs.declared.numbers.Numbers.{Numbers}
 use Rattle.sd_core.specs.Visited.{HasVisitedAll}
@@ -99,6 +100,17 @@ pub record SameNumbers (old new : Numbers) : Type 0 where
   pub given : new.given ≡ old.given
   pub checkpoint : new.checkpoint ≡ old.checkpoint
   pub serial : new.serial ≡ old.serial
+
+-- the next ticket was given out
+pub record Ticks (old new : Numbers) : Type 0 where
+  pub begun : new.begun ≡ old.begun
+  pub given : new.given ≡ old.given
+  pub checkpoint : new.checkpoint ≡ old.checkpoint
+  pub serial : new.serial ≡ old.serial
+  pub ticket : new.ticket ≡ ticket_after old.ticket
+
+pub ticked : (old new : Numbers) → new ≡ record old { ticket = ticket_after old.ticket } → Ticks old new
+ticked old new is = subst (Ticks old) (sym is) (record { begun = refl; given = refl; checkpoint = refl; serial = refl; ticket = refl })
 
 pub same_numbers : (numbers : Numbers) → SameNumbers numbers numbers
 same_numbers numbers = record { begun = refl; given = refl; checkpoint = refl; serial = refl }

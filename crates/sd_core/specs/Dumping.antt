@@ -1,15 +1,18 @@
 -- The dumper of a core.
-use Rattle.std.specs.Prelude.{◌≡◌, ℕ, ◌+◌, if◌then◌else◌, Option, Some, None}
+use Rattle.std.specs.Prelude.{◌≡◌, ℕ, ◌+◌, false, if◌then◌else◌, Option, Some, None, IsSome}
 use Rattle.sd_chain.specs.Catalog.{Changes, IsHeld, Places}
 use Rattle.sd_gate.specs.declared.slot_state.SlotState.{SlotState}
 use Rattle.sd_gate.specs.Requests.{Asked}
 use Rattle.sd_journal.specs.Kept.{JournalView}
-use Rattle.sd_pagetable.specs.Contents.{Contents}
+use Rattle.sd_pagetable.specs.Contents.{Contents, plain_of}
 use Rattle.sd_rounds.specs.declared.image_step.ImageStep.{ImageStep}
 use Rattle.sd_rounds.specs.declared.image_step.ImageStep.TheVariants.{Call, PageCall, TableCall, Frozen, Visited}
 use Rattle.sd_rounds.specs.declared.image_step.ImageStep.TheVariants.{Copied}
 use Rattle.sd_rounds.specs.Dumper.{Dumping, Running, freezes, order_of}
+use Rattle.sd_rounds.specs.declared.pass_step.PassStep.{PassStep}
 use Rattle.sd_rounds.specs.Making.{Making, Steps, begun_image}
+use Rattle.sd_rounds.specs.PlanSteps.{image_step}
+use Rattle.sd_rounds.specs.Waits.{dumper_must_wait}
 
 -- the next image begins, and asks for the first call of its slot's format
 pub record BeginsNext (serial : ℕ) (state : SlotState) (ticket : ℕ) (old : Dumping) (before : Contents)
@@ -33,6 +36,12 @@ pub record StepsOn (ticket : ℕ) (old : Dumping) (before : Contents) (step : Im
   pub steps : Steps ticket image before step next after
   pub is : new.running ≡ Some (record running { image = Some next })
   pub counted : new.since_freeze ≡ (if freezes step then 0 else old.since_freeze)
+
+-- a pass found this step: the checkpoint awaits no outcome, and its image made the step, whatever the ticket
+pub record PassesOn (old : Dumping) (before : Contents) (step : PassStep) (new : Dumping) (after : Contents) : Type 0 where
+  pub runs : IsSome old.running
+  pub goes : dumper_must_wait old.running (plain_of before) ≡ false
+  pub steps : (ticket : ℕ) → StepsOn ticket old before (image_step step) new after
 
 -- a step that visits no page and copies no sector
 abbrev pub IsNoPassStep : ImageStep → Type 0

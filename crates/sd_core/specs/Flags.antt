@@ -1,18 +1,22 @@
 -- What each call of a core does to the numbers that were used, to whether the next checkpoint goes on from the tip, and
 -- to whether the opening of the gate of the pending checkpoint's dump was taken up.
-use Rattle.std.specs.Prelude.{◌≡◌, ℕ, ◌+◌, ◌%◌, ◌^◌, max, Bool, true, false, ◌&&◌, ◌||◌, is_some, Option, Some, None}
-use Rattle.sd_chain.specs.Catalog.{IsGreatest, Opened, Places, checkpoint_number, images, serial_of}
+use Rattle.std.specs.Prelude.{◌≡◌, ℕ, ◌+◌, ◌<◌, ◌≤◌, ◌%◌, ◌^◌, max, Bool, true, false, ◌&&◌, ◌||◌, is_some, Option, Some}
+use Rattle.std.specs.Prelude.{None, IfSome, IsSome}
+use Rattle.sd_chain.specs.Catalog.{IsGreatest, Opened, Places, checkpoint_number, images, place_of, serial_of}
 use Rattle.sd_command.specs.declared.reply.Reply.{Reply}
 use Rattle.sd_command.specs.declared.reply.Reply.TheVariants as reply
 use Rattle.sd_gate.specs.declared.call.Call.{Call as DeviceCall}
 use Rattle.sd_gate.specs.declared.worker.Worker.{Worker}
 use Rattle.sd_gate.specs.declared.worker.Worker.TheVariants.{Dumper, Merger, Opener}
 use Rattle.sd_gate.specs.Requests.{Asked}
+use Rattle.sd_journal.specs.History.{pending}
+use Rattle.sd_journal.specs.Legal.{IsAbove}
 use Rattle.sd_merge.specs.Merger as merger
 use Rattle.sd_merge.specs.Merger.{Doing, copying, due, opened, retiring, slot_before}
 use Rattle.sd_rounds.specs.Dumper.{is_dumping, next_slot, serial_of_running}
 use Rattle.sd_crash_safety.specs.DumperSteps.{opens_gate}
-use Rattle.sd_crash_safety.specs.View.{CoreView, Numbers}
+use Rattle.sd_crash_safety.specs.View.{CoreView, Numbers, history_of}
+use Rattle.sd_core.specs.Grown.{has_grown}
 use Rattle.sd_core.specs.declared.taken.Taken.{Taken}
 use Rattle.sd_core.specs.declared.taken.Taken.TheVariants.{Step, Call}
 
@@ -26,6 +30,19 @@ pub record HasFlags (grows committing : Bool) (numbers : Numbers) (core : CoreVi
 -- all these are as before
 abbrev pub KeepsFlags : CoreView → CoreView → Type 0
 KeepsFlags old new = HasFlags old.grows old.committing old.numbers new
+
+-- So they are by the journal and the catalog: the next checkpoint goes on from the tip exactly where there is an
+-- acknowledgement since the latest reopening and the latest cancelling; a gate's opening was taken up only while a
+-- checkpoint is pending; and the numbers that these speak of were used.
+pub record AreByJournal (core : CoreView) : Type 0 where
+  pub grows : core.grows ≡ has_grown core.base (history_of core)
+  pub committing : core.committing ≡ true → IsSome (pending (history_of core))
+  pub begun : core.numbers.begun ≤ core.numbers.checkpoint
+  pub given : core.numbers.given ≤ core.numbers.serial
+  pub used : (n : ℕ) → core.numbers.begun < n → IsAbove core.base (history_of core) n
+  pub pends : IfSome (pending (history_of core)) (λ n. n ≡ core.numbers.begun)
+  pub counted : (serial : ℕ) (image : Opened) → place_of core.catalog serial ≡ Some (Some image)
+      → image.header.checkpoint ≤ core.numbers.checkpoint
 
 -- ---- a start
 

@@ -15,7 +15,8 @@ use Rattle.sd_crash_safety.specs.Calls.{HandsOut, MakesStep}
 use Rattle.sd_crash_safety.specs.OpenerSteps.{nobody}
 use Rattle.sd_crash_safety.specs.View.{CoreView}
 use Rattle.sd_core.specs.declared.base.CoreBase.{CoreBase}
-use Rattle.sd_core.specs.Flags.{HasFlags, numbers_from}
+use Rattle.sd_core.specs.declared.numbers.Numbers.{Numbers}
+use Rattle.sd_core.specs.Flags.{HasFlags, number_or_zero, numbers_from}
 use Rattle.sd_core.specs.declared.taken.Taken.{Taken}
 use Rattle.sd_core.specs.declared.taken.Taken.TheVariants.{Step, Call}
 
@@ -45,6 +46,11 @@ pub record IsStart (number : Option ℕ) (saved : PlainMemory) (loaded : Content
   pub merger : core.merger ≡ None
   pub opener : core.opener ≡ None
   pub flags : HasFlags false false (numbers_from number) core
+
+-- the numbers that a core keeps as it starts from this checkpoint
+abbrev pub started : Option ℕ → Numbers
+started base =
+    record { checkpoint = number_or_zero base; serial = 0; begun = number_or_zero base; given = 0; ticket = 0 }
 
 -- nothing was asked for in any lane
 abbrev pub nothing_asked : List (Option Asked)

@@ -1,28 +1,23 @@
 //! The dumper of a core: its steps, and what it leaves.
-ghost use Rattle.std.specs.Prelude.{◌≡◌, ◌||◌, ◌&&◌, ◌<◌, ◌≤◌, ℕ, false, None, Some, IsSome, IfOk, IfSome, OnErr};
+ghost use Rattle.std.specs.Prelude.{◌≡◌, ◌||◌, ◌&&◌, ◌≤◌, false, None, Some, IsSome, IfOk, IfSome, OnErr};
 ghost use Rattle.std.specs.Prelude.{is_none, Ok, true, ◌⊎◌};
 ghost use Rattle.sd_chain.specs.Catalog.{Changes, IsHeld};
 ghost use Rattle.sd_gate.specs.declared.call.Call.{Call};
 ghost use Rattle.sd_pagetable.specs.Contents.{plain_of};
-ghost use Rattle.sd_rounds.specs.Dumper.{begun_checkpoint, is_dumping, next_slot, serial_of_running};
+ghost use Rattle.sd_rounds.specs.Dumper.{begun_checkpoint, is_dumping, next_slot};
 ghost use Rattle.sd_rounds.specs.PassSteps.{NoPageIsNext};
-ghost use Rattle.sd_rounds.specs.PlanSteps.{image_step};
 ghost use Rattle.sd_rounds.specs.Waits.{dumper_must_wait};
-ghost use Rattle.sd_rounds.specs.Left.{left_of};
 ghost use Rattle.sd_crash_safety.specs.DumperSteps.{opens_gate};
 ghost use Rattle.sd_crash_safety.specs.DumperOutcomes.{LeavesCatalog, closes_for_sure};
-ghost use Rattle.sd_core.specs.Dumping.{BeginsNext, IsNoPassStep, LetsGoOfTwo, ReleasesPlace, StepsOn};
-ghost use Rattle.sd_core.specs.Images.{job_of};
-ghost use Rattle.sd_core.specs.Rounds.{SameRound};
+ghost use Rattle.sd_core.specs.Dumping.{BeginsNext, IsNoPassStep, LetsGoOfTwo, PassesOn, ReleasesPlace};
+ghost use Rattle.sd_core.specs.Dumping.{StepsOn};
 
 use crate::beginning::Slots;
 use sd_chain::Catalog;
 use sd_gate::{Call, Phase, Request, SlotState};
 use sd_journal::Journal;
 use sd_pagetable::Memory;
-use sd_rounds::{
-    Dumper, ImageStep, NewImage, NextImage, PageBuffers, PassStep, WorkError, left_law,
-};
+use sd_rounds::{Dumper, ImageStep, NewImage, NextImage, PageBuffers, PassStep, WorkError};
 use std::alloc::AllocError;
 
 /// A checkpoint begins.
@@ -50,13 +45,8 @@ pub(crate) fn begin_next(
     ticket: u64,
 ) -> Request
     requires { IsSome (next_slot dumper.old.running) }
-    ensures begins { BeginsNext image.serial image.state ticket dumper.old memory.old result dumper.new memory.new }
-    ensures job { job_of dumper.new.running ≡ job_of dumper.old.running }
-    ensures round { SameRound dumper.old.running dumper.new.running }
-    ensures lowers { left_of dumper.new.running (plain_of memory.new)
-        < left_of dumper.old.running (plain_of memory.old) }
+    ensures { BeginsNext image.serial image.state ticket dumper.old memory.old result dumper.new memory.new }
 {
-    left_law();
     match dumper.work(memory, image, ticket) {
         Ok(ImageStep::Call(request)) => request,
         _ => unreachable!(),
@@ -79,14 +69,9 @@ pub(crate) fn step_on(
     requires other { NoPageIsNext dumper.old.running memory.old }
     ensures steps { IfOk result (λ step. StepsOn ticket dumper.old memory.old step dumper.new memory.new) }
     ensures other { IfOk result (λ step. IsNoPassStep step) }
-    ensures job { IfOk result (λ step. job_of dumper.new.running ≡ job_of dumper.old.running) }
-    ensures round { IfOk result (λ step. SameRound dumper.old.running dumper.new.running) }
-    ensures lowers { IfOk result (λ step. left_of dumper.new.running (plain_of memory.new)
-        < left_of dumper.old.running (plain_of memory.old)) }
     ensures err { OnErr result (dumper.new ≡ dumper.old) }
     ensures err_memory { OnErr result (memory.new ≡ memory.old) }
 {
-    left_law();
     // The image has its serial and its slot already.
     let image = NextImage {
         serial: 0,
@@ -114,21 +99,11 @@ pub(crate) fn pass_on(
     ensures none { result ≡ Ok None → (dumper.new ≡ dumper.old) × (memory.new ≡ memory.old)
         × ((dumper_must_wait dumper.old.running (plain_of memory.old) ≡ true)
         ⊎ NoPageIsNext dumper.old.running memory.old) }
-    ensures goes { IfOk result (λ found. IfSome found (λ step. IsSome dumper.old.running
-        × (dumper_must_wait dumper.old.running (plain_of memory.old) ≡ false))) }
-    ensures steps { IfOk result (λ found. IfSome found (λ step. (ticket : ℕ)
-        → StepsOn ticket dumper.old memory.old (image_step step) dumper.new memory.new)) }
-    ensures serial { IfOk result (λ found. IfSome found (λ step. IsSome (serial_of_running dumper.new.running))) }
-    ensures job { IfOk result (λ found. IfSome found (λ step.
-        job_of dumper.new.running ≡ job_of dumper.old.running)) }
-    ensures round { IfOk result (λ found. IfSome found (λ step.
-        SameRound dumper.old.running dumper.new.running)) }
-    ensures lowers { IfOk result (λ found. IfSome found (λ step. left_of dumper.new.running (plain_of memory.new)
-        < left_of dumper.old.running (plain_of memory.old))) }
+    ensures found { IfOk result (λ found. IfSome found (λ step.
+        PassesOn dumper.old memory.old step dumper.new memory.new)) }
     ensures err { OnErr result (dumper.new ≡ dumper.old) }
     ensures err_memory { OnErr result (memory.new ≡ memory.old) }
 {
-    left_law();
     match dumper.pass(memory) {
         Ok(found) => Ok(found),
         Err(WorkError::OutOfMemory) => Err(AllocError),

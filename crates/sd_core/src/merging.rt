@@ -1,7 +1,6 @@
 //! The merger of a core: its steps, and what it leaves.
-ghost use Rattle.std.specs.Prelude.{◌≡◌, ◌<◌, ◌≤◌, ◌↔◌, Err, None, IsSome, IsTrue, Some, IfOk, OnErr, map};
+ghost use Rattle.std.specs.Prelude.{◌≡◌, ◌≤◌, ◌↔◌, Err, None, IsSome, IsTrue, Some, IfOk, OnErr, map};
 ghost use Rattle.sd_chain.specs.Catalog.{images, serial_of};
-ghost use Rattle.sd_merge.specs.Left.{left_of};
 ghost use Rattle.sd_merge.specs.Merger.{Loses, awaited, begun_merge, out_of_merge, slot_before};
 ghost use Rattle.sd_rounds.specs.Dumper.{idle};
 ghost use Rattle.sd_core.specs.declared.merging.StepFault.TheVariants.{Lost};
@@ -48,8 +47,7 @@ pub(crate) fn begin_copy(
     ticket: u64,
 ) -> Request
     requires { IsSome (slot_before merger.old) }
-    ensures begins { BeginsCopy image.serial image.state ticket catalog.now merger.old result merger.new }
-    ensures lowers { left_of merger.new < left_of merger.old }
+    ensures { BeginsCopy image.serial image.state ticket catalog.now merger.old result merger.new }
 {
     match merger.work(catalog, image, ticket) {
         Ok(MergeStep::Call(request)) => request,
@@ -81,7 +79,6 @@ pub(crate) fn step_merger(
     requires rests { out_of_merge merger.old ≡ None }
     requires due { awaited merger.old ≡ None }
     ensures steps { IfOk result (λ step. IsStepOf ticket catalog.now merger.old step merger.new) }
-    ensures lowers { IfOk result (λ step. left_of merger.new < left_of merger.old) }
     ensures lost { result ≡ Err Lost → Loses catalog.now merger.old }
     ensures err { OnErr result (merger.new ≡ merger.old) }
 {
@@ -116,8 +113,7 @@ pub(crate) fn fix_list(
     outs: &[Option<RequestId>],
 ) -> Option<u64>
     requires { IsSome (awaited merger.old) }
-    ensures fixes { FixesList catalog.now dumper.now.running outs.now room merger.old result merger.new }
-    ensures lowers { left_of merger.new < left_of merger.old }
+    ensures { FixesList catalog.now dumper.now.running outs.now room merger.old result merger.new }
 {
     let list = room.into_list(catalog, dumper, merger, outs);
     match merger.retire(list) {

@@ -1,7 +1,8 @@
 //! The numbers that were used.
-ghost use Rattle.std.specs.Prelude.{◌≡◌, ◌≤◌, ◌<◌, ◌+◌, ◌^◌, ◌||◌, nat_le, ℕ, Some, IfSome};
-ghost use Rattle.sd_chain.specs.Catalog.{Opened, checkpoint_number, place_of, serial_of};
-ghost use Rattle.sd_core.specs.Flags.{IsGreatestFound, number_or_zero, ticket_after};
+ghost use Rattle.std.specs.Prelude.{◌≡◌, ◌<◌, ◌+◌, ◌^◌, ◌||◌, nat_le};
+ghost use Rattle.sd_chain.specs.Catalog.{checkpoint_number, serial_of};
+ghost use Rattle.sd_core.specs.Flags.{IsGreatestFound, ticket_after};
+ghost use Rattle.sd_core.specs.Starts.{started};
 
 use sd_chain::Catalog;
 
@@ -26,11 +27,7 @@ pub struct Numbers {
 impl Numbers {
     /// The numbers of a run that starts from this checkpoint.
     pub(crate) fn start(base: Option<u64>) -> Numbers
-        ensures base { IfSome base (λ number. number ≡ result.begun) }
-        ensures checkpoint { result.checkpoint ≡ result.begun }
-        ensures serial { (result.serial ≡ 0) × (result.given ≡ 0) }
-        ensures begun { result.begun ≡ number_or_zero base }
-        ensures ticket { result.ticket ≡ 0 }
+        ensures { result ≡ started base }
     {
         let begun = base.unwrap_or(0);
         Numbers {
@@ -44,19 +41,11 @@ impl Numbers {
 
     /// A store was opened, whose images have these numbers.
     pub(crate) fn found(&mut self, catalog: &Catalog)
-        ensures begun { self.new.begun ≡ self.old.begun }
-        ensures given { self.new.given ≡ self.old.given }
-        ensures checkpoint { self.old.begun ≤ self.new.checkpoint }
-        ensures serial { self.old.given ≤ self.new.serial }
-        ensures checkpoints { (serial : ℕ) (i : Opened) → place_of catalog.now serial ≡ Some (Some i)
-            → i.header.checkpoint ≤ self.new.checkpoint }
-        ensures serials { (serial : ℕ) (i : Opened) → place_of catalog.now serial ≡ Some (Some i)
-            → i.header.serial ≤ self.new.serial }
-        ensures ticket { self.new.ticket ≡ self.old.ticket }
-        ensures finds_checkpoint { IsGreatestFound checkpoint_number self.old.begun catalog.now self.new.checkpoint }
-        ensures finds_serial { IsGreatestFound serial_of self.old.given catalog.now self.new.serial }
+        ensures checkpoint { IsGreatestFound checkpoint_number self.old.begun catalog.now self.new.checkpoint }
+        ensures serial { IsGreatestFound serial_of self.old.given catalog.now self.new.serial }
+        ensures others { self.new
+            ≡ record self.old { checkpoint = self.new.checkpoint; serial = self.new.serial } }
     {
-        catalog.sound();
         self.checkpoint = self.begun.max(catalog.greatest_checkpoint());
         self.serial = self.given.max(catalog.greatest_serial());
     }
@@ -98,11 +87,7 @@ impl Numbers {
 
     /// A request has the next ticket.
     pub(crate) fn tick(&mut self)
-        ensures begun { self.new.begun ≡ self.old.begun }
-        ensures given { self.new.given ≡ self.old.given }
-        ensures checkpoint { self.new.checkpoint ≡ self.old.checkpoint }
-        ensures serial { self.new.serial ≡ self.old.serial }
-        ensures ticket { self.new.ticket ≡ ticket_after self.old.ticket }
+        ensures { self.new ≡ record self.old { ticket = ticket_after self.old.ticket } }
     {
         self.ticket = self.ticket.wrapping_add(1);
     }

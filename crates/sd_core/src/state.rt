@@ -9,16 +9,14 @@ ghost use Rattle.sd_crash_safety.specs.Believes.{Believes};
 ghost use Rattle.sd_crash_safety.specs.View.{CoreView};
 ghost use Rattle.sd_rounds.specs.Dumper.{pages_of_checkpoint};
 ghost use Rattle.sd_core.specs.Called.{IsHandedIn, IsTakenUp};
+ghost use Rattle.sd_core.specs.Next.{NextByOutcome};
 ghost use Rattle.sd_core.specs.Refusals.{is_idle};
 ghost use Rattle.sd_core.specs.Starts.{IsStart, nothing_asked, shown_base};
 ghost use Rattle.sd_core.specs.Working.{left_by};
 
 use crate::base::CoreBase;
 use crate::lanes::LANES;
-use crate::next_laws::{
-    dumper_outcome_laws, dumper_taken_law, late_laws, merger_outcome_laws, merger_taken_law,
-    opener_outcome_laws, opener_taken_law, sound_merge_laws, sound_other_laws, sound_outcome_laws,
-};
+use crate::next_laws::{dumper_law, merger_law, opener_law, outcome_law};
 use crate::numbers::Numbers;
 use crate::opening::left_of_opener;
 use crate::start::Start;
@@ -240,17 +238,26 @@ impl Core {
         ensures { IsTakenUp worker self.old result self.new }
     {
         core_steps();
-        dumper_taken_law();
-        merger_taken_law();
-        opener_taken_law();
         self.is_sound();
-        match self.refusal_of_work(worker) {
-            Some(why) => Taken::Step(Reply::Refused(why)),
-            None => match worker {
-                Worker::Dumper => self.take_up_dumper(),
-                Worker::Merger => self.take_up_merger(),
-                Worker::Opener => self.take_up_opener(),
-            },
+        if let Some(why) = self.refusal_of_work(worker) {
+            return Taken::Step(Reply::Refused(why));
+        }
+        match worker {
+            Worker::Dumper => {
+                dumper_law();
+                self.take_up_dumper()
+            }
+            Worker::Merger => {
+                let made = self.take_up_merger();
+                merger_law(&self.catalog);
+                made
+            }
+            Worker::Opener => {
+                opener_law();
+                let made = self.take_up_opener();
+                self.is_sound();
+                made
+            }
         }
     }
 
@@ -262,13 +269,17 @@ impl Core {
     pub fn hand_in(&mut self, outcome: Outcome) -> Reply
         ensures { IsHandedIn outcome result self.old self.new }
     {
-        dumper_outcome_laws();
-        sound_outcome_laws();
-        merger_outcome_laws();
-        opener_outcome_laws();
-        late_laws();
-        sound_other_laws(&self.catalog);
         self.is_sound();
+        let reply = self.hand_in_known(outcome);
+        self.is_sound();
+        outcome_law(&self.catalog);
+        reply
+    }
+
+    /// Takes the outcome of a device call, by whose it is.
+    fn hand_in_known(&mut self, outcome: Outcome) -> Reply
+        ensures { NextByOutcome self.old outcome result self.new }
+    {
         let id = outcome.id();
         let Some(lane) = lane_of(&self.outs, &id) else {
             drop(outcome);
@@ -278,17 +289,8 @@ impl Core {
             return self.hand_in_late(lane, outcome);
         }
         match id.worker {
-            Worker::Dumper => {
-                let reply = self.hand_in_dumper(lane, outcome);
-                self.is_sound();
-                reply
-            }
-            Worker::Merger => {
-                let reply = self.hand_in_merger(outcome);
-                self.is_sound();
-                sound_merge_laws(&self.catalog);
-                reply
-            }
+            Worker::Dumper => self.hand_in_dumper(lane, outcome),
+            Worker::Merger => self.hand_in_merger(outcome),
             Worker::Opener => self.hand_in_opener(outcome),
         }
     }

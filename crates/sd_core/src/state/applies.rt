@@ -3,9 +3,8 @@ ghost use Rattle.sd_core.specs.Called.{IsApplied};
 
 use super::Core;
 use crate::answering::answer;
-use crate::next_laws::command_laws;
+use crate::next_laws::command_law;
 use sd_command::{Command, Refusal, Reply};
-use sd_crash_safety::core_steps;
 use sd_journal::{Entry, tracked_laws};
 
 impl Core {
@@ -20,8 +19,8 @@ impl Core {
     pub fn apply(&mut self, seat: usize, command: &Command) -> Result<(u64, Reply), Refusal>
         ensures { IsApplied seat command.now result self.old self.new }
     {
-        core_steps();
-        self.memory.sound();
+        command_law();
+        self.is_sound();
         let free = self.journal.free();
         if free == 0 {
             return Err(Refusal::JournalFull);
@@ -40,8 +39,8 @@ impl Core {
     pub fn apply_owned(&mut self, seat: usize, command: Command) -> Result<(u64, Reply), Refusal>
         ensures { IsApplied seat command result self.old self.new }
     {
-        core_steps();
-        command_laws();
+        command_law();
+        self.is_sound();
         tracked_laws();
         self.memory.sound();
         if self.journal.free() == 0 {

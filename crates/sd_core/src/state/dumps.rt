@@ -1,5 +1,5 @@
 //! A core's dumper: how it makes the images of a checkpoint, step by step.
-ghost use Rattle.std.specs.Prelude.{◌≡◌, ◌↔◌, ℕ, true, false, slice_get, Some, None, IsSome};
+ghost use Rattle.std.specs.Prelude.{◌≡◌, true, false, slice_get, Some, None, IsSome};
 ghost use Rattle.sd_pagetable.specs.Contents.{plain_of};
 ghost use Rattle.sd_command.specs.declared.refusal.Refusal.TheVariants.{StoreDown};
 ghost use Rattle.sd_command.specs.declared.reply.Reply.TheVariants as reply;
@@ -7,12 +7,8 @@ ghost use Rattle.sd_gate.specs.declared.worker.Worker.TheVariants as its;
 ghost use Rattle.sd_rounds.specs.Dumper.{next_slot};
 ghost use Rattle.sd_rounds.specs.PassSteps.{NoPageIsNext};
 ghost use Rattle.sd_rounds.specs.Waits.{dumper_must_wait};
-ghost use Rattle.sd_core.specs.Images.{IsAcked};
 ghost use Rattle.sd_core.specs.Next.{ComesLate, NextByDumper, NextByDumpersOutcome};
 ghost use Rattle.sd_core.specs.Refusals.{is_idle, work_refusal};
-ghost use Rattle.sd_core.specs.Starts.{TakesUp};
-ghost use Rattle.sd_core.specs.Working.{LeavesByOutcome, LeavesByWork};
-ghost use Rattle.sd_gate.specs.Calls.{is_done};
 
 use super::Core;
 use crate::dumping::{
@@ -21,22 +17,21 @@ use crate::dumping::{
 };
 use crate::following::{Followed, follow_outcome};
 use crate::lanes::{DUMPER, page_lane, put_out};
-use crate::laws::{outcome_laws, step_laws};
+use crate::laws::journal_laws;
 use crate::taken::Taken;
 use sd_command::{Refusal, Reply};
-use sd_crash_safety::{Standing, core_steps};
+use sd_crash_safety::Standing;
 use sd_gate::Outcome;
 use sd_journal::{Entry, Mark};
-use sd_rounds::{ImageStep, NextImage, Progress, rises_law};
+use sd_pagetable::plain_law;
+use sd_rounds::{ImageStep, NextImage, Progress};
 use std::alloc::AllocError;
 
 impl Core {
     /// Makes the dumper's next step, or hands out its next device call.
     pub(super) fn take_up_dumper(&mut self) -> Taken
         requires { work_refusal self.old its.Dumper ≡ None }
-        ensures takes { TakesUp self.old its.Dumper result self.new }
-        ensures leaves { LeavesByWork self.old its.Dumper result self.new }
-        ensures step { NextByDumper self.old result self.new }
+        ensures { NextByDumper self.old result self.new }
     {
         match self.dumper.next_slot() {
             Some(slot) => self.begin_image(slot),
@@ -53,12 +48,9 @@ impl Core {
     pub(super) fn begin_image(&mut self, slot: usize) -> Taken
         requires may { work_refusal self.old its.Dumper ≡ None }
         requires next { next_slot self.old.dumper.running ≡ Some slot }
-        ensures takes { TakesUp self.old its.Dumper result self.new }
-        ensures leaves { LeavesByWork self.old its.Dumper result self.new }
-        ensures step { NextByDumper self.old result self.new }
+        ensures { NextByDumper self.old result self.new }
     {
-        step_laws();
-        rises_law();
+        journal_laws();
         self.dumper.sound();
         let Ok(()) = self.journal.reserve_mark() else {
             return Taken::Step(Reply::Refused(Refusal::OutOfMemory));
@@ -96,11 +88,8 @@ impl Core {
         requires runs { IsSome self.old.dumper.running }
         requires rests { slice_get self.old.outs 0 ≡ Some None }
         requires goes { dumper_must_wait self.old.dumper.running (plain_of self.old.memory) ≡ false }
-        ensures takes { TakesUp self.old its.Dumper result self.new }
-        ensures leaves { LeavesByWork self.old its.Dumper result self.new }
-        ensures step { NextByDumper self.old result self.new }
+        ensures { NextByDumper self.old result self.new }
     {
-        core_steps();
         match self.pass_image() {
             Ok(true) => Taken::Step(Reply::Worked),
             Ok(false) => self.call_image(),
@@ -120,11 +109,9 @@ impl Core {
         requires rests { slice_get self.old.outs 0 ≡ Some None }
         requires goes { dumper_must_wait self.old.dumper.running (plain_of self.old.memory) ≡ false }
         requires other { NoPageIsNext self.old.dumper.running self.old.memory }
-        ensures takes { TakesUp self.old its.Dumper result self.new }
-        ensures leaves { LeavesByWork self.old its.Dumper result self.new }
-        ensures step { NextByDumper self.old result self.new }
+        ensures { NextByDumper self.old result self.new }
     {
-        step_laws();
+        journal_laws();
         self.dumper.sound();
         let Ok(()) = self.journal.reserve_mark() else {
             return Taken::Step(Reply::Refused(Refusal::OutOfMemory));
@@ -169,7 +156,6 @@ impl Core {
     pub(super) fn hand_in_late(&mut self, lane: usize, outcome: Outcome) -> Reply
         requires out { slice_get self.old.outs lane ≡ Some (Some outcome.request.id) }
         requires idle { is_idle self.old outcome.request.id.worker ≡ true }
-        ensures leaves { LeavesByOutcome self.old outcome.request.id.worker result self.new }
         ensures late { result ≡ reply.Refused StoreDown }
         ensures step { ComesLate self.old outcome self.new }
     {
@@ -183,12 +169,10 @@ impl Core {
         requires out { slice_get self.old.outs lane ≡ Some (Some outcome.request.id) }
         requires dumper { outcome.request.id.worker ≡ its.Dumper }
         requires runs { is_idle self.old its.Dumper ≡ false }
-        ensures failed { is_done outcome.answer ≡ false ↔ result ≡ reply.Refused StoreDown }
-        ensures leaves { LeavesByOutcome self.old its.Dumper result self.new }
-        ensures acked { (n : ℕ) → result ≡ reply.Acked n → IsAcked n self.old self.new }
-        ensures step { NextByDumpersOutcome self.old outcome result self.new }
+        ensures { NextByDumpersOutcome self.old outcome result self.new }
     {
-        outcome_laws();
+        journal_laws();
+        plain_law();
         self.dumper.sound();
         let Followed { id, closed } = follow_outcome(
             &mut self.phases,

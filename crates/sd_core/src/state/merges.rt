@@ -1,16 +1,10 @@
 //! A core's merger: how it begins a merge, and takes it to its end.
-ghost use Rattle.std.specs.Prelude.{◌≡◌, ◌↔◌, false, Some, None, IsSome, slice_get};
-ghost use Rattle.sd_command.specs.declared.refusal.Refusal.TheVariants.{StoreDown};
-ghost use Rattle.sd_command.specs.declared.reply.Reply.TheVariants as reply;
-ghost use Rattle.sd_gate.specs.Calls.{is_done};
+ghost use Rattle.std.specs.Prelude.{◌≡◌, false, Some, None, IsSome, slice_get};
 ghost use Rattle.sd_gate.specs.declared.worker.Worker.TheVariants as its;
 ghost use Rattle.sd_merge.specs.Merger.{slot_before};
-ghost use Rattle.sd_crash_safety.specs.Calls.{Stays};
 ghost use Rattle.sd_core.specs.Merging.{merge_refusal};
 ghost use Rattle.sd_core.specs.Next.{NextByMerge, NextByMerger, NextByMergersOutcome};
 ghost use Rattle.sd_core.specs.Refusals.{is_idle, work_refusal};
-ghost use Rattle.sd_core.specs.Starts.{TakesUp};
-ghost use Rattle.sd_core.specs.Working.{FindsSource, LeavesByOutcome, LeavesByWork};
 
 use super::Core;
 use crate::beginning::{first_of, has_tip, is_down, is_not_open};
@@ -24,7 +18,7 @@ use crate::merging::{
 };
 use crate::taken::Taken;
 use sd_command::{Refusal, Reply};
-use sd_crash_safety::{Standing, core_steps, merge_beginning_law, merger_steps};
+use sd_crash_safety::{Standing, merger_steps};
 use sd_free_slots::{ListRoom, free_law};
 use sd_gate::{Outcome, Worker};
 use sd_merge::{MergeProgress, MergeStep, NextImage, Source};
@@ -50,14 +44,10 @@ impl Core {
     /// `NoSlot`, `OutOfMemory`: as `merge`.
     pub(super) fn merge_tip(&mut self) -> Reply
         requires { merge_refusal self.old ≡ None }
-        ensures keeps { Stays self.old self.new }
-        ensures step { NextByMerge self.old result self.new }
+        ensures { NextByMerge self.old result self.new }
     {
-        core_steps();
-        merge_beginning_law(&self.catalog);
         free_law();
         self.catalog.sound();
-        self.dumper.sound();
         let Ok(slots) = self.free_slots() else {
             return Reply::Refused(Refusal::OutOfMemory);
         };
@@ -82,10 +72,7 @@ impl Core {
     /// Makes the merger's next step, or hands out its next device call.
     pub(super) fn take_up_merger(&mut self) -> Taken
         requires { work_refusal self.old its.Merger ≡ None }
-        ensures takes { TakesUp self.old its.Merger result self.new }
-        ensures leaves { LeavesByWork self.old its.Merger result self.new }
-        ensures finds { FindsSource self.old result }
-        ensures step { NextByMerger self.old result self.new }
+        ensures { NextByMerger self.old result self.new }
     {
         match self.merger.next_slot() {
             Some(slot) => self.begin_merged(slot),
@@ -101,19 +88,13 @@ impl Core {
     fn begin_merged(&mut self, slot: usize) -> Taken
         requires may { work_refusal self.old its.Merger ≡ None }
         requires next { slot_before self.old.merger ≡ Some slot }
-        ensures takes { TakesUp self.old its.Merger result self.new }
-        ensures leaves { LeavesByWork self.old its.Merger result self.new }
-        ensures finds { FindsSource self.old result }
-        ensures step { NextByMerger self.old result self.new }
+        ensures { NextByMerger self.old result self.new }
     {
-        core_steps();
         self.merger.sound();
-        self.dumper.sound();
         let serial = self.numbers.serial + 1;
         let Ok(()) = self.catalog.hold(serial) else {
             return Taken::Step(Reply::Refused(Refusal::OutOfMemory));
         };
-        merger_steps(&self.catalog);
         let image = NextImage {
             serial,
             state: self.phases[slot].state(),
@@ -135,12 +116,8 @@ impl Core {
         requires begun { slot_before self.old.merger ≡ None }
         requires runs { IsSome self.old.merger }
         requires rests { slice_get self.old.outs 1 ≡ Some None }
-        ensures takes { TakesUp self.old its.Merger result self.new }
-        ensures leaves { LeavesByWork self.old its.Merger result self.new }
-        ensures finds { FindsSource self.old result }
-        ensures step { NextByMerger self.old result self.new }
+        ensures { NextByMerger self.old result self.new }
     {
-        core_steps();
         merger_steps(&self.catalog);
         self.merger.sound();
         self.dumper.sound();
@@ -177,9 +154,7 @@ impl Core {
         requires out { slice_get self.old.outs 1 ≡ Some (Some outcome.request.id) }
         requires merger { outcome.request.id.worker ≡ its.Merger }
         requires runs { is_idle self.old its.Merger ≡ false }
-        ensures failed { is_done outcome.answer ≡ false ↔ result ≡ reply.Refused StoreDown }
-        ensures leaves { LeavesByOutcome self.old its.Merger result self.new }
-        ensures step { NextByMergersOutcome self.old outcome result self.new }
+        ensures { NextByMergersOutcome self.old outcome result self.new }
     {
         merging_laws(&self.merger, &self.dumper);
         let Followed { id, closed } = follow_outcome(

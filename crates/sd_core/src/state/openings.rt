@@ -1,14 +1,8 @@
 //! A core's opener: how it goes on, and takes the store to its opening.
-ghost use Rattle.std.specs.Prelude.{◌≡◌, Some, None, false, slice_get};
-ghost use Rattle.sd_command.specs.declared.refusal.Refusal.TheVariants.{StoreDown};
-ghost use Rattle.sd_command.specs.declared.reply.Reply.TheVariants as reply;
-ghost use Rattle.sd_gate.specs.Calls.{is_done};
+ghost use Rattle.std.specs.Prelude.{◌≡◌, Some, None, slice_get};
 ghost use Rattle.sd_gate.specs.declared.worker.Worker.TheVariants as its;
-ghost use Rattle.sd_crash_safety.specs.Calls.{MakesStep};
 ghost use Rattle.sd_core.specs.Opening.{IsAllRead};
 ghost use Rattle.sd_core.specs.Refusals.{work_refusal};
-ghost use Rattle.sd_core.specs.Starts.{TakesUp};
-ghost use Rattle.sd_core.specs.Working.{LeavesByOutcome, LeavesByStep, LeavesByWork};
 ghost use Rattle.sd_core.specs.Next.{NextByOpener, NextByOpenersOutcome, NextOnceRead};
 
 use super::Core;
@@ -19,7 +13,7 @@ use crate::opening::{
 };
 use crate::taken::Taken;
 use sd_command::{Refusal, Reply};
-use sd_crash_safety::{Standing, opener_steps, reopened_law};
+use sd_crash_safety::Standing;
 use sd_gate::{Outcome, Worker};
 use sd_journal::{Entry, tracked_laws};
 use sd_opener::{Opened, OpenerStep};
@@ -29,11 +23,8 @@ impl Core {
     /// Makes the opener's next step, or hands out its next device call.
     pub(super) fn take_up_opener(&mut self) -> Taken
         requires { work_refusal self.old its.Opener ≡ None }
-        ensures takes { TakesUp self.old its.Opener result self.new }
-        ensures leaves { LeavesByWork self.old its.Opener result self.new }
-        ensures step { NextByOpener self.old result self.new }
+        ensures { NextByOpener self.old result self.new }
     {
-        opener_steps();
         let Ok(step) = step_opener(&mut self.opener, self.numbers.ticket) else {
             return Taken::Step(Reply::Refused(Refusal::OutOfMemory));
         };
@@ -60,12 +51,8 @@ impl Core {
     /// dump's table was never to be written.
     fn finish_opening(&mut self) -> Reply
         requires { IsAllRead self.old.opener }
-        ensures takes { MakesStep self.old its.Opener result self.new }
-        ensures leaves { LeavesByStep self.old its.Opener result self.new }
-        ensures step { NextOnceRead self.old result self.new }
+        ensures { NextOnceRead self.old result self.new }
     {
-        reopened_law();
-        opener_steps();
         tracked_laws();
         plain_law();
         self.memory.sound();
@@ -99,9 +86,7 @@ impl Core {
     pub(super) fn hand_in_opener(&mut self, outcome: Outcome) -> Reply
         requires out { slice_get self.old.outs 2 ≡ Some (Some outcome.request.id) }
         requires opener { outcome.request.id.worker ≡ its.Opener }
-        ensures failed { is_done outcome.answer ≡ false → result ≡ reply.Refused StoreDown }
-        ensures leaves { LeavesByOutcome self.old its.Opener result self.new }
-        ensures step { NextByOpenersOutcome self.old outcome result self.new }
+        ensures { NextByOpenersOutcome self.old outcome result self.new }
     {
         follow_outcome(&mut self.phases, &mut self.outs, OPENER, &outcome);
         if teach(&mut self.opener, outcome) {

@@ -1,6 +1,5 @@
 //! The orders to a core: a checkpoint, a merge, the end of a checkpoint, a store opened again.
 ghost use Rattle.std.specs.Prelude.{◌≡◌, None, IfOk};
-ghost use Rattle.sd_crash_safety.specs.Calls.{Stays};
 ghost use Rattle.sd_core.specs.Beginning.{FreeSlots, begin_refusal};
 ghost use Rattle.sd_core.specs.Called.{IsBegun, IsCancelOrder, IsMergeOrder, IsReopenOrder};
 ghost use Rattle.sd_core.specs.Next.{NextByBegin, NextByCancel, NextByReopen};
@@ -9,10 +8,9 @@ ghost use Rattle.sd_core.specs.Refusals.{cancel_refusal, reopen_refusal};
 use super::Core;
 use crate::beginning::{first_of, first_parent, is_down, is_not_open, reserve_slots};
 use crate::dumping::{begin_checkpoint, release_place};
-use crate::next_laws::{begun_law, cancel_laws, merge_order_laws, reopen_laws};
+use crate::next_laws::{begin_law, cancel_law, merge_order_law, reopen_law};
 use crate::opening::{fresh_opener, give_up_all, put_opener};
 use sd_command::{Refusal, Reply};
-use sd_crash_safety::{beginning_law, cancelling_law, core_steps, opener_steps};
 use sd_free_slots::{free_in, free_law};
 use sd_journal::{Entry, tracked_laws};
 use sd_rounds::PageBuffers;
@@ -44,9 +42,8 @@ impl Core {
     pub fn begin(&mut self, rounds: u64) -> Reply
         ensures { IsBegun rounds result self.old self.new }
     {
-        core_steps();
         self.is_sound();
-        begun_law(&self.catalog);
+        begin_law(&self.catalog);
         match self.refusal_of_begin(rounds) {
             Some(why) => Reply::Refused(why),
             None => self.begin_in_slots(rounds as usize),
@@ -62,10 +59,7 @@ impl Core {
         requires { begin_refusal self.old rounds ≡ None }
         ensures { NextByBegin rounds self.old result self.new }
     {
-        core_steps();
-        beginning_law(&self.catalog);
         free_law();
-        self.catalog.sound();
         let Ok(free) = self.free_slots() else {
             return Reply::Refused(Refusal::OutOfMemory);
         };
@@ -115,8 +109,8 @@ impl Core {
     pub fn merge(&mut self) -> Reply
         ensures { IsMergeOrder result self.old self.new }
     {
-        core_steps();
-        merge_order_laws();
+        self.is_sound();
+        merge_order_law(&self.catalog);
         match self.refusal_of_merge() {
             Some(why) => Reply::Refused(why),
             None => self.merge_tip(),
@@ -133,8 +127,8 @@ impl Core {
     pub fn cancel(&mut self) -> Reply
         ensures { IsCancelOrder result self.old self.new }
     {
-        core_steps();
-        cancel_laws();
+        self.is_sound();
+        cancel_law();
         match self.refusal_of_cancel() {
             Some(why) => Reply::Refused(why),
             None => self.cancel_it(),
@@ -144,11 +138,8 @@ impl Core {
     /// Cancels the checkpoint that runs or is pending.
     pub(super) fn cancel_it(&mut self) -> Reply
         requires { cancel_refusal self.old ≡ None }
-        ensures keeps { Stays self.old self.new }
-        ensures step { NextByCancel self.old result self.new }
+        ensures { NextByCancel self.old result self.new }
     {
-        core_steps();
-        cancelling_law();
         tracked_laws();
         let number = self.numbers.begun;
         self.journal.append_held(Entry::Cancelled(number));
@@ -172,8 +163,8 @@ impl Core {
     pub fn reopen(&mut self) -> Reply
         ensures { IsReopenOrder result self.old self.new }
     {
-        core_steps();
-        reopen_laws();
+        self.is_sound();
+        reopen_law();
         match self.refusal_of_reopen() {
             Some(why) => Reply::Refused(why),
             None => self.open_again(),
@@ -187,11 +178,8 @@ impl Core {
     /// `OutOfMemory` where a growth was refused. Nothing changed.
     pub(super) fn open_again(&mut self) -> Reply
         requires { reopen_refusal self.old ≡ None }
-        ensures keeps { Stays self.old self.new }
-        ensures step { NextByReopen self.old result self.new }
+        ensures { NextByReopen self.old result self.new }
     {
-        core_steps();
-        opener_steps();
         let Ok(opener) = fresh_opener(
             self.alloc,
             self.phases.len(),

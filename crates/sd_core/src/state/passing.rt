@@ -6,14 +6,12 @@ ghost use Rattle.sd_rounds.specs.Dumper.{next_slot};
 ghost use Rattle.sd_core.specs.declared.taken.Taken.TheVariants.{Step as StepTaken};
 ghost use Rattle.sd_core.specs.Called.{HasNoPassStep, IsTakenUp};
 ghost use Rattle.sd_core.specs.Next.{CopiesSector, VisitsPage};
-ghost use Rattle.sd_core.specs.Starts.{TakesUp};
-ghost use Rattle.sd_core.specs.Working.{LeavesByWork};
 
 use super::Core;
 use crate::dumping::pass_on;
 use crate::lanes::is_resting;
-use crate::laws::step_laws;
-use crate::next_laws::dumper_taken_law;
+use crate::laws::journal_laws;
+use crate::next_laws::dumper_law;
 use sd_crash_safety::core_steps;
 use sd_gate::Worker;
 use sd_journal::Mark;
@@ -36,7 +34,7 @@ impl Core {
         ensures err { OnErr result (self.new ≡ self.old) }
     {
         core_steps();
-        dumper_taken_law();
+        dumper_law();
         self.is_sound();
         if !is_resting(&self.outs, Worker::Dumper) || self.dumper.next_slot().is_some() {
             return Ok(false);
@@ -53,13 +51,11 @@ impl Core {
     pub(super) fn pass_image(&mut self) -> Result<bool, AllocError>
         requires begun { next_slot self.old.dumper.running ≡ None }
         requires rests { slice_get self.old.outs 0 ≡ Some None }
-        ensures takes { result ≡ Ok true → TakesUp self.old its.Dumper (StepTaken reply.Worked) self.new }
-        ensures leaves { result ≡ Ok true → LeavesByWork self.old its.Dumper (StepTaken reply.Worked) self.new }
         ensures steps { result ≡ Ok true → VisitsPage self.old self.new ⊎ CopiesSector self.old self.new }
         ensures other { result ≡ Ok false → HasNoPassStep self.old × (self.new ≡ self.old) }
         ensures err { OnErr result (self.new ≡ self.old) }
     {
-        step_laws();
+        journal_laws();
         clear_law();
         self.dumper.sound();
         let Ok(()) = self.journal.reserve_mark() else {

@@ -1,16 +1,14 @@
 //! What a core says of its run, and what is so of every core.
-ghost use Rattle.std.specs.Prelude.{◌≡◌, ◌≢◌, ◌↔◌, ◌<◌, ◌≤◌, ℕ, true, None, Some, IfSome, IsSome, IsTrue, MatchOption};
+ghost use Rattle.std.specs.Prelude.{◌≡◌, ◌≢◌, ◌↔◌, ◌<◌, None, Some, IfSome, IsTrue, MatchOption};
 ghost use Rattle.std.specs.Prelude.{is_some, slice_get};
 ghost use Rattle.sd_areas.specs.Memory.{memory_of};
-ghost use Rattle.sd_chain.specs.Catalog.{Opened, place_of};
 ghost use Rattle.sd_journal.specs.History.{pending};
-ghost use Rattle.sd_journal.specs.Legal.{IsAbove};
 ghost use Rattle.sd_journal.specs.Marked.{IsTracked};
 ghost use Rattle.sd_gate.specs.Lanes.{IsInLane};
 ghost use Rattle.sd_crash_safety.specs.View.{history_of};
 ghost use Rattle.sd_core.specs.Beginning.{is_down};
+ghost use Rattle.sd_core.specs.Flags.{AreByJournal};
 ghost use Rattle.sd_core.specs.GoingOn.{AreOwnLanes, CanGoOn, HasItsJobs, OpenerAsksAlone};
-ghost use Rattle.sd_core.specs.Grown.{has_grown};
 ghost use Rattle.sd_core.specs.Kept.{HasItsPreDumps};
 ghost use Rattle.sd_core.specs.Lasting.{LeavesMerged};
 ghost use Rattle.sd_core.specs.Refusals.{IsPageOut};
@@ -113,18 +111,10 @@ impl Core {
         self.merger.sound();
     }
 
-    /// A law: the next checkpoint goes on from the tip exactly where the journal has an acknowledgement since its
-    /// latest reopening and its latest cancelling; a gate's opening was taken up only while a checkpoint is pending;
-    /// and the numbers that the journal and the catalog speak of are those that were used.
+    /// A law: whether the next checkpoint goes on from the tip, whether the opening of a gate was taken up, and the numbers
+    /// that were used, by the journal and the catalog.
     pub fn flags(&self)
-        ensures grows { self.now.grows ≡ has_grown self.now.base (history_of self.now) }
-        ensures committing { self.now.committing ≡ true → IsSome (pending (history_of self.now)) }
-        ensures begun { self.now.numbers.begun ≤ self.now.numbers.checkpoint }
-        ensures given { self.now.numbers.given ≤ self.now.numbers.serial }
-        ensures used { (n : ℕ) → self.now.numbers.begun < n → IsAbove self.now.base (history_of self.now) n }
-        ensures pending { IfSome (pending (history_of self.now)) (λ n. n ≡ self.now.numbers.begun) }
-        ensures counted { (serial : ℕ) (image : Opened) → place_of self.now.catalog serial ≡ Some (Some image)
-            → image.header.checkpoint ≤ self.now.numbers.checkpoint }
+        ensures { AreByJournal self.now }
     {
         let _memory = &self.memory;
     }

@@ -5,18 +5,16 @@ use Rattle.sd_journal.specs.Marked.{Told, entries_of}
 use Rattle.sd_core.proofs.FlagLemmas.{same_flags}
 use Rattle.sd_core.specs.Grown.{has_grown, has_visited_all}
 use Rattle.sd_core.specs.Answering.{IsAnswered}
-use Rattle.sd_core.specs.Next.{applies, out_of_memory, NextByCommand}
+use Rattle.sd_core.specs.Next.{applies, out_of_memory}
 use Rattle.sd_core.proofs.CoreParts.{parts_of}
 use Rattle.sd_core.proofs.NextOrders.{applied_seen, command_seen, same_seen, told_as}
 use Rattle.sd_core.specs.LittleWork.{HasLittle}
 use Rattle.sd_core.specs.Sound.{AreSoundNumbers, CheckpointRuns, IsJournal}
-use Rattle.sd_crash_safety.specs.CoreSteps.{IsCommanded}
 use Rattle.sd_core.specs.Starts.{base_of}
 use Rattle.sd_core.specs.Visited.{HasVisitedAll}
-use Rattle.sd_core.proofs.ApplyLemmas.{bytes_pass, commanded, stays_applied, stays_same}
+use Rattle.sd_core.proofs.ApplyLemmas.{bytes_pass}
 use Rattle.sd_core.proofs.JournalLemmas.{applied_journal, same_journal}
 use Rattle.sd_core.proofs.LittleLemmas.{applied_little, still_while_frozen}
-use Rattle.sd_core.proofs.OpeningLemmas.{stays_seen}
 use Rattle.sd_core.proofs.SettledLemmas.{swept_answered}
 use Rattle.sd_core.proofs.WorkLemmas.{applied_numbers, applied_work}
 use Rattle.std.specs.Prelude.{Err}
@@ -51,27 +49,8 @@ pub returns-in_default-try_clone : goal.returns-in_default-try_clone
 returns-in_default-try_clone c =
     let bytes = c.in_default-try_clone.ensures.bytes refl in
     let same = bytes_pass c.is_some.result c.args.command c.in-Ok-answer.reply bytes.0 c.self.inside.memory c.answer.new.memory bytes.1 c.in-Ok-answer.ensures.answered in
-    let step : NextByCommand c.args.seat c.args.command c.args.self.now (Err OutOfMemory) _ = command_seen _ _ _ _ _ _ c.self.view_is (out_of_memory (search rules) refl
-    (same_seen (parts_of c.self.inside) c.reserve.new.self c.answer.new.memory c.reserve.ensures.grown.items c.reserve.ensures.grown.held c.reserve.ensures.grown.limit same)) in
-    record {
-      step = step;
-      applies = c.command_laws.ensures.applies c.args.seat c.args.command _ c.args.self.now _ step;
-      number = c.command_laws.ensures.number c.args.seat c.args.command _ c.args.self.now _ step;
-      full = c.command_laws.ensures.full c.args.seat c.args.command _ c.args.self.now _ step;
-      stands = c.command_laws.ensures.stands c.args.seat c.args.command _ c.args.self.now _ step;
-      job = c.command_laws.ensures.job c.args.seat c.args.command _ c.args.self.now _ step;
-      merge = c.command_laws.ensures.merge c.args.seat c.args.command _ c.args.self.now _ step;
-      answered = c.command_laws.ensures.answered c.args.seat c.args.command _ c.args.self.now _ step;
-      flags = c.command_laws.ensures.flags c.args.seat c.args.command _ c.args.self.now _ step;
-      opening = c.command_laws.ensures.opening c.args.seat c.args.command _ c.args.self.now _ step;
-      marks = c.command_laws.ensures.marks c.args.seat c.args.command _ c.args.self.now _ step;
-      images = c.command_laws.ensures.images c.args.seat c.args.command _ c.args.self.now _ step;
-      keeps = stays_seen _ _ _ c.self.view_is (stays_same c.core_steps.ensures _ _ (record {
-        store = record { base = refl; phases = refl; outs = refl; opener = refl; standing = refl; catalog = refl; grows = refl; committing = refl; dumper = refl; merger = refl; serial = refl };
-        history = ap entries_of c.reserve.ensures.grown.items;
-        memory = same;
-      }));
-    }
+    c.command_law.ensures c.args.seat c.args.command (Err OutOfMemory) c.args.self.now _ c.is_sound.ensures (command_seen _ _ _ _ _ _ c.self.view_is (out_of_memory (search rules) refl
+    (same_seen (parts_of c.self.inside) c.reserve.new.self c.answer.new.memory c.reserve.ensures.grown.items c.reserve.ensures.grown.held c.reserve.ensures.grown.limit same)))
 
 pub invariant_of-self-2 : goal.invariant_of-self-2
 invariant_of-self-2 c =
@@ -109,31 +88,11 @@ returns c =
     let folded = grown.first ∙ c.self.invariant.journal_is.first in
     let answered = subst (λ frozen. IsAnswered frozen c.args.command c.in-Ok-answer.reply c.self.inside.memory c.answer.new.memory) c.is_some.ensures c.in-Ok-answer.ensures.answered in
     let same : c.next_number-number.result ≡ (base_of c.self.inside.base).folded + length (entries_of c.self.inside.journal.items) = omega (arith, count, number, folded) in
-    let step = command_seen _ _ _ _ _ _ c.self.view_is (applies c.in-Ok-answer.reply (told_as _ _ _ _ same c.in-Ok-try_clone.ensures.copy) (record {
+    c.command_law.ensures c.args.seat c.args.command _ c.args.self.now _ c.is_sound.ensures (command_seen _ _ _ _ _ _ c.self.view_is (applies c.in-Ok-answer.reply (told_as _ _ _ _ same c.in-Ok-try_clone.ensures.copy) (record {
       room = search rules;
       memory = c.answer.new.memory;
       answered = subst (λ f. IsAnswered (is_some f) c.args.command c.in-Ok-answer.reply c.self.inside.memory c.answer.new.memory) c.self.invariant.journal_is.frozen_for answered;
       new_is = applied_seen (parts_of c.self.inside) c.append.new.self c.answer.new.memory (Applied c.args.seat c.args.command c.in-Ok-answer.reply)
           (c.append.ensures.items ∙ ap (λ all. Told (Applied c.args.seat c.args.command c.in-Ok-answer.reply) ∷ all) grown.items)
           (c.append.ensures.held ∙ grown.held) (c.append.ensures.numbers.limit ∙ grown.limit);
-    })) in
-    record {
-      step = step;
-      applies = c.command_laws.ensures.applies c.args.seat c.args.command _ c.args.self.now _ step;
-      number = c.command_laws.ensures.number c.args.seat c.args.command _ c.args.self.now _ step;
-      full = c.command_laws.ensures.full c.args.seat c.args.command _ c.args.self.now _ step;
-      stands = c.command_laws.ensures.stands c.args.seat c.args.command _ c.args.self.now _ step;
-      job = c.command_laws.ensures.job c.args.seat c.args.command _ c.args.self.now _ step;
-      merge = c.command_laws.ensures.merge c.args.seat c.args.command _ c.args.self.now _ step;
-      answered = c.command_laws.ensures.answered c.args.seat c.args.command _ c.args.self.now _ step;
-      flags = c.command_laws.ensures.flags c.args.seat c.args.command _ c.args.self.now _ step;
-      opening = c.command_laws.ensures.opening c.args.seat c.args.command _ c.args.self.now _ step;
-      marks = c.command_laws.ensures.marks c.args.seat c.args.command _ c.args.self.now _ step;
-      images = c.command_laws.ensures.images c.args.seat c.args.command _ c.args.self.now _ step;
-      keeps = stays_seen _ _ _ c.self.view_is (stays_applied c.core_steps.ensures _ _ c.args.seat c.args.command c.in-Ok-answer.reply (record {
-        store = record { base = refl; phases = refl; outs = refl; opener = refl; standing = refl; catalog = refl; grows = refl; committing = refl; dumper = refl; merger = refl; serial = refl };
-        items = c.append.ensures.items ∙ ap (λ all. Told (Applied c.args.seat c.args.command c.in-Ok-answer.reply) ∷ all) c.reserve.ensures.grown.items;
-        memory = subst (λ waiting. IsCommanded waiting c.args.command c.in-Ok-answer.reply c.self.inside.memory c.answer.new.memory) c.self.invariant.journal_is.frozen_for
-            (commanded c.self.inside.pending c.args.command c.in-Ok-answer.reply c.self.inside.memory c.answer.new.memory c.sound.ensures answered);
-      }));
-    }
+    })))

@@ -5,9 +5,9 @@ use Rattle.sd_core.proofs.state.Core.begin.Goals as goal
 
 pub returns-in-Some : goal.returns-in-Some
 returns-in-Some c =
-    c.begun_law.ensures c.args.rounds c.args.self.now _ _ c.is_sound.ensures (ap (λ (v : CoreView). v.catalog) (sym c.self.view_is))
+    c.begin_law.ensures c.args.rounds c.args.self.now _ _ c.is_sound.ensures (ap (λ (v : CoreView). v.catalog) (sym c.self.view_is))
     (refused c.in-Some.why (sym c.refusal_of_begin.ensures ∙ c.in-Some.is) (refl, refl))
 
 pub returns-in-None : goal.returns-in-None
 returns-in-None c =
-    c.begun_law.ensures c.args.rounds c.args.self.now _ _ c.is_sound.ensures (ap (λ (v : CoreView). v.catalog) (sym c.self.view_is)) c.begin_in_slots.ensures
+    c.begin_law.ensures c.args.rounds c.args.self.now _ _ c.is_sound.ensures (ap (λ (v : CoreView). v.catalog) (sym c.self.view_is)) c.begin_in_slots.ensures

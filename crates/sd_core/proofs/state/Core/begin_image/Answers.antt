@@ -1,12 +1,10 @@
-use Rattle.std.proofs.Common.{◌≡◌, ℕ, ◌+◌, ◌^◌, ◌<◌, ◌≤◌, ◌||◌, ◌&&◌, ◌∷◌, Some, None, IsSome, IfSome, length, slice_get, slice_index_or, slice_set, refl, sym, ◌∙◌, ap, subst, inl, arith, if◌then◌else◌}
+use Rattle.std.proofs.Common.{◌≡◌, ℕ, ◌+◌, ◌^◌, ◌≤◌, ◌||◌, ◌&&◌, ◌∷◌, Some, None, IsSome, IfSome, slice_index_or, slice_set, refl, sym, ◌∙◌, ap, subst, arith, if◌then◌else◌}
 use Rattle.std.proofs.lemmas.Option.{same_Some, slice_get-get_or}
 use Rattle.std.proofs.Math.Bool.{and-false}
 use Rattle.sd_chain.specs.Catalog.{Opened, place_of}
 use Rattle.sd_gate.specs.Phases.{state_of}
 use Rattle.sd_gate.specs.declared.request_id.RequestId.{RequestId}
 use Rattle.sd_gate.specs.declared.worker.Worker.TheVariants as its
-use Rattle.sd_command.specs.declared.refusal.Refusal.TheVariants.{OutOfMemory}
-use Rattle.sd_command.specs.declared.reply.Reply.TheVariants as reply
 use Rattle.sd_journal.specs.declared.mark.Mark.TheVariants.{Start}
 use Rattle.sd_journal.specs.History.{Base}
 use Rattle.sd_journal.specs.Legal.{IsAbove}
@@ -18,7 +16,6 @@ use Rattle.sd_rounds.specs.Dumper.{AreRunning, HasSlot, is_dumping, is_frozen_im
 use Rattle.sd_rounds.specs.Making.{Making, begun_image, out_of, Steps as StepsImage}
 use Rattle.sd_rounds.specs.Writes.{no_writes}
 use Rattle.sd_crash_safety.specs.DumperSteps.{opens_gate, commits_dump}
-use Rattle.sd_crash_safety.specs.View.{CoreView}
 use Rattle.sd_core.proofs.FlagLemmas.{format_has_no_open, gate_swept, gated_asked, sure_asked}
 use Rattle.sd_core.specs.Grown.{IsGatedStage, has_grown, has_visited_all}
 use Rattle.sd_core.specs.declared.numbers.Numbers.{Numbers}
@@ -26,19 +23,15 @@ use Rattle.sd_core.specs.Images.{begun_as}
 use Rattle.sd_core.specs.LittleWork.{TakesLittle}
 use Rattle.sd_core.specs.Sound.{AreOuts, AreSoundNumbers, IsImageInMaking, IsJournal, begun_images, serials_to_come}
 use Rattle.sd_core.specs.Starts.{base_of}
-use Rattle.sd_core.proofs.ApplyLemmas.{stays_same}
 use Rattle.sd_core.proofs.ImageLemmas.{begun_asked}
 use Rattle.sd_core.proofs.LittleLemmas.{begun_little}
 use Rattle.sd_journal.proofs.MarkedLemmas.{no_visit as none_visited}
 use Rattle.sd_core.proofs.MarkLemmas.{counted_held, held_place, next_is, sound_image, start_numbers}
 use Rattle.sd_core.proofs.MergeLemmas.{asks_apart, fills_same, merging_stays}
-use Rattle.sd_core.proofs.OpeningLemmas.{hands_seen, step_seen}
 use Rattle.sd_core.proofs.OutsLemmas.{dumper_outs, on_slot, open_outs}
 use Rattle.sd_core.proofs.PreDumpLemmas.{change_stays, pre_dumps_stay}
 use Rattle.sd_core.proofs.SettledLemmas.{swept_same}
-use Rattle.sd_core.proofs.StageLemmas.{asked_in}
-use Rattle.sd_core.proofs.StepLemmas.{begins_asking}
-use Rattle.sd_core.proofs.WorkLemmas.{asked_on, at_work, core_working, grown_core, held_at_work, held_same, free_beside, held_more, merger_out, noted_journal, open_more, rests_before, slot_within, sound_writes}
+use Rattle.sd_core.proofs.WorkLemmas.{asked_on, at_work, core_working, grown_core, held_at_work, held_same, held_more, merger_out, noted_journal, open_more, rests_before, slot_within, sound_writes, ticked}
 use Rattle.sd_gate.specs.declared.worker.Worker.TheVariants.{Dumper}
 use Rattle.sd_rounds.specs.declared.image_step.ImageStep.TheVariants as image_step
 use Rattle.sd_core.specs.Flags.{ticket_after}
@@ -80,13 +73,13 @@ invariant_of-self-2 c =
     let base : Base = base_of c.self.inside.base in
     let old = c.self.inside.numbers in
     let serial = old.serial + 1 in
-    let w = c.begin_next-request.ensures.begins in
+    let w = c.begin_next-request.ensures in
     let core = grown_core _ c.reserve_mark.new.self c.self.invariant c.in-Ok.ensures.grown in
     let work = at_work _ w.running core w.was in
-    let begun = c.tick.ensures.begun ∙ ap (λ (n : Numbers). n.begun) c.give.ensures in
-    let checkpoint = c.tick.ensures.checkpoint ∙ ap (λ (n : Numbers). n.checkpoint) c.give.ensures in
-    let given = c.tick.ensures.given ∙ ap (λ (n : Numbers). n.given) c.give.ensures in
-    let now = c.tick.ensures.serial ∙ ap (λ (n : Numbers). n.serial) c.give.ensures in
+    let begun = (ticked _ _ c.tick.ensures).begun ∙ ap (λ (n : Numbers). n.begun) c.give.ensures in
+    let checkpoint = (ticked _ _ c.tick.ensures).checkpoint ∙ ap (λ (n : Numbers). n.checkpoint) c.give.ensures in
+    let given = (ticked _ _ c.tick.ensures).given ∙ ap (λ (n : Numbers). n.given) c.give.ensures in
+    let now = (ticked _ _ c.tick.ensures).serial ∙ ap (λ (n : Numbers). n.serial) c.give.ensures in
     let above = core.numbers_are.serials in
     let fresh = core.numbers_are.marks serial (omega (arith, above)) in
     let t = begun_asked c.reserve_mark.new.self.items c.hold.new.self c.tick.new.self (order_of w.running serial c.state.result) w.next c.begin_next-request.result
@@ -104,7 +97,7 @@ invariant_of-self-2 c =
       journal_is = subst (λ m. IsJournal base c.note.new.self m c.self.inside.pending c.self.inside.last) (sym w.steps.2)
           (noted_journal base c.reserve_mark.new.self c.note.new.self c.self.inside.memory c.self.inside.memory c.self.inside.pending c.self.inside.last (Start serial)
           c.note.ensures.items c.note.ensures.numbers.first c.note.ensures.numbers.limit
-          (c.step_laws.ensures.tracked.started base c.reserve_mark.new.self.items c.self.inside.memory serial core.journal_is.tracked fresh) core.journal_is);
+          (c.journal_laws.ensures.tracked.started base c.reserve_mark.new.self.items c.self.inside.memory serial core.journal_is.tracked fresh) core.journal_is);
       held = c.note.ensures.held ∙ held_at_work _ w.running core w.was ∙ held_same c.self.inside.pending w.running (record w.running { image = Some w.next }) None;
       outs_are = subst (λ st. AreOuts st c.put_out.new.outs c.self.inside.phases.items (Some (record w.running { image = Some w.next })) c.self.inside.merger None) (sym work.stands)
           (open_outs c.put_out.new.outs c.self.inside.phases.items (Some (record w.running { image = Some w.next })) c.self.inside.merger
@@ -150,7 +143,7 @@ invariant_of-self-2 c =
         image = subst (λ all. IsImageInMaking all c.hold.new.self c.tick.new.self w.next) (sym c.note.ensures.items) t.image_is;
       };
       little = subst (λ all. TakesLittle base all c.begin_next-request.new.memory w.running.number w.next) (sym c.note.ensures.items)
-          (begun_little c.step_laws.ensures.little base c.reserve_mark.new.self.items c.self.inside.memory c.begin_next-request.new.memory w.running.number _ (order_of w.running serial c.state.result) w.next
+          (begun_little c.journal_laws.ensures.little base c.reserve_mark.new.self.items c.self.inside.memory c.begin_next-request.new.memory w.running.number _ (order_of w.running serial c.state.result) w.next
           c.begin_next-request.result w.steps fresh (t.still ∙ and-false _));
       merging = merging_stays _ c.self.inside.phases.items c.hold.new.self c.tick.new.self (Some (record w.running { image = Some w.next })) core (record {
         count = refl;
@@ -165,10 +158,10 @@ invariant_of-self-2 c =
       });
     })
 
-pub returns-clause-step : goal.returns-clause-step
-returns-clause-step c =
+pub returns : goal.returns
+returns c =
     let serial = c.self.inside.numbers.serial + 1 in
-    let w = c.begin_next-request.ensures.begins in
+    let w = c.begin_next-request.ensures in
     let within = slot_within _ w.running c.self.invariant w.was in
     let n = next_is c.self.inside.dumper.running c.args.slot (ap (λ v. next_slot v.dumper.running) c.self.view_is ∙ c.requires.next) in
     let same = same_Some n.running w.running (sym n.was ∙ w.was) in
@@ -177,7 +170,7 @@ returns-clause-step c =
     let state = c.state.ensures ∙ ap state_of c.index.ensures ∙ ap (λ k. state_of (slice_index_or c.self.inside.phases.items k c.index.result.now)) (sym at) in
     let grown = c.in-Ok.ensures.grown in
     let gave = c.give.ensures in
-    let t = c.tick.ensures in
+    let t = (ticked _ _ c.tick.ensures) in
     dumper_seen _ _ _ _ c.self.view_is (begins_image c.begin_next-request.result refl (record {
       may = subst (λ v. work_refusal v Dumper ≡ None) (sym c.self.view_is) c.requires.may;
       running = w.running;
@@ -200,81 +193,3 @@ returns-clause-step c =
           (t.begun ∙ ap (λ (n : Numbers). n.begun) gave) (t.given ∙ ap (λ (n : Numbers). n.given) gave) (t.checkpoint ∙ ap (λ (n : Numbers). n.checkpoint) gave)
           (t.serial ∙ ap (λ (n : Numbers). n.serial) gave) (t.ticket ∙ ap (λ (n : Numbers). ticket_after n.ticket) gave);
     }))
-
-pub returns-in_default-hold-clause-takes : goal.returns-in_default-hold-clause-takes
-returns-in_default-hold-clause-takes c =
-    let same = c.in_default-hold.ensures.err in
-    step_seen its.Dumper (reply.Refused OutOfMemory) _ _ _ c.self.view_is (record {
-      keeps = inl (stays_same c.step_laws.ensures.core _ _ (record {
-        store = record { base = refl; phases = refl; outs = refl; opener = refl; standing = refl; catalog = same; grows = refl; committing = refl; dumper = refl; merger = refl; serial = refl };
-        history = ap entries_of c.in-Ok.ensures.grown.items;
-        memory = refl;
-      }));
-      adds = ap entries_of c.in-Ok.ensures.grown.items;
-    })
-
-pub returns-clause-takes : goal.returns-clause-takes
-returns-clause-takes c =
-    let base : Base = base_of c.self.inside.base in
-    let serial = c.self.inside.numbers.serial + 1 in
-    let w = c.begin_next-request.ensures.begins in
-    let order = order_of w.running serial c.state.result in
-    let work = at_work _ w.running c.self.invariant w.was in
-    let none = rests_before _ w.running c.self.invariant w.was w.none in
-    let within = slot_within _ w.running c.self.invariant w.was in
-    let slot = (asked_in order (begun_image order).stage w.steps.0.plan w.steps.0.next c.begin_next-request.result w.steps.0.was w.steps.0.gives refl).slot in
-    let n = next_is c.self.inside.dumper.running c.args.slot (ap (λ v. next_slot v.dumper.running) c.self.view_is ∙ c.requires.next) in
-    let same = same_Some n.running w.running (sym n.was ∙ w.was) in
-    let at : slot_of w.running ≡ c.args.slot = sym (ap slot_of same) ∙ n.slot_is in
-    let phase = slice_index_or c.self.inside.phases.items (slot_of w.running) c.index.result.now in
-    let mid : CoreView = record {
-      base = base;
-      items = c.note.new.self.items;
-      held = c.note.new.self.held;
-      limit = c.note.new.self.limit;
-      memory = c.self.inside.memory;
-      standing = c.self.inside.standing;
-      phases = c.self.inside.phases.items;
-      outs = c.self.inside.outs;
-      catalog = c.hold.new.self;
-      dumper = record { running = Some (record w.running { image = Some (begun_image order) }); since_freeze = 0 };
-      merger = c.self.inside.merger;
-      opener = c.self.inside.opener;
-      numbers = record { checkpoint = c.self.inside.numbers.checkpoint; serial = serial; begun = c.self.inside.numbers.begun; given = serial; ticket = c.self.inside.numbers.ticket };
-      grows = c.self.inside.grows;
-      committing = c.self.inside.committing;
-    } in
-    hands_seen its.Dumper c.begin_next-request.result _ _ _ c.self.view_is
-    (begins_asking c.step_laws.ensures.steps _ mid _ w.running phase (begun_image order) w.next c.self.inside.numbers.ticket c.begin_next-request.result (record {
-      rest = record { stands = work.stands; base = refl; closed = work.closed; grows = refl; merger = refl };
-      history = ap entries_of c.note.ensures.items ∙ ap entries_of c.in-Ok.ensures.grown.items;
-      memory = refl;
-      phases = refl;
-      outs = refl;
-      free = free_beside _ w.running (slot_of w.running) c.self.invariant w.was none refl;
-      was = w.was;
-      none = w.none;
-      phase_is = slice_get-get_or c.self.inside.phases.items (slot_of w.running) c.index.result.now within;
-      serial = refl;
-      held = c.in-Ok-hold.ensures.held;
-      is = ap (λ s. Some (record w.running { image = Some (begun_image (order_of w.running serial s)) }))
-          (c.state.ensures ∙ ap state_of c.index.ensures ∙ ap (λ k. state_of (slice_index_or c.self.inside.phases.items k c.index.result.now)) (sym at));
-    }) (record {
-      rest = record { stands = work.stands; base = refl; closed = work.closed; grows = refl; merger = refl };
-      history = refl;
-      catalog = refl;
-      memory = w.steps.2;
-      phases = refl;
-      serial = c.tick.ensures.serial ∙ ap (λ (n : Numbers). n.serial) c.give.ensures;
-      free = ap (λ outs. slice_get outs 0) none;
-      apart = free_beside _ w.running c.begin_next-request.result.id.slot c.self.invariant w.was none slot;
-      outs = c.put_out.ensures ∙ ap (λ id. slice_set c.self.inside.outs 0 (Some id)) c.id.ensures;
-      was = refl;
-      making = refl;
-      rising = c.rises_law.ensures.opens _;
-      own = refl;
-      steps = w.steps;
-      committing = c.is_committing-self-inside.ensures ∙ ap (λ r. c.self.inside.committing || is_dumping r && opens_gate c.id-2.result.call) w.is
-          ∙ ap (λ (i : RequestId). c.self.inside.committing || is_last w.running && opens_gate i.call) c.id-2.ensures;
-      is = w.is;
-    }) w.steps.1 (subst (λ s. s < length c.self.inside.phases.items) (sym slot) within))

@@ -4,23 +4,19 @@ use Rattle.sd_chain.specs.Catalog.{Opened, place_of}
 use Rattle.sd_gate.specs.declared.request_id.RequestId.{RequestId}
 use Rattle.sd_gate.specs.declared.worker.Worker.TheVariants as its
 use Rattle.sd_gate.specs.Phases.{state_of}
-use Rattle.sd_journal.specs.History.{Base}
 use Rattle.sd_merge.specs.declared.copy_order.CopyOrder.{CopyOrder}
 use Rattle.sd_merge.specs.Copying.{begun_copy}
 use Rattle.sd_merge.specs.Merger as merger
 use Rattle.sd_merge.specs.Merger.{copying, slot_before, slot_to_begin}
 use Rattle.sd_rounds.specs.Dumper.{HasSlot}
-use Rattle.sd_crash_safety.specs.Calls.{IsFree}
 use Rattle.sd_crash_safety.specs.View.{CoreView}
 use Rattle.sd_core.specs.declared.numbers.Numbers.{Numbers}
 use Rattle.sd_core.specs.Sound.{ClosesWithHeader, IsDoing, serials_to_come}
-use Rattle.sd_core.specs.Starts.{base_of}
-use Rattle.sd_core.proofs.BesideLemmas.{core_asks, due_rests, free_asked, merger_works, other_above}
+use Rattle.sd_core.proofs.BesideLemmas.{core_asks, due_rests, merger_works, other_above}
 use Rattle.sd_core.proofs.MarkLemmas.{counted_held, held_place}
 use Rattle.sd_core.proofs.MergerSteps.{asks_header, asks_own, begun_sound}
-use Rattle.sd_core.proofs.OpeningLemmas.{hands_seen}
-use Rattle.sd_core.proofs.OwnLemmas.{makes_in, spared_of}
-use Rattle.sd_core.proofs.WorkLemmas.{at_work, held_more, open_more}
+use Rattle.sd_core.proofs.OwnLemmas.{spared_of}
+use Rattle.sd_core.proofs.WorkLemmas.{at_work, held_more, open_more, ticked}
 use Rattle.sd_core.specs.Next.{begins_image}
 use Rattle.sd_core.specs.Refusals.{work_refusal}
 use Rattle.sd_merge.specs.declared.merge_step.MergeStep.TheVariants as merge_step
@@ -34,15 +30,15 @@ pub invariant_of-self-2 : goal.invariant_of-self-2
 invariant_of-self-2 c =
     let old = c.self.inside.numbers in
     let serial = old.serial + 1 in
-    let w = c.begin_copy-request.ensures.begins in
+    let w = c.begin_copy-request.ensures in
     let m = merger_works _ w.merge c.self.invariant w.was in
     let d = subst (IsDoing c.self.inside.phases.items c.self.inside.catalog old c.self.inside.room c.self.inside.dumper.running w.merge) w.must_dump m.doing in
     let order = merger.order_of w.merge serial c.state.result in
     let own = asks_own (begun_copy order) w.copy c.begin_copy-request.result (begun_sound order) w.steps.0 in
-    let begun = c.tick.ensures.begun ∙ ap (λ (n : Numbers). n.begun) c.give.ensures in
-    let checkpoint = c.tick.ensures.checkpoint ∙ ap (λ (n : Numbers). n.checkpoint) c.give.ensures in
-    let given = c.tick.ensures.given ∙ ap (λ (n : Numbers). n.given) c.give.ensures in
-    let now = c.tick.ensures.serial ∙ ap (λ (n : Numbers). n.serial) c.give.ensures in
+    let begun = (ticked _ _ c.tick.ensures).begun ∙ ap (λ (n : Numbers). n.begun) c.give.ensures in
+    let checkpoint = (ticked _ _ c.tick.ensures).checkpoint ∙ ap (λ (n : Numbers). n.checkpoint) c.give.ensures in
+    let given = (ticked _ _ c.tick.ensures).given ∙ ap (λ (n : Numbers). n.given) c.give.ensures in
+    let now = (ticked _ _ c.tick.ensures).serial ∙ ap (λ (n : Numbers). n.serial) c.give.ensures in
     let above = c.self.invariant.numbers_are.serials in
     let own_serial = ap (λ (o : CopyOrder). o.serial) own.order in
     let counted = m.counted in
@@ -83,95 +79,17 @@ invariant_of-self-2 c =
       );
     })
 
-pub returns-clause-takes : goal.returns-clause-takes
-returns-clause-takes c =
-    let base : Base = base_of c.self.inside.base in
+pub returns : goal.returns
+returns c =
     let serial = c.self.inside.numbers.serial + 1 in
-    let request = c.begin_copy-request.result in
-    let w = c.begin_copy-request.ensures.begins in
-    let m = merger_works _ w.merge c.self.invariant w.was in
-    let order = merger.order_of w.merge serial c.state.result in
-    let begun = record w.merge { doing = copying (begun_copy order) } in
-    let own = asks_own (begun_copy order) w.copy request (begun_sound order) w.steps.0 in
-    let at : w.merge.slot ≡ c.args.slot = same_Some w.merge.slot c.args.slot (sym (ap (slot_to_begin w.merge) w.must_dump) ∙ sym (ap slot_before w.was)
-    ∙ ap (λ (v : CoreView). slot_before v.merger) c.self.view_is ∙ c.requires.next) in
-    let rests = due_rests _ w.merge c.self.invariant w.was w.must_dump in
-    let spared = spared_of c.self.inside.dumper.running w.merge.slot m.spared in
-    let free = free_asked _ w.merge.slot c.self.invariant m.stands rests spared in
-    let makes = makes_in c.self.inside.dumper.since_freeze c.self.inside.dumper.running c.sound-2.ensures.running in
-    let phase = slice_index_or c.self.inside.phases.items w.merge.slot c.index.result.now in
-    let mid : CoreView = record {
-      base = base;
-      items = c.self.inside.journal.items;
-      held = c.self.inside.journal.held;
-      limit = c.self.inside.journal.limit;
-      memory = c.self.inside.memory;
-      standing = c.self.inside.standing;
-      phases = c.self.inside.phases.items;
-      outs = c.self.inside.outs;
-      catalog = c.hold.new.self;
-      dumper = c.self.inside.dumper;
-      merger = Some begun;
-      opener = c.self.inside.opener;
-      numbers = record { checkpoint = c.self.inside.numbers.checkpoint; serial = serial; begun = c.self.inside.numbers.begun; given = serial; ticket = c.self.inside.numbers.ticket };
-      grows = c.self.inside.grows;
-      committing = c.self.inside.committing;
-    } in
-    let outs = c.put_out.ensures ∙ ap (λ id. slice_set c.self.inside.outs 1 (Some id)) c.id.ensures in
-    hands_seen its.Merger request _ _ _ c.self.view_is (record {
-      lane = 1;
-      free = rests;
-      base = refl;
-      history = refl;
-      phases = refl;
-      outs = outs;
-      whose = w.steps.1.worker;
-      slot = subst (λ s. s < length c.self.inside.phases.items) (sym own.slot) m.within;
-      apart = λ lane other at same. absurd (subst (IsFree c.self.inside.outs) (sym own.slot) free lane other at same);
-      pages = λ few. absurd (omega (arith, few));
-      beside = λ lane other at same. absurd (subst (IsFree c.self.inside.outs) (sym own.slot) free lane other at same);
-      goes_on = λ asked bodies files believed.
-          c.merger_steps.ensures.asks mid _ begun (begun_copy order) w.copy c.self.inside.numbers.ticket request asked bodies files refl (record {
-            merges = record {
-              rest = record { stands = m.stands; base = refl; history = refl; memory = refl; closed = m.closed; grows = refl; committing = refl; dumper = refl; makes = makes };
-              phases = refl;
-              serial = c.tick.ensures.serial ∙ ap (λ (n : Numbers). n.serial) c.give.ensures;
-              catalog = refl;
-              was = refl;
-              doing = refl;
-              sound = begun_sound order;
-              steps = w.steps;
-              is = w.is;
-            };
-            free = rests;
-            apart = subst (IsFree c.self.inside.outs) (sym own.slot) free;
-            outs = outs;
-          }) (c.merger_steps.ensures.begins_image _ mid w.merge phase asked bodies files (record {
-            rest = record { stands = m.stands; base = refl; history = refl; memory = refl; closed = m.closed; grows = refl; committing = refl; dumper = refl; makes = makes };
-            phases = refl;
-            outs = refl;
-            phase_is = slice_get-get_or c.self.inside.phases.items w.merge.slot c.index.result.now m.within;
-            free = free;
-            serial = refl;
-            held = c.in-Ok.ensures.held;
-            was = w.was;
-            due = w.must_dump;
-            is = ap (λ s. Some (record w.merge { doing = copying (begun_copy (merger.order_of w.merge serial s)) }))
-                (c.state.ensures ∙ ap state_of c.index.ensures ∙ ap (λ k. state_of (slice_index_or c.self.inside.phases.items k c.index.result.now)) (sym at));
-          }) believed);
-    })
-
-pub returns-clause-step : goal.returns-clause-step
-returns-clause-step c =
-    let serial = c.self.inside.numbers.serial + 1 in
-    let w = c.begin_copy-request.ensures.begins in
+    let w = c.begin_copy-request.ensures in
     let m = merger_works _ w.merge c.self.invariant w.was in
     let at : w.merge.slot ≡ c.args.slot = same_Some w.merge.slot c.args.slot (sym (ap (slot_to_begin w.merge) w.must_dump) ∙ sym (ap slot_before w.was)
     ∙ ap (λ (v : CoreView). slot_before v.merger) c.self.view_is ∙ c.requires.next) in
     let phase = slice_index_or c.self.inside.phases.items w.merge.slot c.index.result.now in
     let state = c.state.ensures ∙ ap state_of c.index.ensures ∙ ap (λ k. state_of (slice_index_or c.self.inside.phases.items k c.index.result.now)) (sym at) in
     let gave = c.give.ensures in
-    let t = c.tick.ensures in
+    let t = (ticked _ _ c.tick.ensures) in
     merger_seen _ _ _ _ c.self.view_is (begins_image c.begin_copy-request.result refl (record {
       may = subst (λ v. work_refusal v its.Merger ≡ None) (sym c.self.view_is) c.requires.may;
       merge = w.merge;

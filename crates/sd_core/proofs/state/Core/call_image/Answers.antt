@@ -1,11 +1,9 @@
-use Rattle.std.proofs.Common.{◌≡◌, ◌+◌, ◌<◌, ◌≤◌, ◌^◌, ◌||◌, ◌&&◌, length, Some, None, IfSome, is_some, slice_get, slice_set, ◌∷◌, refl, sym, ◌∙◌, ap, subst, arith, if◌then◌else◌}
+use Rattle.std.proofs.Common.{◌≡◌, ◌+◌, ◌≤◌, ◌^◌, ◌||◌, ◌&&◌, Some, None, IfSome, is_some, slice_get, slice_set, ◌∷◌, refl, sym, ◌∙◌, ap, subst, arith, if◌then◌else◌}
 use Rattle.std.proofs.lemmas.Option.{slice_get_within}
 use Rattle.sd_gate.specs.declared.request_id.RequestId.{RequestId}
 use Rattle.sd_gate.specs.declared.worker.Worker.TheVariants as its
-use Rattle.sd_command.specs.declared.reply.Reply.TheVariants as reply
 use Rattle.sd_journal.specs.declared.entry.Entry.TheVariants.{Freeze}
 use Rattle.sd_journal.specs.History.{Base}
-use Rattle.sd_journal.specs.Legal.{IsLegal}
 use Rattle.sd_journal.specs.declared.mark.Mark.TheVariants.{Table}
 use Rattle.sd_journal.specs.Marked.{Noted, Told, entries_of}
 use Rattle.sd_rounds.specs.declared.image_step.ImageStep.TheVariants.{Call, PageCall, TableCall}
@@ -24,14 +22,12 @@ use Rattle.sd_core.specs.Sound.{AreSoundNumbers, IsImageInMaking, IsJournal, beg
 use Rattle.sd_core.specs.Starts.{base_of}
 use Rattle.sd_core.specs.Visited.{HasVisitedAll}
 use Rattle.sd_core.proofs.ImageLemmas.{image_asked, image_frozen, image_page, image_table}
-use Rattle.sd_core.proofs.LaneLemmas.{lane_free, none_written, outs_asked, outs_kept, outs_resting, outs_writing, page_apart, page_beside}
+use Rattle.sd_core.proofs.LaneLemmas.{outs_asked, outs_kept, outs_writing}
 use Rattle.sd_core.proofs.LittleLemmas.{freeze_little, little_of, step_little}
-use Rattle.sd_core.proofs.MarkLemmas.{before_freeze, freeze_journal, freeze_numbers, frozen_next, may_freeze, sound_image, table_journal}
-use Rattle.sd_core.proofs.OpeningLemmas.{hands_seen, step_seen}
+use Rattle.sd_core.proofs.MarkLemmas.{before_freeze, freeze_journal, freeze_numbers, frozen_next, sound_image, table_journal}
 use Rattle.sd_core.proofs.PreDumpLemmas.{same_stay}
-use Rattle.sd_core.proofs.WorkLemmas.{SameNumbers, asked_on, at_work, core_working, counted_same, free_beside, grown_core, held_at_work, image_of_work, image_within, its_serial, merging_turned, numbers_noted, numbers_same, out_at_work, own_order, own_slot, same_numbers, same_places, sound_writes, turned}
+use Rattle.sd_core.proofs.WorkLemmas.{SameNumbers, asked_on, at_work, core_working, counted_same, grown_core, held_at_work, image_of_work, image_within, its_serial, merging_turned, numbers_noted, numbers_same, out_at_work, own_order, own_slot, same_numbers, same_places, sound_writes, turned, ticked}
 use Rattle.sd_core.proofs.SettledLemmas.{none_swept, swept_same, unswept}
-use Rattle.sd_core.proofs.StepLemmas.{freezes_it, hands_asked, hands_page}
 use Rattle.sd_core.proofs.SweptLemmas.{pends_last, table_swept}
 use Rattle.sd_gate.specs.declared.worker.Worker.TheVariants.{Dumper}
 use Rattle.sd_core.specs.Next.{asks, asks_page, asks_table, freezes}
@@ -49,7 +45,7 @@ invariant_of-self-in-Call c =
     let rests = ap (λ v. slice_get v.outs 0) c.self.view_is ∙ c.requires.rests in
     let out = out_at_work _ w.running None core w.was rests in
     let image = image_of_work _ w.running w.image core w.was w.making in
-    let numbers : SameNumbers c.self.inside.numbers c.tick-in-Call.new.self = record { begun = c.tick-in-Call.ensures.begun; given = c.tick-in-Call.ensures.given; checkpoint = c.tick-in-Call.ensures.checkpoint; serial = c.tick-in-Call.ensures.serial } in
+    let numbers : SameNumbers c.self.inside.numbers c.tick-in-Call.new.self = record { begun = (ticked _ _ c.tick-in-Call.ensures).begun; given = (ticked _ _ c.tick-in-Call.ensures).given; checkpoint = (ticked _ _ c.tick-in-Call.ensures).checkpoint; serial = (ticked _ _ c.tick-in-Call.ensures).serial } in
     let t = image_asked _ _ _ c.tick-in-Call.new.self w.image w.next c.in-Call.request numbers image w.steps.0 in
     core_working _ _ w.is (turned w.running w.image w.next core (record {
       was = w.was;
@@ -83,7 +79,7 @@ invariant_of-self-in-Call c =
       asked = asked_on w.running w.image w.next _ t.out_is t.slot (own_slot c.self.inside.dumper.since_freeze _ w.running w.image c.sound.ensures.running w.was w.making);
       image_is = t.image_is;
       still = t.still;
-      little = step_little c.step_laws.ensures.little base c.reserve_mark.new.self.items c.reserve_mark.new.self.items c.self.inside.memory c.step_on.new.memory w.running.number c.self.inside.numbers.ticket w.image w.next (Call c.in-Call.request) w.steps
+      little = step_little c.journal_laws.ensures.little base c.reserve_mark.new.self.items c.reserve_mark.new.self.items c.self.inside.memory c.step_on.new.memory w.running.number c.self.inside.numbers.ticket w.image w.next (Call c.in-Call.request) w.steps
           (sound_image _ w.running w.image c.sound.ensures.image w.was w.making).rising t.still refl refl (little_of base c.reserve_mark.new.self.items c.self.inside.memory c.self.inside.dumper.running w.running w.image core.little w.was w.making);
     }))
 
@@ -95,7 +91,7 @@ invariant_of-self-in-PageCall c =
     let rests = ap (λ v. slice_get v.outs 0) c.self.view_is ∙ c.requires.rests in
     let out = out_at_work _ w.running None core w.was rests in
     let image = image_of_work _ w.running w.image core w.was w.making in
-    let numbers : SameNumbers c.self.inside.numbers c.tick.new.self = record { begun = c.tick.ensures.begun; given = c.tick.ensures.given; checkpoint = c.tick.ensures.checkpoint; serial = c.tick.ensures.serial } in
+    let numbers : SameNumbers c.self.inside.numbers c.tick.new.self = record { begun = (ticked _ _ c.tick.ensures).begun; given = (ticked _ _ c.tick.ensures).given; checkpoint = (ticked _ _ c.tick.ensures).checkpoint; serial = (ticked _ _ c.tick.ensures).serial } in
     let t = image_page _ _ _ c.tick.new.self w.image w.next c.in-PageCall.lane c.in-PageCall.request numbers image w.steps.0 in
     core_working _ _ w.is (turned w.running w.image w.next core (record {
       was = w.was;
@@ -121,7 +117,7 @@ invariant_of-self-in-PageCall c =
       asked = asked_on w.running w.image w.next _ t.out_is t.slot (own_slot c.self.inside.dumper.since_freeze _ w.running w.image c.sound.ensures.running w.was w.making);
       image_is = t.image_is;
       still = t.still;
-      little = step_little c.step_laws.ensures.little base c.reserve_mark.new.self.items c.reserve_mark.new.self.items c.self.inside.memory c.step_on.new.memory w.running.number c.self.inside.numbers.ticket w.image w.next (PageCall c.in-PageCall.lane c.in-PageCall.request) w.steps
+      little = step_little c.journal_laws.ensures.little base c.reserve_mark.new.self.items c.reserve_mark.new.self.items c.self.inside.memory c.step_on.new.memory w.running.number c.self.inside.numbers.ticket w.image w.next (PageCall c.in-PageCall.lane c.in-PageCall.request) w.steps
           (sound_image _ w.running w.image c.sound.ensures.image w.was w.making).rising t.still refl refl (little_of base c.reserve_mark.new.self.items c.self.inside.memory c.self.inside.dumper.running w.running w.image core.little w.was w.making);
     }))
 
@@ -133,7 +129,7 @@ invariant_of-self-in-TableCall c =
     let rests = ap (λ v. slice_get v.outs 0) c.self.view_is ∙ c.requires.rests in
     let out = out_at_work _ w.running None core w.was rests in
     let image = image_of_work _ w.running w.image core w.was w.making in
-    let numbers : SameNumbers c.self.inside.numbers c.tick-in-TableCall.new.self = record { begun = c.tick-in-TableCall.ensures.begun; given = c.tick-in-TableCall.ensures.given; checkpoint = c.tick-in-TableCall.ensures.checkpoint; serial = c.tick-in-TableCall.ensures.serial } in
+    let numbers : SameNumbers c.self.inside.numbers c.tick-in-TableCall.new.self = record { begun = (ticked _ _ c.tick-in-TableCall.ensures).begun; given = (ticked _ _ c.tick-in-TableCall.ensures).given; checkpoint = (ticked _ _ c.tick-in-TableCall.ensures).checkpoint; serial = (ticked _ _ c.tick-in-TableCall.ensures).serial } in
     let t = image_table _ _ _ c.tick-in-TableCall.new.self w.image w.next c.self.inside.memory c.in-TableCall.request numbers image w.steps.0 in
     let given = image.given in
     let own_serial = its_serial _ w.running w.next c.serial.result _ w.is c.serial.ensures c.in-Some.is ∙ ap (λ (o : ImageOrder). o.serial) t.order in
@@ -149,7 +145,7 @@ invariant_of-self-in-TableCall c =
       entries = ap entries_of items;
       held = c.note.ensures.held;
       journal_is = subst (λ m. IsJournal base c.note.new.self m c.self.inside.pending c.self.inside.last) (sym w.steps.2)
-          (table_journal c.step_laws.ensures.tracked _ w.running w.image w.next c.in-TableCall.request c.note.new.self core w.was w.making w.steps.0 items c.note.ensures.numbers.first c.note.ensures.numbers.limit);
+          (table_journal c.journal_laws.ensures.tracked _ w.running w.image w.next c.in-TableCall.request c.note.new.self core w.was w.making w.steps.0 items c.note.ensures.numbers.first c.note.ensures.numbers.limit);
       numbers_are = subst (λ all. AreSoundNumbers base all c.self.inside.pending c.self.inside.last c.tick-in-TableCall.new.self) (sym items)
           (numbers_same base _ c.self.inside.pending c.self.inside.last c.self.inside.numbers c.tick-in-TableCall.new.self numbers
           (numbers_noted base c.reserve_mark.new.self.items c.self.inside.pending c.self.inside.last c.self.inside.numbers (Table w.image.order.serial) (omega (arith, given)) core.numbers_are));
@@ -168,7 +164,7 @@ invariant_of-self-in-TableCall c =
           (table_gated (is_last w.running) c.self.inside.swept c.has_ended_its_pass-self-inside.result (c.has_ended_its_pass-self-inside.ensures ∙ ap (λ r. c.self.inside.swept || is_dumping r) w.is));
       visited_is = subst (λ now. HasVisitedAll now c.self.inside.pending c.step_on.new.memory) (sym (c.has_ended_its_pass-self-inside.ensures ∙ ap (λ r. c.self.inside.swept || is_dumping r) w.is))
           (table_swept _ w.running w.image w.next c.in-TableCall.request c.step_on.new.memory _ core w.was w.making (own_order c.self.inside.dumper.since_freeze _ w.running w.image c.sound.ensures.running w.was w.making) w.steps.0 w.steps.2 t.still
-          (step_little c.step_laws.ensures.little base c.reserve_mark.new.self.items (Noted (Table w.image.order.serial) ∷ c.reserve_mark.new.self.items) c.self.inside.memory c.step_on.new.memory w.running.number c.self.inside.numbers.ticket w.image w.next (TableCall c.in-TableCall.request) w.steps
+          (step_little c.journal_laws.ensures.little base c.reserve_mark.new.self.items (Noted (Table w.image.order.serial) ∷ c.reserve_mark.new.self.items) c.self.inside.memory c.step_on.new.memory w.running.number c.self.inside.numbers.ticket w.image w.next (TableCall c.in-TableCall.request) w.steps
           (sound_image _ w.running w.image c.sound.ensures.image w.was w.making).rising t.still refl refl (little_of base c.reserve_mark.new.self.items c.self.inside.memory c.self.inside.dumper.running w.running w.image core.little w.was w.making)));
       counted = counted_same c.self.inside.catalog c.self.inside.numbers c.tick-in-TableCall.new.self numbers core.counted;
       outs_are = c.put_out-in-TableCall.ensures ∙ ap (λ id. slice_set c.self.inside.outs 0 (Some id)) c.id-in-TableCall.ensures
@@ -180,7 +176,7 @@ invariant_of-self-in-TableCall c =
       image_is = subst (λ all. IsImageInMaking all c.self.inside.catalog c.tick-in-TableCall.new.self w.next) (sym items) t.image_is;
       still = t.still;
       little = subst (λ all. TakesLittle base all c.step_on.new.memory w.running.number w.next) (sym items)
-          (step_little c.step_laws.ensures.little base c.reserve_mark.new.self.items (Noted (Table w.image.order.serial) ∷ c.reserve_mark.new.self.items) c.self.inside.memory c.step_on.new.memory w.running.number c.self.inside.numbers.ticket w.image w.next (TableCall c.in-TableCall.request) w.steps
+          (step_little c.journal_laws.ensures.little base c.reserve_mark.new.self.items (Noted (Table w.image.order.serial) ∷ c.reserve_mark.new.self.items) c.self.inside.memory c.step_on.new.memory w.running.number c.self.inside.numbers.ticket w.image w.next (TableCall c.in-TableCall.request) w.steps
           (sound_image _ w.running w.image c.sound.ensures.image w.was w.making).rising t.still refl refl (little_of base c.reserve_mark.new.self.items c.self.inside.memory c.self.inside.dumper.running w.running w.image core.little w.was w.making));
     }))
 
@@ -202,7 +198,7 @@ invariant_of-self-in-Frozen c =
     let serials = subst (λ i. c.self.inside.numbers.serial + serials_to_come c.self.inside.merger ≤ 2 ^ 63 + begun_images w.running i) w.making work.serials in
     core_working _ _ w.is (record {
       journal_is = subst (λ m. IsJournal base c.append_held.new.self m (Some c.self.inside.numbers.begun) c.self.inside.last) (sym w.steps.1)
-          (freeze_journal c.step_laws.ensures.tracked _ w.running c.append_held.new.self core w.was b.none c.append_held.ensures.items c.append_held.ensures.numbers.first c.append_held.ensures.numbers.limit);
+          (freeze_journal c.journal_laws.ensures.tracked _ w.running c.append_held.new.self core w.was b.none c.append_held.ensures.items c.append_held.ensures.numbers.first c.append_held.ensures.numbers.limit);
       held = omega (arith, held, two);
       outs_are = record {
         count = core.outs_are.count;
@@ -240,15 +236,15 @@ invariant_of-self-in-Frozen c =
       };
       little = subst (λ all. TakesLittle base all c.step_on.new.memory w.running.number w.next) (sym c.append_held.ensures.items)
           (subst (λ n. TakesLittle base (Told (Freeze n) ∷ c.reserve_mark.new.self.items) c.step_on.new.memory w.running.number w.next) work.number
-          (freeze_little c.step_laws.ensures.little base c.reserve_mark.new.self.items c.self.inside.memory c.step_on.new.memory w.running.number c.self.inside.numbers.ticket w.image w.next w.steps b.kind core.journal_is.tracked));
+          (freeze_little c.journal_laws.ensures.little base c.reserve_mark.new.self.items c.self.inside.memory c.step_on.new.memory w.running.number c.self.inside.numbers.ticket w.image w.next w.steps b.kind core.journal_is.tracked));
       merging = merging_turned _ c.self.inside.phases.items c.self.inside.catalog c.self.inside.numbers w.running w.image w.next core w.was w.making (ap (λ (o : ImageOrder). o.serial) t.order)
           (same_places w.running c.self.inside.catalog) refl (same_numbers _);
     })
 
 -- ---- the step
 
-pub returns-in-Frozen-clause-step : goal.returns-in-Frozen-clause-step
-returns-in-Frozen-clause-step c =
+pub returns-in-Frozen : goal.returns-in-Frozen
+returns-in-Frozen c =
     let w = subst (λ step. StepsOn c.self.inside.numbers.ticket c.self.inside.dumper c.self.inside.memory step c.step_on.new.dumper c.step_on.new.memory) c.in-Frozen.is c.in-Ok-step_on.ensures.steps in
     let may = subst (λ v. work_refusal v Dumper ≡ None) (sym c.self.view_is) (may_step c.args.self.now c.requires.rests c.requires.runs c.requires.goes) in
     let grown = c.in-Ok.ensures.grown in
@@ -266,12 +262,12 @@ returns-in-Frozen-clause-step c =
           one (c.append_held.ensures.numbers.limit ∙ grown.limit) w.steps.1 refl w.is w.counted refl;
     }))
 
-pub returns-in-TableCall-clause-step : goal.returns-in-TableCall-clause-step
-returns-in-TableCall-clause-step c =
+pub returns-in-TableCall : goal.returns-in-TableCall
+returns-in-TableCall c =
     let w = subst (λ step. StepsOn c.self.inside.numbers.ticket c.self.inside.dumper c.self.inside.memory step c.step_on.new.dumper c.step_on.new.memory) c.in-TableCall.is c.in-Ok-step_on.ensures.steps in
     let may = subst (λ v. work_refusal v Dumper ≡ None) (sym c.self.view_is) (may_step c.args.self.now c.requires.rests c.requires.runs c.requires.goes) in
     let grown = c.in-Ok.ensures.grown in
-    let t = c.tick-in-TableCall.ensures in
+    let t = (ticked _ _ c.tick-in-TableCall.ensures) in
     let own = its_serial _ w.running w.next c.serial.result _ w.is c.serial.ensures c.in-Some.is ∙ ap (λ (m : Making). m.order.serial) w.steps.0.is in
     dumper_seen _ _ _ _ c.self.view_is (asks_table c.in-TableCall.request refl (record {
       it = record { may = may; running = w.running; was = w.was; image = w.image; making = w.making; next = w.next; steps = (w.steps.0, w.steps.1, refl) };
@@ -286,12 +282,12 @@ returns-in-TableCall-clause-step c =
           t.begun t.given t.checkpoint t.serial t.ticket;
     }))
 
-pub returns-in-Call-clause-step : goal.returns-in-Call-clause-step
-returns-in-Call-clause-step c =
+pub returns-in-Call : goal.returns-in-Call
+returns-in-Call c =
     let w = subst (λ step. StepsOn c.self.inside.numbers.ticket c.self.inside.dumper c.self.inside.memory step c.step_on.new.dumper c.step_on.new.memory) c.in-Call.is c.in-Ok-step_on.ensures.steps in
     let may = subst (λ v. work_refusal v Dumper ≡ None) (sym c.self.view_is) (may_step c.args.self.now c.requires.rests c.requires.runs c.requires.goes) in
     let grown = c.in-Ok.ensures.grown in
-    let t = c.tick-in-Call.ensures in
+    let t = (ticked _ _ c.tick-in-Call.ensures) in
     dumper_seen _ _ _ _ c.self.view_is (asks c.in-Call.request refl (record {
       it = record { may = may; running = w.running; was = w.was; image = w.image; making = w.making; next = w.next; steps = (w.steps.0, w.steps.1, refl) };
       new_is = asked_seen (parts_of c.self.inside) c.reserve_mark.new.self c.step_on.new.memory c.put_out-in-Call.new.outs (slice_set c.self.inside.outs 0 (Some c.in-Call.request.id)) c.step_on.new.dumper
@@ -303,12 +299,12 @@ returns-in-Call-clause-step c =
           t.begun t.given t.checkpoint t.serial t.ticket;
     }))
 
-pub returns-in-PageCall-clause-step : goal.returns-in-PageCall-clause-step
-returns-in-PageCall-clause-step c =
+pub returns-in-PageCall : goal.returns-in-PageCall
+returns-in-PageCall c =
     let w = subst (λ step. StepsOn c.self.inside.numbers.ticket c.self.inside.dumper c.self.inside.memory step c.step_on.new.dumper c.step_on.new.memory) c.in-PageCall.is c.in-Ok-step_on.ensures.steps in
     let may = subst (λ v. work_refusal v Dumper ≡ None) (sym c.self.view_is) (may_step c.args.self.now c.requires.rests c.requires.runs c.requires.goes) in
     let grown = c.in-Ok.ensures.grown in
-    let t = c.tick.ensures in
+    let t = (ticked _ _ c.tick.ensures) in
     dumper_seen _ _ _ _ c.self.view_is (asks_page c.in-PageCall.request refl (record {
       lane = c.in-PageCall.lane;
       it = record { may = may; running = w.running; was = w.was; image = w.image; making = w.making; next = w.next; steps = (w.steps.0, w.steps.1, refl) };
@@ -326,119 +322,3 @@ page_lane-requires c =
     let within = slice_get_within w.image.writes c.in-PageCall.lane None w.steps.0.free in
     let eight = good.lanes.count in
     omega (arith, within, eight)
-
-pub returns-in-Frozen-clause-takes : goal.returns-in-Frozen-clause-takes
-returns-in-Frozen-clause-takes c =
-    let base : Base = base_of c.self.inside.base in
-    let w = subst (λ step. StepsOn c.self.inside.numbers.ticket c.self.inside.dumper c.self.inside.memory step c.step_on.new.dumper c.step_on.new.memory) c.in-Frozen.is c.in-Ok-step_on.ensures.steps in
-    let work = at_work _ w.running c.self.invariant w.was in
-    let b = before_freeze _ w.running w.image w.next c.self.invariant w.was w.making c.sound.ensures.image w.steps.0 in
-    let items = c.self.inside.journal.items in
-    let tracked = c.self.invariant.journal_is.tracked in
-    step_seen its.Dumper reply.Worked _ _ _ c.self.view_is (freezes_it c.step_laws.ensures.steps _ _ w.running w.image w.next c.self.inside.numbers.ticket (record {
-      rest = record { stands = work.stands; base = refl; closed = work.closed; grows = refl; merger = refl };
-      items = c.append_held.ensures.items ∙ ap (λ all. Told (Freeze c.self.inside.numbers.begun) ∷ all) c.in-Ok.ensures.grown.items ∙ ap (λ n. Told (Freeze n) ∷ items) (sym work.number);
-      legal = subst (λ n. IsLegal base (Freeze n ∷ entries_of items)) (sym work.number)
-          (may_freeze _ w.running c.self.invariant w.was b.none, c.step_laws.ensures.tracked.legal base items tracked.marked);
-      made = tracked.memory;
-      catalog = refl;
-      memory = w.steps.1;
-      phases = refl;
-      serial = refl;
-      outs = refl;
-      was = w.was;
-      making = w.making;
-      steps = w.steps;
-      committing = refl;
-      is = w.is;
-    }))
-
-pub returns-in-TableCall-clause-takes : goal.returns-in-TableCall-clause-takes
-returns-in-TableCall-clause-takes c =
-    let base : Base = base_of c.self.inside.base in
-    let w = subst (λ step. StepsOn c.self.inside.numbers.ticket c.self.inside.dumper c.self.inside.memory step c.step_on.new.dumper c.step_on.new.memory) c.in-TableCall.is c.in-Ok-step_on.ensures.steps in
-    let rests = ap (λ v. slice_get v.outs 0) c.self.view_is ∙ c.requires.rests in
-    let out = out_at_work _ w.running None c.self.invariant w.was rests in
-    let work = at_work _ w.running c.self.invariant w.was in
-    let within = image_within _ c.self.inside.dumper.since_freeze w.running w.image c.self.invariant c.sound.ensures.running w.was w.making in
-    let slot = w.steps.0.gives.slot in
-    hands_seen its.Dumper c.in-TableCall.request _ _ _ c.self.view_is (hands_asked _ _ w.running w.image w.next c.self.inside.numbers.ticket (TableCall c.in-TableCall.request) c.in-TableCall.request (record {
-      rest = record { stands = work.stands; base = refl; closed = work.closed; grows = refl; merger = refl };
-      history = ap entries_of c.note.ensures.items ∙ ap entries_of c.in-Ok.ensures.grown.items;
-      catalog = refl;
-      memory = w.steps.2;
-      phases = refl;
-      serial = c.tick-in-TableCall.ensures.serial;
-      free = rests;
-      apart = free_beside _ w.running c.in-TableCall.request.id.slot c.self.invariant w.was (outs_resting w.running w.image w.next (merger.out_of_merge c.self.inside.merger) c.self.inside.outs out.1 w.making w.steps.0.rests) (slot ∙ own_slot c.self.inside.dumper.since_freeze _ w.running w.image c.sound.ensures.running w.was w.making);
-      outs = c.put_out-in-TableCall.ensures ∙ ap (λ id. slice_set c.self.inside.outs 0 (Some id)) c.id-in-TableCall.ensures;
-      was = w.was;
-      making = w.making;
-      rising = (sound_image _ w.running w.image c.sound.ensures.image w.was w.making).rising;
-      own = own_order c.self.inside.dumper.since_freeze _ w.running w.image c.sound.ensures.running w.was w.making;
-      steps = w.steps;
-      committing = c.is_committing-self-inside-in-TableCall.ensures ∙ ap (λ r. c.self.inside.committing || is_dumping r && opens_gate c.id-in-TableCall-2.result.call) w.is
-          ∙ ap (λ (i : RequestId). c.self.inside.committing || is_last w.running && opens_gate i.call) c.id-in-TableCall-2.ensures;
-      is = w.is;
-    }) w.steps.1 (subst (λ slot. slot < length c.self.inside.phases.items) (sym slot) within) (λ asked bodies files. c.step_laws.ensures.steps.writes_table _ _ w.running w.image w.next c.self.inside.numbers.ticket c.in-TableCall.request asked bodies files))
-
-pub returns-in-Call-clause-takes : goal.returns-in-Call-clause-takes
-returns-in-Call-clause-takes c =
-    let base : Base = base_of c.self.inside.base in
-    let w = subst (λ step. StepsOn c.self.inside.numbers.ticket c.self.inside.dumper c.self.inside.memory step c.step_on.new.dumper c.step_on.new.memory) c.in-Call.is c.in-Ok-step_on.ensures.steps in
-    let rests = ap (λ v. slice_get v.outs 0) c.self.view_is ∙ c.requires.rests in
-    let out = out_at_work _ w.running None c.self.invariant w.was rests in
-    let work = at_work _ w.running c.self.invariant w.was in
-    let within = image_within _ c.self.inside.dumper.since_freeze w.running w.image c.self.invariant c.sound.ensures.running w.was w.making in
-    let slot = (image_asked _ _ _ _ w.image w.next c.in-Call.request (same_numbers _) (image_of_work _ w.running w.image c.self.invariant w.was w.making) w.steps.0).slot in
-    let good = sound_image _ w.running w.image c.sound.ensures.image w.was w.making in
-    let resting = outs_resting w.running w.image w.next (merger.out_of_merge c.self.inside.merger) c.self.inside.outs out.1 w.making (none_written w.image w.steps.0.plan w.steps.0.was good) in
-    hands_seen its.Dumper c.in-Call.request _ _ _ c.self.view_is (hands_asked _ _ w.running w.image w.next c.self.inside.numbers.ticket (Call c.in-Call.request) c.in-Call.request (record {
-      rest = record { stands = work.stands; base = refl; closed = work.closed; grows = refl; merger = refl };
-      history = ap entries_of c.in-Ok.ensures.grown.items;
-      catalog = refl;
-      memory = w.steps.2;
-      phases = refl;
-      serial = c.tick-in-Call.ensures.serial;
-      free = rests;
-      apart = free_beside _ w.running c.in-Call.request.id.slot c.self.invariant w.was resting (slot ∙ own_slot c.self.inside.dumper.since_freeze _ w.running w.image c.sound.ensures.running w.was w.making);
-      outs = c.put_out-in-Call.ensures ∙ ap (λ id. slice_set c.self.inside.outs 0 (Some id)) c.id-in-Call.ensures;
-      was = w.was;
-      making = w.making;
-      rising = (sound_image _ w.running w.image c.sound.ensures.image w.was w.making).rising;
-      own = own_order c.self.inside.dumper.since_freeze _ w.running w.image c.sound.ensures.running w.was w.making;
-      steps = w.steps;
-      committing = c.is_committing-self-inside.ensures ∙ ap (λ r. c.self.inside.committing || is_dumping r && opens_gate c.id-in-Call-2.result.call) w.is
-          ∙ ap (λ (i : RequestId). c.self.inside.committing || is_last w.running && opens_gate i.call) c.id-in-Call-2.ensures;
-      is = w.is;
-    }) w.steps.1 (subst (λ slot. slot < length c.self.inside.phases.items) (sym slot) within) (λ asked bodies files. c.step_laws.ensures.steps.asks _ _ w.running w.image w.next c.self.inside.numbers.ticket c.in-Call.request asked bodies files))
-
-pub returns-in-PageCall-clause-takes : goal.returns-in-PageCall-clause-takes
-returns-in-PageCall-clause-takes c =
-    let base : Base = base_of c.self.inside.base in
-    let w = subst (λ step. StepsOn c.self.inside.numbers.ticket c.self.inside.dumper c.self.inside.memory step c.step_on.new.dumper c.step_on.new.memory) c.in-PageCall.is c.in-Ok-step_on.ensures.steps in
-    let rests = ap (λ v. slice_get v.outs 0) c.self.view_is ∙ c.requires.rests in
-    let out = out_at_work _ w.running None c.self.invariant w.was rests in
-    let work = at_work _ w.running c.self.invariant w.was in
-    let within = image_within _ c.self.inside.dumper.since_freeze w.running w.image c.self.invariant c.sound.ensures.running w.was w.making in
-    let slot = w.steps.0.slot in
-    let own = own_slot c.self.inside.dumper.since_freeze _ w.running w.image c.sound.ensures.running w.was w.making in
-    hands_seen its.Dumper c.in-PageCall.request _ _ _ c.self.view_is (hands_page c.step_laws.ensures.steps _ _ w.running w.image w.next c.self.inside.numbers.ticket c.in-PageCall.lane c.in-PageCall.request (record {
-      rest = record { stands = work.stands; base = refl; closed = work.closed; grows = refl; merger = refl };
-      history = ap entries_of c.in-Ok.ensures.grown.items;
-      catalog = refl;
-      memory = w.steps.2;
-      phases = refl;
-      serial = c.tick.ensures.serial;
-      free = lane_free w.running w.image w.next (merger.out_of_merge c.self.inside.merger) c.self.inside.outs out.1 w.making c.in-PageCall.lane w.steps.0.free;
-      apart = page_apart _ w.running w.image w.next c.in-PageCall.lane c.in-PageCall.request c.self.invariant w.was w.making out.1 own w.steps.0;
-      outs = c.put_out.ensures ∙ ap (λ k. slice_set c.self.inside.outs k (Some c.id.result)) c.page_lane.ensures.lane ∙ ap (λ id. slice_set c.self.inside.outs (page_lane c.in-PageCall.lane) (Some id)) c.id.ensures;
-      was = w.was;
-      making = w.making;
-      rising = (sound_image _ w.running w.image c.sound.ensures.image w.was w.making).rising;
-      own = own_order c.self.inside.dumper.since_freeze _ w.running w.image c.sound.ensures.running w.was w.making;
-      steps = w.steps;
-      committing = refl;
-      is = w.is;
-    }) w.steps.1 (subst (λ slot. slot < length c.self.inside.phases.items) (sym slot) within)
-    (page_beside _ w.running w.image w.next c.in-PageCall.lane c.in-PageCall.request c.self.invariant w.was w.making out.1 own w.steps.0))

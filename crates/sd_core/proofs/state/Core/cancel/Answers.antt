@@ -1,31 +1,9 @@
 use Rattle.std.proofs.Common.{refl, sym, ◌∙◌}
-use Rattle.sd_command.specs.declared.reply.Reply.TheVariants.{Refused}
-use Rattle.sd_core.specs.Next.{NextByCancel, refused}
-use Rattle.sd_core.proofs.NextSound.{stays_as}
+use Rattle.sd_core.specs.Next.{refused}
 use Rattle.sd_core.proofs.state.Core.cancel.Goals as goal
 
 pub returns-in-Some : goal.returns-in-Some
-returns-in-Some c =
-    let step : NextByCancel c.args.self.now (Refused c.in-Some.why) c.args.self.now = refused c.in-Some.why (sym c.refusal_of_cancel.ensures ∙ c.in-Some.is) (refl, refl) in
-    record {
-      step = step;
-      adds = c.cancel_laws.ensures.adds c.args.self.now _ _ step;
-      refused = c.cancel_laws.ensures.refused c.args.self.now _ _ step;
-      cancelled = c.cancel_laws.ensures.cancelled c.args.self.now _ _ step;
-      flags = c.cancel_laws.ensures.flags c.args.self.now _ _ step;
-      beside = c.cancel_laws.ensures.beside c.args.self.now _ _ step;
-      keeps = stays_as c.core_steps.ensures _ _ refl;
-    }
+returns-in-Some c = c.cancel_law.ensures c.args.self.now _ _ c.is_sound.ensures (refused c.in-Some.why (sym c.refusal_of_cancel.ensures ∙ c.in-Some.is) (refl, refl))
 
 pub returns-in-None : goal.returns-in-None
-returns-in-None c =
-    let step = c.cancel_it.ensures.step in
-    record {
-      step = step;
-      adds = c.cancel_laws.ensures.adds c.args.self.now _ _ step;
-      refused = c.cancel_laws.ensures.refused c.args.self.now _ _ step;
-      cancelled = c.cancel_laws.ensures.cancelled c.args.self.now _ _ step;
-      flags = c.cancel_laws.ensures.flags c.args.self.now _ _ step;
-      beside = c.cancel_laws.ensures.beside c.args.self.now _ _ step;
-      keeps = c.cancel_it.ensures.keeps;
-    }
+returns-in-None c = c.cancel_law.ensures c.args.self.now _ _ c.is_sound.ensures c.cancel_it.ensures

@@ -9,7 +9,7 @@ use Rattle.sd_core.specs.Dumping.{ReleasesPlace}
 use Rattle.sd_core.specs.LittleWork.{HasLittle}
 use Rattle.sd_core.specs.Sound.{AreSoundNumbers, CheckpointRuns, held_for}
 use Rattle.sd_core.specs.Starts.{base_of}
-use Rattle.sd_core.proofs.CancelLemmas.{cancelled_journal, cancelled_numbers, counted_released, may_cancel, merges_on, rests_cancelled, images_same, written_of}
+use Rattle.sd_core.proofs.CancelLemmas.{cancelled_journal, cancelled_numbers, counted_released, may_cancel, merges_on, rests_cancelled}
 use Rattle.sd_core.proofs.JournalLemmas.{same_journal}
 use Rattle.sd_core.specs.Next.{cancels}
 use Rattle.sd_core.specs.Refusals.{cancel_refusal}
@@ -17,8 +17,6 @@ use Rattle.sd_core.proofs.CoreParts.{parts_of}
 use Rattle.sd_core.proofs.NextOrders.{cancel_seen, cancelled_seen, under_way}
 use Rattle.sd_core.proofs.RefusalLemmas.{MayCancel, may_cancel_now}
 use Rattle.sd_core.proofs.SettledLemmas.{not_swept}
-use Rattle.sd_core.proofs.ApplyLemmas.{same_phases}
-use Rattle.sd_core.proofs.OpeningLemmas.{stays_seen}
 use Rattle.sd_core.proofs.state.Core.cancel_it.Goals as goal
 
 pub invariant_of-self : goal.invariant_of-self
@@ -51,8 +49,8 @@ invariant_of-self c =
       merging = merges_on _ c.release_place.new.catalog c.cancel.new.self c.self.invariant gone released;
     }
 
-pub returns-clause-step : goal.returns-clause-step
-returns-clause-step c =
+pub returns : goal.returns
+returns c =
     let may = subst MayCancel (sym c.self.view_is) (may_cancel_now c.args.self.now c.requires) in
     let released = subst (λ own. ReleasesPlace own c.self.inside.catalog c.release_place.new.catalog) c.serial.ensures c.release_place.ensures in
     let held = c.held-held.ensures in
@@ -67,31 +65,3 @@ returns-clause-step c =
       new_is = cancelled_seen (parts_of c.self.inside) c.release.new.self c.release_place.new.catalog c.cancel.new.self c.self.inside.numbers.begun (items ∙ c.append_held.ensures.items)
           (ap (λ (k : JournalView). k.limit) c.release.ensures ∙ c.append_held.ensures.numbers.limit) free c.cancel.ensures may.sure;
     }))
-
-pub returns-clause-keeps : goal.returns-clause-keeps
-returns-clause-keeps c =
-    let may = subst MayCancel (sym c.self.view_is) (may_cancel_now c.args.self.now c.requires) in
-    let gone = ap (λ (d : Dumping). d.running) c.cancel.ensures in
-    let released = subst (λ own. ReleasesPlace own c.self.inside.catalog c.release_place.new.catalog) c.serial.ensures c.release_place.ensures in
-    stays_seen _ _ _ c.self.view_is (record {
-      base = refl;
-      outs = refl;
-      phases = same_phases c.self.inside.outs c.self.inside.phases.items;
-      goes_on = λ asked bodies files b. c.cancelling_law.ensures _ _ c.self.inside.numbers.begun asked bodies files (record {
-        base = refl;
-        items = ap (λ (k : JournalView). k.items) c.release.ensures ∙ c.append_held.ensures.items;
-        memory = refl;
-        phases = refl;
-        outs = refl;
-        standing = refl;
-        serial = refl;
-        closed = may.closed;
-        free = may.rests;
-        written = written_of _ c.self.invariant may.pages;
-        sure = may.sure;
-        merger = refl;
-        images = images_same (serial_of_running c.self.inside.dumper.running) c.self.inside.catalog c.release_place.new.catalog released;
-        grows = refl;
-        is = gone;
-      }) b;
-    })

@@ -1,11 +1,6 @@
-use Rattle.std.proofs.Common.{◌≡◌, false, if◌then◌else◌, length, map, take, Some, None, IfSome, refl, sym, ◌∙◌, ap, subst, arith, rules}
-use Rattle.std.proofs.Math.Seq.{take-length}
+use Rattle.std.proofs.Common.{◌≡◌, false, if◌then◌else◌, Some, None, IfSome, refl, sym, ◌∙◌, ap, subst, arith, rules}
 use Rattle.std.proofs.lemmas.Option.{same_Some}
-use Rattle.sd_gate.specs.declared.worker.Worker.TheVariants as its
-use Rattle.sd_gate.specs.Laws.{found_phase}
-use Rattle.sd_command.specs.declared.refusal.Refusal.TheVariants.{Damaged as DamagedStore}
-use Rattle.sd_command.specs.declared.reply.Reply.TheVariants as reply
-use Rattle.sd_journal.specs.History.{Base, last, pending}
+use Rattle.sd_journal.specs.History.{Base, pending}
 use Rattle.sd_opener.specs.Looking.{Looking, out_of_look}
 use Rattle.sd_crash_safety.specs.declared.standing.Standing.TheVariants.{Open}
 use Rattle.sd_crash_safety.specs.View.{CoreView}
@@ -18,9 +13,10 @@ use Rattle.sd_core.specs.Starts.{base_of}
 use Rattle.sd_core.proofs.CoreLemmas.{held_idle, held_opening, nobody_is, none_out}
 use Rattle.sd_core.proofs.JournalLemmas.{expected_may, found_used, reopened_journal, reopened_numbers}
 use Rattle.sd_core.proofs.MergeLemmas.{no_merge, none_merges}
-use Rattle.sd_core.proofs.OpeningLemmas.{ends_refused, starts_anew, step_seen}
 use Rattle.sd_core.proofs.WorkLemmas.{none_closed, none_works}
+use Rattle.sd_core.proofs.FoundNumbers.{above_found, above_own}
 use Rattle.sd_core.proofs.SettledLemmas.{not_swept}
+use Rattle.sd_core.specs.declared.numbers.Numbers.{Numbers}
 use Rattle.sd_core.specs.contracts.state.Core.{the_view}
 use Rattle.sd_core.specs.Next.{opens, strange}
 use Rattle.sd_core.specs.Opening.{OpensAnew, SawDamage, SawStrange}
@@ -57,69 +53,18 @@ invariant_of-self-2 c =
       opening = subst (λ x. IfSome x (IsOpening Open c.in-Some-read_by.opened.phases.items)) (sym c.take_opener.ensures.left) tt;
       numbers_are = subst (λ all. AreSoundNumbers base all None c.in-Some-read_by.found c.found.new.self) (sym c.append_held.ensures.items)
           (reopened_numbers base c.self.inside.journal.items c.self.inside.pending c.self.inside.last c.in-Some-read_by.found c.self.inside.numbers c.found.new.self
-          c.found.ensures.begun c.found.ensures.given c.found.ensures.checkpoint c.found.ensures.serial used c.self.invariant.numbers_are);
-      counted = c.found.ensures.checkpoints;
+          (ap (λ (n : Numbers). n.begun) c.found.ensures.others) (ap (λ (n : Numbers). n.given) c.found.ensures.others) (above_own c.found.ensures.checkpoint) (above_own c.found.ensures.serial) used c.self.invariant.numbers_are);
+      counted = λ serial i at. above_found c.sound-2.ensures c.found.ensures.checkpoint serial i at;
       rests = λ idle stands. refl;
       work = none_works _ c.self.inside.dumper.running none;
       little = none_works _ c.self.inside.dumper.running none;
       merging = no_merge _ c.self.inside.merger (none_merges _ c.self.invariant opening.closed);
     }
 
-pub returns-in_default-read_by-clause-takes : goal.returns-in_default-read_by-clause-takes
-returns-in_default-read_by-clause-takes c =
-    let o = c.in-Some.opener in
-    let is : c.self.inside.opener ≡ Some o = sym c.take_opener.ensures.taken ∙ c.in-Some.is in
-    let opening = subst (λ x. IfSome x (IsOpening c.self.inside.standing c.self.inside.phases.items)) is c.self.invariant.opening in
-    step_seen its.Opener (reply.Refused DamagedStore) _ _ _ c.self.view_is
-    (ends_refused c.opener_steps.ensures _ _ DamagedStore (record {
-      rest = record { closed = opening.closed; base = refl; items = c.release_for_opening.ensures.items; memory = refl; standing = refl; catalog = refl; dumper = refl; numbers = refl; grows = refl; committing = refl };
-      outs = refl;
-      phases = refl;
-      opener = c.take_opener.ensures.left;
-    }))
-
-pub returns-clause-takes : goal.returns-clause-takes
-returns-clause-takes c =
-    let base : Base = base_of c.self.inside.base in
-    let o = c.in-Some.opener in
-    let is : c.self.inside.opener ≡ Some o = sym c.take_opener.ensures.taken ∙ c.in-Some.is in
-    let same : c.requires.looking ≡ o = same_Some c.requires.looking o (sym c.requires.is ∙ sym (ap (λ (v : CoreView). v.opener) c.self.view_is) ∙ is) in
-    let opening = subst (λ x. IfSome x (IsOpening c.self.inside.standing c.self.inside.phases.items)) is c.self.invariant.opening in
-    let none = none_closed _ c.self.invariant opening.closed in
-    let rests : out_of_opener c.self.inside.opener ≡ None = ap out_of_opener is ∙ subst (λ (l : Looking). out_of_look l.stage ≡ None) same c.requires.rests in
-    let all : length o.told ≡ o.slots = subst (λ (l : Looking). length l.told ≡ l.slots) same c.requires.all in
-    let slots : o.slots ≡ length c.self.inside.phases.items = (subst (λ x. IfSome x (IsOpening c.self.inside.standing c.self.inside.phases.items)) is c.self.invariant.opening).slots in
-    let opens = c.in-Some-read_by.ensures.opens in
-    let expected = expected_may c.self.inside.pending c.self.inside.last c.in-Some-read_by.found c.self.inside.swept
-    (subst (λ p. IsExpected c.self.inside.last p c.in-Some-read_by.found) c.visited_checkpoint.ensures opens.expected) in
-    let legal = reopened_journal c.tracked_laws.ensures c.plain_law.ensures base c.self.inside.journal c.append_held.new.self c.self.inside.memory c.self.inside.pending c.self.inside.last c.in-Some-read_by.found c.self.inside.swept
-    c.append_held.ensures.items c.append_held.ensures.numbers.first c.append_held.ensures.numbers.limit expected c.sound.ensures c.self.invariant.visited_is c.self.invariant.journal_is in
-    step_seen its.Opener (reply.Reopened c.in-Some-read_by.found) _ _ _ c.self.view_is
-    (starts_anew c.reopened_law.ensures c.opener_steps.ensures _ _ o c.in-Some-read_by.found (record {
-      base = refl;
-      items = c.append_held.ensures.items;
-      outs = refl;
-      none = nobody_is _ o c.self.invariant is rests;
-      legal = (legal.1, c.tracked_laws.ensures.legal base c.self.inside.journal.items c.self.invariant.journal_is.tracked.marked);
-      was = is;
-      all = all;
-      slots = slots;
-      closed = c.take_opener.ensures.left;
-      count = ap length opens.told ∙ all ∙ slots;
-    }) (λ files sees count. opens.told ∙ sees.told ∙ ap (λ k. map found_phase (take k files)) count ∙ ap (map found_phase) (take-length files)) opens.number (λ files sees count shown shows. record {
-      catalog = (opens.read files sees count shown shows).catalog;
-      order = c.sound-2.ensures.order;
-      serials = c.found.ensures.serials;
-      grows = refl;
-      idle = none;
-      unmerged = none_merges _ c.self.invariant opening.closed;
-      outs = nobody_is _ o c.self.invariant is rests;
-    }))
-
 -- ---- the step
 
-pub returns-in_default-read_by-clause-step : goal.returns-in_default-read_by-clause-step
-returns-in_default-read_by-clause-step c =
+pub returns-in_default-read_by : goal.returns-in_default-read_by
+returns-in_default-read_by c =
     let o = c.in-Some.opener in
     let is : c.self.inside.opener ≡ Some o = sym c.take_opener.ensures.taken ∙ c.in-Some.is in
     let opening = subst (λ x. IfSome x (IsOpening c.self.inside.standing c.self.inside.phases.items)) is c.self.invariant.opening in
@@ -139,8 +84,8 @@ returns-in_default-read_by-clause-step c =
           c.take_opener.ensures.left;
     }))
 
-pub returns-clause-step : goal.returns-clause-step
-returns-clause-step c =
+pub returns : goal.returns
+returns c =
     let o = c.in-Some.opener in
     let is : c.self.inside.opener ≡ Some o = sym c.take_opener.ensures.taken ∙ c.in-Some.is in
     let opening = subst (λ x. IfSome x (IsOpening c.self.inside.standing c.self.inside.phases.items)) is c.self.invariant.opening in

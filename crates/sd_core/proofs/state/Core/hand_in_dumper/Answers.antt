@@ -1,8 +1,8 @@
-use Rattle.std.proofs.Common.{◌≡◌, ◌<◌, Some, slice_get, false, true, refl, sym, ◌∙◌, ap, subst}
+use Rattle.std.proofs.Common.{◌≡◌, Some, slice_get, false, true, refl, ◌∙◌, ap, subst}
 use Rattle.sd_gate.specs.declared.request_id.RequestId.{RequestId}
 use Rattle.sd_gate.specs.declared.worker.Worker.TheVariants.{Dumper}
-use Rattle.sd_rounds.specs.declared.progress.Progress.TheVariants.{Failed, More}
-use Rattle.sd_rounds.specs.Dumper.{Hands, IsHanded, Running, HasCounted}
+use Rattle.sd_rounds.specs.declared.progress.Progress.TheVariants.{Failed}
+use Rattle.sd_rounds.specs.Dumper.{Hands, IsHanded, Running}
 use Rattle.sd_rounds.specs.Making.{Making}
 use Rattle.sd_crash_safety.specs.DumperOutcomes.{LeavesCatalog}
 use Rattle.sd_crash_safety.specs.View.{CoreView}
@@ -10,13 +10,10 @@ use Rattle.sd_core.specs.Refusals.{is_idle}
 use Rattle.sd_core.specs.Sound.{held_for}
 use Rattle.sd_core.proofs.CoreParts.{parts_of}
 use Rattle.sd_core.proofs.FallenLemmas.{fallen_core, let_go_two}
-use Rattle.sd_core.proofs.HandsDump.{GoesOn, HandsDump, OpensDump, dump_core, goes_on_core, pre_dump_core, work, dump_acked}
+use Rattle.sd_core.proofs.HandsDump.{GoesOn, HandsDump, OpensDump, dump_core, goes_on_core, pre_dump_core, work}
 use Rattle.sd_core.proofs.LaneLemmas.{out_there}
 use Rattle.sd_core.proofs.NextHands.{down_next, dump_free, dump_next, goes_on_next, pre_dump_next}
 use Rattle.sd_core.proofs.state.Core.hand_in_dumper.Goals.{After-hand_in, In-Failed}
-use Rattle.sd_pagetable.specs.Contents.{plain_of}
-use Rattle.sd_rounds.specs.Left.{left_of}
-use Rattle.sd_core.specs.Images.{job_of}
 use Rattle.sd_core.proofs.state.Core.hand_in_dumper.Goals as goal
 
 -- ---- what is known at each kind of goal
@@ -48,7 +45,7 @@ more c =
       running = h.running;
       image = h.hands.image;
       next = h.hands.next;
-      hands = hands (goal.at.returns-in-More-clause-step c).After-hand_in h.running h.hands.image h.was h.hands.was;
+      hands = hands (goal.at.returns-in-More c).After-hand_in h.running h.hands.image h.was h.hands.was;
       goes = h.hands.hands;
       is = ap (λ d. d.running) h.is ∙ ap Some h.hands.is;
       images = c.sound-in-More.ensures.image;
@@ -63,7 +60,7 @@ pre_dump c =
       closed = c.follow_outcome-closed.result.closed;
       running = h.running;
       image = h.hands.0.image;
-      hands = hands (goal.at.returns-in-PreDump-clause-step c).After-hand_in h.running h.hands.0.image h.was h.hands.0.was;
+      hands = hands (goal.at.returns-in-PreDump c).After-hand_in h.running h.hands.0.image h.was h.hands.0.was;
       opens = h.hands.0.hands;
       last_is = h.hands.1;
       is = ap (λ d. d.running) h.is ∙ ap Some h.hands.2;
@@ -78,7 +75,7 @@ dump c =
       closed = c.follow_outcome-closed.result.closed;
       running = h.running;
       image = h.hands.0.image;
-      hands = hands (goal.at.returns-in-Dump-clause-step c).After-hand_in h.running h.hands.0.image h.was h.hands.0.was;
+      hands = hands (goal.at.returns-in-Dump c).After-hand_in h.running h.hands.0.image h.was h.hands.0.was;
       opens = h.hands.0.hands;
       last_is = h.hands.1;
       is = ap (λ d. d.running) h.is;
@@ -96,37 +93,37 @@ invariant_of-self c =
     refl c.follow_outcome-closed.ensures.follows.count c.follow_outcome-closed.ensures.outs (ap (λ d. d.running) h.is) c.cancel.ensures
 
 pub invariant_of-self-in-More : goal.invariant_of-self-in-More
-invariant_of-self-in-More c = goes_on_core (more c) c.outcome_laws.ensures.little
+invariant_of-self-in-More c = goes_on_core (more c) c.journal_laws.ensures.little
 
 pub invariant_of-self-in-PreDump : goal.invariant_of-self-in-PreDump
 invariant_of-self-in-PreDump c = pre_dump_core (pre_dump c)
 
 pub invariant_of-self-in-Dump : goal.invariant_of-self-in-Dump
-invariant_of-self-in-Dump c = dump_core (dump c) c.outcome_laws.ensures.tracked c.outcome_laws.ensures.plain c.append_held.new.self c.append_held.ensures.items c.append_held.ensures.numbers.first
+invariant_of-self-in-Dump c = dump_core (dump c) c.journal_laws.ensures.tracked c.plain_law.ensures c.append_held.new.self c.append_held.ensures.items c.append_held.ensures.numbers.first
     c.append_held.ensures.numbers.limit c.append_held.ensures.held c.sound-in-Dump.ensures
 
 -- ---- the step
 
-pub returns-in-Failed-clause-step : goal.returns-in-Failed-clause-step
-returns-in-Failed-clause-step c =
-    let h = failed (goal.at.returns-in-Failed-clause-step c).In-Failed in
-    let known = hands (goal.at.returns-in-Failed-clause-step c).After-hand_in h.running h.hands.image h.was h.hands.was in
+pub returns-in-Failed : goal.returns-in-Failed
+returns-in-Failed c =
+    let h = failed (goal.at.returns-in-Failed c).In-Failed in
+    let known = hands (goal.at.returns-in-Failed c).After-hand_in h.running h.hands.image h.was h.hands.was in
     down_next known c.release_unfrozen.new.journal c.hand_in.new.self c.cancel.new.self h.hands.hands.failed c.release_unfrozen.ensures.items c.release_unfrozen.ensures.limit
     (let_go_two c.self.inside.pending _ h.running c.self.inside.journal _ h.was (c.self.invariant.held ∙ ap (held_for c.self.inside.pending c.self.inside.dumper.running) (work known).closed) c.release_unfrozen.ensures)
     (ap (λ d. d.running) h.is) (ap (λ d. d.since_freeze) h.is) c.cancel.ensures
 
-pub returns-in-More-clause-step : goal.returns-in-More-clause-step
-returns-in-More-clause-step c =
+pub returns-in-More : goal.returns-in-More
+returns-in-More c =
     let h = subst (λ p. Hands c.self.inside.dumper c.args.outcome p c.hand_in.new.self) c.in-More.is c.hand_in.ensures.hands in
     goes_on_next (more c) (ap (λ d. d.since_freeze) h.is)
 
-pub returns-in-PreDump-clause-step : goal.returns-in-PreDump-clause-step
-returns-in-PreDump-clause-step c =
+pub returns-in-PreDump : goal.returns-in-PreDump
+returns-in-PreDump c =
     let h = subst (λ p. Hands c.self.inside.dumper c.args.outcome p c.hand_in.new.self) c.in-PreDump.is c.hand_in.ensures.hands in
     pre_dump_next (pre_dump c) (ap (λ d. d.since_freeze) h.is)
 
-pub returns-in-Dump-clause-step : goal.returns-in-Dump-clause-step
-returns-in-Dump-clause-step c =
+pub returns-in-Dump : goal.returns-in-Dump
+returns-in-Dump c =
     let h = subst (λ p. Hands c.self.inside.dumper c.args.outcome p c.hand_in.new.self) c.in-Dump.is c.hand_in.ensures.hands in
     dump_next (dump c) (ap (λ d. d.since_freeze) h.is) c.append_held.new.self c.append_held.ensures.items c.append_held.ensures.numbers.limit
     (dump_free (dump c) c.append_held.new.self c.append_held.ensures.held)
@@ -136,17 +133,3 @@ unreachable-requires c =
     let h = subst (λ p. Hands c.self.inside.dumper c.args.outcome p c.hand_in.new.self) c.in-Strange.is c.hand_in.ensures.hands in
     h.other (out_there _ c.args.lane c.args.outcome.request.id c.self.invariant (ap (λ (v : CoreView). is_idle v Dumper) c.self.view_is ∙ c.requires.runs) c.requires.dumper
     (ap (λ (v : CoreView). slice_get v.outs c.args.lane) c.self.view_is ∙ c.requires.out))
-
-pub returns-in-Dump-clause-acked : goal.returns-in-Dump-clause-acked
-returns-in-Dump-clause-acked c n is =
-    dump_acked (dump c) c.append_held.new.self n (cc) (subst (λ p. HasCounted p c.hand_in.new.self.since_freeze) c.in-Dump.is c.hand_in.ensures.pages)
-
-pub returns-in-More-clause-leaves : goal.returns-in-More-clause-leaves
-returns-in-More-clause-leaves c =
-    let h = subst (λ p. Hands c.self.inside.dumper c.args.outcome p c.hand_in.new.self) c.in-More.is c.hand_in.ensures.hands in
-    record {
-      stands = ap (λ (v : CoreView). v.standing) c.self.view_is;
-      job = ap job_of (more c).is ∙ sym (ap job_of (more c).hands.was) ∙ ap (λ (v : CoreView). job_of v.dumper.running) c.self.view_is;
-      lowers = subst (λ (v : CoreView). left_of c.hand_in.new.self.running (plain_of c.self.inside.memory) < left_of v.dumper.running (plain_of v.memory)) c.self.view_is
-          (c.outcome_laws.ensures.left.hands c.self.inside.dumper c.args.outcome More c.hand_in.new.self (plain_of c.self.inside.memory) h refl);
-    }

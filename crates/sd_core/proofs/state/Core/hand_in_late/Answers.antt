@@ -1,11 +1,10 @@
-use Rattle.std.proofs.Common.{◌≡◌, ◌≢◌, is_none, Some, None, slice_get, refl, sym, ◌∙◌, ap}
+use Rattle.std.proofs.Common.{◌≡◌, ◌≢◌, Some, None, slice_get, refl, sym, ◌∙◌, ap}
 use Rattle.sd_crash_safety.specs.declared.standing.Standing.TheVariants.{Open, Down}
 use Rattle.sd_crash_safety.specs.View.{CoreView}
 use Rattle.sd_core.specs.Refusals.{is_idle}
 use Rattle.sd_core.specs.Sound.{held_for}
-use Rattle.sd_core.specs.Working.{fallen}
 use Rattle.sd_core.proofs.CoreParts.{parts_of}
-use Rattle.sd_core.proofs.FallenLemmas.{by_worker, none_busy, fallen_core}
+use Rattle.sd_core.proofs.FallenLemmas.{fallen_core}
 use Rattle.sd_core.proofs.HandedLemmas.{IsLate, is_late}
 use Rattle.sd_core.proofs.MergeLemmas.{none_merges}
 use Rattle.sd_core.proofs.WorkLemmas.{none_closed}
@@ -34,12 +33,3 @@ invariant_of-self c =
     c.follow_outcome.ensures.follows.count c.follow_outcome.ensures.outs idle (none_merges _ c.self.invariant (not_open k))
 
 -- ---- what each clause says
-
-pub returns-clause-leaves : goal.returns-clause-leaves
-returns-clause-leaves c =
-    let k = (goal.at.returns-clause-leaves c).After-follow_outcome in
-    record {
-      stands_so = (late k).down ∙ sym (ap fallen (sym (ap (λ (v : CoreView). v.standing) c.self.view_is) ∙ (late k).down));
-      idle = by_worker _ (ap is_none (none_closed _ c.self.invariant (not_open k))) (ap is_none (none_merges _ c.self.invariant (not_open k))) (ap is_none (late k).closed);
-      lowers = none_busy c.args.self.now c.args.outcome.request.id.worker c.requires.idle;
-    }

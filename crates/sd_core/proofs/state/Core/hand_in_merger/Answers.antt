@@ -41,7 +41,7 @@ more c =
       leaves = record {
         closed = c.follow_outcome-closed.result.closed;
         merge = h.merge;
-        hands = hands (goal.at.returns-in-More-clause-step c).After-hand_in-progress h.merge h.was;
+        hands = hands (goal.at.returns-in-More c).After-hand_in-progress h.merge h.was;
         leaves = subst (λ (i : RequestId). LeavesCatalog c.follow_outcome-closed.result.closed i.slot c.self.inside.catalog c.leave_catalog.new.catalog) c.follow_outcome-closed.ensures.id c.leave_catalog.ensures;
       };
       more = c.in-More.is;
@@ -58,7 +58,7 @@ merged c =
       leaves = record {
         closed = c.follow_outcome-closed.result.closed;
         merge = h.running;
-        hands = hands (goal.at.returns-in-Merged-clause-step c).After-hand_in-progress h.running h.was;
+        hands = hands (goal.at.returns-in-Merged c).After-hand_in-progress h.running h.was;
         leaves = subst (λ (i : RequestId). LeavesCatalog c.follow_outcome-closed.result.closed i.slot c.self.inside.catalog c.leave_catalog-in-Merged.new.catalog) c.follow_outcome-closed.ensures.id
             c.leave_catalog-in-Merged.ensures;
       };
@@ -73,7 +73,7 @@ opened c =
     record {
       closed = c.follow_outcome-closed.result.closed;
       merge = h.running;
-      hands = hands (goal.at.returns-after-fix_list-clause-step c).After-hand_in-progress h.running h.was;
+      hands = hands (goal.at.returns-after-fix_list c).After-hand_in-progress h.running h.was;
       doing = h.next.doing;
       goes = h.hands.hands;
       before = c.hand_in-progress.new.self;
@@ -81,7 +81,7 @@ opened c =
       in_order = c.sound.ensures;
       changes = c.enter_catalog.ensures;
       fixes = subst (λ n. FixesList c.enter_catalog.new.catalog c.self.inside.dumper.running c.follow_outcome-closed.new.outs n c.hand_in-progress.new.self c.fix_list.result c.fix_list.new.merger)
-          c.take_room-room.ensures c.fix_list.ensures.fixes;
+          c.take_room-room.ensures c.fix_list.ensures;
     }
 
 -- ---- the core
@@ -106,23 +106,23 @@ invariant_of-self-in-Opened c = core_opened (opened c)
 
 -- ---- the step
 
-pub returns-in-Failed-clause-step : goal.returns-in-Failed-clause-step
-returns-in-Failed-clause-step c =
-    let h = failed (goal.at.returns-in-Failed-clause-step c).In-Failed in
-    let known = hands (goal.at.returns-in-Failed-clause-step c).After-hand_in-progress h.running h.was in
+pub returns-in-Failed : goal.returns-in-Failed
+returns-in-Failed c =
+    let h = failed (goal.at.returns-in-Failed c).In-Failed in
+    let known = hands (goal.at.returns-in-Failed c).After-hand_in-progress h.running h.was in
     let ends = c.end_checkpoint.ensures.journal in
     down_next known c.end_checkpoint.new.journal c.end_checkpoint.new.dumper c.hand_in-progress.new.self (search rules) ends.items ends.limit
     (let_go_all c.self.inside.pending c.self.inside.dumper.running c.self.inside.journal _ (c.self.invariant.held ∙ ap (held_for c.self.inside.pending c.self.inside.dumper.running) (work known).closed) ends)
     c.end_checkpoint.ensures.dumper h.is
 
-pub returns-in-More-clause-step : goal.returns-in-More-clause-step
-returns-in-More-clause-step c = more_next (more c)
+pub returns-in-More : goal.returns-in-More
+returns-in-More c = more_next (more c)
 
-pub returns-in-Merged-clause-step : goal.returns-in-Merged-clause-step
-returns-in-Merged-clause-step c = ended_next (merged c)
+pub returns-in-Merged : goal.returns-in-Merged
+returns-in-Merged c = ended_next (merged c)
 
-pub returns-after-fix_list-clause-step : goal.returns-after-fix_list-clause-step
-returns-after-fix_list-clause-step c = opened_next (opened c) c.match-fix_list.result (elim c.match-fix_list.branch [
+pub returns-after-fix_list : goal.returns-after-fix_list
+returns-after-fix_list c = opened_next (opened c) c.match-fix_list.result (elim c.match-fix_list.branch [
   | in-None w ↦ inl (w.in-None.is, w.result-is)
   | in-Some w ↦ inr (w.in-Some.serial, w.in-Some.is, w.result-is)
 ])

@@ -1,15 +1,14 @@
-use Rattle.std.proofs.Common.{◌≡◌, ◌≢◌, ◌<◌, is_none, Some, None, IfSome, slice_get, refl, sym, ◌∙◌, ap, subst}
+use Rattle.std.proofs.Common.{◌≡◌, ◌≢◌, Some, None, IfSome, slice_get, refl, sym, ◌∙◌, ap, subst}
 use Rattle.sd_journal.specs.History.{Base}
 use Rattle.sd_crash_safety.specs.View.{CoreView}
 use Rattle.sd_core.proofs.FlagLemmas.{same_flags}
 use Rattle.sd_core.specs.Sound.{AreSoundNumbers, IsOpening, held_for, out_of_opener}
-use Rattle.sd_core.specs.Working.{opener_left}
 use Rattle.sd_crash_safety.specs.declared.standing.Standing.TheVariants.{Open}
 use Rattle.sd_crash_safety.specs.OpenerSteps.{nobody, opener_alone}
 use Rattle.sd_core.specs.Starts.{base_of}
 use Rattle.sd_core.proofs.CoreParts.{parts_of}
 use Rattle.sd_core.proofs.CoreLemmas.{alone_is, closed_by, held_let_go, held_opening, none_out, not_taught, set_nobody, taught_opener}
-use Rattle.sd_core.proofs.FallenLemmas.{by_worker, fallen_same, opener_left_some, runs_by}
+use Rattle.sd_core.proofs.FallenLemmas.{runs_by}
 use Rattle.sd_core.proofs.JournalLemmas.{same_journal}
 use Rattle.sd_core.proofs.MergeLemmas.{no_merge, none_merges}
 use Rattle.sd_core.proofs.WorkLemmas.{none_closed, none_works}
@@ -92,22 +91,10 @@ invariant_of-self-2 c =
       visited_is = c.self.invariant.visited_is;
     }
 
-pub returns-clause-leaves : goal.returns-clause-leaves
-returns-clause-leaves c =
-    let k = (goal.at.returns-clause-leaves c).After-follow_outcome in
-    let looking = runs_by c.self.inside.opener c.args.outcome.request.id (alone k).0 in
-    let ended = c.let_go.ensures.opener in
-    record {
-      stands_so = ap (λ (v : CoreView). v.standing) c.self.view_is ∙ fallen_same c.args.self.now.standing (subst (λ (v : CoreView). v.standing ≢ Open) c.self.view_is (closed k));
-      idle = by_worker _ (ap is_none (idle k)) (ap is_none (unmerged k)) (ap is_none ended);
-      lowers = λ busy. subst (λ o. opener_left o < opener_left c.args.self.now.opener) (sym ended)
-          (subst (λ (v : CoreView). 0 < opener_left v.opener) c.self.view_is (subst (λ o. 0 < opener_left o) (sym looking.1) (opener_left_some looking.0)));
-    }
-
 -- ---- the step
 
-pub returns-then-teach-clause-step : goal.returns-then-teach-clause-step
-returns-then-teach-clause-step c =
+pub returns-then-teach : goal.returns-then-teach
+returns-then-teach c =
     let f = c.follow_outcome.ensures.follows in
     learnt_seen _ _ _ _ _ c.self.view_is (learns refl (record {
       it = record { out = ap (λ (v : CoreView). slice_get v.outs 2) c.self.view_is ∙ c.requires.out; whose = c.requires.opener; phase = f.phase; phase_is = f.is };
@@ -116,9 +103,9 @@ returns-then-teach-clause-step c =
       new_is = taught_seen (parts_of c.self.inside) c.follow_outcome.new.phases.items _ c.follow_outcome.new.outs _ c.teach.new.opener f.phases c.follow_outcome.ensures.outs;
     }))
 
-pub returns-clause-step : goal.returns-clause-step
-returns-clause-step c =
-    let k = (goal.at.returns-clause-step c).After-follow_outcome in
+pub returns : goal.returns
+returns c =
+    let k = (goal.at.returns c).After-follow_outcome in
     let f = c.follow_outcome.ensures.follows in
     let looking = runs_by c.self.inside.opener c.args.outcome.request.id (alone k).0 in
     let gone = c.let_go.ensures.journal in

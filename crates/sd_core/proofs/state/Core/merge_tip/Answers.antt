@@ -11,12 +11,9 @@ use Rattle.sd_core.specs.Next.{begins}
 use Rattle.sd_core.proofs.NextOrders.{merge_seen}
 use Rattle.sd_merge.specs.Sources.{source_from}
 use Rattle.sd_core.proofs.BeginLemmas.{none_opens}
-use Rattle.sd_core.proofs.MergeBegin.{MayMerge, free_uncalled, may_merge, merge_begun}
-use Rattle.sd_core.proofs.OwnLemmas.{makes_in, spared_of}
-use Rattle.sd_core.proofs.SlotLemmas.{IsFreeAt, free_unreached, free_unreserved, free_within}
+use Rattle.sd_core.proofs.MergeBegin.{MayMerge, may_merge, merge_begun}
+use Rattle.sd_core.proofs.SlotLemmas.{IsFreeAt, free_unreserved, free_within}
 use Rattle.sd_core.proofs.TipLemmas.{never_some, tip_not_none}
-use Rattle.sd_core.proofs.ApplyLemmas.{same_phases}
-use Rattle.sd_core.proofs.OpeningLemmas.{stays_seen}
 use Rattle.sd_core.proofs.state.Core.merge_tip.Goals as goal
 
 pub unreachable-requires : goal.unreachable-requires
@@ -43,8 +40,8 @@ invariant_of-self c =
     (c.begin_merge.ensures ∙ ap (λ s. Some (begun_merge s c.in-Some.slot.now c.in-Ok-serials_in.before.items)) c.of-source.ensures) may.stands closed may.idle may.serial
     (free_within c.free_law.ensures view c.in-Ok.slots.items c.in-Some.slot.now free f) spared (c.sound.ensures.own tip newest.member) (c.in-Ok-for_slots.ensures ∙ c.len.ensures ∙ c.self.inside.phases.ok.0)
 
-pub returns-clause-step : goal.returns-clause-step
-returns-clause-step c =
+pub returns : goal.returns
+returns c =
     let item = c.in-Some.ensures.item in
     let at : slice_get c.in-Ok.slots.items 0 ≡ Some c.in-Some.slot.now =
     ap (λ all. slice_get all 0) (sym c.deref.ensures.value) ∙ slice_get-get_or c.deref.result.now 0 c.in-Some.slot.now item.3.0 ∙ ap Some (sym item.1) in
@@ -60,36 +57,3 @@ returns-clause-step c =
           (c.begin_merge.ensures ∙ ap (λ s. Some (begun_merge s c.in-Some.slot.now c.in-Ok-serials_in.before.items)) c.of-source.ensures
           ∙ ap (λ b. Some (begun_merge (source_from c.in-Some-tip.tip.now) c.in-Some.slot.now b)) c.in-Ok-serials_in.ensures);
     }))
-
-pub returns-clause-keeps : goal.returns-clause-keeps
-returns-clause-keeps c =
-    let view = the_view c.self.inside in
-    let may = subst MayMerge (sym c.self.view_is) (may_merge c.args.self.now c.requires) in
-    let inside = c.self.invariant in
-    let closed = none_opens c.self.inside.opener c.self.inside.standing c.self.inside.phases.items inside.opening may.stands in
-    let item = c.in-Some.ensures.item in
-    let at : slice_get c.in-Ok.slots.items 0 ≡ Some c.in-Some.slot.now =
-    ap (λ all. slice_get all 0) (sym c.deref.ensures.value) ∙ slice_get-get_or c.deref.result.now 0 c.in-Some.slot.now item.3.0 ∙ ap Some (sym item.1) in
-    let f : IsFreeAt c.in-Ok.slots.items c.in-Some.slot.now = record { place = 0; at = at } in
-    let free = subst (λ v. FreeSlots v c.in-Ok.slots.items) (sym c.self.view_is) c.in-Ok.ensures in
-    let spared = (λ (has : HasSlot c.self.inside.dumper.running c.in-Some.slot.now). free_unreserved c.free_law.ensures view c.in-Ok.slots.items c.in-Some.slot.now free f (inl has)) in
-    stays_seen _ _ _ c.self.view_is (record {
-      base = refl;
-      outs = refl;
-      phases = same_phases c.self.inside.outs c.self.inside.phases.items;
-      goes_on = λ asked bodies files b. c.merge_beginning_law.ensures _ _ c.in-Some-tip.tip.now c.in-Some.slot.now c.in-Ok-serials_in.before.items asked bodies files (record {
-        rest = record { stands = may.stands; base = refl; history = refl; memory = refl; closed = closed; grows = refl; committing = refl; dumper = refl; makes = makes_in c.self.inside.dumper.since_freeze c.self.inside.dumper.running c.sound-2.ensures.running };
-        phases = refl;
-        outs = refl;
-        serial = refl;
-        its_catalog = refl;
-        catalog = refl;
-        was = may.idle;
-        is_tip = c.in-Some-tip.ensures.newest;
-        within = free_within c.free_law.ensures view c.in-Ok.slots.items c.in-Some.slot.now free f;
-        spared = spared_of c.self.inside.dumper.running c.in-Some.slot.now spared;
-        unreached = λ falls. free_unreached c.free_law.ensures view c.in-Ok.slots.items c.in-Some.slot.now free f c.sound.ensures falls;
-        uncalled = λ falls. free_uncalled c.free_law.ensures view c.in-Ok.slots.items c.in-Some.slot.now free f c.sound.ensures falls;
-        is = c.begin_merge.ensures ∙ ap (λ s. Some (begun_merge s c.in-Some.slot.now c.in-Ok-serials_in.before.items)) c.of-source.ensures;
-      }) b;
-    })

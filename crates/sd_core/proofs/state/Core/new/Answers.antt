@@ -14,7 +14,8 @@ use Rattle.sd_core.proofs.CoreLemmas.{none_out}
 use Rattle.sd_core.proofs.MergeLemmas.{no_merge}
 use Rattle.sd_chain.specs.Catalog.{place_of}
 use Rattle.sd_core.proofs.SettledLemmas.{not_swept}
-use Rattle.sd_core.proofs.StartLemmas.{start_journal, start_numbers, base_is_last, none_of}
+use Rattle.sd_core.proofs.StartLemmas.{begun_from, start_journal, start_numbers, base_is_last, none_of}
+use Rattle.sd_core.specs.declared.numbers.Numbers.{Numbers}
 use Rattle.sd_core.proofs.WorkLemmas.{none_works}
 use Rattle.sd_core.proofs.state.Core.new.Goals as goal
 
@@ -26,7 +27,7 @@ invariant_of-result c =
       held = c.new.ensures.held ∙ ap (λ r. held_for None r None) (sym idle);
       outs_are = none_out NotOpen nobody c.args.start.phases.items c.new-3.result.running c.new-4.result None idle c.new-4.ensures refl refl;
       opening = tt;
-      numbers_are = start_numbers _ c.new.result.items c.args.start.number c.start.result refl c.new.ensures.items c.start.ensures.base c.start.ensures.checkpoint c.start.ensures.serial.0 c.start.ensures.serial.1;
+      numbers_are = start_numbers _ c.new.result.items c.args.start.number c.start.result refl c.new.ensures.items (begun_from c.args.start.number c.start.result c.start.ensures) (ap (λ (n : Numbers). n.checkpoint) c.start.ensures ∙ sym (ap (λ (n : Numbers). n.begun) c.start.ensures)) (ap (λ (n : Numbers). n.serial) c.start.ensures) (ap (λ (n : Numbers). n.given) c.start.ensures);
       counted = λ serial o at. absurd (let no : None ≡ Some (Some o) = ap (λ all. place_of all serial) (sym c.new-2.ensures) ∙ at in cc);
       rests = λ none stands. refl;
       work = none_works _ c.new-3.result.running idle;

@@ -11,7 +11,7 @@ use Rattle.sd_core.specs.Starts.{base_of}
 use Rattle.sd_core.proofs.CoreLemmas.{none_out}
 use Rattle.sd_core.proofs.JournalLemmas.{same_journal}
 use Rattle.sd_core.proofs.MergeLemmas.{no_merge, none_merges}
-use Rattle.sd_core.proofs.OpeningLemmas.{given_count, held_opened, stays_reopened, stays_seen}
+use Rattle.sd_core.proofs.OpeningLemmas.{given_count, held_opened}
 use Rattle.sd_core.proofs.RefusalLemmas.{MayReopen, may_reopen, nobody_rests}
 use Rattle.sd_core.proofs.WorkLemmas.{none_closed, none_works}
 use Rattle.sd_core.proofs.state.Core.open_again.Goals as goal
@@ -48,8 +48,8 @@ invariant_of-self-2 c =
       gated = none_works _ c.self.inside.dumper.running none;
     }
 
-pub returns-clause-step : goal.returns-clause-step
-returns-clause-step c =
+pub returns : goal.returns
+returns c =
     let may = subst MayReopen (sym c.self.view_is) (may_reopen c.args.self.now c.requires) in
     let held = subst (λ r. HoldsForOpening c.self.inside.pending c.self.inside.journal r c.fresh_opener.new.journal) c.in-Ok.is c.fresh_opener.ensures.holds in
     let none = none_closed _ c.self.invariant may.closed in
@@ -61,22 +61,4 @@ returns-clause-step c =
           (held_opened c.self.inside.pending c.self.inside.dumper.running c.self.inside.opener c.in-Ok.opener c.self.inside.journal.held c.fresh_opener.new.journal.held held.held c.self.invariant.held none may.none
           ∙ ap (λ r. held_for c.self.inside.pending r (Some c.in-Ok.opener)) none ∙ one_held c.self.inside.pending c.in-Ok.opener)
           c.give_up_all.ensures c.put_opener.ensures;
-    }))
-
-pub returns-clause-keeps : goal.returns-clause-keeps
-returns-clause-keeps c =
-    let may = subst MayReopen (sym c.self.view_is) (may_reopen c.args.self.now c.requires) in
-    let held = subst (λ r. HoldsForOpening c.self.inside.pending c.self.inside.journal r c.fresh_opener.new.journal) c.in-Ok.is c.fresh_opener.ensures.holds in
-    let fresh = c.in-Ok.ensures.opener in
-    stays_seen _ _ _ c.self.view_is
-    (stays_reopened c.opener_steps.ensures _ _ c.in-Ok.opener (record {
-      rest = record { closed = may.closed; base = refl; items = held.items; memory = refl; standing = refl; catalog = refl; dumper = refl; numbers = refl; grows = refl; committing = refl };
-      outs = refl;
-      none = nobody_rests _ c.self.invariant may.rest;
-      phases = c.give_up_all.ensures;
-      is = c.put_opener.ensures;
-      slots = fresh.count ∙ c.len.ensures ∙ c.self.inside.phases.ok.0;
-      told = fresh.told;
-      stage = fresh.stage;
-      sees = λ files count. fresh.sees files (count ∙ fresh.count);
     }))

@@ -18,4 +18,4 @@ may_be old new (inr step) = step.it.may
 pub returns-clause-worked : goal.returns-clause-worked
 returns-clause-worked c is =
     let step = c.pass_image.ensures.steps is in
-    c.dumper_taken_law.ensures c.args.self.now (Step reply.Worked) c.pass_image.new.self c.is_sound.ensures (may_be _ _ step) (c.pass_image.ensures.takes is) (c.pass_image.ensures.leaves is) (by_step _ _ step)
+    c.dumper_law.ensures c.args.self.now (Step reply.Worked) c.pass_image.new.self c.is_sound.ensures (may_be _ _ step) (by_step _ _ step)

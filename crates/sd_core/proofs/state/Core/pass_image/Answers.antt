@@ -1,11 +1,9 @@
-use Rattle.std.proofs.Common.{◌≡◌, false, Some, None, IfSome, IsSome, slice_get, ◌∷◌, refl, sym, ◌∙◌, ap, subst, inl, inr, arith}
+use Rattle.std.proofs.Common.{◌≡◌, ℕ, Option, Some, None, IfSome, IsSome, slice_get, ◌∷◌, refl, sym, ◌∙◌, ap, subst, inl, inr, arith}
 use Rattle.sd_gate.specs.declared.worker.Worker.TheVariants as its
-use Rattle.sd_command.specs.declared.reply.Reply.TheVariants as reply
 use Rattle.sd_journal.specs.History.{Base}
 use Rattle.sd_journal.specs.declared.mark.Mark.TheVariants.{Visit}
 use Rattle.sd_journal.specs.Marked.{Noted, entries_of}
 use Rattle.sd_rounds.specs.declared.image_step.ImageStep.TheVariants.{Visited, Copied}
-use Rattle.sd_pagetable.specs.Contents.{plain_of}
 use Rattle.sd_merge.specs.Merger as merger
 use Rattle.sd_rounds.specs.declared.image_order.ImageOrder.{ImageOrder}
 use Rattle.sd_rounds.specs.Dumper.{is_last}
@@ -21,13 +19,10 @@ use Rattle.sd_core.proofs.ImageLemmas.{image_visited, image_copied}
 use Rattle.sd_core.proofs.LaneLemmas.{outs_kept}
 use Rattle.sd_core.proofs.LittleLemmas.{little_of, step_little, visit_more}
 use Rattle.sd_core.proofs.MarkLemmas.{sound_image, visit_journal}
-use Rattle.sd_core.proofs.OpeningLemmas.{step_seen}
-use Rattle.sd_core.proofs.PassLemmas.{step_passed}
+use Rattle.sd_core.proofs.PassLemmas.{serial_on, step_passed}
 use Rattle.sd_core.proofs.PreDumpLemmas.{same_stay}
-use Rattle.sd_core.proofs.WorkLemmas.{asked_on, at_work, core_working, grown_core, image_of_work, its_serial, numbers_noted, out_at_work, own_slot, same_numbers, same_places, sound_writes, turned}
+use Rattle.sd_core.proofs.WorkLemmas.{asked_on, core_working, grown_core, image_of_work, its_serial, numbers_noted, out_at_work, own_slot, same_numbers, same_places, sound_writes, turned}
 use Rattle.sd_core.proofs.SettledLemmas.{clean_cleared, swept_same}
-use Rattle.sd_core.proofs.StepLemmas.{works_on}
-use Rattle.sd_rounds.specs.Waits.{dumper_must_wait}
 use Rattle.sd_core.specs.contracts.state.Core.{the_view}
 use Rattle.sd_core.proofs.CoreParts.{parts_of}
 use Rattle.sd_core.proofs.NextSteps.{may_step, pass_seen, stepped_seen, visited_seen}
@@ -36,7 +31,7 @@ use Rattle.sd_core.proofs.state.Core.pass_image.Goals as goal
 pub invariant_of-self-in-Copied : goal.invariant_of-self-in-Copied
 invariant_of-self-in-Copied c =
     let base : Base = base_of c.self.inside.base in
-    let w = subst (λ step. StepsOn c.self.inside.numbers.ticket c.self.inside.dumper c.self.inside.memory (image_step step) c.pass_on.new.dumper c.pass_on.new.memory) c.in-Copied.is (step_passed c.self.inside.dumper c.self.inside.memory c.pass_on.new.dumper c.pass_on.new.memory c.in-Ok-pass_on.found c.in-Some.step c.in-Some.is c.in-Ok-pass_on.ensures.steps c.self.inside.numbers.ticket) in
+    let w = subst (λ step. StepsOn c.self.inside.numbers.ticket c.self.inside.dumper c.self.inside.memory (image_step step) c.pass_on.new.dumper c.pass_on.new.memory) c.in-Copied.is ((step_passed c.self.inside.dumper c.self.inside.memory c.pass_on.new.dumper c.pass_on.new.memory c.in-Ok-pass_on.found c.in-Some.step c.in-Some.is c.in-Ok-pass_on.ensures.found).steps c.self.inside.numbers.ticket) in
     let core = grown_core _ c.reserve_mark.new.self c.self.invariant c.in-Ok.ensures.grown in
     let rests = ap (λ v. slice_get v.outs 0) c.self.view_is ∙ c.requires.rests in
     let out = out_at_work _ w.running None core w.was rests in
@@ -65,14 +60,14 @@ invariant_of-self-in-Copied c =
       asked = asked_on w.running w.image w.next _ t.out_is t.slot (own_slot c.self.inside.dumper.since_freeze _ w.running w.image c.sound.ensures.running w.was w.making);
       image_is = t.image_is;
       still = t.still;
-      little = step_little c.step_laws.ensures.little base c.reserve_mark.new.self.items c.reserve_mark.new.self.items c.self.inside.memory c.pass_on.new.memory w.running.number c.self.inside.numbers.ticket w.image w.next (Copied c.in-Copied.field-0) w.steps
+      little = step_little c.journal_laws.ensures.little base c.reserve_mark.new.self.items c.reserve_mark.new.self.items c.self.inside.memory c.pass_on.new.memory w.running.number c.self.inside.numbers.ticket w.image w.next (Copied c.in-Copied.field-0) w.steps
           (sound_image _ w.running w.image c.sound.ensures.image w.was w.making).rising t.still refl refl (little_of base c.reserve_mark.new.self.items c.self.inside.memory c.self.inside.dumper.running w.running w.image core.little w.was w.making);
     }))
 
 pub invariant_of-self-in-Visited : goal.invariant_of-self-in-Visited
 invariant_of-self-in-Visited c =
     let base : Base = base_of c.self.inside.base in
-    let w = subst (λ step. StepsOn c.self.inside.numbers.ticket c.self.inside.dumper c.self.inside.memory (image_step step) c.pass_on.new.dumper c.pass_on.new.memory) c.in-Visited.is (step_passed c.self.inside.dumper c.self.inside.memory c.pass_on.new.dumper c.pass_on.new.memory c.in-Ok-pass_on.found c.in-Some.step c.in-Some.is c.in-Ok-pass_on.ensures.steps c.self.inside.numbers.ticket) in
+    let w = subst (λ step. StepsOn c.self.inside.numbers.ticket c.self.inside.dumper c.self.inside.memory (image_step step) c.pass_on.new.dumper c.pass_on.new.memory) c.in-Visited.is ((step_passed c.self.inside.dumper c.self.inside.memory c.pass_on.new.dumper c.pass_on.new.memory c.in-Ok-pass_on.found c.in-Some.step c.in-Some.is c.in-Ok-pass_on.ensures.found).steps c.self.inside.numbers.ticket) in
     let core = grown_core _ c.reserve_mark.new.self c.self.invariant c.in-Ok.ensures.grown in
     let rests = ap (λ v. slice_get v.outs 0) c.self.view_is ∙ c.requires.rests in
     let out = out_at_work _ w.running None core w.was rests in
@@ -91,7 +86,7 @@ invariant_of-self-in-Visited c =
       same = same_numbers _;
       entries = ap entries_of items;
       held = c.note.ensures.held;
-      journal_is = visit_journal c.step_laws.ensures.tracked _ w.running w.image w.next _ _ c.note.new.self core w.was w.making w.steps items c.note.ensures.numbers.first c.note.ensures.numbers.limit;
+      journal_is = visit_journal c.journal_laws.ensures.tracked _ w.running w.image w.next _ _ c.note.new.self core w.was w.making w.steps items c.note.ensures.numbers.first c.note.ensures.numbers.limit;
       numbers_are = subst (λ all. AreSoundNumbers base all c.self.inside.pending c.self.inside.last c.self.inside.numbers) (sym items)
           (numbers_noted base c.reserve_mark.new.self.items c.self.inside.pending c.self.inside.last c.self.inside.numbers (Visit w.image.order.serial c.in-Visited.visit.space c.in-Visited.visit.page) (omega (arith, given)) core.numbers_are);
       flags_are = record { grown = core.flags_are.grown ∙ ap (λ all. has_grown base (entries_of all)) (sym items); visited_by = core.flags_are.visited_by ∙ ap has_visited_all (sym items); sure = core.flags_are.sure };
@@ -106,17 +101,17 @@ invariant_of-self-in-Visited c =
       image_is = subst (λ all. IsImageInMaking all c.self.inside.catalog c.self.inside.numbers w.next) (sym items) t.image_is;
       still = t.still;
       little = subst (λ all. TakesLittle base all c.pass_on.new.memory w.running.number w.next) (sym items)
-          (step_little c.step_laws.ensures.little base c.reserve_mark.new.self.items (Noted (Visit w.image.order.serial c.in-Visited.visit.space c.in-Visited.visit.page) ∷ c.reserve_mark.new.self.items) c.self.inside.memory c.pass_on.new.memory w.running.number c.self.inside.numbers.ticket w.image w.next (Visited c.in-Visited.visit) w.steps
-          (sound_image _ w.running w.image c.sound.ensures.image w.was w.making).rising t.still (visit_more c.step_laws.ensures.due base c.reserve_mark.new.self.items c.self.inside.memory c.pass_on.new.memory w.image w.next c.in-Visited.visit w.image.order.serial core.journal_is.tracked w.steps) refl (little_of base c.reserve_mark.new.self.items c.self.inside.memory c.self.inside.dumper.running w.running w.image core.little w.was w.making));
+          (step_little c.journal_laws.ensures.little base c.reserve_mark.new.self.items (Noted (Visit w.image.order.serial c.in-Visited.visit.space c.in-Visited.visit.page) ∷ c.reserve_mark.new.self.items) c.self.inside.memory c.pass_on.new.memory w.running.number c.self.inside.numbers.ticket w.image w.next (Visited c.in-Visited.visit) w.steps
+          (sound_image _ w.running w.image c.sound.ensures.image w.was w.making).rising t.still (visit_more c.journal_laws.ensures.due base c.reserve_mark.new.self.items c.self.inside.memory c.pass_on.new.memory w.image w.next c.in-Visited.visit w.image.order.serial core.journal_is.tracked w.steps) refl (little_of base c.reserve_mark.new.self.items c.self.inside.memory c.self.inside.dumper.running w.running w.image core.little w.was w.making));
     }))
 
 -- ---- the step
 
 pub returns-in-Copied-clause-steps : goal.returns-in-Copied-clause-steps
 returns-in-Copied-clause-steps c =
-    let w = subst (λ step. StepsOn c.self.inside.numbers.ticket c.self.inside.dumper c.self.inside.memory (image_step step) c.pass_on.new.dumper c.pass_on.new.memory) c.in-Copied.is (step_passed c.self.inside.dumper c.self.inside.memory c.pass_on.new.dumper c.pass_on.new.memory c.in-Ok-pass_on.found c.in-Some.step c.in-Some.is c.in-Ok-pass_on.ensures.steps c.self.inside.numbers.ticket) in
-    let goes = subst (λ f. IfSome f (λ step. IsSome c.self.inside.dumper.running × (dumper_must_wait c.self.inside.dumper.running (plain_of c.self.inside.memory) ≡ false))) c.in-Some.is c.in-Ok-pass_on.ensures.goes in
-    let may = may_step (the_view c.self.inside) (ap (λ v. slice_get v.outs 0) c.self.view_is ∙ c.requires.rests) goes.0 goes.1 in
+    let w = subst (λ step. StepsOn c.self.inside.numbers.ticket c.self.inside.dumper c.self.inside.memory (image_step step) c.pass_on.new.dumper c.pass_on.new.memory) c.in-Copied.is ((step_passed c.self.inside.dumper c.self.inside.memory c.pass_on.new.dumper c.pass_on.new.memory c.in-Ok-pass_on.found c.in-Some.step c.in-Some.is c.in-Ok-pass_on.ensures.found).steps c.self.inside.numbers.ticket) in
+    let p = step_passed c.self.inside.dumper c.self.inside.memory c.pass_on.new.dumper c.pass_on.new.memory c.in-Ok-pass_on.found c.in-Some.step c.in-Some.is c.in-Ok-pass_on.ensures.found in
+    let may = may_step (the_view c.self.inside) (ap (λ v. slice_get v.outs 0) c.self.view_is ∙ c.requires.rests) p.runs p.goes in
     let grown = c.in-Ok.ensures.grown in
     λ _. pass_seen _ _ _ c.self.view_is (inr (record {
       copied = c.in-Copied.field-0;
@@ -128,9 +123,9 @@ returns-in-Copied-clause-steps c =
 
 pub returns-in-Visited-clause-steps : goal.returns-in-Visited-clause-steps
 returns-in-Visited-clause-steps c =
-    let w = subst (λ step. StepsOn c.self.inside.numbers.ticket c.self.inside.dumper c.self.inside.memory (image_step step) c.pass_on.new.dumper c.pass_on.new.memory) c.in-Visited.is (step_passed c.self.inside.dumper c.self.inside.memory c.pass_on.new.dumper c.pass_on.new.memory c.in-Ok-pass_on.found c.in-Some.step c.in-Some.is c.in-Ok-pass_on.ensures.steps c.self.inside.numbers.ticket) in
-    let goes = subst (λ f. IfSome f (λ step. IsSome c.self.inside.dumper.running × (dumper_must_wait c.self.inside.dumper.running (plain_of c.self.inside.memory) ≡ false))) c.in-Some.is c.in-Ok-pass_on.ensures.goes in
-    let may = may_step (the_view c.self.inside) (ap (λ v. slice_get v.outs 0) c.self.view_is ∙ c.requires.rests) goes.0 goes.1 in
+    let w = subst (λ step. StepsOn c.self.inside.numbers.ticket c.self.inside.dumper c.self.inside.memory (image_step step) c.pass_on.new.dumper c.pass_on.new.memory) c.in-Visited.is ((step_passed c.self.inside.dumper c.self.inside.memory c.pass_on.new.dumper c.pass_on.new.memory c.in-Ok-pass_on.found c.in-Some.step c.in-Some.is c.in-Ok-pass_on.ensures.found).steps c.self.inside.numbers.ticket) in
+    let p = step_passed c.self.inside.dumper c.self.inside.memory c.pass_on.new.dumper c.pass_on.new.memory c.in-Ok-pass_on.found c.in-Some.step c.in-Some.is c.in-Ok-pass_on.ensures.found in
+    let may = may_step (the_view c.self.inside) (ap (λ v. slice_get v.outs 0) c.self.view_is ∙ c.requires.rests) p.runs p.goes in
     let grown = c.in-Ok.ensures.grown in
     let own = its_serial _ w.running w.next c.serial.result _ w.is c.serial.ensures c.in-Some-serial.is ∙ ap (λ (m : Making). m.order.serial) w.steps.passes.1 in
     λ _. pass_seen _ _ _ c.self.view_is (inl (record {
@@ -144,44 +139,11 @@ returns-in-Visited-clause-steps c =
           (c.note.ensures.held ∙ grown.held) (c.note.ensures.numbers.limit ∙ grown.limit) w.is w.counted;
     }))
 
-pub returns-in-Copied-clause-takes : goal.returns-in-Copied-clause-takes
-returns-in-Copied-clause-takes c =
-    let base : Base = base_of c.self.inside.base in
-    let w = subst (λ step. StepsOn c.self.inside.numbers.ticket c.self.inside.dumper c.self.inside.memory (image_step step) c.pass_on.new.dumper c.pass_on.new.memory) c.in-Copied.is (step_passed c.self.inside.dumper c.self.inside.memory c.pass_on.new.dumper c.pass_on.new.memory c.in-Ok-pass_on.found c.in-Some.step c.in-Some.is c.in-Ok-pass_on.ensures.steps c.self.inside.numbers.ticket) in
-    let work = at_work _ w.running c.self.invariant w.was in
-    λ _. step_seen its.Dumper reply.Worked _ _ _ c.self.view_is (works_on c.step_laws.ensures.steps _ _ w.running w.image w.next c.self.inside.numbers.ticket (Copied c.in-Copied.field-0) tt (record {
-      rest = record { stands = work.stands; base = refl; closed = work.closed; grows = refl; merger = refl };
-      history = ap entries_of c.in-Ok.ensures.grown.items;
-      catalog = refl;
-      phases = refl;
-      serial = refl;
-      outs = refl;
-      was = w.was;
-      making = w.making;
-      rising = (sound_image _ w.running w.image c.sound.ensures.image w.was w.making).rising;
-      steps = w.steps;
-      plain = ap plain_of w.steps.1;
-      committing = refl;
-      is = w.is;
-    }))
-
-pub returns-in-Visited-clause-takes : goal.returns-in-Visited-clause-takes
-returns-in-Visited-clause-takes c =
-    let base : Base = base_of c.self.inside.base in
-    let w = subst (λ step. StepsOn c.self.inside.numbers.ticket c.self.inside.dumper c.self.inside.memory (image_step step) c.pass_on.new.dumper c.pass_on.new.memory) c.in-Visited.is (step_passed c.self.inside.dumper c.self.inside.memory c.pass_on.new.dumper c.pass_on.new.memory c.in-Ok-pass_on.found c.in-Some.step c.in-Some.is c.in-Ok-pass_on.ensures.steps c.self.inside.numbers.ticket) in
-    let work = at_work _ w.running c.self.invariant w.was in
-    λ _. step_seen its.Dumper reply.Worked _ _ _ c.self.view_is (works_on c.step_laws.ensures.steps _ _ w.running w.image w.next c.self.inside.numbers.ticket (Visited c.in-Visited.visit) tt (record {
-      rest = record { stands = work.stands; base = refl; closed = work.closed; grows = refl; merger = refl };
-      history = ap entries_of (c.note.ensures.items) ∙ ap entries_of c.in-Ok.ensures.grown.items;
-      catalog = refl;
-      phases = refl;
-      serial = refl;
-      outs = refl;
-      was = w.was;
-      making = w.making;
-      rising = (sound_image _ w.running w.image c.sound.ensures.image w.was w.making).rising;
-      steps = w.steps;
-      plain = w.steps.tests.plain;
-      committing = refl;
-      is = w.is;
-    }))
+-- an image that made a step has its serial
+pub unreachable-requires : goal.unreachable-requires
+unreachable-requires c =
+    let p = step_passed c.self.inside.dumper c.self.inside.memory c.pass_on.new.dumper c.pass_on.new.memory c.in-Ok-pass_on.found c.in-Some.step c.in-Some.is c.in-Ok-pass_on.ensures.found in
+    absurd (none_some c.serial.result c.in_default-serial.is (subst IsSome (sym c.serial.ensures) (serial_on (p.steps 0))))
+  where
+    none_some : (one : Option ℕ) → one ≡ None → IsSome one → ⊥
+    none_some one none some = grind arith

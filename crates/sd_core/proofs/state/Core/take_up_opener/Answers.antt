@@ -1,7 +1,5 @@
 use Rattle.std.proofs.Common.{◌≡◌, None, Some, IfSome, refl, sym, ◌∙◌, ap, subst, arith, slice_set}
 use Rattle.sd_gate.specs.declared.worker.Worker.TheVariants as its
-use Rattle.sd_command.specs.declared.reply.Reply.TheVariants as reply
-use Rattle.sd_command.specs.declared.refusal.Refusal.TheVariants.{Damaged as DamagedStore}
 use Rattle.sd_journal.specs.History.{Base}
 use Rattle.sd_crash_safety.specs.OpenerSteps.{opener_alone}
 use Rattle.sd_opener.specs.Looking.{out_of_look}
@@ -11,8 +9,7 @@ use Rattle.sd_core.specs.Sound.{IsOpening, held_for, out_of_opener}
 use Rattle.sd_core.specs.Starts.{base_of}
 use Rattle.sd_core.proofs.CoreLemmas.{held_opening, nobody_is, one_out, set_alone}
 use Rattle.sd_core.proofs.MergeLemmas.{no_merge, none_merges}
-use Rattle.sd_core.proofs.OpeningLemmas.{decoded, ends_refused, hands_out, hands_seen, step_seen}
-use Rattle.sd_core.proofs.WorkLemmas.{SameNumbers, counted_same, none_closed, none_works, numbers_same}
+use Rattle.sd_core.proofs.WorkLemmas.{SameNumbers, counted_same, none_closed, none_works, numbers_same, ticked}
 use Rattle.sd_core.specs.Next.{asks, damaged, decodes, reads_all, NextOnceRead}
 use Rattle.sd_core.specs.Refusals.{work_refusal}
 use Rattle.sd_core.proofs.CoreParts.{parts_of}
@@ -28,7 +25,7 @@ invariant_of-self-in-Call c =
     let opening = subst (λ x. IfSome x (IsOpening c.self.inside.standing c.self.inside.phases.items)) w.was inside.opening in
     let none = none_closed _ inside opening.closed in
     let nobody_out = nobody_is _ w.opener inside w.was (ap out_of_opener w.was ∙ w.rests) in
-    let numbers : SameNumbers c.self.inside.numbers c.tick.new.self = record { begun = c.tick.ensures.begun; given = c.tick.ensures.given; checkpoint = c.tick.ensures.checkpoint; serial = c.tick.ensures.serial } in
+    let numbers : SameNumbers c.self.inside.numbers c.tick.new.self = record { begun = (ticked _ _ c.tick.ensures).begun; given = (ticked _ _ c.tick.ensures).given; checkpoint = (ticked _ _ c.tick.ensures).checkpoint; serial = (ticked _ _ c.tick.ensures).serial } in
     let slots = opening.slots in
     let slot = w.moves.slot in
     let within = w.moves.within in
@@ -50,76 +47,28 @@ invariant_of-self-in-Call c =
       gated = none_works _ c.self.inside.dumper.running none;
     }
 
-pub returns-in-Call-clause-takes : goal.returns-in-Call-clause-takes
-returns-in-Call-clause-takes c =
-    let w = subst (λ step. WorksOpener c.self.inside.opener c.self.inside.numbers.ticket step c.step_opener.new.opener) c.in-Call.is c.in-Ok.ensures.works in
-    let opening = subst (λ x. IfSome x (IsOpening c.self.inside.standing c.self.inside.phases.items)) w.was c.self.invariant.opening in
-    let closed = opening.closed in
-    let slots = opening.slots in
-    let none = nobody_is _ w.opener c.self.invariant w.was (ap out_of_opener w.was ∙ w.rests) in
-    hands_seen its.Opener c.in-Call.request _ _ _ c.self.view_is
-    (hands_out c.opener_steps.ensures _ _ w.opener w.next c.self.inside.numbers.ticket c.in-Call.request (record {
-      rest = record { closed = closed; base = refl; items = refl; memory = refl; standing = refl; catalog = refl; dumper = refl; numbers = c.tick.ensures.serial; grows = refl; committing = refl };
-      none = none;
-      outs = c.put_out.ensures ∙ set_alone c.self.inside.outs c.id.result none ∙ ap opener_alone c.id.ensures;
-      phases = refl;
-      was = w.was;
-      is = w.is;
-      asked = w.moves;
-      sees = w.sees;
-    }) slots)
-
-pub returns-in-Decoded-clause-takes : goal.returns-in-Decoded-clause-takes
-returns-in-Decoded-clause-takes c =
-    let w = subst (λ step. WorksOpener c.self.inside.opener c.self.inside.numbers.ticket step c.step_opener.new.opener) c.in-Decoded.is c.in-Ok.ensures.works in
-    let closed = (subst (λ x. IfSome x (IsOpening c.self.inside.standing c.self.inside.phases.items)) w.was c.self.invariant.opening).closed in
-    let none = nobody_is _ w.opener c.self.invariant w.was (ap out_of_opener w.was ∙ w.rests) in
-    step_seen its.Opener reply.Worked _ _ _ c.self.view_is
-    (decoded c.opener_steps.ensures _ _ w.opener w.next (record {
-      rest = record { closed = closed; base = refl; items = refl; memory = refl; standing = refl; catalog = refl; dumper = refl; numbers = refl; grows = refl; committing = refl };
-      outs = refl;
-      none = none;
-      phases = refl;
-      was = w.was;
-      is = w.is;
-      decoded = w.moves;
-      sees = w.sees;
-    }))
-
-pub returns-in-Damaged-clause-takes : goal.returns-in-Damaged-clause-takes
-returns-in-Damaged-clause-takes c =
-    let w = subst (λ step. WorksOpener c.self.inside.opener c.self.inside.numbers.ticket step c.step_opener.new.opener) c.in-Damaged.is c.in-Ok.ensures.works in
-    let closed = (subst (λ x. IfSome x (IsOpening c.self.inside.standing c.self.inside.phases.items)) w.was c.self.invariant.opening).closed in
-    step_seen its.Opener (reply.Refused DamagedStore) _ _ _ c.self.view_is
-    (ends_refused c.opener_steps.ensures _ _ DamagedStore (record {
-      rest = record { closed = closed; base = refl; items = c.let_go.ensures.journal.items; memory = refl; standing = refl; catalog = refl; dumper = refl; numbers = refl; grows = refl; committing = refl };
-      outs = refl;
-      phases = refl;
-      opener = c.let_go.ensures.opener;
-    }))
-
 -- ---- the step
 
-pub returns-in-Call-clause-step : goal.returns-in-Call-clause-step
-returns-in-Call-clause-step c =
+pub returns-in-Call : goal.returns-in-Call
+returns-in-Call c =
     let w = subst (λ step. WorksOpener c.self.inside.opener c.self.inside.numbers.ticket step c.step_opener.new.opener) c.in-Call.is c.in-Ok.ensures.works in
     opener_seen _ _ _ _ c.self.view_is (asks c.in-Call.request refl (record {
       it = record { may = subst (λ v. work_refusal v its.Opener ≡ None) (sym c.self.view_is) c.requires; after = c.step_opener.new.opener; works = w };
       new_is = look_asked (parts_of c.self.inside) c.put_out.new.outs (slice_set c.self.inside.outs 2 (Some c.in-Call.request.id)) c.step_opener.new.opener c.tick.new.self
           (c.put_out.ensures ∙ ap (λ id. slice_set c.self.inside.outs 2 (Some id)) c.id.ensures)
-          (record { begun = c.tick.ensures.begun; given = c.tick.ensures.given; checkpoint = c.tick.ensures.checkpoint; serial = c.tick.ensures.serial }) c.tick.ensures.ticket;
+          (record { begun = (ticked _ _ c.tick.ensures).begun; given = (ticked _ _ c.tick.ensures).given; checkpoint = (ticked _ _ c.tick.ensures).checkpoint; serial = (ticked _ _ c.tick.ensures).serial }) (ticked _ _ c.tick.ensures).ticket;
     }))
 
-pub returns-in-Decoded-clause-step : goal.returns-in-Decoded-clause-step
-returns-in-Decoded-clause-step c =
+pub returns-in-Decoded : goal.returns-in-Decoded
+returns-in-Decoded c =
     let w = subst (λ step. WorksOpener c.self.inside.opener c.self.inside.numbers.ticket step c.step_opener.new.opener) c.in-Decoded.is c.in-Ok.ensures.works in
     opener_seen _ _ _ _ c.self.view_is (decodes refl (record {
       it = record { may = subst (λ v. work_refusal v its.Opener ≡ None) (sym c.self.view_is) c.requires; after = c.step_opener.new.opener; works = w };
       new_is = refl;
     }))
 
-pub returns-in-Damaged-clause-step : goal.returns-in-Damaged-clause-step
-returns-in-Damaged-clause-step c =
+pub returns-in-Damaged : goal.returns-in-Damaged
+returns-in-Damaged c =
     let w = subst (λ step. WorksOpener c.self.inside.opener c.self.inside.numbers.ticket step c.step_opener.new.opener) c.in-Damaged.is c.in-Ok.ensures.works in
     let closed = (subst (λ x. IfSome x (IsOpening c.self.inside.standing c.self.inside.phases.items)) w.was c.self.invariant.opening).closed in
     let gone = c.let_go.ensures.journal in
@@ -131,10 +80,10 @@ returns-in-Damaged-clause-step c =
           c.let_go.ensures.opener;
     }))
 
-pub returns-in-AllRead-clause-step : goal.returns-in-AllRead-clause-step
-returns-in-AllRead-clause-step c =
+pub returns-in-AllRead : goal.returns-in-AllRead
+returns-in-AllRead c =
     let w = subst (λ step. WorksOpener c.self.inside.opener c.self.inside.numbers.ticket step c.step_opener.new.opener) c.in-AllRead.is c.in-Ok.ensures.works in
     let same : c.step_opener.new.opener ≡ c.self.inside.opener = w.is ∙ ap Some w.moves.0 ∙ sym w.was in
     opener_seen _ _ _ _ c.self.view_is (reads_all c.finish_opening.result refl
     (record { may = subst (λ v. work_refusal v its.Opener ≡ None) (sym c.self.view_is) c.requires; after = c.step_opener.new.opener; works = w })
-    (subst (λ o. NextOnceRead (the_view (record c.self.inside { opener = o })) c.finish_opening.result c.finish_opening.new.self) same c.finish_opening.ensures.step))
+    (subst (λ o. NextOnceRead (the_view (record c.self.inside { opener = o })) c.finish_opening.result c.finish_opening.new.self) same c.finish_opening.ensures))
