@@ -27,7 +27,8 @@ use sd_command::{Refusal, Reply};
 use sd_crash_safety::{Standing, core_steps};
 use sd_gate::Outcome;
 use sd_journal::{Entry, Mark};
-use sd_rounds::{ImageStep, NextImage, Progress, rises_law};
+use sd_rounds::{ImageStep, Progress, rises_law};
+use sd_writing::NextImage;
 use std::alloc::AllocError;
 
 impl Core {
