@@ -24,7 +24,7 @@ use Rattle.sd_merge.specs.Merger as merger
 use Rattle.sd_pagetable.specs.Contents.{IsSound}
 use Rattle.sd_pagetable.specs.Law.{PlainLaw}
 use Rattle.sd_rounds.specs.declared.image_order.ImageOrder.{ImageOrder}
-use Rattle.sd_rounds.specs.declared.new_image.NewImage.{NewImage}
+use Rattle.sd_writing.specs.declared.new_image.NewImage.{NewImage}
 use Rattle.sd_rounds.specs.Dumper.{AreRunning, Dumping, HasSlot, IsReserved, Running, after_pre_dump, is_frozen_image, is_last, order_of, out_of_image, out_of_running, slot_of, writes_of_image, writes_of_running}
 use Rattle.sd_rounds.specs.LittleWork.{LittleLaws, TookVisited}
 use Rattle.sd_rounds.specs.Making.{IsWritten, Making, Opens, PlanGoesOn, is_frozen_dump, is_past_freeze, out_of}

@@ -34,7 +34,7 @@ use Rattle.sd_rounds.specs.Dumper.{Running, is_frozen_image}
 use Rattle.sd_rounds.specs.ImageVisits.{visits_after}
 use Rattle.sd_rounds.specs.LittleWork.{IsTaking, LittleLaws, TakesAsItMust, TakesAsItMustIn, TakesVisited}
 use Rattle.sd_rounds.specs.Making.{IsWritten, Making, PlanGoesOn, Steps, Visits, begun_image, is_frozen_dump, is_past_freeze, stage_after, stage_when_done, with_plan}
-use Rattle.sd_rounds.specs.Pass.{Place}
+use Rattle.sd_writing.specs.Entries.{Place}
 use Rattle.sd_rounds.specs.Rises.{IsRising}
 use Rattle.sd_core.specs.LittleWork.{HasLittle, IsFrozenFor, TakesLittle, visits_of, right_way}
 use Rattle.sd_core.specs.Answering.{IsAnswered}

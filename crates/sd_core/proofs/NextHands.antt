@@ -14,7 +14,7 @@ use Rattle.sd_journal.specs.History.{pending}
 use Rattle.sd_journal.specs.Kept.{JournalView}
 use Rattle.sd_journal.specs.Marked.{Told, entries_of}
 use Rattle.sd_merge.specs.Merger as merger
-use Rattle.sd_rounds.specs.declared.new_image.NewImage.{NewImage}
+use Rattle.sd_writing.specs.declared.new_image.NewImage.{NewImage}
 use Rattle.sd_rounds.specs.Dumper.{Dumping, Running, after_pre_dump, is_frozen_image, outcomes_since_freeze}
 use Rattle.sd_rounds.specs.Making.{Making}
 use Rattle.sd_crash_safety.specs.DumperOutcomes.{LeavesCatalog}

@@ -19,7 +19,7 @@ use Rattle.sd_merge.specs.declared.retired.Retired.{Retired}
 use Rattle.sd_merge.specs.Copying.{Copying, IsSoundCopying, Opens}
 use Rattle.sd_merge.specs.Merger as merger
 use Rattle.sd_merge.specs.Merger.{AreRunning, Doing, HandsAt, HasSoundCopy, HasSoundCopyIn, IsRunningAt, TakesList, Retiring, due, copying, opened, retiring}
-use Rattle.sd_rounds.specs.declared.new_image.NewImage.{NewImage}
+use Rattle.sd_writing.specs.declared.new_image.NewImage.{NewImage}
 use Rattle.sd_rounds.specs.Dumper.{Running, out_of_running, writes_of_running}
 use Rattle.sd_rounds.specs.Making.{Making}
 use Rattle.sd_crash_safety.specs.Calls.{AddsByOutcome, HandedIn}

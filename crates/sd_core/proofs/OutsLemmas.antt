@@ -8,7 +8,7 @@ use Rattle.sd_merge.specs.Merger as merger
 use Rattle.sd_rounds.specs.Dumper.{Running, out_of_image, out_of_running, slot_of, writes_of_running}
 use Rattle.sd_rounds.specs.Making.{Making, out_of, is_passing}
 use Rattle.sd_rounds.specs.declared.stage.Stage.{Stage}
-use Rattle.sd_rounds.specs.Pass.{data_pages}
+use Rattle.sd_writing.specs.Entries.{data_pages}
 use Rattle.sd_gate.specs.Lanes.{is_any_out}
 use Rattle.sd_rounds.specs.Writes.{IsPageWrite, no_writes}
 use Rattle.sd_crash_safety.specs.Calls.{AreOtherPages}

@@ -17,7 +17,7 @@ use Rattle.sd_merge.specs.declared.stage.Stage.{Stage as CopyStage}
 use Rattle.sd_merge.specs.Merger as merger
 use Rattle.sd_merge.specs.Merger.{Doing, due, copying, opened, retiring}
 use Rattle.sd_rounds.specs.Dumper.{AreRunning, HasSlot, Running, out_of_running, slot_of, writes_of_running}
-use Rattle.sd_rounds.specs.Pass.{Place}
+use Rattle.sd_writing.specs.Entries.{Place}
 use Rattle.sd_store_laws.specs.Beliefs.{Belief}
 use Rattle.sd_store_laws.specs.Store.{Store}
 use Rattle.sd_crash_safety.specs.Believes.{Believes}

@@ -11,7 +11,7 @@ use Rattle.sd_rounds.specs.declared.image_step.ImageStep.TheVariants.{Call}
 use Rattle.sd_rounds.specs.Dumper.{Running}
 use Rattle.sd_gate.specs.PlanUse.{IsAskedBy}
 use Rattle.sd_rounds.specs.Making.{Making}
-use Rattle.sd_rounds.specs.Pass.{data_pages}
+use Rattle.sd_writing.specs.Entries.{data_pages}
 use Rattle.sd_crash_safety.specs.Believes.{Believes}
 use Rattle.sd_crash_safety.specs.Calls.{AreGivenUp, HandsOut, IsFree, MakesStep, running_number}
 use Rattle.sd_crash_safety.specs.DumperSteps.{AsksFor, AsksToWrite, BeginsImage, DumperSteps, FreezesMemory, IsOnPages, WorksOnMemory}

@@ -21,7 +21,7 @@ use Rattle.sd_pagetable.specs.Contents.{Contents}
 use Rattle.sd_rounds.specs.declared.stage.Stage.{Stage}
 use Rattle.sd_rounds.specs.Dumper.{AreRunning, Dumping, HasSlot, IsItsImage, Running, order_of, out_of_image, out_of_running, serial_of_running, slot_of, writes_of_image, writes_of_running}
 use Rattle.sd_rounds.specs.Making.{Making, is_frozen_dump, out_of}
-use Rattle.sd_rounds.specs.Pass.{data_pages}
+use Rattle.sd_writing.specs.Entries.{data_pages}
 use Rattle.sd_rounds.specs.Sound.{IsSoundImage}
 use Rattle.sd_rounds.specs.Writes.{AreWrites, no_writes}
 use Rattle.sd_crash_safety.specs.Calls.{IsFree}

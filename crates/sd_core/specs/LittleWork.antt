@@ -18,7 +18,7 @@ use Rattle.sd_rounds.specs.Dump.{kind_of_bytes}
 use Rattle.sd_rounds.specs.Dumper.{Running, is_last}
 use Rattle.sd_rounds.specs.LittleWork.{TakesAsItMust, TakesVisited, TookVisited}
 use Rattle.sd_rounds.specs.Making.{Making, is_frozen_dump}
-use Rattle.sd_rounds.specs.Pass.{Place}
+use Rattle.sd_writing.specs.Entries.{Place}
 use Rattle.sd_rounds.specs.Visits as visits
 use Rattle.sd_crash_safety.specs.View.{CoreView, history_of}
 use Rattle.sd_core.specs.Images.{HasImage}

@@ -25,7 +25,7 @@ use Rattle.sd_merge.specs.Sources.{source_from}
 use Rattle.sd_opener.specs.Looking.{Looking, IsDoneAsAsked}
 use Rattle.sd_rounds.specs.declared.image_step.ImageStep.{ImageStep}
 use Rattle.sd_rounds.specs.declared.image_step.ImageStep.TheVariants as image_step
-use Rattle.sd_rounds.specs.declared.new_image.NewImage.{NewImage}
+use Rattle.sd_writing.specs.declared.new_image.NewImage.{NewImage}
 use Rattle.sd_rounds.specs.declared.visit.Visit as visit
 use Rattle.sd_rounds.specs.declared.copied.Copied.{Copied}
 use Rattle.sd_rounds.specs.Dumper.{Running, after_pre_dump, begun_checkpoint, is_last, order_of, serial_of_running}

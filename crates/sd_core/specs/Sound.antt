@@ -29,7 +29,8 @@ use Rattle.sd_rounds.specs.declared.stage.Stage.TheVariants.{Format, Freeze, Pas
 use Rattle.sd_rounds.specs.Dumper.{Dumping, HasSlot, IsReserved, Running, is_frozen_image, out_of_image, out_of_running}
 use Rattle.sd_rounds.specs.Dumper.{slot_of, writes_of_running}
 use Rattle.sd_rounds.specs.Making.{Making, is_passing}
-use Rattle.sd_rounds.specs.Pass.{Pass, data_pages}
+use Rattle.sd_rounds.specs.Pass.{Pass}
+use Rattle.sd_writing.specs.Entries.{data_pages}
 use Rattle.sd_rounds.specs.Writes.{AreWrites, no_writes}
 use Rattle.sd_crash_safety.specs.declared.standing.Standing.{Standing}
 use Rattle.sd_crash_safety.specs.declared.standing.Standing.TheVariants.{NotOpen, Open}

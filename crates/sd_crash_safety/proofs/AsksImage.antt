@@ -14,9 +14,10 @@ use Rattle.sd_rounds.specs.declared.image_order.ImageOrder.{ImageOrder}
 use Rattle.sd_rounds.specs.declared.stage.Stage.{Stage}
 use Rattle.sd_rounds.specs.declared.stage.Stage.TheVariants.{Format, Close}
 use Rattle.sd_rounds.specs.Files.{FilesImage, HasAreasAtFreeze, HasAreasIn, IsFiled, IsFiledIn}
-use Rattle.sd_rounds.specs.Made.{MadeLaws, listed_pages}
+use Rattle.sd_rounds.specs.Made.{MadeLaws}
+use Rattle.sd_writing.specs.Files.{listed_pages, Pages, image_of}
 use Rattle.sd_rounds.specs.Making.{Making, plan_of, with_plan}
-use Rattle.sd_rounds.specs.MakingLaws.{DumpsImage, IsDumpedIn, IsKeptIn, Pages, image_of}
+use Rattle.sd_rounds.specs.MakingLaws.{DumpsImage, IsDumpedIn, IsKeptIn}
 use Rattle.sd_rounds.specs.Pass.{Pass}
 use Rattle.sd_rounds.specs.Keeps.{Chain}
 use Rattle.sd_store_laws.specs.Beliefs.{Belief}

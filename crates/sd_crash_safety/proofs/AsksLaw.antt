@@ -22,7 +22,7 @@ use Rattle.sd_rounds.specs.Dumper.{IsReserved, Running, is_last, slot_of}
 use Rattle.sd_rounds.specs.Files.{IsFiled, IsFiledIn}
 use Rattle.sd_rounds.specs.Made.{MadeLaws}
 use Rattle.sd_rounds.specs.Making.{Asks, Making, is_frozen_dump, is_past_freeze, with_plan}
-use Rattle.sd_rounds.specs.MakingLaws.{image_of}
+use Rattle.sd_writing.specs.Files.{image_of}
 use Rattle.sd_store_laws.specs.Beliefs.{Belief, Closed, Kept, Closing, Opening, image_in}
 use Rattle.sd_store_laws.specs.LiveImages.{CatalogFollows}
 use Rattle.sd_store_laws.specs.Makers.{DumpShows, HasMemory}

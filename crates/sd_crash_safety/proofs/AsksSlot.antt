@@ -19,7 +19,7 @@ use Rattle.sd_rounds.specs.declared.image_order.ImageOrder.{ImageOrder}
 use Rattle.sd_rounds.specs.declared.stage.Stage.{Stage}
 use Rattle.sd_rounds.specs.declared.stage.Stage.TheVariants.{Format, Close}
 use Rattle.sd_rounds.specs.Making.{plan_of, with_plan}
-use Rattle.sd_rounds.specs.MakingLaws.{Pages, image_of}
+use Rattle.sd_writing.specs.Files.{Pages, image_of}
 use Rattle.sd_store_laws.specs.Beliefs.{Belief, Closed, Kept, Closing, Opening}
 use Rattle.sd_store_laws.specs.Gates.{IsBelievedAs}
 use Rattle.sd_crash_safety.specs.LiveImages.{AreLeft, ClosesBody, IsFormatted, IsFormatting, IsSlotFor, calls_left, is_opening_at, kind_of_call, pending_dump}

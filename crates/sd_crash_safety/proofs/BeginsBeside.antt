@@ -15,7 +15,7 @@ use Rattle.sd_merge.specs.Copying.{Copying}
 use Rattle.sd_merge.specs.Merger.{Doing, Retiring, due, copying, opened, retiring, list_in, source_in}
 use Rattle.sd_merge.specs.Merger as merger
 use Rattle.sd_rounds.specs.Dumper.{IsReserved, Running}
-use Rattle.sd_rounds.specs.Pass.{Place}
+use Rattle.sd_writing.specs.Entries.{Place}
 use Rattle.sd_store_laws.specs.Beliefs.{Belief, Kept}
 use Rattle.sd_store_laws.specs.LiveImages.{IsLiveCatalog, SlotHasImage, RecordedReachesSo}
 use Rattle.sd_store_laws.specs.Reached.{Reaches, beyond, itself}

@@ -19,7 +19,7 @@ use Rattle.sd_rounds.specs.declared.stage.Stage.{Stage}
 use Rattle.sd_rounds.specs.declared.stage.Stage.TheVariants.{Format, Pass as PassStage, Close}
 use Rattle.sd_rounds.specs.Files.{HasAreasIn, IsFiledIn}
 use Rattle.sd_rounds.specs.Making.{is_past_freeze, plan_of, stage_after, stage_when_done}
-use Rattle.sd_rounds.specs.MakingLaws.{Pages, image_of}
+use Rattle.sd_writing.specs.Files.{Pages, image_of}
 use Rattle.sd_rounds.specs.Pass.{Pass}
 use Rattle.sd_store_laws.specs.Beliefs.{Belief, Closed}
 use Rattle.sd_store_laws.specs.Gates.{IsBelievedAs}

@@ -24,7 +24,8 @@ use Rattle.sd_rounds.specs.declared.stage.Stage.TheVariants.{Format, Close}
 use Rattle.sd_rounds.specs.Dumper.{Running, writes_of_image}
 use Rattle.sd_rounds.specs.Keeps.{ChainWithin}
 use Rattle.sd_rounds.specs.Making.{IsReadyFor, Making, PlanGoesOn, is_frozen_dump, is_past_freeze, plan_of, stage_after}
-use Rattle.sd_rounds.specs.MakingLaws.{DumpsImage, KeepsImage, MakingLaws, Pages, image_of}
+use Rattle.sd_rounds.specs.MakingLaws.{DumpsImage, KeepsImage, MakingLaws}
+use Rattle.sd_writing.specs.Files.{Pages, image_of}
 use Rattle.sd_rounds.specs.Pass.{Pass}
 use Rattle.sd_rounds.specs.Writes.{no_writes}
 use Rattle.sd_store_laws.specs.Beliefs.{Belief, Closed, Kept, Closing, Opening, image_at, image_in}

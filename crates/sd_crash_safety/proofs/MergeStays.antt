@@ -20,7 +20,7 @@ use Rattle.sd_merge.specs.Merger as merger
 use Rattle.sd_rounds.specs.declared.stage.Stage.TheVariants.{Format}
 use Rattle.sd_rounds.specs.Dumper.{IsReserved, Running}
 use Rattle.sd_rounds.specs.Making.{Making}
-use Rattle.sd_rounds.specs.Pass.{Place}
+use Rattle.sd_writing.specs.Entries.{Place}
 use Rattle.sd_store_laws.specs.Beliefs.{AreSlotsOf, Belief, Kept, Opening, image_at, image_in}
 use Rattle.sd_store_laws.specs.Cut.{CutHoldsTheSame}
 use Rattle.sd_store_laws.specs.ShownStays.{IsUnused, UnusedIsUncalled}

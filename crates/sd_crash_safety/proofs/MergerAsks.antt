@@ -25,8 +25,9 @@ use Rattle.sd_merge.specs.Merging.{KeepsCopy}
 use Rattle.sd_rounds.specs.declared.image_order.ImageOrder.{ImageOrder}
 use Rattle.sd_rounds.specs.Dumper.{Running}
 use Rattle.sd_rounds.specs.Making.{plan_of, with_plan}
-use Rattle.sd_rounds.specs.MakingLaws.{MakingLaws, Pages, image_of}
-use Rattle.sd_rounds.specs.Pass.{ImageEntry, Place}
+use Rattle.sd_rounds.specs.MakingLaws.{MakingLaws}
+use Rattle.sd_writing.specs.Files.{Pages, image_of}
+use Rattle.sd_writing.specs.Entries.{ImageEntry, Place}
 use Rattle.sd_store_laws.specs.Beliefs.{Belief, Closed, Kept, Closing, Opening, image_at, image_in}
 use Rattle.sd_store_laws.specs.Cut.{Repeats}
 use Rattle.sd_store_laws.specs.LiveImages.{CatalogFollows}

@@ -31,8 +31,9 @@ use Rattle.sd_rounds.specs.declared.image_order.ImageOrder.{ImageOrder}
 use Rattle.sd_rounds.specs.declared.stage.Stage.TheVariants.{Format, Pass as PassStage, Close}
 use Rattle.sd_rounds.specs.Dumper.{Running}
 use Rattle.sd_rounds.specs.Making.{plan_of, stage_after}
-use Rattle.sd_rounds.specs.MakingLaws.{MakingLaws, Pages, image_of}
-use Rattle.sd_rounds.specs.Pass.{ImageEntry, Place, data_pages}
+use Rattle.sd_rounds.specs.MakingLaws.{MakingLaws}
+use Rattle.sd_writing.specs.Files.{Pages, image_of}
+use Rattle.sd_writing.specs.Entries.{ImageEntry, Place, data_pages}
 use Rattle.sd_image.specs.declared.header.Kind.TheVariants.{Merged}
 use Rattle.sd_store_laws.specs.Beliefs.{Belief, Closed, Kept, Opening}
 use Rattle.sd_store_laws.specs.Below.{StepsGive}

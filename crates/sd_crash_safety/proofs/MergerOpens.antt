@@ -27,12 +27,13 @@ use Rattle.sd_merge.specs.Merger as merger
 use Rattle.sd_pagetable.specs.Contents.{Contents}
 use Rattle.sd_image.proofs.Members.{contains_at, place_in}
 use Rattle.sd_rounds.specs.declared.image_order.ImageOrder.{ImageOrder}
-use Rattle.sd_rounds.specs.declared.new_image.NewImage.{NewImage}
+use Rattle.sd_writing.specs.declared.new_image.NewImage.{NewImage}
 use Rattle.sd_rounds.specs.declared.stage.Stage.{Stage}
 use Rattle.sd_rounds.specs.Dumper.{Running}
 use Rattle.sd_rounds.specs.Files.{IsFiledIn as IsDumpFiledIn}
 use Rattle.sd_rounds.specs.Making.{Making}
-use Rattle.sd_rounds.specs.MakingLaws.{MakingLaws, Pages, image_of}
+use Rattle.sd_rounds.specs.MakingLaws.{MakingLaws}
+use Rattle.sd_writing.specs.Files.{Pages, image_of}
 use Rattle.sd_rounds.specs.Pass.{Pass}
 use Rattle.sd_store_laws.specs.Beliefs.{Belief, Closing, Kept, Opening, image_at, image_in}
 use Rattle.sd_store_laws.specs.Below.{StepsGive}

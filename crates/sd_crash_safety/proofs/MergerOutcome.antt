@@ -25,7 +25,8 @@ use Rattle.sd_rounds.specs.declared.stage.Stage.TheVariants.{Close}
 use Rattle.sd_rounds.specs.Dumper.{IsReserved, Running}
 use Rattle.sd_rounds.specs.Keeps.{ChainWithin, Rests}
 use Rattle.sd_rounds.specs.Making.{plan_of}
-use Rattle.sd_rounds.specs.MakingLaws.{MakingLaws, Pages}
+use Rattle.sd_rounds.specs.MakingLaws.{MakingLaws}
+use Rattle.sd_writing.specs.Files.{Pages}
 use Rattle.sd_store_laws.specs.Beliefs.{Belief, Closed, Closing, Opening, image_at, image_in}
 use Rattle.sd_store_laws.specs.Below.{StepsGive}
 use Rattle.sd_store_laws.specs.Cut.{CutHoldsTheSame}

@@ -26,8 +26,9 @@ use Rattle.sd_merge.specs.Files.{AreItsNumbers, FileLaws, FilesCopy, IsFiled, Is
 use Rattle.sd_merge.specs.Merger as merger
 use Rattle.sd_merge.specs.Merging.{IsReadOf, IsSourceAt, KeepsCopy, MergeLaws, pages_after}
 use Rattle.sd_rounds.specs.Dumper.{Running}
-use Rattle.sd_rounds.specs.MakingLaws.{MakingLaws, Pages, image_of}
-use Rattle.sd_rounds.specs.Pass.{data_pages}
+use Rattle.sd_rounds.specs.MakingLaws.{MakingLaws}
+use Rattle.sd_writing.specs.Files.{Pages, image_of}
+use Rattle.sd_writing.specs.Entries.{data_pages}
 use Rattle.sd_store_laws.specs.Beliefs.{Belief, Closed, Kept, Closing, Opening, image_at, image_in}
 use Rattle.sd_store_laws.specs.Gates.{IsBelievedAs, IsInDoubt}
 use Rattle.sd_store_laws.specs.LiveImages.{CatalogFollows, IsLiveCatalog}

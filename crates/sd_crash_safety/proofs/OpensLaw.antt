@@ -25,12 +25,12 @@ use Rattle.sd_journal.specs.declared.entry.Entry.TheVariants.{Acked}
 use Rattle.sd_journal.specs.History.{History, pending}
 use Rattle.sd_journal.specs.Legal.{IsLegal}
 use Rattle.sd_journal.specs.Marked.{Told, entries_of}
-use Rattle.sd_rounds.specs.declared.new_image.NewImage.{NewImage}
+use Rattle.sd_writing.specs.declared.new_image.NewImage.{NewImage}
 use Rattle.sd_rounds.specs.Dumper.{IsReserved, Running, after_pre_dump, is_last, slot_of, writes_of_image}
 use Rattle.sd_rounds.specs.Files.{FileLaws, IsFiled, IsFiledIn}
 use Rattle.sd_rounds.specs.Keeps.{Rests}
 use Rattle.sd_rounds.specs.Making.{Making, is_past_freeze, plan_of}
-use Rattle.sd_rounds.specs.MakingLaws.{image_of}
+use Rattle.sd_writing.specs.Files.{image_of}
 use Rattle.sd_store_laws.specs.Below.{StepsGive}
 use Rattle.sd_store_laws.specs.Cut.{CutHoldsTheSame}
 use Rattle.sd_store_laws.specs.ShownStays.{UnusedIsUncalled}

@@ -29,8 +29,8 @@ use Rattle.sd_rounds.specs.declared.stage.Stage.{Stage as RoundStage}
 use Rattle.sd_rounds.specs.declared.stage.Stage.TheVariants.{Format, Pass as PassStage, Close as CloseStage}
 use Rattle.sd_rounds.specs.Dumper.{Running}
 use Rattle.sd_rounds.specs.Making.{Making}
-use Rattle.sd_rounds.specs.MakingLaws.{Pages, image_of}
-use Rattle.sd_rounds.specs.Pass.{Place}
+use Rattle.sd_writing.specs.Files.{Pages, image_of}
+use Rattle.sd_writing.specs.Entries.{Place}
 use Rattle.sd_gate.specs.declared.slot_state.SlotState.{SlotState}
 use Rattle.sd_gate.specs.declared.slot_state.SlotState.TheVariants.{Open as OpenSlot}
 use Rattle.sd_merge.specs.declared.retired.Retired.{Retired}

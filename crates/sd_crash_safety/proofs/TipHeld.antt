@@ -17,9 +17,7 @@ use Rattle.sd_image.specs.Shows.{Holds, ImagesShow, IsMemory, IsTip, page_in}
 use Rattle.sd_image.specs.Table.{AreSpaces, Covers, IsTable, Listed, run_pages}
 use Rattle.sd_journal.specs.Allowed.{Shown}
 use Rattle.sd_merge.specs.Merging.{listed_places}
-use Rattle.sd_rounds.specs.Made.{entries_listed, run_entries}
-use Rattle.sd_rounds.specs.Pass as rounds
-use Rattle.sd_rounds.specs.Pass.{ImageEntry, Place}
+use Rattle.sd_writing.specs.Entries.{entries_listed, run_entries, ImageEntry, Place, place_of_entry}
 use Rattle.sd_store_laws.proofs.Choose.{same_pair as same_serial}
 
 -- ---- the pages of areas
@@ -78,7 +76,7 @@ module _ (P : Place → Type 0) where
   listed_are : (h : Header) (spaces : List Listed) → h.kind ≢ PreDump → IsTable h spaces
       → ((s : Listed) → Contains spaces s → (page : ℕ) → (prot_in s.areas page ≡ None → ⊥) → P (s.space, page)) → (at : Place) → Contains (listed_places spaces) at → P at
   listed_are h spaces other table each at lists =
-      All-contains P (listed_places spaces) at (All-map P rounds.place_of_entry (entries_listed spaces) (entries_are h 0 spaces other table.each each)) lists
+      All-contains P (listed_places spaces) at (All-map P place_of_entry (entries_listed spaces) (entries_are h 0 spaces other table.each each)) lists
 
 -- ---- the tip
 

@@ -12,7 +12,7 @@ use Rattle.sd_pagetable.specs.Contents.{Contents, plain_of}
 use Rattle.sd_rounds.specs.Dumper.{Running}
 use Rattle.sd_rounds.specs.Keeps.{Chain}
 use Rattle.sd_rounds.specs.Making.{Making}
-use Rattle.sd_rounds.specs.MakingLaws.{Pages}
+use Rattle.sd_writing.specs.Files.{Pages}
 use Rattle.sd_store_laws.specs.Beliefs.{Belief}
 use Rattle.sd_store_laws.specs.Store.{Store}
 use Rattle.sd_crash_safety.specs.Believes.{Believes, HasStore, ShowsLast, ShowsPending}

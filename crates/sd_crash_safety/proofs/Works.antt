@@ -15,7 +15,8 @@ use Rattle.sd_rounds.specs.declared.stage.Stage.TheVariants.{Pass as PassStage}
 use Rattle.sd_rounds.specs.Dumper.{Running, writes_of_image}
 use Rattle.sd_rounds.specs.Files.{IsFiledIn}
 use Rattle.sd_rounds.specs.Making.{Making, Steps, is_past_freeze}
-use Rattle.sd_rounds.specs.MakingLaws.{DumpsImage, KeepsImage, MakingLaws, Pages, pages_after}
+use Rattle.sd_rounds.specs.MakingLaws.{DumpsImage, KeepsImage, MakingLaws, pages_after}
+use Rattle.sd_writing.specs.Files.{Pages}
 use Rattle.sd_store_laws.specs.Beliefs.{Belief}
 use Rattle.sd_store_laws.specs.Store.{Store}
 use Rattle.sd_crash_safety.specs.Believes.{Believes}

@@ -25,8 +25,10 @@ use Rattle.sd_rounds.specs.Dumper.{IsReserved, Running, is_last, order_of, write
 use Rattle.sd_rounds.specs.Files.{FileLaws, FilesImage, HasAreasAtFreeze}
 use Rattle.sd_rounds.specs.Keeps.{Chain}
 use Rattle.sd_rounds.specs.Making.{Making, WritesPage, WritesTable, is_frozen_dump, is_past_freeze}
-use Rattle.sd_rounds.specs.MakingLaws.{AreItsNumbers, DumpsImage, KeepsImage, MakingLaws, Pages, image_of}
-use Rattle.sd_rounds.specs.Pass.{Pass, data_pages}
+use Rattle.sd_rounds.specs.MakingLaws.{AreItsNumbers, DumpsImage, KeepsImage, MakingLaws}
+use Rattle.sd_writing.specs.Files.{Pages, image_of}
+use Rattle.sd_rounds.specs.Pass.{Pass}
+use Rattle.sd_writing.specs.Entries.{data_pages}
 use Rattle.sd_rounds.specs.Writes.{no_writes}
 use Rattle.sd_store_laws.specs.Beliefs.{image_in}
 use Rattle.sd_store_laws.specs.LiveImages.{CatalogFollows}

@@ -12,7 +12,7 @@ use Rattle.sd_gate.specs.Requests.{Asked, Made}
 use Rattle.sd_journal.specs.declared.entry.Entry.TheVariants.{Acked}
 use Rattle.sd_journal.specs.Legal.{IsLegal}
 use Rattle.sd_journal.specs.Marked.{Told}
-use Rattle.sd_rounds.specs.declared.new_image.NewImage.{NewImage}
+use Rattle.sd_writing.specs.declared.new_image.NewImage.{NewImage}
 use Rattle.sd_rounds.specs.Dumper.{Running, after_pre_dump, is_last, order_of}
 use Rattle.sd_rounds.specs.Making.{IsWritten, Making, Opens, PlanGoesOn}
 use Rattle.sd_rounds.specs.Sound.{IsSoundImage}

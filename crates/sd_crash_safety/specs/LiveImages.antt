@@ -29,7 +29,8 @@ use Rattle.sd_rounds.specs.Dumper.{IsReserved, Running, slot_of, writes_of_runni
 use Rattle.sd_rounds.specs.Files.{FilesImage, HasAreasAtFreeze}
 use Rattle.sd_rounds.specs.Keeps.{Chain, Rests}
 use Rattle.sd_rounds.specs.Making.{Making, is_frozen_dump, is_passing}
-use Rattle.sd_rounds.specs.MakingLaws.{DumpsImage, KeepsImage, Pages, image_of}
+use Rattle.sd_rounds.specs.MakingLaws.{DumpsImage, KeepsImage}
+use Rattle.sd_writing.specs.Files.{Pages, image_of}
 use Rattle.sd_rounds.specs.Writes.{no_writes}
 use Rattle.sd_store_laws.specs.Beliefs.{Belief, Closed, Opening, image_at}
 use Rattle.sd_store_laws.specs.Gates.{IsBelievedAs}

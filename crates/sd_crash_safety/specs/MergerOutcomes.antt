@@ -7,14 +7,14 @@ use Rattle.sd_gate.specs.declared.phase.Phase.TheVariants.{Bare}
 use Rattle.sd_gate.specs.Calls.{is_done}
 use Rattle.sd_gate.specs.Phases.{bodies_after, phases_after}
 use Rattle.sd_gate.specs.Requests.{Asked, Made}
-use Rattle.sd_merge.specs.declared.copy_progress.CopyProgress.TheVariants as copies
+use Rattle.sd_writing.specs.declared.written.Written.TheVariants as copies
 use Rattle.sd_merge.specs.declared.merge_progress.MergeProgress.{MergeProgress}
 use Rattle.sd_merge.specs.declared.merge_progress.MergeProgress.TheVariants as progress
 use Rattle.sd_merge.specs.declared.retired.Retired.{Retired}
 use Rattle.sd_merge.specs.Copying.{Copying, HandsIn, IsSoundCopying, Opens}
 use Rattle.sd_merge.specs.Merger.{HandsClosing, IsRetiring, Retiring, TakesList, copying, opened, retiring}
 use Rattle.sd_merge.specs.Merger as merger
-use Rattle.sd_rounds.specs.declared.new_image.NewImage.{NewImage}
+use Rattle.sd_writing.specs.declared.new_image.NewImage.{NewImage}
 use Rattle.sd_crash_safety.specs.declared.standing.Standing.TheVariants as standing
 use Rattle.sd_crash_safety.specs.Believes.{Believes}
 use Rattle.sd_crash_safety.specs.Calls.{IsFree, WasLookedAt}

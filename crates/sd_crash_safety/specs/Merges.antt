@@ -27,8 +27,8 @@ use Rattle.sd_rounds.specs.declared.stage.Stage.{Stage}
 use Rattle.sd_rounds.specs.declared.stage.Stage.TheVariants.{Format, Pass as PassStage, Close}
 use Rattle.sd_rounds.specs.Dumper.{IsReserved, Running}
 use Rattle.sd_rounds.specs.Making.{Making}
-use Rattle.sd_rounds.specs.MakingLaws.{Pages}
-use Rattle.sd_rounds.specs.Pass.{Place}
+use Rattle.sd_writing.specs.Files.{Pages}
+use Rattle.sd_writing.specs.Entries.{Place}
 use Rattle.sd_store_laws.specs.Beliefs.{Belief, Kept, Opening, image_at}
 use Rattle.sd_store_laws.specs.Needs.{IsNeededIn}
 use Rattle.sd_store_laws.specs.Reached.{Reaches}

@@ -19,14 +19,12 @@ use Rattle.sd_gate.specs.PlanRuns.{body_closed}
 use Rattle.sd_gate.specs.Plans.{Planned, plan_after}
 use Rattle.sd_gate.specs.Requests.{Asked, Made}
 use Rattle.sd_gate.specs.Sequences.{Calls}
-use Rattle.sd_rounds.specs.Made.{Lists, entries_listed}
-use Rattle.sd_rounds.specs.MakingLaws.{Pages, image_of}
-use Rattle.sd_rounds.specs.Pass as rounds
-use Rattle.sd_rounds.specs.Pass.{ImageEntry, Place, data_pages, pages_by}
+use Rattle.sd_writing.specs.Entries.{Lists, entries_listed, ImageEntry, Place, data_pages, pages_by, place_of_entry}
+use Rattle.sd_writing.specs.Files.{Pages, image_of}
 use Rattle.sd_store_laws.specs.Makers.{HasItself, IsMergedOf, MergedRepeats}
 use Rattle.sd_store_laws.specs.Store.{IsMergedCopy}
 use Rattle.sd_merge.specs.declared.copy_order.CopyOrder.{CopyOrder}
-use Rattle.sd_merge.specs.declared.copy_progress.CopyProgress.TheVariants as progress
+use Rattle.sd_writing.specs.declared.written.Written.TheVariants as progress
 use Rattle.sd_merge.specs.declared.merge_step.MergeStep.TheVariants as step
 use Rattle.sd_merge.specs.declared.stage.Stage.{Stage}
 use Rattle.sd_merge.specs.declared.stage.Stage.TheVariants.{Close}
@@ -60,8 +58,8 @@ files : ((l : List Listed) → Lists (entries_listed l) l) → TextIsImage → (
 files lists law ticket places catalog source pages old new request s is restorable own was =
     let w = s.0.writes in
     let over : was.rest ≡ [] = over_of lists places catalog source old was.rest is was.merging.all (s.0.over is.are) in
-    let all : map rounds.place_of_entry old.entries ≡ listed_places source.spaces =
-    sym (append-nil (map rounds.place_of_entry old.entries)) ∙ ap (λ (l : List Place). map rounds.place_of_entry old.entries ++ l) (sym over) ∙ was.merging.all in
+    let all : map place_of_entry old.entries ≡ listed_places source.spaces =
+    sym (append-nil (map place_of_entry old.entries)) ∙ ap (λ (l : List Place). map place_of_entry old.entries ++ l) (sym over) ∙ was.merging.all in
     let same : w.source ≡ is.opened = one_opened w.source is.opened (sym w.there ∙ is.there) in
     let table : IsTableOf source.spaces old.entries w.tables =
     subst (λ (l : List Listed). IsTableOf l old.entries w.tables) (ap (λ (i : Opened). i.spaces) same ∙ sym is.told.spaces) w.table in
@@ -127,8 +125,8 @@ merged lists once catalog source pages old plan header table closing is was own 
     over : was.rest ≡ []
     over = subst (λ (s : Stage). IsOverIn s was.rest) closing was.over
 
-    all : map rounds.place_of_entry old.entries ≡ listed_places source.spaces
-    all = sym (append-nil (map rounds.place_of_entry old.entries)) ∙ ap (λ (l : List Place). map rounds.place_of_entry old.entries ++ l) (sym over) ∙ was.merging.all
+    all : map place_of_entry old.entries ≡ listed_places source.spaces
+    all = sym (append-nil (map place_of_entry old.entries)) ∙ ap (λ (l : List Place). map place_of_entry old.entries ++ l) (sym over) ∙ was.merging.all
 
     to : (space page : ℕ) (bytes : List ℕ) → HasItself (image_of header pages table) space page bytes → Holds catalog space page bytes source
     to space page bytes (inl (place, there, stored)) =
@@ -141,7 +139,7 @@ merged lists once catalog source pages old plan header table closing is was own 
     from : (space page : ℕ) (bytes : List ℕ) → Holds catalog space page bytes source → HasItself (image_of header pages table) space page bytes
     from space page bytes holds = by kind.0 kind.1
       where
-        there : In (map rounds.place_of_entry old.entries) (space, page)
+        there : In (map place_of_entry old.entries) (space, page)
         there = subst (λ (l : List Place). In l (space, page)) (sym all) (holds_listed lists catalog space page bytes source holds)
 
         kind : (kind : RunKind) × In (pages_by kind old.entries) (space, page)

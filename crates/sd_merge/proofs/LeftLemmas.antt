@@ -8,7 +8,7 @@ use Rattle.sd_gate.specs.Plans.{Planned, is_one, plan_after}
 use Rattle.sd_gate.specs.Requests.{Made}
 use Rattle.sd_gate.specs.Sequences.{Calls, format_calls}
 use Rattle.sd_gate.specs.PlanUse.{plan_left, IsUnderWay}
-use Rattle.sd_rounds.specs.declared.new_image.NewImage.{NewImage}
+use Rattle.sd_writing.specs.declared.new_image.NewImage.{NewImage}
 use Rattle.sd_gate.proofs.UseLemmas.{gives_fewer, settled_fewer}
 use Rattle.sd_merge.specs.declared.merge_progress.MergeProgress.{MergeProgress}
 use Rattle.sd_merge.specs.declared.merge_progress.MergeProgress.TheVariants as progress
@@ -20,7 +20,7 @@ use Rattle.sd_merge.specs.Copying.{Copying, IsClosing, Opens, PlanGoesOn, Steps,
 use Rattle.sd_merge.specs.Sources.{few_pages}
 use Rattle.sd_merge.specs.Left.{LeftLaws, body_left, copy_left, doing_left, left_of, retiring_left, running_left, stage_left}
 use Rattle.sd_merge.specs.Merger.{AreRunning, CopiesOn, Doing, EndsOne, GoesOnWith, Hands, HandsAt, HandsClosing, HandsCopying, HandsTo, IsLastCall, IsHanded, IsRunning, IsRunningAt, TakesList, Retiring, Running, StaysStrange, Works, WorksAt, awaited_in, copying, due, ends, is_strange, opened, order_of, retiring}
-use Rattle.sd_rounds.proofs.LeftLemmas.{few_calls}
+use Rattle.sd_writing.proofs.EntryLemmas.{few_calls}
 
 -- ---- a plan
 

@@ -6,10 +6,9 @@ use Rattle.std.proofs.lemmas.List.Folds.{concat-append}
 use Rattle.std.proofs.lemmas.List.{map-append, append_assoc, append-nil, length-append, length-map}
 use Rattle.std.proofs.lemmas.List.Elements.{filter-append}
 use Rattle.std.proofs.lemmas.List.Sums.{sum_by-cons}
-use Rattle.sd_rounds.proofs.RoomLemmas.{length-pages_from}
+use Rattle.sd_writing.proofs.EntryLemmas.{length-pages_from, slice_get_back}
 use Rattle.sd_chain.proofs.TablePages.{get_left}
-use Rattle.sd_rounds.proofs.Lists.{slice_get_back}
-use Rattle.sd_rounds.proofs.TableLemmas.{all_put}
+use Rattle.sd_writing.proofs.TableLemmas.{all_put}
 use Rattle.sd_areas.specs.declared.area.Area.{Area}
 use Rattle.sd_areas.specs.Areas.{area_pages}
 use Rattle.sd_image.specs.declared.header.Header.{Header}
@@ -34,16 +33,13 @@ use Rattle.sd_gate.specs.declared.call.Call.{Call}
 use Rattle.sd_gate.specs.declared.call.Call.TheVariants.{Read}
 use Rattle.sd_gate.specs.Requests.{Asked, Made}
 use Rattle.sd_gate.specs.Sequences.{Calls, data_place}
-use Rattle.sd_rounds.specs.Keeps.{Stored}
-use Rattle.sd_rounds.specs.Made.{Lists, entries_listed, listed_pages, run_entries}
-use Rattle.sd_rounds.specs.MakingLaws.{Pages}
-use Rattle.sd_rounds.specs.Pass as rounds
-use Rattle.sd_rounds.specs.Pass.{ImageEntry, Place, data_pages, has_kind, pages_by}
+use Rattle.sd_writing.specs.Files.{Stored, listed_pages, Pages}
+use Rattle.sd_writing.specs.Entries.{Lists, entries_listed, run_entries, ImageEntry, Place, data_pages, has_kind, pages_by, place_of_entry}
 use Rattle.sd_store_laws.specs.Cut.{CutHoldsTheSame, IsCut, KeepsItsNumber}
 use Rattle.sd_store_laws.specs.Needed.{IsCalled}
 use Rattle.sd_store_laws.specs.Reached.{Reaches}
 use Rattle.sd_merge.specs.declared.copy_order.CopyOrder.{CopyOrder}
-use Rattle.sd_merge.specs.declared.copy_progress.CopyProgress.TheVariants as progress
+use Rattle.sd_writing.specs.declared.written.Written.TheVariants as progress
 use Rattle.sd_merge.specs.declared.merge_step.MergeStep.{MergeStep}
 use Rattle.sd_merge.specs.declared.merge_step.MergeStep.TheVariants as step
 use Rattle.sd_merge.specs.declared.stage.Stage.{Stage}
@@ -68,7 +64,7 @@ abbrev put : List ImageEntry → Place → RunKind → List ImageEntry
 put entries at kind = entries ++ (record { place = at; kind = kind }) ∷ []
 
 pages_append : (kind : RunKind) (xs ys : List ImageEntry) → pages_by kind (xs ++ ys) ≡ pages_by kind xs ++ pages_by kind ys
-pages_append kind xs ys = ap (map rounds.place_of_entry) (filter-append (has_kind kind) xs ys) ∙ map-append rounds.place_of_entry (filter (has_kind kind) xs) (filter (has_kind kind) ys)
+pages_append kind xs ys = ap (map place_of_entry) (filter-append (has_kind kind) xs ys) ∙ map-append place_of_entry (filter (has_kind kind) xs) (filter (has_kind kind) ys)
 
 -- a place in a list with one more at its end
 slice_more : {X : Type 0} (xs : List X) (y : X) (k : ℕ) (x : X) → slice_get (xs ++ y ∷ []) k ≡ Some x → (slice_get xs k ≡ Some x) ⊎ ((k ≡ length xs) × (y ≡ x))
@@ -79,8 +75,8 @@ slice_more (z ∷ xs) y (suc k) x e = elim (slice_more xs y k x e) [ inl f ↦ i
 
 -- ---- one page more
 
-places_put : (entries : List ImageEntry) (at : Place) (kind : RunKind) (rest later all : List Place) → map rounds.place_of_entry entries ++ rest ≡ all → rest ≡ at ∷ later
-    → map rounds.place_of_entry (put entries at kind) ++ later ≡ all
+places_put : (entries : List ImageEntry) (at : Place) (kind : RunKind) (rest later all : List Place) → map place_of_entry entries ++ rest ≡ all → rest ≡ at ∷ later
+    → map place_of_entry (put entries at kind) ++ later ≡ all
 places_put entries at kind rest later all e is = grind (arith, map-append, append_assoc)
 
 copy_zero : (catalog : List Image) (source : Image) (stored : Stored) (entries : List ImageEntry) (at : Place) → IsCopy catalog source stored entries
@@ -111,12 +107,12 @@ pub source_table : (places : Places) (catalog : List Image) (serial : ℕ) (sour
 source_table places catalog serial source at = grind arith
 
 first_of : ((l : List Listed) → Lists (entries_listed l) l) → (places : Places) (catalog : List Image) (source : Image) (old : Copying) (rest : List Place) (at : Place)
-    → IsSourceAt places catalog old.order.source.serial source → map rounds.place_of_entry old.entries ++ rest ≡ listed_places source.spaces
+    → IsSourceAt places catalog old.order.source.serial source → map place_of_entry old.entries ++ rest ≡ listed_places source.spaces
     → IsNextPageOfImage places old.order.source.serial (cursor old) (Some at) → IsFirstOf rest at
 first_of lists places catalog source old rest at is all next = grind (arith, next_is_first, source_table)
 
 pub over_of : ((l : List Listed) → Lists (entries_listed l) l) → (places : Places) (catalog : List Image) (source : Image) (old : Copying) (rest : List Place)
-    → IsSourceAt places catalog old.order.source.serial source → map rounds.place_of_entry old.entries ++ rest ≡ listed_places source.spaces
+    → IsSourceAt places catalog old.order.source.serial source → map place_of_entry old.entries ++ rest ≡ listed_places source.spaces
     → IsNextPageOfImage places old.order.source.serial (cursor old) None → rest ≡ []
 over_of lists places catalog source old rest is all next =
     none_is_over source.header source.spaces old.entries rest (source_table places catalog old.order.source.serial source is) (lists source.spaces) all
@@ -369,7 +365,7 @@ places_long h before (s ∷ spaces) other are =
     ∙ omega (arith, one, places_long h s.space spaces other are.1)
     ∙ sym (sum_by-cons areas_count s spaces)
   where
-    one : length (map rounds.place_of_entry (flat_map (run_entries s.space) s.runs)) ≡ areas_count s
+    one : length (map place_of_entry (flat_map (run_entries s.space) s.runs)) ≡ areas_count s
     one = ap (λ (l : List Place). length l) (runs_places s.space s.runs) ∙ length-map (flat_map run_pages s.runs) _
         ∙ ap (λ (l : List ℕ). length l) (covers h.kind s.areas s.runs other are.0.covers) ∙ areas_long s.areas
 
@@ -391,7 +387,7 @@ listed_long (s ∷ spaces) =
     ∙ omega (arith, one, listed_long spaces)
     ∙ sym (sum_by-cons own_count s spaces)
   where
-    one : length (map rounds.place_of_entry (flat_map (run_entries s.space) s.runs)) ≡ own_count s
+    one : length (map place_of_entry (flat_map (run_entries s.space) s.runs)) ≡ own_count s
     one = ap (λ (l : List Place). length l) (runs_places s.space s.runs) ∙ length-map (flat_map run_pages s.runs) _ ∙ runs_long s.runs
 
 begins : (catalog : List Image) (source : Image) (order : CopyOrder) → IsTable source.header source.spaces → IsRestorable source
@@ -451,7 +447,7 @@ finds lists places catalog source pages copy is held was lost =
 
         listed_at : IsFirstOf was.rest at → Contains (listed_places source.spaces) at
         listed_at first = contains_in (listed_places source.spaces) at
-            (subst (λ (l : List Place). In l at) (ap (λ (l : List Place). map rounds.place_of_entry copy.entries ++ l) (sym first.is) ∙ was.merging.all) (put_in (map rounds.place_of_entry copy.entries) first.later))
+            (subst (λ (l : List Place). In l at) (ap (λ (l : List Place). map place_of_entry copy.entries ++ l) (sym first.is) ∙ was.merging.all) (put_in (map place_of_entry copy.entries) first.later))
 
 -- ---- other images
 

@@ -14,9 +14,7 @@ use Rattle.sd_image.specs.Table.{AreRuns, AreSpaces, IsTable, Listed, is_run_aft
 use Rattle.sd_image.specs.Words.{run_kind_number}
 use Rattle.sd_chain.specs.declared.way.Way.TheVariants as way
 use Rattle.sd_chain.specs.Passes.{IsBefore, IsAfterPlace, IsFrom, IsListed, IsNextOf}
-use Rattle.sd_rounds.specs.Made.{Lists, entries_listed}
-use Rattle.sd_rounds.specs.Pass.{ImageEntry, Place, has_kind, pages_by, place_of_entry}
-use Rattle.sd_rounds.specs.Rises.{last_of}
+use Rattle.sd_writing.specs.Entries.{Lists, entries_listed, ImageEntry, Place, has_kind, pages_by, place_of_entry, last_of}
 use Rattle.sd_merge.specs.Merging.{IsFirstOf, listed_places}
 use Rattle.sd_merge.proofs.TableLemmas.{in_space, places_cons, runs_places}
 

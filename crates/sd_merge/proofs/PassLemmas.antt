@@ -13,10 +13,8 @@ use Rattle.sd_chain.specs.Ways.{AreImages, LiesAt, LiesBySerial}
 use Rattle.sd_merge.proofs.LeftLemmas.{within_list}
 use Rattle.sd_merge.proofs.MergingLemmas.{no_zero, offsets}
 use Rattle.sd_gate.specs.Sequences.{data_place}
-use Rattle.sd_rounds.specs.Pass.{Place}
-use Rattle.sd_rounds.specs.Rises.{last_of}
+use Rattle.sd_writing.specs.Entries.{Place, last_of}
 use Rattle.sd_merge.specs.declared.merge_step.MergeStep.{MergeStep}
-use Rattle.sd_merge.specs.declared.merge_step.MergeStep.TheVariants.{Zero}
 use Rattle.sd_merge.specs.declared.stage.Stage.TheVariants.{Pass as PassStage}
 use Rattle.sd_gate.specs.declared.worker.Worker.TheVariants.{Merger}
 use Rattle.sd_gate.specs.PlanUse.{IsAskedBy}

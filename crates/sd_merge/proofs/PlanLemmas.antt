@@ -1,6 +1,6 @@
 -- A plan that a merged image begins, and what holds of the image then.
 use Rattle.std.proofs.Common.{◌≡◌, ℕ, ◌+◌, ◌≤◌, List, Option, None, sym, subst, arith}
-use Rattle.sd_rounds.proofs.ImageTableLemmas.{table_is_long}
+use Rattle.sd_writing.proofs.EntryLemmas.{table_is_long}
 use Rattle.sd_gate.specs.Inspections.{nothing}
 use Rattle.sd_gate.specs.Plans.{Planned, begun}
 use Rattle.sd_gate.specs.Sequences.{IsBody, body_calls}
@@ -8,7 +8,7 @@ use Rattle.sd_image.specs.declared.header.Header.{Header}
 use Rattle.sd_image.specs.Table.{Listed, table_text}
 use Rattle.sd_gate.specs.PlanUse.{IsUnderWay}
 use Rattle.sd_gate.proofs.UseLemmas.{body_under_way}
-use Rattle.sd_rounds.specs.Pass.{ImageEntry, Place}
+use Rattle.sd_writing.specs.Entries.{ImageEntry, Place}
 use Rattle.sd_merge.specs.declared.copy_order.CopyOrder.{CopyOrder}
 use Rattle.sd_merge.specs.declared.stage.Stage.{Stage}
 use Rattle.sd_merge.specs.declared.stage.Stage.TheVariants.{Pass as PassStage}

@@ -14,11 +14,11 @@ use Rattle.sd_image.specs.declared.header.Kind.TheVariants.{PreDump, Merged}
 use Rattle.sd_image.specs.declared.run.Run.{Run}
 use Rattle.sd_image.specs.declared.run.RunKind.TheVariants.{Data}
 use Rattle.sd_image.specs.Table.{AreRuns, AreSpaces, Covers, IsSpace, Listed, is_run_after, mapped_count, run_pages}
-use Rattle.sd_rounds.specs.Made.{Lists, entries_listed, run_entries}
-use Rattle.sd_rounds.specs.Pass.{ImageEntry, Place, place_of_entry}
-use Rattle.sd_merge.specs.Gathered.{AreGathered, IsGathered, IsTableOf, RepeatsTable, front_runs, own_areas, spaces_after, tables_of}
+use Rattle.sd_writing.specs.Entries.{Lists, entries_listed, run_entries, ImageEntry, Place, place_of_entry}
+use Rattle.sd_merge.specs.Gathered.{IsTableOf, RepeatsTable, front_runs, own_areas, spaces_after, tables_of}
 use Rattle.sd_image.proofs.PageBytes.{counted_spaces as pages_counted}
-use Rattle.sd_merge.proofs.GatheredLemmas.{table_entries}
+use Rattle.sd_writing.proofs.TableLemmas.{table_entries}
+use Rattle.sd_writing.specs.Tables.{AreTables, IsTableFrom}
 
 -- ---- counts
 
@@ -92,10 +92,10 @@ above_table number t tables above rest =
     (all_append (λ (p : Place). number < p.0) (table_places t) (places tables)
     (subst (AreAbove number) (sym (runs_places t.space t.runs)) (above_map t.space number (flat_map run_pages t.runs) above)) rest)
 
-above_gathered : (number least : ℕ) (tables : List Listed) → AreGathered least tables → number < least → AreAbove number (places tables)
+above_gathered : (number least : ℕ) (tables : List Listed) → AreTables 0 least tables → number < least → AreAbove number (places tables)
 above_gathered number least [] are below = tt
 above_gathered number least (t ∷ tables) are below =
-    let l : least ≤ t.space = are.0.least in
+    let l : least ≤ t.space = are.0.from in
     above_table number t tables (omega arith) (above_gathered number (t.space + 1) tables are.1 (omega arith))
 
 above_spaces : (h : Header) (number before : ℕ) (spaces : List Listed) → AreSpaces h before spaces → number ≤ before → AreAbove number (places spaces)
@@ -166,8 +166,8 @@ unfolding pages_from
 first_page first zero some = absurd (omega arith)
 first_page first (suc count) some = (pages_from (suc first) count, refl)
 
--- a gathered space has a first place
-some_place : (least : ℕ) (t : Listed) (xs : List Place) → IsGathered least t → (page : ℕ) × (ps : List Place) × (table_places t ++ xs ≡ (t.space, page) ∷ ps)
+-- a space with pages has a first place
+some_place : (least : ℕ) (t : Listed) (xs : List Place) → IsTableFrom 0 least t → (page : ℕ) × (ps : List Place) × (table_places t ++ xs ≡ (t.space, page) ∷ ps)
 some_place least t xs is = by t.runs is.some is.runs (runs_places t.space t.runs)
   where
     counts : (run : Run) → IsTrue (is_run_after 0 None run) → 0 < run.count
@@ -183,7 +183,7 @@ some_place least t xs is = by t.runs is.some is.runs (runs_places t.space t.runs
           ap (λ (l : List Place). l ++ xs) (e ∙ ap (λ (l : List ℕ). map (in_space t.space) (l ++ flat_map run_pages runs)) p.1),
         )
 
-joined : (old h : Header) (before least : ℕ) (source taken : List Listed) → old.kind ≢ PreDump → h.kind ≡ Merged → h.parent ≡ 0 → AreSpaces old before source → AreGathered least taken
+joined : (old h : Header) (before least : ℕ) (source taken : List Listed) → old.kind ≢ PreDump → h.kind ≡ Merged → h.parent ≡ 0 → AreSpaces old before source → AreTables 0 least taken
     → places taken ≡ places source → IsJoined h before taken (tables_of source taken)
 joined old h before least [] taken other kind parent are gathered same = record {
   entries = sym (no_entries (entries_listed taken) same);
@@ -260,7 +260,7 @@ same_mapped (s ∷ source) taken =
     ∙ ap (λ n. areas_count s + n) (same_mapped source (spaces_after s.space taken))
     ∙ sym (sum_by-cons areas_count s source)
 
-pub table_of : (source taken tables : List Listed) → ((l : List Listed) → Lists (entries_listed l) l) → AreGathered 0 taken → tables ≡ tables_of source taken
+pub table_of : (source taken tables : List Listed) → ((l : List Listed) → Lists (entries_listed l) l) → AreTables 0 0 taken → tables ≡ tables_of source taken
     → IsTableOf source (entries_listed taken) tables
 table_of source taken tables law gathered is = λ old header table other same kind parent pages.
     subst (λ (l : List Listed). RepeatsTable source (entries_listed taken) header l) (sym is)

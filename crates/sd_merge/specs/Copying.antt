@@ -24,12 +24,11 @@ use Rattle.sd_gate.specs.Plans.{Gives, Planned, begun, nothing_back, plan_after}
 use Rattle.sd_gate.specs.PlanUse.{IsAskedBy, IsUnderWay, outcomes_of}
 use Rattle.sd_gate.specs.Requests.{Asked, Made}
 use Rattle.sd_gate.specs.Sequences.{Calls, body_calls, data_place, format_calls}
-use Rattle.sd_rounds.specs.declared.new_image.NewImage.{NewImage}
-use Rattle.sd_rounds.specs.Pass.{ImageEntry, Place, data_pages}
-use Rattle.sd_rounds.specs.Rises.{last_of}
+use Rattle.sd_writing.specs.declared.new_image.NewImage.{NewImage}
+use Rattle.sd_writing.specs.Entries.{ImageEntry, Place, data_pages, last_of}
 use Rattle.sd_merge.specs.declared.copy_order.CopyOrder.{CopyOrder}
-use Rattle.sd_merge.specs.declared.copy_progress.CopyProgress.{CopyProgress}
-use Rattle.sd_merge.specs.declared.copy_progress.CopyProgress.TheVariants as progress
+use Rattle.sd_writing.specs.declared.written.Written.{Written}
+use Rattle.sd_writing.specs.declared.written.Written.TheVariants as progress
 use Rattle.sd_merge.specs.declared.merge_step.MergeStep.{MergeStep}
 use Rattle.sd_merge.specs.declared.merge_step.MergeStep.TheVariants as step
 use Rattle.sd_merge.specs.declared.stage.Stage.{Stage}
@@ -276,7 +275,7 @@ pub record Opens (old : Copying) (made : Made) (image : NewImage) : Type 0 where
   pub slot : image.slot ≡ old.order.slot
 
 -- what the outcome of a call on the merged image changes
-abbrev pub HandsIn : Copying → Made → CopyProgress → Copying → Type 0
+abbrev pub HandsIn : Copying → Made → Written → Copying → Type 0
 HandsIn old made progress.Strange new = (out_of old.stage ≢ Some made.request.id) × (new ≡ old)
 HandsIn old made progress.Failed new = Fails old made
 HandsIn old made progress.More new = PlanGoesOn old made new

@@ -10,13 +10,12 @@ use Rattle.sd_gate.specs.Laws.{pages_body}
 use Rattle.sd_gate.specs.PlanRuns.{body_closed}
 use Rattle.sd_gate.specs.Plans.{Planned}
 use Rattle.sd_gate.specs.Requests.{Asked, Made}
-use Rattle.sd_rounds.specs.Files.{file_of}
-use Rattle.sd_rounds.specs.MakingLaws.{Pages, image_of}
-use Rattle.sd_rounds.specs.Pass.{ImageEntry, data_pages}
+use Rattle.sd_writing.specs.Files.{file_of, Pages, image_of}
+use Rattle.sd_writing.specs.Entries.{ImageEntry, data_pages}
 use Rattle.sd_store_laws.specs.Makers.{IsMergedOf}
 use Rattle.sd_store_laws.specs.Store.{IsMergedCopy}
 use Rattle.sd_merge.specs.declared.copy_order.CopyOrder.{CopyOrder}
-use Rattle.sd_merge.specs.declared.copy_progress.CopyProgress.TheVariants as progress
+use Rattle.sd_writing.specs.declared.written.Written.TheVariants as progress
 use Rattle.sd_merge.specs.declared.merge_step.MergeStep.TheVariants as step
 use Rattle.sd_merge.specs.declared.stage.Stage.{Stage}
 use Rattle.sd_merge.specs.declared.stage.Stage.TheVariants.{Format, Pass as PassStage, PageRead, PageWrite, Close}

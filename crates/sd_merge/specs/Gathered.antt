@@ -4,26 +4,10 @@ use Rattle.sd_areas.specs.declared.area.Area.{Area}
 use Rattle.sd_image.specs.declared.header.Header.{Header}
 use Rattle.sd_image.specs.declared.header.Kind.TheVariants.{PreDump, Merged}
 use Rattle.sd_image.specs.declared.run.Run.{Run}
-use Rattle.sd_image.specs.declared.run.RunKind.{RunKind}
 use Rattle.sd_image.specs.declared.table.SpaceTable.{SpaceTable}
-use Rattle.sd_image.specs.Runs.{AreRunsOf, end_of}
-use Rattle.sd_image.specs.Table.{AreRuns, IsTable, Listed}
-use Rattle.sd_rounds.specs.Made.{entries_listed}
-use Rattle.sd_rounds.specs.Making.{TablesEntries}
-use Rattle.sd_rounds.specs.Pass.{ImageEntry, Place, data_pages, place_of_entry}
-use Rattle.sd_rounds.specs.Rises.{last_of}
-use Rattle.sd_rounds.specs.Tables.{EndBefore, entries_in, listed}
-
--- a space with some pages, none of them in a parent, at a number or above it
-pub record IsGathered (number : ℕ) (t : Listed) : Type 0 where
-  pub least : number ≤ t.space
-  pub runs : AreRuns 0 None t.runs
-  pub some : t.runs ≢ []
-
--- spaces rising by number
-abbrev pub AreGathered : ℕ → List Listed → Type 0
-AreGathered least [] = Unit {0}
-AreGathered least (t ∷ tables) = IsGathered least t × AreGathered (t.space + 1) tables
+use Rattle.sd_image.specs.Table.{IsTable, Listed}
+use Rattle.sd_writing.specs.Entries.{entries_listed, ImageEntry, Place, data_pages, place_of_entry, last_of}
+use Rattle.sd_writing.specs.Tables.{AreTables, EndBefore, TablesEntries, entries_in, listed}
 
 -- they end after a page, or there is none
 abbrev pub EndAfter : Option Place → List Listed → Type 0
@@ -32,23 +16,9 @@ EndAfter (Some at) tables = EndBefore (at.0, at.1 + 1) tables
 
 -- what holds of the pages that were taken, with the last of them
 pub record AreCopies (spaces : List SpaceTable) (last : Option Place) : Type 0 where
-  pub gathered : AreGathered 0 (listed spaces)
+  pub tables : AreTables 0 0 (listed spaces)
   pub is_last : last ≡ last_of None (entries_in spaces)
   pub ends : EndAfter last (listed spaces)
-
--- a page was put after the others
-pub record IsPut (old new : List Listed) (at : Place) (kind : RunKind) : Type 0 where
-  pub entries : entries_listed new ≡ entries_listed old ++ (record { place = at; kind = kind }) ∷ []
-  pub gathered : AreGathered 0 new
-  pub ends : EndBefore (at.0, at.1 + 1) new
-
--- a space with one page was put after the others
-pub record SpaceIsBegun (old new : List SpaceTable) (at : Place) (kind : RunKind) : Type 0 where
-  pub table : SpaceTable
-  pub behind : new ≡ old ++ table ∷ []
-  pub space : table.space ≡ at.0
-  pub runs : AreRunsOf 0 ((at.1, kind) ∷ []) table.runs.items
-  pub end : end_of table.runs.items ≡ at.1 + 1
 
 -- ---- The table of the merged image
 

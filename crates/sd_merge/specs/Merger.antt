@@ -10,13 +10,13 @@ use Rattle.sd_gate.specs.Inspections.{nothing}
 use Rattle.sd_gate.specs.Plans.{Gives, Planned, begun, plan_after}
 use Rattle.sd_gate.specs.Requests.{Asked, Made}
 use Rattle.sd_gate.specs.Sequences.{closing_calls}
-use Rattle.sd_rounds.specs.declared.new_image.NewImage.{NewImage}
+use Rattle.sd_writing.specs.declared.new_image.NewImage.{NewImage}
 use Rattle.sd_gate.specs.declared.worker.Worker.TheVariants.{Merger}
 use Rattle.sd_gate.specs.PlanUse.{IsAskedBy, IsUnderWay, outcomes_of}
 use Rattle.sd_merge.specs.declared.closing.Closing.{Closing}
 use Rattle.sd_merge.specs.declared.copy_order.CopyOrder.{CopyOrder}
-use Rattle.sd_merge.specs.declared.copy_progress.CopyProgress.{CopyProgress}
-use Rattle.sd_merge.specs.declared.copy_progress.CopyProgress.TheVariants as image
+use Rattle.sd_writing.specs.declared.written.Written.{Written}
+use Rattle.sd_writing.specs.declared.written.Written.TheVariants as image
 use Rattle.sd_merge.specs.declared.job.Job.{Job}
 use Rattle.sd_merge.specs.declared.job.Job.TheVariants as job
 use Rattle.sd_merge.specs.declared.merge.Merge.{Merge}
@@ -171,7 +171,7 @@ slot_before (Some running) = slot_to_begin running running.doing
 -- ---- Outcomes
 
 -- an outcome of the merged image, which goes on
-pub record HandsCopy (old : Copying) (made : Made) (done : CopyProgress) (new : Doing) : Type 0 where
+pub record HandsCopy (old : Copying) (made : Made) (done : Written) (new : Doing) : Type 0 where
   pub copy : Copying
   pub hands : HandsIn old made done copy
   pub is : new ≡ copying copy

@@ -14,16 +14,13 @@ use Rattle.sd_chain.specs.Ways.{AreImages}
 use Rattle.sd_gate.specs.declared.call.Call.TheVariants.{Read}
 use Rattle.sd_gate.specs.Requests.{Asked, Made}
 use Rattle.sd_gate.specs.Sequences.{data_place}
-use Rattle.sd_rounds.specs.Keeps.{Stored}
-use Rattle.sd_rounds.specs.Made.{entries_listed, listed_pages}
-use Rattle.sd_rounds.specs.MakingLaws.{Pages}
-use Rattle.sd_rounds.specs.Pass as rounds
-use Rattle.sd_rounds.specs.Pass.{ImageEntry, Place, data_pages, pages_by}
+use Rattle.sd_writing.specs.Files.{Stored, listed_pages, Pages}
+use Rattle.sd_writing.specs.Entries.{entries_listed, ImageEntry, Place, data_pages, pages_by, place_of_entry}
 use Rattle.sd_store_laws.specs.Cut.{IsCut, KeepsItsNumber}
 use Rattle.sd_store_laws.specs.Needed.{IsCalled}
 use Rattle.sd_store_laws.specs.Reached.{Reaches}
 use Rattle.sd_merge.specs.declared.copy_order.CopyOrder.{CopyOrder}
-use Rattle.sd_merge.specs.declared.copy_progress.CopyProgress.TheVariants as progress
+use Rattle.sd_writing.specs.declared.written.Written.TheVariants as progress
 use Rattle.sd_merge.specs.declared.merge_step.MergeStep.{MergeStep}
 use Rattle.sd_merge.specs.declared.merge_step.MergeStep.TheVariants as step
 use Rattle.sd_merge.specs.declared.stage.Stage.{Stage}
@@ -33,7 +30,7 @@ use Rattle.sd_merge.specs.Sources.{few_pages, listed_count}
 
 -- the pages of an image, in its order
 abbrev pub listed_places : List Listed → List Place
-listed_places spaces = map rounds.place_of_entry (entries_listed spaces)
+listed_places spaces = map place_of_entry (entries_listed spaces)
 
 -- Each entry is zeros that the source holds there, or a data page whose bytes, once its write is done, are those that
 -- the source holds there.
@@ -46,7 +43,7 @@ pub record IsCopy (catalog : List Image) (source : Image) (stored : Stored) (ent
 -- the entries so far are the source's first pages, and the rest are to come
 pub record IsMerging (catalog : List Image) (source : Image) (stored : Stored) (entries : List ImageEntry)
     (rest : List Place) : Type 0 where
-  pub all : map rounds.place_of_entry entries ++ rest ≡ listed_places source.spaces
+  pub all : map place_of_entry entries ++ rest ≡ listed_places source.spaces
   pub copy : IsCopy catalog source stored entries
 
 -- a page is the first of these

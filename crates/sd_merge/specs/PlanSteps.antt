@@ -1,5 +1,4 @@
 -- What the functions of a merged image in the making promise one another.
-use Rattle.std.specs.Prelude.{}
 use Rattle.sd_gate.specs.Requests.{Asked}
 use Rattle.sd_merge.specs.declared.merge_step.MergeStep.{MergeStep}
 use Rattle.sd_merge.specs.declared.merge_step.MergeStep.TheVariants.{Call, ReadCall, PageCall, TableCall, Zero}

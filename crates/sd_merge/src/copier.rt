@@ -32,7 +32,7 @@ use sd_areas::{PAGE_SIZE, PageNo, SpaceId};
 use sd_chain::{Catalog, Found, PlacedTable};
 use sd_gate::{Outcome, Plan, Request, Settled, Worker, ask, plan_left};
 use sd_image::{Digester, Header, Kind, RunKind, Version, encode_table, few_pages};
-use sd_rounds::{digest_page, with_digest};
+use sd_writing::{digest_page, with_digest};
 use std::alloc::{AllocError, Global};
 use std::marker::Model;
 use std::mem;

@@ -3,13 +3,13 @@ ghost use Rattle.std.specs.Prelude.{◌≡◌, ◌≢◌, ◌∷◌, ◌++◌, [
 ghost use Rattle.sd_image.specs.declared.run.RunKind.TheVariants.{Parent};
 ghost use Rattle.sd_image.specs.Table.{listing_of};
 ghost use Rattle.sd_chain.specs.Passes.{IsAfterPlace};
-ghost use Rattle.sd_rounds.specs.Rises.{last_of};
+ghost use Rattle.sd_writing.specs.Entries.{last_of};
 ghost use Rattle.sd_merge.specs.Gathered.{IsTableOf};
 
-use crate::gathered::{gathered_table, put_page};
+use crate::gathered::gathered_table;
 use sd_areas::{PageNo, SpaceId};
 use sd_image::{RunKind, SpaceTable, Table};
-use sd_rounds::made_law;
+use sd_writing::{entries_law, push_entry};
 use std::alloc::{AllocError, Global};
 use std::marker::Model;
 
@@ -23,8 +23,8 @@ pub struct Copies {
 
 impl Model for Copies {
     ghost use Rattle.std.specs.Prelude.{List};
-    ghost use Rattle.sd_rounds.specs.Pass.{ImageEntry};
-    ghost use Rattle.sd_rounds.specs.Tables.{entries_in};
+    ghost use Rattle.sd_writing.specs.Entries.{ImageEntry};
+    ghost use Rattle.sd_writing.specs.Tables.{entries_in};
     ghost use Rattle.sd_merge.specs.Gathered.{AreCopies};
 
     ghost Value = { List ImageEntry };
@@ -70,7 +70,7 @@ impl Copies {
             ≡ self.old ++ (record { place = (space, page); kind = kind }) ∷ []) }
         ensures err { OnErr result (self.new ≡ self.old) }
     {
-        put_page(self.alloc, &mut self.spaces, space, page, kind)?;
+        push_entry(self.alloc, &mut self.spaces, space, page, kind)?;
         self.last = Some((space, page));
         Ok(())
     }
@@ -84,7 +84,7 @@ impl Copies {
         ensures { IfOk result (λ table. IsTableOf (map listing_of source.now.spaces.items) self.now
             (map listing_of table.spaces.items)) }
     {
-        made_law();
+        entries_law();
         gathered_table(self.alloc, source, &self.spaces)
     }
 }

@@ -5,8 +5,8 @@ ghost use Rattle.sd_merge.specs.Merging.{MergeLaws};
 
 use sd_gate::bodies_fill;
 use sd_image::{held_once_among, text_is_image};
-use sd_rounds::made_law;
 use sd_store_laws::{cut_holds_the_same, merged_repeats};
+use sd_writing::entries_law;
 
 /// How many steps and outcomes a merge has before it: none exactly where none runs, and fewer with each step, with each
 /// outcome of a request that was out, and with the list of the images to close.
@@ -19,7 +19,7 @@ pub fn left_law()
 pub fn merge_law()
     ensures { MergeLaws }
 {
-    made_law();
+    entries_law();
     cut_holds_the_same();
 }
 
@@ -28,7 +28,7 @@ pub fn merge_law()
 pub fn merged_file_law()
     ensures { FileLaws }
 {
-    made_law();
+    entries_law();
     text_is_image();
     bodies_fill();
     held_once_among();

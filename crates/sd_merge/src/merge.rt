@@ -9,16 +9,15 @@ ghost use Rattle.sd_merge.specs.Merger.{order_of, running_of};
 use crate::closing::Closing;
 use crate::copier::Copier;
 use crate::copy_order::CopyOrder;
-use crate::copy_progress::CopyProgress;
 use crate::job::{Job, put_job};
 use crate::merge_progress::MergeProgress;
 use crate::merge_step::MergeStep;
-use crate::next_image::NextImage;
 use crate::plans::next_call;
 use crate::source::{PAGE_LIMIT, Source};
 use crate::work_error::WorkError;
 use sd_chain::Catalog;
 use sd_gate::Outcome;
+use sd_writing::{NextImage, Written};
 use std::alloc::Global;
 
 /// A merge that runs.
@@ -99,10 +98,10 @@ impl Merge {
         match &mut self.job {
             Job::Due | Job::Opened(_) => MergeProgress::Strange,
             Job::Copying(copier) => match copier.hand_in(outcome) {
-                CopyProgress::Strange => MergeProgress::Strange,
-                CopyProgress::Failed => MergeProgress::Failed,
-                CopyProgress::More => MergeProgress::More,
-                CopyProgress::Opened(image) => {
+                Written::Strange => MergeProgress::Strange,
+                Written::Failed => MergeProgress::Failed,
+                Written::More => MergeProgress::More,
+                Written::Opened(image) => {
                     put_job(&mut self.job, Job::Opened(image.header.serial));
                     MergeProgress::Opened(image)
                 }

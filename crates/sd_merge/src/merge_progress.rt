@@ -1,5 +1,5 @@
 use crate::retired::Retired;
-use sd_rounds::NewImage;
+use sd_writing::NewImage;
 
 /// What an outcome, or the list of images to close, was to a merger.
 #[derive(Drop)]

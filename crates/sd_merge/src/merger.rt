@@ -11,12 +11,12 @@ use crate::job::Job;
 use crate::merge::Merge;
 use crate::merge_progress::MergeProgress;
 use crate::merge_step::MergeStep;
-use crate::next_image::NextImage;
 use crate::retired::Retired;
 use crate::source::Source;
 use crate::work_error::WorkError;
 use sd_chain::Catalog;
 use sd_gate::{Outcome, Plan};
+use sd_writing::NextImage;
 use std::alloc::Global;
 use std::marker::Model;
 

@@ -1,6 +1,6 @@
 //! What a merge knows of the image that it repeats.
 ghost use Rattle.std.specs.Prelude.{◌≡◌, ◌+◌};
-ghost use Rattle.sd_rounds.specs.Tables.{listed};
+ghost use Rattle.sd_writing.specs.Tables.{listed};
 ghost use Rattle.sd_merge.specs.Sources.{few_pages, listed_count, runs_count, source_from};
 
 use sd_chain::OpenImage;

@@ -18,7 +18,7 @@ use Rattle.sd_pagetable.specs.Law.{PlainLaw}
 use Rattle.sd_pagetable.specs.Order.{IsNextPage, is_above}
 use Rattle.sd_pagetable.specs.Tracking.{is_page}
 use Rattle.sd_rounds.specs.Left.{mapped_places, pages_ahead, space_places}
-use Rattle.sd_rounds.specs.Pass.{Place}
+use Rattle.sd_writing.specs.Entries.{Place}
 use Rattle.sd_rounds.proofs.RoundLemmas.{alive_at}
 use Rattle.sd_rounds.proofs.Orders.{above_more, page_is, page_here}
 

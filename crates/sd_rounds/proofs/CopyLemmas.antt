@@ -8,9 +8,10 @@ use Rattle.sd_image.specs.declared.run.RunKind.TheVariants.{Data, Parent, Zero}
 use Rattle.sd_image.specs.declared.table.SpaceTable.{SpaceTable}
 use Rattle.sd_pagetable.specs.Page.{PageState, zeros}
 use Rattle.sd_pagetable.specs.Contents.{Contents, page_at}
-use Rattle.sd_rounds.specs.Pass.{Place, Pass, Taking, copied_more, sector_of, with_entry}
+use Rattle.sd_writing.specs.Entries.{Place}
+use Rattle.sd_rounds.specs.Pass.{Pass, Taking, copied_more, sector_of, with_entry}
 use Rattle.sd_rounds.specs.Rounds.{CopiesMore, CopiesZeros, IsCopied, IsCopying, IsNextSector, IsRound, TakesPage, is_page_of_zeros, pass_of, taking_of}
-use Rattle.sd_rounds.specs.Tables.{IsPushed, listed}
+use Rattle.sd_writing.specs.Tables.{IsPushed, listed}
 use Rattle.sd_rounds.proofs.PageCopyLemmas.{all_zero}
 use Rattle.sd_rounds.proofs.RoundLemmas.{entered_view}
 use Rattle.sd_rounds.proofs.Clean.{one_some}
@@ -78,7 +79,7 @@ data_is_own e = cc
 
 pub takes_page : (takes_all : Bool) (old new : List SpaceTable) (after taking : Option Place) (buffer empty bytes : List ℕ) (at : Place) (parent : ℕ) (pass : Pass)
     → pass_of takes_all old after taking buffer ≡ pass → IsRound takes_all old after taking buffer → IsCopied pass → taking ≡ Some at → bytes ≡ buffer
-    → IsPushed parent (listed old) (listed new) at Data → TakesPage pass bytes (pass_of takes_all new after None empty)
+    → IsPushed parent 1 (listed old) (listed new) at Data → TakesPage pass bytes (pass_of takes_all new after None empty)
 takes_page takes_all old new after taking buffer empty bytes at parent pass view round copied is same pushed = record {
   taking = taking_of buffer at;
   was = was;

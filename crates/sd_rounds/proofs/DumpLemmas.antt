@@ -12,8 +12,10 @@ use Rattle.sd_pagetable.specs.Law.{ClearLaw, IsClearedAt, PlainLaw}
 use Rattle.sd_pagetable.specs.Order.{IsNextPage}
 use Rattle.sd_pagetable.specs.PageLaw.{clean_at}
 use Rattle.sd_pagetable.specs.Tracking.{Step, Cleared}
-use Rattle.sd_rounds.specs.Pass.{Place, Taking, Pass, has_passed, opened, visited, begun_to_take, left_to_parent, with_entry, copied_more, taken_as_zero}
-use Rattle.sd_rounds.specs.Keeps.{Stored, Chain, Keeps}
+use Rattle.sd_writing.specs.Entries.{Place}
+use Rattle.sd_rounds.specs.Pass.{Taking, Pass, has_passed, opened, visited, begun_to_take, left_to_parent, with_entry, copied_more, taken_as_zero}
+use Rattle.sd_writing.specs.Files.{Stored}
+use Rattle.sd_rounds.specs.Keeps.{Chain, Keeps}
 use Rattle.sd_rounds.specs.Rises.{IsRising, kind_at}
 use Rattle.sd_rounds.specs.Dump.{kind_of_bytes, right_kind, WasToBeTaken, IsDumping, IsDumped, DumpLaws}
 use Rattle.sd_rounds.proofs.Clean.{no_some, one_some, clean_there}

@@ -15,11 +15,10 @@ use Rattle.sd_image.specs.declared.run.RunKind.{RunKind}
 use Rattle.sd_image.specs.Shows.{page_in}
 use Rattle.sd_image.specs.Table.{AreRuns, Listed, is_run_after, run_pages}
 use Rattle.sd_pagetable.specs.Tracking.{is_page}
-use Rattle.sd_rounds.specs.Pass.{Place, ImageEntry}
-use Rattle.sd_rounds.specs.Made.{entries_listed, run_entries}
+use Rattle.sd_writing.specs.Entries.{Place, ImageEntry, entries_listed, run_entries}
 use Rattle.sd_rounds.specs.Rises.{kind_at}
 use Rattle.sd_rounds.specs.SpaceTables.{IsSpaceOf, Rise, space_runs}
-use Rattle.sd_rounds.specs.Tables.{AreTables}
+use Rattle.sd_writing.specs.Tables.{AreTables}
 use Rattle.sd_rounds.proofs.RisingNumbers.{Between, between_append, between_low, has, has_append, has_pages, pages_between, same_members}
 
 -- ---- Which pages entries have
@@ -69,15 +68,15 @@ runs_have space (run ∷ runs) at =
 differ : (a b : ℕ) → a < b → nat_eq b a ≡ false
 differ a b less = grind (arith, nat_tests)
 
-none_above : (parent before : ℕ) (source : List Listed) (at : Place) → AreTables parent before source → at.0 ≤ before → is_some (kind_at (entries_listed source) at) ≡ false
+none_above : (parent before : ℕ) (source : List Listed) (at : Place) → AreTables parent (before + 1) source → at.0 ≤ before → is_some (kind_at (entries_listed source) at) ≡ false
 none_above parent before [] at are low = refl
 none_above parent before (t ∷ source) at are low =
     kind_append (flat_map (run_entries t.space) t.runs) (entries_listed source) at
-    ∙ ap (λ b. b || is_some (kind_at (entries_listed source) at)) (runs_have t.space t.runs at ∙ ap (λ b. b && has at.1 (flat_map run_pages t.runs)) (differ at.0 t.space (omega (arith, low, are.0.above))))
-    ∙ none_above parent t.space source at are.1 (omega (arith, low, are.0.above))
+    ∙ ap (λ b. b || is_some (kind_at (entries_listed source) at)) (runs_have t.space t.runs at ∙ ap (λ b. b && has at.1 (flat_map run_pages t.runs)) (differ at.0 t.space (omega (arith, low, are.0.from))))
+    ∙ none_above parent t.space source at are.1 (omega (arith, low, are.0.from))
 
 -- the pages of a space that have entries are those of its runs
-pub runs_have_entries : (parent before : ℕ) (source : List Listed) (space page : ℕ) → AreTables parent before source
+pub runs_have_entries : (parent before : ℕ) (source : List Listed) (space page : ℕ) → AreTables parent (before + 1) source
     → is_some (kind_at (entries_listed source) (space, page)) ≡ has page (flat_map run_pages (space_runs source space))
 runs_have_entries parent before [] space page are = refl
 runs_have_entries parent before (t ∷ source) space page are =
@@ -135,7 +134,7 @@ runs_rise parent before (run ∷ runs) are low =
     (between_append run.first (run.first + run.count) (2 ^ 35) (run_pages run) (flat_map run_pages runs) (pages_between run.first run.count)
     (runs_rise parent (Some run) runs are.1 own.1))
 
-pub runs_of_space : (parent before : ℕ) (source : List Listed) (space : ℕ) → AreTables parent before source → AreRuns parent None (space_runs source space)
+pub runs_of_space : (parent before : ℕ) (source : List Listed) (space : ℕ) → AreTables parent (before + 1) source → AreRuns parent None (space_runs source space)
 runs_of_space parent before [] space are = tt
 runs_of_space parent before (t ∷ source) space are = by (runs_of_space parent t.space source space are.1) (nat_eq t.space space)
   where
@@ -144,7 +143,7 @@ runs_of_space parent before (t ∷ source) space are = by (runs_of_space parent 
     by tail false = tail
 
 -- where the entries are the memory's pages, a space's runs have exactly the pages of its areas
-pub covers : (parent : ℕ) (memory : PlainMemory) (source : List Listed) (t : Listed) → AreTables parent 0 source → IsSpaceOf memory source t
+pub covers : (parent : ℕ) (memory : PlainMemory) (source : List Listed) (t : Listed) → AreTables parent 1 source → IsSpaceOf memory source t
     → ((space page : ℕ) → is_some (kind_at (entries_listed source) (space, page)) ≡ is_some (page_in memory space page))
     → flat_map run_pages t.runs ≡ flat_map area_pages t.areas
 covers parent memory source t are is pages =
@@ -170,11 +169,11 @@ none_rising before space (s ∷ tables) rise low =
     ap (λ b. b || list_any (λ (s : Listed). nat_eq s.space space) tables) (differ space s.space (omega (arith, low, rise.0)))
     ∙ none_rising s.space space tables rise.1 (omega (arith, low, rise.0))
 
-none_in : (parent before space : ℕ) (source : List Listed) → AreTables parent before source → space ≤ before → space_runs source space ≡ []
+none_in : (parent before space : ℕ) (source : List Listed) → AreTables parent (before + 1) source → space ≤ before → space_runs source space ≡ []
 none_in parent before space [] are low = refl
 none_in parent before space (t ∷ source) are low =
-    ap (λ b. if b then t.runs else space_runs source space) (differ space t.space (omega (arith, low, are.0.above)))
-    ∙ none_in parent t.space space source are.1 (omega (arith, low, are.0.above))
+    ap (λ b. if b then t.runs else space_runs source space) (differ space t.space (omega (arith, low, are.0.from)))
+    ∙ none_in parent t.space space source are.1 (omega (arith, low, are.0.from))
 
 abbrev pub HaveRunsOf : List Listed → List Listed → Type 0
 HaveRunsOf source = AllByRecursion (λ (s : Listed). s.runs ≡ space_runs source s.space)
@@ -190,17 +189,17 @@ have_others before t source (s ∷ tables) rise low have = (
     differ_below : (a b : ℕ) → a < b → nat_eq a b ≡ false
     differ_below a b less = grind (arith, nat_tests)
 
-others_among : (parent : ℕ) (s : Listed) (tables source : List Listed) (before : ℕ) → s.space ≤ before → AreTables parent before source → Among (s ∷ tables) source → Among tables source
+others_among : (parent : ℕ) (s : Listed) (tables source : List Listed) (before : ℕ) → s.space ≤ before → AreTables parent (before + 1) source → Among (s ∷ tables) source → Among tables source
 others_among parent s tables [] before low are among = tt
 others_among parent s tables (t ∷ source) before low are among = (
-  sym (ap (λ b. b || list_any (λ (s : Listed). nat_eq s.space t.space) tables) (differ_below s.space t.space (omega (arith, low, are.0.above)))) ∙ among.0,
-  others_among parent s tables source t.space (omega (arith, low, are.0.above)) are.1 among.1,
+  sym (ap (λ b. b || list_any (λ (s : Listed). nat_eq s.space t.space) tables) (differ_below s.space t.space (omega (arith, low, are.0.from)))) ∙ among.0,
+  others_among parent s tables source t.space (omega (arith, low, are.0.from)) are.1 among.1,
 )
   where
     differ_below : (a b : ℕ) → a < b → nat_eq a b ≡ false
     differ_below a b less = grind (arith, nat_tests)
 
-pub all_listed : (parent before : ℕ) (source tables : List Listed) → AreTables parent before source → Rise before tables → HaveRunsOf source tables → Among tables source
+pub all_listed : (parent before : ℕ) (source tables : List Listed) → AreTables parent (before + 1) source → Rise before tables → HaveRunsOf source tables → Among tables source
     → entries_listed tables ≡ entries_listed source
 all_listed parent before [] [] are rise have among = refl
 all_listed parent before (t ∷ source) [] are rise have among = absurd (both_ways false refl among.0)
@@ -222,8 +221,8 @@ all_listed parent before (t ∷ source) (s ∷ tables) are rise have among = eli
   ]
 ]
   where
-    lifted : s.space < t.space → AreTables parent s.space (t ∷ source)
-    lifted less = (record { above = less; within = are.0.within; no_areas = are.0.no_areas; runs = are.0.runs; some = are.0.some }, are.1)
+    lifted : s.space < t.space → AreTables parent (s.space + 1) (t ∷ source)
+    lifted less = (record { from = (omega (arith, less)); no_areas = are.0.no_areas; runs = are.0.runs; some = are.0.some }, are.1)
 
     none : (space : ℕ) → space < t.space → space_runs (t ∷ source) space ≡ []
     none space less = ap (λ b. if b then t.runs else space_runs source space) (differ space t.space less) ∙ none_in parent t.space space source are.1 (omega arith)

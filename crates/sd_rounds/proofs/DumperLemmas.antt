@@ -25,7 +25,7 @@ use Rattle.sd_rounds.specs.declared.stage.Stage.TheVariants.{Format, Freeze, Pas
 use Rattle.sd_rounds.specs.Dumper.{AreRunning, AreCounted, Dumping, Hands, HandsTo, IsHanded, IsCounted, IsItsImage, IsRunning, Running, WorksOn, outcomes_since_freeze, ends, freezes, image_from, is_frozen_image, is_strange, order_of, running_of}
 use Rattle.sd_gate.specs.PlanUse.{outcomes_of}
 use Rattle.sd_rounds.specs.Making.{IsWritten, Making, PlanGoesOn, Steps, closing_outcomes, is_frozen_dump, is_past_freeze, outcomes_left, plan_of, stage_after, stage_when_done, with_plan}
-use Rattle.sd_rounds.specs.Pass.{data_pages}
+use Rattle.sd_writing.specs.Entries.{data_pages}
 use Rattle.sd_rounds.specs.PlanSteps.{is_freeze_next, is_to_freeze}
 use Rattle.sd_rounds.specs.Writes.{writes_out}
 use Rattle.sd_rounds.proofs.MakingLemmas.{copy_counts, take_counts, visit_counts}

@@ -20,18 +20,21 @@ use Rattle.sd_pagetable.specs.Contents.{Contents, page_at, plain_of}
 use Rattle.sd_pagetable.specs.Law.{PlainLaw}
 use Rattle.sd_pagetable.specs.Page.{PageState, plain_page}
 use Rattle.sd_rounds.specs.declared.image_order.ImageOrder.{ImageOrder}
-use Rattle.sd_rounds.specs.declared.image_progress.ImageProgress.TheVariants.{More}
+use Rattle.sd_writing.specs.declared.written.Written.TheVariants.{More}
 use Rattle.sd_rounds.specs.declared.image_step.ImageStep.TheVariants.{Call, TableCall}
-use Rattle.sd_rounds.specs.declared.new_image.NewImage.{NewImage}
+use Rattle.sd_writing.specs.declared.new_image.NewImage.{NewImage}
 use Rattle.sd_rounds.specs.declared.stage.Stage.{Stage}
 use Rattle.sd_rounds.specs.declared.stage.Stage.TheVariants.{Pass as PassStage}
 use Rattle.sd_rounds.specs.Dump.{IsDumped, right_kind}
 use Rattle.sd_rounds.specs.Files.{FileLaws, FilesImage, HasAreasAtFreeze, HasAreasIn, IsFiled, IsFiledIn}
-use Rattle.sd_rounds.specs.Keeps.{Chain, ChainWithin, Rests, Stored}
-use Rattle.sd_rounds.specs.Made.{HasTheAreas, IsImageOf, MadeLaws, listed_pages}
-use Rattle.sd_rounds.specs.Making.{AreThePages, HandsIn, HasTable, Making, Opens, PlanGoesOn, Steps, TablesEntries, TablesMemory, WritesTable, is_past_freeze, stage_after, stage_when_done, with_plan}
-use Rattle.sd_rounds.specs.MakingLaws.{AreItsNumbers, DumpsImage, IsDumpedIn, IsKeptIn, KeepsImage, MakingLaws, Pages, image_of}
-use Rattle.sd_rounds.specs.Pass.{Pass, Place, pages_by}
+use Rattle.sd_rounds.specs.Keeps.{Chain, ChainWithin, Rests}
+use Rattle.sd_writing.specs.Files.{Stored, listed_pages, Pages, image_of}
+use Rattle.sd_rounds.specs.Made.{HasTheAreas, IsImageOf, MadeLaws}
+use Rattle.sd_rounds.specs.Making.{AreThePages, HandsIn, HasTable, Making, Opens, PlanGoesOn, Steps, TablesMemory, WritesTable, is_past_freeze, stage_after, stage_when_done, with_plan}
+use Rattle.sd_writing.specs.Tables.{TablesEntries}
+use Rattle.sd_rounds.specs.MakingLaws.{AreItsNumbers, DumpsImage, IsDumpedIn, IsKeptIn, KeepsImage, MakingLaws}
+use Rattle.sd_rounds.specs.Pass.{Pass}
+use Rattle.sd_writing.specs.Entries.{Place, pages_by}
 use Rattle.sd_rounds.specs.Rises.{IsRising, kind_at}
 use Rattle.sd_rounds.proofs.WayLemmas.{way}
 

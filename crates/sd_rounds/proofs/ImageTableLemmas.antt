@@ -18,19 +18,18 @@ use Rattle.sd_image.specs.declared.header.Kind.TheVariants.{PreDump, Dump, Merge
 use Rattle.sd_image.specs.declared.run.Run.{Run}
 use Rattle.sd_image.specs.declared.run.RunKind.TheVariants.{Data}
 use Rattle.sd_image.specs.Shows.{page_in}
-use Rattle.sd_image.specs.Table.{AreRuns, AreSpaces, Covers, Listed, data_count, is_run_after, mapped_count, run_pages, table_text}
-use Rattle.sd_image.specs.Words.{number_bytes}
+use Rattle.sd_image.specs.Table.{AreRuns, AreSpaces, Covers, Listed, data_count, is_run_after, mapped_count, run_pages}
 use Rattle.sd_pagetable.specs.Contents.{Contents, page_at, plain_of}
 use Rattle.sd_pagetable.specs.Law.{PlainLaw}
 use Rattle.sd_pagetable.specs.Page.{PageState, plain_page}
-use Rattle.sd_rounds.specs.Made.{Lists, entries_listed, run_entries}
+use Rattle.sd_writing.specs.Entries.{Lists, entries_listed, run_entries, ImageEntry, Place, data_pages}
 use Rattle.sd_rounds.specs.declared.image_order.ImageOrder.{ImageOrder}
-use Rattle.sd_rounds.specs.Making.{AreThePages, HasTable, TablesEntries, TablesMemory}
-use Rattle.sd_rounds.specs.Pass.{ImageEntry, Pass, Place, data_pages}
+use Rattle.sd_rounds.specs.Making.{AreThePages, HasTable, TablesMemory}
+use Rattle.sd_writing.specs.Tables.{TablesEntries, AreTables}
+use Rattle.sd_rounds.specs.Pass.{Pass}
 use Rattle.sd_rounds.specs.Rises.{kind_at}
 use Rattle.sd_rounds.specs.Rounds.{entry_parent}
-use Rattle.sd_rounds.specs.SpaceTables.{AreAllSpaces, IsSpaceOf, Rise, without_areas}
-use Rattle.sd_rounds.specs.Tables.{AreTables}
+use Rattle.sd_rounds.specs.SpaceTables.{AreAllSpaces, AreLow, IsSpaceOf, Rise, without_areas}
 use Rattle.sd_image.proofs.PageBytes.{counted_spaces as pages_counted}
 use Rattle.sd_rounds.proofs.DumpTableLemmas.{Among, HaveRunsOf, all_listed, covers, kind_append, runs_have, runs_of_space}
 use Rattle.sd_rounds.proofs.RisingNumbers.{has, has_append, has_pages}
@@ -73,17 +72,20 @@ few_rising before (s ∷ spaces) rise within low =
 
 -- ---- a pre-dump
 
-same_without : (parent before : ℕ) (tables : List Listed) → AreTables parent before tables → map without_areas tables ≡ tables
+from_least : (before space : ℕ) → before + 1 ≤ space → before < space
+from_least before space least = omega arith
+
+same_without : (parent before : ℕ) (tables : List Listed) → AreTables parent (before + 1) tables → map without_areas tables ≡ tables
 same_without parent before [] are = refl
 same_without parent before (t ∷ tables) are =
     ap (λ (a : List Area). (record { space = t.space; areas = a; runs = t.runs }) ∷ map without_areas tables) (sym are.0.no_areas)
     ∙ ap (λ (l : List Listed). t ∷ l) (same_without parent t.space tables are.1)
 
-rise_of : (parent before : ℕ) (tables : List Listed) → AreTables parent before tables → Rise before tables × AllByRecursion (λ (s : Listed). s.space ≤ 16) tables
-rise_of parent before [] are = (tt, tt)
-rise_of parent before (t ∷ tables) are = let rest = rise_of parent t.space tables are.1 in ((are.0.above, rest.0), (are.0.within, rest.1))
+rise_of : (parent before : ℕ) (tables : List Listed) → AreTables parent (before + 1) tables → Rise before tables
+rise_of parent before [] are = tt
+rise_of parent before (t ∷ tables) are = (from_least before t.space are.0.from, rise_of parent t.space tables are.1)
 
-none_mapped : (parent before : ℕ) (tables : List Listed) → AreTables parent before tables → mapped_count tables ≡ 0
+none_mapped : (parent before : ℕ) (tables : List Listed) → AreTables parent (before + 1) tables → mapped_count tables ≡ 0
 none_mapped parent before [] are = refl
 none_mapped parent before (t ∷ tables) are =
     sum_by-cons (λ (s : Listed). sum_by (λ (a : Area). a.count) s.areas) t tables
@@ -91,18 +93,18 @@ none_mapped parent before (t ∷ tables) are =
     ∙ (let none : sum_by (λ (a : Area). a.count) [] ≡ 0 = refl in let rest : mapped_count tables ≡ 0 = none_mapped parent t.space tables are.1 in omega arith)
 
 pre_dump_spaces : (takes_all : Bool) (h : Header) (before : ℕ) (tables : List Listed) → h.kind ≡ PreDump → takes_all ≡ nat_eq h.parent 0
-    → AreTables (entry_parent takes_all) before tables → AreSpaces h before tables
-pre_dump_spaces takes_all h before [] kind takes are = tt
-pre_dump_spaces takes_all h before (t ∷ tables) kind takes are = (
+    → AreTables (entry_parent takes_all) (before + 1) tables → AreLow tables → AreSpaces h before tables
+pre_dump_spaces takes_all h before [] kind takes are low = tt
+pre_dump_spaces takes_all h before (t ∷ tables) kind takes are low = (
   record {
-    above = are.0.above;
-    within = are.0.within;
+    above = from_least before t.space are.0.from;
+    within = low.0;
     few_areas = subst (λ (a : List Area). length a ≤ 1024) (sym are.0.no_areas) (omega arith);
     areas = subst (λ (a : List Area). AreMaximal None a) (sym are.0.no_areas) tt;
     runs = own_runs h.parent takes_all t.runs takes are.0.runs;
     covers = subst (λ k. Covers k t.areas t.runs) (sym kind) (are.0.no_areas, are.0.some);
   },
-  pre_dump_spaces takes_all h t.space tables kind takes are.1,
+  pre_dump_spaces takes_all h t.space tables kind takes are.1 low.1,
 )
 
 data_listed : (entries : List ImageEntry) (spaces : List Listed) → Lists entries spaces → data_count spaces ≡ data_pages entries
@@ -111,13 +113,13 @@ data_listed entries spaces lists = sym (pages_counted spaces) ∙ ap (λ (l : Li
 -- the entries as they are kept are the table of a pre-dump
 pub pre_dump : (takes_all : Bool) (h : Header) (entries : List ImageEntry) (kept spaces : List Listed) → ((l : List Listed) → Lists (entries_listed l) l)
     → h.kind ≡ PreDump → takes_all ≡ nat_eq h.parent 0 → h.pages ≡ data_pages entries
-    → AreTables (entry_parent takes_all) 0 kept → entries_listed kept ≡ entries → spaces ≡ map without_areas kept → TablesEntries entries h spaces
-pre_dump takes_all h entries kept spaces law kind takes pages are same made =
+    → AreTables (entry_parent takes_all) 1 kept → AreLow kept → entries_listed kept ≡ entries → spaces ≡ map without_areas kept → TablesEntries entries h spaces
+pre_dump takes_all h entries kept spaces law kind takes pages are low same made =
     subst (λ (l : List Listed). TablesEntries entries h l) (sym (made ∙ same_without (entry_parent takes_all) 0 kept are)) (record {
       lists = lists;
       is = record {
-        few = let rise = rise_of (entry_parent takes_all) 0 kept are in let f : length kept + 0 ≤ 16 = few_rising 0 kept rise.0 rise.1 (omega arith) in omega arith;
-        each = pre_dump_spaces takes_all h 0 kept kind takes are;
+        few = let f : length kept + 0 ≤ 16 = few_rising 0 kept (rise_of (entry_parent takes_all) 0 kept are) low (omega arith) in omega arith;
+        each = pre_dump_spaces takes_all h 0 kept kind takes are low;
         «data» = data_listed entries kept lists ∙ sym pages;
         mapped = subst (λ n. n ≤ 65536) (sym (none_mapped (entry_parent takes_all) 0 kept are)) (omega arith);
       };
@@ -144,7 +146,7 @@ is_covered : (kind : Kind) (areas : List Area) (runs : List Run) → kind ≢ Pr
 is_covered kind areas runs other e = grind arith
 
 dump_spaces : (takes_all : Bool) (h : Header) (memory : PlainMemory) (before : ℕ) (kept spaces : List Listed) → h.kind ≢ PreDump → takes_all ≡ nat_eq h.parent 0
-    → AreTables (entry_parent takes_all) 0 kept → AreItsPages memory (entries_listed kept) → Rise before spaces → AllByRecursion (IsSpaceOf memory kept) spaces → AreSpaces h before spaces
+    → AreTables (entry_parent takes_all) 1 kept → AreItsPages memory (entries_listed kept) → Rise before spaces → AllByRecursion (IsSpaceOf memory kept) spaces → AreSpaces h before spaces
 dump_spaces takes_all h memory before kept [] kind takes are pages rise each = tt
 dump_spaces takes_all h memory before kept (s ∷ spaces) kind takes are pages rise each = (
   record {
@@ -178,7 +180,7 @@ alive_there memory space page some = by (finmap.get memory space) some
     by (Some pages) e = refl
 
 -- spaces with entries are among those that have the entries' pages
-among : (parent before : ℕ) (spaces rest : List Listed) → AreTables parent before rest
+among : (parent before : ℕ) (spaces rest : List Listed) → AreTables parent (before + 1) rest
     → ((space page : ℕ) → is_some (kind_at (entries_listed rest) (space, page)) ≡ true → list_any (λ (s : Listed). nat_eq s.space space) spaces ≡ true) → Among spaces rest
 among parent before spaces [] are law = tt
 among parent before spaces (t ∷ rest) are law =
@@ -213,7 +215,7 @@ living memory kept spaces space are = elim (cases_lt space 17) [
 -- the table of a dump, where the entries are the pages of the memory
 pub dump : PlainLaw → (takes_all : Bool) (h : Header) (memory : Contents) (entries : List ImageEntry) (kept spaces : List Listed) → ((l : List Listed) → Lists (entries_listed l) l)
     → h.kind ≢ PreDump → takes_all ≡ nat_eq h.parent 0 → h.pages ≡ data_pages entries
-    → AreTables (entry_parent takes_all) 0 kept → entries_listed kept ≡ entries → AreAllSpaces (plain_of memory) kept spaces → AreThePages entries memory → TablesMemory memory entries h spaces
+    → AreTables (entry_parent takes_all) 1 kept → entries_listed kept ≡ entries → AreAllSpaces (plain_of memory) kept spaces → AreThePages entries memory → TablesMemory memory entries h spaces
 dump plain takes_all h memory entries kept spaces law kind takes pages are same all these = record {
   table = record {
     lists = lists;
@@ -247,18 +249,13 @@ dump plain takes_all h memory entries kept spaces law kind takes pages are same 
     lists : Lists entries spaces
     lists = subst (λ (e : List ImageEntry). Lists e spaces) (whole ∙ same) (law spaces)
 
--- a table's text has bytes
-pub table_is_long : (spaces : List Listed) → 0 < length (table_text spaces)
-unfolding table_text number_bytes
-table_is_long spaces = omega arith
-
 -- ---- as the code makes them
 
 pub pre_dump_for : (order : ImageOrder) (pass : Pass) (memory : Contents) (h : Header) (kept spaces : List Listed) → ((l : List Listed) → Lists (entries_listed l) l)
     → order.kind ≡ PreDump → h.kind ≡ order.kind → h.parent ≡ order.parent → h.pages ≡ data_pages pass.entries → pass.takes_all ≡ nat_eq order.parent 0
-    → AreTables (entry_parent pass.takes_all) 0 kept → entries_listed kept ≡ pass.entries → spaces ≡ map without_areas kept
+    → AreTables (entry_parent pass.takes_all) 1 kept → AreLow kept → entries_listed kept ≡ pass.entries → spaces ≡ map without_areas kept
     → HasTable order.kind memory pass.entries h spaces
-pre_dump_for order pass memory h kept spaces law is kind parent pages takes are same made = grind (arith, pre_dump)
+pre_dump_for order pass memory h kept spaces law is kind parent pages takes are low same made = grind (arith, pre_dump)
 
 other_kind : (kind : Kind) → kind ≢ PreDump → (memory : Contents) (entries : List ImageEntry) (h : Header) (spaces : List Listed)
     → (AreThePages entries memory → TablesMemory memory entries h spaces) → HasTable kind memory entries h spaces
@@ -266,7 +263,7 @@ other_kind kind other memory entries h spaces has = grind arith
 
 pub dump_for : PlainLaw → (order : ImageOrder) (pass : Pass) (memory : Contents) (h : Header) (kept spaces : List Listed) → ((l : List Listed) → Lists (entries_listed l) l)
     → order.kind ≢ PreDump → h.kind ≡ order.kind → h.parent ≡ order.parent → h.pages ≡ data_pages pass.entries → pass.takes_all ≡ nat_eq order.parent 0
-    → AreTables (entry_parent pass.takes_all) 0 kept → entries_listed kept ≡ pass.entries → AreAllSpaces (plain_of memory) kept spaces
+    → AreTables (entry_parent pass.takes_all) 1 kept → entries_listed kept ≡ pass.entries → AreAllSpaces (plain_of memory) kept spaces
     → HasTable order.kind memory pass.entries h spaces
 dump_for plain order pass memory h kept spaces law is kind parent pages takes are same made = grind (arith, other_kind, dump)
 

@@ -7,17 +7,18 @@ use Rattle.sd_pagetable.specs.Contents.{Contents}
 use Rattle.sd_rounds.specs.declared.copied.Copied as copied
 use Rattle.sd_rounds.specs.declared.copied.Copied.TheVariants.{More as MoreSectors, Zero as ZeroPage, Gone}
 use Rattle.sd_rounds.specs.declared.image_order.ImageOrder.{ImageOrder}
-use Rattle.sd_rounds.specs.declared.image_progress.ImageProgress.TheVariants.{More}
+use Rattle.sd_writing.specs.declared.written.Written.TheVariants.{More}
 use Rattle.sd_rounds.specs.declared.image_step.ImageStep.{ImageStep}
 use Rattle.sd_rounds.specs.declared.image_step.ImageStep.TheVariants.{PageCall, TableCall, Visited, Copied}
-use Rattle.sd_rounds.specs.declared.new_image.NewImage.{NewImage}
+use Rattle.sd_writing.specs.declared.new_image.NewImage.{NewImage}
 use Rattle.sd_rounds.specs.declared.stage.Stage.{Stage}
 use Rattle.sd_rounds.specs.declared.visit.Visit as visit
 use Rattle.sd_rounds.specs.Files.{FilesImage, IsFiled, IsFiledIn}
 use Rattle.sd_rounds.specs.ImageVisits.{ImageVisitLaws, IsVisited, visits_after}
 use Rattle.sd_rounds.specs.Making.{HandsIn, Making, Opens, Steps, begun_image}
-use Rattle.sd_rounds.specs.MakingLaws.{Pages}
-use Rattle.sd_rounds.specs.Pass.{Pass, Place, visited}
+use Rattle.sd_writing.specs.Files.{Pages}
+use Rattle.sd_rounds.specs.Pass.{Pass, visited}
+use Rattle.sd_writing.specs.Entries.{Place}
 use Rattle.sd_rounds.specs.Rounds.{Copies, TakesPage, Tests}
 use Rattle.sd_rounds.specs.Visits.{AreStillMapped, IsPassOf, PassVisits, Visit, VisitLaws, left_pages, taken_pages, visited_page}
 

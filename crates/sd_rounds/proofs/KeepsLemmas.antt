@@ -14,11 +14,14 @@ use Rattle.sd_pagetable.specs.Law.{ClearLaw, IsClearedAt}
 use Rattle.sd_pagetable.specs.Order.{IsNextPage}
 use Rattle.sd_pagetable.specs.PageLaw.{CleanLaw, clean_at, clean_bytes}
 use Rattle.sd_pagetable.specs.Tracking.{MemoryEvent, Step, Cleared}
-use Rattle.sd_rounds.specs.Pass.{Place, ImageEntry, Taking, Pass, IsTaken, pages_by, data_pages, has_passed, opened, visited, begun_to_take, left_to_parent, with_entry, sector_of, copied_more, dropped, taken_as_zero, taken_as_data}
-use Rattle.sd_rounds.specs.Keeps.{Stored, Chain, EntriesGive, Gave, PageIsHeld, Keeps, Rests, AgreeAt, ChainWithin, IsCall, KeepsLaws, below_of}
+use Rattle.sd_writing.specs.Entries.{Place, ImageEntry, pages_by, data_pages}
+use Rattle.sd_rounds.specs.Pass.{Taking, Pass, IsTaken, has_passed, opened, visited, begun_to_take, left_to_parent, with_entry, sector_of, copied_more, dropped, taken_as_zero, taken_as_data}
+use Rattle.sd_writing.specs.Files.{Stored}
+use Rattle.sd_rounds.specs.Keeps.{Chain, EntriesGive, Gave, PageIsHeld, Keeps, Rests, AgreeAt, ChainWithin, IsCall, KeepsLaws, below_of}
 use Rattle.sd_rounds.specs.Keeps.EntriesGive.{by_data, by_zero, by_parent}
 use Rattle.sd_rounds.proofs.Clean.{no_some, one_some, clean_mapped, clean_is, clean_there, no_clean}
-use Rattle.sd_rounds.proofs.Lists.{put_after, pages_append, slice_get_front, slice_get_back, front_more}
+use Rattle.sd_rounds.proofs.Lists.{put_after, slice_get_front, front_more}
+use Rattle.sd_writing.proofs.EntryLemmas.{pages_append, slice_get_back}
 use Rattle.sd_rounds.proofs.Orders.{apart_page, same_or_apart, passed_here, ahead_more, above_not_passed, passed_next, passed_all}
 
 -- ---- what entries give

@@ -8,13 +8,13 @@ use Rattle.sd_image.specs.declared.header.Kind.{Kind}
 use Rattle.sd_gate.specs.declared.slot_state.SlotState.{SlotState}
 use Rattle.sd_gate.specs.Plans.{Planned, plan_after}
 use Rattle.sd_gate.specs.Requests.{Made}
-use Rattle.sd_gate.specs.Sequences.{Calls, format_calls}
+use Rattle.sd_gate.specs.Sequences.{Calls}
 use Rattle.sd_pagetable.specs.Contents.{Contents, plain_of}
 use Rattle.sd_pagetable.specs.Law.{PlainLaw}
 use Rattle.sd_rounds.specs.declared.copied.Copied as copied
 use Rattle.sd_rounds.specs.declared.image_step.ImageStep.{ImageStep}
 use Rattle.sd_rounds.specs.declared.image_step.ImageStep.TheVariants.{Call, PageCall, TableCall, Frozen, Visited, Copied}
-use Rattle.sd_rounds.specs.declared.new_image.NewImage.{NewImage}
+use Rattle.sd_writing.specs.declared.new_image.NewImage.{NewImage}
 use Rattle.sd_rounds.specs.declared.progress.Progress.{Progress}
 use Rattle.sd_rounds.specs.declared.progress.Progress.TheVariants.{Strange, Failed as HasFailed, More as GoesOnWith, PreDump as PreDumpOpen, Dump as DumpOpen}
 use Rattle.sd_rounds.specs.declared.stage.Stage.{Stage}
@@ -113,9 +113,6 @@ step_fewer law ticket old new before after (Copied c) s =
     omega arith
 
 -- ---- a step of a checkpoint
-
-pub few_calls : (state : SlotState) → length (format_calls state) ≤ 3
-few_calls state = grind arith
 
 from_left : (running : Running) (serial : ℕ) (state : SlotState) (memory : PlainMemory) (image : Option Making) → image_left (image_from running serial state image) memory ≤ making_left image memory
 from_left running serial state memory image = grind arith

@@ -8,7 +8,6 @@ pub mod RisesLemmas
 pub mod VisitLemmas
 pub mod DumpLemmas
 pub mod MadeLemmas
-pub mod TableLemmas
 pub mod RoundLemmas
 pub mod CopyLemmas
 pub mod PageCopyLemmas

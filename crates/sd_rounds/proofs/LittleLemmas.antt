@@ -17,18 +17,18 @@ use Rattle.sd_rounds.specs.declared.copied.Copied as copied
 use Rattle.sd_rounds.specs.declared.copied.Copied.TheVariants.{More as MoreSectors, Zero as ZeroPage, Gone}
 use Rattle.sd_rounds.specs.declared.visit.Visit as visit
 use Rattle.sd_rounds.specs.declared.image_order.ImageOrder.{ImageOrder}
-use Rattle.sd_rounds.specs.declared.image_progress.ImageProgress.TheVariants.{More}
+use Rattle.sd_writing.specs.declared.written.Written.TheVariants.{More}
 use Rattle.sd_rounds.specs.declared.image_step.ImageStep.{ImageStep}
 use Rattle.sd_rounds.specs.declared.image_step.ImageStep.TheVariants.{Call, PageCall, TableCall, Frozen, Visited, Copied}
-use Rattle.sd_rounds.specs.declared.new_image.NewImage.{NewImage}
+use Rattle.sd_writing.specs.declared.new_image.NewImage.{NewImage}
 use Rattle.sd_rounds.specs.declared.stage.Stage.{Stage}
 use Rattle.sd_rounds.specs.declared.stage.Stage.TheVariants.{Pass as PassStage, Close}
 use Rattle.sd_rounds.specs.Dump.{DumpLaws, IsDumping, WasToBeTaken, right_kind, kind_of_bytes}
 use Rattle.sd_rounds.specs.ImageVisits.{visits_after}
 use Rattle.sd_rounds.specs.LittleWork.{HasWays, IsFrontOf, IsTaking, ListsIn, LittleLaws, TakesAsItMust, TakesAsItMustIn, TakesVisited, TookVisited}
-use Rattle.sd_rounds.specs.Made.{Lists}
+use Rattle.sd_writing.specs.Entries.{Lists, ImageEntry, Place, pages_by}
 use Rattle.sd_rounds.specs.Making.{HandsIn, HasTable, Making, Opens, PlanGoesOn, Steps, WritesTable, begun_image, closing_outcomes, is_past_freeze, stage_after, stage_when_done, with_plan}
-use Rattle.sd_rounds.specs.Pass.{ImageEntry, Pass, Place, Taking, begun_to_take, copied_more, left_to_parent, opened, pages_by, sector_of, taken_as_zero, with_entry}
+use Rattle.sd_rounds.specs.Pass.{Pass, Taking, begun_to_take, copied_more, left_to_parent, opened, sector_of, taken_as_zero, with_entry}
 use Rattle.sd_rounds.specs.Rises.{IsRising, RisesLaws, kind_at}
 use Rattle.sd_rounds.specs.Rounds.{Copies, IsNextSector, TakesPage, Tests}
 use Rattle.sd_rounds.specs.Steps.{StepLaws}

@@ -1,7 +1,6 @@
 -- The image that a pass made.
-use Rattle.std.proofs.Common.{◌≡◌, ℕ, zero, suc, ◌<◌, Bool, cond, ◌==◌, List, [], ◌∷◌, ◌++◌, length, map, replicate, Contains, Option, Some, None, MatchOption, refl, sym, ◌∙◌, ap, subst, arith}
-use Rattle.std.specs.Prelude.{filter, slice_get, unwrap_or}
-use Rattle.std.specs.List.{flat_map}
+use Rattle.std.proofs.Common.{◌≡◌, ℕ, zero, suc, ◌<◌, List, [], ◌∷◌, ◌++◌, length, replicate, Contains, Option, Some, None, MatchOption, refl, sym, ◌∙◌, ap, subst, arith}
+use Rattle.std.specs.Prelude.{slice_get, unwrap_or}
 use Rattle.std.specs.Option.{option_map, option_and_then}
 use Rattle.std.specs.FinMap as finmap
 use Rattle.std.specs.Ordering.{nat_cmp}
@@ -9,61 +8,25 @@ use Rattle.std.proofs.lemmas.Option.{slice_get_within}
 use Rattle.sd_areas.specs.Areas.{prot_in}
 use Rattle.sd_areas.specs.PlainMemory.{PlainMemory}
 use Rattle.sd_areas.specs.PlainMemory as plain
-use Rattle.sd_image.specs.declared.run.Run.{Run}
-use Rattle.sd_image.specs.declared.run.RunKind.{RunKind}
 use Rattle.sd_image.specs.declared.run.RunKind.TheVariants.{Data, Parent, Zero}
 use Rattle.sd_image.specs.Image.{Image}
-use Rattle.sd_image.specs.Shows.{Holds, IsMemory, IsNamed, page_in, pages_of}
+use Rattle.sd_image.specs.Shows.{Holds, IsMemory, IsNamed, page_in}
 use Rattle.sd_image.specs.Shows.Holds.{by_data as holds_data, by_zero as holds_zero, by_parent as holds_parent}
-use Rattle.sd_image.specs.Table.{Listed, run_pages}
-use Rattle.sd_image.specs.Words.{run_kind_number}
+use Rattle.sd_image.specs.Table.{Listed}
 use Rattle.sd_pagetable.specs.Nested.{value_at}
 use Rattle.sd_pagetable.specs.Page.{PageState, zeros, plain_page}
 use Rattle.sd_pagetable.specs.Contents.{Contents, page_at, plain_of}
 use Rattle.sd_pagetable.specs.Law.{PlainLaw}
-use Rattle.sd_rounds.specs.Pass.{Place, ImageEntry, Taking, Pass, pages_by, data_pages, has_kind, place_of_entry, taken_as_data}
-use Rattle.sd_rounds.specs.Keeps.{Stored, Chain, EntriesGive, Gave, Keeps, Rests, ChainWithin}
+use Rattle.sd_writing.specs.Entries.{Place, ImageEntry, pages_by, data_pages}
+use Rattle.sd_rounds.specs.Pass.{Taking, Pass, taken_as_data}
+use Rattle.sd_writing.specs.Files.{Stored, listed_pages}
+use Rattle.sd_rounds.specs.Keeps.{Chain, EntriesGive, Gave, Keeps, Rests, ChainWithin}
 use Rattle.sd_rounds.specs.Keeps.EntriesGive.{by_data, by_zero, by_parent}
 use Rattle.sd_rounds.specs.Dump.{IsDumped}
-use Rattle.sd_rounds.specs.Made.{run_entries, entries_listed, Lists, IsImageOf, listed_pages, HasTheAreas, MadeLaws}
+use Rattle.sd_rounds.specs.Made.{IsImageOf, HasTheAreas, MadeLaws}
 use Rattle.sd_rounds.proofs.Clean.{no_some, one_some}
 use Rattle.sd_rounds.proofs.KeepsLemmas.{gives_agrees, writes}
-use Rattle.sd_rounds.proofs.Lists.{pages_append, slice_get_back}
-
--- ---- the entries of a table
-
-none_by : (b : Bool) → ◌≡◌ {A = List Place} (cond b [] []) []
-none_by b = grind arith
-
-one_by : (b : Bool) (entry : ImageEntry) (pages : List Place) (entries : List ImageEntry) → cond b pages [] ≡ map place_of_entry entries
-    → cond b (entry.place ∷ pages) [] ≡ map place_of_entry (cond b (entry ∷ entries) entries)
-one_by b entry pages entries e = grind arith
-
--- the pages of a run in one way are those of its entries
-run_by : (kind : RunKind) (space : ℕ) (run : Run) (pages : List ℕ)
-    → cond (run_kind_number run.kind == run_kind_number kind) (map (λ page. (space, page)) pages) []
-    ≡ pages_by kind (map (λ page. record { place = (space, page); kind = run.kind }) pages)
-run_by kind space run [] = none_by (run_kind_number run.kind == run_kind_number kind)
-run_by kind space run (page ∷ pages) =
-    one_by (run_kind_number run.kind == run_kind_number kind) (record { place = (space, page); kind = run.kind }) (map (λ p. (space, p)) pages)
-    (filter (has_kind kind) (map (λ p. record { place = (space, p); kind = run.kind }) pages)) (run_by kind space run pages)
-
-runs_by : (kind : RunKind) (space : ℕ) (runs : List Run)
-    → flat_map (λ (r : Run). cond (run_kind_number r.kind == run_kind_number kind) (map (λ page. (space, page)) (run_pages r)) []) runs
-    ≡ pages_by kind (flat_map (run_entries space) runs)
-runs_by kind space [] = refl
-runs_by kind space (run ∷ runs) =
-    ap (λ (l : List Place). l ++ flat_map (λ (r : Run). cond (run_kind_number r.kind == run_kind_number kind) (map (λ page. (space, page)) (run_pages r)) []) runs)
-    (run_by kind space run (run_pages run))
-    ∙ ap (λ (l : List Place). pages_by kind (run_entries space run) ++ l) (runs_by kind space runs)
-    ∙ sym (pages_append kind (run_entries space run) (flat_map (run_entries space) runs))
-
-lists : (spaces : List Listed) → Lists (entries_listed spaces) spaces
-lists [] = λ kind. refl
-lists (s ∷ spaces) = λ kind.
-    ap (λ (l : List Place). l ++ pages_of kind spaces) (runs_by kind s.space s.runs)
-    ∙ ap (λ (l : List Place). pages_by kind (flat_map (run_entries s.space) s.runs) ++ l) (lists spaces kind)
-    ∙ sym (pages_append kind (flat_map (run_entries s.space) s.runs) (entries_listed spaces))
+use Rattle.sd_writing.proofs.EntryLemmas.{slice_get_back}
 
 -- ---- what it holds
 
@@ -137,7 +100,6 @@ commits stored before after entries memory i is named within gave = λ space num
 
 pub made_laws : PlainLaw → MadeLaws
 made_laws law = record {
-  lists = lists;
   holds = holds;
   dumps = dumps law;
   takes_up = takes_up;

@@ -18,23 +18,24 @@ use Rattle.sd_pagetable.specs.Tracking.{MemoryEvent, Step}
 use Rattle.sd_rounds.specs.declared.copied.Copied as copied
 use Rattle.sd_rounds.specs.declared.visit.Visit as visit
 use Rattle.sd_rounds.specs.declared.image_order.ImageOrder.{ImageOrder}
-use Rattle.sd_rounds.specs.declared.image_progress.ImageProgress.TheVariants.{More}
+use Rattle.sd_writing.specs.declared.written.Written.TheVariants.{More}
 use Rattle.sd_rounds.specs.declared.image_step.ImageStep.{ImageStep}
 use Rattle.sd_rounds.specs.declared.image_step.ImageStep.TheVariants.{Call, PageCall, TableCall, Frozen, Visited, Copied}
 use Rattle.sd_rounds.specs.declared.stage.Stage.{Stage}
 use Rattle.sd_rounds.specs.declared.stage.Stage.TheVariants.{Format, Freeze, Pass as PassStage, Close}
 use Rattle.sd_rounds.specs.Dump.{DumpLaws, IsDumping}
 use Rattle.sd_rounds.specs.Keeps.{Chain, ChainWithin, IsCall, Keeps, KeepsLaws, Rests}
-use Rattle.sd_rounds.specs.Made.{listed_pages}
+use Rattle.sd_writing.specs.Files.{listed_pages, Pages}
 use Rattle.sd_rounds.specs.Making.{HandsIn, Making, PlanGoesOn, Steps, WritesTable, begun_image, closing_outcomes, is_past_freeze, stage_after, stage_when_done, with_plan}
-use Rattle.sd_rounds.specs.MakingLaws.{DumpsImage, IsDumpedIn, IsKeptIn, KeepsImage, MakingLaws, Pages, pages_after}
-use Rattle.sd_rounds.specs.Pass.{Pass, Place, begun_to_take, data_pages, left_to_parent, opened, pages_by, with_entry}
+use Rattle.sd_rounds.specs.MakingLaws.{DumpsImage, IsDumpedIn, IsKeptIn, KeepsImage, MakingLaws, pages_after}
+use Rattle.sd_rounds.specs.Pass.{Pass, begun_to_take, left_to_parent, opened, with_entry}
+use Rattle.sd_writing.specs.Entries.{Place, data_pages, pages_by}
 use Rattle.sd_rounds.specs.Rises.{IsRising}
 use Rattle.sd_rounds.specs.Rounds.{Copies, Tests, TakesPage}
 use Rattle.sd_rounds.specs.Steps.{StepLaws}
 use Rattle.sd_rounds.proofs.KeepsLemmas.{gives_agrees}
-use Rattle.sd_rounds.proofs.Lists.{pages_append}
-use Rattle.sd_rounds.proofs.TableLemmas.{all_put}
+use Rattle.sd_writing.proofs.EntryLemmas.{pages_append}
+use Rattle.sd_writing.proofs.TableLemmas.{all_put}
 
 -- ---- how many data pages there are
 

@@ -5,7 +5,8 @@ use Rattle.std.proofs.lemmas.Bool.Decides.{nat_tests}
 use Rattle.sd_pagetable.specs.Nested.{Nested, value_at}
 use Rattle.sd_pagetable.specs.Order.{is_above, IsNextPage}
 use Rattle.sd_pagetable.specs.Tracking.{is_page}
-use Rattle.sd_rounds.specs.Pass.{Place, has_passed}
+use Rattle.sd_writing.specs.Entries.{Place}
+use Rattle.sd_rounds.specs.Pass.{has_passed}
 
 pub same_place : (a b : Place) → a.0 ≡ b.0 → a.1 ≡ b.1 → a ≡ b
 same_place a b first second = ap (λ (x : ℕ). (x, a.1)) first ∙ ap (λ (y : ℕ). (b.0, y)) second

@@ -5,8 +5,9 @@ use Rattle.sd_image.specs.declared.run.RunKind.{RunKind}
 use Rattle.sd_image.specs.declared.run.RunKind.TheVariants.{Parent}
 use Rattle.sd_pagetable.specs.Order.{is_above}
 use Rattle.sd_pagetable.specs.Tracking.{is_page}
-use Rattle.sd_rounds.specs.Pass.{Place, ImageEntry, Taking, Pass, has_passed, opened, visited, begun_to_take, left_to_parent, copied_more, dropped, with_entry}
-use Rattle.sd_rounds.specs.Rises.{EntriesRise, last_of, IsRising, kind_at, RisesLaws}
+use Rattle.sd_writing.specs.Entries.{Place, ImageEntry, last_of}
+use Rattle.sd_rounds.specs.Pass.{Taking, Pass, has_passed, opened, visited, begun_to_take, left_to_parent, copied_more, dropped, with_entry}
+use Rattle.sd_rounds.specs.Rises.{EntriesRise, IsRising, kind_at, RisesLaws}
 use Rattle.sd_rounds.proofs.Clean.{no_some, one_some}
 use Rattle.sd_rounds.proofs.Lists.{put_after}
 use Rattle.sd_rounds.proofs.Orders.{page_here, apart_page, above_more, ahead_more, above_not_passed, not_passed_above, passed_here}

@@ -1,19 +1,14 @@
 -- How many entries stand before a place.
-use Rattle.std.proofs.Common.{◌≡◌, ℕ, zero, suc, ◌+◌, ◌*◌, ◌-◌, ◌<◌, ◌≤◌, ◌^◌, Bool, true, false, if◌then◌else◌, List, [], ◌∷◌, length, filter, Option, Some, None, IsTrue, refl, sym, ◌∙◌, ap, subst, inl, inr, arith}
+use Rattle.std.proofs.Common.{◌≡◌, ℕ, ◌+◌, ◌*◌, ◌-◌, ◌<◌, ◌≤◌, ◌^◌, Bool, true, false, if◌then◌else◌, List, [], ◌∷◌, length, filter, Option, Some, None, IsTrue, refl, sym, ◌∙◌, ap, subst, inl, inr, arith}
 use Rattle.std.specs.List.{flat_map}
 use Rattle.std.proofs.lemmas.List.{length-append, length-map}
 use Rattle.sd_areas.specs.Pages.{pages_from}
 use Rattle.sd_image.specs.declared.run.Run.{Run}
 use Rattle.sd_image.specs.Runs.{end_of}
 use Rattle.sd_image.specs.Table.{AreRuns, Listed, is_run_after}
-use Rattle.sd_rounds.specs.Pass.{Place, ImageEntry, data_pages}
-use Rattle.sd_rounds.specs.Made.{entries_listed, run_entries}
-use Rattle.sd_rounds.specs.Tables.{AreTables, EndBefore, EndsBefore, IsTableAfter}
-
-pub length-pages_from : (first count : ℕ) → length (pages_from first count) ≡ count
-unfolding pages_from
-length-pages_from first zero = refl
-length-pages_from first (suc count) = ap (λ n. suc n) (length-pages_from (suc first) count)
+use Rattle.sd_writing.specs.Entries.{Place, ImageEntry, data_pages, entries_listed, run_entries}
+use Rattle.sd_writing.specs.Tables.{AreTables, EndBefore, EndsBefore, IsTableFrom}
+use Rattle.sd_writing.proofs.EntryLemmas.{length-pages_from}
 
 run_long : (space : ℕ) (run : Run) → length (run_entries space run) ≡ run.count
 run_long space run = length-map (pages_from run.first run.count) _ ∙ length-pages_from run.first run.count
@@ -47,7 +42,7 @@ runs_fit parent space before run (next ∷ runs) are =
 abbrev table_entries : Listed → List ImageEntry
 table_entries t = flat_map (run_entries t.space) t.runs
 
-table_fits : (parent before : ℕ) (t : Listed) → IsTableAfter parent before t → (length (table_entries t) ≤ end_of t.runs) × (end_of t.runs ≤ 2 ^ 35)
+table_fits : (parent before : ℕ) (t : Listed) → IsTableFrom parent (before + 1) t → (length (table_entries t) ≤ end_of t.runs) × (end_of t.runs ≤ 2 ^ 35)
 table_fits parent before t is = by t.runs refl
   where
     by : (runs : List Run) → t.runs ≡ runs → (length (table_entries t) ≤ end_of t.runs) × (end_of t.runs ≤ 2 ^ 35)
@@ -58,7 +53,7 @@ table_fits parent before t is = by t.runs refl
         subst (λ (l : List Run). (length (flat_map (run_entries t.space) l) ≤ end_of l) × (end_of l ≤ 2 ^ 35)) (sym e) (omega arith, fits.1)
 
 -- all entries before a place are fewer than the places before it
-entries_fit : (parent before : ℕ) (tables : List Listed) (at : Place) → AreTables parent before tables → EndBefore at tables → before < at.0
+entries_fit : (parent before : ℕ) (tables : List Listed) (at : Place) → AreTables parent (before + 1) tables → EndBefore at tables → before < at.0
     → length (entries_listed tables) ≤ 2 ^ 35 * (at.0 - before - 1) + at.1
 entries_fit parent before [] at are ends below = omega arith
 entries_fit parent before (t ∷ tables) at are ends below = by ends.0 (λ lower. entries_fit parent t.space tables at are.1 ends.1 lower)
@@ -69,13 +64,13 @@ entries_fit parent before (t ∷ tables) at are ends below = by ends.0 (λ lower
     fits : (length (table_entries t) ≤ end_of t.runs) × (end_of t.runs ≤ 2 ^ 35)
     fits = table_fits parent before t are.0
 
-    none_stands_after : t.space ≡ at.0 → (rest : List Listed) → AreTables parent t.space rest → EndBefore at rest → length (entries_listed rest) ≡ 0
+    none_stands_after : t.space ≡ at.0 → (rest : List Listed) → AreTables parent (t.space + 1) rest → EndBefore at rest → length (entries_listed rest) ≡ 0
     none_stands_after here [] more less = refl
     none_stands_after here (s ∷ rest) more less = absurd (apart less.0)
       where
         apart : EndsBefore at s → ⊥
-        apart (inl lower) = let f : t.space < s.space = more.0.above in absurd (omega arith)
-        apart (inr same) = let f : t.space < s.space = more.0.above in let g : s.space ≡ at.0 = same.0 in absurd (omega arith)
+        apart (inl lower) = let f : t.space + 1 ≤ s.space = more.0.from in absurd (omega arith)
+        apart (inr same) = let f : t.space + 1 ≤ s.space = more.0.from in let g : s.space ≡ at.0 = same.0 in absurd (omega arith)
 
     by : EndsBefore at t → (t.space < at.0 → length (entries_listed tables) ≤ 2 ^ 35 * (at.0 - t.space - 1) + at.1)
         → length (entries_listed (t ∷ tables)) ≤ 2 ^ 35 * (at.0 - before - 1) + at.1
@@ -83,7 +78,7 @@ entries_fit parent before (t ∷ tables) at are ends below = by ends.0 (λ lower
         let rest : length (entries_listed tables) ≤ 2 ^ 35 * (at.0 - t.space - 1) + at.1 = others lower in
         let one : length (table_entries t) ≤ end_of t.runs = fits.0 in
         let two : end_of t.runs ≤ 2 ^ 35 = fits.1 in
-        let above : before < t.space = are.0.above in
+        let above : before + 1 ≤ t.space = are.0.from in
         rw (both) (omega arith)
     by (inr same) others =
         let rest : length (entries_listed tables) ≡ 0 = none_stands_after same.0 tables are.1 ends.1 in
@@ -100,6 +95,8 @@ filter_short {X} p (x ∷ xs) = by (filter_short p xs) (p x)
     by tail false = omega (arith, tail)
 
 -- an image has room after its data pages for one more
-pub has_room : (parent : ℕ) (tables : List Listed) (at : Place) → AreTables parent 0 tables → EndBefore at tables → 1 ≤ at.0 → at.0 ≤ 16 → at.1 < 2 ^ 35
+pub has_room : (parent : ℕ) (tables : List Listed) (at : Place) → AreTables parent 1 tables → EndBefore at tables → 1 ≤ at.0 → at.0 ≤ 16 → at.1 < 2 ^ 35
     → data_pages (entries_listed tables) < 2 ^ 39
-has_room parent tables at are ends least within page = grind (arith, entries_fit, filter_short, length-map)
+has_room parent tables at are ends least within page =
+    let fits : length (entries_listed tables) ≤ 2 ^ 35 * (at.0 - 0 - 1) + at.1 = entries_fit parent 0 tables at are ends least in
+    grind (arith, fits, filter_short, length-map)

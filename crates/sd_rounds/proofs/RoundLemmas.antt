@@ -1,5 +1,5 @@
 -- What holds of a pass in code, from step to step.
-use Rattle.std.proofs.Common.{◌≡◌, ◌≢◌, ℕ, ◌+◌, ◌*◌, ◌<◌, ◌≤◌, Bool, true, false, List, [], ◌++◌, length, Option, Some, None, refl, sym, ◌∙◌, ap, subst, arith}
+use Rattle.std.proofs.Common.{◌≡◌, ◌≢◌, ℕ, ◌+◌, ◌*◌, ◌<◌, ◌≤◌, Bool, true, false, inl, inr, List, [], ◌∷◌, ◌++◌, length, Option, Some, None, refl, sym, ◌∙◌, ap, subst, arith}
 use Rattle.std.specs.Option.{option_map}
 use Rattle.std.proofs.lemmas.Bool.{both_ways}
 use Rattle.sd_image.specs.declared.run.RunKind.TheVariants.{Parent}
@@ -9,16 +9,19 @@ use Rattle.std.specs.Prelude.{unwrap_or, IsSome, is_some}
 use Rattle.std.specs.FinMap as finmap
 use Rattle.std.specs.Ordering.{nat_cmp}
 use Rattle.sd_image.specs.Runs.{IsSourced}
+use Rattle.sd_image.specs.Table.{Listed}
 use Rattle.sd_pagetable.specs.Nested.{Nested, Table, is_alive, value_at}
 use Rattle.sd_image.specs.declared.run.RunKind.{RunKind}
 use Rattle.std.proofs.lemmas.List.{length-append}
-use Rattle.sd_rounds.specs.Pass.{Place, ImageEntry, Pass, Taking, left_to_parent, with_entry}
+use Rattle.sd_writing.specs.Entries.{Place, ImageEntry}
+use Rattle.sd_rounds.specs.Pass.{Pass, Taking, left_to_parent, with_entry}
 use Rattle.sd_rounds.specs.Rises.{IsRising}
 use Rattle.sd_rounds.specs.Rounds.{IsCopying, IsRound, entry_parent, is_page_of_zeros, limit, pass_of, taking_of}
-use Rattle.sd_rounds.specs.Tables.{EndBefore, IsPushed, listed}
+use Rattle.sd_rounds.specs.SpaceTables.{AreLow}
+use Rattle.sd_writing.specs.Tables.{EndBefore, EndsBefore, IsPushed, listed}
 use Rattle.sd_rounds.proofs.Clean.{no_some, one_some}
 use Rattle.sd_rounds.proofs.RisesLemmas.{takes_rising, leaves_rising, copies, enters}
-use Rattle.sd_rounds.proofs.TableLemmas.{IsFurther, end_further}
+use Rattle.sd_writing.proofs.TableLemmas.{IsFurther, end_further}
 
 pub none_back : {X Y : Type 0} (f : X → Y) (o : Option X) → option_map f o ≡ None → o ≡ None
 none_back f o e = grind arith
@@ -47,13 +50,13 @@ begun_round takes_all tables after taking buffer empty at round free above least
 }
 
 pub left_view : (takes_all : Bool) (old new : List SpaceTable) (after taking : Option Place) (buffer : List ℕ) (at : Place) (parent : ℕ)
-    → option_map (taking_of buffer) taking ≡ None → IsPushed parent (listed old) (listed new) at Parent
+    → option_map (taking_of buffer) taking ≡ None → IsPushed parent 1 (listed old) (listed new) at Parent
     → pass_of takes_all new (Some at) taking buffer ≡ left_to_parent (pass_of takes_all old after taking buffer) at
 left_view takes_all old new after taking buffer at parent free pushed = grind arith
 
 pub left_round : (takes_all : Bool) (old new : List SpaceTable) (after taking : Option Place) (buffer : List ℕ) (at : Place) → IsRound takes_all old after taking buffer
     → option_map (taking_of buffer) taking ≡ None → is_above after at.0 at.1 ≡ true → 1 ≤ at.0 → at.0 ≤ 16
-    → IsPushed (entry_parent takes_all) (listed old) (listed new) at Parent → IsRound takes_all new (Some at) taking buffer
+    → IsPushed (entry_parent takes_all) 1 (listed old) (listed new) at Parent → IsRound takes_all new (Some at) taking buffer
 left_round takes_all old new after taking buffer at round free above least within pushed = record {
   are = pushed.tables;
   ends = subst (λ (t : Option Place). EndBefore (limit (Some at) t) (listed new)) (sym (none_back (taking_of buffer) taking free)) pushed.ends;
@@ -66,6 +69,23 @@ left_round takes_all old new after taking buffer at round free above least withi
 
 pub has_source : (takes_all : Bool) → takes_all ≡ false → IsSourced (entry_parent takes_all) Parent
 has_source takes_all e = λ _. subst (λ n. 0 < n) (sym (ap entry_parent e)) (omega arith)
+
+low_before : (at : Place) (tables : List Listed) → EndBefore at tables → at.0 ≤ 16 → AreLow tables
+low_before at [] ends few = tt
+low_before at (t ∷ tables) ends few = (one ends.0, low_before at tables ends.1 few)
+  where
+    one : EndsBefore at t → t.space ≤ 16
+    one (inl less) = let f : t.space < at.0 = less in omega arith
+    one (inr same) = let f : t.space ≡ at.0 = same.0 in omega arith
+
+low_limit : (after taking : Option Place) → ((at : Place) → after ≡ Some at → (1 ≤ at.0) × (at.0 ≤ 16)) → (limit after taking).0 ≤ 16
+low_limit None taking spaces = omega arith
+low_limit (Some at) None spaces = (spaces at refl).1
+low_limit (Some at) (Some taken) spaces = (spaces at refl).1
+
+-- the entries are of spaces that may be alive
+pub low_tables : (takes_all : Bool) (tables : List SpaceTable) (after taking : Option Place) (buffer : List ℕ) → IsRound takes_all tables after taking buffer → AreLow (listed tables)
+low_tables takes_all tables after taking buffer round = low_before (limit after taking) (listed tables) round.ends (low_limit after taking round.spaces)
 
 -- a space with a page is alive
 pub alive_at : {X : Type 0} (spaces : Nested X) (space page : ℕ) → IsSome (value_at spaces space page) → is_alive spaces space ≡ true
@@ -96,14 +116,14 @@ ends_taken takes_all tables after taking buffer at round is =
     end_at a t e ends = subst (λ (x : Option Place). EndBefore (limit a x) (listed tables)) e ends
 
 pub entered_view : (takes_all : Bool) (old new : List SpaceTable) (after taking : Option Place) (buffer : List ℕ) (at : Place) (kind : RunKind) (parent : ℕ)
-    → IsPushed parent (listed old) (listed new) at kind
+    → IsPushed parent 1 (listed old) (listed new) at kind
     → pass_of takes_all new after None buffer ≡ with_entry (pass_of takes_all old after taking buffer) at kind
 entered_view takes_all old new after taking buffer at kind parent pushed =
     ap (λ (e : List ImageEntry). record { takes_all = takes_all; entries = e; after = after; taking = None }) pushed.entries
 
 pub entered_round : (takes_all : Bool) (old new : List SpaceTable) (after taking : Option Place) (buffer : List ℕ) (at : Place) (kind : RunKind)
     → IsRound takes_all old after taking buffer → taking ≡ Some at
-    → IsPushed (entry_parent takes_all) (listed old) (listed new) at kind → IsRound takes_all new after None buffer
+    → IsPushed (entry_parent takes_all) 1 (listed old) (listed new) at kind → IsRound takes_all new after None buffer
 entered_round takes_all old new after taking buffer at kind round is pushed = record {
   are = pushed.tables;
   ends = subst (λ (a : Option Place). EndBefore (limit a None) (listed new)) (sym (at_cursor takes_all old after taking buffer at round is)) pushed.ends;

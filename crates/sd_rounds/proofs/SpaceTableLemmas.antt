@@ -22,7 +22,7 @@ use Rattle.sd_pagetable.specs.Kept.{prots_of}
 use Rattle.sd_pagetable.specs.Law.{PlainLaw, pages_below}
 use Rattle.sd_rounds.specs.SpaceTables.{AreSpacesBelow, IsSpaceOf, Rise}
 use Rattle.sd_rounds.proofs.MadeLemmas.{page_in_is}
-use Rattle.sd_rounds.proofs.TableLemmas.{all_put}
+use Rattle.sd_writing.proofs.TableLemmas.{all_put}
 
 pub page_in_plain : PlainLaw → (memory : Contents) (space page : ℕ) → page_in (plain_of memory) space page ≡ option_map plain_page (page_at memory space page)
 page_in_plain law memory space page = page_in_is (plain_of memory) space page ∙ law.pages memory space page

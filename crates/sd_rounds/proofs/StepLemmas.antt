@@ -7,11 +7,13 @@ use Rattle.sd_pagetable.specs.Contents.{Contents}
 use Rattle.sd_rounds.specs.declared.copied.Copied.{Copied}
 use Rattle.sd_rounds.specs.declared.copied.Copied.TheVariants as copied
 use Rattle.sd_rounds.specs.declared.visit.Visit.{Visit}
-use Rattle.sd_rounds.specs.Pass.{Pass, Taking, copied_more, data_pages, sector_of, with_entry}
-use Rattle.sd_rounds.specs.Keeps.{Stored, Chain, Keeps, KeepsLaws}
+use Rattle.sd_rounds.specs.Pass.{Pass, Taking, copied_more, sector_of, with_entry}
+use Rattle.sd_writing.specs.Entries.{data_pages}
+use Rattle.sd_writing.specs.Files.{Stored, listed_pages}
+use Rattle.sd_rounds.specs.Keeps.{Chain, Keeps, KeepsLaws}
 use Rattle.sd_rounds.specs.Rises.{IsRising, RisesLaws}
 use Rattle.sd_rounds.specs.Dump.{DumpLaws, IsDumping, kind_of_bytes}
-use Rattle.sd_rounds.specs.Made.{MadeLaws, listed_pages}
+use Rattle.sd_rounds.specs.Made.{MadeLaws}
 use Rattle.sd_rounds.specs.Rounds.{Copies, CopiesZeros, TakesPage, Tests, is_page_of_zeros}
 use Rattle.sd_rounds.specs.Steps.{StepLaws}
 

@@ -6,10 +6,12 @@ use Rattle.std.proofs.lemmas.List.Elements.{filter-append, Contains-append_left,
 use Rattle.sd_image.specs.declared.run.RunKind.TheVariants.{Data, Parent, Zero}
 use Rattle.sd_pagetable.specs.Contents.{Contents}
 use Rattle.sd_pagetable.specs.Order.{IsNextPage}
-use Rattle.sd_rounds.specs.Pass.{Place, ImageEntry, Taking, Pass, pages_by, has_passed, opened, visited, begun_to_take, left_to_parent, copied_more, dropped, with_entry}
+use Rattle.sd_writing.specs.Entries.{Place, ImageEntry, pages_by}
+use Rattle.sd_rounds.specs.Pass.{Taking, Pass, has_passed, opened, visited, begun_to_take, left_to_parent, copied_more, dropped, with_entry}
 use Rattle.sd_rounds.specs.Visits.{Visit, visited_page, is_taken, taken_pages, left_pages, IsPassOf, PassVisits, AreStillMapped, VisitLaws}
 use Rattle.sd_rounds.proofs.Clean.{no_some, one_some}
-use Rattle.sd_rounds.proofs.Lists.{put_after, pages_append}
+use Rattle.sd_rounds.proofs.Lists.{put_after}
+use Rattle.sd_writing.proofs.EntryLemmas.{pages_append}
 use Rattle.sd_rounds.proofs.Orders.{passed_next, passed_all}
 
 abbrev with_visit : List Visit → Place → Bool → List Visit

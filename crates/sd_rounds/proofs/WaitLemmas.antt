@@ -9,7 +9,8 @@ use Rattle.sd_pagetable.specs.Order.{IsNextPage}
 use Rattle.sd_rounds.specs.declared.stage.Stage.TheVariants.{Pass as PassStage}
 use Rattle.sd_rounds.specs.Left.{pages_ahead}
 use Rattle.sd_rounds.specs.Making.{Making, out_of}
-use Rattle.sd_rounds.specs.Pass.{Pass, Place}
+use Rattle.sd_rounds.specs.Pass.{Pass}
+use Rattle.sd_writing.specs.Entries.{Place}
 use Rattle.sd_rounds.specs.Waits.{is_over, maker_must_wait}
 use Rattle.sd_gate.specs.Lanes.{is_any_out}
 use Rattle.sd_rounds.specs.Writes.{are_all_out, no_writes}

@@ -8,7 +8,7 @@ use Rattle.sd_image.specs.Words.{run_kind_number}
 use Rattle.sd_pagetable.specs.Order.{is_above}
 use Rattle.sd_pagetable.specs.Tracking.{is_page}
 use Rattle.sd_image.proofs.Members.{contains_later, contains_none}
-use Rattle.sd_rounds.specs.Pass.{ImageEntry, Place, has_kind, pages_by, place_of_entry}
+use Rattle.sd_writing.specs.Entries.{ImageEntry, Place, has_kind, pages_by, place_of_entry}
 use Rattle.sd_rounds.specs.Rises.{EntriesRise, kind_at}
 use Rattle.sd_image.proofs.PagePlaces.{kind_number_once as one_number}
 use Rattle.sd_rounds.proofs.Clean.{no_some, one_some}

@@ -7,9 +7,11 @@ use Rattle.sd_pagetable.specs.Page.{PageState, zeros}
 use Rattle.sd_pagetable.specs.Contents.{Contents, page_at, plain_of}
 use Rattle.sd_pagetable.specs.Order.{IsNextPage}
 use Rattle.sd_pagetable.specs.Tracking.{Step, Cleared}
-use Rattle.sd_rounds.specs.Pass.{Place, Taking, Pass, IsTaken, has_passed, opened, visited, copied_more, with_entry}
+use Rattle.sd_writing.specs.Entries.{Place}
+use Rattle.sd_rounds.specs.Pass.{Taking, Pass, IsTaken, has_passed, opened, visited, copied_more, with_entry}
 use Rattle.sd_rounds.specs.Pass.{taken_as_zero}
-use Rattle.sd_rounds.specs.Keeps.{Stored, Chain, EntriesGive, Keeps}
+use Rattle.sd_writing.specs.Files.{Stored}
+use Rattle.sd_rounds.specs.Keeps.{Chain, EntriesGive, Keeps}
 use Rattle.sd_rounds.specs.Rises.{IsRising, kind_at}
 
 -- how the bytes of a page are taken

@@ -9,19 +9,19 @@ use Rattle.sd_gate.specs.Requests.{Made}
 use Rattle.sd_pagetable.specs.Contents.{Contents}
 use Rattle.sd_rounds.specs.declared.checkpoint.Checkpoint.{Checkpoint}
 use Rattle.sd_rounds.specs.declared.image_order.ImageOrder.{ImageOrder}
-use Rattle.sd_rounds.specs.declared.image_progress.ImageProgress.{ImageProgress}
-use Rattle.sd_rounds.specs.declared.image_progress.ImageProgress.TheVariants.{Failed, More, Opened}
+use Rattle.sd_writing.specs.declared.written.Written.{Written}
+use Rattle.sd_writing.specs.declared.written.Written.TheVariants.{Failed, More, Opened}
 use Rattle.sd_rounds.specs.declared.image_step.ImageStep.{ImageStep}
 use Rattle.sd_rounds.specs.declared.image_step.ImageStep.TheVariants.{Call, PageCall, TableCall, Frozen, Visited}
 use Rattle.sd_rounds.specs.declared.image_step.ImageStep.TheVariants.{Copied}
-use Rattle.sd_rounds.specs.declared.new_image.NewImage.{NewImage}
+use Rattle.sd_writing.specs.declared.new_image.NewImage.{NewImage}
 use Rattle.sd_rounds.specs.declared.progress.Progress.{Progress}
 use Rattle.sd_rounds.specs.declared.progress.Progress.TheVariants.{Strange, Failed as HasFailed, More as GoesOn}
 use Rattle.sd_rounds.specs.declared.progress.Progress.TheVariants.{PreDump as PreDumpOpen, Dump as DumpOpen}
 use Rattle.sd_rounds.specs.Making.{HandsIn, IsOutOf, Making, Steps, begun_image, closing_outcomes, is_frozen_dump}
 use Rattle.sd_rounds.specs.Making.{out_of}
 use Rattle.sd_rounds.specs.Making.{outcomes_left}
-use Rattle.sd_rounds.specs.Pass.{data_pages}
+use Rattle.sd_writing.specs.Entries.{data_pages}
 use Rattle.sd_rounds.specs.Writes.{no_writes, writes_out}
 
 -- a checkpoint that runs: the slots of its pre-dumps and of its dump, the parent of its first image, how many images
@@ -211,7 +211,7 @@ serial_of_running (Some running) = image_serial running.image
 -- ---- Outcomes
 
 -- an outcome of the image that is being made, which goes on or fails
-pub record HandsOn (old : Running) (made : Made) (progress : ImageProgress) (new : Running) : Type 0 where
+pub record HandsOn (old : Running) (made : Made) (progress : Written) (new : Running) : Type 0 where
   pub image : Making
   pub was : old.image ≡ Some image
   pub next : Making

@@ -1,9 +1,9 @@
 -- The file of an image: what its text is once its table is written, and what the image holds.
-use Rattle.std.specs.Prelude.{◌≡◌, ◌↔◌, ℕ, List, ◌∷◌, length, Contains, Some}
+use Rattle.std.specs.Prelude.{◌≡◌, ◌↔◌, ℕ, List, length, Contains, Some}
 use Rattle.sd_image.specs.declared.header.Header.{Header}
 use Rattle.sd_image.specs.declared.header.Kind.TheVariants.{Dump, PreDump}
 use Rattle.sd_image.specs.declared.run.RunKind.{RunKind}
-use Rattle.sd_image.specs.Image.{Image, IsImage, gate, image_text}
+use Rattle.sd_image.specs.Image.{IsImage, image_text}
 use Rattle.sd_image.specs.Shows.{IsMemory, IsNamed, pages_of}
 use Rattle.sd_image.specs.Table.{Listed, table_text}
 use Rattle.sd_gate.specs.Laws.{pages_body}
@@ -11,22 +11,20 @@ use Rattle.sd_gate.specs.PlanRuns.{body_closed}
 use Rattle.sd_gate.specs.Requests.{Asked, Made}
 use Rattle.sd_pagetable.specs.Contents.{Contents, page_at, plain_of}
 use Rattle.sd_rounds.specs.declared.image_order.ImageOrder.{ImageOrder}
-use Rattle.sd_rounds.specs.declared.image_progress.ImageProgress.TheVariants.{More}
+use Rattle.sd_writing.specs.declared.written.Written.TheVariants.{More}
 use Rattle.sd_rounds.specs.declared.image_step.ImageStep.TheVariants.{Call, TableCall}
-use Rattle.sd_rounds.specs.declared.new_image.NewImage.{NewImage}
+use Rattle.sd_writing.specs.declared.new_image.NewImage.{NewImage}
 use Rattle.sd_rounds.specs.declared.stage.Stage.{Stage}
 use Rattle.sd_rounds.specs.declared.stage.Stage.TheVariants.{Format, Freeze, Pass as PassStage, Close}
 use Rattle.sd_rounds.specs.Dump.{IsDumped, right_kind}
-use Rattle.sd_rounds.specs.Keeps.{Chain, ChainWithin, Rests, Stored}
-use Rattle.sd_rounds.specs.Made.{HasTheAreas, IsImageOf, Lists, listed_pages}
+use Rattle.sd_rounds.specs.Keeps.{Chain, ChainWithin, Rests}
+use Rattle.sd_writing.specs.Files.{Pages, Stored, file_of, image_of, listed_pages}
+use Rattle.sd_rounds.specs.Made.{HasTheAreas, IsImageOf}
+use Rattle.sd_writing.specs.Entries.{Lists, Place, data_pages}
 use Rattle.sd_rounds.specs.Making.{AreThePages, HandsIn, Making, Opens, Steps, header_of}
-use Rattle.sd_rounds.specs.MakingLaws.{AreItsNumbers, DumpsImage, KeepsImage, Pages, image_of}
-use Rattle.sd_rounds.specs.Pass.{Pass, Place, data_pages}
+use Rattle.sd_rounds.specs.MakingLaws.{AreItsNumbers, DumpsImage, KeepsImage}
+use Rattle.sd_rounds.specs.Pass.{Pass}
 use Rattle.sd_rounds.specs.Rises.{IsRising}
-
--- the text of an image after an open gate
-abbrev pub file_of : Image → List ℕ
-file_of i = gate ∷ image_text i
 
 -- The file of an image whose table is written: it is the image with these data pages, which has the order's numbers and
 -- the pass's entries.

@@ -5,15 +5,15 @@ use Rattle.sd_image.specs.Shows.{pages_of}
 use Rattle.sd_gate.specs.Requests.{Asked, Made}
 use Rattle.sd_pagetable.specs.Contents.{Contents}
 use Rattle.sd_rounds.specs.declared.image_order.ImageOrder.{ImageOrder}
-use Rattle.sd_rounds.specs.declared.image_progress.ImageProgress.TheVariants.{More}
+use Rattle.sd_writing.specs.declared.written.Written.TheVariants.{More}
 use Rattle.sd_rounds.specs.declared.image_step.ImageStep.{ImageStep}
 use Rattle.sd_rounds.specs.declared.image_step.ImageStep.TheVariants.{Call, PageCall, TableCall, Frozen, Visited}
 use Rattle.sd_rounds.specs.declared.image_step.ImageStep.TheVariants.{Copied}
-use Rattle.sd_rounds.specs.declared.new_image.NewImage.{NewImage}
+use Rattle.sd_writing.specs.declared.new_image.NewImage.{NewImage}
 use Rattle.sd_rounds.specs.Files.{FilesImage}
 use Rattle.sd_rounds.specs.Making.{HandsIn, Making, Opens, Steps, begun_image}
-use Rattle.sd_rounds.specs.MakingLaws.{Pages}
-use Rattle.sd_rounds.specs.Pass.{Place}
+use Rattle.sd_writing.specs.Files.{Pages}
+use Rattle.sd_writing.specs.Entries.{Place}
 use Rattle.sd_rounds.specs.Visits.{AreStillMapped, IsPassOf, PassVisits, Visit, left_pages, taken_pages, visited_page}
 
 -- the visits of an image with those of a step

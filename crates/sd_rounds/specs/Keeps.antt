@@ -1,5 +1,5 @@
 -- What an image in the making gives of a memory, with the images below it.
-use Rattle.std.specs.Prelude.{◌≡◌, ℕ, ◌*◌, ◌<◌, true, false, List, length, take, Contains, slice_get, Option, Some}
+use Rattle.std.specs.Prelude.{◌≡◌, ℕ, ◌*◌, ◌<◌, true, false, List, length, take, Contains, slice_get, Some}
 use Rattle.std.specs.Prelude.{None}
 use Rattle.sd_image.specs.declared.run.RunKind.TheVariants.{Data, Parent, Zero}
 use Rattle.sd_image.specs.Image.{Image}
@@ -9,13 +9,11 @@ use Rattle.sd_pagetable.specs.Contents.{Contents, IsSound, page_at}
 use Rattle.sd_pagetable.specs.Order.{IsNextPage}
 use Rattle.sd_pagetable.specs.PageLaw.{clean_at}
 use Rattle.sd_pagetable.specs.Tracking.{MemoryEvent, Step, Cleared, clears}
-use Rattle.sd_rounds.specs.Pass.{Place, ImageEntry, Taking, Pass, IsTaken, pages_by, data_pages, has_passed, opened}
+use Rattle.sd_writing.specs.Entries.{Place, ImageEntry, pages_by, data_pages}
+use Rattle.sd_rounds.specs.Pass.{Taking, Pass, IsTaken, has_passed, opened}
 use Rattle.sd_rounds.specs.Pass.{visited}
 use Rattle.sd_rounds.specs.Pass.{sector_of, copied_more, dropped, taken_as_zero, taken_as_data}
-
--- the data pages of the image's file, by their place, once every write that is out is done
-abbrev pub Stored : Type 0
-Stored = ℕ → Option (List ℕ)
+use Rattle.sd_writing.specs.Files.{Stored}
 
 -- what the images below give at a page
 abbrev pub Below : Type 1

@@ -14,7 +14,8 @@ use Rattle.sd_rounds.specs.declared.stage.Stage.{Stage}
 use Rattle.sd_rounds.specs.declared.stage.Stage.TheVariants.{Format, Freeze, Pass as PassStage, Close}
 use Rattle.sd_rounds.specs.Dumper.{Dumping, Hands, Running, Works, is_strange}
 use Rattle.sd_rounds.specs.Making.{Making}
-use Rattle.sd_rounds.specs.Pass.{Pass, Place, Taking}
+use Rattle.sd_rounds.specs.Pass.{Pass, Taking}
+use Rattle.sd_writing.specs.Entries.{Place}
 use Rattle.sd_rounds.specs.Writes.{writes_out}
 
 -- the pages of a space

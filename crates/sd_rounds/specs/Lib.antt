@@ -6,7 +6,6 @@ pub mod Rises
 pub mod Dump
 pub mod Visits
 pub mod Made
-pub mod Tables
 pub mod Rounds
 pub mod Steps
 pub mod Writes

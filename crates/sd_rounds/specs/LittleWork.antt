@@ -9,17 +9,17 @@ use Rattle.sd_gate.specs.Requests.{Made}
 use Rattle.sd_pagetable.specs.Contents.{Contents, page_at}
 use Rattle.sd_pagetable.specs.Page.{PageState}
 use Rattle.sd_rounds.specs.declared.image_order.ImageOrder.{ImageOrder}
-use Rattle.sd_rounds.specs.declared.image_progress.ImageProgress.TheVariants.{More}
+use Rattle.sd_writing.specs.declared.written.Written.TheVariants.{More}
 use Rattle.sd_rounds.specs.declared.image_step.ImageStep.{ImageStep}
 use Rattle.sd_rounds.specs.declared.image_step.ImageStep.TheVariants.{Frozen}
-use Rattle.sd_rounds.specs.declared.new_image.NewImage.{NewImage}
+use Rattle.sd_writing.specs.declared.new_image.NewImage.{NewImage}
 use Rattle.sd_rounds.specs.declared.stage.Stage.{Stage}
 use Rattle.sd_rounds.specs.declared.stage.Stage.TheVariants.{Format, Freeze, Pass as PassStage, Close}
 use Rattle.sd_rounds.specs.Dump.{IsDumping, right_kind}
 use Rattle.sd_rounds.specs.ImageVisits.{visits_after}
-use Rattle.sd_rounds.specs.Made.{Lists}
+use Rattle.sd_writing.specs.Entries.{Lists, ImageEntry, Place}
 use Rattle.sd_rounds.specs.Making.{HandsIn, Making, Opens, Steps, begun_image, is_past_freeze}
-use Rattle.sd_rounds.specs.Pass.{ImageEntry, Pass, Place, Taking}
+use Rattle.sd_rounds.specs.Pass.{Pass, Taking}
 use Rattle.sd_rounds.specs.Rises.{IsRising, kind_at}
 use Rattle.sd_rounds.specs.Visits.{IsPassOf, Visit, left_pages, taken_pages}
 

@@ -1,42 +1,26 @@
 -- The image that a pass made.
-use Rattle.std.specs.Prelude.{◌≡◌, ℕ, ◌<◌, ◌==◌, List, [], ◌∷◌, ◌++◌, length, map, Contains, slice_get, Some}
-use Rattle.std.specs.List.{flat_map, list_any}
+use Rattle.std.specs.Prelude.{◌≡◌, ℕ, ◌<◌, ◌==◌, List, [], ◌∷◌, ◌++◌, length, Contains, slice_get, Some}
+use Rattle.std.specs.List.{list_any}
 use Rattle.std.specs.Option.{option_map}
 use Rattle.std.specs.FinMap as finmap
 use Rattle.sd_areas.specs.Areas.{prot_in}
 use Rattle.sd_areas.specs.PlainMemory.{PlainMemory}
 use Rattle.sd_areas.specs.PlainMemory as plain
-use Rattle.sd_image.specs.declared.run.Run.{Run}
-use Rattle.sd_image.specs.declared.run.RunKind.{RunKind}
 use Rattle.sd_image.specs.Image.{Image}
-use Rattle.sd_image.specs.Shows.{Holds, IsMemory, IsNamed, page_in, pages_of}
-use Rattle.sd_image.specs.Table.{Listed, run_pages}
+use Rattle.sd_image.specs.Shows.{Holds, IsMemory, IsNamed, page_in}
+use Rattle.sd_image.specs.Table.{Listed}
 use Rattle.sd_pagetable.specs.Contents.{Contents, plain_of}
-use Rattle.sd_rounds.specs.Pass.{Place, ImageEntry, Taking, Pass, pages_by, data_pages, taken_as_data}
-use Rattle.sd_rounds.specs.Keeps.{Stored, Chain, EntriesGive, Gave, Keeps, Rests, ChainWithin}
+use Rattle.sd_writing.specs.Entries.{ImageEntry, Lists, Place, data_pages}
+use Rattle.sd_rounds.specs.Pass.{Taking, Pass, taken_as_data}
+use Rattle.sd_writing.specs.Files.{Stored, listed_pages}
+use Rattle.sd_rounds.specs.Keeps.{Chain, EntriesGive, Gave, Keeps, Rests, ChainWithin}
 use Rattle.sd_rounds.specs.Dump.{IsDumped}
-
--- the entries of a run of a space
-abbrev pub run_entries : ℕ → Run → List ImageEntry
-run_entries space run = map (λ page. record { place = (space, page); kind = run.kind }) (run_pages run)
-
--- the entries of a table
-abbrev pub entries_listed : List Listed → List ImageEntry
-entries_listed = flat_map (λ (s : Listed). flat_map (run_entries s.space) s.runs)
-
--- a table has the pages of the entries, in their order, each in its way
-abbrev pub Lists : List ImageEntry → List Listed → Type 0
-Lists entries spaces = (kind : RunKind) → pages_of kind spaces ≡ pages_by kind entries
 
 -- the image of these entries, above what its parent number names
 pub record IsImageOf (stored : Stored) (chain : Chain) (entries : List ImageEntry) (i : Image) : Type 0 where
   pub parent : i.header.parent ≡ chain.number
   pub lists : Lists entries i.spaces
   pub pages : (place : ℕ) → place < data_pages entries → slice_get i.pages place ≡ stored place
-
--- the data pages, by their place in a list
-abbrev pub listed_pages : List (List ℕ) → Stored
-listed_pages pages place = slice_get pages place
 
 -- the spaces and areas of a table are those of a memory
 pub record HasTheAreas (memory : PlainMemory) (spaces : List Listed) : Type 0 where
@@ -45,7 +29,6 @@ pub record HasTheAreas (memory : PlainMemory) (spaces : List Listed) : Type 0 wh
       → prot_in s.areas page ≡ option_map (λ (found : plain.Page). found.prot) (page_in memory s.space page)
 
 pub record MadeLaws : Type 0 where
-  pub lists : (spaces : List Listed) → Lists (entries_listed spaces) spaces
   pub holds : (stored : Stored) (chain : Chain) (entries : List ImageEntry) (i : Image) (at : Place) (bytes : List ℕ)
       → IsImageOf stored chain entries i
       → EntriesGive stored chain entries at bytes → Holds chain.images at.0 at.1 bytes i

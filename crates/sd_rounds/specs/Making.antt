@@ -9,7 +9,7 @@ use Rattle.sd_image.specs.declared.digester.Digester.{Digester}
 use Rattle.sd_image.specs.declared.header.Version.TheVariants.{Two}
 use Rattle.sd_image.specs.Digests.{HasFed, fresh}
 use Rattle.sd_image.specs.Header.{HasWords, header_front}
-use Rattle.sd_image.specs.Table.{IsTable, Listed, table_text}
+use Rattle.sd_image.specs.Table.{Listed, table_text}
 use Rattle.sd_image.specs.Words.{kind_number}
 use Rattle.sd_gate.specs.declared.call.Call.TheVariants.{Write}
 use Rattle.sd_gate.specs.declared.request_id.RequestId.{RequestId}
@@ -25,20 +25,22 @@ use Rattle.sd_pagetable.specs.Order.{IsNextPage}
 use Rattle.sd_rounds.specs.declared.copied.Copied as copied
 use Rattle.sd_rounds.specs.declared.visit.Visit as visit
 use Rattle.sd_rounds.specs.declared.image_order.ImageOrder.{ImageOrder}
-use Rattle.sd_rounds.specs.declared.image_progress.ImageProgress.{ImageProgress}
-use Rattle.sd_rounds.specs.declared.image_progress.ImageProgress.TheVariants.{Strange, Failed, More, Opened}
+use Rattle.sd_writing.specs.declared.written.Written.{Written}
+use Rattle.sd_writing.specs.declared.written.Written.TheVariants.{Strange, Failed, More, Opened}
 use Rattle.sd_rounds.specs.declared.image_step.ImageStep.{ImageStep}
 use Rattle.sd_rounds.specs.declared.image_step.ImageStep.TheVariants.{Call, PageCall, TableCall, Frozen, Visited}
 use Rattle.sd_rounds.specs.declared.image_step.ImageStep.TheVariants.{Copied}
-use Rattle.sd_rounds.specs.declared.new_image.NewImage.{NewImage}
+use Rattle.sd_writing.specs.declared.new_image.NewImage.{NewImage}
 use Rattle.sd_rounds.specs.declared.stage.Stage.{Stage}
 use Rattle.sd_rounds.specs.declared.stage.Stage.TheVariants.{Format, Freeze, Pass as PassStage, Close}
-use Rattle.sd_rounds.specs.Made.{HasTheAreas, Lists}
-use Rattle.sd_rounds.specs.Pass.{ImageEntry, Pass, data_pages, opened}
+use Rattle.sd_rounds.specs.Made.{HasTheAreas}
+use Rattle.sd_writing.specs.Entries.{ImageEntry, data_pages}
+use Rattle.sd_rounds.specs.Pass.{Pass, opened}
 use Rattle.sd_rounds.specs.Rises.{kind_at}
 use Rattle.sd_rounds.specs.Rounds.{Copies, TakesPage, Tests}
 use Rattle.sd_gate.specs.Lanes.{IsInLane}
 use Rattle.sd_rounds.specs.Writes.{AreWrites, no_writes}
+use Rattle.sd_writing.specs.Tables.{TablesEntries}
 
 -- an image in the making: what is fixed of it, its pass, how far it is, the writes of its data pages that are out, and
 -- what was fed those that were taken
@@ -182,11 +184,6 @@ abbrev pub AreThePages : List ImageEntry → Contents → Type 0
 AreThePages entries memory =
     (space page : ℕ) → is_some (kind_at entries (space, page)) ≡ is_some (page_at memory space page)
 
--- a table with these entries
-pub record TablesEntries (entries : List ImageEntry) (header : Header) (tables : List Listed) : Type 0 where
-  pub lists : Lists entries tables
-  pub is : IsTable header tables
-
 -- a table with these entries, and the areas of a memory
 pub record TablesMemory (memory : Contents) (entries : List ImageEntry) (header : Header)
     (tables : List Listed) : Type 0 where
@@ -298,7 +295,7 @@ pub record Opens (old : Making) (made : Made) (image : NewImage) : Type 0 where
   pub rests : old.writes ≡ no_writes
   pub slot : image.slot ≡ old.order.slot
 
-abbrev pub HandsIn : Making → Made → ImageProgress → Making → Type 0
+abbrev pub HandsIn : Making → Made → Written → Making → Type 0
 HandsIn old made Strange new = (IsOutOf old made.request.id → ⊥) × (new ≡ old)
 HandsIn old made Failed new = Fails old made new
 HandsIn old made More new = PlanGoesOn old made new ⊎ IsWritten old made new

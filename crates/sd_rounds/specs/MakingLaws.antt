@@ -1,15 +1,12 @@
 -- What the steps of an image keep.
-use Rattle.std.specs.Prelude.{◌≡◌, ◌≢◌, ℕ, ◌<◌, true, List, [], ◌∷◌, ◌++◌, length}
+use Rattle.std.specs.Prelude.{◌≡◌, ◌≢◌, ℕ, ◌<◌, true, [], ◌∷◌, ◌++◌, length}
 use Rattle.std.specs.List.{AllByRecursion, concat}
-use Rattle.sd_image.specs.declared.header.Header.{Header}
 use Rattle.sd_image.specs.Digests.{HasFed}
-use Rattle.sd_image.specs.Image.{Image}
-use Rattle.sd_image.specs.Table.{Listed}
 use Rattle.sd_gate.specs.Requests.{Made}
 use Rattle.sd_pagetable.specs.Contents.{Contents, IsSound}
 use Rattle.sd_pagetable.specs.Tracking.{MemoryEvent, Step}
 use Rattle.sd_rounds.specs.declared.image_order.ImageOrder.{ImageOrder}
-use Rattle.sd_rounds.specs.declared.image_progress.ImageProgress.TheVariants.{More}
+use Rattle.sd_writing.specs.declared.written.Written.TheVariants.{More}
 use Rattle.sd_rounds.specs.declared.image_step.ImageStep.{ImageStep}
 use Rattle.sd_rounds.specs.declared.image_step.ImageStep.TheVariants.{Call, PageCall, TableCall, Frozen, Visited}
 use Rattle.sd_rounds.specs.declared.image_step.ImageStep.TheVariants.{Copied}
@@ -17,14 +14,11 @@ use Rattle.sd_rounds.specs.declared.stage.Stage.{Stage}
 use Rattle.sd_rounds.specs.declared.stage.Stage.TheVariants.{Format, Freeze, Pass as PassStage, Close}
 use Rattle.sd_rounds.specs.Dump.{IsDumped, IsDumping}
 use Rattle.sd_rounds.specs.Keeps.{Chain, ChainWithin, Gave, IsCall, Keeps, Rests}
-use Rattle.sd_rounds.specs.Made.{listed_pages}
+use Rattle.sd_writing.specs.Files.{Pages, listed_pages}
 use Rattle.sd_rounds.specs.Making.{HandsIn, Making, Steps, begun_image, is_past_freeze}
-use Rattle.sd_rounds.specs.Pass.{Pass, data_pages}
+use Rattle.sd_rounds.specs.Pass.{Pass}
+use Rattle.sd_writing.specs.Entries.{data_pages}
 use Rattle.sd_rounds.specs.Rises.{IsRising}
-
--- the data pages of the image, once the writes that are out are done
-abbrev pub Pages : Type 0
-Pages = List (List ℕ)
 
 -- Of each clean page, what the image so far and the images below give are its bytes; once its table is written, what it
 -- gives.
@@ -60,10 +54,6 @@ pages_after (TableCall request) pages = pages
 pages_after Frozen pages = pages
 pages_after (Visited visit) pages = pages
 pages_after (Copied copied) pages = pages
-
--- the image of a header, its data pages and its tables
-abbrev pub image_of : Header → Pages → List Listed → Image
-image_of header pages tables = record { header = header; pages = pages; spaces = tables }
 
 -- numbers that an image may have
 pub record AreItsNumbers (order : ImageOrder) : Type 0 where

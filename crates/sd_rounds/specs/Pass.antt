@@ -1,35 +1,11 @@
 -- An image in the making, and the pass over a memory that makes it.
-use Rattle.std.specs.Prelude.{◌≡◌, ℕ, ◌+◌, ◌*◌, Bool, not, ◌||◌, ◌==◌, if◌then◌else◌, List, [], ◌∷◌, ◌++◌, length, map}
-use Rattle.std.specs.Prelude.{filter, slice_range, Option, Some, None}
+use Rattle.std.specs.Prelude.{◌≡◌, ℕ, ◌+◌, ◌*◌, Bool, not, ◌||◌, if◌then◌else◌, List, [], ◌∷◌, ◌++◌}
+use Rattle.std.specs.Prelude.{slice_range, Option, Some, None}
 use Rattle.std.specs.Option.{option_map}
 use Rattle.sd_image.specs.declared.run.RunKind.{RunKind}
 use Rattle.sd_image.specs.declared.run.RunKind.TheVariants.{Data, Parent, Zero}
-use Rattle.sd_image.specs.Words.{run_kind_number}
 use Rattle.sd_pagetable.specs.Order.{is_above}
-
--- a page: its space, and its number there
-abbrev pub Place : Type 0
-Place = ℕ × ℕ
-
--- a page that an image has, and in which way
-pub record ImageEntry : Type 0 where
-  pub place : Place
-  pub kind : RunKind
-
--- the space and page of an entry
-abbrev pub place_of_entry : ImageEntry → Place
-place_of_entry entry = entry.place
-
-abbrev pub has_kind : RunKind → ImageEntry → Bool
-has_kind kind entry = run_kind_number entry.kind == run_kind_number kind
-
--- the pages that entries have in one way, in their order
-abbrev pub pages_by : RunKind → List ImageEntry → List Place
-pages_by kind entries = map place_of_entry (filter (has_kind kind) entries)
-
--- how many data pages stand in the file
-abbrev pub data_pages : List ImageEntry → ℕ
-data_pages entries = length (pages_by Data entries)
+use Rattle.sd_writing.specs.Entries.{ImageEntry, Place}
 
 -- the page that is being taken, and what was copied of it so far
 pub record Taking : Type 0 where

@@ -3,7 +3,8 @@ use Rattle.std.specs.Prelude.{◌≡◌, ℕ, Bool, true, false, if◌then◌els
 use Rattle.sd_image.specs.declared.run.RunKind.{RunKind}
 use Rattle.sd_pagetable.specs.Order.{is_above}
 use Rattle.sd_pagetable.specs.Tracking.{is_page}
-use Rattle.sd_rounds.specs.Pass.{Place, ImageEntry, Taking, Pass, has_passed, opened, visited, copied_more, dropped}
+use Rattle.sd_writing.specs.Entries.{ImageEntry, Place, last_of}
+use Rattle.sd_rounds.specs.Pass.{Taking, Pass, has_passed, opened, visited, copied_more, dropped}
 use Rattle.sd_rounds.specs.Pass.{with_entry}
 
 -- each above the one before
@@ -11,11 +12,6 @@ abbrev pub EntriesRise : Option Place → List ImageEntry → Type 0
 EntriesRise before [] = Unit {0}
 EntriesRise before (entry ∷ entries) =
     (is_above before entry.place.0 entry.place.1 ≡ true) × EntriesRise (Some entry.place) entries
-
--- the last page that has an entry
-abbrev pub last_of : Option Place → List ImageEntry → Option Place
-last_of before [] = before
-last_of before (entry ∷ entries) = last_of (Some entry.place) entries
 
 -- the entries rise, the cursor is at the last of them or above it, and a page that is being taken is the one at the
 -- cursor

@@ -6,7 +6,8 @@ use Rattle.sd_pagetable.specs.Order.{IsNextPage}
 use Rattle.sd_rounds.specs.declared.stage.Stage.TheVariants.{Pass as PassStage}
 use Rattle.sd_rounds.specs.Dumper.{Running}
 use Rattle.sd_rounds.specs.Making.{Making}
-use Rattle.sd_rounds.specs.Pass.{Pass, Place, Taking}
+use Rattle.sd_rounds.specs.Pass.{Pass, Taking}
+use Rattle.sd_writing.specs.Entries.{Place}
 
 -- the next page is clean, and is left to the parent: it gets its entry
 pub record LeavesNext (pass : Pass) (memory : Contents) : Type 0 where

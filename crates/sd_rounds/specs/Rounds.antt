@@ -13,10 +13,11 @@ use Rattle.sd_rounds.specs.declared.copied.Copied.TheVariants.{More, Zero as Zer
 use Rattle.sd_rounds.specs.declared.standing.Standing.{Standing}
 use Rattle.sd_rounds.specs.declared.standing.Standing.TheVariants.{Free, Copying, Copied}
 use Rattle.sd_rounds.specs.declared.visit.Visit.{Visit}
-use Rattle.sd_rounds.specs.Pass.{Place, Taking, Pass, visited, sector_of, copied_more, dropped, taken_as_zero}
+use Rattle.sd_writing.specs.Entries.{Place}
+use Rattle.sd_rounds.specs.Pass.{Taking, Pass, visited, sector_of, copied_more, dropped, taken_as_zero}
 use Rattle.sd_rounds.specs.Pass.{taken_as_data}
 use Rattle.sd_rounds.specs.Rises.{IsRising}
-use Rattle.sd_rounds.specs.Tables.{AreTables, EndBefore, entries_in, listed}
+use Rattle.sd_writing.specs.Tables.{AreTables, EndBefore, entries_in, listed}
 
 -- what a buffer has of a page that is being taken
 abbrev pub taking_of : List ℕ → Place → Taking
@@ -54,7 +55,7 @@ is_page_of_zeros bytes = length bytes == 4096 && list_all (λ byte. byte == 0) b
 -- what holds of every pass
 pub record IsRound (takes_all : Bool) (tables : List SpaceTable) (after taking : Option Place)
     (buffer : List ℕ) : Type 0 where
-  pub are : AreTables (entry_parent takes_all) 0 (listed tables)
+  pub are : AreTables (entry_parent takes_all) 1 (listed tables)
   pub ends : EndBefore (limit after taking) (listed tables)
   pub rising : IsRising (pass_of takes_all tables after taking buffer)
   pub spaces : (at : Place) → after ≡ Some at → (1 ≤ at.0) × (at.0 ≤ 16)

@@ -2,7 +2,7 @@
 use Rattle.std.specs.Prelude.{◌≡◌, ◌≤◌, ◌^◌, ◌==◌, false, Option, Some, None}
 use Rattle.sd_rounds.specs.Dumper.{Running}
 use Rattle.sd_rounds.specs.Making.{IsReadyFor, Making, is_passing}
-use Rattle.sd_rounds.specs.Pass.{data_pages}
+use Rattle.sd_writing.specs.Entries.{data_pages}
 use Rattle.sd_rounds.specs.Rises.{IsRising}
 use Rattle.sd_rounds.specs.Writes.{AreWrites, no_writes}
 

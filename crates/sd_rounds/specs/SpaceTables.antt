@@ -26,6 +26,10 @@ pub record IsSpaceOf (memory : PlainMemory) (source : List Listed) (t : Listed) 
   pub same : (page : ℕ) → prot_in t.areas page ≡ option_map (λ (found : Page). found.prot) (page_in memory t.space page)
   pub runs : t.runs ≡ space_runs source t.space
 
+-- each space may be alive
+abbrev pub AreLow : List Listed → Type 0
+AreLow = AllByRecursion (λ (t : Listed). t.space ≤ 16)
+
 -- the spaces rise, above a number
 abbrev pub Rise : ℕ → List Listed → Type 0
 Rise before [] = Unit {0}

@@ -3,11 +3,12 @@ use Rattle.std.specs.Prelude.{◌≡◌, ℕ, List, [], ◌∷◌, ◌++◌, len
 use Rattle.sd_pagetable.specs.Contents.{Contents}
 use Rattle.sd_rounds.specs.declared.copied.Copied.{Copied}
 use Rattle.sd_rounds.specs.declared.visit.Visit.{Visit}
-use Rattle.sd_rounds.specs.Pass.{Pass, data_pages}
-use Rattle.sd_rounds.specs.Keeps.{Stored, Chain, Keeps}
+use Rattle.sd_rounds.specs.Pass.{Pass}
+use Rattle.sd_writing.specs.Entries.{data_pages}
+use Rattle.sd_writing.specs.Files.{Stored, listed_pages}
+use Rattle.sd_rounds.specs.Keeps.{Chain, Keeps}
 use Rattle.sd_rounds.specs.Rises.{IsRising}
 use Rattle.sd_rounds.specs.Dump.{IsDumping}
-use Rattle.sd_rounds.specs.Made.{listed_pages}
 use Rattle.sd_rounds.specs.Rounds.{Copies, TakesPage, Tests}
 
 pub record StepLaws : Type 0 where

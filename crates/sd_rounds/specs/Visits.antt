@@ -4,7 +4,8 @@ use Rattle.std.specs.Prelude.{IsSome}
 use Rattle.sd_image.specs.declared.run.RunKind.TheVariants.{Data, Parent, Zero}
 use Rattle.sd_pagetable.specs.Contents.{Contents, page_at}
 use Rattle.sd_pagetable.specs.Order.{IsNextPage}
-use Rattle.sd_rounds.specs.Pass.{Place, Taking, Pass, pages_by, has_passed, opened, visited, copied_more, dropped}
+use Rattle.sd_writing.specs.Entries.{Place, pages_by}
+use Rattle.sd_rounds.specs.Pass.{Taking, Pass, has_passed, opened, visited, copied_more, dropped}
 use Rattle.sd_rounds.specs.Pass.{with_entry}
 
 -- a test and clear, and whether the page was soft-dirty

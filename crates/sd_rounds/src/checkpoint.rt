@@ -14,17 +14,15 @@ ghost use Rattle.sd_rounds.specs.Dumper.{slot_of};
 
 use crate::image_maker::ImageMaker;
 use crate::image_order::ImageOrder;
-use crate::image_progress::ImageProgress;
 use crate::image_step::ImageStep;
 use crate::left::{CLOSE, END, FORMAT, FREEZE, PAGE_AHEAD, pages_ahead};
-use crate::new_image::NewImage;
-use crate::next_image::NextImage;
 use crate::page_buffers::PageBuffers;
 use crate::pass_step::PassStep;
 use crate::progress::Progress;
 use sd_gate::{Outcome, SlotState};
 use sd_image::Kind;
 use sd_pagetable::Memory;
+use sd_writing::{NewImage, NextImage, Written};
 use std::alloc::{AllocError, Global};
 use std::mem;
 
@@ -247,10 +245,10 @@ impl Checkpoint {
             return Progress::Strange;
         };
         match maker.hand_in(outcome, &mut self.buffers) {
-            ImageProgress::Strange => Progress::Strange,
-            ImageProgress::Failed => Progress::Failed,
-            ImageProgress::More => Progress::More,
-            ImageProgress::Opened(image) => self.end_image(image),
+            Written::Strange => Progress::Strange,
+            Written::Failed => Progress::Failed,
+            Written::More => Progress::More,
+            Written::Opened(image) => self.end_image(image),
         }
     }
 

@@ -16,13 +16,13 @@ ghost use Rattle.sd_rounds.specs.Dumper.{pre_dump_slots, serial_of_running};
 
 use crate::checkpoint::Checkpoint;
 use crate::image_step::ImageStep;
-use crate::next_image::NextImage;
 use crate::page_buffers::PageBuffers;
 use crate::pass_step::PassStep;
 use crate::progress::Progress;
 use crate::work_error::WorkError;
 use sd_gate::Outcome;
 use sd_pagetable::Memory;
+use sd_writing::NextImage;
 use std::alloc::Global;
 use std::marker::Model;
 

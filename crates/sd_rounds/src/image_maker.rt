@@ -13,13 +13,12 @@ ghost use Rattle.sd_rounds.specs.Left.{image_left};
 ghost use Rattle.sd_rounds.specs.Making.{Steps, WritesPage, begun_image, header_of, is_frozen_dump};
 ghost use Rattle.sd_rounds.specs.Making.{out_of, stage_when_done};
 ghost use Rattle.sd_rounds.specs.PlanSteps.{HasNoPage, IsPageCallOf, image_step, is_freeze_next};
-ghost use Rattle.sd_rounds.specs.Pass.{data_pages};
+ghost use Rattle.sd_writing.specs.Entries.{data_pages};
 ghost use Rattle.sd_rounds.specs.Room.{ImageTakesMemory};
 ghost use Rattle.sd_rounds.specs.Rounds.{IsCopied};
 ghost use Rattle.sd_rounds.specs.Sound.{IsSoundImage};
 ghost use Rattle.sd_rounds.specs.Waits.{maker_must_wait};
 
-use crate::digests::digest_page;
 use crate::image_order::ImageOrder;
 use crate::image_step::ImageStep;
 use crate::lanes::{LANES, free_lane, writes_out};
@@ -32,6 +31,7 @@ use crate::standing::Standing;
 use sd_gate::{Plan, Request, RequestId, Worker, ask, is_any_out, plan_left};
 use sd_image::{Digester, Header, Kind, Version};
 use sd_pagetable::{Memory, plain_law};
+use sd_writing::digest_page;
 use std::alloc::{AllocError, Global};
 use std::marker::Model;
 

@@ -3,18 +3,13 @@
 
 mod checkpoint;
 mod copied;
-mod digests;
 mod dumper;
-mod entries;
 mod image_maker;
 mod image_order;
-mod image_progress;
 mod image_step;
 mod lanes;
 mod laws;
 mod left;
-mod new_image;
-mod next_image;
 mod page_buffers;
 mod page_copy;
 mod pass_step;
@@ -27,7 +22,6 @@ mod visit;
 mod work_error;
 
 pub use copied::Copied;
-pub use digests::{digest_page, with_digest};
 pub use dumper::Dumper;
 pub use image_step::ImageStep;
 pub use lanes::LANES;
@@ -35,8 +29,6 @@ pub use laws::{
     dump_law, file_law, image_visits_law, keeps_law, left_law, little_law, made_law, making_law,
     rises_law, step_law, visits_law,
 };
-pub use new_image::NewImage;
-pub use next_image::NextImage;
 pub use page_buffers::PageBuffers;
 pub use pass_step::PassStep;
 pub use progress::Progress;

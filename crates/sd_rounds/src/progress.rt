@@ -1,4 +1,4 @@
-use crate::new_image::NewImage;
+use sd_writing::NewImage;
 
 /// What an outcome was to a dumper.
 #[derive(Drop)]

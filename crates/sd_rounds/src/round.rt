@@ -8,17 +8,18 @@ ghost use Rattle.sd_pagetable.specs.Page.{PageState};
 ghost use Rattle.sd_pagetable.specs.Sectors.{sector_bytes};
 ghost use Rattle.sd_pagetable.specs.Tracking.{Cleared, Step};
 ghost use Rattle.sd_rounds.specs.Left.{pass_left};
-ghost use Rattle.sd_rounds.specs.Pass.{Taking, begun_to_take, copied_more, data_pages, dropped, left_to_parent, opened};
+ghost use Rattle.sd_rounds.specs.Pass.{Taking, begun_to_take, copied_more, dropped, left_to_parent, opened};
+ghost use Rattle.sd_writing.specs.Entries.{data_pages};
 ghost use Rattle.sd_rounds.specs.Pass.{place_taken, visited, with_entry};
 ghost use Rattle.sd_rounds.specs.Rises.{IsRising};
 ghost use Rattle.sd_rounds.specs.Room.{LeavesNext};
 ghost use Rattle.sd_rounds.specs.Rounds.{Copies, IsCopied, IsCopying, IsOver, PassStands, TakesPage, Tests};
 ghost use Rattle.sd_rounds.specs.Rounds.{entry_parent, is_page_of_zeros};
-ghost use Rattle.sd_rounds.specs.Tables.{AreTables, entries_in, listed};
+ghost use Rattle.sd_rounds.specs.SpaceTables.{AreLow};
+ghost use Rattle.sd_writing.specs.Tables.{AreTables, entries_in, listed};
 ghost use Rattle.sd_rounds.specs.Waits.{is_over};
 
 use crate::copied::Copied;
-use crate::entries::push_entry;
 use crate::left::{PAGE_AHEAD, WRITE, pages_ahead};
 use crate::page_copy::PageCopy;
 use crate::standing::Standing;
@@ -26,6 +27,7 @@ use crate::visit::Visit;
 use sd_areas::{PAGE_SIZE, PageNo, SpaceId};
 use sd_image::{RunKind, SpaceTable};
 use sd_pagetable::{Memory, SECTOR_SIZE, SECTORS, plain_law};
+use sd_writing::push_entry;
 use std::alloc::{AllocError, Global};
 use std::marker::Model;
 use std::mem;
@@ -84,7 +86,8 @@ impl Round {
 
     /// Its entries, as the runs of each space that has any.
     pub(crate) fn tables(&self) -> &[SpaceTable]
-        ensures are { AreTables (entry_parent self.now.takes_all) 0 (listed result.now) }
+        ensures are { AreTables (entry_parent self.now.takes_all) 1 (listed result.now) }
+        ensures low { AreLow (listed result.now) }
         ensures entries { entries_in result.now ≡ self.now.entries }
     {
         &self.tables

@@ -4,7 +4,7 @@ ghost use Rattle.sd_image.specs.Table.{listing_of, mapped_count};
 ghost use Rattle.sd_pagetable.specs.Contents.{plain_of};
 ghost use Rattle.sd_pagetable.specs.Law.{pages_below};
 ghost use Rattle.sd_rounds.specs.SpaceTables.{AreAllSpaces, AreSpacesBelow, space_runs, without_areas};
-ghost use Rattle.sd_rounds.specs.Tables.{listed};
+ghost use Rattle.sd_writing.specs.Tables.{listed};
 
 use sd_areas::{SPACE_LIMIT, SpaceId};
 use sd_image::{Run, SpaceTable, Table};

@@ -6,7 +6,8 @@ use sd_disk::{Disk, MemDisk};
 use sd_gate::{Request, SlotState, perform};
 use sd_pagetable::Memory;
 use sd_restore::restore;
-use sd_rounds::{Dumper, ImageStep, NextImage, PageBuffers, PassStep, Progress, WorkError};
+use sd_rounds::{Dumper, ImageStep, PageBuffers, PassStep, Progress, WorkError};
+use sd_writing::NextImage;
 use std::alloc::{AllocError, Global};
 
 const SPACE: u64 = 1;

@@ -4,8 +4,10 @@ use sd_chain::{Catalog, PlacedTable};
 use sd_disk::{Disk, MemDisk};
 use sd_gate::{Request, SlotState, perform};
 use sd_image::{Header, Kind, Table, Version};
-use sd_merge::{MergeProgress, MergeStep, Merger, NextImage, Source};
-use sd_rounds::{Dumper, NewImage, PageBuffers};
+use sd_merge::{MergeProgress, MergeStep, Merger, Source};
+use sd_writing::NextImage;
+use sd_rounds::{Dumper, PageBuffers};
+use sd_writing::NewImage;
 use std::alloc::{AllocError, Global};
 
 /// How many slots there are.

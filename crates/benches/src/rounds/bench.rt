@@ -4,7 +4,8 @@ use sd_disk::{Disk, MemDisk};
 use sd_gate::{Request, SlotState, perform};
 use sd_image::GATE;
 use sd_pagetable::{Memory, SECTOR_SIZE, SECTORS};
-use sd_rounds::{Dumper, ImageStep, NextImage, PageBuffers, Progress};
+use sd_rounds::{Dumper, ImageStep, PageBuffers, Progress};
+use sd_writing::NextImage;
 use std::alloc::{AllocError, Global};
 
 /// How many pages are mapped.

@@ -21,7 +21,8 @@ use sd_command::{Refusal, Reply};
 use sd_crash_safety::{Standing, merger_steps};
 use sd_free_slots::{ListRoom, free_law};
 use sd_gate::{Outcome, Worker};
-use sd_merge::{MergeProgress, MergeStep, NextImage, Source};
+use sd_merge::{MergeProgress, MergeStep, Source};
+use sd_writing::NextImage;
 
 impl Core {
     /// Why a merge can't begin, before its slot is looked for.

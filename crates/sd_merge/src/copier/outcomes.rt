@@ -1,18 +1,17 @@
 //! Outcomes that are handed to a merged image in the making.
 ghost use Rattle.std.specs.Prelude.{◌≡◌, ◌↔◌, [], None, Some, IsTrue};
 ghost use Rattle.sd_gate.specs.PlanUse.{IsUnderWay};
-ghost use Rattle.sd_rounds.specs.Pass.{data_pages};
+ghost use Rattle.sd_writing.specs.Entries.{data_pages};
 ghost use Rattle.sd_merge.specs.declared.stage.Stage.TheVariants.{Close, Format, PageWrite, Pass as PassStage};
 ghost use Rattle.sd_merge.specs.Copying.{HandsIn, out_of};
 ghost use Rattle.sd_merge.specs.PlanSteps.{at_stage};
 
 use super::{Copier, read_of};
-use crate::copy_progress::CopyProgress;
 use crate::stage::{Stage, put_stage};
 use sd_chain::PlacedTable;
 use sd_gate::{Outcome, Plan, RequestId, Settled, settle};
 use sd_image::Header;
-use sd_rounds::NewImage;
+use sd_writing::{NewImage, Written};
 use std::mem;
 
 impl Copier {
@@ -30,22 +29,22 @@ impl Copier {
     }
 
     /// Takes the outcome of the request that is out.
-    pub(crate) fn hand_in(&mut self, outcome: Outcome) -> CopyProgress
+    pub(crate) fn hand_in(&mut self, outcome: Outcome) -> Written
         ensures { HandsIn self.old outcome result self.new }
     {
         if !self.is_out(&outcome.id()) {
-            return CopyProgress::Strange;
+            return Written::Strange;
         }
         match mem::replace(&mut self.stage, Stage::Pass) {
             Stage::Format(plan) => self.end_format(plan, outcome),
             Stage::PageRead(plan) => match read_of(plan, outcome) {
                 Some(buffer) => {
                     self.read = Some(buffer);
-                    CopyProgress::More
+                    Written::More
                 }
                 None => {
                     self.taking = None;
-                    CopyProgress::Failed
+                    Written::Failed
                 }
             },
             Stage::PageWrite(plan) => self.end_page(plan, outcome),
@@ -59,7 +58,7 @@ impl Copier {
     }
 
     /// Takes the outcome of a call of the format.
-    pub(super) fn end_format(&mut self, mut plan: Plan, outcome: Outcome) -> CopyProgress
+    pub(super) fn end_format(&mut self, mut plan: Plan, outcome: Outcome) -> Written
         requires stage { self.old.stage ≡ PassStage }
         requires fresh { self.old.entries ≡ [] }
         requires free { self.old.taking ≡ None }
@@ -69,17 +68,17 @@ impl Copier {
         ensures { HandsIn (at_stage self.old (Format plan)) outcome result self.new }
     {
         match settle(&mut plan, outcome) {
-            Settled::Strange | Settled::Failed => CopyProgress::Failed,
+            Settled::Strange | Settled::Failed => Written::Failed,
             Settled::More => {
                 put_stage(&mut self.stage, Stage::Format(plan));
-                CopyProgress::More
+                Written::More
             }
-            Settled::Finished => CopyProgress::More,
+            Settled::Finished => Written::More,
         }
     }
 
     /// Takes the outcome of a page's write, and keeps its buffer for the next.
-    pub(super) fn end_page(&mut self, mut plan: Plan, outcome: Outcome) -> CopyProgress
+    pub(super) fn end_page(&mut self, mut plan: Plan, outcome: Outcome) -> Written
         requires stage { self.old.stage ≡ PassStage }
         requires free { self.old.taking ≡ None }
         requires under_way { IsUnderWay plan }
@@ -88,17 +87,17 @@ impl Copier {
         ensures { HandsIn (at_stage self.old (PageWrite plan)) outcome result self.new }
     {
         match settle(&mut plan, outcome) {
-            Settled::Strange | Settled::Failed => CopyProgress::Failed,
+            Settled::Strange | Settled::Failed => Written::Failed,
             Settled::More => {
                 put_stage(&mut self.stage, Stage::PageWrite(plan));
-                CopyProgress::More
+                Written::More
             }
             Settled::Finished => {
                 let sd_gate::Found { first, .. } = plan.into_found();
                 if let Some(buffer) = first {
                     self.spare = buffer;
                 }
-                CopyProgress::More
+                Written::More
             }
         }
     }
@@ -110,7 +109,7 @@ impl Copier {
         header: Header,
         table: PlacedTable,
         outcome: Outcome,
-    ) -> CopyProgress
+    ) -> Written
         requires stage { self.old.stage ≡ PassStage }
         requires free { self.old.taking ≡ None }
         requires pages { header.pages ≡ data_pages self.old.entries }
@@ -120,7 +119,7 @@ impl Copier {
         ensures { HandsIn (at_stage self.old (Close plan header table)) outcome result self.new }
     {
         match settle(&mut plan, outcome) {
-            Settled::Strange | Settled::Failed => CopyProgress::Failed,
+            Settled::Strange | Settled::Failed => Written::Failed,
             Settled::More => {
                 let stage = Stage::Close {
                     plan,
@@ -128,9 +127,9 @@ impl Copier {
                     table,
                 };
                 put_stage(&mut self.stage, stage);
-                CopyProgress::More
+                Written::More
             }
-            Settled::Finished => CopyProgress::Opened(NewImage {
+            Settled::Finished => Written::Opened(NewImage {
                 slot: self.order.slot,
                 header,
                 table,

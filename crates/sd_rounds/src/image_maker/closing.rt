@@ -11,19 +11,18 @@ ghost use Rattle.sd_gate.specs.declared.worker.Worker.TheVariants.{Dumper};
 ghost use Rattle.sd_gate.specs.PlanUse.{IsAskedBy};
 ghost use Rattle.sd_rounds.specs.Making.{HasTable, WritesTable, header_of};
 ghost use Rattle.sd_rounds.specs.PlanSteps.{IsTableCallOf};
-ghost use Rattle.sd_rounds.specs.Pass.{data_pages};
+ghost use Rattle.sd_writing.specs.Entries.{data_pages};
 ghost use Rattle.sd_rounds.specs.Writes.{no_writes};
 
 use super::{ImageMaker, own_header};
-use crate::digests::with_digest;
 use crate::image_step::ImageStep;
-use crate::laws::made_law;
 use crate::stage::Stage;
 use crate::tables::{dump_table, pre_dump_table};
 use sd_chain::PlacedTable;
 use sd_gate::{Plan, Worker, ask};
 use sd_image::{Digester, Header, Kind, Table, encode_table};
 use sd_pagetable::{Memory, plain_law};
+use sd_writing::{entries_law, with_digest};
 use std::alloc::AllocError;
 
 impl ImageMaker {
@@ -61,7 +60,7 @@ impl ImageMaker {
             (map listing_of table.spaces.items)) }
     {
         plain_law();
-        made_law();
+        entries_law();
         match self.order.kind {
             Kind::PreDump => pre_dump_table(self.alloc, self.round.tables()),
             Kind::Dump | Kind::Merged => dump_table(self.alloc, self.round.tables(), memory),

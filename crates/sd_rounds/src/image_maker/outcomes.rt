@@ -4,17 +4,17 @@ ghost use Rattle.sd_rounds.specs.declared.stage.Stage.TheVariants.{Close, Format
 ghost use Rattle.sd_gate.specs.PlanUse.{IsUnderWay};
 ghost use Rattle.sd_rounds.specs.Making.{HandsIn, out_of};
 ghost use Rattle.sd_rounds.specs.PlanSteps.{at_stage};
-ghost use Rattle.sd_rounds.specs.Pass.{data_pages, opened};
+ghost use Rattle.sd_writing.specs.Entries.{data_pages};
+ghost use Rattle.sd_rounds.specs.Pass.{opened};
 ghost use Rattle.sd_rounds.specs.Writes.{no_writes};
 
 use super::{ImageMaker, behind_format};
-use crate::image_progress::ImageProgress;
-use crate::new_image::NewImage;
 use crate::page_buffers::PageBuffers;
 use crate::stage::{Stage, put_stage};
 use sd_chain::PlacedTable;
 use sd_gate::{Outcome, Plan, RequestId, Settled, lane_of, settle};
 use sd_image::Header;
+use sd_writing::{NewImage, Written};
 use std::mem;
 
 impl ImageMaker {
@@ -30,7 +30,7 @@ impl ImageMaker {
     }
 
     /// Takes the outcome of a request that is out. The buffer of a page that was written is spare again.
-    pub(crate) fn hand_in(&mut self, outcome: Outcome, buffers: &mut PageBuffers) -> ImageProgress
+    pub(crate) fn hand_in(&mut self, outcome: Outcome, buffers: &mut PageBuffers) -> Written
         ensures { HandsIn self.old outcome result self.new }
     {
         let id = outcome.id();
@@ -38,7 +38,7 @@ impl ImageMaker {
             return self.end_page(lane, outcome, buffers);
         }
         if !self.is_out(&id) {
-            return ImageProgress::Strange;
+            return Written::Strange;
         }
         match mem::replace(&mut self.stage, Stage::Pass) {
             Stage::Format(plan) => self.end_format(plan, outcome),
@@ -52,7 +52,7 @@ impl ImageMaker {
     }
 
     /// Takes the outcome of a call of the format. After the last a dump freezes the memory.
-    pub(super) fn end_format(&mut self, mut plan: Plan, outcome: Outcome) -> ImageProgress
+    pub(super) fn end_format(&mut self, mut plan: Plan, outcome: Outcome) -> Written
         requires stage { self.old.stage ≡ PassStage }
         requires fresh { self.old.pass ≡ opened (self.old.order.parent == 0) }
         requires rests { self.old.writes ≡ no_writes }
@@ -61,14 +61,14 @@ impl ImageMaker {
         ensures { HandsIn (at_stage self.old (Format plan)) outcome result self.new }
     {
         match settle(&mut plan, outcome) {
-            Settled::Strange | Settled::Failed => ImageProgress::Failed,
+            Settled::Strange | Settled::Failed => Written::Failed,
             Settled::More => {
                 put_stage(&mut self.stage, Stage::Format(plan));
-                ImageProgress::More
+                Written::More
             }
             Settled::Finished => {
                 self.stage = behind_format(self.order.kind);
-                ImageProgress::More
+                Written::More
             }
         }
     }
@@ -79,7 +79,7 @@ impl ImageMaker {
         lane: usize,
         outcome: Outcome,
         buffers: &mut PageBuffers,
-    ) -> ImageProgress
+    ) -> Written
         requires out { slice_get self.old.writes lane ≡ Some (Some outcome.request.id) }
         requires within { lane < 8 }
         ensures { HandsIn self.old outcome result self.new }
@@ -89,11 +89,7 @@ impl ImageMaker {
         if let Some(buffer) = outcome.into_buffer() {
             buffers.give(buffer);
         }
-        if done {
-            ImageProgress::More
-        } else {
-            ImageProgress::Failed
-        }
+        if done { Written::More } else { Written::Failed }
     }
 
     /// Takes the outcome of a call that closes the body. After the last the image is open.
@@ -103,7 +99,7 @@ impl ImageMaker {
         header: Header,
         table: PlacedTable,
         outcome: Outcome,
-    ) -> ImageProgress
+    ) -> Written
         requires stage { self.old.stage ≡ PassStage }
         requires pages { header.pages ≡ data_pages self.old.pass.entries }
         requires rests { self.old.writes ≡ no_writes }
@@ -112,7 +108,7 @@ impl ImageMaker {
         ensures { HandsIn (at_stage self.old (Close plan header table)) outcome result self.new }
     {
         match settle(&mut plan, outcome) {
-            Settled::Strange | Settled::Failed => ImageProgress::Failed,
+            Settled::Strange | Settled::Failed => Written::Failed,
             Settled::More => {
                 let stage = Stage::Close {
                     plan,
@@ -120,9 +116,9 @@ impl ImageMaker {
                     table,
                 };
                 put_stage(&mut self.stage, stage);
-                ImageProgress::More
+                Written::More
             }
-            Settled::Finished => ImageProgress::Opened(NewImage {
+            Settled::Finished => Written::Opened(NewImage {
                 slot: self.order.slot,
                 header,
                 table,

@@ -1,5 +1,5 @@
 use Rattle.std.proofs.Common.{◌≡◌, ◌++◌, drop}
-use Rattle.sd_rounds.specs.Tables.{listed}
+use Rattle.sd_writing.specs.Tables.{listed}
 use Rattle.sd_merge.specs.Gathered.{tables_of}
 use Rattle.sd_merge.proofs.gathered.gathered_table.Given as goal
 

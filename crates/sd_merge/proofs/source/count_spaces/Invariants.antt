@@ -1,5 +1,5 @@
 use Rattle.std.proofs.Common.{◌≡◌, ◌+◌, ◌≤◌, drop}
-use Rattle.sd_rounds.specs.Tables.{listed}
+use Rattle.sd_writing.specs.Tables.{listed}
 use Rattle.sd_merge.specs.Sources.{few_pages, listed_count}
 use Rattle.sd_merge.proofs.source.count_spaces.Given as goal
 

@@ -3,7 +3,7 @@ use Rattle.sd_image.specs.Table.{mapped_count}
 use Rattle.sd_pagetable.specs.Contents.{plain_of}
 use Rattle.sd_pagetable.specs.Law.{pages_below}
 use Rattle.sd_rounds.specs.SpaceTables.{AreSpacesBelow}
-use Rattle.sd_rounds.specs.Tables.{listed}
+use Rattle.sd_writing.specs.Tables.{listed}
 use Rattle.sd_rounds.proofs.tables.dump_table.Given as goal
 
 -- the spaces below this number were added

@@ -5,7 +5,7 @@ use Rattle.sd_areas.specs.Areas.{AreAreasOf}
 use Rattle.sd_image.specs.Table.{Listed, listing_of, mapped_count}
 use Rattle.sd_pagetable.specs.Contents.{plain_of}
 use Rattle.sd_rounds.specs.SpaceTables.{AreSpacesBelow, IsSpaceOf}
-use Rattle.sd_rounds.specs.Tables.{listed}
+use Rattle.sd_writing.specs.Tables.{listed}
 use Rattle.sd_rounds.proofs.SpaceTableLemmas.{HasOwnTable, has_table, no_table, same_prot, nothing_more, one_table_more, count_of_none, count_of_table}
 use Rattle.sd_rounds.proofs.tables.push_living.Goals as goal
 

@@ -1,6 +1,6 @@
 use Rattle.std.proofs.Common.{◌≡◌, drop}
 use Rattle.sd_rounds.specs.SpaceTables.{space_runs}
-use Rattle.sd_rounds.specs.Tables.{listed}
+use Rattle.sd_writing.specs.Tables.{listed}
 use Rattle.sd_rounds.proofs.tables.runs_in.Given as goal
 
 -- none of the tables that came so far has the space

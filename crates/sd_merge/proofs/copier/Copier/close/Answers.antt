@@ -9,7 +9,7 @@ use Rattle.sd_chain.specs.Catalog.{place_of}
 use Rattle.sd_gate.specs.Inspections.{nothing}
 use Rattle.sd_gate.specs.Plans.{Gives, Planned, begun}
 use Rattle.sd_gate.specs.Sequences.{IsBody, body_calls}
-use Rattle.sd_rounds.specs.Pass.{data_pages}
+use Rattle.sd_writing.specs.Entries.{data_pages}
 use Rattle.sd_merge.specs.declared.stage.Stage.TheVariants.{Close}
 use Rattle.sd_merge.specs.Copying.{Copying, header_of}
 use Rattle.sd_merge.specs.Gathered.{IsTableOf}

@@ -4,7 +4,7 @@ use Rattle.sd_chain.specs.declared.found.Found.{Found}
 use Rattle.sd_chain.specs.declared.found.Found.TheVariants as found
 use Rattle.sd_chain.specs.Passes.{IsAfterPlace}
 use Rattle.sd_chain.specs.Ways.{LiesBySerial}
-use Rattle.sd_rounds.specs.Pass.{Place}
+use Rattle.sd_writing.specs.Entries.{Place}
 use Rattle.sd_merge.specs.Copying.{Copying, cursor}
 use Rattle.sd_merge.proofs.PassLemmas.{lost_ahead, lost_behind, lost_chain, never_beyond, never_there, placed, read_step, zero_step}
 use Rattle.sd_merge.proofs.copier.Copier.take.Goals as goal

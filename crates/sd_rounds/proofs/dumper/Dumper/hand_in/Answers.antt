@@ -1,7 +1,7 @@
 use Rattle.std.proofs.Common.{◌+◌, Option, sym, ◌∙◌, ap, subst, arith}
 use Rattle.std.specs.Option.{option_map}
 use Rattle.sd_rounds.specs.declared.checkpoint.Checkpoint.{Checkpoint}
-use Rattle.sd_rounds.specs.Dumper.{AreRunning, IsRunning, ends, running_of}
+use Rattle.sd_rounds.specs.Dumper.{AreRunning, IsRunning, running_of}
 use Rattle.sd_rounds.proofs.DumperLemmas.{counted_one, ended, goes_on, handed, hands_running, same_dumping}
 use Rattle.sd_rounds.proofs.PassStepLemmas.{its_running}
 use Rattle.sd_rounds.proofs.dumper.Dumper.hand_in.Goals as goal

@@ -1,6 +1,6 @@
-use Rattle.std.proofs.Common.{◌≡◌, Option, Some, sym, ◌∙◌, ap}
+use Rattle.std.proofs.Common.{Option, sym, ◌∙◌, ap}
 use Rattle.std.specs.Option.{option_map}
-use Rattle.sd_rounds.specs.Dumper.{Dumping, Running, running_of}
+use Rattle.sd_rounds.specs.Dumper.{Running, running_of}
 use Rattle.sd_rounds.proofs.PassStepLemmas.{its_running, found_running, found_passes}
 use Rattle.sd_rounds.proofs.dumper.Dumper.pass.Goals as goal
 

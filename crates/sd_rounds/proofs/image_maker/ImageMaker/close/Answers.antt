@@ -1,5 +1,5 @@
 use Rattle.std.proofs.Common.{arith}
-use Rattle.sd_rounds.proofs.ImageTableLemmas.{table_is_long}
+use Rattle.sd_writing.proofs.EntryLemmas.{table_is_long}
 use Rattle.sd_gate.proofs.UseLemmas.{body_under_way, gives_under_way}
 use Rattle.sd_rounds.proofs.PlanLemmas.{is_body}
 use Rattle.sd_rounds.proofs.image_maker.ImageMaker.close.Goals as goal

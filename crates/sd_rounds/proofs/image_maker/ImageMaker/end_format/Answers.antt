@@ -1,9 +1,7 @@
-use Rattle.std.proofs.Common.{◌≡◌, ap, sym, subst, ◌∙◌, nat_eq}
+use Rattle.std.proofs.Common.{ap, sym, subst, ◌∙◌, nat_eq}
 use Rattle.sd_rounds.specs.declared.stage.Stage.{Stage}
-use Rattle.sd_rounds.specs.declared.stage.Stage.TheVariants.{Pass as PassStage}
 use Rattle.sd_rounds.specs.Making.{IsMaking, Making}
 use Rattle.sd_rounds.specs.Pass.{opened}
-use Rattle.sd_rounds.specs.Writes.{no_writes}
 use Rattle.sd_rounds.proofs.StageLemmas.{behind_made}
 use Rattle.sd_rounds.proofs.image_maker.ImageMaker.end_format.Goals as goal
 

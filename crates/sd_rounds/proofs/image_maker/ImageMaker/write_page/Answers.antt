@@ -4,7 +4,8 @@ use Rattle.sd_gate.specs.declared.request_id.RequestId.{RequestId}
 use Rattle.sd_rounds.specs.declared.stage.Stage.{Stage}
 use Rattle.sd_rounds.specs.declared.stage.Stage.TheVariants.{Pass as PassStage}
 use Rattle.sd_rounds.specs.Making.{IsReadyFor, Making, is_passing}
-use Rattle.sd_rounds.specs.Pass.{Pass, data_pages}
+use Rattle.sd_rounds.specs.Pass.{Pass}
+use Rattle.sd_writing.specs.Entries.{data_pages}
 use Rattle.sd_rounds.specs.Writes.{AreWrites, IsPageWrite}
 use Rattle.sd_rounds.proofs.MakingLemmas.{take_counts}
 use Rattle.sd_rounds.proofs.WriteLemmas.{one_more}

@@ -1,4 +1,4 @@
-use Rattle.std.proofs.Common.{true, ◌==◌, sym, ◌∙◌, ap, arith}
+use Rattle.std.proofs.Common.{◌==◌, sym, ◌∙◌, ap, arith}
 use Rattle.sd_rounds.proofs.PageCopyLemmas.{more_zeros, zeros_more, is_bare}
 use Rattle.sd_rounds.proofs.page_copy.PageCopy.add.Goals as goal
 

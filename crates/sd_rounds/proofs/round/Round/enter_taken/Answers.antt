@@ -24,7 +24,7 @@ invariant_of-self-2 c =
     let within = c.self.invariant.spaces (c.args.space, c.args.page) cursor in
     entered_round c.self.inside.takes_all c.self.inside.tables.items c.push_entry.new.tables.items c.self.inside.after c.self.inside.taking c.self.inside.copy
     (c.args.space, c.args.page) c.args.kind c.self.invariant is
-    (c.in_ok-push_entry.ensures.more (entry_parent c.self.inside.takes_all) c.self.invariant.are (λ e. absurd (c.requires.own e)) within.0 within.1)
+    (c.in_ok-push_entry.ensures.more (entry_parent c.self.inside.takes_all) 1 c.self.invariant.are (λ e. absurd (c.requires.own e)) within.0)
 
 pub returns-clause-entered : goal.returns-clause-entered
 returns-clause-entered c =
@@ -36,5 +36,5 @@ returns-clause-entered c =
     let within = c.self.invariant.spaces (c.args.space, c.args.page) cursor in
     entered_view c.self.inside.takes_all c.self.inside.tables.items c.push_entry.new.tables.items c.self.inside.after c.self.inside.taking c.self.inside.copy
     (c.args.space, c.args.page) c.args.kind (entry_parent c.self.inside.takes_all)
-    (c.in_ok-push_entry.ensures.more (entry_parent c.self.inside.takes_all) c.self.invariant.are (λ e. absurd (c.requires.own e)) within.0 within.1)
+    (c.in_ok-push_entry.ensures.more (entry_parent c.self.inside.takes_all) 1 c.self.invariant.are (λ e. absurd (c.requires.own e)) within.0)
     ∙ ap (λ (p : Pass). with_entry p (c.args.space, c.args.page) c.args.kind) c.self.view_is

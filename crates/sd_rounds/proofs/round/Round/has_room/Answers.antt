@@ -1,7 +1,8 @@
 use Rattle.std.proofs.Common.{◌<◌, ◌^◌, subst}
-use Rattle.sd_rounds.specs.Pass.{Pass, Place, data_pages}
+use Rattle.sd_rounds.specs.Pass.{Pass}
+use Rattle.sd_writing.specs.Entries.{Place, data_pages}
 use Rattle.sd_rounds.specs.Rounds.{entry_parent}
-use Rattle.sd_rounds.specs.Tables.{listed}
+use Rattle.sd_writing.specs.Tables.{listed}
 use Rattle.sd_rounds.proofs.RoomLemmas.{has_room}
 use Rattle.sd_rounds.proofs.RoundLemmas.{at_cursor, ends_taken}
 use Rattle.sd_rounds.proofs.round.Round.has_room.Goals as goal

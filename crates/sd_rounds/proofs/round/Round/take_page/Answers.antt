@@ -19,7 +19,7 @@ invariant_of-self-2 c =
     other_round c.self.inside.takes_all c.push_entry.new.tables.items c.self.inside.after _ c.self.inside.copy c.replace.new.dest refl
     (entered_round c.self.inside.takes_all c.self.inside.tables.items c.push_entry.new.tables.items c.self.inside.after c.self.inside.taking c.self.inside.copy
     (c.in-Some.space, c.in-Some.page) Data c.self.invariant c.in-Some.is
-    (c.in_ok-push_entry.ensures.more (entry_parent c.self.inside.takes_all) c.self.invariant.are (λ e. absurd (data_is_own e)) within.0 within.1))
+    (c.in_ok-push_entry.ensures.more (entry_parent c.self.inside.takes_all) 1 c.self.invariant.are (λ e. absurd (data_is_own e)) within.0))
 
 pub returns-clause-taken : goal.returns-clause-taken
 returns-clause-taken c =
@@ -29,4 +29,4 @@ returns-clause-taken c =
     takes_page c.self.inside.takes_all c.self.inside.tables.items c.push_entry.new.tables.items c.self.inside.after c.self.inside.taking c.self.inside.copy
     c.replace.new.dest c.into_buffer.result.items (c.in-Some.space, c.in-Some.page) (entry_parent c.self.inside.takes_all) c.args.self.now
     c.self.view_is c.self.invariant c.requires c.in-Some.is (c.into_buffer.ensures ∙ c.replace.ensures.value)
-    (c.in_ok-push_entry.ensures.more (entry_parent c.self.inside.takes_all) c.self.invariant.are (λ e. absurd (data_is_own e)) within.0 within.1)
+    (c.in_ok-push_entry.ensures.more (entry_parent c.self.inside.takes_all) 1 c.self.invariant.are (λ e. absurd (data_is_own e)) within.0)

@@ -1,25 +1,24 @@
 -- The entries of an image, kept as the runs of each space that has any.
 use Rattle.std.specs.Prelude.{◌≡◌, ◌≢◌, ◌⊎◌, ℕ, ◌+◌, ◌<◌, ◌≤◌, List, [], ◌∷◌, ◌++◌, map, None}
 use Rattle.std.specs.List.{AllByRecursion}
+use Rattle.sd_image.specs.declared.header.Header.{Header}
 use Rattle.sd_image.specs.declared.run.RunKind.{RunKind}
 use Rattle.sd_image.specs.declared.table.SpaceTable.{SpaceTable}
 use Rattle.sd_image.specs.Runs.{AreRunsOf, IsSourced, end_of}
-use Rattle.sd_image.specs.Table.{AreRuns, Listed, listing_of}
-use Rattle.sd_rounds.specs.Pass.{Place, ImageEntry}
-use Rattle.sd_rounds.specs.Made.{entries_listed}
+use Rattle.sd_image.specs.Table.{AreRuns, IsTable, Listed, listing_of}
+use Rattle.sd_writing.specs.Entries.{ImageEntry, Lists, Place, entries_listed}
 
--- the entries of a space, after those of the space before: maximal runs, where the image's parent has this number
-pub record IsTableAfter (parent before : ℕ) (t : Listed) : Type 0 where
-  pub above : before < t.space
-  pub within : t.space ≤ 16
+-- the entries of a space at a number or above it: maximal runs, where the image's parent has this number
+pub record IsTableFrom (parent least : ℕ) (t : Listed) : Type 0 where
+  pub from : least ≤ t.space
   pub no_areas : t.areas ≡ []
   pub runs : AreRuns parent None t.runs
   pub some : t.runs ≢ []
 
 -- spaces rising by number
 abbrev pub AreTables : ℕ → ℕ → List Listed → Type 0
-AreTables parent before [] = Unit {0}
-AreTables parent before (t ∷ tables) = IsTableAfter parent before t × AreTables parent t.space tables
+AreTables parent least [] = Unit {0}
+AreTables parent least (t ∷ tables) = IsTableFrom parent least t × AreTables parent (t.space + 1) tables
 
 -- a space's entries end before a place
 abbrev pub EndsBefore : Place → Listed → Type 0
@@ -38,9 +37,9 @@ abbrev pub entries_in : List SpaceTable → List ImageEntry
 entries_in tables = entries_listed (listed tables)
 
 -- a page was put after the entries
-pub record IsPushed (parent : ℕ) (old new : List Listed) (at : Place) (kind : RunKind) : Type 0 where
+pub record IsPushed (parent least : ℕ) (old new : List Listed) (at : Place) (kind : RunKind) : Type 0 where
   pub entries : entries_listed new ≡ entries_listed old ++ (record { place = at; kind = kind }) ∷ []
-  pub tables : AreTables parent 0 new
+  pub tables : AreTables parent least new
   pub ends : EndBefore (at.0, at.1 + 1) new
 
 -- a space with one page was put after the others
@@ -51,3 +50,8 @@ pub record SpaceIsBegun (old new : List SpaceTable) (at : Place) (kind : RunKind
   pub areas : table.areas.items ≡ []
   pub runs : (parent : ℕ) → IsSourced parent kind → AreRunsOf parent ((at.1, kind) ∷ []) table.runs.items
   pub end : end_of table.runs.items ≡ at.1 + 1
+
+-- a table with these entries
+pub record TablesEntries (entries : List ImageEntry) (header : Header) (tables : List Listed) : Type 0 where
+  pub lists : Lists entries tables
+  pub is : IsTable header tables

@@ -2,7 +2,7 @@ use crate::new_image::NewImage;
 
 /// What an outcome was to an image in the making.
 #[derive(Drop)]
-pub enum ImageProgress {
+pub enum Written {
     /// It is of no request that is out. Nothing changed.
     Strange,
     /// The device failed: the image makes no further call.

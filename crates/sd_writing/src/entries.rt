@@ -3,7 +3,7 @@ ghost use Rattle.std.specs.Prelude.{◌≡◌, ◌-◌, ◌==◌, ℕ, ◌≤◌
 ghost use Rattle.std.specs.Option.{option_map_or};
 ghost use Rattle.sd_image.specs.declared.table.SpaceTable.{SpaceTable};
 ghost use Rattle.sd_image.specs.Runs.{IsSourced};
-ghost use Rattle.sd_rounds.specs.Tables.{AreTables, EndBefore, IsPushed, SpaceIsBegun, listed};
+ghost use Rattle.sd_writing.specs.Tables.{AreTables, EndBefore, IsPushed, SpaceIsBegun, listed};
 
 use sd_areas::{PageNo, SpaceId};
 use sd_image::{RunKind, SpaceTable, push_page};
@@ -15,7 +15,7 @@ use std::alloc::{AllocError, Global};
 ///
 /// Out of memory where a run or a table finds no room: the entries stay.
 #[inline]
-pub(crate) fn push_entry(
+pub fn push_entry(
     alloc: Global,
     tables: &mut Vec<SpaceTable>,
     space: SpaceId,
@@ -23,9 +23,9 @@ pub(crate) fn push_entry(
     kind: RunKind,
 ) -> Result<(), AllocError>
     requires behind { EndBefore (space, page) (listed tables.old.items) }
-    ensures more { (parent : ℕ) → AreTables parent 0 (listed tables.old.items)
-        → IsSourced parent kind → 1 ≤ space → space ≤ 16
-        → OnOk result (IsPushed parent (listed tables.old.items) (listed tables.new.items)
+    ensures more { (parent least : ℕ) → AreTables parent least (listed tables.old.items)
+        → IsSourced parent kind → least ≤ space
+        → OnOk result (IsPushed parent least (listed tables.old.items) (listed tables.new.items)
         (space, page) kind) }
     ensures err { OnErr result (listed tables.new.items ≡ listed tables.old.items) }
 {

@@ -3,9 +3,9 @@ use Rattle.std.specs.List.{flat_map}
 use Rattle.std.proofs.lemmas.Result.{on_ok_weaker, on_err_weaker}
 use Rattle.sd_image.specs.declared.table.SpaceTable.{SpaceTable}
 use Rattle.sd_image.specs.Runs.{run_ways}
-use Rattle.sd_rounds.specs.Tables.{AreTables, EndBefore, IsPushed, listed}
-use Rattle.sd_rounds.proofs.TableLemmas.{IsLast, begun_table, end_in, last_is, longer_table, last_ends, last_runs, on_ok_both, same_listed}
-use Rattle.sd_rounds.proofs.entries.push_entry.Goals as goal
+use Rattle.sd_writing.specs.Tables.{AreTables, EndBefore, IsPushed, listed}
+use Rattle.sd_writing.proofs.TableLemmas.{IsLast, begun_table, end_in, last_is, longer_table, last_ends, last_runs, on_ok_both, same_listed}
+use Rattle.sd_writing.proofs.entries.push_entry.Goals as goal
 
 pub returns-then-not-end_in-clause-more : goal.returns-then-not-end_in-clause-more
 returns-then-not-end_in-clause-more c = grind (arith, end_in, on_ok_weaker, begun_table)
@@ -22,22 +22,22 @@ push_page-requires c =
     }
 
 pub returns-clause-more : goal.returns-clause-more
-returns-clause-more c = λ parent are sourced least within.
+returns-clause-more c = λ parent least are sourced above.
     let there : end_in c.args.tables.now.items c.args.space ≡ true = ap (λ l. end_in l c.args.space) (sym c.deref.ensures.value) ∙ sym c.end_in.ensures ∙ c.if-not-end_in.false in
     let old : SpaceTable = c.index_mut-last.result.now in
     let new : SpaceTable = record { space = old.space; areas = old.areas; runs = c.push_page.new.runs } in
     let last : IsLast c.args.tables.now.items c.args.space (c.len-place.result - 1) old =
     last_is c.args.tables.now.items c.args.space (c.len-place.result - 1) old
     (ap (λ n. n - 1) (c.len-place.ensures ∙ c.args.tables.now.ok.0)) there c.index_mut-last.ensures.value in
-    let was : AreTables parent 0 (listed (last.front ++ old ∷ [])) = subst (λ (l : List SpaceTable). AreTables parent 0 (listed l)) last.is are in
+    let was : AreTables parent least (listed (last.front ++ old ∷ [])) = subst (λ (l : List SpaceTable). AreTables parent least (listed l)) last.is are in
     on_ok_weaker c.push_page.result
-    (λ both. subst (λ (l : List SpaceTable). IsPushed parent (listed c.args.tables.now.items) (listed l) (c.args.space, c.args.page) c.args.kind) (sym (last.put new))
-    (subst (λ (l : List SpaceTable). IsPushed parent (listed l) (listed (last.front ++ new ∷ [])) (c.args.space, c.args.page) c.args.kind) (sym last.is)
-    (longer_table parent last.front old new (c.args.space, c.args.page) c.args.kind was
+    (λ both. subst (λ (l : List SpaceTable). IsPushed parent least (listed c.args.tables.now.items) (listed l) (c.args.space, c.args.page) c.args.kind) (sym (last.put new))
+    (subst (λ (l : List SpaceTable). IsPushed parent least (listed l) (listed (last.front ++ new ∷ [])) (c.args.space, c.args.page) c.args.kind) (sym last.is)
+    (longer_table parent least last.front old new (c.args.space, c.args.page) c.args.kind was
     (subst (λ (l : List SpaceTable). EndBefore (c.args.space, c.args.page) (listed l)) last.is c.requires.behind)
     last.here refl refl both.0 both.1)))
     (on_ok_both _ _ c.push_page.result
-    (c.push_page.ensures.more parent (flat_map run_ways old.runs.items) (record { maximal = last_runs parent last.front old was; list = refl }) sourced)
+    (c.push_page.ensures.more parent (flat_map run_ways old.runs.items) (record { maximal = last_runs parent least last.front old was; list = refl }) sourced)
     c.push_page.ensures.end)
 
 pub returns-clause-err : goal.returns-clause-err

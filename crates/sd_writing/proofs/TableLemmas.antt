@@ -9,28 +9,27 @@ use Rattle.sd_image.specs.declared.run.RunKind.{RunKind}
 use Rattle.sd_image.specs.declared.table.SpaceTable.{SpaceTable}
 use Rattle.sd_image.specs.Runs.{PageWay, AreRunsOf, IsSourced, end_of, run_ways}
 use Rattle.sd_image.specs.Table.{AreRuns, Listed, listing_of, run_pages}
-use Rattle.sd_rounds.specs.Pass.{Place, ImageEntry}
-use Rattle.sd_rounds.specs.Made.{entries_listed, run_entries}
-use Rattle.sd_rounds.specs.Tables.{IsTableAfter, AreTables, EndsBefore, EndBefore, IsPushed, SpaceIsBegun, listed}
+use Rattle.sd_writing.specs.Entries.{Place, ImageEntry, entries_listed, run_entries}
+use Rattle.sd_writing.specs.Tables.{IsTableFrom, AreTables, EndsBefore, EndBefore, IsPushed, SpaceIsBegun, listed}
 
 -- ---- a table more
 
-abbrev pub last_space : ℕ → List Listed → ℕ
-last_space before [] = before
-last_space before (t ∷ tables) = last_space t.space tables
+abbrev pub next_least : ℕ → List Listed → ℕ
+next_least least [] = least
+next_least least (t ∷ tables) = next_least (t.space + 1) tables
 
-pub tables_front : (parent before : ℕ) (tables : List Listed) (t : Listed) → AreTables parent before (tables ++ t ∷ []) → AreTables parent before tables
-tables_front parent before [] t are = tt
-tables_front parent before (s ∷ tables) t are = (are.0, tables_front parent s.space tables t are.1)
+tables_front : (parent least : ℕ) (tables : List Listed) (t : Listed) → AreTables parent least (tables ++ t ∷ []) → AreTables parent least tables
+tables_front parent least [] t are = tt
+tables_front parent least (s ∷ tables) t are = (are.0, tables_front parent (s.space + 1) tables t are.1)
 
-tables_last : (parent before : ℕ) (tables : List Listed) (t : Listed) → AreTables parent before (tables ++ t ∷ []) → IsTableAfter parent (last_space before tables) t
-tables_last parent before [] t are = are.0
-tables_last parent before (s ∷ tables) t are = tables_last parent s.space tables t are.1
+tables_last : (parent least : ℕ) (tables : List Listed) (t : Listed) → AreTables parent least (tables ++ t ∷ []) → IsTableFrom parent (next_least least tables) t
+tables_last parent least [] t are = are.0
+tables_last parent least (s ∷ tables) t are = tables_last parent (s.space + 1) tables t are.1
 
-tables_put : (parent before : ℕ) (tables : List Listed) (t : Listed) → AreTables parent before tables → IsTableAfter parent (last_space before tables) t
-    → AreTables parent before (tables ++ t ∷ [])
-tables_put parent before [] t are is = (is, tt)
-tables_put parent before (s ∷ tables) t are is = (are.0, tables_put parent s.space tables t are.1 is)
+tables_put : (parent least : ℕ) (tables : List Listed) (t : Listed) → AreTables parent least tables → IsTableFrom parent (next_least least tables) t
+    → AreTables parent least (tables ++ t ∷ [])
+tables_put parent least [] t are is = (is, tt)
+tables_put parent least (s ∷ tables) t are is = (are.0, tables_put parent (s.space + 1) tables t are.1 is)
 
 all_front : {X : Type 0} (P : X → Type 0) (xs : List X) (x : X) → AllByRecursion P (xs ++ x ∷ []) → AllByRecursion P xs
 all_front P [] x all = tt
@@ -76,7 +75,7 @@ entries_are space (run ∷ runs) =
     ∙ ap (λ (l : List ImageEntry). map (entry_of space) (run_ways run) ++ l) (entries_are space runs)
     ∙ sym (map-append (entry_of space) (run_ways run) (flat_map run_ways runs))
 
-abbrev table_entries : Listed → List ImageEntry
+abbrev pub table_entries : Listed → List ImageEntry
 table_entries t = flat_map (run_entries t.space) t.runs
 
 entries_put : (tables : List Listed) (t : Listed) → entries_listed (tables ++ t ∷ []) ≡ entries_listed tables ++ table_entries t
@@ -96,20 +95,19 @@ listed_put tables t = map-append listing_of tables (t ∷ [])
 -- ---- a page put after the entries
 
 -- the last space has one page more
-pub longer_table : (parent : ℕ) (front : List SpaceTable) (last new : SpaceTable) (at : Place) (kind : RunKind)
-    → AreTables parent 0 (listed (front ++ last ∷ [])) → EndBefore at (listed (front ++ last ∷ [])) → last.space ≡ at.0
+pub longer_table : (parent least : ℕ) (front : List SpaceTable) (last new : SpaceTable) (at : Place) (kind : RunKind)
+    → AreTables parent least (listed (front ++ last ∷ [])) → EndBefore at (listed (front ++ last ∷ [])) → last.space ≡ at.0
     → new.space ≡ last.space → new.areas.items ≡ last.areas.items
     → AreRunsOf parent (flat_map run_ways last.runs.items ++ (at.1, kind) ∷ []) new.runs.items → end_of new.runs.items ≡ at.1 + 1
-    → IsPushed parent (listed (front ++ last ∷ [])) (listed (front ++ new ∷ [])) at kind
-longer_table parent front last new at kind are ends here same_space same_areas runs end = record {
+    → IsPushed parent least (listed (front ++ last ∷ [])) (listed (front ++ new ∷ [])) at kind
+longer_table parent least front last new at kind are ends here same_space same_areas runs end = record {
   entries = ap entries_listed (listed_put front new) ∙ entries_put (listed front) (listing_of new)
       ∙ ap (λ (l : List ImageEntry). entries_listed (listed front) ++ l) more
       ∙ sym (append_assoc (entries_listed (listed front)) (table_entries (listing_of last)) _)
       ∙ ap (λ (l : List ImageEntry). l ++ (record { place = at; kind = kind }) ∷ []) (sym (ap entries_listed (listed_put front last) ∙ entries_put (listed front) (listing_of last)));
-  tables = subst (AreTables parent 0) (sym (listed_put front new)) (tables_put parent 0 (listed front) (listing_of new) (tables_front parent 0 (listed front) (listing_of last) old)
+  tables = subst (AreTables parent least) (sym (listed_put front new)) (tables_put parent least (listed front) (listing_of new) (tables_front parent least (listed front) (listing_of last) old)
       (record {
-        above = subst (λ n. last_space 0 (listed front) < n) (sym same_space) was.above;
-        within = subst (λ n. n ≤ 16) (sym same_space) was.within;
+        from = subst (λ n. next_least least (listed front) ≤ n) (sym same_space) was.from;
         no_areas = same_areas ∙ was.no_areas;
         runs = runs.maximal;
         some = λ none. no_push (flat_map run_ways last.runs.items) (at.1, kind) (sym (ap (flat_map run_ways) none) ∙ runs.list);
@@ -120,25 +118,24 @@ longer_table parent front last new at kind are ends here same_space same_areas r
       (inr (same_space ∙ here, (let f : end_of new.runs.items ≡ at.1 + 1 = end in omega arith))));
 }
   where
-    old : AreTables parent 0 (listed front ++ listing_of last ∷ [])
-    old = subst (AreTables parent 0) (listed_put front last) are
+    old : AreTables parent least (listed front ++ listing_of last ∷ [])
+    old = subst (AreTables parent least) (listed_put front last) are
 
-    was : IsTableAfter parent (last_space 0 (listed front)) (listing_of last)
-    was = tables_last parent 0 (listed front) (listing_of last) old
+    was : IsTableFrom parent (next_least least (listed front)) (listing_of last)
+    was = tables_last parent least (listed front) (listing_of last) old
 
     more : table_entries (listing_of new) ≡ table_entries (listing_of last) ++ (record { place = at; kind = kind }) ∷ []
     more = grind (arith, runs_entries)
 
 -- another space begins
-pub more_tables : (parent : ℕ) (old new : List SpaceTable) (at : Place) (kind : RunKind) → AreTables parent 0 (listed old) → EndBefore at (listed old)
-    → last_space 0 (listed old) < at.0 → at.0 ≤ 16 → IsSourced parent kind → SpaceIsBegun old new at kind → IsPushed parent (listed old) (listed new) at kind
-more_tables parent old new at kind are ends above within sourced begun = record {
+more_tables : (parent least : ℕ) (old new : List SpaceTable) (at : Place) (kind : RunKind) → AreTables parent least (listed old) → EndBefore at (listed old)
+    → next_least least (listed old) ≤ at.0 → IsSourced parent kind → SpaceIsBegun old new at kind → IsPushed parent least (listed old) (listed new) at kind
+more_tables parent least old new at kind are ends above sourced begun = record {
   entries = ap entries_listed now ∙ entries_put (listed old) (listing_of begun.table)
       ∙ ap (λ (l : List ImageEntry). entries_listed (listed old) ++ l) (entries_are begun.table.space begun.table.runs.items
       ∙ ap (map (entry_of begun.table.space)) runs.list ∙ ap (λ n. (record { place = (n, at.1); kind = kind }) ∷ []) begun.space);
-  tables = subst (AreTables parent 0) (sym now) (tables_put parent 0 (listed old) (listing_of begun.table) are (record {
-    above = subst (λ n. last_space 0 (listed old) < n) (sym begun.space) above;
-    within = subst (λ n. n ≤ 16) (sym begun.space) within;
+  tables = subst (AreTables parent least) (sym now) (tables_put parent least (listed old) (listing_of begun.table) are (record {
+    from = subst (λ n. next_least least (listed old) ≤ n) (sym begun.space) above;
     no_areas = begun.areas;
     runs = runs.maximal;
     some = λ none. no_push [] (at.1, kind) (sym (ap (flat_map run_ways) none) ∙ runs.list);
@@ -153,25 +150,21 @@ more_tables parent old new at kind are ends above within sourced begun = record 
     now : listed new ≡ listed old ++ listing_of begun.table ∷ []
     now = ap listed begun.behind ∙ listed_put old begun.table
 
-last_put : (before : ℕ) (tables : List Listed) (t : Listed) → last_space before (tables ++ t ∷ []) ≡ t.space
-last_put before [] t = refl
-last_put before (s ∷ tables) t = last_put s.space tables t
+least_put : (least : ℕ) (tables : List Listed) (t : Listed) → next_least least (tables ++ t ∷ []) ≡ t.space + 1
+least_put least [] t = refl
+least_put least (s ∷ tables) t = least_put (s.space + 1) tables t
 
-pub first_table : (parent : ℕ) (new : List SpaceTable) (at : Place) (kind : RunKind) → 1 ≤ at.0 → at.0 ≤ 16 → IsSourced parent kind
-    → SpaceIsBegun [] new at kind → IsPushed parent [] (listed new) at kind
-first_table parent new at kind least within sourced begun = more_tables parent [] new at kind tt tt least within sourced begun
-
-pub next_table : (parent : ℕ) (front : List SpaceTable) (last : SpaceTable) (new : List SpaceTable) (at : Place) (kind : RunKind)
-    → AreTables parent 0 (listed (front ++ last ∷ [])) → EndBefore at (listed (front ++ last ∷ [])) → last.space ≢ at.0
-    → at.0 ≤ 16 → IsSourced parent kind → SpaceIsBegun (front ++ last ∷ []) new at kind → IsPushed parent (listed (front ++ last ∷ [])) (listed new) at kind
-next_table parent front last new at kind are ends apart within sourced begun =
-    more_tables parent (front ++ last ∷ []) new at kind are ends
-    (subst (λ n. n < at.0) (sym (ap (last_space 0) (listed_put front last) ∙ last_put 0 (listed front) (listing_of last)))
+next_table : (parent least : ℕ) (front : List SpaceTable) (last : SpaceTable) (new : List SpaceTable) (at : Place) (kind : RunKind)
+    → AreTables parent least (listed (front ++ last ∷ [])) → EndBefore at (listed (front ++ last ∷ [])) → last.space ≢ at.0
+    → IsSourced parent kind → SpaceIsBegun (front ++ last ∷ []) new at kind → IsPushed parent least (listed (front ++ last ∷ [])) (listed new) at kind
+next_table parent least front last new at kind are ends apart sourced begun =
+    more_tables parent least (front ++ last ∷ []) new at kind are ends
+    (subst (λ n. n ≤ at.0) (sym (ap (next_least least) (listed_put front last) ∙ least_put least (listed front) (listing_of last)))
     (below (all_last (EndsBefore at) (listed front) (listing_of last) (subst (EndBefore at) (listed_put front last) ends))))
-    within sourced begun
+    sourced begun
   where
-    below : EndsBefore at (listing_of last) → last.space < at.0
-    below (inl less) = less
+    below : EndsBefore at (listing_of last) → last.space + 1 ≤ at.0
+    below (inl less) = (let l : last.space < at.0 = less in omega arith)
     below (inr here) = absurd (apart here.0)
 
 -- the last space ends before a place in it
@@ -187,8 +180,8 @@ on_ok_both P Q (Ok x) p q = (p, q)
 on_ok_both P Q (Err e) p q = tt
 
 -- the runs of the last space
-pub last_runs : (parent : ℕ) (front : List SpaceTable) (last : SpaceTable) → AreTables parent 0 (listed (front ++ last ∷ [])) → AreRuns parent None last.runs.items
-last_runs parent front last are = (tables_last parent 0 (listed front) (listing_of last) (subst (AreTables parent 0) (listed_put front last) are)).runs
+pub last_runs : (parent least : ℕ) (front : List SpaceTable) (last : SpaceTable) → AreTables parent least (listed (front ++ last ∷ [])) → AreRuns parent None last.runs.items
+last_runs parent least front last are = (tables_last parent least (listed front) (listing_of last) (subst (AreTables parent least) (listed_put front last) are)).runs
 
 -- the same spaces, with the same runs in the last
 pub same_listed : (front : List SpaceTable) (last new : SpaceTable) → new.space ≡ last.space → new.areas.items ≡ last.areas.items → new.runs.items ≡ last.runs.items
@@ -254,16 +247,16 @@ last_is (t ∷ tables) space place last at there read =
     }
 
 -- a space that isn't the last begins
-pub begun_table : (parent : ℕ) (old new : List SpaceTable) (at : Place) (kind : RunKind) → AreTables parent 0 (listed old) → EndBefore at (listed old)
-    → end_in old at.0 ≡ false → 1 ≤ at.0 → at.0 ≤ 16 → IsSourced parent kind → SpaceIsBegun old new at kind → IsPushed parent (listed old) (listed new) at kind
-begun_table parent [] new at kind are ends other least within sourced begun = first_table parent new at kind least within sourced begun
-begun_table parent (t ∷ tables) new at kind are ends other least within sourced begun =
+pub begun_table : (parent least : ℕ) (old new : List SpaceTable) (at : Place) (kind : RunKind) → AreTables parent least (listed old) → EndBefore at (listed old)
+    → end_in old at.0 ≡ false → least ≤ at.0 → IsSourced parent kind → SpaceIsBegun old new at kind → IsPushed parent least (listed old) (listed new) at kind
+begun_table parent least [] new at kind are ends other above sourced begun = more_tables parent least [] new at kind tt tt above sourced begun
+begun_table parent least (t ∷ tables) new at kind are ends other above sourced begun =
     let last : SpaceTable = get_or (t ∷ tables) (length tables) t in
     let end : EndsAt (t ∷ tables) (length tables) t = at_end (t ∷ tables) (length tables) t refl in
-    subst (λ (l : List SpaceTable). IsPushed parent (listed l) (listed new) at kind) (sym end.is)
-    (next_table parent end.front last new at kind
-    (subst (λ (l : List SpaceTable). AreTables parent 0 (listed l)) end.is are)
+    subst (λ (l : List SpaceTable). IsPushed parent least (listed l) (listed new) at kind) (sym end.is)
+    (next_table parent least end.front last new at kind
+    (subst (λ (l : List SpaceTable). AreTables parent least (listed l)) end.is are)
     (subst (λ (l : List SpaceTable). EndBefore at (listed l)) end.is ends)
     (λ same. both_ways (nat_eq last.space at.0) (sym (in_last t tables at.0 t) ∙ other) (eq-eqb last.space at.0 same))
-    within sourced
+    sourced
     (subst (λ (l : List SpaceTable). SpaceIsBegun l new at kind) end.is begun))

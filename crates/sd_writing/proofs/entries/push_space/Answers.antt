@@ -1,6 +1,6 @@
 use Rattle.std.proofs.Common.{[], refl, sym, subst}
 use Rattle.sd_image.specs.Runs.{AreRunsOf}
-use Rattle.sd_rounds.proofs.entries.push_space.Goals as goal
+use Rattle.sd_writing.proofs.entries.push_space.Goals as goal
 
 pub returns-clause-begun : goal.returns-clause-begun
 returns-clause-begun c = record {
