@@ -17,7 +17,8 @@ use sd_chain::Catalog;
 use sd_gate::{Call, Phase, Request, SlotState};
 use sd_journal::Journal;
 use sd_pagetable::Memory;
-use sd_rounds::{Dumper, ImageStep, NewImage, NextImage, PageBuffers, PassStep, WorkError};
+use sd_rounds::{Dumper, ImageStep, PageBuffers, PassStep, WorkError};
+use sd_writing::{NewImage, NextImage};
 use std::alloc::AllocError;
 
 /// A checkpoint begins.

@@ -24,7 +24,8 @@ use sd_crash_safety::Standing;
 use sd_gate::Outcome;
 use sd_journal::{Entry, Mark};
 use sd_pagetable::plain_law;
-use sd_rounds::{ImageStep, NextImage, Progress};
+use sd_rounds::{ImageStep, Progress};
+use sd_writing::NextImage;
 use std::alloc::AllocError;
 
 impl Core {
