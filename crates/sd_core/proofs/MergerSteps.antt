@@ -74,5 +74,5 @@ pub writes_header : (copy next : Copying) (request : Asked) → WritesPage copy 
 writes_header copy next request w has = subst (ClosesWithHeader copy.order) (sym (ap (λ (k : Copying). k.stage) w.is)) tt
 
 pub tables_header : (places : Places) (copy next : Copying) (request : Asked) → StepsTable places copy request next → ClosesWithHeader copy.order copy.stage → ClosesWithHeader copy.order next.stage
-tables_header places copy next request t has = subst (ClosesWithHeader copy.order) (sym (ap (λ (k : Copying). k.stage) t.writes.is)) (subst (IsMergedHeader copy.order) (sym t.writes.numbers)
+tables_header places copy next request t has = subst (ClosesWithHeader copy.order) (sym (ap (λ (k : Copying). k.stage) t.writes.is)) (subst (IsMergedHeader copy.order) (sym t.writes.fits.numbers)
     (record { kind = refl; serial = refl; stands = refl; parent = refl; checkpoint = refl }))

@@ -28,7 +28,8 @@ use Rattle.sd_writing.specs.declared.written.Written.TheVariants as progress
 use Rattle.sd_merge.specs.declared.merge_step.MergeStep.TheVariants as step
 use Rattle.sd_merge.specs.declared.stage.Stage.{Stage}
 use Rattle.sd_merge.specs.declared.stage.Stage.TheVariants.{Close}
-use Rattle.sd_merge.specs.Copying.{Copying, HandsIn, Steps, header_of, stage_after, with_plan}
+use Rattle.sd_merge.specs.Copying.{Copying, HandsIn, Steps, copy_numbers, stage_after, with_plan}
+use Rattle.sd_writing.specs.Endings.{header_with}
 use Rattle.sd_merge.specs.Files.{AreItsNumbers, FileLaws, FilesCopy, HasItsNumbers, IsFiled, IsFiledIn}
 use Rattle.sd_merge.specs.Gathered.{IsTableOf, RepeatsTable}
 use Rattle.sd_merge.specs.Merging.{IsOverIn, IsSourceAt, KeepsCopy, listed_places}
@@ -38,7 +39,7 @@ use Rattle.sd_merge.proofs.OrderLemmas.{In, at_in, contains_in, in_kind, listed_
 -- ---- the table is written
 
 filed : TextIsImage → (order : CopyOrder) (source : Image) (entries : List ImageEntry) (pages : Pages) (header : Header) (tables : List Listed)
-    → header ≡ header_of order (data_pages entries) (length (table_text tables)) header.digest → HasWords header → AreItsNumbers order → RepeatsTable source.spaces entries header tables
+    → header ≡ header_with (copy_numbers order) (data_pages entries) (length (table_text tables)) header.digest → HasWords header → AreItsNumbers order → RepeatsTable source.spaces entries header tables
     → length pages ≡ data_pages entries → AllByRecursion (λ page. length page ≡ 4096) pages → HasItsDigest (image_of header pages tables) → IsFiled order source entries pages header tables
 filed law order source entries pages header tables numbers words own table count whole digest = record {
   spelled = (law (image_of header pages tables) complete).0;
@@ -64,10 +65,10 @@ files lists law ticket places catalog source pages old new request s is restorab
     let table : IsTableOf source.spaces old.entries w.tables =
     subst (λ (l : List Listed). IsTableOf l old.entries w.tables) (ap (λ (i : Opened). i.spaces) same ∙ sym is.told.spaces) w.table in
     subst (λ (m : Copying). FilesCopy source pages m) (sym w.is)
-    (filed law old.order source old.entries pages w.header w.tables w.numbers w.words own
+    (filed law old.order source old.entries pages w.header w.tables w.fits.numbers w.fits.words own
     (table source.header w.header (source_table places catalog old.order.source.serial source is) restorable all
-    (ap (λ (h : Header). h.kind) w.numbers) (ap (λ (h : Header). h.parent) w.numbers) (ap (λ (h : Header). h.pages) w.numbers))
-    was.count was.whole (λ two. w.digest (concat pages) was.digested))
+    (ap (λ (h : Header). h.kind) w.fits.numbers) (ap (λ (h : Header). h.parent) w.fits.numbers) (ap (λ (h : Header). h.pages) w.fits.numbers))
+    was.count was.whole (λ two. w.fits.digest (concat pages) was.digested))
 
 fills : BodiesFill → (order : CopyOrder) (source : Image) (entries : List ImageEntry) (pages : Pages) (header : Header) (tables : List Listed) → IsFiled order source entries pages header tables
     → body_closed (pages_body pages) header (table_text tables) ≡ image_text (image_of header pages tables)

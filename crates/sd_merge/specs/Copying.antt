@@ -25,6 +25,8 @@ use Rattle.sd_gate.specs.PlanUse.{IsAskedBy, IsUnderWay, outcomes_of}
 use Rattle.sd_gate.specs.Requests.{Asked, Made}
 use Rattle.sd_gate.specs.Sequences.{Calls, body_calls, data_place, format_calls}
 use Rattle.sd_writing.specs.declared.new_image.NewImage.{NewImage}
+use Rattle.sd_writing.specs.declared.ending.ImageNumbers.{ImageNumbers}
+use Rattle.sd_writing.specs.Endings.{IsHeaderOf}
 use Rattle.sd_writing.specs.Entries.{ImageEntry, Place, data_pages, last_of}
 use Rattle.sd_merge.specs.declared.copy_order.CopyOrder.{CopyOrder}
 use Rattle.sd_writing.specs.declared.written.Written.{Written}
@@ -144,18 +146,14 @@ pub record WritesPage (old : Copying) (request : Asked) (new : Copying) : Type 0
     digester = new.digester;
   }
 
--- the header of a merged image: it stands for what its source stands for, and has no parent
-abbrev pub header_of : CopyOrder → ℕ → ℕ → List ℕ → Header
-header_of order pages table_len digest = record {
-  version = Two;
+-- the numbers of a merged image: it stands for what its source stands for, and has no parent
+abbrev pub copy_numbers : CopyOrder → ImageNumbers
+copy_numbers order = record {
   kind = Merged;
   serial = order.serial;
   stands_for = order.source.stands_for;
   parent = 0;
   checkpoint = order.source.checkpoint;
-  pages = pages;
-  table_len = table_len;
-  digest = digest;
 }
 
 -- the table is made of the source's areas and the pages that were taken, and its write is asked for
@@ -166,10 +164,7 @@ pub record WritesTable (places : Places) (old : Copying) (request : Asked) (new 
   pub there : place_of places old.order.source.serial ≡ Some (Some source)
   pub tables : List Listed
   pub header : Header
-  pub numbers : header ≡ header_of old.order (data_pages old.entries) (length (table_text tables)) header.digest
-  pub digest : (fed : List ℕ) → HasFed old.digester fed
-      → header.digest ≡ sha256 (fed ++ table_text tables ++ header_front header)
-  pub words : HasWords header
+  pub fits : IsHeaderOf (copy_numbers old.order) (data_pages old.entries) old.digester tables header
   pub table : IsTableOf source.spaces old.entries tables
   pub next : Planned
   pub gives : Gives (begun old.order.slot (body_calls header (table_text tables)) nothing) next request

@@ -19,7 +19,8 @@ use Rattle.sd_writing.specs.declared.written.Written.TheVariants as progress
 use Rattle.sd_merge.specs.declared.merge_step.MergeStep.TheVariants as step
 use Rattle.sd_merge.specs.declared.stage.Stage.{Stage}
 use Rattle.sd_merge.specs.declared.stage.Stage.TheVariants.{Format, Pass as PassStage, PageRead, PageWrite, Close}
-use Rattle.sd_merge.specs.Copying.{Copying, HandsIn, Steps, header_of}
+use Rattle.sd_merge.specs.Copying.{Copying, HandsIn, Steps, copy_numbers}
+use Rattle.sd_writing.specs.Endings.{header_with}
 use Rattle.sd_merge.specs.Gathered.{RepeatsTable}
 use Rattle.sd_merge.specs.Merging.{IsSourceAt, KeepsCopy}
 
@@ -39,7 +40,8 @@ pub record HasItsNumbers (order : CopyOrder) (source : Image) : Type 0 where
 pub record IsFiled (order : CopyOrder) (source : Image) (entries : List ImageEntry) (pages : Pages) (header : Header)
     (tables : List Listed) : Type 0 where
   pub spelled : IsImage (file_of (image_of header pages tables)) (image_of header pages tables)
-  pub numbers : header ≡ header_of order (data_pages entries) (length (table_text tables)) header.digest
+  pub numbers : header ≡ header_with (copy_numbers order) (data_pages entries)
+      (length (table_text tables)) header.digest
   pub table : RepeatsTable source.spaces entries header tables
 
 abbrev pub IsFiledIn : Stage → CopyOrder → Image → List ImageEntry → Pages → Type 0

@@ -1,9 +1,6 @@
 //! One merged image in the making: its slot is formatted, the pages of its source are taken, and its gate is opened.
-ghost use Rattle.std.specs.Prelude.{◌≡◌, ◌≢◌, ◌↔◌, ◌<◌, ◌≤◌, ◌^◌, ◌∷◌, ◌++◌, ℕ, List, [], None, Some, Err, IsSome};
+ghost use Rattle.std.specs.Prelude.{◌≡◌, ◌≢◌, ◌↔◌, ◌<◌, ◌≤◌, ◌^◌, ◌∷◌, [], None, Some, Err, IsSome};
 ghost use Rattle.std.specs.Prelude.{IsNone, IsTrue, IfSome, IfOk, IfErr, OnOk, OnErr, MatchOption, length, true, false};
-ghost use Rattle.sha2.specs.Sha256.{sha256};
-ghost use Rattle.sd_image.specs.Digests.{HasFed};
-ghost use Rattle.sd_image.specs.Header.{HasWords, header_front};
 ghost use Rattle.sd_gate.specs.declared.call.Call.TheVariants.{Read};
 ghost use Rattle.sd_gate.specs.declared.worker.Worker.TheVariants.{Merger};
 ghost use Rattle.sd_gate.specs.Calls.{is_done};
@@ -16,7 +13,7 @@ ghost use Rattle.sd_merge.specs.declared.stage.Stage.TheVariants.{Pass as PassSt
 ghost use Rattle.sd_merge.specs.declared.work_error.WorkError.TheVariants.{Busy, Idle, Lost, OutOfMemory};
 ghost use Rattle.sd_gate.specs.PlanUse.{IsAskedBy};
 ghost use Rattle.sd_merge.specs.Copying.{IsLost, LacksSerial, HasReadOut, IsSoundCopying, ReadsPage, Steps};
-ghost use Rattle.sd_merge.specs.Copying.{TakesZero, WritesPage, WritesTable, begun_copy, cursor, header_of, out_of};
+ghost use Rattle.sd_merge.specs.Copying.{TakesZero, WritesPage, WritesTable, begun_copy, cursor, out_of};
 ghost use Rattle.sd_merge.specs.Copying.{page_or_zeros};
 ghost use Rattle.sd_merge.specs.Left.{copy_left};
 ghost use Rattle.sd_merge.specs.PlanSteps.{IsPageCallOf, IsReadCallOf, IsTableCallOf, IsZeroStep};
@@ -29,10 +26,10 @@ use crate::source::PAGE_LIMIT;
 use crate::stage::Stage;
 use crate::work_error::WorkError;
 use sd_areas::{PAGE_SIZE, PageNo, SpaceId};
-use sd_chain::{Catalog, Found, PlacedTable};
+use sd_chain::{Catalog, Found};
 use sd_gate::{Outcome, Plan, Request, Settled, Worker, ask, plan_left};
-use sd_image::{Digester, Header, Kind, RunKind, Version, encode_table, few_pages};
-use sd_writing::{digest_page, with_digest};
+use sd_image::{Digester, RunKind, few_pages};
+use sd_writing::{Ending, digest_page, end_file};
 use std::alloc::{AllocError, Global};
 use std::marker::Model;
 use std::mem;
@@ -78,28 +75,6 @@ impl Model for Copier {
 
     ghost invariant = { λ m. IsCountedCopy m.order.slot m.copies m.stored m.ahead m.taking
         (option_map (λ b. page_or_zeros b.items) m.read) m.stage };
-}
-
-/// The header of a merged image: it stands for what its source stands for, and has no parent.
-/// Its data pages were digested, and its table has this text.
-fn merged_header(order: CopyOrder, pages: u64, digester: Digester, text: &[u8]) -> Header
-    ensures numbers { result ≡ header_of order pages (length text.now) result.digest }
-    ensures digest { (fed : List ℕ) → HasFed digester fed
-        → result.digest ≡ sha256 (fed ++ text.now ++ header_front result) }
-    ensures words { HasWords result }
-{
-    let header = Header {
-        version: Version::Two,
-        kind: Kind::Merged,
-        serial: order.serial,
-        stands_for: order.source.stands_for,
-        parent: 0,
-        checkpoint: order.source.checkpoint,
-        pages,
-        table_len: text.len() as u64,
-        digest: [0; 32],
-    };
-    with_digest(digester, text, header)
 }
 
 /// Whether a page is after this one, or after none.
@@ -320,11 +295,20 @@ impl Copier {
             return Err(WorkError::Lost);
         };
         let table = self.copies.table(source.table())?;
-        let text = encode_table(self.alloc, &table)?;
-        let digester = self.digester.clone()?;
-        let header = merged_header(self.order, self.stored as u64, digester, &text);
-        let table = PlacedTable::new(self.alloc, table)?;
-        let mut plan = Plan::close_body(self.order.slot, header, text);
+        let slot = self.order.slot;
+        let numbers = self.order.numbers();
+        let Ending {
+            mut plan,
+            header,
+            table,
+        } = end_file(
+            self.alloc,
+            slot,
+            numbers,
+            self.stored,
+            &self.digester,
+            table,
+        )?;
         let request = ask(&mut plan, Worker::Merger, ticket);
         self.stage = Stage::Close {
             plan,

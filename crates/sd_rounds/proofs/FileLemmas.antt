@@ -64,17 +64,17 @@ filed : TextIsImage → (pages : Pages) (chain : Chain) (old new : Making) (memo
     → IsFiled old.order old.pass pages w.header w.tables
 filed law pages chain old new memory request w own numbers kept has = record {
   spelled = (law (image_of w.header pages w.tables) (record {
-    words = w.words;
-    serial = subst (λ (h : Header). 0 < h.serial) (sym w.numbers) numbers.serial;
-    numbers = subst (λ (h : Header). AreNumbers h.kind h.serial h.stands_for h.parent) (sym w.numbers) (own_numbers old.order.kind old.order.serial old.order.parent own numbers.parent);
-    checkpoint = subst (λ (h : Header). 0 < h.checkpoint) (sym w.numbers) numbers.checkpoint;
+    words = w.fits.words;
+    serial = subst (λ (h : Header). 0 < h.serial) (sym w.fits.numbers) numbers.serial;
+    numbers = subst (λ (h : Header). AreNumbers h.kind h.serial h.stands_for h.parent) (sym w.fits.numbers) (own_numbers old.order.kind old.order.serial old.order.parent own numbers.parent);
+    checkpoint = subst (λ (h : Header). 0 < h.checkpoint) (sym w.fits.numbers) numbers.checkpoint;
     table = has.is;
-    stored = kept.count ∙ ap (λ (h : Header). h.pages) (sym w.numbers);
+    stored = kept.count ∙ ap (λ (h : Header). h.pages) (sym w.fits.numbers);
     whole = kept.whole;
-    table_len = ap (λ (h : Header). h.table_len) w.numbers;
-    digest = λ two. w.digest (concat pages) kept.digested;
+    table_len = ap (λ (h : Header). h.table_len) w.fits.numbers;
+    digest = λ two. w.fits.digest (concat pages) kept.digested;
   })).0;
-  numbers = w.numbers;
+  numbers = w.fits.numbers;
   lists = has.lists;
 }
 

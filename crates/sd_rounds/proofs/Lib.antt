@@ -19,7 +19,6 @@ pub mod DumpTableLemmas
 pub mod ImageTableLemmas
 pub mod MakingLemmas
 pub mod PassStepLemmas
-pub mod PlanLemmas
 pub mod DumperLemmas
 pub mod AheadLemmas
 pub mod WaitLemmas

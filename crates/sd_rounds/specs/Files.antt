@@ -21,7 +21,8 @@ use Rattle.sd_rounds.specs.Keeps.{Chain, ChainWithin, Rests}
 use Rattle.sd_writing.specs.Files.{Pages, Stored, file_of, image_of, listed_pages}
 use Rattle.sd_rounds.specs.Made.{HasTheAreas, IsImageOf}
 use Rattle.sd_writing.specs.Entries.{Lists, Place, data_pages}
-use Rattle.sd_rounds.specs.Making.{AreThePages, HandsIn, Making, Opens, Steps, header_of}
+use Rattle.sd_rounds.specs.Making.{AreThePages, HandsIn, Making, Opens, Steps, image_numbers}
+use Rattle.sd_writing.specs.Endings.{header_with}
 use Rattle.sd_rounds.specs.MakingLaws.{AreItsNumbers, DumpsImage, KeepsImage}
 use Rattle.sd_rounds.specs.Pass.{Pass}
 use Rattle.sd_rounds.specs.Rises.{IsRising}
@@ -31,7 +32,8 @@ use Rattle.sd_rounds.specs.Rises.{IsRising}
 pub record IsFiled (order : ImageOrder) (pass : Pass) (pages : Pages) (header : Header)
     (tables : List Listed) : Type 0 where
   pub spelled : IsImage (file_of (image_of header pages tables)) (image_of header pages tables)
-  pub numbers : header ≡ header_of order (data_pages pass.entries) (length (table_text tables)) header.digest
+  pub numbers : header
+      ≡ header_with (image_numbers order) (data_pages pass.entries) (length (table_text tables)) header.digest
   pub lists : Lists pass.entries tables
 
 abbrev pub IsFiledIn : Stage → ImageOrder → Pass → Pages → Type 0

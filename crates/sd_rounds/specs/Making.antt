@@ -1,14 +1,11 @@
 -- An image in the making, as it is seen, and what its steps do.
 use Rattle.std.specs.Prelude.{◌≡◌, ◌≢◌, ◌⊎◌, ℕ, ◌≤◌, ◌^◌, Bool, true, false, ◌==◌, ◌&&◌, ◌+◌, List, [], ◌∷◌, ◌++◌}
-use Rattle.std.specs.Prelude.{length, Option, Some, None, is_some, slice_get, slice_set}
+use Rattle.std.specs.Prelude.{Option, Some, None, is_some, slice_get, slice_set}
 use Rattle.sd_image.specs.declared.header.Header.{Header}
 use Rattle.sd_image.specs.declared.header.Kind.{Kind}
 use Rattle.sd_image.specs.declared.header.Kind.TheVariants.{PreDump, Dump, Merged}
-use Rattle.sha2.specs.Sha256.{sha256}
 use Rattle.sd_image.specs.declared.digester.Digester.{Digester}
-use Rattle.sd_image.specs.declared.header.Version.TheVariants.{Two}
 use Rattle.sd_image.specs.Digests.{HasFed, fresh}
-use Rattle.sd_image.specs.Header.{HasWords, header_front}
 use Rattle.sd_image.specs.Table.{Listed, table_text}
 use Rattle.sd_image.specs.Words.{kind_number}
 use Rattle.sd_gate.specs.declared.call.Call.TheVariants.{Write}
@@ -22,6 +19,8 @@ use Rattle.sd_gate.specs.Requests.{Asked, Made}
 use Rattle.sd_gate.specs.Sequences.{Calls, body_calls, data_place, format_calls}
 use Rattle.sd_pagetable.specs.Contents.{Contents, page_at, plain_of}
 use Rattle.sd_pagetable.specs.Order.{IsNextPage}
+use Rattle.sd_writing.specs.declared.ending.ImageNumbers.{ImageNumbers}
+use Rattle.sd_writing.specs.Endings.{IsHeaderOf}
 use Rattle.sd_rounds.specs.declared.copied.Copied as copied
 use Rattle.sd_rounds.specs.declared.visit.Visit as visit
 use Rattle.sd_rounds.specs.declared.image_order.ImageOrder.{ImageOrder}
@@ -165,18 +164,14 @@ pub record WritesPage (old : Making) (lane : ℕ) (request : Asked) (new : Makin
   pub writes : new.writes ≡ slice_set old.writes lane (Some request.id)
   pub digester : (fed : List ℕ) → HasFed old.digester fed → HasFed new.digester (fed ++ request.bytes)
 
--- the header of an image that stands for itself
-abbrev pub header_of : ImageOrder → ℕ → ℕ → List ℕ → Header
-header_of order pages table_len digest = record {
-  version = Two;
+-- the numbers of an image that stands for itself
+abbrev pub image_numbers : ImageOrder → ImageNumbers
+image_numbers order = record {
   kind = order.kind;
   serial = order.serial;
   stands_for = order.serial;
   parent = order.parent;
   checkpoint = order.checkpoint;
-  pages = pages;
-  table_len = table_len;
-  digest = digest;
 }
 
 -- entries are exactly the mapped pages of a memory
@@ -204,10 +199,7 @@ pub record WritesTable (old : Making) (memory : Contents) (request : Asked) (new
   pub rests : old.writes ≡ no_writes
   pub tables : List Listed
   pub header : Header
-  pub numbers : header ≡ header_of old.order (data_pages old.pass.entries) (length (table_text tables)) header.digest
-  pub digest : (fed : List ℕ) → HasFed old.digester fed
-      → header.digest ≡ sha256 (fed ++ table_text tables ++ header_front header)
-  pub words : HasWords header
+  pub fits : IsHeaderOf (image_numbers old.order) (data_pages old.pass.entries) old.digester tables header
   pub table : HasTable old.order.kind memory old.pass.entries header tables
   pub next : Planned
   pub gives : Gives (begun old.order.slot (body_calls header (table_text tables)) nothing) next request

@@ -1,7 +1,6 @@
 //! One image in the making: its slot is formatted, the pages of a memory are passed, and its gate is opened.
 ghost use Rattle.std.specs.Prelude.{◌≡◌, ◌≢◌, ℕ, ◌<◌, ◌≤◌, ◌^◌, None, Some, IsErr, false, IfOk, OnErr};
-ghost use Rattle.std.specs.Prelude.{MatchOption, length, replicate, slice_get};
-ghost use Rattle.sd_image.specs.Header.{HasWords};
+ghost use Rattle.std.specs.Prelude.{MatchOption, length, slice_get};
 ghost use Rattle.sd_gate.specs.Plans.{Planned};
 ghost use Rattle.sd_gate.specs.Sequences.{data_place};
 ghost use Rattle.sd_gate.specs.declared.call.Call.TheVariants.{Write};
@@ -10,7 +9,7 @@ ghost use Rattle.sd_rounds.specs.declared.stage.Stage.TheVariants.{Format, Pass 
 ghost use Rattle.sd_pagetable.specs.Contents.{Contents, plain_of};
 ghost use Rattle.sd_gate.specs.PlanUse.{IsAskedBy};
 ghost use Rattle.sd_rounds.specs.Left.{image_left};
-ghost use Rattle.sd_rounds.specs.Making.{Steps, WritesPage, begun_image, header_of, is_frozen_dump};
+ghost use Rattle.sd_rounds.specs.Making.{Steps, WritesPage, begun_image, is_frozen_dump};
 ghost use Rattle.sd_rounds.specs.Making.{out_of, stage_when_done};
 ghost use Rattle.sd_rounds.specs.PlanSteps.{HasNoPage, IsPageCallOf, image_step, is_freeze_next};
 ghost use Rattle.sd_writing.specs.Entries.{data_pages};
@@ -29,7 +28,7 @@ use crate::round::Round;
 use crate::stage::{Stage, put_stage};
 use crate::standing::Standing;
 use sd_gate::{Plan, Request, RequestId, Worker, ask, is_any_out, plan_left};
-use sd_image::{Digester, Header, Kind, Version};
+use sd_image::{Digester, Kind};
 use sd_pagetable::{Memory, plain_law};
 use sd_writing::digest_page;
 use std::alloc::{AllocError, Global};
@@ -74,24 +73,6 @@ fn page_request(slot: usize, place: usize, page: Vec<u8>, ticket: u64) -> Reques
 {
     let mut plan = Plan::write_page(slot, place, page);
     ask(&mut plan, Worker::Dumper, ticket)
-}
-
-/// The header of an image that stands for itself, without its digest.
-fn own_header(order: ImageOrder, pages: u64, table_len: u64) -> Header
-    ensures numbers { result ≡ header_of order pages table_len (replicate 32 0) }
-    ensures words { HasWords result }
-{
-    Header {
-        version: Version::Two,
-        kind: order.kind,
-        serial: order.serial,
-        stands_for: order.serial,
-        parent: order.parent,
-        checkpoint: order.checkpoint,
-        pages,
-        table_len,
-        digest: [0; 32],
-    }
 }
 
 /// The stage after the format of a slot: a dump freezes the memory.

@@ -1,3 +1,4 @@
 pub mod Entries
 pub mod Tables
 pub mod Files
+pub mod Endings

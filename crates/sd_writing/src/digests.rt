@@ -18,7 +18,7 @@ pub fn digest_page(digester: &mut Digester, page: &[u8])
 }
 
 /// The header with the digest of its image, whose data pages were taken into the digest, and whose table has this text.
-pub fn with_digest(mut digester: Digester, table: &[u8], header: Header) -> Header
+pub(crate) fn with_digest(mut digester: Digester, table: &[u8], header: Header) -> Header
     ensures fields { result ≡ record header { digest = result.digest } }
     ensures digest { (fed : List ℕ) → HasFed digester fed
         → result.digest ≡ sha256 (fed ++ table.now ++ header_front result) }

@@ -1,28 +1,24 @@
 //! The end of an image in the making: its table and its header are written.
-ghost use Rattle.std.specs.Prelude.{◌≡◌, ℕ, None, IfOk, OnErr, ◌++◌, List, length, map};
-ghost use Rattle.sha2.specs.Sha256.{sha256};
-ghost use Rattle.sd_image.specs.Digests.{HasFed};
-ghost use Rattle.sd_image.specs.Header.{HasWords, header_front};
+ghost use Rattle.std.specs.Prelude.{◌≡◌, None, IfOk, OnErr, map};
 ghost use Rattle.sd_image.specs.Table.{listing_of};
 ghost use Rattle.sd_rounds.specs.declared.stage.Stage.TheVariants.{Pass as PassStage};
 ghost use Rattle.sd_image.specs.declared.header.Header.{Header};
 ghost use Rattle.sd_pagetable.specs.Order.{IsNextPage};
 ghost use Rattle.sd_gate.specs.declared.worker.Worker.TheVariants.{Dumper};
 ghost use Rattle.sd_gate.specs.PlanUse.{IsAskedBy};
-ghost use Rattle.sd_rounds.specs.Making.{HasTable, WritesTable, header_of};
+ghost use Rattle.sd_rounds.specs.Making.{HasTable, WritesTable};
 ghost use Rattle.sd_rounds.specs.PlanSteps.{IsTableCallOf};
 ghost use Rattle.sd_writing.specs.Entries.{data_pages};
 ghost use Rattle.sd_rounds.specs.Writes.{no_writes};
 
-use super::{ImageMaker, own_header};
+use super::ImageMaker;
 use crate::image_step::ImageStep;
 use crate::stage::Stage;
 use crate::tables::{dump_table, pre_dump_table};
-use sd_chain::PlacedTable;
-use sd_gate::{Plan, Worker, ask};
-use sd_image::{Digester, Header, Kind, Table, encode_table};
+use sd_gate::{Worker, ask};
+use sd_image::{Kind, Table};
 use sd_pagetable::{Memory, plain_law};
-use sd_writing::{entries_law, with_digest};
+use sd_writing::{Ending, end_file, entries_law};
 use std::alloc::AllocError;
 
 impl ImageMaker {
@@ -38,10 +34,20 @@ impl ImageMaker {
         ensures err { OnErr result (self.new ≡ self.old) }
     {
         let table = self.table(memory)?;
-        let text = encode_table(self.alloc, &table)?;
-        let header = self.header(self.digester.clone()?, &text);
-        let table = PlacedTable::new(self.alloc, table)?;
-        let mut plan = Plan::close_body(self.order.slot, header, text);
+        let slot = self.order.slot;
+        let numbers = self.order.numbers();
+        let Ending {
+            mut plan,
+            header,
+            table,
+        } = end_file(
+            self.alloc,
+            slot,
+            numbers,
+            self.stored,
+            &self.digester,
+            table,
+        )?;
         let request = ask(&mut plan, Worker::Dumper, ticket);
         self.stage = Stage::Close {
             plan,
@@ -65,17 +71,5 @@ impl ImageMaker {
             Kind::PreDump => pre_dump_table(self.alloc, self.round.tables()),
             Kind::Dump | Kind::Merged => dump_table(self.alloc, self.round.tables(), memory),
         }
-    }
-
-    /// The header of the image, whose data pages were digested, and whose table has this text.
-    pub(super) fn header(&self, digester: Digester, text: &[u8]) -> Header
-        ensures numbers { result ≡ header_of self.now.order (data_pages self.now.pass.entries)
-            (length text.now) result.digest }
-        ensures digest { (fed : List ℕ) → HasFed digester fed
-            → result.digest ≡ sha256 (fed ++ text.now ++ header_front result) }
-        ensures words { HasWords result }
-    {
-        let header = own_header(self.order, self.stored as u64, text.len() as u64);
-        with_digest(digester, text, header)
     }
 }
