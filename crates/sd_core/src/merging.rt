@@ -11,8 +11,8 @@ use sd_free_slots::ListRoom;
 use sd_gate::{Request, RequestId, SlotState};
 use sd_journal::Journal;
 use sd_merge::{MergeProgress, MergeStep, Merger, Source, WorkError};
-use sd_writing::NextImage;
 use sd_rounds::Dumper;
+use sd_writing::NextImage;
 use std::alloc::{AllocError, Global};
 use std::mem;
 

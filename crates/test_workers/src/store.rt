@@ -5,9 +5,8 @@ use sd_disk::{Disk, MemDisk};
 use sd_gate::{Request, SlotState, perform};
 use sd_image::{Header, Kind, Table, Version};
 use sd_merge::{MergeProgress, MergeStep, Merger, Source};
-use sd_writing::NextImage;
 use sd_rounds::{Dumper, PageBuffers};
-use sd_writing::NewImage;
+use sd_writing::{NewImage, NextImage};
 use std::alloc::{AllocError, Global};
 
 /// How many slots there are.
