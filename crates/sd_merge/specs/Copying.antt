@@ -4,11 +4,8 @@ use Rattle.std.specs.Prelude.{replicate, Option, Some, None, IsSome}
 use Rattle.sd_image.specs.declared.header.Header.{Header}
 use Rattle.sd_image.specs.declared.header.Kind.TheVariants.{Merged}
 use Rattle.sd_image.specs.declared.run.RunKind.TheVariants.{Data, Zero}
-use Rattle.sha2.specs.Sha256.{sha256}
 use Rattle.sd_image.specs.declared.digester.Digester.{Digester}
-use Rattle.sd_image.specs.declared.header.Version.TheVariants.{Two}
 use Rattle.sd_image.specs.Digests.{HasFed, fresh}
-use Rattle.sd_image.specs.Header.{HasWords, header_front}
 use Rattle.sd_image.specs.Table.{Listed, table_text}
 use Rattle.sd_chain.specs.declared.found.Found.{Found}
 use Rattle.sd_chain.specs.declared.found.Found.TheVariants as found
