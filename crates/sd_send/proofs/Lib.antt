@@ -1,2 +1,3 @@
 pub mod GroupLemmas
+pub mod LastLemmas
 pub mod WalkLemmas

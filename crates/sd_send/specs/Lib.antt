@@ -1,2 +1,3 @@
-pub mod Sent
+pub mod Last
 pub mod Sending
+pub mod Sent

@@ -10,6 +10,8 @@ use Rattle.sd_stream.specs.declared.writer.StreamWriter.{StreamWriter}
 use Rattle.sd_stream.specs.Progress.{Progress, files_of, with_acknowledged, with_bytes, with_image}
 use Rattle.sd_stream.specs.Stream.{Group, IsStream, stream_text}
 use Rattle.sd_stream.specs.Writing.{HasWritten}
+use Rattle.sd_send.specs.declared.sender.Last.{Last}
+use Rattle.sd_send.specs.Last.{IsStopAfter}
 use Rattle.sd_send.specs.Sent.{AreSince, IsSent, grouped}
 
 -- after a whole file
@@ -34,11 +36,12 @@ pub record HasSent {W : Type 0} (text : W → Option (List ℕ)) (before : Optio
   pub base : now.base ≡ p.base
   pub groups : now.groups ++ grouped contents (files_of now) left ≡ p.groups ++ grouped contents (files_of p) all
 
--- After what was there the images of the newest checkpoint of a catalog were written, parents first, back to that of
--- some slot, or to the first.
+-- After what was there the images of the newest checkpoint of a catalog were written, parents first: those after the
+-- image of what was sent last, or from the first on.
 pub record SendsNewest {W : Type 0} (text : W → Option (List ℕ)) (before : Option (List ℕ)) (p : Progress)
-    (contents : List (List ℕ)) (places : Places) (writer : StreamWriter W) : Type 0 where
+    (contents : List (List ℕ)) (places : Places) (last : Option Last) (writer : StreamWriter W) : Type 0 where
   pub stop : Option ℕ
+  pub stops : IsStopAfter places last stop
   pub found : List Opened
   pub reaches : AreSince places stop found
   pub sent : HasSent text before p contents found [] writer

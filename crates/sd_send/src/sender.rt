@@ -1,10 +1,14 @@
 //! A stream of a store that goes on while the store grows.
-ghost use Rattle.std.specs.Prelude.{◌≡◌, ◌<◌, ℕ, List, true, Option, All, IfOk, OnOk, length};
+ghost use Rattle.std.specs.Prelude.{◌≡◌, ◌↔◌, ◌<◌, ℕ, List, true, Option, All, IfOk, IfSome, IsErrOf, IsTrue, OnErr};
+ghost use Rattle.std.specs.Prelude.{OnOk, length, option_map};
 ghost use Rattle.sd_disk.specs.Reads.{OnlyReads};
 ghost use Rattle.sd_stream.specs.Progress.{Progress, started};
 ghost use Rattle.sd_stream.specs.Stream.{IsStream, stream_text};
 ghost use Rattle.std.specs.Io.KnownBytes.{Appends};
 ghost use Rattle.sd_stream.specs.Writing.{HasWritten};
+ghost use Rattle.sd_chain.specs.Catalog.{IsTip, Opened};
+ghost use Rattle.sd_send.specs.declared.send_error.SendError.TheVariants as send;
+ghost use Rattle.sd_send.specs.Last.{IsGone, IsLastIn, IsStopAfter, last_of_base};
 ghost use Rattle.sd_send.specs.Sending.{SendsNewest};
 
 use crate::images::images_since;
@@ -27,7 +31,9 @@ struct Last {
 
 impl Last {
     /// Whether an image is that of the checkpoint, or merged from it.
-    fn is_of(self, image: &OpenImage) -> bool {
+    fn is_of(self, image: &OpenImage) -> bool
+        ensures { IsTrue result ↔ IfSome self.stands_for (λ serial. image.now.header.stands_for ≡ serial) }
+    {
         match self.stands_for {
             Some(serial) => image.header().stands_for == serial,
             None => true,
@@ -56,7 +62,9 @@ fn are_in_slots(images: &[&OpenImage], slots: usize) -> bool
 }
 
 /// The newest checkpoint of a catalog.
-fn last_in(catalog: &Catalog) -> Option<Last> {
+fn last_in(catalog: &Catalog) -> Option<Last>
+    ensures { IsLastIn catalog.now result }
+{
     let header = catalog.tip()?.header();
     Some(Last {
         number: header.checkpoint,
@@ -65,7 +73,10 @@ fn last_in(catalog: &Catalog) -> Option<Last> {
 }
 
 /// Whether a catalog has a checkpoint above this number.
-fn has_newer(catalog: &Catalog, number: u64) -> bool {
+fn has_newer(catalog: &Catalog, number: u64) -> bool
+    ensures { IsTrue result ↔ ((i : Opened) × IsTip catalog.now i × (number < i.header.checkpoint)) }
+{
+    catalog.sound();
     match catalog.tip() {
         Some(tip) => tip.header().checkpoint > number,
         None => false,
@@ -74,7 +85,11 @@ fn has_newer(catalog: &Catalog, number: u64) -> bool {
 
 /// The slot of the image after which the images of the newest checkpoint are sent. None where that stands on no image
 /// that was sent: then all of them are.
-fn stop_after(catalog: &Catalog, last: Option<Last>) -> Result<Option<usize>, SendError> {
+fn stop_after(catalog: &Catalog, last: Option<Last>) -> Result<Option<usize>, SendError>
+    ensures stop { IfOk result (IsStopAfter catalog.now last) }
+    ensures gone { (number : ℕ) → IsErrOf result (send.Gone number) ↔ IsGone catalog.now last number }
+{
+    catalog.sound();
     let Some(last) = last else {
         return Ok(None);
     };
@@ -95,6 +110,7 @@ impl<W: Write> Sender<W> {
     where
         W: Drop,
         ensures begun { IfOk result (λ sender. HasWritten W.contents (W.contents out) (started base) sender.writer) }
+        ensures last { IfOk result (λ sender. sender.last ≡ option_map last_of_base base) }
     {
         let last = match base {
             Some(Base { number, .. }) => Some(Last {
@@ -127,7 +143,12 @@ impl<W: Write> Sender<W> {
     ) -> Result<(), SendError>
         ensures sent { D.is_honest disk.new → OnOk result ((before : Option (List ℕ)) (p : Progress)
             → HasWritten W.contents before p self.old.writer
-            → SendsNewest W.contents before p (D.contents disk.old) catalog.now self.new.writer) }
+            → SendsNewest W.contents before p (D.contents disk.old) catalog.now self.old.last self.new.writer) }
+        // What was sent last is then the newest checkpoint; after an error it is as before.
+        ensures last { OnOk result (IsLastIn catalog.now self.new.last) }
+        ensures kept { OnErr result (self.new.last ≡ self.old.last) }
+        // There is no further piece exactly where the store has lost what was sent last, and has nothing newer.
+        ensures gone { (number : ℕ) → IsErrOf result (send.Gone number) ↔ IsGone catalog.now self.old.last number }
         ensures reads { OnlyReads D.Disk disk.old disk.new }
     {
         let stop = stop_after(catalog, self.last)?;

@@ -1,9 +1,11 @@
 //! A store, sent: its images, written as a stream.
-ghost use Rattle.std.specs.Prelude.{◌≡◌, ◌<◌, ℕ, List, [], Option, All, IfOk, OnOk, length, map};
+ghost use Rattle.std.specs.Prelude.{◌≡◌, ◌<◌, ℕ, List, [], Option, All, IfErr, IfOk, OnOk, length};
+ghost use Rattle.std.specs.Prelude.{map};
 ghost use Rattle.sd_disk.specs.Contents.{file_at};
 ghost use Rattle.sd_disk.specs.Reads.{OnlyReads};
 ghost use Rattle.sd_stream.specs.Progress.{Progress};
 ghost use Rattle.sd_stream.specs.Writing.{HasWritten};
+ghost use Rattle.sd_send.specs.Last.{IsOfSending};
 ghost use Rattle.sd_send.specs.Sent.{IsBaseAt, IsStop};
 ghost use Rattle.sd_send.specs.Sending.{HasSent, SendsStream, with_file, with_opened};
 
@@ -56,6 +58,7 @@ fn send_file<D: Disk, W: Write>(
     ensures sent { D.is_honest disk.new → OnOk result ((before : Option (List ℕ)) (p : Progress)
         → HasWritten W.contents before p writer.old
         → HasWritten W.contents before (with_file p (file_at (D.contents disk.old) slot)) writer.new) }
+    ensures errors { IfErr result IsOfSending }
     ensures room { length buffer.new ≡ length buffer.old }
     ensures reads { OnlyReads D.Disk disk.old disk.new }
 {
@@ -95,6 +98,7 @@ fn send_image<D: Disk, W: Write>(
     ensures sent { D.is_honest disk.new → OnOk result ((before : Option (List ℕ)) (p : Progress)
         → HasWritten W.contents before p writer.old
         → HasWritten W.contents before (with_opened (D.contents disk.old) p image.now) writer.new) }
+    ensures errors { IfErr result IsOfSending }
     ensures room { length buffer.new ≡ length buffer.old }
     ensures reads { OnlyReads D.Disk disk.old disk.new }
 {
@@ -121,6 +125,7 @@ pub(crate) fn send_images<D: Disk, W: Write>(
     ensures sent { D.is_honest disk.new → OnOk result ((before : Option (List ℕ)) (p : Progress)
         → HasWritten W.contents before p writer.old
         → HasSent W.contents before p (D.contents disk.old) (map (λ i. i.now) images.now) [] writer.new) }
+    ensures errors { IfErr result IsOfSending }
     ensures reads { OnlyReads D.Disk disk.old disk.new }
 {
     let mut bytes = 0u64;
