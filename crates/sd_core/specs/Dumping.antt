@@ -38,7 +38,8 @@ pub record StepsOn (ticket : ℕ) (old : Dumping) (before : Contents) (step : Im
   pub counted : new.since_freeze ≡ (if freezes step then 0 else old.since_freeze)
 
 -- a pass found this step: the checkpoint awaits no outcome, and its image made the step, whatever the ticket
-pub record PassesOn (old : Dumping) (before : Contents) (step : PassStep) (new : Dumping) (after : Contents) : Type 0 where
+pub record PassesOn (old : Dumping) (before : Contents) (step : PassStep) (new : Dumping)
+    (after : Contents) : Type 0 where
   pub runs : IsSome old.running
   pub goes : dumper_must_wait old.running (plain_of before) ≡ false
   pub steps : (ticket : ℕ) → StepsOn ticket old before (image_step step) new after

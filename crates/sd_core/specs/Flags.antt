@@ -1,6 +1,7 @@
 -- What each call of a core does to the numbers that were used, to whether the next checkpoint goes on from the tip, and
 -- to whether the opening of the gate of the pending checkpoint's dump was taken up.
-use Rattle.std.specs.Prelude.{◌≡◌, ℕ, ◌+◌, ◌<◌, ◌≤◌, ◌%◌, ◌^◌, max, Bool, true, false, ◌&&◌, ◌||◌, is_some, Option, Some}
+use Rattle.std.specs.Prelude.{◌≡◌, ℕ, ◌+◌, ◌<◌, ◌≤◌, ◌%◌, ◌^◌, max, Bool, true, false, ◌&&◌, ◌||◌, is_some, Option}
+use Rattle.std.specs.Prelude.{Some}
 use Rattle.std.specs.Prelude.{None, IfSome, IsSome}
 use Rattle.sd_chain.specs.Catalog.{IsGreatest, Opened, Places, checkpoint_number, images, place_of, serial_of}
 use Rattle.sd_command.specs.declared.reply.Reply.{Reply}

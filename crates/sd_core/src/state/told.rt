@@ -111,8 +111,8 @@ impl Core {
         self.merger.sound();
     }
 
-    /// A law: whether the next checkpoint goes on from the tip, whether the opening of a gate was taken up, and the numbers
-    /// that were used, by the journal and the catalog.
+    /// A law: whether the next checkpoint goes on from the tip, whether the opening of a gate was taken up, and the
+    /// numbers that were used, by the journal and the catalog.
     pub fn flags(&self)
         ensures { AreByJournal self.now }
     {
