@@ -1,9 +1,13 @@
 //! `ckpt merge`: the chain of the newest checkpoint.
+ghost use Rattle.std.specs.Prelude.{IfOk};
+ghost use Rattle.sd_disk.specs.Folder.{outside_of};
+ghost use Rattle.sd_jobs.specs.Folders.{MergesFiles};
 
+use sd_disk::Disk;
 use sd_exit::{Output, Stop};
 use sd_program::{Called, FewSlots, Inputs};
 use sd_run::merge_to;
-use sd_watching::{CountsAsked, Course, Session};
+use sd_watching::{CountedDisk, CountsAsked, Course, Session};
 use std::io::Write;
 use std::sync::Wait;
 use std::time::Clock;
@@ -21,7 +25,11 @@ pub fn merge_program<R: Clock + Wait, W: Write>(
     clock: &R,
     counts: CountsAsked<'_>,
     out: &mut Output<W>,
-) -> Result<u8, Stop> {
+) -> Result<u8, Stop>
+    // The files that are found in the folder of the command line are merged.
+    ensures merges { IfOk result (MergesFiles ⟦<CountedDisk<'static> as Disk>⟧ (outside_of called.entry.found.now).found
+        (W.contents out.old.writer) (W.contents out.new.writer) out.new.refused) }
+{
     let session = Session::new(called);
     let course = Course::none(called.rt);
     let (disk, mut watch) = session.open(clock, counts, Inputs::NONE, course, out)?;

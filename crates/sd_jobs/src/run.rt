@@ -1,10 +1,13 @@
 //! `ckpt run`: a script over a store.
 
-ghost use Rattle.std.specs.Prelude.{◌≡◌, ◌∷◌};
+ghost use Rattle.std.specs.Prelude.{◌≡◌, ◌∷◌, ℕ, List, None, IfErr, IfOk, OnOk};
+ghost use Rattle.sd_disk.specs.Folder.{outside_of};
 ghost use Rattle.sd_disk.specs.Reads.{OnlyReads};
 ghost use Rattle.sd_script.specs.declared.line.Line.TheVariants as asked;
+ghost use Rattle.sd_script.specs.Script.{first_unfit_line, requests_of};
 ghost use Rattle.sd_readers.specs.declared.steady.Reader.TheVariants as reader;
 ghost use Rattle.sd_readers.specs.Reading.{ReaderEnds};
+ghost use Rattle.sd_jobs.specs.Folders.{BlamesFirst, ChecksBytes, RunsBytes};
 ghost use Rattle.sd_jobs.specs.Running.{RunsScript};
 
 use sd_disk::Disk;
@@ -13,7 +16,7 @@ use sd_program::{Called, Causes, FewSlots, Inputs, read_script};
 use sd_readers::restore_to;
 use sd_run::{Rule, RunWatch, run_lines, unfit};
 use sd_script::{QuotedLine, Script, ScriptError, blame_line};
-use sd_watching::{CountsAsked, Course, Failure, Session, line_of, slots_for};
+use sd_watching::{CountedDisk, CountsAsked, Course, Failure, Session, line_of, slots_for};
 use std::alloc::Global;
 use std::io::{IsTerminal, Write};
 use std::sync::Wait;
@@ -78,7 +81,11 @@ fn report_line(called: Called<'_>, script: &str, bytes: &[u8], number: usize) {
 }
 
 /// Parses a script.
-fn parse_script(called: Called<'_>, script: &str, bytes: &[u8]) -> Result<Script, Stop> {
+fn parse_script(called: Called<'_>, script: &str, bytes: &[u8]) -> Result<Script, Stop>
+    ensures fits { OnOk result (first_unfit_line bytes.now ≡ None) }
+    ensures requests { IfOk result (λ script. script.lines.items ≡ requests_of bytes.now) }
+    ensures blames { IfErr result (BlamesFirst bytes.now) }
+{
     let parsed = Script::parse(called.rt.alloc(), bytes);
     if let Err(ScriptError::Line(number)) = parsed {
         report_line(called, script, bytes, number);
@@ -87,6 +94,22 @@ fn parse_script(called: Called<'_>, script: &str, bytes: &[u8]) -> Result<Script
         Ok(script) => Ok(script),
         Err(error) => Err(unfit(error)),
     }
+}
+
+/// Prints how many requests the script of these bytes has, and returns the exit status.
+fn check_bytes<W: Write>(
+    called: Called<'_>,
+    name: &str,
+    bytes: &[u8],
+    out: &mut Output<W>,
+) -> Result<u8, Stop>
+    ensures checks { IfOk result (ChecksBytes bytes.now (W.contents out.old.writer) (W.contents out.new.writer)
+        out.new.refused) }
+    ensures blames { IfErr result (BlamesFirst bytes.now) }
+{
+    let script = parse_script(called, name, bytes)?;
+    writeln!(out, "ok {} requests", script.lines.len())?;
+    Ok(out.finish(0))
 }
 
 /// `ckpt run --check`: whether a script fits the language.
@@ -98,11 +121,40 @@ pub fn check_program<W: Write>(
     called: Called<'_>,
     name: &str,
     out: &mut Output<W>,
-) -> Result<u8, Stop> {
+) -> Result<u8, Stop>
+    // Of the bytes that were read all are checked.
+    ensures checks { IfOk result (λ status. (bytes : List ℕ) × ChecksBytes bytes (W.contents out.old.writer)
+        (W.contents out.new.writer) out.new.refused status) }
+{
     let bytes = read_script(called.rt, called.causes, name)?;
-    let script = parse_script(called, name, &bytes)?;
-    writeln!(out, "ok {} requests", script.lines.len())?;
-    Ok(exit(&Ok(()), out))
+    check_bytes(called, name, &bytes, out)
+}
+
+/// Runs the script of these bytes over the store of the folder, and returns the exit status, which is 1 where counts
+/// are missing.
+fn run_bytes<R: Clock + Wait, W: Write>(
+    called: Called<'_>,
+    clock: &R,
+    asked: RunAsked<'_>,
+    bytes: &[u8],
+    out: &mut Output<W>,
+) -> Result<u8, Stop>
+    ensures runs { IfOk result (RunsBytes ⟦<CountedDisk<'static> as Disk>⟧ asked.entry.rule asked.entry.restores
+        bytes.now (outside_of called.entry.found.now).found (W.contents out.old.writer) (W.contents out.new.writer)
+        out.new.refused) }
+{
+    let names = [asked.script];
+    let script = parse_script(called, asked.script, bytes)?;
+    let shows = called.is_watched() && !called.rt.stdout().is_terminal();
+    let course = Course::new(called.rt, bytes, shows);
+    let session = Session::new(called);
+    let inputs = Inputs::of_script(&names);
+    let (disk, mut watch) = session.open(clock, asked.counts, inputs, course, out)?;
+    let (rule, restores) = (asked.rule, asked.restores);
+    let alloc = called.rt.alloc();
+    let (disk, status) = run_over(alloc, disk, script, rule, restores, out, &mut watch);
+    report_course(called, rule, bytes, watch.course());
+    Ok(session.close(disk, watch, status))
 }
 
 /// `ckpt run`: a script that can't be taken makes no file.
@@ -115,20 +167,15 @@ pub fn run_program<R: Clock + Wait, W: Write>(
     clock: &R,
     asked: RunAsked<'_>,
     out: &mut Output<W>,
-) -> Result<u8, Stop> {
-    let names = [asked.script];
+) -> Result<u8, Stop>
+    // Of the bytes that were read all are run, over the files that are found in the folder of the command line, by the
+    // rule that is asked for; and the memory is printed where that is asked for.
+    ensures runs { IfOk result (λ status. (bytes : List ℕ) × RunsBytes ⟦<CountedDisk<'static> as Disk>⟧
+        asked.entry.rule asked.entry.restores bytes (outside_of called.entry.found.now).found
+        (W.contents out.old.writer) (W.contents out.new.writer) out.new.refused status) }
+{
     let bytes = read_script(called.rt, called.causes, asked.script)?;
-    let script = parse_script(called, asked.script, &bytes)?;
-    let shows = called.is_watched() && !called.rt.stdout().is_terminal();
-    let course = Course::new(called.rt, &bytes, shows);
-    let session = Session::new(called);
-    let inputs = Inputs::of_script(&names);
-    let (disk, mut watch) = session.open(clock, asked.counts, inputs, course, out)?;
-    let (rule, restores) = (asked.rule, asked.restores);
-    let alloc = called.rt.alloc();
-    let (disk, status) = run_over(alloc, disk, script, rule, restores, out, &mut watch);
-    report_course(called, rule, &bytes, watch.course());
-    Ok(session.close(disk, watch, status))
+    run_bytes(called, clock, asked, &bytes, out)
 }
 
 /// Reports after a run at which request it ended, where it is strict, and which found too few free slots.
