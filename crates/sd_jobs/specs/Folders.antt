@@ -11,7 +11,8 @@ use Rattle.sd_script.specs.declared.line.Line.TheVariants.{Reopen}
 use Rattle.sd_script.specs.Script.{first_unfit_line, requests_of}
 use Rattle.sd_jobs.specs.Running.{RunsScript}
 
--- All of these bytes are a script, which was run over a disk with these files. The exit status is that of the run, or 1.
+-- All of these bytes are a script, which was run over a disk with these files. The exit status is that of the run, or
+-- 1.
 pub record RunsBytes {D : Type 0} (g : Ghosts D) (rule : Rule) (restores : Bool) (bytes : List ℕ)
     (files : List (List ℕ)) (before after : Option (List ℕ)) (refused : Bool) (status : ℕ) : Type 0 where
   pub fits : first_unfit_line bytes ≡ None
