@@ -1,2 +1,3 @@
+pub mod DropLemmas
 pub mod ReadingLemmas
 pub mod ShowingLemmas

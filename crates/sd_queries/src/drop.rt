@@ -1,10 +1,11 @@
 //! `ckpt drop`: closes one image of a store, where the newest checkpoint doesn't need it.
-ghost use Rattle.std.specs.Prelude.{◌≡◌, ◌∷◌, ◌++◌, [], true, IfOk, OnErr, OnOk, codes};
+ghost use Rattle.std.specs.Prelude.{◌≡◌, ◌∷◌, ◌++◌, [], true, Ok, Err, IfOk, OnErr, OnOk, codes};
+ghost use Rattle.sd_disk.specs.Folder.{outside_of};
 ghost use Rattle.std.specs.Io.KnownBytes.{Appends};
-ghost use Rattle.sd_exit.specs.Ending.{Exits};
 ghost use Rattle.sd_exit.specs.Texts.{slot_text};
-ghost use Rattle.sd_queries.specs.Dropping.{EndsDropping, dropped_text, kept_text};
+ghost use Rattle.sd_queries.specs.Dropping.{CameOfDrop, EndsDropping, SaysDrop, kept_as};
 
+use sd_disk::{DirDisk, Disk};
 use sd_drop::{DropError, drop_image};
 use sd_exit::{Output, Stop};
 use sd_program::{Called, Seen, has_slot_files, unseen};
@@ -56,9 +57,13 @@ fn print_line<W: Write>(word: &str, slot: usize, why: &str, out: &mut Output<W>)
 
 impl DropAsked<'_> {
     /// Closes the image, and reports what the system answered where that failed.
-    fn close<R: Clock + Wait>(&self, clock: &R) -> Result<Result<(), DropError>, Stop> {
+    fn close<R: Clock + Wait>(&self, clock: &R) -> Result<Result<(), DropError>, Stop>
+        ensures came { IfOk result (CameOfDrop ⟦<DirDisk as Disk>⟧ (outside_of self.now.called.found.now).found
+            self.now.slot self.now.force) }
+    {
         let called = self.called;
-        let mut disk = self.seen.disk("drop", called.make_store(clock)?);
+        let disk = called.make_store(clock)?;
+        let mut disk = self.seen.disk("drop", disk);
         let ended = drop_image(called.rt.alloc(), &mut disk, self.slot, self.force);
         called.report_device(&unseen(disk));
         Ok(ended)
@@ -66,8 +71,8 @@ impl DropAsked<'_> {
 
     /// Prints that the image was closed, and returns the exit status.
     fn print_dropped<W: Write>(&self, out: &mut Output<W>) -> Result<u8, Stop>
-        ensures { IfOk result (Exits (W.contents out.old.writer) (W.contents out.new.writer) out.new.refused
-            (dropped_text self.now.slot) 0) }
+        ensures says { IfOk result (SaysDrop self.now.slot (W.contents out.old.writer) (W.contents out.new.writer)
+            out.new.refused (Ok tt)) }
     {
         print_line("dropped", self.slot, "", out)?;
         Ok(out.finish(0))
@@ -75,8 +80,8 @@ impl DropAsked<'_> {
 
     /// Prints that the image stays as it is and why, and returns the exit status.
     fn print_kept<W: Write>(&self, why: Kept, out: &mut Output<W>) -> Result<u8, Stop>
-        ensures { IfOk result (EndsDropping self.now.slot (W.contents out.old.writer) (W.contents out.new.writer)
-            out.new.refused) }
+        ensures says { IfOk result (SaysDrop self.now.slot (W.contents out.old.writer) (W.contents out.new.writer)
+            out.new.refused (Err (kept_as why))) }
     {
         let word = match why {
             Kept::Needed(_) => " needed",
@@ -89,8 +94,8 @@ impl DropAsked<'_> {
 
     /// Prints how it ended, and returns the exit status.
     fn end<W: Write>(&self, ended: Result<(), DropError>, out: &mut Output<W>) -> Result<u8, Stop>
-        ensures { IfOk result (EndsDropping self.now.slot (W.contents out.old.writer) (W.contents out.new.writer)
-            out.new.refused) }
+        ensures says { IfOk result (SaysDrop self.now.slot (W.contents out.old.writer) (W.contents out.new.writer)
+            out.new.refused ended) }
     {
         match ended {
             Ok(()) => self.print_dropped(out),
@@ -118,9 +123,10 @@ pub fn drop_program<R: Clock + Wait, W: Write>(
     force: bool,
     out: &mut Output<W>,
 ) -> Result<u8, Stop>
-    // One line says what became of the image: it was closed, with status 0, or stays, with status 1.
-    ensures ends { IfOk result (EndsDropping slot (W.contents out.old.writer) (W.contents out.new.writer)
-        out.new.refused) }
+    // One line says what became of the image of the files that are found: it was closed, with status 0, or stays, with
+    // status 1.
+    ensures ends { IfOk result (EndsDropping ⟦<DirDisk as Disk>⟧ (outside_of called.entry.found.now).found slot force
+        (W.contents out.old.writer) (W.contents out.new.writer) out.new.refused) }
 {
     let log = called.logger();
     let asked = DropAsked {
