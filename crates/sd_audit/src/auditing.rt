@@ -11,12 +11,12 @@ ghost use Rattle.sd_restore.specs.Faulty.{FaultNames, IsBrokenChain, IsDamage};
 ghost use Rattle.sd_audit.specs.ShowsOne.{ShowsOne, base_from_snapshot, shown_by};
 
 use crate::freezes::memory_at_freeze;
-use crate::numbers::{is_last_or_pending, last_number};
+use crate::numbers::is_last_or_pending;
 use crate::same::is_same_memory;
 use sd_areas::Snapshot;
 use sd_disk::Disk;
 use sd_image::shown_once;
-use sd_journal::Entry;
+use sd_journal::{Entry, last_number};
 use sd_restore::{Fault, restore};
 use std::alloc::{AllocError, Global};
 

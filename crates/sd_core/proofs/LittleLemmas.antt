@@ -83,7 +83,7 @@ closed_step base items number ticket image next before after (Call request) s du
 closed_step base items number ticket image next before after (PageCall lane request) s dump was closing = not_closing next.stage s.0.still closing
 closed_step base items number ticket image next before after (TableCall request) s dump was closing = subst IsClean (sym s.2) (λ space number page there.
     let taking : IsTaking dump.cut image.pass before = subst (λ stage. TakesAsItMustIn stage dump.cut image.pass before) s.0.stage dump.takes in
-    taking.dumping.behind (space, number) page (ap not (s.0.over space number (subst IsSome (sym there) refl))) there)
+    taking.dumping.passed (space, number) page (ap not (s.0.over space number (subst IsSome (sym there) refl))) there)
 closed_step base items number ticket image next before after Frozen s dump was closing = not_closing next.stage (ap (λ (m : Making). m.stage) s.0.is) closing
 closed_step base items number ticket image next before after (Visited visit) s dump was closing = not_closing next.stage (ap (λ (m : Making). m.stage) s.passes.1 ∙ s.passes.0) closing
 closed_step base items number ticket image next before after (Copied copied) s dump was closing = not_closing next.stage (ap (λ (m : Making). m.stage) s.0.passes.1 ∙ s.0.passes.0) closing

@@ -23,7 +23,7 @@ use Rattle.sd_world.specs.Goes.{GoesOn}
 use Rattle.sd_world.specs.Runs.{IsStep}
 use Rattle.sd_world.specs.View.{WorldView}
 use Rattle.sd_world.proofs.GoesOnLemmas.{goes_further}
-use Rattle.sd_import.specs.Changes.{ChangesOnly, IsOf, KeepsOthers}
+use Rattle.sd_import.specs.Changes.{ChangesOnly, IsOf, KeepsOthers, MayGoOn}
 
 not_it : (q k : ℕ) → q ≢ k → nat_eq q k ≡ false
 not_it q k apart = grind (arith, apart)
@@ -101,3 +101,14 @@ module _ {D : Type 0} (g : Ghosts D) where
       → OnOk result (ChangesOnly g space mid new) → OnOk result (ChangesOnly g space old new)
   then_ok space old mid new (Ok told) first second = changes_further space old mid new first second
   then_ok space old mid new (Err why) first second = tt
+
+  -- ---- however it ends
+
+  pub may_further : (old mid new : WorldView D) → MayGoOn g old mid → MayGoOn g mid new → MayGoOn g old new
+  may_further old mid new (MayGoOn.stays same) second = subst (λ (w : WorldView D). MayGoOn g w new) same second
+  may_further old mid new first (MayGoOn.stays same) = subst (λ (w : WorldView D). MayGoOn g old w) (sym same) first
+  may_further old mid new (MayGoOn.goes first) (MayGoOn.goes second) = MayGoOn.goes (goes_further g old mid new first second)
+
+  pub goes_at_least : (old new : WorldView D) → GoesOn g old old → MayGoOn g old new → GoesOn g old new
+  goes_at_least old new here (MayGoOn.stays same) = subst (λ (w : WorldView D). GoesOn g old w) (sym same) here
+  goes_at_least old new here (MayGoOn.goes goes) = goes

@@ -26,3 +26,8 @@ pub data ChangesOnly {D : Type 0} (g : Ghosts D) (space : ℕ) (old new : WorldV
   nothing : new ≡ old → ChangesOnly g space old new
   goes : GoesOn g old new → KeepsOthers space (plain_of old.core.memory) (plain_of new.core.memory)
       → ChangesOnly g space old new
+
+-- nothing is done, or events are made
+pub data MayGoOn {D : Type 0} (g : Ghosts D) (old new : WorldView D) : Type 0 where
+  stays : new ≡ old → MayGoOn g old new
+  goes : GoesOn g old new → MayGoOn g old new

@@ -1,10 +1,11 @@
 //! The commands by which a space gets the memory of a core.
 ghost use Rattle.std.specs.Prelude.{◌≡◌, ◌+◌, ◌^◌, ◌<◌, IfOk, IfSome, OnOk, length};
 ghost use Rattle.sd_elf.specs.Cores.{IsCoreFile};
-ghost use Rattle.sd_import.specs.Changes.{ChangesOnly};
+ghost use Rattle.sd_import.specs.Changes.{ChangesOnly, MayGoOn};
 ghost use Rattle.sd_import.specs.Imported.{HasCore};
 ghost use Rattle.sd_pagetable.specs.Contents.{plain_of};
 ghost use Rattle.sd_pagetable.specs.Nested.{inside};
+ghost use Rattle.sd_world.specs.Goes.{GoesOn};
 
 use crate::checking::has_core;
 use crate::import_error::ImportError;
@@ -115,8 +116,11 @@ pub fn import_core<D: Disk, F: CoreFile>(
         → OnOk result (HasCore held core.now.segments.items (inside (plain_of world.new.core.memory) space))) }
     // Every other space is as before.
     ensures changes { OnOk result (ChangesOnly D.Disk space world.old world.new) }
+    // However it ends: whatever moment of it a crash comes, the journal of that moment allows what it leaves.
+    ensures goes_on { GoesOn D.Disk world.old world.new }
     ensures imported { IfOk result (λ tally. tally.imported ≡ core.now.extent.pages) }
 {
+    world.sound();
     if world.core().memory().areas(space).is_none() {
         make_space(world, space)?;
     }
@@ -143,7 +147,8 @@ pub fn import_core<D: Disk, F: CoreFile>(
 impl<F: CoreFile> Import<'_, F> {
     /// Unmaps what the core doesn't have, and gives the space each area of the core.
     fn take_core<D: Disk>(&mut self, world: &mut World<D>, core: &Core) -> Result<(), ImportError>
-        ensures { OnOk result (ChangesOnly D.Disk self.old.space world.old world.new) }
+        ensures changes { OnOk result (ChangesOnly D.Disk self.old.space world.old world.new) }
+        ensures goes_on { MayGoOn D.Disk world.old world.new }
     {
         let wanted = areas_of(self.alloc, &core.segments)?;
         self.unmap_others(world, &wanted)?;
@@ -163,6 +168,7 @@ impl<F: CoreFile> Import<'_, F> {
         wanted: &[Area],
     ) -> Result<(), ImportError>
         ensures changes { OnOk result (ChangesOnly D.Disk self.old.space world.old world.new) }
+        ensures goes_on { MayGoOn D.Disk world.old world.new }
         ensures space { self.new.space ≡ self.old.space }
     {
         let gone = pages_outside(self.alloc, &self.before, wanted)?;
@@ -191,6 +197,7 @@ impl<F: CoreFile> Import<'_, F> {
         segments: &[ProgramHeader],
     ) -> Result<(), ImportError>
         ensures changes { OnOk result (ChangesOnly D.Disk self.old.space world.old world.new) }
+        ensures goes_on { MayGoOn D.Disk world.old world.new }
         ensures space { self.new.space ≡ self.old.space }
     {
         let has_bytes = segments.iter().any(|segment| segment.p_filesz > 0);
@@ -217,7 +224,8 @@ impl<F: CoreFile> Import<'_, F> {
         area: &Area,
         has_bytes: bool,
     ) -> Result<Option<Prot>, ImportError>
-        ensures { OnOk result (ChangesOnly D.Disk self.now.space world.old world.new) }
+        ensures changes { OnOk result (ChangesOnly D.Disk self.now.space world.old world.new) }
+        ensures goes_on { MayGoOn D.Disk world.old world.new }
     {
         let missing = pages_outside(self.alloc, from_ref(area), &self.before)?;
         let prot = if has_bytes {
@@ -248,7 +256,8 @@ impl<F: CoreFile> Import<'_, F> {
         filling: &mut Filling<'_>,
         prot: Prot,
     ) -> Result<(), ImportError>
-        ensures { OnOk result (ChangesOnly D.Disk self.now.space world.old world.new) }
+        ensures changes { OnOk result (ChangesOnly D.Disk self.now.space world.old world.new) }
+        ensures goes_on { MayGoOn D.Disk world.old world.new }
     {
         if filling.now == Some(prot) {
             return Ok(());
@@ -271,6 +280,7 @@ impl<F: CoreFile> Import<'_, F> {
         segment: &ProgramHeader,
     ) -> Result<(), ImportError>
         ensures changes { OnOk result (ChangesOnly D.Disk self.old.space world.old world.new) }
+        ensures goes_on { MayGoOn D.Disk world.old world.new }
         ensures space { self.new.space ≡ self.old.space }
     {
         for k in 0..segment.p_memsz / PAGE_BYTES {
@@ -289,6 +299,7 @@ impl<F: CoreFile> Import<'_, F> {
         address: u64,
     ) -> Result<(), ImportError>
         ensures changes { OnOk result (ChangesOnly D.Disk self.old.space world.old world.new) }
+        ensures goes_on { MayGoOn D.Disk world.old world.new }
         ensures space { self.new.space ≡ self.old.space }
     {
         let Some(page) = PageNo::new(address / PAGE_BYTES) else {
@@ -317,7 +328,8 @@ impl<F: CoreFile> Import<'_, F> {
         address: u64,
         old: &[u8; PAGE_SIZE],
     ) -> Result<(), ImportError>
-        ensures { OnOk result (ChangesOnly D.Disk self.now.space world.old world.new) }
+        ensures changes { OnOk result (ChangesOnly D.Disk self.now.space world.old world.new) }
+        ensures goes_on { MayGoOn D.Disk world.old world.new }
     {
         self.protect(world, filling, with_write(filling.area.prot))?;
         for piece in pieces_of(self.alloc, old, &filling.new)? {

@@ -1,6 +1,6 @@
 //! The commands of an import.
 ghost use Rattle.std.specs.Prelude.{OnOk};
-ghost use Rattle.sd_import.specs.Changes.{ChangesOnly, IsOf};
+ghost use Rattle.sd_import.specs.Changes.{ChangesOnly, IsOf, MayGoOn};
 
 use crate::import_error::ImportError;
 use sd_areas::{PAGE_BYTES, PAGE_NUMBER_LIMIT, SPACE_LIMIT, SpaceId};
@@ -51,7 +51,8 @@ pub fn ask<D: Disk>(
     command: Command,
 ) -> Result<(), ImportError>
     requires { IsOf space command }
-    ensures { OnOk result (ChangesOnly D.Disk space world.old world.new) }
+    ensures changes { OnOk result (ChangesOnly D.Disk space world.old world.new) }
+    ensures goes_on { MayGoOn D.Disk world.old world.new }
 {
     world.sound();
     let answer = world.make(Event::Command {
@@ -121,7 +122,8 @@ fn fork_into<D: Disk>(
     parent: SpaceId,
     space: SpaceId,
 ) -> Result<(), ImportError>
-    ensures { OnOk result (ChangesOnly D.Disk space world.old world.new) }
+    ensures changes { OnOk result (ChangesOnly D.Disk space world.old world.new) }
+    ensures goes_on { MayGoOn D.Disk world.old world.new }
 {
     world.sound();
     let command = Command::Fork { space: parent };
@@ -141,7 +143,8 @@ fn fork_into<D: Disk>(
 ///
 /// `Answer` where the fork is refused: as no-such-space where another number is free, and as `fork` is.
 pub fn make_space<D: Disk>(world: &mut World<D>, space: SpaceId) -> Result<(), ImportError>
-    ensures { OnOk result (ChangesOnly D.Disk space world.old world.new) }
+    ensures changes { OnOk result (ChangesOnly D.Disk space world.old world.new) }
+    ensures goes_on { MayGoOn D.Disk world.old world.new }
 {
     let parent = parent_of(world.core().memory(), space);
     fork_into(world, parent, space)?;

@@ -4,12 +4,13 @@ ghost use Rattle.std.specs.Prelude.{take, vec_len, vec_capacity, IfOk, IfSome, I
 ghost use Rattle.std.specs.List.{filter};
 ghost use Rattle.sd_journal.specs.Kept.{HasGrown, HasSameNumbers, JournalView, entry_count, is_after_entries};
 ghost use Rattle.sd_journal.specs.Kept.{next_number};
-ghost use Rattle.sd_journal.specs.History.{History, pending, unless_it_is};
+ghost use Rattle.sd_journal.specs.History.{History, pending};
 ghost use Rattle.sd_journal.specs.Marked.{Told, Noted, entries_of};
 ghost use Rattle.sd_journal.specs.Trimming.{Ends, EndsAt, TakesFront};
 
 use crate::entry::Entry;
 use crate::mark::Mark;
+use crate::numbers::pending_after;
 use crate::placed_mark::PlacedMark;
 use std::alloc::{AllocError, Global};
 use std::marker::Model;
@@ -293,26 +294,6 @@ fn ended_at(entries: &[Entry], checkpoint: u64) -> Option<usize>
         found = pending_after(found, entry);
     }
     None
-}
-
-/// The number of the pending checkpoint, with one more entry.
-fn pending_after(before: Option<u64>, entry: &Entry) -> Option<u64>
-    ensures { (earlier : History) → before ≡ pending earlier
-        → result ≡ pending (entry.now ∷ earlier) }
-{
-    match entry {
-        Entry::Applied { .. } => before,
-        Entry::Freeze(number) => Some(*number),
-        Entry::Acked(number) | Entry::Cancelled(number) => unless_it_is(*number, before),
-        Entry::Reopened(_) => None,
-    }
-}
-
-/// A pending checkpoint's number, unless it is the one that ended.
-fn unless_it_is(ended: u64, before: Option<u64>) -> Option<u64>
-    ensures { result ≡ unless_it_is ended before }
-{
-    if before == Some(ended) { None } else { before }
 }
 
 /// Whether an entry ended the pending of a checkpoint, where that is found to be pending before.

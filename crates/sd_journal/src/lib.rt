@@ -6,6 +6,7 @@ mod entry;
 mod journal;
 mod laws;
 mod mark;
+mod numbers;
 mod origin;
 mod placed_mark;
 mod plain_pages;
@@ -19,6 +20,7 @@ pub use laws::{
     worked_journals,
 };
 pub use mark::Mark;
+pub use numbers::{last_number, pending_number};
 pub use origin::Origin;
 pub use plain_pages::{Pages, copy_of_pages, zero_page};
 pub use receipt::Receipt;

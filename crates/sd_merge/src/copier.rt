@@ -208,7 +208,7 @@ impl Copier {
         requires stage { self.old.stage ≡ PassStage }
         requires free { self.old.taking ≡ None }
         requires some { 0 < self.old.ahead }
-        requires behind { IsAfterPlace (cursor self.old) (space, page) }
+        requires after { IsAfterPlace (cursor self.old) (space, page) }
         ensures zero { IfOk result (λ step. IsZeroStep step × TakesZero (space, page) self.old self.new) }
         ensures errors { IfErr result (λ e. e ≡ OutOfMemory) }
         ensures err { OnErr result (self.new ≡ self.old) }
@@ -230,7 +230,7 @@ impl Copier {
         requires stage { self.old.stage ≡ PassStage }
         requires free { self.old.taking ≡ None }
         requires some { 0 < self.old.ahead }
-        requires behind { IsAfterPlace (cursor self.old) (space, page) }
+        requires after { IsAfterPlace (cursor self.old) (space, page) }
         ensures read { IfOk result (IsReadCallOf
             (λ request. ReadsPage (space, page) slot place self.old request self.new
             × IsAskedBy Merger ticket request)) }

@@ -65,7 +65,7 @@ impl Copies {
         kind: RunKind,
     ) -> Result<(), AllocError>
         requires own { kind ≢ Parent }
-        requires behind { IsAfterPlace (last_of None self.old) (space, page) }
+        requires after { IsAfterPlace (last_of None self.old) (space, page) }
         ensures put { OnOk result (self.new
             ≡ self.old ++ (record { place = (space, page); kind = kind }) ∷ []) }
         ensures err { OnErr result (self.new ≡ self.old) }

@@ -10,7 +10,7 @@ use std::alloc::{AllocError, Global};
 /// The runs of a space that may be the first of these, and the spaces after it.
 fn split_space(spaces: &[SpaceTable], space: SpaceId) -> (&[Run], &[SpaceTable])
     ensures runs { result.0.now ≡ front_runs space (listed spaces.now) }
-    ensures behind { listed result.1.now ≡ spaces_after space (listed spaces.now) }
+    ensures after { listed result.1.now ≡ spaces_after space (listed spaces.now) }
 {
     let Some((first, others)) = spaces.split_first() else {
         return (&[], spaces);

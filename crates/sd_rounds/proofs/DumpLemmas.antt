@@ -80,9 +80,9 @@ ahead_visited : (cut old new : Contents) (pass : Pass) (at : Place) (page : Page
     → page_at new q.0 q.1 ≡ page_at cut q.0 q.1
 ahead_visited cut old new pass at page v q ahead = grind (arith, both_ways, passed_here, apart_page, ahead_more)
 
-behind_visited : (cut old new : Contents) (pass : Pass) (at : Place) (page : PageState) → Visits cut old new pass at page → (q : Place) (found : PageState) → has_passed (Some at) q ≡ true
+passed_visited : (cut old new : Contents) (pass : Pass) (at : Place) (page : PageState) → Visits cut old new pass at page → (q : Place) (found : PageState) → has_passed (Some at) q ≡ true
     → page_at new q.0 q.1 ≡ Some found → found.soft_dirty ≡ false
-behind_visited cut old new pass at page v q found passed there = elim (same_or_apart at q) [
+passed_visited cut old new pass at page v q found passed there = elim (same_or_apart at q) [
   | inl e ↦
       let now : page_at new q.0 q.1 ≡ Some (cleared_page page) =
       subst (λ (p : Place). page_at new p.0 p.1 ≡ Some (cleared_page page)) e (v.cleared.here ∙ ap (option_map cleared_page) v.there) in
@@ -91,7 +91,7 @@ behind_visited cut old new pass at page v q found passed there = elim (same_or_a
       let before : page_at old q.0 q.1 ≡ Some found = sym (v.cleared.others q.0 q.1 (apart_page at q apart)) ∙ there in
       elim (passed_next old.spaces pass.after at q v.next (is_some_at (page_at old q.0 q.1) found before) passed) [
         | inl e ↦ absurd (apart e)
-        | inr was ↦ v.dumping.behind q found was before
+        | inr was ↦ v.dumping.passed q found was before
       ]
 ]
 
@@ -100,7 +100,7 @@ visit_takes : (cut old new : Contents) (pass : Pass) (at : Place) (page : PageSt
 visit_takes cut old new pass at page v takes = record {
   plain = v.same ∙ v.dumping.plain;
   ahead = ahead_visited cut old new pass at page v;
-  behind = behind_visited cut old new pass at page v;
+  passed = passed_visited cut old new pass at page v;
   kinds = λ q passed untaken. elim (same_or_apart at q) [
     | inl e ↦ absurd (untaken (record { place = at; copied = [] }) (record { is = refl; here = e }))
     | inr apart ↦ kind_before cut pass old at q v.none v.rising v.next v.dumping passed apart
@@ -114,7 +114,7 @@ visit_leaves : (cut old new : Contents) (pass : Pass) (at : Place) (page : PageS
 visit_leaves cut old new pass at page v leaves = record {
   plain = v.same ∙ v.dumping.plain;
   ahead = ahead_visited cut old new pass at page v;
-  behind = behind_visited cut old new pass at page v;
+  passed = passed_visited cut old new pass at page v;
   kinds = λ q passed untaken. elim (same_or_apart at q) [
     | inl e ↦ subst (λ (p : Place). kind_at (put_after pass.entries at Parent) p ≡ right_kind pass.takes_all (page_at cut p.0 p.1)) e
         (kind_put_here pass.entries at Parent (missing pass.entries at v.rising.rises (v.rising.ahead at (above_not_passed pass.after at v.next.1)))
@@ -144,7 +144,7 @@ copies : (cut : Contents) (pass : Pass) (memory : Contents) (taking : Taking) (m
 copies cut pass memory taking more is dumping = record {
   plain = dumping.plain;
   ahead = dumping.ahead;
-  behind = dumping.behind;
+  passed = dumping.passed;
   kinds = λ q passed untaken. dumping.kinds q passed (λ other taken.
       untaken (record { place = taking.place; copied = taking.copied ++ more }) (record { is = refl; here = is_at pass q taking other is taken }));
   taken = λ other t. subst (λ (x : Taking). WasToBeTaken cut (copied_more pass taking more) x)
@@ -168,7 +168,7 @@ same_bytes law stored chain cut pass memory taking is rising long keeps dumping 
     let passed : has_passed pass.after taking.place ≡ true =
     subst (λ (a : Option Place). has_passed a taking.place ≡ true) (sym (rising.taken taking is).0) (passed_here taking.place) in
     let clean : clean_at memory taking.place.0 taking.place.1 ≡ Some found.0.bytes =
-    clean_there (page_at memory taking.place.0 taking.place.1) found.0 found.0.bytes found.1 (dumping.behind taking.place found.0 passed found.1) refl in
+    clean_there (page_at memory taking.place.0 taking.place.1) found.0 found.0.bytes found.1 (dumping.passed taking.place found.0 passed found.1) refl in
     (keeps taking.place.0 taking.place.1 found.0.bytes clean (λ _. passed)).full taking (record { is = is; here = refl }) long ∙ found.2
 
 -- a page whose copy is what stood there at the freeze
@@ -178,7 +178,7 @@ pub enters_same : (cut : Contents) (pass : Pass) (memory : Contents) (taking : T
 enters_same cut pass memory taking is rising dumping was same = record {
   plain = dumping.plain;
   ahead = dumping.ahead;
-  behind = dumping.behind;
+  passed = dumping.passed;
   kinds = λ q passed _. elim (same_or_apart taking.place q) [
     | inl e ↦ subst (λ (p : Place). kind_at (put_after pass.entries taking.place (kind_of_bytes taking.copied)) p ≡ right_kind pass.takes_all (page_at cut p.0 p.1)) e
         (kind_put_here pass.entries taking.place (kind_of_bytes taking.copied) (missing pass.entries taking.place rising.rises (rising.taken taking is).1) ∙ sym must_dump)
@@ -226,8 +226,8 @@ ends law stored chain cut pass memory none rising next keeps dumping = record {
   bytes = λ at page there.
       let found = other_page law memory cut dumping.plain at page there in
       let passed = passed_all memory.spaces pass.after at next (is_some_at (page_at memory at.0 at.1) found.0 found.1) in
-      let clean = clean_there (page_at memory at.0 at.1) found.0 page.bytes found.1 (dumping.behind at found.0 passed found.1) found.2 in
-      (keeps at.0 at.1 page.bytes clean (λ _. passed)).behind passed (none_taken pass at none);
+      let clean = clean_there (page_at memory at.0 at.1) found.0 page.bytes found.1 (dumping.passed at found.0 passed found.1) found.2 in
+      (keeps at.0 at.1 page.bytes clean (λ _. passed)).passed passed (none_taken pass at none);
 }
 
 pub dump_laws : ClearLaw → PlainLaw → DumpLaws

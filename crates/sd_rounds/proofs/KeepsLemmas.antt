@@ -102,10 +102,10 @@ moved_on : (stored : Stored) (chain : Chain) (pass moved : Pass) (old : Contents
 moved_on stored chain pass moved old at q bytes next none apart clean after untaken more held = record {
   copied = λ taking taken. absurd (untaken taking taken);
   full = λ taking taken. absurd (untaken taking taken);
-  behind = λ passed _.
+  passed = λ passed _.
       elim (passed_next old.spaces pass.after at q next (clean_mapped (page_at old q.0 q.1) bytes clean) (subst (λ a. has_passed a q ≡ true) after passed)) [
         | inl e ↦ absurd (apart e)
-        | inr before ↦ more (held.behind before (none_taken pass q none))
+        | inr before ↦ more (held.passed before (none_taken pass q none))
       ];
   ahead = λ ahead. held.ahead (ahead_more pass.after at q next.1 (subst (λ a. has_passed a q ≡ false) after ahead));
 }
@@ -123,7 +123,7 @@ visit_takes stored chain pass old new at none next cleared keeps = λ space numb
       copied = λ taking taken. ap (λ (t : Taking). t.copied) (sym (one_some began taking refl taken.is))
           ∙ ap (λ (t : Taking). take (length t.copied) bytes) (one_some began taking refl taken.is);
       full = λ taking taken long. absurd (let f : 0 ≡ 4096 = ap (λ (t : Taking). length t.copied) (one_some began taking refl taken.is) ∙ long in omega arith);
-      behind = λ passed untaken. absurd (untaken began (record { is = refl; here = e }));
+      passed = λ passed untaken. absurd (untaken began (record { is = refl; here = e }));
       ahead = λ ahead. absurd (both_ways (has_passed (Some at) q) ahead (subst (λ (p : Place). has_passed (Some at) p ≡ true) e (passed_here at)));
     }
 
@@ -153,7 +153,7 @@ visit_leaves stored chain pass old new at page none next there clean_page part c
     here q bytes clean e = record {
       copied = λ taking taken. absurd (none_taken (left_to_parent pass at) q refl taking taken);
       full = λ taking taken. absurd (none_taken (left_to_parent pass at) q refl taking taken);
-      behind = λ _ _. subst (λ (p : Place). EntriesGive stored chain (put_after pass.entries at Parent) p bytes) e
+      passed = λ _ _. subst (λ (p : Place). EntriesGive stored chain (put_after pass.entries at Parent) p bytes) e
           (gives_parent stored chain pass.entries at bytes (below bytes (subst (λ (p : Place). clean_at new p.0 p.1 ≡ Some bytes) (sym e) clean)));
       ahead = λ ahead. absurd (both_ways (has_passed (Some at) q) ahead (subst (λ (p : Place). has_passed (Some at) p ≡ true) e (passed_here at)));
     }
@@ -208,7 +208,7 @@ copies stored chain pass memory taking page sector is there whole within at_sect
           let f = subst (λ (t : Taking). t.copied ≡ take (length t.copied) bytes) e (front q bytes clean held at_q) in
           let w : length bytes ≡ 4096 = ap (λ (b : List ℕ). length b) (sym (same_bytes q bytes clean at_q)) ∙ whole in
           f ∙ take_all (length other.copied) bytes (omega arith);
-      behind = λ passed untaken. held.behind passed (λ other taken. untaken more (record { is = refl; here = is_at pass q taking other is taken }));
+      passed = λ passed untaken. held.passed passed (λ other taken. untaken more (record { is = refl; here = is_at pass q taking other is taken }));
       ahead = held.ahead;
     }
 
@@ -220,7 +220,7 @@ drops stored chain pass memory taking is gone keeps = λ space number bytes clea
     still q bytes clean held = record {
       copied = λ other taken. absurd (none_taken (dropped pass) q refl other taken);
       full = λ other taken. absurd (none_taken (dropped pass) q refl other taken);
-      behind = λ passed _. held.behind passed (λ other taken.
+      passed = λ passed _. held.passed passed (λ other taken.
           no_clean (page_at memory q.0 q.1) bytes (subst (λ (p : Place). page_at memory p.0 p.1 ≡ None) (is_at pass q taking other is taken) gone) clean);
       ahead = held.ahead;
     }
@@ -237,16 +237,16 @@ enters old new chain pass memory taking kind is long agree gives keeps = λ spac
     still q bytes held (inl e) = record {
       copied = λ other taken. absurd (none_taken (with_entry pass taking.place kind) q refl other taken);
       full = λ other taken. absurd (none_taken (with_entry pass taking.place kind) q refl other taken);
-      behind = λ _ _. subst (λ (p : Place). EntriesGive new chain (put_after pass.entries taking.place kind) p bytes) e
+      passed = λ _ _. subst (λ (p : Place). EntriesGive new chain (put_after pass.entries taking.place kind) p bytes) e
           (gives bytes (held.full taking (record { is = is; here = e }) long));
       ahead = held.ahead;
     }
     still q bytes held (inr apart) = record {
       copied = λ other taken. absurd (none_taken (with_entry pass taking.place kind) q refl other taken);
       full = λ other taken. absurd (none_taken (with_entry pass taking.place kind) q refl other taken);
-      behind = λ passed _. gives_more new chain pass.entries taking.place kind q bytes
+      passed = λ passed _. gives_more new chain pass.entries taking.place kind q bytes
           (gives_agrees old new chain chain pass.entries q bytes agree (λ _ _ below. below)
-          (held.behind passed (λ other taken. apart (is_at pass q taking other is taken))));
+          (held.passed passed (λ other taken. apart (is_at pass q taking other is taken))));
       ahead = held.ahead;
     }
 
@@ -275,7 +275,7 @@ agrees old new one other pass memory agree within keeps = λ space number bytes 
     still q bytes held = record {
       copied = held.copied;
       full = held.full;
-      behind = λ passed untaken. gives_agrees old new one other pass.entries q bytes agree within (held.behind passed untaken);
+      passed = λ passed untaken. gives_agrees old new one other pass.entries q bytes agree within (held.passed passed untaken);
       ahead = λ ahead. within q bytes (held.ahead ahead);
     }
 
@@ -283,7 +283,7 @@ ends : (stored : Stored) (chain : Chain) (pass : Pass) (memory : Contents) → p
     → Keeps stored chain pass memory → Gave stored chain pass.entries memory
 ends stored chain pass memory none next keeps = λ space number bytes clean.
     let passed = passed_all memory.spaces pass.after (space, number) next (clean_mapped (page_at memory space number) bytes clean) in
-    (keeps space number bytes clean (λ _. passed)).behind passed (none_taken pass (space, number) none)
+    (keeps space number bytes clean (λ _. passed)).passed passed (none_taken pass (space, number) none)
 
 still_gave : CleanLaw → (old new : Stored) (one other : Chain) (entries : List ImageEntry) (before after : Contents) (event : MemoryEvent) → IsSound before → Step before event after → IsCall event
     → AgreeAt entries old new → ChainWithin one other → Gave old one entries before → Gave new other entries after

@@ -35,7 +35,7 @@ pub record WasToBeTaken (cut : Contents) (pass : Pass) (taking : Taking) : Type 
 pub record IsDumping (cut : Contents) (pass : Pass) (memory : Contents) : Type 0 where
   pub plain : plain_of memory ≡ plain_of cut
   pub ahead : (at : Place) → has_passed pass.after at ≡ false → page_at memory at.0 at.1 ≡ page_at cut at.0 at.1
-  pub behind : (at : Place) (page : PageState) → has_passed pass.after at ≡ true → page_at memory at.0 at.1 ≡ Some page
+  pub passed : (at : Place) (page : PageState) → has_passed pass.after at ≡ true → page_at memory at.0 at.1 ≡ Some page
       → page.soft_dirty ≡ false
   pub kinds : (at : Place) → has_passed pass.after at ≡ true → ((taking : Taking) → IsTaken pass at taking → ⊥)
       → kind_at pass.entries at ≡ right_kind pass.takes_all (page_at cut at.0 at.1)

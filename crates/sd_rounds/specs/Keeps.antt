@@ -42,7 +42,7 @@ pub data EntriesGive (stored : Stored) (chain : Chain) (entries : List ImageEntr
 pub record PageIsHeld (stored : Stored) (chain : Chain) (pass : Pass) (at : Place) (bytes : List ℕ) : Type 0 where
   pub copied : (taking : Taking) → IsTaken pass at taking → taking.copied ≡ take (length taking.copied) bytes
   pub full : (taking : Taking) → IsTaken pass at taking → length taking.copied ≡ 4096 → taking.copied ≡ bytes
-  pub behind : has_passed pass.after at ≡ true → ((taking : Taking) → IsTaken pass at taking → ⊥)
+  pub passed : has_passed pass.after at ≡ true → ((taking : Taking) → IsTaken pass at taking → ⊥)
       → EntriesGive stored chain pass.entries at bytes
   pub ahead : has_passed pass.after at ≡ false → below_of chain at bytes
 

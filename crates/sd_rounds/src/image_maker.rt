@@ -76,7 +76,7 @@ fn page_request(slot: usize, place: usize, page: Vec<u8>, ticket: u64) -> Reques
 }
 
 /// The stage after the format of a slot: a dump freezes the memory.
-fn behind_format(kind: Kind) -> Stage
+fn after_format(kind: Kind) -> Stage
     ensures { (plan : Planned) → result ≡ stage_when_done kind (Format plan) }
 {
     match kind {

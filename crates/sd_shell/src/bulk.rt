@@ -1,4 +1,5 @@
 //! `put` and `get` of a shell: requests for bytes in bulk, which the language of scripts doesn't have.
+ghost use Rattle.sd_world.specs.Goes.{GoesOn};
 
 use sd_command::Command;
 use sd_disk::Disk;
@@ -156,7 +157,9 @@ pub(crate) fn answer_put<D: Disk, W: Write>(
     place: Place,
     bytes: &[u8],
     out: &mut Output<W>,
-) -> Result<(), Stop> {
+) -> Result<(), Stop>
+    ensures goes_on { GoesOn D.Disk world.old world.new }
+{
     match put_bytes(alloc, world, place, bytes)? {
         Some(halt) => print_halt(alloc, halt, out),
         None => {
@@ -173,7 +176,10 @@ pub(crate) fn answer_get<D: Disk, W: Write>(
     place: Place,
     length: usize,
     out: &mut Output<W>,
-) -> Result<(), Stop> {
+) -> Result<(), Stop>
+    ensures goes_on { GoesOn D.Disk world.old world.new }
+{
+    world.sound();
     let mut bytes = Vec::with_capacity(alloc, length)?;
     match get_bytes(world, place, length, &mut bytes)? {
         Some(halt) => print_halt(alloc, halt, out),

@@ -6,5 +6,6 @@ mod bulk;
 mod explained;
 mod requests;
 mod shell;
+mod waiting;
 
 pub use shell::shell_program;

@@ -1,21 +1,25 @@
 //! `ckpt shell`: requests from the standard input, one by one. What is answered is printed before the shell waits for
 //! more of its input.
-ghost use Rattle.std.specs.Prelude.{◌≡◌, ◌↔◌, IsTrue};
+ghost use Rattle.std.specs.Prelude.{◌≡◌, ◌↔◌, IfOk, IsTrue};
+ghost use Rattle.sd_disk.specs.Folder.{outside_of};
+ghost use Rattle.sd_world.specs.Goes.{GoesOn};
+ghost use Rattle.sd_shell.specs.Requests.{AnswersRequests, IsLeftByRequests};
 
 use crate::asking::{Asking, asking_of, end_prompt, prompt};
 use crate::bulk::{Bulk, BulkLine, MOST_BYTES, Way, answer_get, answer_put, parse_bulk};
 use crate::explained::{print_requests, refuse_line, report_rounds};
-use crate::requests::{Brought, Requests};
+use crate::requests::Requests;
+use crate::waiting::{drop_bytes, wait_for_bytes, wait_for_line};
 use sd_command::{Refusal, Reply};
 use sd_core::Core;
 use sd_disk::Disk;
 use sd_exit::{Output, Stop, exit};
 use sd_gate::Worker;
-use sd_program::{Called, FewSlots, Inputs, STANDARD_INPUT, unread};
+use sd_program::{Called, FewSlots, Inputs};
 use sd_restore::Fault;
 use sd_run::{FRAMES, Watch, run_line, unopened};
 use sd_script::{Answer, Line, Script, ScriptError};
-use sd_watching::{CountsAsked, Course, Session, slots_for};
+use sd_watching::{CountedDisk, CountsAsked, Course, Session, slots_for};
 use sd_world::{OpenError, World};
 use std::alloc::Global;
 use std::cell::Cell;
@@ -81,11 +85,16 @@ fn run_shell<D: Disk, I: Read + Drop, W: Write, S: Watch>(
     input: I,
     out: &mut Output<W>,
     watch: &mut S,
-) -> (D, Result<(), Stop>) {
+) -> (D, Result<(), Stop>)
+    // The disk was only read, or the store was opened and requests were answered. Whatever moment of it a crash comes,
+    // the journal of that moment allows what it leaves.
+    ensures left { IsLeftByRequests D.Disk disk result.0 }
+{
     match World::open(asked.called.rt.alloc(), disk, FRAMES) {
         Ok(mut world) => {
             let mut requests = Requests::new(asked.called.rt.alloc(), input);
             let ended = answer_all(asked, &mut world, &mut requests, out, watch);
+            world.sound();
             (world.close(), ended)
         }
         Err(OpenError { fault, disk }) => (disk, Err(unopened(fault))),
@@ -99,7 +108,9 @@ fn answer_all<D: Disk, I: Read, W: Write, S: Watch>(
     requests: &mut Requests<I>,
     out: &mut Output<W>,
     watch: &mut S,
-) -> Result<(), Stop> {
+) -> Result<(), Stop>
+    ensures goes_on { GoesOn D.Disk world.old world.new }
+{
     run_line(asked.called.rt.alloc(), world, Line::Reopen, out, watch)?;
     prompt(asked.asking, out)?;
     for number in 1..usize::MAX {
@@ -118,7 +129,10 @@ fn answer_next<D: Disk, I: Read, W: Write, S: Watch>(
     number: usize,
     out: &mut Output<W>,
     watch: &mut S,
-) -> Result<bool, Stop> {
+) -> Result<bool, Stop>
+    ensures goes_on { GoesOn D.Disk world.old world.new }
+{
+    world.sound();
     let Some(length) = wait_for_line(asked, requests, out)? else {
         end_prompt(asked.asking, out)?;
         return Ok(false);
@@ -134,36 +148,6 @@ fn answer_next<D: Disk, I: Read, W: Write, S: Watch>(
     Ok(true)
 }
 
-/// How long the next line is, once all of it came; none at the end of the input.
-fn wait_for_line<I: Read, W: Write>(
-    asked: Asked<'_>,
-    requests: &mut Requests<I>,
-    out: &mut Output<W>,
-) -> Result<Option<usize>, Stop> {
-    for _ in 0..u64::MAX {
-        if let Some(length) = requests.line_length() {
-            return Ok(Some(length));
-        }
-        if wait(asked, requests, out)? == Brought::End {
-            return Ok(requests.line_length());
-        }
-    }
-    Ok(None)
-}
-
-/// Prints what is held of the answers, and waits for more of the input.
-fn wait<I: Read, W: Write>(
-    asked: Asked<'_>,
-    requests: &mut Requests<I>,
-    out: &mut Output<W>,
-) -> Result<Brought, Stop> {
-    out.flush()?;
-    match requests.wait() {
-        Ok(brought) => Ok(brought),
-        Err(error) => Err(unread(asked.called.rt, asked.called.causes, STANDARD_INPUT, &error)),
-    }
-}
-
 /// Answers the request of a line, if it has one. One for bytes in bulk is returned.
 fn answer<D: Disk, W: Write, S: Watch>(
     asked: Asked<'_>,
@@ -172,7 +156,10 @@ fn answer<D: Disk, W: Write, S: Watch>(
     number: usize,
     out: &mut Output<W>,
     watch: &mut S,
-) -> Result<Option<Bulk>, Stop> {
+) -> Result<Option<Bulk>, Stop>
+    ensures goes_on { GoesOn D.Disk world.old world.new }
+{
+    world.sound();
     if line == HELP && asked.asking == Asking::Prompts {
         print_requests(out)?;
         return Ok(None);
@@ -193,7 +180,10 @@ fn answer_line<D: Disk, W: Write, S: Watch>(
     number: usize,
     out: &mut Output<W>,
     watch: &mut S,
-) -> Result<(), Stop> {
+) -> Result<(), Stop>
+    ensures goes_on { GoesOn D.Disk world.old world.new }
+{
+    world.sound();
     match request_of(asked.called.rt.alloc(), line) {
         Ok(Some(request)) => answer_request(asked, world, request, out, watch),
         Ok(None) => Ok(()),
@@ -216,7 +206,9 @@ fn answer_request<D: Disk, W: Write, S: Watch>(
     request: Line,
     out: &mut Output<W>,
     watch: &mut S,
-) -> Result<(), Stop> {
+) -> Result<(), Stop>
+    ensures goes_on { GoesOn D.Disk world.old world.new }
+{
     let wanted = slots_for(&request, 0);
     let rounds = rounds_of(&request);
     let worker = worker_of(&request);
@@ -259,7 +251,10 @@ fn hand_in_all<D: Disk, S: Watch>(
     world: &mut World<D>,
     failed: Worker,
     watch: &mut S,
-) -> Result<(), Stop> {
+) -> Result<(), Stop>
+    ensures goes_on { GoesOn D.Disk world.old world.new }
+{
+    world.sound();
     for worker in [failed, Worker::Dumper, Worker::Merger, Worker::Opener] {
         hand_in(asked, world, worker, watch)?;
     }
@@ -272,7 +267,10 @@ fn hand_in<D: Disk, S: Watch>(
     world: &mut World<D>,
     worker: Worker,
     watch: &mut S,
-) -> Result<(), Stop> {
+) -> Result<(), Stop>
+    ensures goes_on { GoesOn D.Disk world.old world.new }
+{
+    world.sound();
     let alloc = asked.called.rt.alloc();
     let mut unseen = Output::new(Vec::new(alloc));
     for _ in 0..CALLS {
@@ -291,7 +289,10 @@ fn answer_bulk<D: Disk, I: Read, W: Write>(
     bulk: Bulk,
     requests: &mut Requests<I>,
     out: &mut Output<W>,
-) -> Result<(), Stop> {
+) -> Result<(), Stop>
+    ensures goes_on { GoesOn D.Disk world.old world.new }
+{
+    world.sound();
     let length = bulk.length.min(usize::MAX as u64) as usize;
     if length > MOST_BYTES {
         if bulk.way == Way::Put {
@@ -312,38 +313,6 @@ fn answer_bulk<D: Disk, I: Read, W: Write>(
     answer_put(alloc, world, bulk.place, bytes, out)
 }
 
-/// Takes so many bytes of the input, once they came; fewer where it ends before.
-fn wait_for_bytes<'a, I: Read, W: Write>(
-    asked: Asked<'_>,
-    requests: &'a mut Requests<I>,
-    length: usize,
-    out: &mut Output<W>,
-) -> Result<&'a [u8], Stop> {
-    for _ in 0..u64::MAX {
-        if requests.waiting() >= length || wait(asked, requests, out)? == Brought::End {
-            break;
-        }
-    }
-    Ok(requests.take(length))
-}
-
-/// Reads so many bytes of the input, and drops them.
-fn drop_bytes<I: Read, W: Write>(
-    asked: Asked<'_>,
-    requests: &mut Requests<I>,
-    length: usize,
-    out: &mut Output<W>,
-) -> Result<(), Stop> {
-    let mut left = length;
-    for _ in 0..u64::MAX {
-        left = left.saturating_sub(requests.take(left).len());
-        if left == 0 || wait(asked, requests, out)? == Brought::End {
-            break;
-        }
-    }
-    Ok(())
-}
-
 /// `ckpt shell`.
 ///
 /// # Errors
@@ -353,7 +322,11 @@ pub fn shell_program<R: Clock + Wait, W: Write>(
     called: Called<'_>,
     clock: &R,
     out: &mut Output<W>,
-) -> Result<u8, Stop> {
+) -> Result<u8, Stop>
+    // The files that are found in the folder of the command line were only read, or requests were answered over them.
+    ensures answers { IfOk result (λ _. AnswersRequests ⟦<CountedDisk<'static> as Disk>⟧
+        (outside_of called.entry.found.now).found) }
+{
     let rt = called.rt;
     let failed = Cell::new(None);
     let asked = Asked {

@@ -148,7 +148,7 @@ more_tables parent least old new at kind are ends above sourced begun = record {
     runs = begun.runs parent sourced
 
     now : listed new ≡ listed old ++ listing_of begun.table ∷ []
-    now = ap listed begun.behind ∙ listed_put old begun.table
+    now = ap listed begun.after ∙ listed_put old begun.table
 
 least_put : (least : ℕ) (tables : List Listed) (t : Listed) → next_least least (tables ++ t ∷ []) ≡ t.space + 1
 least_put least [] t = refl
@@ -205,12 +205,12 @@ record EndsAt {X : Type 0} (xs : List X) (place : ℕ) (d : X) : Type 0 where
 at_end : {X : Type 0} (xs : List X) (place : ℕ) (d : X) → length xs ≡ suc place → EndsAt xs place d
 at_end (x ∷ []) zero d long = record { front = []; is = refl; put = λ _. refl; got = refl }
 at_end (x ∷ y ∷ xs) (suc place) d long =
-    let behind : EndsAt (y ∷ xs) place d = at_end (y ∷ xs) place d (omega arith) in
+    let more : EndsAt (y ∷ xs) place d = at_end (y ∷ xs) place d (omega arith) in
     record {
-      front = x ∷ behind.front;
-      is = ap (λ l. x ∷ l) behind.is;
-      put = λ z. ap (λ l. x ∷ l) (behind.put z);
-      got = behind.got;
+      front = x ∷ more.front;
+      is = ap (λ l. x ∷ l) more.is;
+      put = λ z. ap (λ l. x ∷ l) (more.put z);
+      got = more.got;
     }
 at_end _ _ d long = absurd (omega arith)
 

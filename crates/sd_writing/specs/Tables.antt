@@ -45,7 +45,7 @@ pub record IsPushed (parent least : ℕ) (old new : List Listed) (at : Place) (k
 -- a space with one page was put after the others
 pub record SpaceIsBegun (old new : List SpaceTable) (at : Place) (kind : RunKind) : Type 0 where
   pub table : SpaceTable
-  pub behind : new ≡ old ++ table ∷ []
+  pub after : new ≡ old ++ table ∷ []
   pub space : table.space ≡ at.0
   pub areas : table.areas.items ≡ []
   pub runs : (parent : ℕ) → IsSourced parent kind → AreRunsOf parent ((at.1, kind) ∷ []) table.runs.items

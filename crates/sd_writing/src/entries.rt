@@ -22,7 +22,7 @@ pub fn push_entry(
     page: PageNo,
     kind: RunKind,
 ) -> Result<(), AllocError>
-    requires behind { EndBefore (space, page) (listed tables.old.items) }
+    requires after { EndBefore (space, page) (listed tables.old.items) }
     ensures more { (parent least : ℕ) → AreTables parent least (listed tables.old.items)
         → IsSourced parent kind → least ≤ space
         → OnOk result (IsPushed parent least (listed tables.old.items) (listed tables.new.items)

@@ -8,7 +8,7 @@ ghost use Rattle.sd_writing.specs.Entries.{data_pages};
 ghost use Rattle.sd_rounds.specs.Pass.{opened};
 ghost use Rattle.sd_rounds.specs.Writes.{no_writes};
 
-use super::{ImageMaker, behind_format};
+use super::{ImageMaker, after_format};
 use crate::page_buffers::PageBuffers;
 use crate::stage::{Stage, put_stage};
 use sd_chain::PlacedTable;
@@ -67,7 +67,7 @@ impl ImageMaker {
                 Written::More
             }
             Settled::Finished => {
-                self.stage = behind_format(self.order.kind);
+                self.stage = after_format(self.order.kind);
                 Written::More
             }
         }

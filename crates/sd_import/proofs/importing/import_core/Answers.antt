@@ -23,7 +23,7 @@ returns-then-branch-clause-memory g c =
 pub returns-then-branch-clause-changes : goal.returns-then-branch-clause-changes
 returns-then-branch-clause-changes g c =
     let made : ChangesOnly g.D.Disk c.args.space c.args.world.now c.if-is_none.world = elim c.if-is_none.branch [
-      | then-is_none+in_ok-make_space w ↦ subst (ChangesOnly g.D.Disk c.args.space c.args.world.now) (sym w.world-is) w.in_ok-make_space.ensures
+      | then-is_none+in_ok-make_space w ↦ subst (ChangesOnly g.D.Disk c.args.space c.args.world.now) (sym w.world-is) w.in_ok-make_space.ensures.changes
       | else-is_none w ↦ subst (ChangesOnly g.D.Disk c.args.space c.args.world.now) (sym w.world-is) (ChangesOnly.nothing refl)
     ] in
-    changes_further g.D.Disk c.args.space c.args.world.now c.if-is_none.world c.take_core.new.world made c.in_ok-take_core.ensures
+    changes_further g.D.Disk c.args.space c.args.world.now c.if-is_none.world c.take_core.new.world made c.in_ok-take_core.ensures.changes

@@ -18,7 +18,7 @@ push_page-requires c =
     (ap (λ n. n - 1) (c.len-place.ensures ∙ c.args.tables.now.ok.0)) there c.index_mut-last.ensures.value in
     record {
       behind = last_ends last.front c.index_mut-last.result.now (c.args.space, c.args.page)
-          (subst (λ (t : List SpaceTable). EndBefore (c.args.space, c.args.page) (listed t)) last.is c.requires.behind) last.here;
+          (subst (λ (t : List SpaceTable). EndBefore (c.args.space, c.args.page) (listed t)) last.is c.requires.after) last.here;
     }
 
 pub returns-clause-more : goal.returns-clause-more
@@ -34,7 +34,7 @@ returns-clause-more c = λ parent least are sourced above.
     (λ both. subst (λ (l : List SpaceTable). IsPushed parent least (listed c.args.tables.now.items) (listed l) (c.args.space, c.args.page) c.args.kind) (sym (last.put new))
     (subst (λ (l : List SpaceTable). IsPushed parent least (listed l) (listed (last.front ++ new ∷ [])) (c.args.space, c.args.page) c.args.kind) (sym last.is)
     (longer_table parent least last.front old new (c.args.space, c.args.page) c.args.kind was
-    (subst (λ (l : List SpaceTable). EndBefore (c.args.space, c.args.page) (listed l)) last.is c.requires.behind)
+    (subst (λ (l : List SpaceTable). EndBefore (c.args.space, c.args.page) (listed l)) last.is c.requires.after)
     last.here refl refl both.0 both.1)))
     (on_ok_both _ _ c.push_page.result
     (c.push_page.ensures.more parent (flat_map run_ways old.runs.items) (record { maximal = last_runs parent least last.front old was; list = refl }) sourced)

@@ -5,7 +5,7 @@ use Rattle.sd_writing.proofs.entries.push_space.Goals as goal
 pub returns-clause-begun : goal.returns-clause-begun
 returns-clause-begun c = record {
   table = _;
-  behind = c.in_ok-push.ensures.items;
+  after = c.in_ok-push.ensures.items;
   space = refl;
   areas = c.new.ensures.items;
   runs = λ parent sourced. c.in_ok-push_page.ensures.more parent []

@@ -1,6 +1,9 @@
-use Rattle.sd_import.specs.Changes.{ChangesOnly}
+use Rattle.sd_import.specs.Changes.{ChangesOnly, MayGoOn}
 use Rattle.sd_import.proofs.importing.Import.map_missing.Given as goal
 
 -- the space alone was changed so far
 abbrev pub invariant-loop-run : goal.invariant-loop-run
-invariant-loop-run g l = ChangesOnly g.D.Disk l.self.space l.fn.world l.world
+invariant-loop-run g l = record {
+  changes : ChangesOnly g.D.Disk l.self.space l.fn.world l.world;
+  goes_on : MayGoOn g.D.Disk l.fn.world l.world;
+}

@@ -1,5 +1,8 @@
-use Rattle.sd_import.proofs.ChangeLemmas.{changes_further}
+use Rattle.sd_import.proofs.ChangeLemmas.{changes_further, may_further}
 use Rattle.sd_import.proofs.importing.Import.store_pieces.Goals as goal
 
 pub loop-piece-preserved : goal.loop-piece-preserved
-loop-piece-preserved g c = changes_further g.D.Disk c.args.self.now.space c.args.world.now c.loop-piece.world c.ask.new.world c.loop-piece.invariant c.in_ok-ask.ensures
+loop-piece-preserved g c = record {
+  changes = changes_further g.D.Disk c.args.self.now.space c.args.world.now c.loop-piece.world c.ask.new.world c.loop-piece.invariant.changes c.in_ok-ask.ensures.changes;
+  goes_on = may_further g.D.Disk c.args.world.now c.loop-piece.world c.ask.new.world c.loop-piece.invariant.goes_on c.ask.ensures.goes_on;
+}

@@ -10,7 +10,7 @@ push_entry-requires c =
     place_back c.self.inside.copy c.self.inside.taking (c.args.space, c.args.page)
     (subst (λ (p : Pass). place_taken p ≡ Some (c.args.space, c.args.page)) (sym c.self.view_is) c.requires.here) in
     record {
-      behind = ends_taken c.self.inside.takes_all c.self.inside.tables.items c.self.inside.after c.self.inside.taking c.self.inside.copy
+      after = ends_taken c.self.inside.takes_all c.self.inside.tables.items c.self.inside.after c.self.inside.taking c.self.inside.copy
           (c.args.space, c.args.page) c.self.invariant is;
     }
 

@@ -16,7 +16,7 @@ invariant_of-self-2 c =
 
 pub push_entry-requires : goal.push_entry-requires
 push_entry-requires c = record {
-  behind = ends_ahead c.self.inside.takes_all c.self.inside.tables.items c.self.inside.after c.self.inside.taking c.self.inside.copy
+  after = ends_ahead c.self.inside.takes_all c.self.inside.tables.items c.self.inside.after c.self.inside.taking c.self.inside.copy
       (c.args.space, c.args.page) c.self.invariant (subst (λ (p : Pass). p.taking ≡ None) (sym c.self.view_is) c.requires.free)
       (subst (λ (p : Pass). is_above p.after c.args.space c.args.page ≡ true) (sym c.self.view_is) c.requires.above) c.requires.least;
 }

@@ -7,7 +7,7 @@ use Rattle.sd_rounds.proofs.round.Round.take_page.Goals as goal
 
 pub push_entry-requires : goal.push_entry-requires
 push_entry-requires c = record {
-  behind = ends_taken c.self.inside.takes_all c.self.inside.tables.items c.self.inside.after c.self.inside.taking c.self.inside.copy
+  after = ends_taken c.self.inside.takes_all c.self.inside.tables.items c.self.inside.after c.self.inside.taking c.self.inside.copy
       (c.in-Some.space, c.in-Some.page) c.self.invariant c.in-Some.is;
 }
 
