@@ -95,6 +95,21 @@ fn part_of(alloc: Global, page: &[u8; PAGE_SIZE], piece: &Piece) -> Result<Vec<u
     }
 }
 
+/// Makes a space that isn't alive.
+///
+/// # Errors
+///
+/// Those of `make_space`.
+fn make_missing<D: Disk>(world: &mut World<D>, space: SpaceId) -> Result<(), ImportError>
+    ensures changes { OnOk result (ChangesOnly D.Disk space world.old world.new) }
+    ensures goes_on { MayGoOn D.Disk world.old world.new }
+{
+    if world.core().memory().areas(space).is_none() {
+        return make_space(world, space);
+    }
+    Ok(())
+}
+
 /// Gives a space the memory of a core, whose headers were read by [`read_core`](sd_elf::read_core), by commands on that
 /// space alone. A space that isn't alive, but has the least number that is free, is made. Next comes a
 /// [`checkpoint`](World::checkpoint), which saves it.
@@ -121,9 +136,7 @@ pub fn import_core<D: Disk, F: CoreFile>(
     ensures imported { IfOk result (λ tally. tally.imported ≡ core.now.extent.pages) }
 {
     world.sound();
-    if world.core().memory().areas(space).is_none() {
-        make_space(world, space)?;
-    }
+    make_missing(world, space)?;
     let before = space_areas(alloc, world.core().memory(), space)?;
     let mut import = Import {
         alloc,

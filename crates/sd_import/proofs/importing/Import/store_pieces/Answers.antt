@@ -6,3 +6,6 @@ loop-piece-preserved g c = record {
   changes = changes_further g.D.Disk c.args.self.now.space c.args.world.now c.loop-piece.world c.ask.new.world c.loop-piece.invariant.changes c.in_ok-ask.ensures.changes;
   goes_on = may_further g.D.Disk c.args.world.now c.loop-piece.world c.ask.new.world c.loop-piece.invariant.goes_on c.ask.ensures.goes_on;
 }
+
+pub returns-in_err-ask-clause-goes_on : goal.returns-in_err-ask-clause-goes_on
+returns-in_err-ask-clause-goes_on g c = may_further g.D.Disk c.args.world.now c.loop-piece.world c.ask.new.world c.loop-piece.invariant.goes_on c.ask.ensures.goes_on

@@ -33,3 +33,12 @@ pub returns-clause-changes : goal.returns-clause-changes
 returns-clause-changes g c = then_ok g.D.Disk c.args.self.now.space c.args.world.now c.loop-segment.world c.protect-2.new.world c.protect-2.result
     c.loop-segment.invariant.changes
     (subst (λ s. OnOk c.protect-2.result (ChangesOnly g.D.Disk s c.loop-segment.world c.protect-2.new.world)) c.loop-segment.invariant.space c.protect-2.ensures.changes)
+
+pub returns-in_err-take_segment-clause-goes_on : goal.returns-in_err-take_segment-clause-goes_on
+returns-in_err-take_segment-clause-goes_on g c = may_further g.D.Disk c.args.world.now c.loop-segment.world c.take_segment.new.world c.loop-segment.invariant.goes_on c.take_segment.ensures.goes_on
+
+pub returns-in_err-protect-clause-goes_on : goal.returns-in_err-protect-clause-goes_on
+returns-in_err-protect-clause-goes_on g c = may_further g.D.Disk c.args.world.now c.map_missing.new.world c.protect.new.world c.map_missing.ensures.goes_on c.protect.ensures.goes_on
+
+pub returns-clause-goes_on : goal.returns-clause-goes_on
+returns-clause-goes_on g c = may_further g.D.Disk c.args.world.now c.loop-segment.world c.protect-2.new.world c.loop-segment.invariant.goes_on c.protect-2.ensures.goes_on

@@ -13,3 +13,6 @@ loop-area-preserved g c = record {
   goes_on = may_further g.D.Disk c.args.world.now c.loop-area.world c.take_area.new.world c.loop-area.invariant.goes_on c.take_area.ensures.goes_on;
   space = c.in_ok-take_area.ensures.space ∙ c.loop-area.invariant.space;
 }
+
+pub returns-in_err-take_area-clause-goes_on : goal.returns-in_err-take_area-clause-goes_on
+returns-in_err-take_area-clause-goes_on g c = may_further g.D.Disk c.args.world.now c.loop-area.world c.take_area.new.world c.loop-area.invariant.goes_on c.take_area.ensures.goes_on

@@ -10,3 +10,6 @@ loop-k-preserved g c = record {
   goes_on = may_further g.D.Disk c.args.world.now c.loop-k.world c.take_page.new.world c.loop-k.invariant.goes_on c.take_page.ensures.goes_on;
   space = c.in_ok-take_page.ensures.space ∙ c.loop-k.invariant.space;
 }
+
+pub returns-in_err-take_page-clause-goes_on : goal.returns-in_err-take_page-clause-goes_on
+returns-in_err-take_page-clause-goes_on g c = may_further g.D.Disk c.args.world.now c.loop-k.world c.take_page.new.world c.loop-k.invariant.goes_on c.take_page.ensures.goes_on

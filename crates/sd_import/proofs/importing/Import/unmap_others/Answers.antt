@@ -10,3 +10,6 @@ loop-run-preserved g c = record {
   goes_on = may_further g.D.Disk c.args.world.now c.loop-run.world c.ask-in-loop-run.new.world c.loop-run.invariant.goes_on c.ask-in-loop-run.ensures.goes_on;
   space = c.loop-run.invariant.space;
 }
+
+pub returns-in_err-ask-clause-goes_on : goal.returns-in_err-ask-clause-goes_on
+returns-in_err-ask-clause-goes_on g c = may_further g.D.Disk c.args.world.now c.loop-run.world c.ask-in-loop-run.new.world c.loop-run.invariant.goes_on c.ask-in-loop-run.ensures.goes_on
