@@ -1,4 +1,8 @@
 //! `ckpt import`: the memory of ELF core files as the memory of a space, one after the other, and a checkpoint of each.
+ghost use Rattle.std.specs.Prelude.{IfOk};
+ghost use Rattle.sd_disk.specs.Folder.{outside_of};
+ghost use Rattle.sd_run.specs.Whole.{IsLeftByEvents, LeavesFiles};
+ghost use Rattle.sd_world.specs.Goes.{GoesOn};
 
 use sd_areas::SpaceId;
 use sd_command::Reply;
@@ -11,7 +15,7 @@ use sd_program::{Called, FewSlots, Inputs, tell};
 use sd_restore::Fault;
 use sd_run::{FRAMES, RunWatch, unopened};
 use sd_script::{Answer, print_answer};
-use sd_watching::{CountsAsked, Course, Session};
+use sd_watching::{CountedDisk, CountsAsked, Course, Session};
 use sd_world::{Event, OpenError, World};
 use std::alloc::Global;
 use std::io;
@@ -50,10 +54,15 @@ fn import_over<D: Disk, W: Write, S: RunWatch>(
     disk: D,
     out: &mut Output<W>,
     watch: &mut S,
-) -> (D, u8) {
+) -> (D, u8)
+    // The disk was only read, or events were made over it. Whatever moment of it a crash comes, the journal of that
+    // moment allows what it leaves.
+    ensures left { IsLeftByEvents D.Disk disk result.0 }
+{
     match World::open(called.rt.alloc(), disk, FRAMES) {
         Ok(mut world) => {
             let ended = import_all(called, saving, sources, &mut world, out, watch);
+            world.sound();
             (world.close(), exit(&ended, out))
         }
         Err(OpenError { fault, disk }) => (disk, exit(&Err(unopened(fault)), out)),
@@ -69,7 +78,9 @@ fn import_all<D: Disk, W: Write, S: RunWatch>(
     world: &mut World<D>,
     out: &mut Output<W>,
     watch: &mut S,
-) -> Result<(), Stop> {
+) -> Result<(), Stop>
+    ensures goes_on { GoesOn D.Disk world.old world.new }
+{
     let reopened = world.do_job(Event::Reopen, Worker::Opener, watch);
     if !matches!(&reopened, Reply::Reopened(_)) {
         return Err(refused(called.rt.alloc(), reopened, out));
@@ -89,7 +100,9 @@ fn import_one<D: Disk, W: Write, S: RunWatch>(
     world: &mut World<D>,
     out: &mut Output<W>,
     watch: &mut S,
-) -> Result<(), Stop> {
+) -> Result<(), Stop>
+    ensures goes_on { GoesOn D.Disk world.old world.new }
+{
     let alloc = called.rt.alloc();
     let file = ShownCore::new(called.rt, &source.file, called.is_watched());
     let imported = import_core(alloc, world, &file, &source.core, saving.space);
@@ -163,7 +176,11 @@ pub fn import_program<R: Clock + Wait, W: Write>(
     names: &[&str],
     asked: ImportAsked<'_>,
     out: &mut Output<W>,
-) -> Result<u8, Stop> {
+) -> Result<u8, Stop>
+    // The files that are found in the folder of the command line were only read, or events were made over them.
+    ensures left { IfOk result (λ _. LeavesFiles ⟦<CountedDisk<'static> as Disk>⟧
+        (outside_of called.entry.found.now).found) }
+{
     let sources = open_cores(called.rt, called.causes, names, out)?;
     let inputs = Inputs {
         paths: names,

@@ -107,3 +107,16 @@ pub record IsPartOfRun {D : Type 0} (g : Ghosts D) (lines : List Line) (old new 
 pub data IsLeftByRun {D : Type 0} (g : Ghosts D) (lines : List Line) (old new : D) : Type 0 where
   only_read : OnlyReads g old new → IsLeftByRun g lines old new
   run : IsPartOfRun g lines old new → IsLeftByRun g lines old new
+
+-- What becomes of a disk: it was only read, or its store was opened, and events were made over it. Whatever moment of
+-- it a crash comes, it leaves what the journal of that moment allows.
+pub data IsLeftByEvents {D : Type 0} (g : Ghosts D) (old new : D) : Type 0 where
+  only_read : OnlyReads g old new → IsLeftByEvents g old new
+  run : (opened last : WorldView D) → IsRun g old opened last new → IsLeftByEvents g old new
+
+-- a disk with these files is left so
+pub record LeavesFiles {D : Type 0} (g : Ghosts D) (files : List (List ℕ)) : Type 0 where
+  pub old : D
+  pub new : D
+  pub opened : g.contents old ≡ files
+  pub left : IsLeftByEvents g old new

@@ -2,8 +2,8 @@
 //! more of its input.
 ghost use Rattle.std.specs.Prelude.{◌≡◌, ◌↔◌, IfOk, IsTrue};
 ghost use Rattle.sd_disk.specs.Folder.{outside_of};
+ghost use Rattle.sd_run.specs.Whole.{IsLeftByEvents, LeavesFiles};
 ghost use Rattle.sd_world.specs.Goes.{GoesOn};
-ghost use Rattle.sd_shell.specs.Requests.{AnswersRequests, IsLeftByRequests};
 
 use crate::asking::{Asking, asking_of, end_prompt, prompt};
 use crate::bulk::{Bulk, BulkLine, MOST_BYTES, Way, answer_get, answer_put, parse_bulk};
@@ -88,7 +88,7 @@ fn run_shell<D: Disk, I: Read + Drop, W: Write, S: Watch>(
 ) -> (D, Result<(), Stop>)
     // The disk was only read, or the store was opened and requests were answered. Whatever moment of it a crash comes,
     // the journal of that moment allows what it leaves.
-    ensures left { IsLeftByRequests D.Disk disk result.0 }
+    ensures left { IsLeftByEvents D.Disk disk result.0 }
 {
     match World::open(asked.called.rt.alloc(), disk, FRAMES) {
         Ok(mut world) => {
@@ -137,14 +137,34 @@ fn answer_next<D: Disk, I: Read, W: Write, S: Watch>(
         end_prompt(asked.asking, out)?;
         return Ok(false);
     };
+    if !answer_whole(asked, world, requests, length, number, out, watch)? {
+        return Ok(false);
+    }
+    prompt(asked.asking, out)?;
+    Ok(true)
+}
+
+/// Answers a line of so many bytes, with the bytes in bulk that come after it. Returns whether the shell goes on.
+fn answer_whole<D: Disk, I: Read, W: Write, S: Watch>(
+    asked: Asked<'_>,
+    world: &mut World<D>,
+    requests: &mut Requests<I>,
+    length: usize,
+    number: usize,
+    out: &mut Output<W>,
+    watch: &mut S,
+) -> Result<bool, Stop>
+    ensures goes_on { GoesOn D.Disk world.old world.new }
+{
+    world.sound();
     let line = requests.take_line(length);
     if line == QUIT {
         return Ok(false);
     }
-    if let Some(bulk) = answer(asked, world, line, number, out, watch)? {
-        answer_bulk(asked, world, bulk, requests, out)?;
-    }
-    prompt(asked.asking, out)?;
+    let Some(bulk) = answer(asked, world, line, number, out, watch)? else {
+        return Ok(true);
+    };
+    answer_bulk(asked, world, bulk, requests, out)?;
     Ok(true)
 }
 
@@ -165,11 +185,16 @@ fn answer<D: Disk, W: Write, S: Watch>(
         return Ok(None);
     }
     match parse_bulk(asked.called.rt.alloc(), line)? {
-        Some(BulkLine::Fits(bulk)) => return Ok(Some(bulk)),
-        Some(BulkLine::Unfit) => refuse_line(asked, line, number, out)?,
-        None => answer_line(asked, world, line, number, out, watch)?,
+        Some(BulkLine::Fits(bulk)) => Ok(Some(bulk)),
+        Some(BulkLine::Unfit) => {
+            refuse_line(asked, line, number, out)?;
+            Ok(None)
+        }
+        None => {
+            answer_line(asked, world, line, number, out, watch)?;
+            Ok(None)
+        }
     }
-    Ok(None)
 }
 
 /// Answers the request of a line of the language, if it has one.
@@ -198,8 +223,23 @@ fn request_of(alloc: Global, line: &[u8]) -> Result<Option<Line>, ScriptError> {
     Ok(script.lines.pop())
 }
 
-/// Answers a request of the language. Before a store is opened again whose device failed, the outcomes of the device
-/// calls that are out are handed in.
+/// Before a store is opened again whose device failed, the outcomes of the device calls that are out are handed in.
+fn hand_in_failed<D: Disk, S: Watch>(
+    asked: Asked<'_>,
+    world: &mut World<D>,
+    request: &Line,
+    watch: &mut S,
+) -> Result<(), Stop>
+    ensures goes_on { GoesOn D.Disk world.old world.new }
+{
+    world.sound();
+    if let (Line::Reopen, Some(failed)) = (request, asked.failed.get()) {
+        return hand_in_all(asked, world, failed, watch);
+    }
+    Ok(())
+}
+
+/// Answers a request of the language.
 fn answer_request<D: Disk, W: Write, S: Watch>(
     asked: Asked<'_>,
     world: &mut World<D>,
@@ -212,9 +252,7 @@ fn answer_request<D: Disk, W: Write, S: Watch>(
     let wanted = slots_for(&request, 0);
     let rounds = rounds_of(&request);
     let worker = worker_of(&request);
-    if let (Line::Reopen, Some(failed)) = (&request, asked.failed.get()) {
-        hand_in_all(asked, world, failed, watch)?;
-    }
+    hand_in_failed(asked, world, &request, watch)?;
     let given = run_line(asked.called.rt.alloc(), world, request, out, watch)?;
     asked.report_answer(world.core(), wanted, &given);
     asked.note(&given, worker, rounds);
@@ -276,7 +314,7 @@ fn hand_in<D: Disk, S: Watch>(
     for _ in 0..CALLS {
         let given = run_line(alloc, world, Line::Finish(worker), &mut unseen, watch)?;
         if let Answer::Reply(Reply::Refused(Refusal::Idle)) = given {
-            break;
+            return Ok(());
         }
     }
     Ok(())
@@ -324,7 +362,7 @@ pub fn shell_program<R: Clock + Wait, W: Write>(
     out: &mut Output<W>,
 ) -> Result<u8, Stop>
     // The files that are found in the folder of the command line were only read, or requests were answered over them.
-    ensures answers { IfOk result (λ _. AnswersRequests ⟦<CountedDisk<'static> as Disk>⟧
+    ensures left { IfOk result (λ _. LeavesFiles ⟦<CountedDisk<'static> as Disk>⟧
         (outside_of called.entry.found.now).found) }
 {
     let rt = called.rt;
