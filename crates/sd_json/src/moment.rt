@@ -1,5 +1,9 @@
 //! Documents that are of one moment of a store.
+ghost use Rattle.std.specs.Prelude.{◌≡◌, false, string_bytes, IfOk};
+ghost use Rattle.serde_json.specs.View.{view};
+ghost use Rattle.serde_json.specs.Written.{compact_text, has_float};
 ghost use Rattle.sd_disk.specs.Reads.{OnlyReads};
+ghost use Rattle.sd_json.specs.Documents.{faulty, lacking};
 
 use crate::fault::{fault_document, lacks_document};
 use crate::images::images_document;
@@ -47,7 +51,10 @@ fn document_at<D: Disk>(
 }
 
 /// A document as text on one line, without its end.
-fn text_of(alloc: Global, document: &Value) -> Result<String, AllocError> {
+fn text_of(alloc: Global, document: &Value) -> Result<String, AllocError>
+    ensures { IfOk result (λ text. has_float (view document.now) ≡ false
+        → string_bytes text ≡ compact_text (view document.now)) }
+{
     document.to_string(alloc)
 }
 
@@ -76,11 +83,15 @@ pub fn document_text<D: Disk>(
 }
 
 /// The document of why a store isn't read, as text.
-pub fn fault_text(alloc: Global, fault: &Fault) -> Result<String, AllocError> {
+pub fn fault_text(alloc: Global, fault: &Fault) -> Result<String, AllocError>
+    ensures { IfOk result (λ text. string_bytes text ≡ compact_text (faulty fault.now)) }
+{
     text_of(alloc, &fault_document(alloc, fault)?)
 }
 
 /// The document of a store without an image of the checkpoint with this number, as text.
-pub fn lacks_text(alloc: Global, number: u64) -> Result<String, AllocError> {
+pub fn lacks_text(alloc: Global, number: u64) -> Result<String, AllocError>
+    ensures { IfOk result (λ text. string_bytes text ≡ compact_text (lacking number)) }
+{
     text_of(alloc, &lacks_document(alloc, number)?)
 }

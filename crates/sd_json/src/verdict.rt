@@ -1,5 +1,8 @@
 //! Whether a store can be restored, as a document.
+ghost use Rattle.std.specs.Prelude.{◌≡◌, IfOk};
+ghost use Rattle.serde_json.specs.View.{view};
 ghost use Rattle.sd_disk.specs.Reads.{OnlyReads};
+ghost use Rattle.sd_json.specs.Documents.{IsVerdict, verdict};
 
 use sd_disk::Disk;
 use sd_restore::{Fault, Report, place_at, scan, verify};
@@ -7,7 +10,9 @@ use serde_json::{Value, json};
 use std::alloc::{AllocError, Global};
 
 /// A report: its checkpoint, or null, and how many images are open.
-fn report_json(alloc: Global, report: Report) -> Result<Value, AllocError> {
+fn report_json(alloc: Global, report: Report) -> Result<Value, AllocError>
+    ensures { IfOk result (λ document. view document ≡ verdict report.checkpoint report.images) }
+{
     json!(in alloc; {"checkpoint": report.checkpoint, "images": report.images})
 }
 
@@ -17,6 +22,8 @@ fn report_json(alloc: Global, report: Report) -> Result<Value, AllocError> {
 ///
 /// Those of `verify`.
 pub fn verdict_document<D: Disk>(alloc: Global, disk: &mut D) -> Result<Value, Fault>
+    ensures exact { D.is_honest disk.new
+        → IfOk result (λ document. IsVerdict (D.contents disk.old) (view document)) }
     ensures reads { OnlyReads D.Disk disk.old disk.new }
 {
     let report = verify(alloc, disk)?;
