@@ -4,6 +4,7 @@ use Rattle.std.specs.Option.{option_map}
 use Rattle.hex.specs.Hex.{encode_lower}
 use Rattle.serde_json.specs.Data.{Data, null, number, unsigned, string, array, object, member, no_members, put}
 use Rattle.serde_json.specs.View.{items_of}
+use Rattle.serde_json.specs.Written.{compact_text}
 use Rattle.sd_areas.specs.PlainMemory.{PlainMemory}
 use Rattle.sd_image.specs.declared.header.Header.{Header}
 use Rattle.sd_image.specs.Image.{is_open}
@@ -12,6 +13,8 @@ use Rattle.sd_image.specs.Shows.{Shows}
 use Rattle.sd_image.specs.Words.{kind_number, version_number}
 use Rattle.sd_chain.specs.Catalog.{IsDumpOrMerged, IsTip, Opened, Places, images}
 use Rattle.sd_chain.specs.Store.{IsCatalogOf}
+use Rattle.sd_readers.specs.declared.steady.Reader.{Reader}
+use Rattle.sd_readers.specs.declared.steady.Reader.TheVariants as reader
 use Rattle.sd_restore.specs.declared.fault.Fault.{Fault}
 use Rattle.sd_restore.specs.declared.fault.Fault.TheVariants as fault
 use Rattle.sd_show.specs.Numbers.{number_members}
@@ -71,6 +74,18 @@ pub record IsListing (contents : List (List ℕ)) (document : Data) : Type 0 whe
   pub tip : Option ℕ
   pub newest : IsTipSerial places tip
   pub is : document ≡ listing (images places) tip
+
+-- what a document has of a store that is listed or verified
+abbrev pub IsDocument : Reader → List (List ℕ) → Data → Type 0
+IsDocument reader.Restore contents document = Unit {0}
+IsDocument reader.List contents document = IsListing contents document
+IsDocument reader.Verify contents document = IsVerdict contents document
+
+-- a text is a document of which this is so, on one line without its end
+pub record IsTextOf (fact : Data → Type 0) (text : List ℕ) : Type 0 where
+  pub document : Data
+  pub exact : fact document
+  pub is : text ≡ compact_text document
 
 -- Why a store isn't read: the fault's name, and of a damaged slot its number and the reason, by number and in words.
 abbrev pub faulty : Fault → Data

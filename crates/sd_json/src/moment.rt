@@ -3,7 +3,8 @@ ghost use Rattle.std.specs.Prelude.{◌≡◌, false, string_bytes, IfOk};
 ghost use Rattle.serde_json.specs.View.{view};
 ghost use Rattle.serde_json.specs.Written.{compact_text, has_float};
 ghost use Rattle.sd_disk.specs.Reads.{OnlyReads};
-ghost use Rattle.sd_json.specs.Documents.{faulty, lacking};
+ghost use Rattle.sd_readers.specs.declared.steady.Reader.{Reader};
+ghost use Rattle.sd_json.specs.Documents.{IsDocument, IsListing, IsTextOf, IsVerdict, faulty, lacking};
 
 use crate::fault::{fault_document, lacks_document};
 use crate::images::images_document;
@@ -26,7 +27,9 @@ pub enum Document {
 
 /// The document that a program prints of a store.
 fn newest_document<D: Disk>(alloc: Global, reader: Reader, disk: &mut D) -> Result<Value, Fault>
-    ensures { OnlyReads D.Disk disk.old disk.new }
+    ensures exact { D.is_honest disk.new
+        → IfOk result (λ document. IsDocument reader (D.contents disk.old) (view document)) }
+    ensures reads { OnlyReads D.Disk disk.old disk.new }
 {
     match reader {
         Reader::Restore => memory_document(alloc, disk),
@@ -50,6 +53,18 @@ fn document_at<D: Disk>(
     }
 }
 
+/// A document of a store.
+fn document_of<D: Disk>(alloc: Global, document: Document, disk: &mut D) -> Result<Value, Fault>
+    ensures exact { D.is_honest disk.new → (reader : Reader) → document ≡ Document.Newest reader
+        → IfOk result (λ made. IsDocument reader (D.contents disk.old) (view made)) }
+    ensures reads { OnlyReads D.Disk disk.old disk.new }
+{
+    match document {
+        Document::Newest(reader) => newest_document(alloc, reader, disk),
+        Document::At(reader, number) => document_at(alloc, reader, disk, number),
+    }
+}
+
 /// A document as text on one line, without its end.
 fn text_of(alloc: Global, document: &Value) -> Result<String, AllocError>
     ensures { IfOk result (λ text. has_float (view document.now) ≡ false
@@ -69,13 +84,15 @@ pub fn document_text<D: Disk>(
     document: Document,
     disk: &mut D,
 ) -> Result<String, Fault>
+    // Of a store that is verified or listed it has exactly what the files show and have.
+    ensures verdict { D.is_honest disk.new → document ≡ Document.Newest Reader.Verify
+        → IfOk result (λ text. IsTextOf (IsVerdict (D.contents disk.old)) (string_bytes text)) }
+    ensures listing { D.is_honest disk.new → document ≡ Document.Newest Reader.List
+        → IfOk result (λ text. IsTextOf (IsListing (D.contents disk.old)) (string_bytes text)) }
     ensures reads { OnlyReads D.Disk disk.old disk.new }
 {
     let before = fronts(alloc, disk)?;
-    let made = match document {
-        Document::Newest(reader) => newest_document(alloc, reader, disk),
-        Document::At(reader, number) => document_at(alloc, reader, disk, number),
-    };
+    let made = document_of(alloc, document, disk);
     if fronts(alloc, disk)? != before {
         return Err(Fault::Device);
     }
