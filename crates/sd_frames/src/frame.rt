@@ -1,14 +1,15 @@
-ghost use Rattle.std.specs.Prelude.{◌≡◌, ◌+◌, ◌-◌, ◌<◌, ◌≤◌, ◌^◌, length};
+ghost use Rattle.std.specs.Prelude.{◌≡◌, ◌+◌, ◌-◌, ◌<◌, ◌≤◌, ◌^◌, length, IfOk};
 ghost use Rattle.sd_frames.specs.Bytes.{stored_at};
 
-use sd_areas::PAGE_SIZE;
+use std::alloc::{AllocError, Global};
 use std::marker::Model;
 
-/// A frame in use: how many entries have it, and its bytes.
+/// A frame in use: how many entries have it, and its bytes. They lie in a vector, since that is filled from a slice by
+/// one copy, where a box of an array is filled from a whole page that lies on the stack.
 #[derive(Drop)]
 pub struct Frame {
     count: u32,
-    bytes: Box<[u8; PAGE_SIZE]>,
+    bytes: Vec<u8>,
 }
 
 impl Model for Frame {
@@ -19,27 +20,32 @@ impl Model for Frame {
 
     ghost coded = { cell_code };
 
-    ghost view = { λ f. record { count = f.count; bytes = f.bytes.value } };
+    ghost view = { λ f. record { count = f.count; bytes = f.bytes.items } };
 
-    ghost invariant = { λ f. length f.bytes.value ≡ 4096 };
+    ghost invariant = { λ f. length f.bytes.items ≡ 4096 };
 }
 
 impl Frame {
-    /// A frame that one entry has.
-    pub fn new(bytes: Box<[u8; PAGE_SIZE]>) -> Self
-        ensures value { result ≡ record { count = 1; bytes = bytes.value } }
-        ensures whole { length result.bytes ≡ 4096 }
+    /// A frame with a copy of a page's bytes, which one entry has.
+    ///
+    /// # Errors
+    ///
+    /// Out of memory where its bytes can't be allocated.
+    pub(crate) fn copy_of(alloc: Global, page: &[u8]) -> Result<Frame, AllocError>
+        requires { length page.now ≡ 4096 }
+        ensures { IfOk result (λ frame. frame ≡ record { count = 1; bytes = page.now }) }
     {
-        let _length = bytes[..].len();
-        Frame { count: 1, bytes }
+        let bytes = Vec::from_slice(alloc, page)?;
+        Ok(Frame { count: 1, bytes })
     }
 
-    /// Its page, without the count.
-    pub(crate) fn into_page(self) -> Box<[u8; PAGE_SIZE]>
-        ensures { result.value ≡ self.bytes }
+    /// Gives it a copy of a page's bytes, and one entry.
+    pub(crate) fn refill(&mut self, page: &[u8])
+        requires { length page.now ≡ 4096 }
+        ensures { self.new ≡ record { count = 1; bytes = page.now } }
     {
-        let Frame { bytes, .. } = self;
-        bytes
+        self.count = 1;
+        self.bytes.copy_from_slice(page);
     }
 
     /// How many entries have it.
@@ -79,13 +85,13 @@ impl Frame {
         ensures { self.new
             ≡ record { count = self.old.count; bytes = stored_at self.old.bytes offset bytes.now } }
     {
-        write(&mut self.bytes, offset, bytes);
+        write(self.bytes.as_mut_slice(), offset, bytes);
     }
 }
 
 /// Writes bytes into a page.
-fn write(page: &mut [u8; PAGE_SIZE], offset: usize, bytes: &[u8])
-    requires { offset + length bytes.now ≤ 4096 }
+fn write(page: &mut [u8], offset: usize, bytes: &[u8])
+    requires { offset + length bytes.now ≤ length page.old }
     ensures { page.new ≡ stored_at page.old offset bytes.now }
 {
     page[offset..offset + bytes.len()].copy_from_slice(bytes);

@@ -4,7 +4,6 @@ ghost use Rattle.sd_frames.specs.Bytes.{stored_at};
 ghost use Rattle.sd_frames.specs.Frames.{Cell};
 
 use crate::frame::Frame;
-use sd_areas::PAGE_SIZE;
 use std::mem;
 
 /// A place for a frame: in use, or a link to the next free one.
@@ -44,12 +43,12 @@ impl FrameCell {
         }
     }
 
-    /// Frees its place, which leads to the next free one, and gives the page of its frame out.
-    pub(crate) fn free(&mut self, next: Option<u32>) -> Option<Box<[u8; PAGE_SIZE]>>
+    /// Frees its place, which leads to the next free one, and gives its frame out.
+    pub(crate) fn free(&mut self, next: Option<u32>) -> Option<Frame>
         ensures { self.new ≡ Free next }
     {
         match mem::replace(self, FrameCell::Free(next)) {
-            FrameCell::Used(frame) => Some(frame.into_page()),
+            FrameCell::Used(frame) => Some(frame),
             FrameCell::Free(_) => None,
         }
     }

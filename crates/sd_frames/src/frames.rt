@@ -8,7 +8,7 @@ ghost use Rattle.sd_frames.specs.Frames.{HasWholeFrames, HasFreePlace, frame_byt
 
 use crate::frame::Frame;
 use crate::frame_cell::{FrameCell, next_free};
-use crate::spare_pages::SparePages;
+use crate::spare_frames::SpareFrames;
 use sd_areas::PAGE_SIZE;
 use std::alloc::{AllocError, Global};
 use std::marker::Model;
@@ -23,7 +23,7 @@ pub struct Frames {
     pool: u32,
     slots: Vec<FrameCell>,
     free: Option<u32>,
-    spare: SparePages,
+    spare: SpareFrames,
 }
 
 impl Model for Frames {
@@ -51,7 +51,7 @@ impl Frames {
             pool,
             slots: Vec::new(alloc),
             free: None,
-            spare: SparePages::new(alloc),
+            spare: SpareFrames::new(alloc),
         }
     }
 
@@ -137,8 +137,8 @@ impl Frames {
             else Some (record { count = count_at self.old number - 1; bytes = cell_bytes self.old number })) }
     {
         if self.count(number) == 1 {
-            let page = self.slots[number as usize].free(self.free);
-            keep(&mut self.spare, page);
+            let frame = self.slots[number as usize].free(self.free);
+            keep(&mut self.spare, frame);
             self.free = Some(number);
         } else {
             self.slots[number as usize].release();
@@ -159,8 +159,8 @@ impl Frames {
             (Some (record { count = 1; bytes = zeros }))) }
         ensures err { OnErr result (self.new ≡ self.old) }
     {
-        let bytes = self.page_of_zeros()?;
-        self.place(Frame::new(bytes))
+        let frame = self.frame_of_zeros()?;
+        self.place(frame)
     }
 
     /// A copy of a frame, which one entry has.
@@ -178,45 +178,45 @@ impl Frames {
             (Some (record { count = 1; bytes = cell_bytes self.old from }))) }
         ensures err { OnErr result (self.new ≡ self.old) }
     {
-        let bytes = self.page_like(from)?;
-        self.place(Frame::new(bytes))
+        let frame = self.frame_like(from)?;
+        self.place(frame)
     }
 
-    /// A page of zeros, in no frame yet.
-    fn page_of_zeros(&mut self) -> Result<Box<[u8; PAGE_SIZE]>, AllocError>
-        ensures zeros { IfOk result (λ page. page.value ≡ zeros) }
+    /// A frame of zeros, in no place yet.
+    fn frame_of_zeros(&mut self) -> Result<Frame, AllocError>
+        ensures zeros { IfOk result (λ frame. frame ≡ record { count = 1; bytes = zeros }) }
         ensures same { self.new ≡ self.old }
     {
-        let Some(mut page) = self.spare.take() else {
-            return Ok(Box::new(self.alloc, [0; PAGE_SIZE])?);
+        let Some(mut frame) = self.spare.take() else {
+            return Frame::copy_of(self.alloc, &ZEROS);
         };
-        fill(&mut page, &ZEROS);
-        Ok(page)
+        frame.refill(&ZEROS);
+        Ok(frame)
     }
 
-    /// A page with the bytes of a frame, in no frame yet.
-    fn page_like(&mut self, from: u32) -> Result<Box<[u8; PAGE_SIZE]>, AllocError>
+    /// A frame with the bytes of another, in no place yet.
+    fn frame_like(&mut self, from: u32) -> Result<Frame, AllocError>
         requires { IsSome (cell_at self.old from) }
-        ensures copy { IfOk result (λ page. page.value ≡ cell_bytes self.old from) }
+        ensures copy { IfOk result (λ frame. frame ≡ record { count = 1; bytes = cell_bytes self.old from }) }
         ensures same { self.new ≡ self.old }
     {
-        let Some(mut page) = self.spare.take() else {
-            return self.copy_of_page(page_of(self.bytes(from)));
+        let Some(mut frame) = self.spare.take() else {
+            return Frame::copy_of(self.alloc, self.bytes(from));
         };
-        fill(&mut page, self.bytes(from));
-        Ok(page)
+        frame.refill(self.bytes(from));
+        Ok(frame)
     }
 
-    /// A page with these bytes, in no frame yet.
+    /// A frame with a copy of a page's bytes, which one entry has, in no place yet.
     ///
     /// # Errors
     ///
     /// Out of memory where its bytes can't be allocated.
-    pub fn copy_of_page(&self, bytes: &[u8; PAGE_SIZE]) -> Result<Box<[u8; PAGE_SIZE]>, AllocError>
-        ensures { IfOk result (λ copy. copy.value ≡ bytes.now) }
+    pub fn copy_of_page(&self, bytes: &[u8; PAGE_SIZE]) -> Result<Frame, AllocError>
+        ensures copy { IfOk result (λ frame. frame ≡ record { count = 1; bytes = bytes.now }) }
+        ensures whole { IfOk result (λ frame. length frame.bytes ≡ 4096) }
     {
-        let copy = Box::new(self.alloc, *bytes)?;
-        Ok(copy)
+        Frame::copy_of(self.alloc, bytes.as_slice())
     }
 
     /// Puts a frame into a free place.
@@ -249,30 +249,11 @@ impl Frames {
     }
 }
 
-/// Keeps the page of a frame that was freed, if it had one.
-fn keep(spare: &mut SparePages, page: Option<Box<[u8; PAGE_SIZE]>>)
+/// Keeps a frame that was freed, if there is one.
+fn keep(spare: &mut SpareFrames, frame: Option<Frame>)
     ensures { spare.old ≤ spare.new }
 {
-    if let Some(page) = page {
-        spare.keep(page);
-    }
-}
-
-/// Copies bytes over a page.
-fn fill(page: &mut [u8; PAGE_SIZE], bytes: &[u8])
-    requires { length bytes.now ≡ 4096 }
-    ensures { page.new ≡ bytes.now }
-{
-    page.copy_from_slice(bytes);
-}
-
-/// The bytes as a page.
-fn page_of(bytes: &[u8]) -> &[u8; PAGE_SIZE]
-    requires { length bytes.now ≡ 4096 }
-    ensures { result.now ≡ bytes.now }
-{
-    match bytes.try_into() {
-        Ok(page) => page,
-        Err(_) => unreachable!(),
+    if let Some(frame) = frame {
+        spare.keep(frame);
     }
 }

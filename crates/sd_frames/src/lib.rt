@@ -4,7 +4,7 @@
 mod frame;
 mod frame_cell;
 mod frames;
-mod spare_pages;
+mod spare_frames;
 
 pub use frame::Frame;
 pub use frames::Frames;

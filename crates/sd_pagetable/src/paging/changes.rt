@@ -23,7 +23,6 @@ use super::{Paging, own_frame, protect_entry, put_inherited, release, release_al
 use crate::loading::is_zero;
 use crate::memory_error::MemoryError;
 use sd_areas::{PAGE_SIZE, PageNo, Prot, SnapshotPage, SpaceId};
-use sd_frames::Frame;
 use sd_tables::{Entry, RunChange};
 use std::alloc::AllocError;
 
@@ -170,20 +169,19 @@ impl Paging {
         if is_zero(&found.bytes) {
             return Ok(());
         }
-        let bytes = self.frames.copy_of_page(&found.bytes)?;
-        self.put_bytes(space, page, bytes)
+        self.put_bytes(space, page, &found.bytes)
     }
 
-    /// Gives a page without a frame one of its own, with these bytes.
+    /// Gives a page without a frame one of its own, with a copy of these bytes.
     ///
     /// # Errors
     ///
-    /// Out of memory where the list of frames can't grow: nothing changes.
+    /// Out of memory where the copy can't be allocated or the list of frames can't grow: nothing changes.
     pub(super) fn put_bytes(
         &mut self,
         space: SpaceId,
         page: PageNo,
-        bytes: Box<[u8; PAGE_SIZE]>,
+        bytes: &[u8; PAGE_SIZE],
     ) -> Result<(), AllocError>
         requires there { IsSome (page_at self.old space page) }
         requires fresh { IfSome (page_at self.old space page)
@@ -191,12 +189,13 @@ impl Paging {
         requires room { is_full self.old ≡ false }
         ensures { OnOk result
             (IfSome (page_at self.old space page)
-            (λ (before : PageState). GivesFrame self.old space page before bytes.value self.new)) }
+            (λ (before : PageState). GivesFrame self.old space page before bytes.now self.new)) }
     {
         let Some(entry) = self.tables.get(space, page) else {
             return Ok(());
         };
-        let frame = self.frames.place(Frame::new(bytes))?;
+        let copy = self.frames.copy_of_page(bytes)?;
+        let frame = self.frames.place(copy)?;
         self.tables.replace(space, page, entry.with_frame(frame));
         Ok(())
     }

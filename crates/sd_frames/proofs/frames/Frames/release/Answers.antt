@@ -10,8 +10,8 @@ pub invariant_of-self : goal.invariant_of-self
 invariant_of-self c =
     let u = used_at c.self.inside.pool c.self.inside.slots.items c.args.self.now c.args.number c.self.view_is (some_counted c.args.self.now c.args.number c.requires) in (
       simp length-set (c.self.invariant.0),
-      rw c.free-page.ensures (freed c.self.inside.slots.items c.self.inside.free c.args.number u.0 c.self.invariant.1 u.2),
-      rw c.free-page.ensures (whole_freed c.args.self.now _ c.args.number (subst HasWholeFrames c.self.view_is c.self.invariant.2)
+      rw c.free-frame.ensures (freed c.self.inside.slots.items c.self.inside.free c.args.number u.0 c.self.invariant.1 u.2),
+      rw c.free-frame.ensures (whole_freed c.args.self.now _ c.args.number (subst HasWholeFrames c.self.view_is c.self.invariant.2)
           (frees_frame c.self.inside.pool c.self.inside.slots.items c.args.self.now c.args.number c.self.inside.free c.self.view_is
           (within_slots c.self.inside.pool c.self.inside.slots.items c.args.self.now c.args.number c.self.view_is (some_counted c.args.self.now c.args.number c.requires)))),
     )
@@ -20,7 +20,7 @@ pub returns-then-count-eq1 : goal.returns-then-count-eq1
 returns-then-count-eq1 c =
     let l = within_slots c.self.inside.pool c.self.inside.slots.items c.args.self.now c.args.number c.self.view_is (some_counted c.args.self.now c.args.number c.requires) in
     let e : nat_eq (count_at c.args.self.now c.args.number) 1 ≡ true = eq-eqb _ _ (sym c.count.ensures ∙ c.if-count-eq1.true) in
-    rw c.free-page.ensures (subst (λ (o : Option Cell). SetsCell c.args.self.now (frames_of c.self.inside.pool (set c.self.inside.slots.items c.args.number (Free c.self.inside.free))) c.args.number o) (sym (cond-true _ _ _ e))
+    rw c.free-frame.ensures (subst (λ (o : Option Cell). SetsCell c.args.self.now (frames_of c.self.inside.pool (set c.self.inside.slots.items c.args.number (Free c.self.inside.free))) c.args.number o) (sym (cond-true _ _ _ e))
     (frees_frame c.self.inside.pool c.self.inside.slots.items c.args.self.now c.args.number c.self.inside.free c.self.view_is l))
 
 pub invariant_of-self-else-count-eq1 : goal.invariant_of-self-else-count-eq1

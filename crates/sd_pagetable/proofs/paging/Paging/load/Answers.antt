@@ -1,4 +1,4 @@
-use Rattle.std.proofs.Common.{rules, ◌≡◌, ℕ, List, subst, ap, ◌∙◌, sym, Some, None, false, refl}
+use Rattle.std.proofs.Common.{◌≡◌, ℕ, List, subst, ap, ◌∙◌, sym, Some, None, false, refl}
 use Rattle.std.specs.Prelude.{Result, OnOk}
 use Rattle.std.specs.Option.{IfSome}
 use Rattle.sd_areas.specs.PlainMemory as plain
@@ -31,6 +31,5 @@ loaded_so m n new s p page (Result.Err e) hole added some h = tt
 
 pub returns : goal.returns
 returns c =
-    let same : c.in_ok-bytes.bytes.value ≡ c.args.found.now.bytes.value = search rules in
     loaded_so c.args.self.now c.add.new.self c.put_bytes.new.self c.args.space c.args.page _ c.put_bytes.result c.requires.hole c.in_ok-add.ensures.ok (ap is_zero_page (sym c.deref.ensures) ∙ sym c.is_zero.ensures.value ∙ c.if-is_zero.false)
-    (subst (λ (bytes : List ℕ). OnOk c.put_bytes.result (IfSome (page_at c.add.new.self c.args.space c.args.page) (λ (before : PageState). GivesFrame c.add.new.self c.args.space c.args.page before bytes c.put_bytes.new.self))) same c.put_bytes.ensures)
+    (subst (λ (bytes : List ℕ). OnOk c.put_bytes.result (IfSome (page_at c.add.new.self c.args.space c.args.page) (λ (before : PageState). GivesFrame c.add.new.self c.args.space c.args.page before bytes c.put_bytes.new.self))) c.deref-2.ensures c.put_bytes.ensures)

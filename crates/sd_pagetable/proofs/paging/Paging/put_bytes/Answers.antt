@@ -48,9 +48,9 @@ module _ (old new : Pool) (tables again : Nested Entry) (n s p : ℕ) (e f : Ent
   given_page = rw (ap (λ (z : Contents). page_at z s p) (sym v) ∙ entry_there old tables s p e h) gives_again
 
 pub invariant_of-self-2 : goal.invariant_of-self-2
-invariant_of-self-2 c = kept_again c.self.inside.frames c.place.new.self c.self.inside.tables c.replace.new.self c.self.inside.mapped c.args.space c.args.page c.in-Some.entry c.with_frame.result c.in_ok-frame.frame c.new.result c.args.bytes.value c.args.self.now
-    c.self.invariant (sym c.in-Some.ensures) c.self.view_is c.requires.fresh c.in_ok-frame.ensures.free.1 c.in_ok-frame.ensures.free.0 c.new.ensures.value c.in_ok-frame.ensures.ok c.replace.ensures c.with_frame.ensures
+invariant_of-self-2 c = kept_again c.self.inside.frames c.place.new.self c.self.inside.tables c.replace.new.self c.self.inside.mapped c.args.space c.args.page c.in-Some.entry c.with_frame.result c.in_ok-frame.frame c.in_ok-copy.copy c.args.bytes.now c.args.self.now
+    c.self.invariant (sym c.in-Some.ensures) c.self.view_is c.requires.fresh c.in_ok-frame.ensures.free.1 c.in_ok-frame.ensures.free.0 c.in_ok-copy.ensures.copy c.in_ok-frame.ensures.ok c.replace.ensures c.with_frame.ensures
 
 pub returns : goal.returns
-returns c = given_page c.self.inside.frames c.place.new.self c.self.inside.tables c.replace.new.self c.self.inside.mapped c.args.space c.args.page c.in-Some.entry c.with_frame.result c.in_ok-frame.frame c.new.result c.args.bytes.value c.args.self.now
-    c.self.invariant (sym c.in-Some.ensures) c.self.view_is c.requires.fresh c.in_ok-frame.ensures.free.1 c.in_ok-frame.ensures.free.0 c.new.ensures.value c.in_ok-frame.ensures.ok c.replace.ensures c.with_frame.ensures
+returns c = given_page c.self.inside.frames c.place.new.self c.self.inside.tables c.replace.new.self c.self.inside.mapped c.args.space c.args.page c.in-Some.entry c.with_frame.result c.in_ok-frame.frame c.in_ok-copy.copy c.args.bytes.now c.args.self.now
+    c.self.invariant (sym c.in-Some.ensures) c.self.view_is c.requires.fresh c.in_ok-frame.ensures.free.1 c.in_ok-frame.ensures.free.0 c.in_ok-copy.ensures.copy c.in_ok-frame.ensures.ok c.replace.ensures c.with_frame.ensures
