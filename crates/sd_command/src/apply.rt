@@ -132,7 +132,7 @@ fn load(
     let mut buffer = [0; TOO_MANY];
     let bytes = &mut buffer[..count.min(TOO_MANY as u64) as usize];
     memory.load(space, address, bytes)?;
-    Ok(Reply::Bytes(Bytes::new(Vec::from_slice(alloc, bytes)?)))
+    Ok(Reply::Bytes(Bytes::from_slice(alloc, bytes)?))
 }
 
 impl From<AccessError> for Reply {

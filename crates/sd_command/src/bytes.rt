@@ -1,14 +1,19 @@
 //! The bytes that a command stores or a load returns.
-ghost use Rattle.std.specs.Prelude.{◌≡◌, List, ℕ, nat_eq};
+ghost use Rattle.std.specs.Prelude.{◌≡◌, List, ℕ, nat_eq, IfOk};
 ghost use Rattle.std.specs.Cmp.Lexicographic.{pointwise, nat_list_eq_equiv};
 ghost use Rattle.std.specs.Cmp.{partial_equiv_from_equiv};
 
+use smallvec::SmallVec;
+use std::alloc::{AllocError, Global};
 use std::marker::Model;
 
+/// How many bytes take no memory of their own. With so few a journal's entry is hardly larger.
+const FEW: usize = 16;
+
 /// A string of bytes that is never changed. Contracts see the list of its bytes.
-#[derive(Clone, Debug, Drop)]
+#[derive(Debug, Drop)]
 pub struct Bytes {
-    bytes: Vec<u8>,
+    bytes: SmallVec<u8, FEW>,
 }
 
 impl Model for Bytes {
@@ -22,14 +27,40 @@ impl Bytes {
     pub fn new(bytes: Vec<u8>) -> Bytes
         ensures { result ≡ bytes.items }
     {
-        Bytes { bytes }
+        Bytes {
+            bytes: SmallVec::from_vec(bytes),
+        }
+    }
+
+    /// A copy of these bytes, of which up to 16 take no memory.
+    ///
+    /// # Errors
+    ///
+    /// Out of memory where more find no room.
+    pub fn from_slice(alloc: Global, bytes: &[u8]) -> Result<Bytes, AllocError>
+        ensures { IfOk result (λ copy. copy ≡ bytes.now) }
+    {
+        if bytes.len() <= FEW {
+            return Ok(Bytes {
+                bytes: SmallVec::from_slice(alloc, bytes)?,
+            });
+        }
+        Ok(Bytes::new(Vec::from_slice(alloc, bytes)?))
     }
 
     /// The bytes.
     pub fn as_slice(&self) -> &[u8]
         ensures { result.now ≡ self.now }
     {
-        &self.bytes
+        self.bytes.as_slice()
+    }
+}
+
+impl Clone for Bytes {
+    ghost is_clone = { λ bytes copy. copy ≡ bytes };
+
+    fn clone(&self) -> Result<Bytes, AllocError> {
+        Bytes::from_slice(*self.bytes.allocator(), self.as_slice())
     }
 }
 

@@ -4,7 +4,6 @@ use Rattle.std.specs.Prelude.{List, [], ◌∷◌, length, drop, find, codes, by
 use Rattle.std.specs.List.{list_all, starts_with, slice_split}
 use Rattle.std.specs.Char.{is_digit}
 use Rattle.std.specs.Str.Parse.{digits_value}
-use Rattle.std.specs.Global.{Vec}
 use Rattle.std.specs.Result.{result_ok}
 use Rattle.hex.specs.Hex.{decode_of}
 use Rattle.sd_areas.specs.declared.prot.Prot.{Prot}
@@ -292,5 +291,5 @@ abbrev pub ParsesLine : Result Line LineError → Option Line → Type 0
 ParsesLine result wanted = ParsesAs (λ line. line) result wanted
 
 -- bytes are those that are asked for, if memory sufficed
-abbrev pub GivesBytes : Result (Vec ℕ) LineError → Option (List ℕ) → Type 0
-GivesBytes result wanted = ParsesAs (λ (bytes : Vec ℕ). bytes.items) result wanted
+abbrev pub GivesBytes : Result (List ℕ) LineError → Option (List ℕ) → Type 0
+GivesBytes result wanted = ParsesAs (λ bytes. bytes) result wanted

@@ -1,12 +1,18 @@
 //! What the fields of a line say: workers, numbers, permissions, bytes.
-ghost use Rattle.std.specs.Prelude.{◌≡◌, ◌≤◌};
+ghost use Rattle.std.specs.Prelude.{◌≡◌, ◌≤◌, ◌*◌, length};
+ghost use Rattle.std.specs.Result.{result_ok};
+ghost use Rattle.hex.specs.Hex.{decode_pairs};
 ghost use Rattle.sd_script.specs.Line.{GivesBytes, hex_of, number_of, numeral_of, prot_of, worker_by_name};
 
 use crate::digits::{decode_into, digit};
 use crate::line_error::LineError;
 use sd_areas::Prot;
+use sd_command::Bytes;
 use sd_gate::Worker;
 use std::alloc::Global;
+
+/// The most bytes of a store.
+const STORED: usize = 64;
 
 /// The worker of this name.
 pub(crate) fn worker_named(name: &str) -> Option<Worker>
@@ -74,8 +80,9 @@ pub(crate) fn permissions(text: &str) -> Option<Prot>
     })
 }
 
-/// An even number of hexadecimal digits, at least 2, as bytes.
-pub(crate) fn hex_bytes(alloc: Global, text: &str) -> Result<Vec<u8>, LineError>
+/// An even number of hexadecimal digits, at least 2, as bytes. Those of a store that isn't refused for its length are
+/// decoded on the stack.
+pub(crate) fn hex_bytes(alloc: Global, text: &str) -> Result<Bytes, LineError>
     ensures { GivesBytes result (hex_of text.now) }
 {
     if text.is_empty() {
@@ -85,9 +92,22 @@ pub(crate) fn hex_bytes(alloc: Global, text: &str) -> Result<Vec<u8>, LineError>
     if digits.len() % 2 == 1 {
         return Err(LineError::Unfit);
     }
-    let mut bytes = vec![in alloc; 0; digits.len() / 2]?;
-    if decode_into(digits, &mut bytes) {
-        Ok(bytes)
+    let count = digits.len() / 2;
+    if count <= STORED {
+        let mut room = [0; STORED];
+        return decoded(alloc, digits, &mut room[..count]);
+    }
+    let mut room = vec![in alloc; 0; count]?;
+    decoded(alloc, digits, &mut room)
+}
+
+/// The bytes of so many pairs of digits, decoded in room of its caller's.
+fn decoded(alloc: Global, digits: &[u8], room: &mut [u8]) -> Result<Bytes, LineError>
+    requires { length digits.now ≡ 2 * length room.old }
+    ensures { GivesBytes result (result_ok (decode_pairs 0 digits.now)) }
+{
+    if decode_into(digits, &mut *room) {
+        Ok(Bytes::from_slice(alloc, room)?)
     } else {
         Err(LineError::Unfit)
     }

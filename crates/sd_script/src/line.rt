@@ -10,7 +10,7 @@ use crate::field_values::{hex_bytes, number, permissions, worker_named};
 use crate::line_error::LineError;
 use memchr::memchr;
 use sd_areas::SpaceId;
-use sd_command::{Bytes, Command};
+use sd_command::Command;
 use sd_gate::Worker;
 use std::alloc::Global;
 
@@ -234,7 +234,7 @@ fn try_store(alloc: Global, arguments: &[&str]) -> Result<Line, LineError>
     Ok(Line::Command(Command::TryStore {
         space: SpaceId::new(number(space).ok_or(LineError::Unfit)?),
         address: number(address).ok_or(LineError::Unfit)?,
-        bytes: Bytes::new(hex_bytes(alloc, bytes)?),
+        bytes: hex_bytes(alloc, bytes)?,
     }))
 }
 
@@ -259,7 +259,7 @@ fn store(alloc: Global, arguments: &[&str]) -> Result<Line, LineError>
     Ok(Line::Command(Command::Store {
         space: SpaceId::new(number(space).ok_or(LineError::Unfit)?),
         address: number(address).ok_or(LineError::Unfit)?,
-        bytes: Bytes::new(hex_bytes(alloc, bytes)?),
+        bytes: hex_bytes(alloc, bytes)?,
     }))
 }
 
