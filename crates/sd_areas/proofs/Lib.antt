@@ -16,3 +16,4 @@ pub mod CountLemmas
 pub mod Joined
 pub mod Around
 pub mod Spliced
+pub mod Split

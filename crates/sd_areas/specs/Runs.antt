@@ -1,5 +1,5 @@
 -- Lists of areas, as a call builds them from the front.
-use Rattle.std.specs.Prelude.{◌≡◌, Bool, ◌==◌, ℕ, ◌+◌, ◌-◌, ◌≤◌, ◌<◌, List, [], ◌∷◌, ◌&&◌, nat_le, nat_lt}
+use Rattle.std.specs.Prelude.{◌≡◌, Bool, false, ◌==◌, ℕ, ◌+◌, ◌-◌, ◌≤◌, ◌<◌, List, [], ◌∷◌, ◌&&◌, nat_le, nat_lt}
 use Rattle.std.specs.Prelude.{if◌then◌else◌, Option, Some, None, min, max, IsSome}
 use Rattle.sd_areas.specs.declared.area.Area.{Area}
 use Rattle.sd_areas.specs.declared.prot.Prot.{Prot}
@@ -68,6 +68,14 @@ pub record HasRun (old new : List Area) (area : Area) : Type 0 where
   pub maximal : AreMaximal None new
   pub same : (page : ℕ)
       → prot_in new page ≡ (if is_within area.first area.count page then Some area.prot else prot_in old page)
+
+-- an area lies within the only one of the areas, which has other permissions and pages on both sides of it
+pub record IsSplitBy (areas : List Area) (area : Area) : Type 0 where
+  pub around : Area
+  pub only : areas ≡ around ∷ []
+  pub before : around.first < area.first
+  pub after : area.first + area.count < around.first + around.count
+  pub apart : (prot_bits around.prot == prot_bits area.prot) ≡ false
 
 -- no page of the run is there, and every other page is as before
 pub record HasGap (old new : List Area) (first count : ℕ) : Type 0 where

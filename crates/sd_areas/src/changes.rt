@@ -12,7 +12,7 @@ use crate::area::Area;
 use crate::errno::{AreaError, Errno};
 use crate::limits::AREA_LIMIT;
 use crate::page_range::PageRange;
-use crate::runs::{has_area, meets_area, with_area, without_pages};
+use crate::runs::{has_area, is_split, meets_area, with_area, without_pages};
 use std::alloc::Global;
 
 /// Whether an area ends before a page, with a page between them.
@@ -121,6 +121,10 @@ pub(crate) fn set_between(
 {
     if has_area(&areas[from..to], &area) {
         return Ok(());
+    }
+    // A list that has no room for two areas more is refused before the pieces are built.
+    if areas.len() + 2 > AREA_LIMIT && is_split(&areas[from..to], &area) {
+        return Err(AreaError::Refused(Errno::Enomem));
     }
     let pieces = with_area(alloc, &areas[from..to], area)?;
     replace(areas, from, to, pieces)

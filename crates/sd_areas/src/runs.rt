@@ -6,7 +6,7 @@ ghost use Rattle.sd_areas.specs.Areas.{AreMaximal, prot_in, page_map_of};
 ghost use Rattle.sd_areas.specs.Pages.{is_within};
 ghost use Rattle.sd_areas.specs.Calls.{has_hole, AllHave};
 ghost use Rattle.sd_areas.specs.Runs.{is_area_continued, end_of_all, IsExtended, IsPart, HasPart, HasParts, HasRun};
-ghost use Rattle.sd_areas.specs.Runs.{HasGap, is_met, is_covering};
+ghost use Rattle.sd_areas.specs.Runs.{HasGap, IsSplitBy, is_met, is_covering};
 
 use crate::area::Area;
 use crate::limits::PAGE_NUMBER_LIMIT;
@@ -235,6 +235,28 @@ pub(crate) fn has_area(areas: &[Area], area: &Area) -> bool
 {
     let begin = area.first.number();
     any_covers(areas, begin, begin + area.count, area.prot)
+}
+
+/// Whether an area lies within the only one of the areas, which has other permissions and pages on both sides of it.
+pub(crate) fn is_split(areas: &[Area], area: &Area) -> bool
+    requires { area.now.first + area.now.count ≤ 2 ^ 35 }
+    ensures { IsTrue result → IsSplitBy areas.now area.now }
+{
+    let [around] = areas else {
+        return false;
+    };
+    lies_within(around, area) && around.prot.bits() != area.prot.bits()
+}
+
+/// Whether an area has pages on both sides of another.
+fn lies_within(around: &Area, area: &Area) -> bool
+    requires { area.now.first + area.now.count ≤ 2 ^ 35 }
+    ensures before { IsTrue result → around.now.first < area.now.first }
+    ensures after { IsTrue result → area.now.first + area.now.count < around.now.first + around.now.count }
+{
+    let first = around.first.number();
+    let begin = area.first.number();
+    first < begin && begin + area.count - first < around.count
 }
 
 /// Puts one page after the areas.

@@ -7,6 +7,7 @@ use Rattle.sd_areas.specs.Areas.{AreMaximal}
 use Rattle.sd_areas.specs.Runs.{HasRun}
 use Rattle.sd_areas.proofs.Around.{middle_maximal, run_spliced, run_fits, run_refused, on_ok_both, if_err_weaker, all_around_at, same_run_fits}
 use Rattle.sd_areas.proofs.Alike.{not_all, on_err_always}
+use Rattle.sd_areas.proofs.Split.{split_refused}
 use Rattle.sd_areas.proofs.changes.set_between.Goals as goal
 
 pub has_area-requires-clause-maximal : goal.has_area-requires-clause-maximal
@@ -37,3 +38,9 @@ returns-in_err-pieces-clause-some c = on_err_always c.from_residual.result (not_
 
 pub returns-clause-some : goal.returns-clause-some
 returns-clause-some c = on_err_always c.replace.result (not_all c.has_area.result c.has_area.ensures (all_around_at c.args.areas.now.items _ _ _ _ c.args.area.first c.args.area.count (Some c.args.area.prot) refl c.deref.ensures.value c.requires.maximal c.requires.ordered c.requires.inside c.requires.below c.requires.above) c.if-has_area.false)
+
+pub returns-then-is_split-clause-refused : goal.returns-then-is_split-clause-refused
+returns-then-is_split-clause-refused c = split_refused c.args.areas.now.items _ c.args.from c.args.to c.args.area c.deref-then-len-gt-AREA_LIMIT.ensures.value c.requires.maximal c.requires.ordered c.requires.inside c.requires.below c.requires.above c.requires.pages (c.is_split.ensures c.if-is_split.true) (omega (arith, c.if-len-gt-AREA_LIMIT.true, c.len.ensures, c.args.areas.now.ok.0))
+
+pub returns-then-is_split-clause-some : goal.returns-then-is_split-clause-some
+returns-then-is_split-clause-some c = not_all c.has_area.result c.has_area.ensures (all_around_at c.args.areas.now.items _ _ _ _ c.args.area.first c.args.area.count (Some c.args.area.prot) refl c.deref.ensures.value c.requires.maximal c.requires.ordered c.requires.inside c.requires.below c.requires.above) c.if-has_area.false
