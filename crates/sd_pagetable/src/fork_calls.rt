@@ -105,7 +105,8 @@ fn free_number(paging: &Paging) -> Option<SpaceId>
     None
 }
 
-/// `fork` over the pages of all spaces and the areas beside them.
+/// `fork` over the pages of all spaces and the areas beside them. It stands alone, as `mmap` does.
+#[inline(never)]
 pub(crate) fn fork(
     paging: &mut Paging,
     areas: &mut Areas,

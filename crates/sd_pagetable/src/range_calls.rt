@@ -350,7 +350,9 @@ pub(crate) fn mprotect(
     protect_some(paging, areas, space, address, bytes, prot)
 }
 
-/// `mmap` over the pages of all spaces and the areas beside them.
+/// `mmap` over the pages of all spaces and the areas beside them. It stands alone, since its stack has room for the
+/// tables that it makes, and a load or a store would touch each page of that.
+#[inline(never)]
 pub(crate) fn mmap(
     paging: &mut Paging,
     areas: &mut Areas,
