@@ -1,20 +1,28 @@
 -- The documents of a store, each with its members in the order of their names.
-use Rattle.std.specs.Prelude.{◌≡◌, ℕ, List, [], ◌∷◌, codes, length, filter, map, All, Option, None, Some}
+use Rattle.std.specs.Prelude.{◌≡◌, ℕ, ◌==◌, ◌-◌, ◌^◌, List, [], ◌∷◌, codes, length, filter, map, min, sum_by, All}
+use Rattle.std.specs.Prelude.{Option, None, Some}
 use Rattle.std.specs.Option.{option_map}
 use Rattle.hex.specs.Hex.{encode_lower}
 use Rattle.serde_json.specs.Data.{Data, null, number, unsigned, string, array, object, member, no_members, put}
 use Rattle.serde_json.specs.View.{items_of}
 use Rattle.serde_json.specs.Written.{compact_text}
+use Rattle.sd_areas.specs.declared.area.Area.{Area}
 use Rattle.sd_areas.specs.PlainMemory.{PlainMemory}
+use Rattle.sd_areas.specs.Prot.{prot_bits}
 use Rattle.sd_image.specs.declared.header.Header.{Header}
 use Rattle.sd_image.specs.Image.{is_open}
 use Rattle.sd_image.specs.ReasonLaws.{reason_number}
 use Rattle.sd_image.specs.Shows.{Shows}
+use Rattle.sd_image.specs.Table.{Listed}
 use Rattle.sd_image.specs.Words.{kind_number, version_number}
+use Rattle.sd_chain.specs.declared.found.Found.{Found}
+use Rattle.sd_chain.specs.declared.found.Found.TheVariants as found
 use Rattle.sd_chain.specs.Catalog.{IsDumpOrMerged, IsTip, Opened, Places, images}
 use Rattle.sd_chain.specs.Store.{IsCatalogOf}
 use Rattle.sd_readers.specs.declared.steady.Reader.{Reader}
 use Rattle.sd_readers.specs.declared.steady.Reader.TheVariants as reader
+use Rattle.sd_restore.specs.declared.placed_run.PlacedRun.{PlacedRun}
+use Rattle.sd_restore.specs.Placed.{IsLaidOut, placed_pages}
 use Rattle.sd_restore.specs.declared.fault.Fault.{Fault}
 use Rattle.sd_restore.specs.declared.fault.Fault.TheVariants as fault
 use Rattle.sd_show.specs.Numbers.{number_members}
@@ -75,9 +83,53 @@ pub record IsListing (contents : List (List ℕ)) (document : Data) : Type 0 whe
   pub newest : IsTipSerial places tip
   pub is : document ≡ listing (images places) tip
 
--- what a document has of a store that is listed or verified
+-- how many pages runs have, as far as 64 bits hold it
+abbrev pub page_count : List PlacedRun → ℕ
+page_count runs = min (sum_by (λ (r : PlacedRun). r.count) runs) (2 ^ 64 - 1)
+
+-- how many pages of a run are zeros without bytes in a file
+abbrev pub zeros_there : Found → ℕ → ℕ
+zeros_there found.Zero count = count
+zeros_there (found.Data slot offset) count = 0
+
+-- how many pages of runs are, as far as 64 bits hold it
+abbrev pub zero_count : List PlacedRun → ℕ
+zero_count runs = min (sum_by (λ (r : PlacedRun). zeros_there r.there r.count) runs) (2 ^ 64 - 1)
+
+-- the runs of a space
+abbrev pub runs_of : ℕ → List PlacedRun → List PlacedRun
+runs_of space = filter (λ (r : PlacedRun). r.space == space)
+
+-- first page, page count and permissions of an area
+abbrev pub area_fields : Area → Data
+area_fields area = object (number_members ((codes "first", area.first) ∷ (codes "count", area.count)
+    ∷ (codes "permissions", prot_bits area.prot) ∷ []))
+
+-- a space with its areas, and how many of these pages are its
+abbrev pub space_fields : List PlacedRun → Listed → Data
+space_fields runs s = object (put (codes "areas") (array (items_of (map area_fields s.areas))) (number_members (
+    (codes "space", s.space) ∷ (codes "pages", page_count (runs_of s.space runs))
+    ∷ (codes "zeros", zero_count (runs_of s.space runs)) ∷ [])))
+
+-- a memory: its checkpoint, its spaces, and how many pages there are
+abbrev pub memory_fields : ℕ → List Listed → List PlacedRun → Data
+memory_fields n spaces runs = object (put (codes "spaces") (array (items_of (map (space_fields runs) spaces)))
+    (number_members ((codes "checkpoint", n) ∷ (codes "pages", page_count runs)
+    ∷ (codes "zeros", zero_count runs) ∷ [])))
+
+-- a document has the spaces and areas of the memory that contents show, and the counts of its pages
+pub record IsMemory (contents : List (List ℕ)) (document : Data) : Type 0 where
+  pub checkpoint : ℕ
+  pub memory : PlainMemory
+  pub shows : Shows contents (Some (checkpoint, memory))
+  pub spaces : List Listed
+  pub runs : List PlacedRun
+  pub laid : IsLaidOut contents spaces (placed_pages runs) memory
+  pub is : document ≡ memory_fields checkpoint spaces runs
+
+-- what a document has of a store that is restored, listed or verified
 abbrev pub IsDocument : Reader → List (List ℕ) → Data → Type 0
-IsDocument reader.Restore contents document = Unit {0}
+IsDocument reader.Restore contents document = IsMemory contents document
 IsDocument reader.List contents document = IsListing contents document
 IsDocument reader.Verify contents document = IsVerdict contents document
 

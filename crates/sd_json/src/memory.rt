@@ -1,5 +1,12 @@
 //! The memory that a store shows as a document, without its bytes.
+ghost use Rattle.std.specs.Prelude.{◌≡◌, ◌+◌, ◌-◌, ◌^◌, map, min, IfOk};
+ghost use Rattle.serde_json.specs.Data.{array};
+ghost use Rattle.serde_json.specs.View.{items_of, view};
 ghost use Rattle.sd_disk.specs.Reads.{OnlyReads};
+ghost use Rattle.sd_image.specs.declared.table.SpaceTable.{SpaceTable};
+ghost use Rattle.sd_image.specs.Table.{listing_of};
+ghost use Rattle.sd_json.specs.Documents.{IsMemory, area_fields, memory_fields, page_count, runs_of, space_fields};
+ghost use Rattle.sd_json.specs.Documents.{zero_count, zeros_there};
 
 use sd_areas::{Area, SpaceId};
 use sd_chain::Found;
@@ -17,8 +24,23 @@ struct Counts {
     zeros: u64,
 }
 
+impl Counts {
+    /// With the pages of one run more.
+    fn with(self, run: &PlacedRun) -> Self
+        ensures pages { result.pages ≡ min (self.pages + run.now.count) (2 ^ 64 - 1) }
+        ensures zeros { result.zeros ≡ min (self.zeros + zeros_there run.now.there run.now.count) (2 ^ 64 - 1) }
+    {
+        Counts {
+            pages: self.pages.saturating_add(run.count),
+            zeros: self.zeros.saturating_add(zeros_of(run)),
+        }
+    }
+}
+
 /// How many of a run's pages are zeros without bytes in a file.
-fn zeros_of(run: &PlacedRun) -> u64 {
+fn zeros_of(run: &PlacedRun) -> u64
+    ensures { result ≡ zeros_there run.now.there run.now.count }
+{
     match run.there {
         Found::Data { .. } => 0,
         Found::Zero => run.count,
@@ -26,29 +48,35 @@ fn zeros_of(run: &PlacedRun) -> u64 {
 }
 
 /// How many pages of all runs there are.
-fn count_all(runs: &[PlacedRun]) -> Counts {
+fn count_all(runs: &[PlacedRun]) -> Counts
+    ensures pages { result.pages ≡ page_count runs.now }
+    ensures zeros { result.zeros ≡ zero_count runs.now }
+{
     let mut counts = Counts { pages: 0, zeros: 0 };
     for run in runs {
-        counts.pages = counts.pages.saturating_add(run.count);
-        counts.zeros = counts.zeros.saturating_add(zeros_of(run));
+        counts = counts.with(run);
     }
     counts
 }
 
 /// How many pages of a space there are.
-fn count_in(runs: &[PlacedRun], space: SpaceId) -> Counts {
+fn count_in(runs: &[PlacedRun], space: SpaceId) -> Counts
+    ensures pages { result.pages ≡ page_count (runs_of space runs.now) }
+    ensures zeros { result.zeros ≡ zero_count (runs_of space runs.now) }
+{
     let mut counts = Counts { pages: 0, zeros: 0 };
     for run in runs {
         if run.space.number() == space.number() {
-            counts.pages = counts.pages.saturating_add(run.count);
-            counts.zeros = counts.zeros.saturating_add(zeros_of(run));
+            counts = counts.with(run);
         }
     }
     counts
 }
 
 /// An area.
-fn area_json(alloc: Global, area: &Area) -> Result<Value, AllocError> {
+fn area_json(alloc: Global, area: &Area) -> Result<Value, AllocError>
+    ensures { IfOk result (λ document. view document ≡ area_fields area.now) }
+{
     let shown = numbers_object(
         alloc,
         &[
@@ -61,7 +89,9 @@ fn area_json(alloc: Global, area: &Area) -> Result<Value, AllocError> {
 }
 
 /// Areas, in their order.
-fn areas_json(alloc: Global, areas: &[Area]) -> Result<Value, AllocError> {
+fn areas_json(alloc: Global, areas: &[Area]) -> Result<Value, AllocError>
+    ensures { IfOk result (λ document. view document ≡ array (items_of (map area_fields areas.now))) }
+{
     let mut shown = Vec::new(alloc);
     for area in areas {
         shown.push(area_json(alloc, area)?)?;
@@ -70,7 +100,9 @@ fn areas_json(alloc: Global, areas: &[Area]) -> Result<Value, AllocError> {
 }
 
 /// A space: its areas, and how many of these pages are its.
-fn space_json(alloc: Global, space: &SpaceTable, runs: &[PlacedRun]) -> Result<Value, AllocError> {
+fn space_json(alloc: Global, space: &SpaceTable, runs: &[PlacedRun]) -> Result<Value, AllocError>
+    ensures { IfOk result (λ document. view document ≡ space_fields runs.now (listing_of space.now)) }
+{
     let counts = count_in(runs, space.space);
     let mut shown = numbers_object(
         alloc,
@@ -84,17 +116,39 @@ fn space_json(alloc: Global, space: &SpaceTable, runs: &[PlacedRun]) -> Result<V
     Ok(Value::Object(shown))
 }
 
-/// The spaces of a memory, rising.
-fn spaces_json(alloc: Global, placed: &PlacedMemory<'_>) -> Result<Value, AllocError> {
+/// Each space, in their order, with the counts of its pages among these.
+fn each_space(
+    alloc: Global,
+    spaces: &[SpaceTable],
+    runs: &[PlacedRun],
+) -> Result<Value, AllocError>
+    ensures { IfOk result (λ document. view document
+        ≡ array (items_of (map (λ (s : SpaceTable). space_fields runs.now (listing_of s)) spaces.now))) }
+{
     let mut shown = Vec::new(alloc);
-    for space in placed.spaces {
-        shown.push(space_json(alloc, space, &placed.runs)?)?;
+    for space in spaces {
+        shown.push(space_json(alloc, space, runs)?)?;
     }
     Ok(Value::from(shown))
 }
 
+/// Spaces, in their order, with the counts of their pages among these.
+fn spaces_json(
+    alloc: Global,
+    spaces: &[SpaceTable],
+    runs: &[PlacedRun],
+) -> Result<Value, AllocError>
+    ensures { IfOk result (λ document. view document
+        ≡ array (items_of (map (space_fields runs.now) (map listing_of spaces.now)))) }
+{
+    each_space(alloc, spaces, runs)
+}
+
 /// A memory: its checkpoint, its spaces, and how many pages there are.
-fn memory_json(alloc: Global, placed: &PlacedMemory<'_>) -> Result<Value, AllocError> {
+fn memory_json(alloc: Global, placed: &PlacedMemory<'_>) -> Result<Value, AllocError>
+    ensures { IfOk result (λ document. view document
+        ≡ memory_fields placed.now.checkpoint (map listing_of placed.now.spaces.now) placed.now.runs.items) }
+{
     let counts = count_all(&placed.runs);
     let mut shown = numbers_object(
         alloc,
@@ -104,7 +158,8 @@ fn memory_json(alloc: Global, placed: &PlacedMemory<'_>) -> Result<Value, AllocE
             ("zeros", counts.zeros),
         ],
     )?;
-    put(&mut shown, alloc, "spaces", spaces_json(alloc, placed)?)?;
+    let spaces = spaces_json(alloc, placed.spaces, &placed.runs)?;
+    put(&mut shown, alloc, "spaces", spaces)?;
     Ok(Value::Object(shown))
 }
 
@@ -116,6 +171,8 @@ fn memory_json(alloc: Global, placed: &PlacedMemory<'_>) -> Result<Value, AllocE
 ///
 /// Those of `restore`.
 pub fn memory_document<D: Disk>(alloc: Global, disk: &mut D) -> Result<Value, Fault>
+    ensures exact { D.is_honest disk.new
+        → IfOk result (λ document. IsMemory (D.contents disk.old) (view document)) }
     ensures reads { OnlyReads D.Disk disk.old disk.new }
 {
     let catalog = scan(alloc, disk)?;
