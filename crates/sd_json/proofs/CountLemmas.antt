@@ -20,8 +20,8 @@ pub counts_more : (runs : List PlacedRun) (run : PlacedRun)
     ≡ counts_of (runs ++ run ∷ [])
 counts_more runs run =
     let pages = capped_more (sum_by (λ (r : PlacedRun). r.count) runs) run.count (2 ^ 64 - 1)
-        ∙ ap (λ n. min n (2 ^ 64 - 1)) (sym (sum_more (λ (r : PlacedRun). r.count) runs run)) in
+    ∙ ap (λ n. min n (2 ^ 64 - 1)) (sym (sum_more (λ (r : PlacedRun). r.count) runs run)) in
     let zeros = capped_more (sum_by (λ (r : PlacedRun). zeros_there r.there r.count) runs) (zeros_there run.there run.count) (2 ^ 64 - 1)
-        ∙ ap (λ n. min n (2 ^ 64 - 1)) (sym (sum_more (λ (r : PlacedRun). zeros_there r.there r.count) runs run)) in
+    ∙ ap (λ n. min n (2 ^ 64 - 1)) (sym (sum_more (λ (r : PlacedRun). zeros_there r.there r.count) runs run)) in
     ap (λ (n : ℕ). record { pages = n; zeros = min (zero_count runs + zeros_there run.there run.count) (2 ^ 64 - 1) }) pages
     ∙ ap (λ (n : ℕ). record { pages = page_count (runs ++ run ∷ []); zeros = n }) zeros

@@ -15,16 +15,19 @@ use Rattle.sd_image.specs.ReasonLaws.{reason_number}
 use Rattle.sd_image.specs.Shows.{Shows}
 use Rattle.sd_image.specs.Table.{Listed}
 use Rattle.sd_image.specs.Words.{kind_number, version_number}
+use Rattle.sd_restore.specs.At.{ShowsAt}
 use Rattle.sd_chain.specs.declared.found.Found.{Found}
 use Rattle.sd_chain.specs.declared.found.Found.TheVariants as found
 use Rattle.sd_chain.specs.Catalog.{IsDumpOrMerged, IsTip, Opened, Places, images}
 use Rattle.sd_chain.specs.Store.{IsCatalogOf}
-use Rattle.sd_readers.specs.declared.steady.Reader.{Reader}
 use Rattle.sd_readers.specs.declared.steady.Reader.TheVariants as reader
 use Rattle.sd_restore.specs.declared.placed_run.PlacedRun.{PlacedRun}
 use Rattle.sd_restore.specs.Placed.{IsLaidOut, placed_pages}
 use Rattle.sd_restore.specs.declared.fault.Fault.{Fault}
 use Rattle.sd_restore.specs.declared.fault.Fault.TheVariants as fault
+use Rattle.sd_readers.specs.declared.at.ReaderAt.TheVariants as at
+use Rattle.sd_json.specs.declared.moment.Document.{Document}
+use Rattle.sd_json.specs.declared.moment.Document.TheVariants as asked
 use Rattle.sd_show.specs.Numbers.{number_members}
 use Rattle.sd_show.specs.Phrases.{reason_phrase}
 
@@ -127,11 +130,30 @@ pub record IsMemory (contents : List (List ℕ)) (document : Data) : Type 0 wher
   pub laid : IsLaidOut contents spaces (placed_pages runs) memory
   pub is : document ≡ memory_fields checkpoint spaces runs
 
--- what a document has of a store that is restored, listed or verified
-abbrev pub IsDocument : Reader → List (List ℕ) → Data → Type 0
-IsDocument reader.Restore contents document = IsMemory contents document
-IsDocument reader.List contents document = IsListing contents document
-IsDocument reader.Verify contents document = IsVerdict contents document
+-- the same of the memory that contents have at a checkpoint
+pub record IsMemoryAt (contents : List (List ℕ)) (checkpoint : ℕ) (document : Data) : Type 0 where
+  pub memory : PlainMemory
+  pub shows : ShowsAt contents checkpoint memory
+  pub spaces : List Listed
+  pub runs : List PlacedRun
+  pub laid : IsLaidOut contents spaces (placed_pages runs) memory
+  pub is : document ≡ memory_fields checkpoint spaces runs
+
+-- contents have a memory at a checkpoint, and a document has its number and how many images they have
+pub record IsVerdictAt (contents : List (List ℕ)) (checkpoint : ℕ) (document : Data) : Type 0 where
+  pub memory : PlainMemory
+  pub shows : ShowsAt contents checkpoint memory
+  pub places : Places
+  pub catalog : IsCatalogOf contents places
+  pub is : document ≡ verdict (Some checkpoint) (length (images places))
+
+-- what a document has of the contents of which it is asked for
+abbrev pub IsDocument : Document → List (List ℕ) → Data → Type 0
+IsDocument (asked.Newest reader.Restore) contents document = IsMemory contents document
+IsDocument (asked.Newest reader.List) contents document = IsListing contents document
+IsDocument (asked.Newest reader.Verify) contents document = IsVerdict contents document
+IsDocument (asked.At at.Restore n) contents document = IsMemoryAt contents n document
+IsDocument (asked.At at.Verify n) contents document = IsVerdictAt contents n document
 
 -- a text is a document of which this is so, on one line without its end
 pub record IsTextOf (fact : Data → Type 0) (text : List ℕ) : Type 0 where

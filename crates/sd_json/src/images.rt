@@ -71,11 +71,7 @@ fn tip_serial(catalog: &Catalog) -> Option<u64>
 }
 
 /// Images, in their order, and the serial of their tip, or null.
-fn listed_json(
-    alloc: Global,
-    images: &[&OpenImage],
-    tip: Option<u64>,
-) -> Result<Value, AllocError>
+fn listed_json(alloc: Global, images: &[&OpenImage], tip: Option<u64>) -> Result<Value, AllocError>
     ensures { IfOk result (λ document. view document ≡ shown_with (map (λ i. entry i.now) images.now) tip) }
 {
     let images = images_json(alloc, images)?;

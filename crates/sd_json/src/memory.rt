@@ -5,8 +5,8 @@ ghost use Rattle.serde_json.specs.View.{items_of, view};
 ghost use Rattle.sd_disk.specs.Reads.{OnlyReads};
 ghost use Rattle.sd_image.specs.declared.table.SpaceTable.{SpaceTable};
 ghost use Rattle.sd_image.specs.Table.{listing_of};
-ghost use Rattle.sd_json.specs.Documents.{IsMemory, area_fields, memory_fields, page_count, runs_of, space_fields};
-ghost use Rattle.sd_json.specs.Documents.{zero_count, zeros_there};
+ghost use Rattle.sd_json.specs.Documents.{IsMemory, IsMemoryAt, area_fields, memory_fields, page_count, runs_of};
+ghost use Rattle.sd_json.specs.Documents.{space_fields, zero_count, zeros_there};
 
 use sd_areas::{Area, SpaceId};
 use sd_chain::Found;
@@ -117,11 +117,7 @@ fn space_json(alloc: Global, space: &SpaceTable, runs: &[PlacedRun]) -> Result<V
 }
 
 /// Each space, in their order, with the counts of its pages among these.
-fn each_space(
-    alloc: Global,
-    spaces: &[SpaceTable],
-    runs: &[PlacedRun],
-) -> Result<Value, AllocError>
+fn each_space(alloc: Global, spaces: &[SpaceTable], runs: &[PlacedRun]) -> Result<Value, AllocError>
     ensures { IfOk result (λ document. view document
         ≡ array (items_of (map (λ (s : SpaceTable). space_fields runs.now (listing_of s)) spaces.now))) }
 {
@@ -186,6 +182,8 @@ pub fn memory_document<D: Disk>(alloc: Global, disk: &mut D) -> Result<Value, Fa
 ///
 /// Those of `restore_at`: `EmptyChain` where the store has no image of the checkpoint.
 pub fn memory_document_at<D: Disk>(alloc: Global, disk: &mut D, number: u64) -> Result<Value, Fault>
+    ensures exact { D.is_honest disk.new
+        → IfOk result (λ document. IsMemoryAt (D.contents disk.old) number (view document)) }
     ensures reads { OnlyReads D.Disk disk.old disk.new }
 {
     let catalog = scan(alloc, disk)?;

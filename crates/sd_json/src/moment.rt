@@ -3,8 +3,7 @@ ghost use Rattle.std.specs.Prelude.{◌≡◌, false, string_bytes, IfOk};
 ghost use Rattle.serde_json.specs.View.{view};
 ghost use Rattle.serde_json.specs.Written.{compact_text, has_float};
 ghost use Rattle.sd_disk.specs.Reads.{OnlyReads};
-ghost use Rattle.sd_readers.specs.declared.steady.Reader.{Reader};
-ghost use Rattle.sd_json.specs.Documents.{IsDocument, IsListing, IsTextOf, IsVerdict, faulty, lacking};
+ghost use Rattle.sd_json.specs.Documents.{IsDocument, IsTextOf, faulty, lacking};
 
 use crate::fault::{fault_document, lacks_document};
 use crate::images::images_document;
@@ -28,7 +27,7 @@ pub enum Document {
 /// The document that a program prints of a store.
 fn newest_document<D: Disk>(alloc: Global, reader: Reader, disk: &mut D) -> Result<Value, Fault>
     ensures exact { D.is_honest disk.new
-        → IfOk result (λ document. IsDocument reader (D.contents disk.old) (view document)) }
+        → IfOk result (λ document. IsDocument (Document.Newest reader) (D.contents disk.old) (view document)) }
     ensures reads { OnlyReads D.Disk disk.old disk.new }
 {
     match reader {
@@ -45,7 +44,9 @@ fn document_at<D: Disk>(
     disk: &mut D,
     number: u64,
 ) -> Result<Value, Fault>
-    ensures { OnlyReads D.Disk disk.old disk.new }
+    ensures exact { D.is_honest disk.new
+        → IfOk result (λ document. IsDocument (Document.At reader number) (D.contents disk.old) (view document)) }
+    ensures reads { OnlyReads D.Disk disk.old disk.new }
 {
     match reader {
         ReaderAt::Restore => memory_document_at(alloc, disk, number),
@@ -55,8 +56,8 @@ fn document_at<D: Disk>(
 
 /// A document of a store.
 fn document_of<D: Disk>(alloc: Global, document: Document, disk: &mut D) -> Result<Value, Fault>
-    ensures exact { D.is_honest disk.new → (reader : Reader) → document ≡ Document.Newest reader
-        → IfOk result (λ made. IsDocument reader (D.contents disk.old) (view made)) }
+    ensures exact { D.is_honest disk.new
+        → IfOk result (λ made. IsDocument document (D.contents disk.old) (view made)) }
     ensures reads { OnlyReads D.Disk disk.old disk.new }
 {
     match document {
@@ -84,11 +85,9 @@ pub fn document_text<D: Disk>(
     document: Document,
     disk: &mut D,
 ) -> Result<String, Fault>
-    // Of a store that is verified or listed it has exactly what the files show and have.
-    ensures verdict { D.is_honest disk.new → document ≡ Document.Newest Reader.Verify
-        → IfOk result (λ text. IsTextOf (IsVerdict (D.contents disk.old)) (string_bytes text)) }
-    ensures listing { D.is_honest disk.new → document ≡ Document.Newest Reader.List
-        → IfOk result (λ text. IsTextOf (IsListing (D.contents disk.old)) (string_bytes text)) }
+    // It has exactly what the files show and have.
+    ensures exact { D.is_honest disk.new
+        → IfOk result (λ text. IsTextOf (IsDocument document (D.contents disk.old)) (string_bytes text)) }
     ensures reads { OnlyReads D.Disk disk.old disk.new }
 {
     let before = fronts(alloc, disk)?;

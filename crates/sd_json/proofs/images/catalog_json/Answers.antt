@@ -10,8 +10,11 @@ use Rattle.sd_json.proofs.images.catalog_json.Goals as goal
 
 pub returns : goal.returns
 returns c = IfOk-weaker c.listed_json.result _ _
-    (λ document shown. (c.tip_serial-tip.result, c.tip_serial-tip.ensures,
-    shown ∙ ap (λ (all : List Data). shown_with all c.tip_serial-tip.result)
-    (sym (map-map entry (λ (i : Bor Opened). i.now) c.deref.result.now)
-    ∙ ap (λ (list : List (Bor Opened)). map entry (map (λ i. i.now) list)) c.deref.ensures.value ∙ ap (map entry) c.in_ok-list.ensures)))
+    (λ document shown. (
+      c.tip_serial-tip.result,
+      c.tip_serial-tip.ensures,
+      shown ∙ ap (λ (all : List Data). shown_with all c.tip_serial-tip.result)
+          (sym (map-map entry (λ (i : Bor Opened). i.now) c.deref.result.now)
+          ∙ ap (λ (list : List (Bor Opened)). map entry (map (λ i. i.now) list)) c.deref.ensures.value ∙ ap (map entry) c.in_ok-list.ensures),
+    ))
     c.listed_json.ensures

@@ -1,5 +1,5 @@
 -- The memory is the one that the store's files show.
-use Rattle.std.proofs.Common.{map, Bor}
+use Rattle.std.proofs.Common.{map}
 use Rattle.sd_image.specs.Table.{listing_of}
 use Rattle.sd_restore.specs.Placed.{placed_memory, placed_pages}
 use Rattle.sd_json.proofs.memory.memory_document.Goals as goal
