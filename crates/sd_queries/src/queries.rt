@@ -1,9 +1,11 @@
 //! What is asked of a store that is only read, and its answer.
-ghost use Rattle.std.specs.Prelude.{◌≡◌, false, if◌then◌else◌, Err, IfErr, IfOk, MatchResult, Some};
+ghost use Rattle.std.specs.Prelude.{◌≡◌, ◌≢◌, false, if◌then◌else◌, Err, IfErr, IfOk, MatchResult, OnOk, Some};
 ghost use Rattle.sd_disk.specs.Reads.{OnlyReads};
 ghost use Rattle.sd_exit.specs.Ending.{ExitsAs, status_of};
 ghost use Rattle.sd_readers.specs.declared.steady.Reader.{Reader};
 ghost use Rattle.sd_readers.specs.Reading.{ReaderEnds};
+ghost use Rattle.sd_json.specs.declared.moment.Document.{Document};
+ghost use Rattle.sd_queries.specs.Printing.{PrintsDocument};
 ghost use Rattle.sd_queries.specs.Asked.{has_document, names_one_checkpoint, reader_at_verb, reader_verb, verb_text};
 ghost use Rattle.sd_queries.specs.declared.queries.Query.TheVariants as query;
 
@@ -102,6 +104,10 @@ impl Query {
             → ReaderEnds reader (D.is_honest disk.new) (D.contents disk.old)
             (D.failed disk.old) (D.failed disk.new) (W.contents out.old.writer)
             (W.contents out.new.writer) out.new.refused result }
+        // Status 0: the document that is asked for is printed, as the files have it.
+        ensures document { D.is_honest disk.new → (document : Document) → self ≡ query.Document document
+            → result ≡ 0 → PrintsDocument document (D.contents disk.old) (W.contents out.old.writer)
+            (W.contents out.new.writer) }
         // Whatever is asked, it only reads.
         ensures reads { OnlyReads D.Disk disk.old disk.new }
     {
@@ -205,10 +211,24 @@ fn print_document<D: Disk, W: Write>(
     disk: &mut D,
     out: &mut Output<W>,
 ) -> Result<(), Stop>
+    ensures printed { D.is_honest disk.new → OnOk result (PrintsDocument document (D.contents disk.old)
+        (W.contents out.old.writer) (W.contents out.new.writer)) }
     ensures reads { OnlyReads D.Disk disk.old disk.new }
 {
-    writeln!(out, "{}", document_text(alloc, document, disk)?)?;
+    let text = document_text(alloc, document, disk)?;
+    writeln!(out, "{text}")?;
     Ok(())
+}
+
+/// Ends a document that a fault kept from being printed: that of the fault, or of a checkpoint that isn't there, stands
+/// in its place.
+fn end_without<W: Write>(alloc: Global, document: Document, fault: Fault, out: &mut Output<W>) -> u8
+    ensures { result ≢ 0 }
+{
+    if let (Document::At(_, number), Fault::EmptyChain) = (document, fault) {
+        return status_or(lacks_printed(alloc, number, out), out);
+    }
+    status_or(print_fault(alloc, fault, out), out)
 }
 
 /// Prints another document of a store, or that of why there is none.
@@ -218,14 +238,14 @@ fn print_other<D: Disk, W: Write>(
     disk: &mut D,
     out: &mut Output<W>,
 ) -> u8
+    ensures document { D.is_honest disk.new → result ≡ 0 → PrintsDocument document (D.contents disk.old)
+        (W.contents out.old.writer) (W.contents out.new.writer) }
     ensures reads { OnlyReads D.Disk disk.old disk.new }
 {
     let ended = print_document(alloc, document, disk, out);
-    match (document, fault_of(&ended)) {
-        (Document::At(_, number), Some(Fault::EmptyChain)) => {
-            status_or(lacks_printed(alloc, number, out), out)
-        }
-        _ => end_document(alloc, ended, out),
+    match fault_of(&ended) {
+        Some(fault) => end_without(alloc, document, fault, out),
+        None => exit(&ended, out),
     }
 }
 
