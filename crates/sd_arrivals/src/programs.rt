@@ -15,16 +15,13 @@ use sd_restore::{Fault, newest_checkpoint, scan};
 use sd_send::memory_digest;
 use sd_stream::{Base, StreamError};
 use std::alloc::{AllocError, Global};
-use std::io::{BufReader, IsTerminal, Read, Write};
+use std::io::{IsTerminal, Write};
 use std::sync::Wait;
 use std::time::Clock;
 use std::{fmt, io};
 
 /// The exit status where a stream isn't received, or not all.
 const FAILED: u8 = 1;
-
-/// How many bytes of the input are read at once, at most.
-const PIECE: usize = 65_536;
 
 /// What is reported of an input on a terminal.
 const IS_TERMINAL: &str = "a stream isn't read from a terminal: lead one into the standard input";
@@ -171,14 +168,6 @@ fn end<W: Write>(
     }
 }
 
-/// A reader whose input is read in large pieces.
-fn buffered<R: Read + Drop>(alloc: Global, input: R) -> Result<BufReader<R>, Stop> {
-    match BufReader::with_capacity(alloc, PIECE, input) {
-        Ok(reader) => Ok(reader),
-        Err(_) => Err(Stop::Fault(Fault::OutOfMemory)),
-    }
-}
-
 /// `ckpt receive`. The folder is made where it is missing.
 ///
 /// # Errors
@@ -200,11 +189,10 @@ pub fn receive_program<R: Clock + Wait, W: Write>(
         called.tell(&IS_TERMINAL);
         return Ok(FAILED);
     }
-    let input = buffered(called.rt.alloc(), called.rt.stdin())?;
     let log = called.logger();
     let seen = called.seen(&log, false);
     let mut disk = seen.disk("receive", called.make_store(clock)?);
-    let ended = receive(called.rt.alloc(), &mut disk, input, out);
+    let ended = receive(called.rt.alloc(), &mut disk, called.rt.stdin(), out);
     called.report_device(&unseen(disk));
     Ok(end(called, as_json, ended, out))
 }
