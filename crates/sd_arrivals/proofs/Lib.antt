@@ -1,2 +1,3 @@
 pub mod ArrivalLemmas
+pub mod ProgramLemmas
 pub mod ReceivedLemmas

@@ -1,5 +1,5 @@
 -- Checkpoints that are received, one after the other.
-use Rattle.std.proofs.Common.{◌≡◌, ◌≢◌, ◌≤◌, ℕ, true, false, List, [], ◌∷◌, ◌++◌, Option, None, Some, Result, Ok, Err, refl, sym, ◌∙◌, ap, subst, inl, inr, append-nil, map, IfSome}
+use Rattle.std.proofs.Common.{◌≡◌, ◌≢◌, ◌≤◌, ℕ, true, false, List, [], ◌∷◌, ◌++◌, Option, None, Some, Result, Ok, Err, refl, sym, ◌∙◌, ap, subst, inl, inr, append-nil, IfSome}
 use Rattle.std.specs.FinMap as finmap
 use Rattle.std.specs.Io.KnownBytes.{Appends, Consumes, IsAtEnd}
 use Rattle.std.specs.List.{flat_map}
@@ -21,7 +21,7 @@ use Rattle.sd_receive.proofs.StreamLemmas.{goes_on_more, reads_nothing}
 use Rattle.sd_stream.specs.declared.base.Base.{Base}
 use Rattle.sd_stream.specs.declared.reader.StreamReader.{StreamReader}
 use Rattle.sd_stream.specs.Progress.{Progress, progress_text, started}
-use Rattle.sd_stream.specs.Reading.{BeginsWith, HasRead, HasReadAll}
+use Rattle.sd_stream.specs.Reading.{BeginsWith, HasRead}
 use Rattle.sd_stream.specs.Stream.{IsStream, stream_text}
 use Rattle.sd_arrivals.specs.Arrivals.{AreOfStream, HasReceived, IsAttached, IsReceived, IsWholeStream, ReadsOn, ShowsOrNext, UnlessOutput, UnlessUnprinted, received_line}
 use Rattle.sd_arrivals.specs.Arrivals.HasReceived.{nothing, no_more, one_more}

@@ -1,13 +1,13 @@
 -- The image of a checkpoint is one image, and so is where a piece begins.
-use Rattle.std.proofs.Common.{◌≡◌, ◌≢◌, ◌<◌, ◌≤◌, ℕ, Option, Some, None, All, Bor, refl, sym, ap, ◌∙◌, subst, arith}
-use Rattle.std.specs.Prelude.{Contains, IfSome, IsErrOf, Result, Ok, Err, is_some, true, ◌↔◌}
+use Rattle.std.proofs.Common.{◌≡◌, ◌≢◌, ◌≤◌, ℕ, Option, Some, None, All, sym, ap, ◌∙◌, subst, arith}
+use Rattle.std.specs.Prelude.{IfSome, IsErrOf, Result, Ok, Err, is_some, true, ◌↔◌}
 use Rattle.std.proofs.lemmas.List.Elements.{All-contains}
-use Rattle.sd_chain.specs.Catalog.{IsSoundCatalog, IsTip, Opened, Places, images, place_of}
-use Rattle.sd_chain.specs.Checkpoints.{HasCheckpoint, IsCheckpointChoice, IsOfCheckpointAmong}
+use Rattle.sd_chain.specs.Catalog.{IsSoundCatalog, Opened, Places, images, place_of}
+use Rattle.sd_chain.specs.Checkpoints.{HasCheckpoint, IsOfCheckpointAmong}
 use Rattle.sd_send.specs.declared.send_error.SendError.{SendError}
 use Rattle.sd_send.specs.declared.send_error.SendError.TheVariants as send
 use Rattle.sd_send.specs.declared.sender.Last.{Last}
-use Rattle.sd_send.specs.Last.{IsGone, IsOfLast, IsOfSending, IsPast, IsStopAfter}
+use Rattle.sd_send.specs.Last.{IsGone, IsOfSending, IsPast, IsStopAfter}
 
 same_serial : (a b : ℕ) → a ≤ b → b ≤ a → a ≡ b
 same_serial a b below above = omega (arith, below, above)

@@ -1,3 +1,4 @@
+pub mod FilesLemmas
 pub mod GroupLemmas
 pub mod LastLemmas
 pub mod WalkLemmas

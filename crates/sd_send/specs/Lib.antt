@@ -1,3 +1,4 @@
+pub mod Asked
 pub mod Last
 pub mod Sending
 pub mod Sent

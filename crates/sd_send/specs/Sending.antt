@@ -2,6 +2,8 @@
 use Rattle.std.specs.Prelude.{◌≡◌, ℕ, List, [], ◌++◌, Option}
 use Rattle.std.specs.Io.KnownBytes.{Appends}
 use Rattle.sd_disk.specs.Contents.{file_at}
+use Rattle.sd_disk.specs.Reads.{OnlyReads}
+use Rattle.sd_disk.specs.declared.disk.Disk.{Ghosts}
 use Rattle.sd_image.specs.declared.header.Kind.{Kind}
 use Rattle.sd_image.specs.declared.header.Kind.TheVariants.{PreDump, Dump, Merged}
 use Rattle.sd_chain.specs.Catalog.{Opened, Places}
@@ -53,3 +55,12 @@ pub record SendsStream (contents : List (List ℕ)) (since : Option ℕ) (before
   pub sent : IsSent contents since base groups
   pub order : IsStream base groups
   pub written : Appends before after (stream_text base groups)
+
+-- A disk with these files was only read, and all of its stream was written after what stood there before.
+pub record SendsFiles {D : Type 0} (g : Ghosts D) (files : List (List ℕ)) (since : Option ℕ)
+    (before after : Option (List ℕ)) : Type 0 where
+  pub old : D
+  pub new : D
+  pub opened : g.contents old ≡ files
+  pub reads : OnlyReads g old new
+  pub stream : g.is_honest new → SendsStream (g.contents old) since before after

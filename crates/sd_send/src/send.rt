@@ -1,11 +1,16 @@
 //! `ckpt send`: the images of a store, as a stream on the standard output.
+ghost use Rattle.std.specs.Prelude.{◌≡◌, ◌≢◌, IfOk, OnOk};
+ghost use Rattle.sd_disk.specs.Folder.{outside_of};
+ghost use Rattle.sd_send.specs.Sending.{SendsFiles};
+ghost use Rattle.sd_send.specs.Asked.{SendsAsked};
 
 use crate::follow::follow;
 use crate::send_error::SendError;
 use crate::sending::send_to;
 use crate::sent::Sent;
+use sd_disk::Disk;
 use sd_exit::{Output, Stop, exit_with_fault};
-use sd_program::{Called, Causes, NOT_THERE, unseen};
+use sd_program::{Called, Causes, NOT_THERE, SeenDisk, unseen};
 use sd_restore::Fault;
 use sd_stream::WriteError;
 use std::io::{IsTerminal, Write};
@@ -56,7 +61,9 @@ fn told<W: Write>(
     since: u64,
     error: SendError,
     out: &mut Output<W>,
-) -> Result<u8, Stop> {
+) -> Result<u8, Stop>
+    ensures failed { IfOk result (λ status. status ≢ 0) }
+{
     match error {
         SendError::NotThere => {
             tell_not_there(called, since);
@@ -88,18 +95,37 @@ fn tell_fault(called: Called<'_>, fault: Fault) {
     }
 }
 
-/// Sends a store as it is.
+/// Sends a store as it is, and gives the output back.
 fn send_once<W: Write + Drop>(
     called: Called<'_>,
     since: Option<u64>,
     out: W,
-) -> Result<Sent, SendError> {
+) -> Result<(W, Sent), SendError>
+    ensures sends { IfOk result (λ sent. SendsFiles ⟦<SeenDisk<'static> as Disk>⟧
+        (outside_of called.entry.found.now).found since (W.contents out) (W.contents sent.0)) }
+{
     let log = called.logger();
     let seen = called.seen(&log, called.is_watched());
     let mut disk = seen.disk("send", called.open_store()?);
     let ended = send_to(called.rt.alloc(), &mut disk, since, out);
     called.report_device(&unseen(disk));
-    let (_, sent) = ended?;
+    ended
+}
+
+/// Sends a store as it is asked for, and says how much was sent.
+fn send_by<R: Clock + Wait, W: Write>(
+    called: Called<'_>,
+    clock: &R,
+    asked: SendAsked,
+    out: &mut Output<W>,
+) -> Result<Sent, SendError>
+    ensures sends { OnOk result (SendsAsked ⟦<SeenDisk<'static> as Disk>⟧ (outside_of called.entry.found.now).found
+        asked (W.contents out.old.writer)) }
+{
+    if asked.follow {
+        return follow(called, clock, asked.since, out);
+    }
+    let (_, sent) = send_once(called, asked.since, out)?;
     Ok(sent)
 }
 
@@ -113,17 +139,16 @@ pub fn send_program<R: Clock + Wait, W: Write>(
     clock: &R,
     asked: SendAsked,
     out: &mut Output<W>,
-) -> Result<u8, Stop> {
+) -> Result<u8, Stop>
+    // With status 0 the writer that was lent was given back with all of the stream of the files that are found.
+    ensures sends { IfOk result (λ status. status ≡ 0 → SendsAsked ⟦<SeenDisk<'static> as Disk>⟧
+        (outside_of called.entry.found.now).found asked (W.contents out.old.writer)) }
+{
     if called.rt.stdout().is_terminal() {
         called.tell(&IS_TERMINAL);
         return Ok(FAILED);
     }
-    let ended = if asked.follow {
-        follow(called, clock, asked.since, &mut *out)
-    } else {
-        send_once(called, asked.since, &mut *out)
-    };
-    match ended {
+    match send_by(called, clock, asked, out) {
         Ok(sent) => {
             tell_sent(called, asked, sent);
             Ok(out.finish(0))

@@ -1,4 +1,4 @@
-use Rattle.std.proofs.Common.{◌≡◌, ◌<◌, ap, subst, arith}
+use Rattle.std.proofs.Common.{◌≡◌, ap, arith}
 use Rattle.sd_chain.specs.Catalog.{Opened}
 use Rattle.sd_send.proofs.sender.has_newer.Goals as goal
 

@@ -1,4 +1,4 @@
-use Rattle.std.proofs.Common.{◌≡◌, ℕ, Option, Some, None, refl, sym, subst}
+use Rattle.std.proofs.Common.{ℕ, Option, Some, None, refl, sym, subst}
 use Rattle.std.specs.Prelude.{IsErrOf, Err, ◌↔◌}
 use Rattle.sd_send.specs.declared.send_error.SendError.{SendError}
 use Rattle.sd_send.specs.declared.send_error.SendError.TheVariants as send

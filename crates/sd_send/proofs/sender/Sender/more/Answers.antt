@@ -1,4 +1,4 @@
-use Rattle.std.proofs.Common.{ℕ, List, [], Option, map, Bor, sym, subst}
+use Rattle.std.proofs.Common.{ℕ, List, [], map, Bor, sym, subst}
 use Rattle.std.proofs.lemmas.Result.{err_from_is_err_and}
 use Rattle.sd_chain.specs.Catalog.{Opened}
 use Rattle.sd_send.specs.Last.{IsOfSending}
