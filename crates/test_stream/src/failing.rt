@@ -1,9 +1,9 @@
 //! Outputs and inputs that fail, or are interrupted.
-use crate::streams::{BASE, read_all, two_checkpoints};
-use sd_stream::{Item, StreamWriter};
+use crate::streams::{BASE, is_shown, read_all, two_checkpoints};
+use sd_stream::StreamWriter;
+use std::alloc::{AllocError, Global};
 use std::io;
 use std::io::{ErrorKind, Read, Write};
-use std::test::Fail;
 
 /// An input that gives a byte a call, is interrupted before each, and fails after so many.
 #[derive(Drop)]
@@ -32,24 +32,31 @@ impl Read for Halting {
     }
 }
 
+/// After how many bytes the input fails.
+const HALTS: &[usize] = &[0, 10, 56, 60, 73, 100, 150, 164, 195, 196, 197];
+
+/// Whether the end is read of an input that fails after so many bytes.
+fn is_read(alloc: Global, fails_at: usize) -> (bool, bool) {
+    let input = Halting {
+        bytes: two_checkpoints(alloc),
+        place: 0,
+        fails_at,
+        is_interrupted: false,
+    };
+    let (why, is_ended) = read_all(alloc, input);
+    (why.is_none(), is_ended)
+}
+
 #[test]
-fn an_input_that_halts_is_read(rt: HostRuntime) -> Result<(), Fail> {
-    let alloc = rt.alloc();
-    for fails_at in [0, 10, 56, 60, 73, 100, 150, 164, 195, 196, 197] {
-        let bytes = two_checkpoints(alloc).unwrap_or(Vec::new(alloc));
-        let input = Halting {
-            bytes,
-            place: 0,
-            fails_at,
-            is_interrupted: false,
-        };
-        let said = read_all(alloc, input);
+fn an_input_that_halts_is_read(rt: HostRuntime) {
+    for fails_at in HALTS {
         // Only at the end of the input it is known that nothing comes after the end.
-        assert!(rt; said.why.is_none() == (fails_at == 197), "at {fails_at}");
-        let ended = said.items.last() == Some(&Item::End);
-        assert!(rt; ended == (fails_at == 197), "at {fails_at}");
+        let is_whole = *fails_at == 197;
+        assert!(rt;
+            is_read(rt.alloc(), *fails_at) == (is_whole, is_whole),
+            "at {fails_at}"
+        );
     }
-    Ok(())
 }
 
 /// An output that takes so many bytes.
@@ -70,19 +77,36 @@ impl Write for Full {
     }
 }
 
-#[test]
-fn a_full_output_is_told(rt: HostRuntime) -> Result<(), Fail> {
-    assert!(rt; StreamWriter::begin(Full { room: 55 }, Some(BASE)).is_err());
-    let mut writer = StreamWriter::begin(Full { room: 70 }, Some(BASE))?;
-    assert!(rt; writer.image(3).is_err());
-    // Nothing is written after it.
-    let Err(why) = writer.image(3) else {
-        return Ok(());
+/// Whether an image is refused with this text.
+fn refuses_image(
+    alloc: Global,
+    writer: &mut StreamWriter<Full>,
+    text: &str,
+) -> Result<bool, AllocError> {
+    match writer.image(3) {
+        Ok(()) => Ok(false),
+        Err(why) => is_shown(alloc, &why, text),
+    }
+}
+
+/// Whether nothing is written after the output was full.
+fn stays_full(alloc: Global, writer: &mut StreamWriter<Full>) -> Result<bool, AllocError> {
+    let is_full = writer.image(3).is_err() && refuses_image(alloc, writer, "the output failed")?;
+    Ok(is_full && writer.bytes(b"").is_err() && writer.flush().is_err())
+}
+
+/// Whether that is so of an output with room for the head, and a stream without an end.
+fn is_full(alloc: Global) -> Result<bool, AllocError> {
+    let Ok(mut writer) = StreamWriter::begin(Full { room: 70 }, Some(BASE)) else {
+        return Ok(false);
     };
-    assert_eq!(rt;
-        format!(in rt.alloc(); "{why}")?.as_str(),
-        "the output failed"
-    );
-    assert!(rt; writer.bytes(b"").is_err() && writer.flush().is_err() && writer.end().is_err());
+    let stays = stays_full(alloc, &mut writer);
+    Ok(writer.end().is_err() && stays?)
+}
+
+#[test]
+fn a_full_output_is_told(rt: HostRuntime) -> Result<(), AllocError> {
+    assert!(rt; StreamWriter::begin(Full { room: 55 }, Some(BASE)).is_err());
+    assert!(rt; is_full(rt.alloc())?);
     Ok(())
 }

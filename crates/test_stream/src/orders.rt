@@ -1,81 +1,118 @@
 //! Calls of a writer that are out of order.
-use crate::streams::BASE;
+use crate::streams::{BASE, Call, is_shown, make};
 use sd_stream::{Base, MAX_FILE_LEN, StreamWriter, WriteError};
 use std::alloc::{AllocError, Global};
-use std::test::Fail;
 
-/// Why a call was refused, or `written`.
-fn why<T: Drop>(alloc: Global, call: Result<T, WriteError>) -> Result<String, AllocError> {
-    match call {
-        Ok(_) => format!(in alloc; "written"),
-        Err(why) => format!(in alloc; "{why}"),
+/// How a call is answered that isn't refused.
+const WRITTEN: &str = "written";
+
+/// A stream: its base, its calls, each with its answer, and the answer of its end, with how long it is then.
+type Row = (
+    Option<Base>,
+    &'static [(Call, &'static str)],
+    &'static str,
+    usize,
+);
+
+/// What is refused writes nothing.
+const ROWS: &[Row] = &[
+    (
+        Some(BASE),
+        &[
+            (Call::Bytes(b"a"), "too many bytes of an image"),
+            (Call::Acknowledged(4), "checkpoint 4 without an image"),
+            (Call::Image(0), "image of 0 bytes"),
+            (Call::Image(MAX_FILE_LEN + 1), "image of 536870913 bytes"),
+            (Call::Image(2), WRITTEN),
+            (Call::Image(2), "bytes of an image are left"),
+            (Call::Acknowledged(4), "bytes of an image are left"),
+            (Call::Bytes(b"abc"), "too many bytes of an image"),
+            (Call::Bytes(b"ab"), WRITTEN),
+            (
+                Call::Acknowledged(3),
+                "checkpoint 3 isn't above the one before",
+            ),
+            (Call::Acknowledged(4), WRITTEN),
+        ],
+        WRITTEN,
+        56 + 16 + 2 + 16 + 16 + 32,
+    ),
+    (
+        None,
+        &[(Call::Image(2), WRITTEN), (Call::Bytes(b"ab"), WRITTEN)],
+        "images without a checkpoint",
+        0,
+    ),
+    (
+        None,
+        &[(Call::Image(2), WRITTEN)],
+        "bytes of an image are left",
+        0,
+    ),
+    (
+        Some(Base {
+            number: 0,
+            digest: [0; 32],
+        }),
+        &[],
+        "base without a number",
+        0,
+    ),
+];
+
+/// Whether a call is answered so.
+fn is_answered(
+    alloc: Global,
+    writer: &mut StreamWriter<Vec<u8>>,
+    call: Call,
+    answer: &str,
+) -> Result<bool, AllocError> {
+    match make(writer, call) {
+        Ok(()) => Ok(answer == WRITTEN),
+        Err(why) => is_shown(alloc, &why, answer),
     }
 }
 
-#[test]
-fn each_refusal_has_its_name(rt: HostRuntime) -> Result<(), Fail> {
-    let alloc = rt.alloc();
-    let mut writer = StreamWriter::begin(Vec::new(alloc), Some(BASE))?;
-    assert_eq!(rt;
-        why(alloc, writer.bytes(b"a"))?.as_str(),
-        "too many bytes of an image"
-    );
-    assert_eq!(rt;
-        why(alloc, writer.acknowledged(4))?.as_str(),
-        "checkpoint 4 without an image"
-    );
-    assert_eq!(rt; why(alloc, writer.image(0))?.as_str(), "image of 0 bytes");
-    assert_eq!(rt;
-        why(alloc, writer.image(MAX_FILE_LEN + 1))?.as_str(),
-        "image of 536870913 bytes"
-    );
-    writer.image(2)?;
-    assert_eq!(rt;
-        why(alloc, writer.image(2))?.as_str(),
-        "bytes of an image are left"
-    );
-    assert_eq!(rt;
-        why(alloc, writer.acknowledged(4))?.as_str(),
-        "bytes of an image are left"
-    );
-    assert_eq!(rt;
-        why(alloc, writer.bytes(b"abc"))?.as_str(),
-        "too many bytes of an image"
-    );
-    writer.bytes(b"ab")?;
-    assert_eq!(rt;
-        why(alloc, writer.acknowledged(3))?.as_str(),
-        "checkpoint 3 isn't above the one before"
-    );
-    writer.acknowledged(4)?;
-    // What was refused wrote nothing.
-    assert_eq!(rt; writer.end()?.len(), 56 + 16 + 2 + 16 + 16 + 32);
-    Ok(())
+fn are_answered(
+    alloc: Global,
+    writer: &mut StreamWriter<Vec<u8>>,
+    calls: &[(Call, &str)],
+) -> Result<bool, AllocError> {
+    for (call, answer) in calls {
+        if !is_answered(alloc, writer, *call, answer)? {
+            return Ok(false);
+        }
+    }
+    Ok(true)
+}
+
+/// Whether a stream ends as its row says.
+fn ends_so(
+    alloc: Global,
+    ended: Result<Vec<u8>, WriteError>,
+    row: &Row,
+) -> Result<bool, AllocError> {
+    match ended {
+        Ok(stream) => Ok(row.2 == WRITTEN && stream.len() == row.3),
+        Err(why) => is_shown(alloc, &why, row.2),
+    }
+}
+
+/// Whether a stream is answered as its row says.
+fn is_written_so(alloc: Global, row: &Row) -> Result<bool, AllocError> {
+    let mut writer = match StreamWriter::begin(Vec::new(alloc), row.0) {
+        Ok(writer) => writer,
+        Err(why) => return ends_so(alloc, Err(why), row),
+    };
+    let are_answered = are_answered(alloc, &mut writer, row.1);
+    let ends = ends_so(alloc, writer.end(), row);
+    Ok(are_answered? && ends?)
 }
 
 #[test]
-fn an_end_comes_after_a_checkpoint(rt: HostRuntime) -> Result<(), Fail> {
-    let alloc = rt.alloc();
-    let mut writer = StreamWriter::begin(Vec::new(alloc), None)?;
-    writer.image(2)?;
-    writer.bytes(b"ab")?;
-    assert_eq!(rt;
-        why(alloc, writer.end())?.as_str(),
-        "images without a checkpoint"
-    );
-    let mut writer = StreamWriter::begin(Vec::new(alloc), None)?;
-    writer.image(2)?;
-    assert_eq!(rt;
-        why(alloc, writer.end())?.as_str(),
-        "bytes of an image are left"
-    );
-    let base = Base {
-        number: 0,
-        digest: [0; 32],
-    };
-    assert_eq!(rt;
-        why(alloc, StreamWriter::begin(Vec::new(alloc), Some(base)))?.as_str(),
-        "base without a number"
-    );
+fn each_refusal_has_its_name(rt: HostRuntime) -> Result<(), AllocError> {
+    for (place, row) in ROWS.iter().enumerate() {
+        assert!(rt; is_written_so(rt.alloc(), row)?, "row {place}");
+    }
     Ok(())
 }
