@@ -18,7 +18,7 @@ use std::fmt::Write;
 
 /// What `--version` prints: the version of the program, the images that it writes and reads, and the kit it is proved
 /// with.
-const VERSION: &str = "1.13.0, writes images of version 2 and reads 1 and 2, rattle-kit-13f";
+const VERSION: &str = "1.14.0, writes images of version 2 and reads 1 and 2, rattle-kit-13f";
 
 /// What one of the programs does.
 #[derive(Clone, Copy, PartialEq, Eq)]
