@@ -1,5 +1,5 @@
 # Random calls on a few spaces of a memory, and on plain maps of pages beside it: the program answers what the maps
-# do, and its store shows what they have.
+# do, and its store shows what they have. And random checkpoints while such calls are made.
 
 # The permissions of each page as `SPACE:PAGE`, the first byte of a sector as `SPACE:PAGE:SECTOR`, and the living
 # spaces.
@@ -188,4 +188,19 @@ calls_by_chance() {
   done
 }
 
+# Random checkpoints beside random calls, from a seed on; in a build with checks, which is slow, a sample.
+checkpoints_from() {  # checkpoints_from SEED
+  needs_python || return
+  local count=700
+  [ -z "${CHECKED:-}" ] || count=20
+  python3 "$here/checkpoints_by_chance.py" "$ckpt" "$1" "$count"
+}
+
+checkpoints_by_chance() { checkpoints_from 1; }
+checkpoints_by_another_chance() { checkpoints_from 1001; }
+checkpoints_by_a_third_chance() { checkpoints_from 2001; }
+
 try calls_by_chance
+try checkpoints_by_chance
+try checkpoints_by_another_chance
+try checkpoints_by_a_third_chance

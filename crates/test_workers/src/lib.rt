@@ -1,18 +1,7 @@
-//! Tests of the dumper, and of the slots that are free beside it and a merger, by their public names.
+//! Tests of the slots that are free beside a dumper and a merger, and of the images that a merge closes, by public
+//! names.
 #![tactic(auto)]
 
-#[cfg(test)]
-mod by_chance;
-#[cfg(test)]
-mod calls;
-#[cfg(test)]
-mod cases;
-#[cfg(test)]
-mod chance;
-#[cfg(test)]
-mod drive;
-#[cfg(test)]
-mod moment;
 #[cfg(test)]
 mod slot_actions;
 #[cfg(test)]

@@ -1,51 +1,24 @@
 //! Why a test goes no further.
 use sd_chain::CatalogError;
-use sd_pagetable::{AccessError, MemoryError};
-use sd_restore::Fault;
-use std::alloc::{AllocError, AllocFailed};
+use std::alloc::AllocError;
 
 #[derive(Clone, Copy, Debug)]
 pub(crate) enum Stop {
     /// Memory ran out.
     OutOfMemory,
-    /// The paged memory refused.
-    Memory,
     /// The dumper or the merger refused.
     Worker,
     /// The catalog doesn't take an image.
     Catalog,
-    /// The disk isn't restored.
-    Unrestored,
-    /// An outcome that may not come here, or a freeze or an end that may not, or no slot, space or image.
+    /// An outcome that may not come here, or no slot or image.
     Strange,
-    /// A checkpoint, a part of it or a merge doesn't end.
+    /// A merge doesn't end.
     NoEnd,
 }
 
 impl From<AllocError> for Stop {
     fn from(_error: AllocError) -> Stop {
         Stop::OutOfMemory
-    }
-}
-
-impl<T: Drop> From<AllocFailed<T>> for Stop {
-    fn from(_error: AllocFailed<T>) -> Stop {
-        Stop::OutOfMemory
-    }
-}
-
-impl From<MemoryError> for Stop {
-    fn from(error: MemoryError) -> Stop {
-        match error {
-            MemoryError::OutOfMemory => Stop::OutOfMemory,
-            MemoryError::Denied(_) => Stop::Memory,
-        }
-    }
-}
-
-impl From<AccessError> for Stop {
-    fn from(_error: AccessError) -> Stop {
-        Stop::Memory
     }
 }
 
@@ -67,14 +40,5 @@ impl From<sd_merge::WorkError> for Stop {
 impl From<CatalogError> for Stop {
     fn from(_error: CatalogError) -> Stop {
         Stop::Catalog
-    }
-}
-
-impl From<Fault> for Stop {
-    fn from(error: Fault) -> Stop {
-        match error {
-            Fault::OutOfMemory => Stop::OutOfMemory,
-            _ => Stop::Unrestored,
-        }
     }
 }
