@@ -1,5 +1,4 @@
 //! What is done with memories, one after the other.
-use crate::growths::Step;
 use crate::line::Line;
 use crate::memories::{TestAction, runs};
 use crate::support::{CLEAN_ALONE, CLEAN_SHARED, DIRTY_ALONE, DIRTY_SHARED, FRESH, READ_WRITE};
@@ -64,45 +63,14 @@ const CLEAR_CHILD_ONLY: &[Line] = &[
     Line::Words(2, 0x1_0000_0000, &[CLEAN_ALONE]),
 ];
 
-/// Calls that may grow a memory.
-const STEPS: &[Step] = &[
-    Step::Mmap(1, 0x10000, 0x8000),
-    Step::Store(1, 0x10000),
-    Step::Fault(1, 0x11000),
-    Step::Store(1, 0x11000),
-    Step::Mprotect(1, 0x12000, 0x1000),
-    Step::Munmap(1, 0x13000, 0x1000),
-    Step::Mmap(1, 0x10000, 0x10000),
-    Step::Store(1, 0x14000),
-    Step::Fork(1),
-    Step::Store(2, 0x14000),
-    Step::Mmap(2, 0x40000, 0x8000),
-    Step::Fork(2),
-    Step::Fault(3, 0x14000),
-];
-
-/// The same of pages in several tables: each range ends in a table after the one that it begins in.
-const STEPS_OVER_TABLES: &[Step] = &[
-    Step::Mmap(1, 0x1f_e000, 0x4000),
-    Step::Mmap(1, 0x3fff_f000, 0x2000),
-    Step::Mmap(1, 0x7f_ffff_f000, 0x2000),
-    Step::Store(1, 0x3fff_f000),
-    Step::Fork(1),
-    Step::Munmap(2, 0x20_0000, 0x1000),
-    Step::Fork(2),
-];
-
-/// The frames of each memory, and what is done with it. The first are those that a refused allocation is to reach.
+/// The frames of each memory, and what is done with it.
 const ACTIONS: &[(usize, TestAction)] = &[
-    (64, TestAction::Growths(STEPS)),
-    (64, TestAction::Growths(STEPS_OVER_TABLES)),
     (1, TestAction::Script(POOL_OF_ONE_FRAME)),
     (1, TestAction::Script(FAULT_WITHOUT_A_FRAME)),
     (65_536, TestAction::Script(CLEAR_AFTER_FORK)),
     (65_536, TestAction::Script(CLEAR_CHILD_ONLY)),
     (16, TestAction::Bits),
     (16, TestAction::Procfs),
-    (64, TestAction::Chance),
 ];
 
 /// Whether each memory does what it should.

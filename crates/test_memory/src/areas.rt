@@ -1,10 +1,6 @@
-//! Calls on the areas of one space, also over more pages than a memory maps, and snapshots.
-ghost use Rattle.std.specs.Prelude.{◌≡◌, IfOk};
-
-use crate::support::{FirstByte, READ, READ_WRITE, put, snapshot_of};
-use sd_areas::{
-    Area, AreaError, AreaMap, Errno, PageNo, Prot, Snapshot, SnapshotPage, SpaceId, areas_in,
-};
+//! Calls on the areas of one space, also over more pages than a memory maps, and over more areas than a space has.
+use crate::support::{READ, READ_WRITE, put};
+use sd_areas::{Area, AreaError, AreaMap, Errno, PageNo, Prot, SnapshotPage};
 use std::alloc::{AllocError, Global};
 use std::collections::BTreeMap;
 
@@ -43,8 +39,9 @@ fn is_run(found: &Area, wanted: &Run) -> bool {
     found.first.number() == first && found.count == count && found.prot == prot
 }
 
-/// Whether areas are these, in this order.
-fn are_runs(found: &[Area], wanted: &[Run]) -> bool {
+/// Whether a space has these areas, in this order, and no others.
+fn has_areas(map: &AreaMap, wanted: &[Run]) -> bool {
+    let found = map.areas();
     found.len() == wanted.len()
         && found
             .iter()
@@ -52,41 +49,23 @@ fn are_runs(found: &[Area], wanted: &[Run]) -> bool {
             .all(|(area, run)| is_run(area, run))
 }
 
-/// Whether a space has these areas, and no others.
-fn has_areas(map: &AreaMap, wanted: &[Run]) -> bool {
-    are_runs(map.areas(), wanted)
-}
-
-/// A caller of `clone` knows that the copy is the same space.
-fn copied(map: &AreaMap) -> Result<AreaMap, AllocError>
-    ensures { IfOk result (λ copy. copy ≡ map.now) }
-{
-    map.clone()
-}
-
-/// Whether a call is made and leaves these areas. One that is out of memory leaves the areas as they were, and is made
-/// again.
-fn leaves(map: &mut AreaMap, call: Call, before: &[Run], after: &[Run]) -> bool {
-    let mut given = made(map, call);
-    if given == Err(AreaError::OutOfMemory) {
-        if !has_areas(map, before) {
-            return false;
-        }
-        given = made(map, call);
+/// Whether a call is made and leaves these areas.
+fn leaves(map: &mut AreaMap, call: Call, after: &[Run]) -> Result<bool, AllocError> {
+    match made(map, call) {
+        Ok(()) => Ok(has_areas(map, after)),
+        Err(AreaError::OutOfMemory) => Err(AllocError),
+        Err(_) => Ok(false),
     }
-    given == Ok(()) && has_areas(map, after)
 }
 
 /// Whether calls that are made in turn leave the areas beside each.
-fn follows(map: &mut AreaMap, steps: &[(Call, &[Run])]) -> bool {
-    let mut before: &[Run] = &[];
+fn follows(map: &mut AreaMap, steps: &[(Call, &[Run])]) -> Result<bool, AllocError> {
     for (call, after) in steps {
-        if !leaves(map, *call, before, after) {
-            return false;
+        if !leaves(map, *call, after)? {
+            return Ok(false);
         }
-        before = after;
     }
-    true
+    Ok(true)
 }
 
 const FIVE: &[Run] = &[
@@ -179,49 +158,8 @@ fn has_prots(map: &AreaMap) -> bool {
     true
 }
 
-/// Whether a copy of a space has its areas.
-fn is_copied(map: &AreaMap) -> Result<bool, AllocError> {
-    Ok(copied(map)?.areas() == map.areas())
-}
-
 fn changes_areas(map: &mut AreaMap) -> Result<bool, AllocError> {
-    Ok(follows(map, STEPS) && has_prots(map) && is_copied(map)?)
-}
-
-/// Whether there is a page with these first and last bytes.
-fn is_between(page: Option<&SnapshotPage>, first: u8, last: u8) -> bool {
-    match page {
-        Some(page) => page.bytes[0] == first && page.bytes[4095] == last,
-        None => false,
-    }
-}
-
-/// Whether the first and the last byte of a page are these.
-fn has_ends(pages: &Pages, number: u64, first: u8, last: u8) -> bool {
-    PageNo::new(number).is_some_and(|page| is_between(pages.get(&page), first, last))
-}
-
-/// Whether a space's pages lie in these areas.
-fn lies_in(alloc: Global, pages: &Pages, wanted: &[Run]) -> Result<bool, AllocError> {
-    Ok(are_runs(&areas_in(alloc, pages)?, wanted))
-}
-
-/// Whether the space has its three pages, which lie in two areas.
-fn is_kept(alloc: Global, snapshot: &Snapshot) -> Result<bool, AllocError> {
-    match snapshot.spaces.get(&SpaceId::new(3)) {
-        Some(pages) => Ok(has_ends(pages, 5, 1, 0) && lies_in(alloc, pages, TWO)?),
-        None => Ok(false),
-    }
-}
-
-/// The pages of a space, and the areas in which they lie.
-const THREE: &[FirstByte] = &[(3, 5, READ, 1), (3, 4, READ, 2), (3, 6, READ_WRITE, 3)];
-
-const TWO: &[Run] = &[(4, 2, READ), (6, 1, READ_WRITE)];
-
-fn keeps_a_snapshot(alloc: Global) -> Result<bool, AllocError> {
-    let snapshot = snapshot_of(alloc, &[3], THREE)?;
-    Ok(snapshot.checkpoint == 7 && is_kept(alloc, &snapshot)?)
+    Ok(follows(map, STEPS)? && has_prots(map))
 }
 
 /// Adds single pages with a hole between any two.
@@ -263,9 +201,8 @@ fn begins(alloc: Global, pages: &mut Pages) -> Result<bool, AllocError> {
 }
 
 #[test]
-fn areas_and_snapshots(rt: HostRuntime) -> Result<(), AllocError> {
+fn areas_of_one_space(rt: HostRuntime) -> Result<(), AllocError> {
     assert!(rt; changes_areas(&mut AreaMap::new(rt.alloc()))?);
-    assert!(rt; keeps_a_snapshot(rt.alloc())?);
     assert!(rt; begins(rt.alloc(), &mut BTreeMap::new(rt.alloc()))?);
     Ok(())
 }

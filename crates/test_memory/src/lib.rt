@@ -9,15 +9,7 @@ mod areas;
 #[cfg(test)]
 mod bits;
 #[cfg(test)]
-mod byte_copies;
-#[cfg(test)]
 mod commands;
-#[cfg(test)]
-mod copies;
-#[cfg(test)]
-mod folds;
-#[cfg(test)]
-mod growths;
 #[cfg(test)]
 mod journals;
 #[cfg(test)]
@@ -34,8 +26,6 @@ mod receipts;
 mod replays;
 #[cfg(test)]
 mod support;
-#[cfg(test)]
-mod tables;
 #[cfg(test)]
 mod texts;
 #[cfg(test)]

@@ -25,34 +25,13 @@ fn stores_to_a_frame(memory: &mut Memory) -> Result<bool, MemoryError> {
     )
 }
 
-fn snapshot(alloc: Global) -> Result<Snapshot, AllocError> {
-    snapshot_of(alloc, &[1, 3], SAVED)
-}
-
-/// A memory that begins with a snapshot. Where that is refused for lack of memory, it is tried again.
-fn loaded(alloc: Global, saved: &Snapshot) -> Result<Memory, MemoryError> {
-    match Memory::from_snapshot(alloc, 2, saved) {
-        Err(MemoryError::OutOfMemory) => Memory::from_snapshot(alloc, 2, saved),
-        loaded => loaded,
-    }
-}
-
-fn is_loaded(alloc: Global, saved: &Snapshot) -> Result<bool, MemoryError> {
-    stores_to_a_frame(&mut loaded(alloc, saved)?)
-}
-
-/// The snapshot, begun again where memory is refused.
-fn saved(alloc: Global) -> Result<Snapshot, AllocError> {
-    match snapshot(alloc) {
-        Ok(snapshot) => Ok(snapshot),
-        Err(_) => snapshot(alloc),
-    }
-}
-
 /// Whether each page needs a fault, and only one that isn't all zeros has a frame.
+fn begins_with(alloc: Global, saved: &Snapshot) -> Result<bool, MemoryError> {
+    stores_to_a_frame(&mut Memory::from_snapshot(alloc, 2, saved)?)
+}
+
 fn begins_with_a_snapshot(alloc: Global) -> Result<bool, MemoryError> {
-    let saved = saved(alloc)?;
-    is_loaded(alloc, &saved)
+    begins_with(alloc, &snapshot_of(alloc, &[1, 3], SAVED)?)
 }
 
 const TWO_PAGES: &[FirstByte] = &[(1, 16, READ_WRITE, 1), (1, 17, READ_WRITE, 1)];
@@ -67,19 +46,23 @@ const REFUSED: &[Refused] = &[
     (2, 17, ENOMEM),
 ];
 
-/// Whether a memory doesn't begin so.
-fn is_refused(alloc: Global, row: &Refused) -> Result<bool, AllocError> {
-    let (frames, space, wanted) = *row;
-    let snapshot = snapshot_of(alloc, &[space], TWO_PAGES)?;
-    match Memory::from_snapshot(alloc, frames.clamp(1, 65_536), &snapshot) {
-        Ok(_) => Ok(false),
-        Err(error) => Ok(error == wanted),
-    }
+/// Whether a memory of so many frames doesn't begin with a snapshot, for this reason.
+fn is_refused(alloc: Global, frames: usize, saved: &Snapshot, wanted: MemoryError) -> bool {
+    matches!(
+        Memory::from_snapshot(alloc, frames.clamp(1, 65_536), saved),
+        Err(error) if error == wanted
+    )
 }
 
+/// Whether each row is refused.
 fn are_refused(alloc: Global) -> Result<bool, AllocError> {
-    for row in REFUSED {
-        if !is_refused(alloc, row)? {
+    for (frames, space, wanted) in REFUSED {
+        if !is_refused(
+            alloc,
+            *frames,
+            &snapshot_of(alloc, &[*space], TWO_PAGES)?,
+            *wanted,
+        ) {
             return Ok(false);
         }
     }

@@ -1,10 +1,14 @@
-//! Commands on a memory and the replay of their entries give one memory.
-ghost use Rattle.std.specs.Prelude.{OnOk};
+//! Commands on a memory, the replay of their entries and a fold of them give one memory.
+ghost use Rattle.std.specs.Prelude.{◌≡◌, IfOk, OnOk, reverse};
+ghost use Rattle.sd_areas.specs.Memory.{memory_of};
+ghost use Rattle.sd_journal.specs.Legal.{IsLegal};
+ghost use Rattle.sd_journal.specs.Worked.{empty_base};
 ghost use Rattle.test_memory.specs.Told.{TellsMemory};
 
 use crate::told::{beginning, made, tell};
 use sd_areas::{PageNo, Prot, Snapshot, SnapshotPage, SpaceId};
 use sd_command::{Bytes, Command};
+use sd_fold::fold;
 use sd_journal::Entry;
 use sd_pagetable::Memory;
 use std::alloc::{AllocError, Global};
@@ -99,8 +103,19 @@ fn page_count(memory: &Memory) -> u32 {
     65536
 }
 
-/// Whether the memory has exactly the pages of a snapshot.
-pub(crate) fn has_just(memory: &Memory, made: &Snapshot) -> bool {
+/// How many living spaces the memory has.
+fn space_count(memory: &Memory) -> usize {
+    let mut count = 0usize;
+    for number in 1..=16 {
+        if memory.areas(SpaceId::new(number)).is_some() {
+            count = count.wrapping_add(1);
+        }
+    }
+    count
+}
+
+/// Whether the memory has exactly the spaces and pages of a snapshot.
+fn has_just(memory: &Memory, made: &Snapshot) -> bool {
     let mut count: u32 = 0;
     for (space, pages) in &made.spaces {
         for (page, found) in pages {
@@ -110,7 +125,7 @@ pub(crate) fn has_just(memory: &Memory, made: &Snapshot) -> bool {
             count = count.wrapping_add(1);
         }
     }
-    count == page_count(memory)
+    count == page_count(memory) && made.spaces.len() == space_count(memory)
 }
 
 /// Applies random commands, and adds each as an entry.
@@ -130,8 +145,42 @@ fn tell_random(
     Ok(())
 }
 
-/// Whether random commands leave pages, and their replay has the same.
-fn is_replayed(
+/// The memory that a run goes on from: space 1 alone.
+fn start(alloc: Global) -> Result<Snapshot, AllocError>
+    ensures { IfOk result (λ base. memory_of base ≡ empty_base.memory) }
+{
+    let mut base = Snapshot::new(alloc, 7);
+    base.add_space(alloc, SpaceId::new(1))?;
+    Ok(base)
+}
+
+/// Folds entries into the memory that a run goes on from.
+fn folds(alloc: Global, base: &mut Snapshot, entries: &[Entry]) -> Result<(), AllocError>
+    requires base { memory_of base.old ≡ empty_base.memory }
+    requires legal { IsLegal empty_base (reverse entries.now) }
+{
+    fold(alloc, base, entries)
+}
+
+/// Whether a fold of a memory's entries gives that memory, and keeps the number of the checkpoint.
+fn is_folded(alloc: Global, memory: &Memory, entries: &[Entry]) -> Result<bool, AllocError>
+    requires { TellsMemory entries.now memory.now }
+{
+    let mut base = start(alloc)?;
+    folds(alloc, &mut base, entries)?;
+    Ok(has_just(memory, &base) && base.checkpoint == 7)
+}
+
+/// Whether a replay of them does.
+fn is_replayed(alloc: Global, memory: &Memory, entries: &[Entry]) -> Result<bool, AllocError>
+    requires { TellsMemory entries.now memory.now }
+{
+    let made = made(alloc, memory, entries)?;
+    Ok(has_just(memory, &made))
+}
+
+/// Whether random commands leave pages, and both make the same of their entries.
+fn are_made(
     alloc: Global,
     memory: &mut Memory,
     entries: &mut Vec<Entry>,
@@ -139,13 +188,16 @@ fn is_replayed(
     requires { TellsMemory entries.old.items memory.old }
 {
     tell_random(alloc, memory, entries)?;
-    let made = made(alloc, memory, entries)?;
-    Ok(page_count(memory) > 0 && has_just(memory, &made))
+    Ok(
+        page_count(memory) > 0
+            && is_replayed(alloc, memory, entries)?
+            && is_folded(alloc, memory, entries)?,
+    )
 }
 
 #[test]
 fn random_commands(rt: HostRuntime) -> Result<(), AllocError> {
     let mut memory = beginning(rt.alloc())?;
-    assert!(rt; is_replayed(rt.alloc(), &mut memory, &mut Vec::new(rt.alloc()))?);
+    assert!(rt; are_made(rt.alloc(), &mut memory, &mut Vec::new(rt.alloc()))?);
     Ok(())
 }

@@ -1,9 +1,0 @@
-use Rattle.std.proofs.Common.{sym, ◌∙◌}
-use Rattle.sd_journal.specs.Worked.{empty_base}
-use Rattle.test_memory.proofs.folds.folds.Goals as goal
-
-pub fold-requires : goal.fold-requires
-fold-requires c = record { legal = (empty_base, sym c.requires.base, c.requires.legal) }
-
-pub fold-requires-in-Err : goal.fold-requires-in-Err
-fold-requires-in-Err c = record { legal = (empty_base, sym (c.in-Err.ensures.err ∙ c.requires.base), c.requires.legal) }
