@@ -8,7 +8,6 @@ use sd_receive::{format, open_gate, put_page};
 use sd_restore::{newest_checkpoint, scan};
 use std::alloc::{AllocError, Global};
 use std::mem::forget;
-use std::test::Fail;
 
 /// A dump of checkpoint 2 with a page of its own.
 const NEXT: Image = (
@@ -59,44 +58,63 @@ fn synced(alloc: Global) -> Result<MemDisk, AllocError> {
     Ok(disk)
 }
 
-/// The checkpoint that a crash of a disk by a rule leaves.
-pub(crate) fn left(
-    alloc: Global,
-    disk: &MemDisk,
-    mut rule: Rule,
-) -> Result<Option<u64>, AllocError> {
-    let mut crashed = disk.crash(alloc, &mut rule)?;
-    let newest = match scan(alloc, &mut crashed) {
-        Ok(catalog) => {
-            let newest = newest_checkpoint(&catalog);
-            forget(catalog);
-            newest
-        }
-        Err(_) => None,
+/// The checkpoint that a disk shows, or 0.
+fn newest(alloc: Global, disk: &mut MemDisk) -> u64 {
+    let Ok(catalog) = scan(alloc, disk) else {
+        return 0;
     };
+    let newest = newest_checkpoint(&catalog);
+    forget(catalog);
+    newest.unwrap_or(0)
+}
+
+/// The checkpoint that a crash of a disk by a rule leaves, or 0.
+fn left(alloc: Global, disk: &MemDisk, mut rule: Rule) -> Result<u64, AllocError> {
+    let mut crashed = disk.crash(alloc, &mut rule)?;
+    let newest = newest(alloc, &mut crashed);
     forget(crashed);
     Ok(newest)
 }
 
-/// Whether after so many calls a crash by each of three rules leaves the first checkpoint, or the next one where it may
-/// be there, and has to be at the end.
+/// Whether a crash of a disk by each rule leaves one of these checkpoints.
+pub(crate) fn leaves(
+    alloc: Global,
+    disk: &MemDisk,
+    least: u64,
+    greatest: u64,
+) -> Result<bool, AllocError> {
+    for rule in RULES {
+        let newest = left(alloc, disk, *rule)?;
+        if newest < least || greatest < newest {
+            return Ok(false);
+        }
+    }
+    Ok(true)
+}
+
+/// Whether after so many calls a crash leaves the first checkpoint, or the next one where it may be there, and has to
+/// be at the end.
 fn is_cut_off_so(alloc: Global, calls: u64) -> Result<bool, AllocError> {
     let mut fused = Fused::new(synced(alloc)?, calls);
     let all = arrives(alloc, &mut fused)?;
     let disk = fused.into_inner();
-    let mut is_so = all == (calls >= CALLS);
-    for rule in [RULES[1], RULES[2], RULES[3]] {
-        let newest = left(alloc, &disk, rule)?;
-        is_so = is_so && (newest == Some(2) || (newest == Some(1) && !all));
-    }
+    let leaves = leaves(alloc, &disk, if all { 2 } else { 1 }, 2);
     forget(disk);
-    Ok(is_so)
+    Ok(all == (calls >= CALLS) && leaves?)
+}
+
+/// Whether it is so after any number of calls.
+fn are_cut_off_so(alloc: Global) -> Result<bool, AllocError> {
+    for calls in 0..CALLS + 2 {
+        if !is_cut_off_so(alloc, calls)? {
+            return Ok(false);
+        }
+    }
+    Ok(true)
 }
 
 #[test]
-fn images_arrive_whole_or_not(rt: HostRuntime) -> Result<(), Fail> {
-    for calls in 0..CALLS + 2 {
-        assert!(rt; is_cut_off_so(rt.alloc(), calls)?, "call {calls}");
-    }
+fn images_arrive_whole_or_not(rt: HostRuntime) -> Result<(), AllocError> {
+    assert!(rt; are_cut_off_so(rt.alloc())?);
     Ok(())
 }

@@ -5,7 +5,6 @@ use sd_chain::{Catalog, Chain, Found, PlacedTable, Trace, Way};
 use sd_image::{Header, decode_table};
 use std::alloc::{AllocError, Global};
 use std::mem::forget;
-use std::test::Fail;
 
 /// A table of the data pages 0x10 to 0x13 of space 1.
 const OLDER: [u8; 72] = [
@@ -64,7 +63,7 @@ const ANY: u64 = 0;
 /// A space and a page of it, of at most so many, what is traced of it, and of how many.
 type Alike = (u64, u64, u64, Trace, u64);
 
-const ALIKE: [Alike; 9] = [
+const ALIKE: &[Alike] = &[
     (1, 0x10, 5, FIRST, 1),
     (1, 0x11, 5, SECOND, 1),
     (1, 0x12, 5, THIRD, 2),
@@ -77,8 +76,8 @@ const ALIKE: [Alike; 9] = [
 ];
 
 /// Whether a chain has a page as a row says.
-fn lies_alike(chain: &mut Chain<'_>, row: Alike) -> bool {
-    let (space, number, most, trace, count) = row;
+fn lies_alike(chain: &mut Chain<'_>, row: &Alike) -> bool {
+    let (space, number, most, trace, count) = *row;
     let Some(page) = PageNo::new(number) else {
         return false;
     };
@@ -130,7 +129,7 @@ fn is_right(alloc: Global) -> Result<bool, AllocError> {
 }
 
 #[test]
-fn pages_that_lie_alike_are_traced_at_once(rt: HostRuntime) -> Result<(), Fail> {
+fn pages_that_lie_alike_are_traced_at_once(rt: HostRuntime) -> Result<(), AllocError> {
     assert!(rt; is_right(rt.alloc())?);
     Ok(())
 }

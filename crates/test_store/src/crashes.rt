@@ -5,7 +5,6 @@ use crate::steps::{Call, Step, first_wrong, holds};
 use sd_disk::{Disk, Fused, MemDisk};
 use std::alloc::{AllocError, Global};
 use std::mem::forget;
-use std::test::Fail;
 
 /// The greatest files, with one byte at each place that may hold any.
 const LONG: Rule = Rule {
@@ -34,11 +33,15 @@ fn leaves(alloc: Global, disk: &MemDisk, left: Left) -> Result<bool, AllocError>
 /// Whether a disk has made these reads and has had these failures, has the file, and a crash leaves of it what it may.
 fn is_as_told(alloc: Global, disk: &mut MemDisk, case: &Case) -> Result<bool, AllocError> {
     let counts = (disk.reads(), disk.failures());
-    let mut is = counts == case.counts && holds(disk, 0, case.file);
-    for place in 0..case.left.len() {
-        is = is && leaves(alloc, disk, case.left[place])?;
+    if counts != case.counts || !holds(disk, 0, case.file) {
+        return Ok(false);
     }
-    Ok(is)
+    for left in case.left {
+        if !leaves(alloc, disk, *left)? {
+            return Ok(false);
+        }
+    }
+    Ok(true)
 }
 
 /// Whether a case is as it says.
@@ -57,29 +60,26 @@ fn passes(alloc: Global, case: &Case) -> Result<bool, AllocError> {
     Ok(wrong.is_none() && is?)
 }
 
-/// The place of the first case that isn't as it says, if there is one.
-fn first_failing(alloc: Global, cases: &[Case]) -> Result<Option<usize>, AllocError> {
-    for place in 0..cases.len() {
-        if !passes(alloc, &cases[place])? {
-            return Ok(Some(place));
+/// Whether these cases are as they say.
+fn all_pass(alloc: Global, cases: &[Case]) -> Result<bool, AllocError> {
+    for case in cases {
+        if !passes(alloc, case)? {
+            return Ok(false);
         }
     }
-    Ok(None)
+    Ok(true)
 }
 
-/// Whether all cases are as they say.
-fn all_pass(alloc: Global) -> Result<bool, AllocError> {
-    Ok(
-        first_failing(alloc, CALLS)?.is_none()
-            && first_failing(alloc, DONE_CALLS)?.is_none()
-            && first_failing(alloc, FAILED_CALLS)?.is_none(),
-    )
+fn calls_pass(alloc: Global) -> Result<bool, AllocError> {
+    all_pass(alloc, CALLS)
 }
 
-#[test]
-fn calls_do_and_crashes_leave_what_they_may(rt: HostRuntime) -> Result<(), Fail> {
-    assert!(rt; all_pass(rt.alloc())?);
-    Ok(())
+fn done_calls_pass(alloc: Global) -> Result<bool, AllocError> {
+    all_pass(alloc, DONE_CALLS)
+}
+
+fn failed_calls_pass(alloc: Global) -> Result<bool, AllocError> {
+    all_pass(alloc, FAILED_CALLS)
 }
 
 /// Two slots, of which the first is synced and then written twice.
@@ -121,12 +121,20 @@ fn asks_in_order(alloc: Global, disk: &MemDisk) -> Result<bool, AllocError> {
     Ok(is_left && asked.is_right && asked.count == QUESTIONS.len())
 }
 
-#[test]
-fn slots_are_asked_in_order(rt: HostRuntime) -> Result<(), Fail> {
-    let mut disk = MemDisk::new(rt.alloc(), 2, 8, 16)?;
+/// Whether a crash of two slots asks of the first one first.
+fn are_asked_in_order(alloc: Global) -> Result<bool, AllocError> {
+    let mut disk = MemDisk::new(alloc, 2, 8, 16)?;
     let is_made = first_wrong(&mut disk, TWO_SLOTS).is_none();
-    let asks = asks_in_order(rt.alloc(), &disk);
+    let asks = asks_in_order(alloc, &disk);
     forget(disk);
-    assert!(rt; is_made && asks?);
+    Ok(is_made && asks?)
+}
+
+#[test]
+fn calls_do_and_crashes_leave_what_they_may(rt: HostRuntime) -> Result<(), AllocError> {
+    assert!(rt; calls_pass(rt.alloc())?);
+    assert!(rt; done_calls_pass(rt.alloc())?);
+    assert!(rt; failed_calls_pass(rt.alloc())?);
+    assert!(rt; are_asked_in_order(rt.alloc())?);
     Ok(())
 }

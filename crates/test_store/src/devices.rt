@@ -93,7 +93,7 @@ fn ends(rt: &HostRuntime, place: Place<'_>, steps: &[Step], end: End) -> bool {
 }
 
 /// Calls on one folder, each time opened anew.
-const CALLS: [(bool, &[Step], End); 6] = [
+const CALLS: &[(bool, &[Step], End)] = &[
     (false, &[], End::Closed),
     (true, ALL_SLOTS, End::Whole),
     (true, PAST_THE_END, End::PastTheEnd(5)),
@@ -104,11 +104,16 @@ const CALLS: [(bool, &[Step], End); 6] = [
 
 /// Whether each leaves what it says.
 fn leave_so(rt: &HostRuntime, path: &str) -> bool {
-    let mut is = true;
     for (makes, steps, end) in CALLS {
-        is = is && ends(rt, Place { path, makes }, steps, end);
+        let place = Place {
+            path,
+            makes: *makes,
+        };
+        if !ends(rt, place, steps, *end) {
+            return false;
+        }
     }
-    is
+    true
 }
 
 /// Whether a folder keeps what was written.
@@ -138,16 +143,18 @@ fn is_refused(rt: &HostRuntime, parent: &str) -> Result<bool, Fail> {
     Ok(ends(rt, place, &[], End::Closed))
 }
 
-/// A folder keeps what was written, a missing file is empty, and a failed call leaves its cause.
+/// Whether a folder keeps what was written, a missing file is empty, and a failed call leaves its cause.
+fn are_right(rt: &HostRuntime, parent: &str) -> Result<bool, Fail> {
+    Ok(keeps(rt, parent)? && is_empty(rt, parent)? && is_refused(rt, parent)?)
+}
+
 #[test]
 fn folders_keep_what_was_written(rt: HostRuntime) -> Result<(), Fail> {
     let id = process::id(rt.process());
     let parent = format!(in rt.alloc(); "/tmp/test_disk-{id}")?;
     let _ = fs::remove_dir_all(&rt, parent.as_str());
-    let are_right = keeps(&rt, parent.as_str())?
-        && is_empty(&rt, parent.as_str())?
-        && is_refused(&rt, parent.as_str())?;
-    fs::remove_dir_all(&rt, parent.as_str())?;
-    assert!(rt; are_right);
+    let are_right = are_right(&rt, parent.as_str());
+    let _ = fs::remove_dir_all(&rt, parent.as_str());
+    assert!(rt; are_right?);
     Ok(())
 }

@@ -1,4 +1,4 @@
-//! Tests of disks, of the gate and the relay, of chains and stores, by their public names alone.
+//! Tests of disks, of the relay, of chains and stores, by their public names alone.
 #![tactic(auto)]
 
 #[cfg(test)]
@@ -18,11 +18,7 @@ mod drops;
 #[cfg(test)]
 mod feeding;
 #[cfg(test)]
-mod gates;
-#[cfg(test)]
 mod picks;
-#[cfg(test)]
-mod plans;
 #[cfg(test)]
 mod receipts;
 #[cfg(test)]

@@ -26,22 +26,12 @@ pub(crate) struct Rule {
     pub(crate) byte: Byte,
 }
 
-/// What stood at the last sync.
-pub(crate) const SYNCED: Rule = Rule {
-    length: Length::Synced,
-    byte: Byte::Synced,
-};
-
-/// What reads now.
-pub(crate) const NOW: Rule = Rule {
-    length: Length::Now,
-    byte: Byte::Now,
-};
-
-/// The rules under which each call of a plan is crashed.
-pub(crate) const RULES: [Rule; 8] = [
-    NOW,
-    SYNCED,
+/// Rules of a crash: what stood at the last sync, and the least lengths with one byte at each place that may hold any.
+pub(crate) const RULES: &[Rule] = &[
+    Rule {
+        length: Length::Synced,
+        byte: Byte::Synced,
+    },
     Rule {
         length: Length::Least,
         byte: Byte::All(0),
@@ -49,22 +39,6 @@ pub(crate) const RULES: [Rule; 8] = [
     Rule {
         length: Length::Least,
         byte: Byte::All(0xA5),
-    },
-    Rule {
-        length: Length::Least,
-        byte: Byte::All(0xFF),
-    },
-    Rule {
-        length: GREATEST,
-        byte: Byte::All(0),
-    },
-    Rule {
-        length: GREATEST,
-        byte: Byte::All(0xA5),
-    },
-    Rule {
-        length: GREATEST,
-        byte: Byte::All(0xFF),
     },
 ];
 

@@ -2,19 +2,18 @@
 use crate::feeding::{Stream, TRIES};
 use crate::writing::{Pair, Tally};
 use sd_relay::relay;
-use std::alloc::AllocGlobal;
-use std::process::Abort;
+use std::alloc::{AllocError, Global};
 use std::sync::Wait;
 use std::sync::atomic::{AtomicU64, Ordering};
-use std::test::Fail;
 use std::thread::Threads;
+use std::time::Clock;
 
 /// How many errands go through.
 const ERRANDS: u64 = 5_000;
 
 /// Counters from 0 to `ERRANDS`.
-fn counters<R: AllocGlobal>(rt: &R) -> Result<Vec<AtomicU64>, Fail> {
-    let mut written = Vec::new(rt.alloc());
+fn counters(alloc: Global) -> Result<Vec<AtomicU64>, AllocError> {
+    let mut written = Vec::new(alloc);
     for _ in 0..=ERRANDS {
         written.push(AtomicU64::new(0))?;
     }
@@ -35,24 +34,25 @@ fn are_written_once(written: &[AtomicU64], last: u64) -> bool {
 type Relay = (usize, u64, u64, u64);
 
 /// Whether so many errands are put, and each of them is written once.
-fn goes_through<R: Threads + Wait + Abort + AllocGlobal + Sync>(
+fn goes_through<R: Threads + Wait + Sync>(
     rt: &R,
+    alloc: Global,
+    written: &[AtomicU64],
     row: Relay,
-) -> Result<bool, Fail> {
+) -> Result<bool, AllocError> {
     let (writers, errands, tries, put) = row;
-    let written = counters(rt)?;
     let tally = Tally {
-        written: &written,
+        written,
         strange: AtomicU64::new(0),
     };
     let mut stream = Stream::new(rt, errands, tries);
-    relay(rt, rt.alloc(), writers, &mut stream, &tally)?;
+    relay(rt, alloc, writers, &mut stream, &tally)?;
     let none_is_strange = tally.strange.load(Ordering::SeqCst) == 0;
-    Ok(stream.sent == put && none_is_strange && are_written_once(&written, put))
+    Ok(stream.sent == put && none_is_strange && are_written_once(written, put))
 }
 
 /// With no writer everything is handed back.
-const RELAYS: [Relay; 5] = [
+const RELAYS: &[Relay] = &[
     (1, ERRANDS, TRIES, ERRANDS),
     (2, ERRANDS, TRIES, ERRANDS),
     (8, ERRANDS, TRIES, ERRANDS),
@@ -60,26 +60,34 @@ const RELAYS: [Relay; 5] = [
     (0, 100, 1, 0),
 ];
 
-/// Each errand that is put is written once.
-#[test]
-fn each_is_written_once(rt: HostRuntime) -> Result<(), Fail> {
+/// Whether each errand that is put is written once, in each relay.
+fn all_go_through<R: Threads + Wait + Sync>(rt: &R, alloc: Global) -> Result<bool, AllocError> {
     for row in RELAYS {
-        assert!(rt; goes_through(&rt, row)?, "{} writers", row.0);
+        if !goes_through(rt, alloc, &counters(alloc)?, *row)? {
+            return Ok(false);
+        }
     }
-    Ok(())
+    Ok(true)
 }
 
-/// Two errands are written at once: the first waits for the second.
-#[test]
-fn two_are_written_at_once(rt: HostRuntime) -> Result<(), Fail> {
+/// Whether two errands are written at once: the first waits for the second.
+fn two_are_at_once<R: Threads + Wait + Clock + Sync>(
+    rt: &R,
+    alloc: Global,
+) -> Result<bool, AllocError> {
     let pair = Pair {
-        rt: &rt,
+        rt,
         second: AtomicU64::new(0),
         missed: AtomicU64::new(0),
     };
-    let mut stream = Stream::new(&rt, 2, TRIES);
-    relay(&rt, rt.alloc(), 2, &mut stream, &pair)?;
-    let is_missed = pair.missed.load(Ordering::SeqCst) != 0;
-    assert!(rt; stream.sent == 2 && !is_missed);
+    let mut stream = Stream::new(rt, 2, TRIES);
+    relay(rt, alloc, 2, &mut stream, &pair)?;
+    Ok(stream.sent == 2 && pair.missed.load(Ordering::SeqCst) == 0)
+}
+
+#[test]
+fn each_is_written_once(rt: HostRuntime) -> Result<(), AllocError> {
+    assert!(rt; all_go_through(&rt, rt.alloc())?);
+    assert!(rt; two_are_at_once(&rt, rt.alloc())?);
     Ok(())
 }

@@ -5,7 +5,6 @@ use sd_image::{Header, Version};
 use sd_restore::{Fault, restore, verify};
 use std::alloc::{AllocError, Global};
 use std::mem::forget;
-use std::test::Fail;
 
 const TWO: &[Image] = &[FIRST, SECOND];
 
@@ -71,7 +70,7 @@ fn read(
 /// Stores, and how many reads a restore and a verification take. There are two reads for each open slot, one more for
 /// each data page of version 2, and for a restore one more for its page. Sixteen data pages are read with one call for
 /// their digest, and then one by one.
-const READS: [(&[Image], u64, u64); 4] = [(ALL, 9, 8), (TWO, 6, 5), (OLD, 5, 4), (SIXTEEN, 19, 3)];
+const READS: &[(&[Image], u64, u64)] = &[(ALL, 9, 8), (TWO, 6, 5), (OLD, 5, 4), (SIXTEEN, 19, 3)];
 
 /// Whether a store is read so.
 fn takes(
@@ -80,17 +79,20 @@ fn takes(
     restored: u64,
     verified: u64,
 ) -> Result<bool, AllocError> {
-    let restoring = read(alloc, images, u64::MAX, true)?;
-    let verifying = read(alloc, images, u64::MAX, false)?;
-    Ok(restoring == (None, restored) && verifying == (None, verified))
+    Ok(
+        read(alloc, images, u64::MAX, true)? == (None, restored)
+            && read(alloc, images, u64::MAX, false)? == (None, verified),
+    )
 }
 
-#[test]
-fn reads_are_counted(rt: HostRuntime) -> Result<(), Fail> {
+/// Whether each store is.
+fn are_counted(alloc: Global) -> Result<bool, AllocError> {
     for (images, restored, verified) in READS {
-        assert!(rt; takes(rt.alloc(), images, restored, verified)?);
+        if !takes(alloc, images, *restored, *verified)? {
+            return Ok(false);
+        }
     }
-    Ok(())
+    Ok(true)
 }
 
 /// What is found where the device fails after so many calls, if there are more than that.
@@ -110,11 +112,19 @@ fn fail_so(alloc: Global, calls: u64) -> Result<bool, AllocError> {
 }
 
 /// Two open slots of four are asked with four lengths, four reads, and one of the data page for its digest, and a
-/// restore reads that page besides. Whichever of them fails, the report is that.
-#[test]
-fn a_call_that_fails_ends_it(rt: HostRuntime) -> Result<(), Fail> {
+/// restore reads that page besides. Whether the report is that, whichever of them fails.
+fn each_fails_so(alloc: Global) -> Result<bool, AllocError> {
     for calls in 0..11u64 {
-        assert!(rt; fail_so(rt.alloc(), calls)?, "after {calls}");
+        if !fail_so(alloc, calls)? {
+            return Ok(false);
+        }
     }
+    Ok(true)
+}
+
+#[test]
+fn reads_are_counted_and_may_fail(rt: HostRuntime) -> Result<(), AllocError> {
+    assert!(rt; are_counted(rt.alloc())?);
+    assert!(rt; each_fails_so(rt.alloc())?);
     Ok(())
 }

@@ -3,7 +3,6 @@ use sd_disk::{DeviceError, FileFault, OpenError};
 use sd_image::Reason;
 use sd_restore::Fault;
 use std::alloc::{AllocError, Global};
-use std::test::Fail;
 use std::{fmt, io};
 
 fn is_shown<T: fmt::Display>(alloc: Global, value: &T, text: &str) -> Result<bool, AllocError> {
@@ -11,7 +10,7 @@ fn is_shown<T: fmt::Display>(alloc: Global, value: &T, text: &str) -> Result<boo
 }
 
 /// Faults, with their numbers and their texts.
-const FAULTS: [(Fault, u8, &str); 4] = [
+const FAULTS: &[(Fault, u8, &str)] = &[
     (Fault::EmptyChain, 20, "empty chain"),
     (
         Fault::Damaged {
@@ -27,30 +26,33 @@ const FAULTS: [(Fault, u8, &str); 4] = [
 
 /// Whether each fault has its number and its text.
 fn faults_are_shown(alloc: Global) -> Result<bool, AllocError> {
-    let mut are_shown = true;
     for (fault, number, text) in FAULTS {
-        are_shown &= fault.number() == number && is_shown(alloc, &fault, text)?;
+        if fault.number() != *number || !is_shown(alloc, fault, text)? {
+            return Ok(false);
+        }
     }
-    Ok(are_shown)
+    Ok(true)
 }
 
-/// Whether the errors of a disk have their texts.
-fn errors_are_shown(alloc: Global) -> Result<bool, AllocError> {
-    let file = FileFault {
-        slot: Some(7),
-        error: io::Error::from_raw_os_error(28),
-    };
+/// Whether a full device of a slot, and a folder that isn't opened for that, have their texts.
+fn causes_are_shown(alloc: Global, fault: FileFault) -> Result<bool, AllocError> {
     let cause = "img-007: No space left on device (os error 28)";
     Ok(
-        is_shown(alloc, &DeviceError, "device")?
-            && is_shown(alloc, &OpenError::OutOfMemory, "out-of-memory")?
-            && is_shown(alloc, &OpenError::Folder(file), "cannot open DIR")?
-            && is_shown(alloc, &file, cause)?,
+        is_shown(alloc, &fault, cause)?
+            && is_shown(alloc, &OpenError::Folder(fault), "cannot open DIR")?,
     )
 }
 
 #[test]
-fn faults_and_errors_have_their_texts(rt: HostRuntime) -> Result<(), Fail> {
-    assert!(rt; faults_are_shown(rt.alloc())? && errors_are_shown(rt.alloc())?);
+fn faults_and_errors_have_their_texts(rt: HostRuntime) -> Result<(), AllocError> {
+    let alloc = rt.alloc();
+    let full = FileFault {
+        slot: Some(7),
+        error: io::Error::from_raw_os_error(28),
+    };
+    assert!(rt; faults_are_shown(alloc)?);
+    assert!(rt; is_shown(alloc, &DeviceError, "device")?);
+    assert!(rt; is_shown(alloc, &OpenError::OutOfMemory, "out-of-memory")?);
+    assert!(rt; causes_are_shown(alloc, full)?);
     Ok(())
 }
