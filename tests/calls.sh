@@ -170,8 +170,43 @@ device_that_is_full_from_a_call_on() { each_call call_may_fail full; }
 calls_that_are_interrupted() { each_call call_may_be_repeated interrupted; }
 calls_that_move_half() { each_call call_may_be_repeated short; }
 
+# Waits until the file `out` has so many lines.
+await_lines() {  # await_lines COUNT
+  local turn
+  for turn in {1..500}; do
+    [ "$(wc -l < out)" -lt "$1" ] || return 0
+    sleep 0.02
+  done
+  return 1
+}
+
+# A checkpoint fails, and then all files are empty: that is no store of the run, which stays down until its own is back.
+another_store_is_damage() {
+  calls_can_fail || return
+  local file
+  : > out
+  {
+    printf '%s\n' 'mmap 1 0x10000 4096 rw' 'store 1 0x10000 61' 'checkpoint 0' 'checkpoint 0'
+    await_lines 5 && cp -r store own && truncate -s 0 store/img-*
+    printf '%s\n' reopen 'checkpoint 0'
+    await_lines 7 && for file in own/img-*; do cat "$file" > "store/${file#own/}"; done
+    printf '%s\n' reopen 'load 1 0x10000 1' 'checkpoint 0'
+  } | ONLY=pwrite FAILED=6 HOW=unmade LD_PRELOAD=./fail.so "$ckpt" shell store > out 2> err
+  same "the answers" "$(cat out)" "reopened none
+done
+done
+acked 1
+refused 22 device
+refused 21 damaged
+refused 13 store-down
+reopened 1
+bytes 61
+acked 3"
+}
+
 try calls_that_are_not_made
 try calls_that_are_made_and_fail
 try device_that_is_full_from_a_call_on
 try calls_that_are_interrupted
 try calls_that_move_half
+try another_store_is_damage

@@ -62,6 +62,32 @@ fn step(alloc: Global, world: &mut Tested, line: Line<'_>) -> Result<Reply, Allo
     Ok(world.step(&event))
 }
 
+/// Opens the store again. Returns the opener's last reply, or why it doesn't begin.
+fn open(world: &mut Tested) -> Reply {
+    match world.step(&Event::Reopen) {
+        Reply::Worked => world.finish(Worker::Opener),
+        refused => refused,
+    }
+}
+
+/// Makes a checkpoint without rounds. Returns the dumper's last reply, or why it doesn't begin.
+fn save(world: &mut Tested) -> Reply {
+    match world.step(&Event::Begin(0)) {
+        Reply::Begun(_) => world.finish(Worker::Dumper),
+        refused => refused,
+    }
+}
+
+/// What a line asks that changes nothing.
+fn look(world: &Tested, line: Line<'_>) -> Reply {
+    reply_of(match line.word {
+        Word::Left(worker) => world.core().left(worker) == u128::from(line.number),
+        Word::Idle(worker) => world.core().is_idle(worker),
+        Word::Out(worker) => world.is_out(worker),
+        _ => false,
+    })
+}
+
 /// Makes what a line asks: an event, or several. Returns the last reply.
 pub(crate) fn ask(alloc: Global, world: &mut Tested, line: Line<'_>) -> Result<Reply, AllocError> {
     match line.word {
@@ -71,7 +97,9 @@ pub(crate) fn ask(alloc: Global, world: &mut Tested, line: Line<'_>) -> Result<R
         Word::Finish(worker) => Ok(world.finish(worker)),
         Word::Map => Ok(world.apply(0, map())),
         Word::Store => Ok(world.apply(0, store(alloc, line.number)?)),
-        Word::Out(worker) => Ok(reply_of(world.is_out(worker))),
+        Word::Open => Ok(open(world)),
+        Word::Save => Ok(save(world)),
+        Word::Left(_) | Word::Idle(_) | Word::Out(_) => Ok(look(world, line)),
         _ => step(alloc, world, line),
     }
 }

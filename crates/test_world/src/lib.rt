@@ -1,8 +1,6 @@
-//! Tests of cores, worlds and openers by their public names.
+//! Tests of worlds and openers by their public names.
 #![tactic(auto)]
 
-#[cfg(test)]
-mod by_hand;
 #[cfg(test)]
 mod driver;
 #[cfg(test)]

@@ -1,4 +1,4 @@
-//! Scripts of a test: each line is what a world or a core is asked, and what it has to answer.
+//! Scripts of a test: each line is what a world is asked, and what it has to answer.
 use sd_areas::{Prot, SpaceId};
 use sd_command::{Bytes, Command, Reply};
 use sd_gate::Worker;
@@ -32,17 +32,15 @@ pub(crate) enum Word {
     Steps,
     /// So many steps of the dumper's pass in one call: `worked` where all are made, else `done`.
     Pass,
-    /// Of a core: the opener begins, and comes to its end.
+    /// The opener begins, and comes to its end.
     Open,
-    /// Of a core: a checkpoint without rounds begins, and comes to its end.
+    /// A checkpoint without rounds begins, and comes to its end.
     Save,
-    /// Of a core: the next event of a worker.
-    GoOn(Worker),
-    /// Of a core: whether a worker's job has so many events left at most, `worked` where it is so, else `done`.
+    /// Whether a worker's job has so many events left at most, `worked` where it is so, else `done`.
     Left(Worker),
-    /// Of a core: whether a worker has no job, answered so.
+    /// Whether a worker has no job, answered so.
     Idle(Worker),
-    /// Of a world: whether a call of a worker is out, answered so.
+    /// Whether a call of a worker is out, answered so.
     Out(Worker),
 }
 
@@ -66,7 +64,6 @@ const WORDS: &[(&str, Word)] = &[
     ("pass", Word::Pass),
     ("open", Word::Open),
     ("save", Word::Save),
-    ("go-on-dumper", Word::GoOn(Worker::Dumper)),
     ("left-dumper", Word::Left(Worker::Dumper)),
     ("left-opener", Word::Left(Worker::Opener)),
     ("idle-dumper", Word::Idle(Worker::Dumper)),

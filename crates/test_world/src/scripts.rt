@@ -1,7 +1,7 @@
 //! What worlds are asked, and what they answer.
 use crate::runs::{Run, is_run};
-use crate::store::{EIGHT, FOUR, Store, TWO};
-use std::alloc::AllocError;
+use crate::store::{EIGHT, FOUR, Store, THREE, TWO};
+use std::alloc::{AllocError, Global};
 
 /// An opener begins.
 const BEGINS: &str = "\
@@ -54,6 +54,7 @@ reopen = worked
 finish-opener = reopened none
 map = done
 store 4 = done
+pass 1 = done
 begin 0 = begun 1
 pass 1 = done
 steps 10 = worked
@@ -143,6 +144,93 @@ finish-dumper = acked 2
 trim = trimmed 1048573
 load = bytes 61";
 
+/// All is refused but to open. The opener has so many events left for three slots.
+const NOTHING_IS_OPEN: &str = "\
+begin 0 = refused 10 not-open
+merge = refused 10 not-open
+cancel = refused 14 idle
+left-opener 0 = worked
+reopen = worked
+left-opener 28 = worked
+reopen = refused 11 busy";
+
+/// What is refused once a store of three slots is open, and a checkpoint runs.
+const OPENED_ONCE: &str = "\
+open = reopened none
+left-opener 0 = worked
+reopen = refused 11 busy
+begin 9 = refused 1 EINVAL
+begin 2 = refused 12 no-slot
+begin 1 = begun 1
+begin 0 = refused 11 busy
+cancel = cancelled 1
+cancel = refused 14 idle";
+
+/// A checkpoint holds two entries: commands find none, and it freezes and is acknowledged in them. Then none is free:
+/// no checkpoint begins, and nothing is journaled.
+const SAVED_IN_HELD_ENTRIES: &str = "\
+open = reopened none
+map = done
+loads 1048571 = bytes 00
+begin 0 = begun 1
+load = bytes 00
+load = refused 7 journal-full
+finish-dumper = acked 1
+load = refused 7 journal-full
+begin 0 = refused 7 journal-full";
+
+/// A store is opened, and a checkpoint fails, of which a device call fails.
+const FAILED: &str = "\
+open = reopened none
+save = refused 22 device
+steps 1 = refused 13 store-down
+idle-dumper = worked
+left-dumper 0 = worked
+save = refused 13 store-down";
+
+/// How it is cancelled then.
+const NONE_IS_CANCELLED: &str = "cancel = refused 14 idle";
+
+const IT_IS_CANCELLED: &str = "cancel = cancelled 1";
+
+const IT_IS_BUSY: &str = "cancel = refused 11 busy";
+
+/// While the store is down nothing begins or merges; it is opened again.
+const OPENED_WHEN_DOWN: &str = "\
+open = reopened none
+save = refused 22 device
+steps 1 = refused 13 store-down
+merge = refused 13 store-down
+steps 1 = refused 14 idle
+open = reopened none
+begin 0 = begun 2";
+
+/// A checkpoint is acknowledged and the next one cancelled, so that the third takes every page; the sync after the
+/// gate of its dump fails. Whether it stands is in doubt, and it can't be cancelled. The store is opened again and
+/// names it. What was in doubt is over then: the next checkpoint has the next number and may be cancelled, and so may
+/// the one after it.
+const DOUBT_IS_OVER: &str = "\
+open = reopened none
+map = done
+save = acked 1
+begin 0 = begun 2
+cancel = cancelled 2
+save = refused 22 device
+steps 1 = refused 13 store-down
+cancel = refused 11 busy
+begin 0 = refused 13 store-down
+merge = refused 13 store-down
+open = reopened 3
+cancel = refused 14 idle
+begin 0 = begun 4
+cancel = cancelled 4
+cancel = refused 14 idle
+save = acked 5
+begin 0 = begun 6
+cancel = cancelled 6
+save = acked 7
+cancel = refused 14 idle";
+
 /// A run of one world over a store of two slots.
 const ONE: Run = Run {
     store: TWO,
@@ -204,14 +292,76 @@ const RUNS: &[Run] = &[
         first: &[TWO_SLOTS],
         ..ONE
     },
+    Run {
+        store: THREE,
+        first: &[NOTHING_IS_OPEN],
+        ..ONE
+    },
+    Run {
+        store: THREE,
+        first: &[OPENED_ONCE],
+        ..ONE
+    },
 ];
 
-/// Each world answers what its scripts say.
+/// After how many calls one fails of a store of three slots, and what a world over it is asked. A checkpoint that
+/// failed is pending from its freeze on, and may be cancelled until the opening of its gate was taken up: the opening
+/// of the world makes nine calls and the opener six, the format three, and five close the body; the memory is frozen
+/// after the format.
+const FAILING: &[(u64, &[&str])] = &[
+    (15, &[FAILED, NONE_IS_CANCELLED]),
+    (16, &[OPENED_WHEN_DOWN]),
+    (17, &[FAILED, NONE_IS_CANCELLED]),
+    (18, &[FAILED, IT_IS_CANCELLED]),
+    (20, &[FAILED, IT_IS_CANCELLED]),
+    (21, &[FAILED, IT_IS_BUSY]),
+    (22, &[FAILED, IT_IS_BUSY]),
+    // The first checkpoint of a page of zeros makes eight calls; of the third one three form its slot, and four are its
+    // table, its header, their sync and its gate.
+    (30, &[DOUBT_IS_OVER]),
+];
+
+/// Whether a world over a store of three slots, of which the call after so many fails, answers what scripts say.
+fn is_answered(
+    alloc: Global,
+    calls: u64,
+    first: &'static [&'static str],
+) -> Result<bool, AllocError> {
+    let store = Store { calls, ..THREE };
+    is_run(
+        alloc,
+        &Run {
+            store,
+            first,
+            ..ONE
+        },
+    )
+}
+
+/// Whether each world answers what its scripts say.
+fn all_answer(alloc: Global) -> Result<bool, AllocError> {
+    for run in RUNS {
+        if !is_run(alloc, run)? {
+            return Ok(false);
+        }
+    }
+    Ok(true)
+}
+
+/// Whether each does over a store of which a call fails.
+fn all_failing_answer(alloc: Global) -> Result<bool, AllocError> {
+    for (calls, scripts) in FAILING {
+        if !is_answered(alloc, *calls, scripts)? {
+            return Ok(false);
+        }
+    }
+    Ok(true)
+}
+
 #[test]
 fn worlds_answer(rt: HostRuntime) -> Result<(), AllocError> {
-    for (place, run) in RUNS.iter().enumerate() {
-        assert!(rt; is_run(rt.alloc(), run)?, "run {place}");
-    }
+    assert!(rt; all_answer(rt.alloc())?);
+    assert!(rt; all_failing_answer(rt.alloc())?);
     Ok(())
 }
 
@@ -221,6 +371,19 @@ const FILLED: Run = Run {
     first: &[FULL],
     ..ONE
 };
+
+/// The same over a store of three slots.
+const HELD: Run = Run {
+    store: THREE,
+    first: &[SAVED_IN_HELD_ENTRIES],
+    ..ONE
+};
+
+#[test]
+fn a_checkpoint_has_its_entries(rt: HostRuntime) -> Result<(), AllocError> {
+    assert!(rt; is_run(rt.alloc(), &HELD)?);
+    Ok(())
+}
 
 #[test]
 fn a_full_journal_is_trimmed(rt: HostRuntime) -> Result<(), AllocError> {

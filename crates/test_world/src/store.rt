@@ -29,6 +29,9 @@ pub(crate) const EIGHT: Store = Store {
 /// Such a store of four slots.
 pub(crate) const FOUR: Store = Store { slots: 4, ..EIGHT };
 
+/// Such a store of three slots.
+pub(crate) const THREE: Store = Store { slots: 3, ..EIGHT };
+
 /// Such a store of two slots.
 pub(crate) const TWO: Store = Store { slots: 2, ..EIGHT };
 
