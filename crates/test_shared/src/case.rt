@@ -22,19 +22,15 @@ pub(crate) enum Case {
     Beside(Way),
     /// A checkpoint that is cancelled.
     Cancelled,
-    /// Checkpoints that two threads drive.
-    Driven,
     /// The device fails while all is frozen.
     Falls,
-    /// A checkpoint on a disk that drops what it is given.
-    Dropped,
     /// A checkpoint whose pages two threads write, and one without threads after it.
     Relayed,
     /// One of which the first page's write fails, and another one.
     RelayFalls,
     /// A checkpoint of twenty pages, which eight threads write.
     TwentyPages,
-    /// Checkpoints beside two mutators, each of which is trimmed.
+    /// A trim after a checkpoint.
     Trimmed,
     /// A checkpoint beside a thread that waits for the thaw, and others that are cancelled beside one.
     Awaited,
@@ -50,11 +46,6 @@ impl Case {
             Case::Random(seed) => 200 + seed % 3_000,
             _ => u64::MAX,
         }
-    }
-
-    /// Whether the disk drops what it is given.
-    pub(crate) fn drops(self) -> bool {
-        matches!(self, Case::Dropped)
     }
 
     /// How many pages are mapped. The disk has room for as many in each slot.

@@ -4,8 +4,6 @@ ghost use Rattle.std.specs.Prelude.{◌≤◌};
 use crate::beside::saves_beside;
 use crate::cancelling::cancels_beside;
 use crate::case::Case;
-use crate::device::Device;
-use crate::driven::drives_beside;
 use crate::eight::plays;
 use crate::falling::falls;
 use crate::holds::{Free, merges_in_13_calls, saves_in_16_calls};
@@ -13,7 +11,6 @@ use crate::jobs::Job;
 use crate::mutator::{Mutator, Way};
 use crate::replies::{is_acked, is_merged, is_opened};
 use crate::told::Told;
-use crate::trimming::trims_beside;
 use crate::waiting::{awaits_each, wakes_by_a_cancel};
 use crate::writers::{falls_beside, writes_beside, writes_twenty_pages};
 use sd_core::Core;
@@ -30,8 +27,8 @@ use std::test::Fail;
 use std::thread::Threads;
 use std::time::{Clock, SystemTime};
 
-/// The disk of these tests, of which a call may fail, or all may be dropped.
-pub(crate) type Store = Device<Fused<MemDisk>>;
+/// The disk of these tests, of which a call may fail.
+pub(crate) type Store = Fused<MemDisk>;
 
 /// How many writes, cuts and syncs a disk has room for.
 const CALLS: usize = 1_000_000_000;
@@ -66,10 +63,8 @@ fn empty(alloc: Global, slots: usize, pages: u64) -> Result<MemDisk, AllocError>
 }
 
 fn store(alloc: Global, case: Case) -> Result<Store, AllocError> {
-    Ok(Device {
-        disk: Fused::new(empty(alloc, case.slots(), case.pages())?, case.fuse()),
-        drops: case.drops(),
-    })
+    let disk = empty(alloc, case.slots(), case.pages())?;
+    Ok(Fused::new(disk, case.fuse()))
 }
 
 /// Opens a store for the seats of a case, again where memory is refused once.
@@ -90,6 +85,14 @@ fn open(alloc: Global, case: Case) -> Result<(Shared<Store>, Vec<Seat>), Fail> {
 /// Makes a checkpoint without pre-dumps. Returns whether it is acknowledged, and kept, as what follows does.
 fn saves(rt: &impl Wait, shared: &Shared<Store>, told: &mut Told) -> bool {
     is_acked(shared.run_dumper(rt, 0, &Free), 1) && told.keep_ack(1)
+}
+
+/// Trims the journal. Returns whether something was folded, and kept.
+fn trims(rt: &impl Wait, shared: &Shared<Store>, told: &mut Told) -> bool {
+    match shared.trim(rt) {
+        Ok(folded) => told.keep_folded(folded),
+        Err(_) => false,
+    }
 }
 
 /// Checkpoints that a mutator waits for: until waits are ended, to a thaw, and to a cancel.
@@ -137,7 +140,7 @@ fn acts_alone<R: Threads + Wait + Clock + Sync>(
         }
         Case::RelayFalls => falls_beside(rt, shared) && told.keep_ack(2),
         Case::TwentyPages => writes_twenty_pages(rt, shared) && told.keep_ack(1),
-        Case::Driven => drives_beside(rt, shared, &mut told.acks),
+        Case::Trimmed => saves(rt, shared, told) && trims(rt, shared, told),
         _ => saves(rt, shared, told),
     }
 }
@@ -154,7 +157,6 @@ fn acts<R: Threads + Wait + Clock + Files + Alloc + Abort + Sync>(
 ) -> bool {
     match case {
         Case::Beside(way) => merges_beside(rt, alloc, shared, way, mutators, told),
-        Case::Trimmed => trims_beside(rt, alloc, shared, mutators, told),
         Case::Falls => falls(rt, shared, mutators.0),
         Case::Awaited => awaits(rt, shared, mutators.0, told),
         Case::Cancelled => cancels_beside(rt, shared, mutators.0, &mut told.acks),
@@ -177,8 +179,8 @@ fn spoil(case: Case, told: &mut Told) {
     }
 }
 
-/// Maps the pages of two mutators, and does what a case says. Returns whether all went as it should, and the receipts
-/// are kept.
+/// Maps the pages of two mutators, and does what a case says. Returns whether all went as it should, the receipts are
+/// kept, and what was folded accounts for those of its entries.
 fn works_by<R: Threads + Wait + Clock + Files + Alloc + Abort + Sync>(
     rt: &R,
     alloc: Global,
@@ -192,6 +194,7 @@ fn works_by<R: Threads + Wait + Clock + Files + Alloc + Abort + Sync>(
         && acts(rt, alloc, shared, case, (&mut *first, &mut *last), told)
         && told.take(first.take(alloc))
         && told.take(last.take(alloc))
+        && told.are_folded(alloc)
 }
 
 /// Does what a case says by two seats.
@@ -242,15 +245,14 @@ fn audit_again<D: Disk>(alloc: Global, core: &Core, disk: &mut D) -> Result<bool
     }
 }
 
-/// Whether the run's own disk shows what its journal allows, unless it dropped what it was given; and an empty one only
-/// where nothing was acknowledged.
+/// Whether the run's own disk shows what its journal allows, and an empty one, as one that dropped all that it was
+/// given, only where nothing was acknowledged.
 fn audits(alloc: Global, core: &Core, disk: &mut Store, acks: &[u64]) -> bool {
     let Ok(mut other) = empty(alloc, 8, 0) else {
         return false;
     };
-    let is_kept = !disk.drops;
     let is_empty = core.base_number().is_none() && acks.is_empty();
-    is_shown(audit_again(alloc, core, disk), is_kept)
+    is_shown(audit_again(alloc, core, disk), true)
         && is_shown(audit_again(alloc, core, &mut other), is_empty)
 }
 
@@ -302,14 +304,13 @@ fn run_each<R: Threads + Wait + Clock + Files + Alloc + Abort + Sync>(
     Ok(())
 }
 
-/// What is closed: a checkpoint, a receipt too few, an acknowledgement too many, a merge after a checkpoint; and a disk
-/// that drops what it is given, of which the audit isn't true.
+/// What is closed: a checkpoint, a receipt too few, an acknowledgement too many, a merge and a trim after a checkpoint.
 const CLOSED: &[Case] = &[
     Case::Saved,
     Case::LacksReceipt,
     Case::TellsMore,
     Case::Merged,
-    Case::Dropped,
+    Case::Trimmed,
 ];
 
 #[test]
@@ -324,15 +325,8 @@ fn threads(rt: HostRuntime) -> Result<(), Fail> {
 }
 
 /// Two mutators that try again where the lock isn't free; another thread that cancels the checkpoint, and makes one:
-/// the first dumper is answered as idle, and nothing stays frozen; two threads that drive the same checkpoints: of each
-/// one is acknowledged, and the other idle; each checkpoint trimmed after its acknowledgement, while two mutators
-/// store.
-const BESIDE: &[Case] = &[
-    Case::Beside(Way::Tries),
-    Case::Cancelled,
-    Case::Driven,
-    Case::Trimmed,
-];
+/// the first dumper is answered as idle, and nothing stays frozen.
+const BESIDE: &[Case] = &[Case::Beside(Way::Tries), Case::Cancelled];
 
 #[test]
 fn threads_beside_a_dumper(rt: HostRuntime) -> Result<(), Fail> {

@@ -12,10 +12,6 @@ mod case;
 #[cfg(test)]
 mod cases;
 #[cfg(test)]
-mod device;
-#[cfg(test)]
-mod driven;
-#[cfg(test)]
 mod eight;
 #[cfg(test)]
 mod falling;
@@ -31,8 +27,6 @@ mod replies;
 mod thaws;
 #[cfg(test)]
 mod told;
-#[cfg(test)]
-mod trimming;
 #[cfg(test)]
 mod waiting;
 #[cfg(test)]
