@@ -6,7 +6,6 @@ mod ended;
 mod journal;
 mod memory;
 mod named;
-mod restore;
 mod rounds;
 mod shared;
 mod world;
@@ -17,13 +16,9 @@ use std::alloc::Global;
 use std::io;
 use std::process::ExitCode;
 use std::sync::Wait;
-use std::thread::Threads;
-use std::time::Clock;
 
 const USAGE: &str =
-    "usage: benches journal | memory CASE | restore copied|made|restored IMAGES | rounds CASE | \
-    shared calls|steps N | shared beside | world SEED LISTS [figures] | all
-IMAGES: 1 to 64
+    "usage: benches journal | memory CASE | rounds CASE | shared calls|steps N | world SEED LISTS [figures] | all
 CASE of memory: stores random loads words pages fork child ranges anew protects walk sparse sparse_walk
 CASE of rounds: made touched plain dumps digests walks emptied rounds";
 
@@ -41,7 +36,6 @@ const ALL: &str = "all";
 enum Part {
     Journal,
     Memory,
-    Restore,
     Rounds,
     Shared,
     World,
@@ -50,7 +44,6 @@ enum Part {
 const PARTS: &[(&str, Part)] = &[
     ("journal", Part::Journal),
     ("memory", Part::Memory),
-    ("restore", Part::Restore),
     ("rounds", Part::Rounds),
     ("shared", Part::Shared),
     ("world", Part::World),
@@ -92,13 +85,9 @@ fn tell(rt: &(impl Print + Eprint), ended: Ended) -> io::Result<u8> {
 }
 
 /// One case of each part: the gate runs these. Returns the greatest exit status.
-fn each<R: Threads + Wait + Clock + Sync + Print + Eprint>(
-    rt: &R,
-    alloc: Global,
-) -> io::Result<u8> {
+fn each(rt: &(impl Wait + Print + Eprint), alloc: Global) -> io::Result<u8> {
     let mut status = tell(rt, journal::timed(alloc))?;
     status = status.max(tell(rt, memory::timed(alloc, "child"))?);
-    status = status.max(tell(rt, restore::timed(alloc, "restored", Some(30)))?);
     status = status.max(tell(rt, rounds::timed(alloc, "dumps"))?);
     status = status.max(tell(rt, shared::counted(rt, alloc, "calls", Some(10)))?);
     status = status.max(world::tell(rt, alloc, 1, 10, false)?);
@@ -115,27 +104,8 @@ fn tried(rt: &(impl Print + Eprint), alloc: Global, words: &[String]) -> io::Res
     }
 }
 
-/// Makes the calls of a part on threads: beside a checkpoint, or so many.
-fn on_threads<R: Threads + Wait + Clock + Sync + Print + Eprint>(
-    rt: &R,
-    alloc: Global,
-    words: &[String],
-) -> io::Result<u8> {
-    if word(words, 2) == "beside" {
-        return shared::tell_beside(rt, alloc);
-    }
-    tell(
-        rt,
-        shared::counted(rt, alloc, word(words, 2), number(words, 3)),
-    )
-}
-
 /// Makes the calls that the words name.
-fn timed<R: Threads + Wait + Clock + Sync + Print + Eprint>(
-    rt: &R,
-    alloc: Global,
-    words: &[String],
-) -> io::Result<u8> {
+fn timed(rt: &(impl Wait + Print + Eprint), alloc: Global, words: &[String]) -> io::Result<u8> {
     let Some(part) = named(PARTS, word(words, 1)) else {
         return tell(rt, Ended::Unnamed);
     };
@@ -143,9 +113,8 @@ fn timed<R: Threads + Wait + Clock + Sync + Print + Eprint>(
     match part {
         Part::Journal => tell(rt, journal::timed(alloc)),
         Part::Memory => tell(rt, memory::timed(alloc, case)),
-        Part::Restore => tell(rt, restore::timed(alloc, case, number(words, 3))),
         Part::Rounds => tell(rt, rounds::timed(alloc, case)),
-        Part::Shared => on_threads(rt, alloc, words),
+        Part::Shared => tell(rt, shared::counted(rt, alloc, case, number(words, 3))),
         Part::World => tried(rt, alloc, words),
     }
 }
