@@ -193,14 +193,14 @@ checkpoints_from() {  # checkpoints_from SEED
   needs_python || return
   local count=700
   [ -z "${CHECKED:-}" ] || count=20
-  python3 "$here/checkpoints_by_chance.py" "$ckpt" "$1" "$count"
+  python3 "$here/random_checkpoints.py" "$ckpt" "$1" "$count"
 }
 
-checkpoints_by_chance() { checkpoints_from 1; }
-checkpoints_by_another_chance() { checkpoints_from 1001; }
-checkpoints_by_a_third_chance() { checkpoints_from 2001; }
+random_checkpoints() { checkpoints_from 1; }
+more_random_checkpoints() { checkpoints_from 1001; }
+yet_more_random_checkpoints() { checkpoints_from 2001; }
 
 try calls_by_chance
-try checkpoints_by_chance
-try checkpoints_by_another_chance
-try checkpoints_by_a_third_chance
+try random_checkpoints
+try more_random_checkpoints
+try yet_more_random_checkpoints

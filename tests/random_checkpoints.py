@@ -1,7 +1,7 @@
 #!/usr/bin/env python3
 """Random checkpoints while random calls are made on the memory, beside a plain one.
 
-checkpoints_by_chance.py CKPT SEED COUNT    makes so many checkpoints, over stores in the folder that it is run in
+random_checkpoints.py CKPT SEED COUNT    makes so many checkpoints, over stores in the folder that it is run in
 
 Between the steps of a checkpoint of no to three rounds there are random calls on three pages of a few spaces, at a
 border of page tables. Each is answered as a plain memory answers it. Where no checkpoint runs, so are the words of the
