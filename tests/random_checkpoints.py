@@ -241,13 +241,29 @@ class Run:
         return self.shell.wait()
 
 
-def restored(ckpt, store, number):
-    words = ckpt, "restore", store, "--checkpoint", str(number)
+def printed(*words):
     return subprocess.run(words, stdout=subprocess.PIPE, text=True, check=True).stdout
 
 
+def restored(ckpt, store, number):
+    return printed(ckpt, "restore", store, "--checkpoint", str(number))
+
+
+def numbers_in(ckpt, store):
+    """The checkpoints that a store has, rising."""
+    lines = printed(ckpt, "history", store).splitlines()
+    return sorted(int(line.split()[1]) for line in lines if line.startswith("checkpoint "))
+
+
+def are_there(numbers, course):
+    """Whether a store has the checkpoints since the last that was cancelled, and none that wasn't acknowledged. The
+    first after a cancelled one needs no image before it, so slots of those may be taken."""
+    cancelled = max(set(range(course.begun + 1)) - set(course.kept))
+    return {number for number in course.kept if number > cancelled} <= set(numbers) <= set(course.kept)
+
+
 def try_store(ckpt, seed, most):
-    """Fills a store, and restores each of its checkpoints, so many at most. Returns how many there are."""
+    """Fills a store, and restores each checkpoint that it has, so many at most. Returns how many were acknowledged."""
     store = f"store-{seed}"
     run = Run(ckpt, store, random.Random(seed))
     run.ask(f"mmap 1 {run.first * PAGE:#x} {PAGE} rw")
@@ -255,8 +271,11 @@ def try_store(ckpt, seed, most):
         run.turn()
     if run.end() != 0:
         sys.exit(f"{store}: the shell failed")
-    for number, memory in run.course.kept.items():
-        if restored(ckpt, store, number) != memory.restored(number) + "\n":
+    numbers = numbers_in(ckpt, store)
+    if not are_there(numbers, run.course):
+        sys.exit(f"{store}: it has the checkpoints {numbers}, of {list(run.course.kept)}")
+    for number in numbers:
+        if restored(ckpt, store, number) != run.course.kept[number].restored(number) + "\n":
             sys.exit(f"{store}: checkpoint {number} isn't restored")
     return len(run.course.kept)
 
