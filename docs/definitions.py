@@ -110,7 +110,7 @@ class Specs:
                 self.variants[module, variant[1]] = (module, name)
 
     def meant(self, module, imports, word):
-        """What a word names, where it stands behind these imports."""
+        """What a word names, where it stands after these imports."""
         first, _, rest = word.partition(".")
         here = (module, first)
         if here not in self.definitions and here not in self.variants:

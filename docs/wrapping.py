@@ -26,7 +26,7 @@ def depths(line, depth=0):
 
 
 def is_at(line, place, mark):
-    """Whether a line may be broken at a blank, for a mark: before it, but behind a comma or semicolon."""
+    """Whether a line may be broken at a blank, for a mark: before it, but after a comma or semicolon."""
     if mark in (", ", "; "):
         return line[place - 1] == mark[0]
     return line.startswith(mark, place)

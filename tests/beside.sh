@@ -30,7 +30,7 @@ read_beside() {
   esac
   number=$(sed -n 's/^checkpoint //p' shown)
   same "checkpoint $number" "$(cat shown)" "$(numbered_memory "$number")" || return 1
-  [ "$number" -ge "$last" ] || { echo "checkpoint $number behind $last"; return 1; }
+  [ "$number" -ge "$last" ] || { echo "checkpoint $number after $last"; return 1; }
   last=$number
   reads=$((reads + 1))
 }
@@ -80,7 +80,7 @@ verify_beside() {
   is_whole_beside '^ok (empty|checkpoint [0-9]+ images [0-9]+)$' || return
   number=$(sed -nE 's/^ok checkpoint ([0-9]+) .*/\1/p' shown)
   [ -n "$number" ] || return 0
-  [ "$number" -ge "$last" ] || { echo "checkpoint $number behind $last"; return 1; }
+  [ "$number" -ge "$last" ] || { echo "checkpoint $number after $last"; return 1; }
   last=$number
   verified=$((verified + 1))
 }

@@ -1,11 +1,11 @@
 #!/usr/bin/env python3
 """ELF core files of x86-64, apart from the crate that reads and writes them; standard library alone.
 
-core_files.py make SEED FILE    makes a core by chance: areas, holes, permissions, sizes in the file, places of pages
+core_files.py make SEED FILE    makes a random core: areas, holes, permissions, sizes in the file, places of pages
 core_files.py same FILE FILE    ends with 0 where two cores say the same memory
 core_files.py pages FILE        prints how many pages of memory a core has
 core_files.py notes FILE        prints the bytes of its notes, each segment's up to a multiple of 4, in hexadecimal
-core_files.py trial CKPT COUNT  imports so many cores by chance, 40 into each store, exports each, and compares
+core_files.py trial CKPT COUNT  imports so many random cores, 40 into each store, exports each, and compares
 core_files.py edit FILE PLACE BYTES NUMBER    puts a number into a file, little endian"""
 import random
 import struct

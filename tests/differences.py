@@ -1,4 +1,4 @@
-"""What differs between two memories that `restore` printed, as `diff` prints it; and scripts by chance for that.
+"""What differs between two memories that `restore` printed, as `diff` prints it; and random scripts for that.
 
 differences.py diff OLD NEW    the lines of what differs
 differences.py script SEED     a script of five checkpoints
@@ -27,7 +27,7 @@ def memory_of(name):
 
 
 def runs_of(items):
-    """Runs of pages, one behind the other with one mark, from pairs of a page and a mark that rise."""
+    """Runs of pages, one after the other with one mark, from pairs of a page and a mark that rise."""
     runs = []
     for (space, page), mark in items:
         if runs and runs[-1][0] == space and runs[-1][2] == page and runs[-1][3] == mark:

@@ -442,7 +442,7 @@ acked 2" "" "$ckpt" import store core
 }
 
 # Permissions, pages that come and go, and areas that split and join, over some stores.
-cores_by_chance_go_in_and_out() {
+random_cores_go_in_and_out() {
   needs_python || return
   local count=500
   [ -z "${CHECKED:-}" ] || count=12
@@ -624,7 +624,7 @@ try a_core_without_memory_is_refused
 try a_space_is_made_from_the_one_with_the_fewest_pages
 try second_import_changes_what_differs
 try second_import_of_many_areas_changes_nothing
-try cores_by_chance_go_in_and_out
+try random_cores_go_in_and_out
 try core_that_changes_is_not_saved
 try damaged_headers_are_told
 try cut_headers_are_told

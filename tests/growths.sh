@@ -49,6 +49,14 @@ memory_is_refused_to_eight_writers() {
   pass_without test_shared cases::twenty_pages "${1:-13}"
 }
 
+# Of a script whose commands copy spaces, pages and areas; what is refused changes nothing.
+memory_is_refused_to_commands() {
+  growths_can_be_refused && needs_python || return
+  [ -z "${CHECKED:-}" ] || { echo "needs the proved program"; return 77; }
+  python3 "$here/refused_commands.py" "$ckpt" "$PWD/refuse.so" > told || { cat told; return 1; }
+  grep -qE '^[0-9]+ growths, [1-9][0-9]* of commands, ' told || { cat told; return 1; }
+}
+
 # Refuses every growth of one of the threads' tests, so many side by side, each in a folder of its own.
 refuse_each() {  # refuse_each NAME JOBS
   local job
@@ -83,6 +91,7 @@ refuse_all() {
 }
 
 if [ "${BASH_SOURCE[0]}" != "$0" ]; then
+  try memory_is_refused_to_commands
   try memory_is_refused_to_worlds
   try memory_is_refused_to_threads
   try memory_is_refused_to_eight_writers

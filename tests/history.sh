@@ -79,7 +79,7 @@ history_has_what_can_be_restored() {
     "checkpoint 4 slot $(slot_of store 4) serial 4 images 4 pages 2 own " || return 1
   has "the second" "$(sed -n 3p past)" " images 2 pages 3 " || return 1
   "$ckpt" merge store > merged || return 1
-  same "behind a merge" "$("$ckpt" history store | cut -d' ' -f1,2)" "checkpoint 4" || return 1
+  same "after a merge" "$("$ckpt" history store | cut -d' ' -f1,2)" "checkpoint 4" || return 1
   mkdir empty
   same "an empty store" "$("$ckpt" history empty 2> err)" ""
 }
@@ -95,7 +95,7 @@ history_leaves_out_what_is_broken() {
   ends_with 3 "no checkpoint 2" "ckpt: cut: it has the checkpoints 1" "$ckpt" restore --checkpoint 2 cut || return 1
   printf '\0' > "store/img-$(slot_of store 1)"
   "$ckpt" history store > past || return 1
-  same "the numbers behind a broken chain" "$(numbers_in past)" "" || return 1
+  same "the numbers after a broken chain" "$(numbers_in past)" "" || return 1
   same "what verify finds there" "$(restorable store)" "" || return 1
   same "what isn't needed" "$(grep -c '^unneeded slot ... dump serial' past)" 3
 }

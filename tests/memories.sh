@@ -56,8 +56,8 @@ a_space_has_1024_areas() {
   "$ckpt" restore store > shown
   child=2
   while IFS='|' read -r call answer count; do
-    same "the number of areas behind $call" "$(areas_of $child | wc -l)" "$count" || return 1
-    [ "$answer" = done ] || same "the areas behind $call" "$(areas_of $child)" "$(areas_of 1)" || return 1
+    same "the number of areas after $call" "$(areas_of $child | wc -l)" "$count" || return 1
+    [ "$answer" = done ] || same "the areas after $call" "$(areas_of $child)" "$(areas_of 1)" || return 1
     child=$((child + 1))
   done <<< "$on_full"
 }
@@ -83,7 +83,7 @@ an_area_is_freed() {
   tail -n 11 answers > calls
   while IFS='|' read -r call answer count; do
     same "the answer to $call" "$(sed -n "$((2 * child - 3))p" calls)" "$answer" || return 1
-    same "the number of areas behind $call" "$(areas_of $child | wc -l)" "$count" || return 1
+    same "the number of areas after $call" "$(areas_of $child | wc -l)" "$count" || return 1
     child=$((child + 1))
   done <<< "$in_turn"
 }
@@ -103,11 +103,11 @@ many_stores_script() {  # many_stores_script PAGES
 
 # Words and bytes on both sides of the last page that the parent stored to.
 many_stores() {
-  local pages=1000 last behind stores
+  local pages=1000 last past stores
   [ -z "${CHECKED:-}" ] || pages=50
-  last=$(((pages - 1) * 4096)) behind=$((pages * 4096)) stores=$((22 * pages))
+  last=$(((pages - 1) * 4096)) past=$((pages * 4096)) stores=$((22 * pages))
   { many_stores_script $pages; printf '%s\n' "words 1 $last 2" "words 2 $last 2" "load 1 $last 4" \
-    "load 1 $behind 4" "load 2 $last 4" "load 2 $behind 4"; } > script
+    "load 1 $past 4" "load 2 $last 4" "load 2 $past 4"; } > script
   answers_to script > answers || { cat answers; return 1; }
   same "the answers to the stores" "$(head -n $((stores + 2)) answers | sort | uniq -c | sed 's/^ *//')" "1 child 2
 $((stores + 1)) done" || return 1

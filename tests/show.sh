@@ -142,7 +142,7 @@ faults_are_shown_in_words() {
     while IFS='|' read -r changes fault; do
       hello_store $version || return 1
       change $changes
-      shows_fault "${fault%% *}" "${fault#* }" || { echo "behind $changes in version $version"; return 1; }
+      shows_fault "${fault%% *}" "${fault#* }" || { echo "after $changes in version $version"; return 1; }
     done <<< "$faults_in_words"
   done
 }

@@ -67,7 +67,7 @@ have_reasons() {  # have_reasons VERSION ROWS
   while IFS='|' read -r changes reason; do
     hello_store "$1" || return 1
     change $changes
-    finds "damaged 000 $reason" || { echo "behind $changes in version $1"; return 1; }
+    finds "damaged 000 $reason" || { echo "after $changes in version $1"; return 1; }
   done <<< "$2"
 }
 

@@ -158,7 +158,7 @@ slots_are_no_files_of_counts() {
     store/img-005 folder/img-005 leads-to-a-missing-one; do
     ends_with 1 "cannot write FILE" "ckpt: $name: $slot_error" "$ckpt" run --stats "$name" store script || return 1
     ends_with 1 "cannot write FILE" "" "$ckpt" run --quiet --stats "$name" store script || return 1
-    same "the store behind $name" "$(sums store)" "$before" || return 1
+    same "the store after $name" "$(sums store)" "$before" || return 1
   done
   same "verify" "$("$ckpt" verify store)" "ok checkpoint 1 images 1"
 }

@@ -5,7 +5,7 @@ behind_each() {  # behind_each FIRST LAST COMMAND
   local step
   for step in $(seq "$1" "$2"); do
     mkdir "$step"
-    (cd "$step" && "$3" "$step" > told || { echo "behind $step:"; cat told; } >> ../failed) &
+    (cd "$step" && "$3" "$step" > told || { echo "after $step:"; cat told; } >> ../failed) &
     [ $((step % 8)) -ne 0 ] || wait
   done
   wait
@@ -108,8 +108,8 @@ bytes 0x11000 62$zeros"
 # The merge takes 63 steps before its last one.
 a_merge_shows_the_same_at_each_step() {
   behind_each 1 64 merged_behind || return 1
-  same "the last answer behind step 63" "$(tail -n 1 63/out)" worked || return 1
-  same "the last answer behind step 64" "$(tail -n 1 64/out)" "merged 4"
+  same "the last answer after step 63" "$(tail -n 1 63/out)" worked || return 1
+  same "the last answer after step 64" "$(tail -n 1 64/out)" "merged 4"
 }
 
 try a_checkpoint_is_trimmed_at_each_step

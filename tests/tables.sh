@@ -2,7 +2,7 @@
 # 2, whose parent is 1 but of a whole dump and of a merged image.
 declare -A table_headers=([pre_dump]="2 1 2 2 1 2" [dump]="2 2 2 2 1 2" [whole]="2 2 2 2 0 2" [merged]="2 3 2 1 0 2")
 
-end=0x800000000  # the first page behind the last of a space
+end=0x800000000  # the first page after the last of a space
 most=0xffffffffffffffff
 
 # A store of one image with this table shows this: a number is the reason of its damage, and all else is printed by
@@ -21,7 +21,7 @@ table_shows() {  # table_shows KIND PAGES ITEMS ANSWER
 tables_show() {  # tables_show KIND FIRST-ITEMS ROWS
   local items answer
   while IFS='|' read -r items answer; do
-    table_shows "$1" 0 "$2$items" "$answer" || { echo "behind $2$items"; return 1; }
+    table_shows "$1" 0 "$2$items" "$answer" || { echo "after $2$items"; return 1; }
   done <<< "$3"
 }
 

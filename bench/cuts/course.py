@@ -14,7 +14,7 @@ class Unexpected(Exception):
 
 class Course:
     """Follows a script line by line. `acked` is the last acknowledged checkpoint, 0 for none, and `kept` the memory at
-    its freeze. While a checkpoint runs beside commands, `running` is its number, and `freezes` are the memories that
+    its freeze; `saved` has each that was acknowledged, by its number. While a checkpoint runs beside commands, `running` is its number, and `freezes` are the memories that
     its freeze may have."""
 
     def __init__(self, memory=None, last=0):
@@ -22,6 +22,7 @@ class Course:
         self.begun = last
         self.acked = last
         self.kept = memory.copy() if memory else None
+        self.saved = {}
         self.running = None
         self.freezes = []
 
@@ -61,8 +62,9 @@ class Course:
         self.note_freeze()
 
     def acknowledge(self):
-        """The memory is that of the freeze: commands behind it were refused."""
+        """The memory is that of the freeze: commands after it were refused."""
         self.acked, self.kept = self.begun, self.memory.copy()
+        self.saved[self.acked] = self.kept
         self.running, self.freezes = None, []
 
     def step(self, line, answer):

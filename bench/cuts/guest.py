@@ -9,7 +9,7 @@ import zlib
 
 # What the kernel needs for a virtio disk, and for the checksums of the file systems.
 MODULES = "virtio_pci", "virtio_blk", "crc32c_generic"
-APPLETS = "sh", "cat", "insmod", "mount", "sleep", "stty", "umount"
+APPLETS = "sh", "cat", "head", "insmod", "mount", "sleep", "stty", "umount"
 PACKERS = {b"\xfd7zXZ\0": lzma.LZMADecompressor, b"\x1f\x8b\x08": lambda: zlib.decompressobj(31)}
 READERS = {".ko": bytes, ".xz": lzma.decompress, ".gz": gzip.decompress}
 
@@ -78,7 +78,7 @@ def module_bytes(path):
 
 
 def in_order(folder, names):
-    """The modules with those that they need, each behind what it needs, as pairs of a name and bytes."""
+    """The modules with those that they need, each after what it needs, as pairs of a name and bytes."""
     paths = {plain_name(path): path for path in folder.rglob("*.ko*")}
     ordered = {}
 
@@ -125,7 +125,7 @@ def link_entry(name, target):
 
 
 def folders_above(names):
-    """The folders that names are in, each behind its own folder."""
+    """The folders that names are in, each after its own folder."""
     found = {str(parent) for name in names for parent in pathlib.PurePath(name).parents}
     return [folder_entry(name) for name in sorted(found - {"."})]
 

@@ -24,8 +24,24 @@ ckpt run --quiet /disk/store /script
 echo guest ran $?
 """
 
-LOOK = """tell() {{ name=$1; shift; echo guest begins $name; "$@"; echo guest ends $name $?; }}
-for disk in {disks}; do
+TELL = """tell() { name=$1; shift; echo guest begins $name; "$@"; echo guest ends $name $?; }
+"""
+
+# The stream of a sender in memory. Another store, in memory too, receives it first, which says of which checkpoints it is.
+# The store on the disk receives so many of its bytes, and then what it lacks.
+RECEIVE = """tell run ckpt run --quiet /sender /script
+ckpt send -q /sender > /whole
+tell sent ckpt receive -q /other < /whole
+mount -t {module} -o {options} /dev/vdb /disk && echo guest mounted
+head -c {count} /whole | ckpt receive -q /disk/store
+set -- $(ckpt receive -q --tip /disk/store)
+[ "$1" = tip ] || set --
+ckpt send -q ${{2:+--since $2}} /sender > /rest
+ckpt receive -q /disk/store < /rest
+echo guest ran $?
+"""
+
+LOOK = """for disk in {disks}; do
   echo guest disk
   tell mount mount -t {module} -o {options} /dev/$disk /disk
   tell verify ckpt verify /disk/store
@@ -42,7 +58,13 @@ def run_job(system):
     return RUN.format(module=system.module, options=system.options)
 
 
+def receive_job(system, count):
+    """Runs the script over a store in memory, mounts the disk, and receives what was saved: first so many bytes of it,
+    as of a sender that was killed."""
+    return TELL + RECEIVE.format(count=count, module=system.module, options=system.options)
+
+
 def look_job(system, count):
     """Mounts so many disks one after the other, and looks at the store of each."""
     disks = " ".join(f"vd{chr(ord('b') + number)}" for number in range(count))
-    return LOOK.format(module=system.module, options=system.options, disks=disks)
+    return TELL + LOOK.format(module=system.module, options=system.options, disks=disks)

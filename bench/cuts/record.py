@@ -34,7 +34,7 @@ class Record:
         return self.limit is not None and len(self.entries) >= self.limit
 
     def split(self, moment):
-        """The writes before a moment: those that a flush has made durable, and those behind. A flush is of the writes
+        """The writes before a moment: those that a flush has made durable, and those after it. A flush is of the writes
         that were answered before it came."""
         before = self.entries[:moment]
         flushed = max((entry.batch for entry in before if entry.content is None), default=0)
@@ -73,7 +73,7 @@ def first_ones(entries, chance, sector):
     return whole(entries[:torn]) + list(kept_in_part(entries[torn], chance, sector))
 
 
-def each_by_chance(entries, chance, sector):
+def each_at_random(entries, chance, sector):
     """Each is kept, torn or lost."""
     kept, torn = chance.choice([(0.1, 0.1), (0.5, 0.2), (0.9, 0.05)])
     left = []
@@ -86,12 +86,12 @@ def each_by_chance(entries, chance, sector):
     return left
 
 
-RULES = none_kept, all_but_one, first_ones, each_by_chance, each_by_chance
+RULES = none_kept, all_but_one, first_ones, each_at_random, each_at_random
 
 
 def left_at(record, moment, chance, reorder, sector=SECTOR):
-    """The writes that the disk has behind a power cut, in order, and whether some are lost. With `reorder` those that
-    no flush has made durable are kept, torn or lost by chance, and else all are kept."""
+    """The writes that the disk has after a power cut, in order, and whether some are lost. With `reorder` those that
+    no flush has made durable are kept, torn or lost at random, and else all are kept."""
     durable, open_ones = record.split(moment)
     if not reorder or not open_ones:
         return whole(durable + open_ones), False

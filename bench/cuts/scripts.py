@@ -1,4 +1,4 @@
-"""Scripts by chance whose answers and checkpoints the plain memory can follow."""
+"""Random scripts whose answers and checkpoints the plain memory can follow."""
 from .plain import PAGE, Memory
 
 FIRST = 0x10000
@@ -29,7 +29,7 @@ class Writer:
     def address(self):
         return FIRST + self.chance.randrange(PAGES) * PAGE
 
-    def by_chance(self):
+    def add_random(self):
         """A command on the memory."""
         space = self.chance.choice(list(self.memory.spaces))
         getattr(self, self.chance.choice(COMMANDS))(space)
@@ -63,7 +63,7 @@ class Writer:
 
     def commands(self, most):
         for _ in range(self.chance.randint(1, most)):
-            self.by_chance()
+            self.add_random()
 
     def rounds(self):
         rounds = self.chance.choice([0, 0, 1, 2, 3])
@@ -104,8 +104,8 @@ class Writer:
             self.add("trim")
 
 
-def by_chance(chance):
-    """The lines of a script with 3 to 9 checkpoints."""
+def random_script(chance):
+    """The lines of a random script with 3 to 9 checkpoints."""
     writer = Writer(chance)
     writer.command(f"mmap 1 {FIRST:#x} {PAGES * PAGE} rw")
     for _ in range(chance.randint(3, 9)):

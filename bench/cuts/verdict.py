@@ -1,4 +1,4 @@
-"""What a store showed behind a power cut, held against what its run may have left."""
+"""What a store showed after a power cut, held against what its run may have left."""
 import collections
 import re
 
@@ -27,7 +27,7 @@ def shown_memory(followed, lines, text):
     for number, memory in followed.pending(lines):
         if text == memory.restored(number):
             return "pending", number, memory
-    raise Damage(f"shows neither checkpoint {followed.acked} nor the one behind it: {text.splitlines()[:1]}")
+    raise Damage(f"shows neither checkpoint {followed.acked} nor the one after it: {text.splitlines()[:1]}")
 
 
 def nothing_shown(followed, part):
@@ -53,7 +53,7 @@ def check_verify(part, number, is_missing):
 
 
 def check_goes_on(part, lines, number, memory):
-    """The run that goes on answers as it should, and its last checkpoint is shown behind its answers."""
+    """The run that goes on answers as it should, and its last checkpoint is shown after its answers."""
     first, *told = part.text.split("\n")
     if first != (f"reopened {number}" if number else "reopened none"):
         raise Damage(f"a run that goes on: {first}")

@@ -41,7 +41,7 @@ class Answer:
             raise failure
 
     def number(self) -> Optional[int]:
-        """The number behind the first word of the line; None where that is `none`."""
+        """The number after the first word of the line; None where that is `none`."""
         self.check()
         return None if self.words[1] == "none" else int(self.words[1])
 

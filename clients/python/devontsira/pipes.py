@@ -140,7 +140,7 @@ class Pipes:
         del self.received[:taken]
 
     def raw_length(self, line: str) -> int:
-        """How many raw bytes stand behind a line."""
+        """How many raw bytes stand after a line."""
         if self.waiting and self.waiting[0].has_bytes and line.startswith("bytes "):
             return int(line[len("bytes ") :])
         return 0

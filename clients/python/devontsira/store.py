@@ -81,7 +81,7 @@ class Store(Requests):
 
     def write(self, space: int, address: int, data: Buffer) -> None:
         """Stores bytes, of any number. Where a store is refused, the exception has its address: what was before it is
-        stored, and nothing behind it."""
+        stored, and nothing after it."""
         view = memoryview(data).cast("B")
         for first in range(0, len(view), MOST_BYTES):
             part = view[first : first + MOST_BYTES]
@@ -153,7 +153,7 @@ class Store(Requests):
 
 class Batch(Requests):
     """Requests that are sent without waiting. At its end all answers are waited for, and the first failure is raised;
-    the requests behind it were carried out nevertheless."""
+    the requests after it were carried out nevertheless."""
 
     def __init__(self, pipes: Pipes) -> None:
         self._pipes = pipes

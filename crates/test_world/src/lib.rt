@@ -8,6 +8,8 @@ mod lines;
 #[cfg(test)]
 mod opening;
 #[cfg(test)]
+mod outcomes;
+#[cfg(test)]
 mod reopening;
 #[cfg(test)]
 mod runs;

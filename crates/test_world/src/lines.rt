@@ -57,6 +57,7 @@ const WORDS: &[(&str, Word)] = &[
     ("work-merger", Word::Work(Worker::Merger)),
     ("work-opener", Word::Work(Worker::Opener)),
     ("perform-dumper", Word::Perform(Worker::Dumper)),
+    ("perform-merger", Word::Perform(Worker::Merger)),
     ("perform-opener", Word::Perform(Worker::Opener)),
     ("finish-dumper", Word::Finish(Worker::Dumper)),
     ("finish-opener", Word::Finish(Worker::Opener)),

@@ -231,6 +231,22 @@ cancel = cancelled 6
 save = acked 7
 cancel = refused 14 idle";
 
+/// A call of the merger is out while one of the dumper fails, which takes the store down: what it brings comes late.
+const LATE: &str = "\
+open = reopened none
+map = done
+save = acked 1
+merge = worked
+work-merger = worked
+begin 0 = begun 2
+finish-dumper = refused 22 device
+steps 1 = refused 13 store-down
+work-merger = refused 11 busy
+perform-merger = worked
+work-merger = refused 13 store-down
+work-merger = refused 14 idle
+open = reopened 1";
+
 /// A run of one world over a store of two slots.
 const ONE: Run = Run {
     store: TWO,
@@ -286,6 +302,12 @@ const RUNS: &[Run] = &[
     Run {
         store: FOUR,
         first: &[REFUSED],
+        ..ONE
+    },
+    // The opening of the world makes twelve calls and the opener eight, and a checkpoint of a page of zeros eight.
+    Run {
+        store: Store { calls: 29, ..FOUR },
+        first: &[LATE],
         ..ONE
     },
     Run {

@@ -96,7 +96,7 @@ plain() {  # plain CALL SPACE WORD..
 
 # The next random call, in words of the plain maps: on pages near a border of tables, also on a space that isn't
 # alive, and of a range without pages or past the last. It is no fork with 3 spaces alive.
-call_by_chance() {
+random_call() {
   local space first count prot
   seed=$((seed * 6364136223846793005 + 1442695040888963407))
   space=$(((seed >> 58 & 63) % 3 + 1))
@@ -168,7 +168,7 @@ plain_run() {  # plain_run SCRIPT ANSWERS
   alive=([1]=yes)
   echo "reopened none" > "$2"
   for number in {1..60}; do
-    call_by_chance
+    random_call
     plain $call
     line_of $call >> "$1"
     echo "$answer" >> "$2"
@@ -177,7 +177,7 @@ plain_run() {  # plain_run SCRIPT ANSWERS
   echo "acked 1" >> "$2"
 }
 
-calls_by_chance() {
+random_calls() {
   local number seed=1
   for number in {1..12}; do
     plain_run script-$number answers-$number
@@ -200,7 +200,7 @@ random_checkpoints() { checkpoints_from 1; }
 more_random_checkpoints() { checkpoints_from 1001; }
 yet_more_random_checkpoints() { checkpoints_from 2001; }
 
-try calls_by_chance
+try random_calls
 try random_checkpoints
 try more_random_checkpoints
 try yet_more_random_checkpoints
