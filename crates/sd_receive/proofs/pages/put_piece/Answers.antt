@@ -1,4 +1,4 @@
-use Rattle.std.proofs.Common.{◌≡◌, ◌+◌, ℕ, refl, sym, ◌∙◌, subst, arith}
+use Rattle.std.proofs.Common.{◌≡◌, ◌+◌, ℕ, refl, ◌∙◌, subst, arith}
 use Rattle.sd_receive.specs.Arrived.{HasPages}
 use Rattle.sd_receive.specs.Arriving.{KeepsImages}
 use Rattle.sd_receive.proofs.ArriveLemmas.{at_end, keeps_join, keeps_still}
