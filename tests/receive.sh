@@ -112,6 +112,44 @@ a_stream_that_is_cut_keeps_what_arrived() {
   done
 }
 
+# A store with an image of so many data pages.
+make_pages() {  # make_pages DIR COUNT
+  {
+    echo "mmap 1 0x10000 $((4096 * $2)) rw"
+    for ((page = 0; page < $2; page++)); do
+      printf 'store 1 0x%x %02x\n' $((0x10000 + 4096 * page)) "$page"
+    done
+    echo 'checkpoint 0'
+  } > script
+  "$ckpt" run "$1" script > made || { cat made; return 1; }
+}
+
+# An image of more data pages than a receiver reads at once, received whole, and cut within them.
+many_pages_are_received() {
+  make_pages store 40 || return 1
+  "$ckpt" send -q store > stream || return 1
+  ends_with 0 "received 1" "received 1 images" "$ckpt" receive other < stream || return 1
+  same "the memory" "$(shown other)" "$(shown store)" || return 1
+  local at
+  for at in 200 65000 65672 131208 163000 163980; do
+    head -c "$at" stream > part
+    ends_with 1 "stream ends early" "" "$ckpt" receive -q "cut$at" < part || return 1
+    same "what is shown of $at bytes" "$("$ckpt" restore -q "cut$at"; echo $?)" "empty chain
+3" || return 1
+  done
+}
+
+# Where no thread can be made, one reads and writes in turn.
+many_pages_are_received_without_threads() {
+  command -v cc > /dev/null || { echo "no C compiler"; return 77; }
+  cc -O2 -shared -fPIC -o refuse_thread.so "$here/refuse_thread.c" || return
+  make_pages store 40 || return 1
+  "$ckpt" send -q store > stream || return 1
+  REFUSED=1 REFUSED_COUNT=1000 LD_PRELOAD=./refuse_thread.so "$ckpt" receive -q other < stream > out 2> err || return 1
+  has "the standard error" "$(cat err)" "thread refused" || return 1
+  same "the memory" "$(shown other)" "$(shown store)"
+}
+
 a_changed_byte_is_refused() {
   needs_python || return
   make_sender store || return 1
@@ -314,6 +352,8 @@ try what_came_since_is_received
 try a_merged_store_is_received
 try other_bases_are_refused
 try a_stream_that_is_cut_keeps_what_arrived
+try many_pages_are_received
+try many_pages_are_received_without_threads
 try a_changed_byte_is_refused
 try a_killed_receiver_keeps_what_it_printed
 try a_killed_sender_leaves_what_arrived

@@ -38,9 +38,9 @@ mod mutating;
 const FAILED: u8 = 1;
 
 /// `ckpt receive`, also with `--tip`.
-fn receive_or_tip<R: Clock + Wait, W: Write>(
+fn receive_or_tip<R: Clock + Threads + Wait, W: Write>(
     called: Called<'_>,
-    clock: &R,
+    threads: &R,
     words: &ArgMatches<'_>,
     out: &mut Output<W>,
 ) -> Result<u8, Stop> {
@@ -48,7 +48,7 @@ fn receive_or_tip<R: Clock + Wait, W: Write>(
     if words.get_flag("tip") {
         return tip_program(called, as_json, out);
     }
-    receive_program(called, clock, as_json, out)
+    receive_program(called, threads, as_json, out)
 }
 
 /// Runs a program that only reads, or that changes no more than one image.

@@ -17,6 +17,7 @@ use sd_stream::{Base, StreamError};
 use std::alloc::{AllocError, Global};
 use std::io::{IsTerminal, Write};
 use std::sync::Wait;
+use std::thread::Threads;
 use std::time::Clock;
 use std::{fmt, io};
 
@@ -173,9 +174,9 @@ fn end<W: Write>(
 /// # Errors
 ///
 /// Those of a folder that isn't opened.
-pub fn receive_program<R: Clock + Wait, W: Write>(
+pub fn receive_program<R: Clock + Threads + Wait, W: Write>(
     called: Called<'_>,
-    clock: &R,
+    threads: &R,
     as_json: bool,
     out: &mut Output<W>,
 ) -> Result<u8, Stop>
@@ -191,8 +192,14 @@ pub fn receive_program<R: Clock + Wait, W: Write>(
     }
     let log = called.logger();
     let seen = called.seen(&log, false);
-    let mut disk = seen.disk("receive", called.make_store(clock)?);
-    let ended = receive(called.rt.alloc(), &mut disk, called.rt.stdin(), out);
+    let mut disk = seen.disk("receive", called.make_store(threads)?);
+    let ended = receive(
+        threads,
+        called.rt.alloc(),
+        &mut disk,
+        called.rt.stdin(),
+        out,
+    );
     called.report_device(&unseen(disk));
     Ok(end(called, as_json, ended, out))
 }

@@ -18,6 +18,7 @@ use sd_stream::StreamError;
 use std::alloc::Global;
 use std::io;
 use std::io::{Read, Write};
+use std::thread::Threads;
 
 /// Prints that a checkpoint was received, and flushes it.
 fn report<W: Write>(out: &mut Output<W>, number: u64) -> io::Result<()>
@@ -29,7 +30,8 @@ fn report<W: Write>(out: &mut Output<W>, number: u64) -> io::Result<()>
 }
 
 /// Receives the next image, and reports its checkpoint once that is durable.
-fn receive_next<D: Disk, R: Read, W: Write>(
+fn receive_next<D: Disk, R: Read + Send, W: Write, T: Threads>(
+    threads: &T,
     alloc: Global,
     disk: &mut D,
     receiver: &mut Receiver<R>,
@@ -49,7 +51,7 @@ fn receive_next<D: Disk, R: Read, W: Write>(
     ensures images { OnOk result (AreImages receiver.new.catalog) }
     ensures honest { D.is_honest disk.new → D.is_honest disk.old }
 {
-    let received = receiver.next(alloc, disk)?;
+    let received = receiver.next(threads, alloc, disk)?;
     if let Received::Checkpoint(number) = received {
         report(out, number)?;
     }
@@ -65,7 +67,8 @@ fn is_end(found: Received) -> bool
 }
 
 /// Receives what a stream still has, and returns how many images that is.
-fn receive_all<D: Disk, R: Read, W: Write>(
+fn receive_all<D: Disk, R: Read + Send, W: Write, T: Threads>(
+    threads: &T,
     alloc: Global,
     disk: &mut D,
     receiver: &mut Receiver<R>,
@@ -81,7 +84,7 @@ fn receive_all<D: Disk, R: Read, W: Write>(
     ensures honest { D.is_honest disk.new → D.is_honest disk.old }
 {
     for count in 0..u64::MAX {
-        let received = receive_next(alloc, disk, receiver, out)?;
+        let received = receive_next(threads, alloc, disk, receiver, out)?;
         if is_end(received) {
             return Ok(count);
         }
@@ -95,7 +98,8 @@ fn receive_all<D: Disk, R: Read, W: Write>(
 /// # Errors
 ///
 /// Those of [`begin`] and of [`Receiver::next`]; `Output` where the printing failed. What was received stays.
-pub fn receive<D: Disk, R: Read + Drop, W: Write>(
+pub fn receive<D: Disk, R: Read + Drop + Send, W: Write, T: Threads>(
+    threads: &T,
     alloc: Global,
     disk: &mut D,
     input: R,
@@ -112,5 +116,5 @@ pub fn receive<D: Disk, R: Read + Drop, W: Write>(
     ensures honest { D.is_honest disk.new → D.is_honest disk.old }
 {
     let mut receiver = begin(alloc, disk, input)?;
-    receive_all(alloc, disk, &mut receiver, out)
+    receive_all(threads, alloc, disk, &mut receiver, out)
 }

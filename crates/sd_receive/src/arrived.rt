@@ -13,16 +13,17 @@ ghost use Rattle.sd_gate.specs.Sequences.{IsBody};
 ghost use Rattle.sd_receive.specs.Arrived.{GoesOn, GoesWith, HasArrived, HasPages};
 ghost use Rattle.sd_receive.specs.Arriving.{IsFilled, IsSettled, KeepsImages};
 
-use crate::arriving::{format, put_page};
+use crate::arriving::format;
+use crate::pages::take_pages;
 use crate::receive_error::ReceiveError;
-use crate::taking::{take_bytes, take_table};
-use sd_areas::PAGE_SIZE;
+use crate::taking::take_table;
 use sd_disk::Disk;
 use sd_image::{Digester, Header, Reason, Table, TableError, Version, decode_table};
 use sd_restore::Fault;
 use sd_stream::StreamReader;
 use std::alloc::Global;
 use std::io::Read;
+use std::thread::Threads;
 
 /// What of an image isn't in its slot yet: its table, and the bytes of that.
 #[derive(Drop)]
@@ -31,74 +32,9 @@ pub(crate) struct Arrived {
     pub(crate) table: Table,
 }
 
-/// Gives a page to a digester.
-fn digest_page(digester: &mut Digester, page: &[u8])
-    requires { length page.now ≡ 4096 }
-    ensures { (fed : List ℕ) → HasFed digester.old fed → HasFed digester.new (fed ++ page.now) }
-{
-    match page.try_into() {
-        Ok(page) => digester.page(page),
-        Err(_) => unreachable!(),
-    }
-}
-
-/// Takes the next data page of an image into a slot.
-fn take_page<D: Disk, R: Read>(
-    alloc: Global,
-    disk: &mut D,
-    slot: usize,
-    place: usize,
-    reader: &mut StreamReader<R>,
-    digester: &mut Digester,
-) -> Result<(), ReceiveError>
-    requires slot { slot < length (D.contents disk.old) }
-    requires place { place < 2 ^ 39 }
-    ensures keeps { HasPages (D.contents disk.old) (D.may_leave disk.old) slot place digester.old
-        → LeavesOnly D.Disk disk.old disk.new (KeepsImages (D.contents disk.old)) }
-    ensures taken { HasPages (D.contents disk.old) (D.may_leave disk.old) slot place digester.old
-        → OnOk result (HasPages (D.contents disk.new) (D.may_leave disk.new) slot (place + 1) digester.new) }
-    ensures others { (other : ℕ) → other ≢ slot
-        → file_at (D.contents disk.new) other ≡ file_at (D.contents disk.old) other }
-    ensures count { length (D.contents disk.new) ≡ length (D.contents disk.old) }
-    ensures reads { OnOk result (GoesOn R.remaining reader.old [] reader.new) }
-    ensures honest { D.is_honest disk.new → D.is_honest disk.old }
-{
-    let mut buffer = vec![in alloc; 0u8; PAGE_SIZE]?;
-    take_bytes(reader, &mut buffer)?;
-    digest_page(digester, &buffer);
-    put_page(disk, slot, place, buffer)?;
-    Ok(())
-}
-
-/// Takes the data pages of an image into a slot.
-fn take_pages<D: Disk, R: Read>(
-    alloc: Global,
-    disk: &mut D,
-    slot: usize,
-    pages: usize,
-    reader: &mut StreamReader<R>,
-    digester: &mut Digester,
-) -> Result<(), ReceiveError>
-    requires slot { slot < length (D.contents disk.old) }
-    requires few { pages ≤ 2 ^ 39 }
-    ensures keeps { HasPages (D.contents disk.old) (D.may_leave disk.old) slot 0 digester.old
-        → LeavesOnly D.Disk disk.old disk.new (KeepsImages (D.contents disk.old)) }
-    ensures taken { HasPages (D.contents disk.old) (D.may_leave disk.old) slot 0 digester.old
-        → OnOk result (HasPages (D.contents disk.new) (D.may_leave disk.new) slot pages digester.new) }
-    ensures others { (other : ℕ) → other ≢ slot
-        → file_at (D.contents disk.new) other ≡ file_at (D.contents disk.old) other }
-    ensures count { length (D.contents disk.new) ≡ length (D.contents disk.old) }
-    ensures reads { OnOk result (GoesOn R.remaining reader.old [] reader.new) }
-    ensures honest { D.is_honest disk.new → D.is_honest disk.old }
-{
-    for place in 0..pages {
-        take_page(alloc, disk, slot, place, reader, digester)?;
-    }
-    Ok(())
-}
-
 /// Makes a closed slot ready, and takes the data pages of an image into it.
-fn fill<D: Disk, R: Read>(
+fn fill<D: Disk, R: Read + Send, T: Threads>(
+    threads: &T,
     alloc: Global,
     disk: &mut D,
     slot: usize,
@@ -121,7 +57,7 @@ fn fill<D: Disk, R: Read>(
 {
     format(disk, slot)?;
     let mut digester = Digester::new();
-    take_pages(alloc, disk, slot, pages, reader, &mut digester)?;
+    take_pages(threads, alloc, disk, slot, pages, reader, &mut digester)?;
     Ok(digester)
 }
 
@@ -174,7 +110,8 @@ fn take_rest<R: Read>(
 
 /// Takes an image with this header into a closed slot, but for its table, its header and its gate, and checks its
 /// table and its digest.
-pub(crate) fn arrive<D: Disk, R: Read>(
+pub(crate) fn arrive<D: Disk, R: Read + Send, T: Threads>(
+    threads: &T,
     alloc: Global,
     disk: &mut D,
     slot: usize,
@@ -198,6 +135,6 @@ pub(crate) fn arrive<D: Disk, R: Read>(
     ensures reads { OnOk result (GoesOn R.remaining reader.old [] reader.new) }
     ensures honest { D.is_honest disk.new → D.is_honest disk.old }
 {
-    let digester = fill(alloc, disk, slot, header.pages as usize, reader)?;
+    let digester = fill(threads, alloc, disk, slot, header.pages as usize, reader)?;
     take_rest(alloc, header, digester, reader)
 }

@@ -3,6 +3,7 @@
 
 mod arrived;
 mod arriving;
+mod pages;
 mod plans;
 mod receive_error;
 mod receiver;

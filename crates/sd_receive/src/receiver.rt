@@ -28,6 +28,7 @@ use sd_restore::{Fault, place_newest, scan};
 use sd_stream::{Item, StreamReader};
 use std::alloc::{AllocError, Global};
 use std::io::Read;
+use std::thread::Threads;
 
 /// What was received.
 #[derive(Clone, Copy, PartialEq, Eq)]
@@ -231,12 +232,15 @@ impl<R: Read> Receiver<R> {
     }
 
     /// Takes an image of so many bytes into a free slot.
-    fn take_image<D: Disk>(
+    fn take_image<D: Disk, T: Threads>(
         &mut self,
+        threads: &T,
         alloc: Global,
         disk: &mut D,
         len: u64,
     ) -> Result<Received, ReceiveError>
+    where
+        R: Send,
         requires { AreImages self.old.catalog }
         ensures keeps { D.is_honest disk.new
             → IsReady (D.contents disk.old) (D.may_leave disk.old) self.old.catalog
@@ -253,13 +257,14 @@ impl<R: Read> Receiver<R> {
         self.catalog.sound();
         self.catalog.has_the_images();
         let (slot, header) = self.choose(disk.slots(), len)?;
-        let arrived = arrive(alloc, disk, slot, &header, &mut self.reader)?;
+        let arrived = arrive(threads, alloc, disk, slot, &header, &mut self.reader)?;
         let bytes = self.prepare(alloc, slot, header, arrived)?;
         open_gate(disk, slot, header, bytes)?;
         Ok(received_with(&header))
     }
 
-    /// Receives the next image into a slot that has none. A pre-dump is there once this is done. A dump or a merged
+    /// Receives the next image into a slot that has none, of which one thread reads data pages and another writes those
+    /// before. A pre-dump is there once this is done. A dump or a merged
     /// image is received where the stream acknowledges its checkpoint and all its pages are there. No gate is opened
     /// before the header, the table and the digest of the image were checked.
     ///
@@ -267,7 +272,14 @@ impl<R: Read> Receiver<R> {
     ///
     /// `Stream`; `Image`, `Closed`, `Serial`, `Unacknowledged`, `WithoutDump` and `LacksPages` where an image is
     /// refused; `NoSlot`; `Fault`. After an error nothing more is received.
-    pub fn next<D: Disk>(&mut self, alloc: Global, disk: &mut D) -> Result<Received, ReceiveError>
+    pub fn next<D: Disk, T: Threads>(
+        &mut self,
+        threads: &T,
+        alloc: Global,
+        disk: &mut D,
+    ) -> Result<Received, ReceiveError>
+    where
+        R: Send,
         requires { AreImages self.old.catalog }
         // At each moment a crash leaves what was shown, or the checkpoint that was acknowledged last; once it is
         // received, that.
@@ -284,7 +296,7 @@ impl<R: Read> Receiver<R> {
         ensures honest { D.is_honest disk.new → D.is_honest disk.old }
     {
         match self.reader.next()? {
-            Item::Image(len) => self.take_image(alloc, disk, len),
+            Item::Image(len) => self.take_image(threads, alloc, disk, len),
             Item::Acknowledged(number) => Err(ReceiveError::WithoutDump(number)),
             Item::End => Ok(Received::End),
         }

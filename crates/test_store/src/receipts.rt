@@ -6,6 +6,7 @@ use sd_receive::{Received, Receiver, settle};
 use sd_stream::{StreamReader, StreamWriter, WriteError};
 use std::alloc::{AllocError, Global};
 use std::mem::forget;
+use std::thread::Threads;
 
 /// How many calls it takes: to sync and look at four empty slots, and to take in two images.
 const CALLS: u64 = 29;
@@ -43,7 +44,12 @@ fn two_checkpoints(alloc: Global) -> Result<Vec<u8>, WriteError> {
 }
 
 /// Receives two checkpoints, as far as it comes. Returns the last that was received, or 0.
-fn receive(alloc: Global, disk: &mut Fused<MemDisk>, stream: &[u8]) -> u64 {
+fn receive<T: Threads>(
+    threads: &T,
+    alloc: Global,
+    disk: &mut Fused<MemDisk>,
+    stream: &[u8],
+) -> u64 {
     let Ok(reader) = StreamReader::begin(stream) else {
         return 0;
     };
@@ -51,9 +57,9 @@ fn receive(alloc: Global, disk: &mut Fused<MemDisk>, stream: &[u8]) -> u64 {
         return 0;
     };
     let mut last = 0;
-    if let Ok(Received::Checkpoint(number)) = receiver.next(alloc, disk) {
+    if let Ok(Received::Checkpoint(number)) = receiver.next(threads, alloc, disk) {
         last = number;
-        if let Ok(Received::Checkpoint(number)) = receiver.next(alloc, disk) {
+        if let Ok(Received::Checkpoint(number)) = receiver.next(threads, alloc, disk) {
             last = number;
         }
     }
@@ -62,9 +68,14 @@ fn receive(alloc: Global, disk: &mut Fused<MemDisk>, stream: &[u8]) -> u64 {
 }
 
 /// Whether after so many calls a crash leaves the last checkpoint that was received, or the next.
-fn is_cut_off_so(alloc: Global, calls: u64, stream: &[u8]) -> Result<bool, AllocError> {
+fn is_cut_off_so<T: Threads>(
+    threads: &T,
+    alloc: Global,
+    calls: u64,
+    stream: &[u8],
+) -> Result<bool, AllocError> {
     let mut fused = Fused::new(store(alloc, &[])?, calls);
-    let last = receive(alloc, &mut fused, stream);
+    let last = receive(threads, alloc, &mut fused, stream);
     let disk = fused.into_inner();
     let leaves = leaves(alloc, &disk, last, last.saturating_add(1).min(2));
     forget(disk);
@@ -72,9 +83,13 @@ fn is_cut_off_so(alloc: Global, calls: u64, stream: &[u8]) -> Result<bool, Alloc
 }
 
 /// Whether it is so after any number of calls.
-fn are_cut_off_so(alloc: Global, stream: &[u8]) -> Result<bool, AllocError> {
+fn are_cut_off_so<T: Threads>(
+    threads: &T,
+    alloc: Global,
+    stream: &[u8],
+) -> Result<bool, AllocError> {
     for calls in 0..CALLS + 2 {
-        if !is_cut_off_so(alloc, calls, stream)? {
+        if !is_cut_off_so(threads, alloc, calls, stream)? {
             return Ok(false);
         }
     }
@@ -82,9 +97,9 @@ fn are_cut_off_so(alloc: Global, stream: &[u8]) -> Result<bool, AllocError> {
 }
 
 /// Whether a stream of two checkpoints stands crashes.
-fn stands(alloc: Global) -> Result<bool, AllocError> {
+fn stands<T: Threads>(threads: &T, alloc: Global) -> Result<bool, AllocError> {
     match two_checkpoints(alloc) {
-        Ok(stream) => are_cut_off_so(alloc, &stream),
+        Ok(stream) => are_cut_off_so(threads, alloc, &stream),
         Err(_) => Ok(false),
     }
 }
@@ -99,7 +114,7 @@ fn is_settled(alloc: Global) -> Result<bool, AllocError> {
 
 #[test]
 fn what_was_received_stands_crashes(rt: HostRuntime) -> Result<(), AllocError> {
-    assert!(rt; stands(rt.alloc())?);
+    assert!(rt; stands(&rt, rt.alloc())?);
     assert!(rt; is_settled(rt.alloc())?);
     Ok(())
 }

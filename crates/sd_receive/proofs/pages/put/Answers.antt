@@ -3,15 +3,10 @@ use Rattle.std.specs.List.{concat}
 use Rattle.sd_image.specs.Digests.{HasFed}
 use Rattle.sd_receive.specs.Arriving.{IsFilled}
 use Rattle.sd_receive.proofs.ArriveLemmas.{keeps_still, one_longer, pages_more}
-use Rattle.sd_receive.proofs.arrived.take_page.Goals as goal
+use Rattle.sd_receive.proofs.pages.put.Goals as goal
 
 pub returns-in_err-buffer-clause-keeps : goal.returns-in_err-buffer-clause-keeps
 returns-in_err-buffer-clause-keeps g c = λ has.
-    let disk = c.args.disk.now in
-    keeps_still g.D.Disk disk (λ files left. g.met.D.Disk.only_now disk files left) (λ files may. g.met.D.Disk.same_slots disk files may) has.fills.rests
-
-pub returns-in_err-take_bytes-clause-keeps : goal.returns-in_err-take_bytes-clause-keeps
-returns-in_err-take_bytes-clause-keeps g c = λ has.
     let disk = c.args.disk.now in
     keeps_still g.D.Disk disk (λ files left. g.met.D.Disk.only_now disk files left) (λ files may. g.met.D.Disk.same_slots disk files may) has.fills.rests
 
