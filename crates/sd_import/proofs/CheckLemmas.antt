@@ -1,5 +1,5 @@
 -- Pages that are compared sector by sector, and the pages of a space.
-use Rattle.std.proofs.Common.{◌≡◌, ◌⊎◌, inl, inr, ℕ, ◌+◌, ◌-◌, ◌*◌, ◌<◌, ◌≤◌, zero, suc, List, [], ◌∷◌, ◌/◌, ◌^◌, Bool, Option, Some, None, Result, Ok, IfSome, is_some, true, false, All, length, slice_index_or, sum_by, slice_range, slice_index, unwrap_or, take, drop, get_or, refl, sym, ◌∙◌, ap, subst, arith, get_or-take, get_or-drop}
+use Rattle.std.proofs.Common.{◌≡◌, inl, inr, ℕ, ◌+◌, ◌-◌, ◌*◌, ◌<◌, ◌≤◌, List, ◌/◌, ◌^◌, Bool, Option, Some, None, Result, Ok, IfSome, is_some, true, false, length, slice_index_or, sum_by, slice_range, slice_index, unwrap_or, refl, sym, ◌∙◌, ap, subst, arith, get_or-take, get_or-drop}
 use Rattle.std.proofs.lemmas.Bool.{cases_lt, eqb-true}
 use Rattle.std.proofs.Math.Dec.{eqb}
 use borrow.Author.Count.{below_more}
@@ -8,15 +8,14 @@ use Rattle.std.specs.Option.{option_map}
 use Rattle.std.specs.Ordering.{nat_cmp}
 use Rattle.sd_areas.specs.Areas.{PageMap}
 use Rattle.sd_areas.specs.declared.prot.Prot.{Prot}
-use Rattle.sd_elf.specs.Cores.{IsCoreFile, segment_byte}
-use Rattle.sd_elf.specs.Segments.{AreSegments, extent_after, no_extent, prot_of_flags}
-use Rattle.sd_elf.specs.declared.segments.Extent.{Extent}
+use Rattle.sd_elf.specs.Cores.{segment_byte}
+use Rattle.sd_elf.specs.Segments.{prot_of_flags}
 use Rattle.sd_elf.specs.declared.program_header.ProgramHeader.{ProgramHeader}
 use Rattle.sd_areas.specs.PlainMemory.{Space}
-use Rattle.sd_import.specs.Imported.{HasCore, HasPageOfSegment, HasSegment, segment_page_count}
+use Rattle.sd_import.specs.Imported.{AreBytesOfSegment, HasCore, HasPageOfSegment, HasSegment, segment_page_count}
 use Rattle.sd_pagetable.specs.Contents.{Contents, page_at, plain_of, AreWhole}
 use Rattle.sd_pagetable.specs.Kept.{prots_of}
-use Rattle.sd_pagetable.specs.Nested.{Table, inside, map_values}
+use Rattle.sd_pagetable.specs.Nested.{Table, inside}
 use Rattle.sd_pagetable.specs.Page.{PageState, plain_page}
 use Rattle.sd_pagetable.proofs.MemoryLemmas.{plain_at}
 use Rattle.sd_pagetable.proofs.PlainRanges.{plain_inside}
@@ -97,15 +96,23 @@ found_prots m space page prots (Some prot) areas permitted = λ found there. fou
 
 -- ---- a page of a segment
 
+-- the bytes that were read of the file are the page's
+read_bytes : (o : Option (List ℕ)) (s : ProgramHeader) (number behind : ℕ) (bytes paged : List ℕ) → behind ≡ 4096 * number → length bytes ≡ 4096
+    → ((k : ℕ) → k < 4096 → slice_index paged k ≡ slice_index bytes k)
+    → IfSome o (λ held. s.p_offset + s.p_filesz < 2 ^ 64 → (k : ℕ) → k < length bytes → slice_index bytes k ≡ segment_byte held s (behind + k))
+    → IfSome o (λ held. AreBytesOfSegment held s number paged)
+read_bytes None s number behind bytes paged behind_is long same read = tt
+read_bytes (Some held) s number behind bytes paged behind_is long same read =
+    λ small k below. same k below ∙ read small k (rw long below) ∙ ap (λ at. segment_byte held s (at + k)) behind_is
+
 -- a page that is mapped with the segment's permissions, and has the bytes that were read of the file
 pub page_compared : (E : Type 0) (o : Option (List ℕ)) (m : Contents) (s : ProgramHeader) (space number behind page : ℕ) (bytes : List ℕ) (b : Bool)
     → behind ≡ 4096 * number → page ≡ s.p_vaddr / 4096 + number → AreWhole m → length bytes ≡ 4096
     → ((found : PageState) → page_at m space page ≡ Some found → found.prot ≡ prot_of_flags s.p_flags)
     → (b ≡ true → (found : PageState) × (page_at m space page ≡ Some found) × ((k : ℕ) → k < 4096 → slice_index found.bytes k ≡ slice_index bytes k))
     → IfSome o (λ held. s.p_offset + s.p_filesz < 2 ^ 64 → (k : ℕ) → k < length bytes → slice_index bytes k ≡ segment_byte held s (behind + k))
-    → IfSome o (λ held. s.p_offset + s.p_filesz < 2 ^ 64 → ◌≡◌ {A = Result Bool E} (Ok b) (Ok true) → HasPageOfSegment held (inside (plain_of m) space) s number)
-page_compared E None m s space number behind page bytes b behind_is page_is whole long permitted compared read = tt
-page_compared E (Some held) m s space number behind page bytes b behind_is page_is whole long permitted compared read = λ small is.
+    → ◌≡◌ {A = Result Bool E} (Ok b) (Ok true) → HasPageOfSegment o (inside (plain_of m) space) s number
+page_compared E o m s space number behind page bytes b behind_is page_is whole long permitted compared read is =
     let passes : b ≡ true = cc in
     let told = compared passes in
     record {
@@ -114,56 +121,32 @@ page_compared E (Some held) m s space number behind page bytes b behind_is page_
       is = record {
         prot = permitted told.0 told.1;
         whole = whole space page told.0 told.1;
-        bytes = λ k below. told.2 k below ∙ read small k (rw long below) ∙ ap (λ at. segment_byte held s (at + k)) behind_is;
+        bytes = read_bytes o s number behind bytes told.0.bytes behind_is long told.2 read;
       };
     }
 
 -- a page more of a segment
-pub pages_more : (E : Type 0) (o : Option (List ℕ)) (small : Type 0) (P : List ℕ → ℕ → Type 0) (n : ℕ) (b : Bool) → b ≡ true
-    → IfSome o (λ held. small → (k : ℕ) → k < n → P held k) → IfSome o (λ held. small → ◌≡◌ {A = Result Bool E} (Ok b) (Ok true) → P held n)
-    → IfSome o (λ held. small → (k : ℕ) → k < n + 1 → P held k)
-pages_more E None small P n b passes before this = tt
-pages_more E (Some held) small P n b passes before this = λ is. below_more (P held) n (before is) (this is (ap (λ v. let r : Result Bool E = Ok v in r) passes))
+pub pages_more : (E : Type 0) (P : ℕ → Type 0) (n : ℕ) (b : Bool) → b ≡ true → ((k : ℕ) → k < n → P k) → (◌≡◌ {A = Result Bool E} (Ok b) (Ok true) → P n)
+    → (k : ℕ) → k < n + 1 → P k
+pages_more E P n b passes before this = below_more P n before (this (ap (λ v. let r : Result Bool E = Ok v in r) passes))
 
 -- a segment more of a core
-pub segments_more : (E : Type 0) (o : Option (List ℕ)) (segments : List ProgramHeader) (small : ProgramHeader → Type 0) (P : List ℕ → ProgramHeader → Type 0)
-    (n : ℕ) (s : ProgramHeader) (b : Bool) → b ≡ true → n < length segments → ((d : ProgramHeader) → s ≡ slice_index_or segments n d)
-    → IfSome o (λ held. All small segments → (k : ℕ) (d : ProgramHeader) → k < n → P held (slice_index_or segments k d))
-    → IfSome o (λ held. small s → ◌≡◌ {A = Result Bool E} (Ok b) (Ok true) → P held s)
-    → IfSome o (λ held. All small segments → (k : ℕ) (d : ProgramHeader) → k < n + 1 → P held (slice_index_or segments k d))
-segments_more E None segments small P n s b passes inside_it there before this = tt
-segments_more E (Some held) segments small P n s b passes inside_it there before this = λ are k d below.
-    let here : (e : ProgramHeader) → P held (slice_index_or segments n e) =
-    λ e. subst (P held) (there e) (this (subst small (sym (there e)) (are n e inside_it)) (ap (λ v. let r : Result Bool E = Ok v in r) passes)) in
-    below_more (λ j. P held (slice_index_or segments j d)) n (λ j under. before are j d under) (here d) k below
+pub segments_more : (E : Type 0) (segments : List ProgramHeader) (P : ProgramHeader → Type 0) (n : ℕ) (s : ProgramHeader) (b : Bool) → b ≡ true
+    → ((d : ProgramHeader) → s ≡ slice_index_or segments n d) → ((k : ℕ) (d : ProgramHeader) → k < n → P (slice_index_or segments k d))
+    → (◌≡◌ {A = Result Bool E} (Ok b) (Ok true) → P s)
+    → (k : ℕ) (d : ProgramHeader) → k < n + 1 → P (slice_index_or segments k d)
+segments_more E segments P n s b passes there before this = λ k d below.
+    let here : P (slice_index_or segments n d) = subst P (there d) (this (ap (λ v. let r : Result Bool E = Ok v in r) passes)) in
+    below_more (λ j. P (slice_index_or segments j d)) n (λ j under. before j d under) here k below
 
 -- all segments are there, and no other page
-pub core_there : (E : Type 0) (o : Option (List ℕ)) (segments : List ProgramHeader) (small : ProgramHeader → Type 0) (space : Space) (n mapped counted : ℕ)
+pub core_there : (E : Type 0) (o : Option (List ℕ)) (segments : List ProgramHeader) (space : Space) (n mapped counted : ℕ)
     → length segments ≤ n → mapped ≡ finmap.len space → counted ≡ sum_by segment_page_count segments
-    → IfSome o (λ held. All small segments → (k : ℕ) (d : ProgramHeader) → k < n → HasSegment held space (slice_index_or segments k d))
-    → IfSome o (λ held. All small segments → ◌≡◌ {A = Result Bool E} (Ok (eqb mapped counted)) (Ok true) → HasCore held segments space)
-core_there E None segments small space n mapped counted all mapped_is counted_is there = tt
-core_there E (Some held) segments small space n mapped counted all mapped_is counted_is there = λ are is.
+    → ((k : ℕ) (d : ProgramHeader) → k < n → HasSegment o space (slice_index_or segments k d))
+    → ◌≡◌ {A = Result Bool E} (Ok (eqb mapped counted)) (Ok true) → HasCore o segments space
+core_there E o segments space n mapped counted all mapped_is counted_is there is =
     let same : eqb mapped counted ≡ true = cc in
     record {
-      pages = λ k d below. there are k d (omega (arith, below, all));
+      pages = λ k d below. there k d (omega (arith, below, all));
       only = sym mapped_is ∙ eqb-true mapped counted same ∙ counted_is;
     }
-
--- ---- a whole core
-
--- the bytes of each segment are within the file
-small_at : (size : ℕ) (e : Extent) (segments : List ProgramHeader) (k : ℕ) (d : ProgramHeader) → AreSegments size e segments → k < length segments
-    → (slice_index_or segments k d).p_offset + (slice_index_or segments k d).p_filesz ≤ size
-small_at size e [] k d are below = let no : ⊥ = omega (arith, below) in absurd no
-small_at size e (s ∷ ss) zero d are below = are.0.bytes.inside
-small_at size e (s ∷ ss) (suc k) d are below = small_at size (extent_after e s) ss k d are.1 (omega (arith, below))
-
--- what the comparison found of a core that fits
-pub core_imported : (E : Type 0) (o : Option (List ℕ)) (segments : List ProgramHeader) (space : Space) (b : Bool) → b ≡ true
-    → IfSome o (λ held. All (λ (s : ProgramHeader). s.p_offset + s.p_filesz < 2 ^ 64) segments → ◌≡◌ {A = Result Bool E} (Ok b) (Ok true) → HasCore held segments space)
-    → IfSome o (λ held. length held < 2 ^ 64 → IsCoreFile held segments → HasCore held segments space)
-core_imported E None segments space b passes found = tt
-core_imported E (Some held) segments space b passes found = λ short is.
-    found (λ k d below. let in_file = small_at (length held) no_extent segments k d is.fits below in omega (arith, in_file, short))
-    (ap (λ v. let r : Result Bool E = Ok v in r) passes)

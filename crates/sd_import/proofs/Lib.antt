@@ -1,2 +1,3 @@
 pub mod CheckLemmas
 pub mod ChangeLemmas
+pub mod SavedLemmas

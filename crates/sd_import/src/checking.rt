@@ -1,9 +1,8 @@
 //! Whether a space has the memory of a core file.
-ghost use Rattle.std.specs.Prelude.{◌≡◌, ◌+◌, ◌*◌, ◌/◌, ◌^◌, ◌<◌, ℕ, Ok, Some, true, slice_index, slice_range, sum_by};
-ghost use Rattle.std.specs.Prelude.{All, IfSome};
+ghost use Rattle.std.specs.Prelude.{◌≡◌, ◌+◌, ◌*◌, ◌/◌, ◌<◌, ℕ, Ok, Some, true, slice_index, slice_range, sum_by};
+ghost use Rattle.std.specs.Prelude.{IfSome};
 ghost use Rattle.std.specs.FinMap as finmap;
 ghost use Rattle.sd_areas.specs.declared.area.Area.{Area as AreaOf};
-ghost use Rattle.sd_elf.specs.declared.program_header.ProgramHeader.{ProgramHeader as Header};
 ghost use Rattle.sd_import.specs.Imported.{HasCore, HasPageOfSegment, HasSegment, segment_page_count};
 ghost use Rattle.sd_pagetable.specs.Contents.{page_at, plain_of};
 ghost use Rattle.sd_pagetable.specs.Nested.{inside};
@@ -62,8 +61,8 @@ fn has_page<F: CoreFile>(
     number: u64,
 ) -> io::Result<bool>
     requires { number < segment.now.p_memsz / 4096 }
-    ensures { IfSome (F.bytes file.now) (λ held. segment.now.p_offset + segment.now.p_filesz < 2 ^ 64
-        → result ≡ Ok true → HasPageOfSegment held (inside (plain_of memory.now) space) segment.now number) }
+    ensures { result ≡ Ok true
+        → HasPageOfSegment (F.bytes file.now) (inside (plain_of memory.now) space) segment.now number }
 {
     memory.whole();
     let (address, size) = (segment.p_vaddr, segment.p_memsz);
@@ -84,8 +83,8 @@ fn has_segment<F: CoreFile>(
     file: &F,
     segment: &ProgramHeader,
 ) -> io::Result<bool>
-    ensures { IfSome (F.bytes file.now) (λ held. segment.now.p_offset + segment.now.p_filesz < 2 ^ 64
-        → result ≡ Ok true → HasSegment held (inside (plain_of memory.now) space) segment.now) }
+    ensures { result ≡ Ok true
+        → HasSegment (F.bytes file.now) (inside (plain_of memory.now) space) segment.now }
 {
     for number in 0..segment.p_memsz / PAGE_BYTES {
         if !has_page(memory, space, file, segment, number)? {
@@ -134,9 +133,7 @@ pub fn has_core<F: CoreFile>(
     file: &F,
     segments: &[ProgramHeader],
 ) -> io::Result<bool>
-    ensures { IfSome (F.bytes file.now) (λ held.
-        All (λ (s : Header). s.p_offset + s.p_filesz < 2 ^ 64) segments.now
-        → result ≡ Ok true → HasCore held segments.now (inside (plain_of memory.now) space)) }
+    ensures { result ≡ Ok true → HasCore (F.bytes file.now) segments.now (inside (plain_of memory.now) space) }
 {
     for segment in segments {
         if !has_segment(memory, space, file, segment)? {

@@ -1,6 +1,5 @@
 //! The commands by which a space gets the memory of a core.
-ghost use Rattle.std.specs.Prelude.{◌≡◌, ◌+◌, ◌^◌, ◌<◌, IfOk, IfSome, OnOk, length};
-ghost use Rattle.sd_elf.specs.Cores.{IsCoreFile};
+ghost use Rattle.std.specs.Prelude.{◌≡◌, IfOk, OnOk};
 ghost use Rattle.sd_import.specs.Changes.{ChangesOnly, MayGoOn};
 ghost use Rattle.sd_import.specs.Imported.{HasCore};
 ghost use Rattle.sd_pagetable.specs.Contents.{plain_of};
@@ -125,10 +124,10 @@ pub fn import_core<D: Disk, F: CoreFile>(
     core: &Core,
     space: SpaceId,
 ) -> Result<Tally, ImportError>
-    // The space has the memory that the core file says: each page of its segments, and no other.
-    ensures memory { IfSome (F.bytes file.now) (λ held. length held < 2 ^ 64
-        → IsCoreFile held core.now.segments.items
-        → OnOk result (HasCore held core.now.segments.items (inside (plain_of world.new.core.memory) space))) }
+    // The space has the memory that the core file says: each page of its segments, with their permissions and, where it
+    // is known what the file holds, their bytes, and no other.
+    ensures memory { OnOk result
+        (HasCore (F.bytes file.now) core.now.segments.items (inside (plain_of world.new.core.memory) space)) }
     // Every other space is as before.
     ensures changes { OnOk result (ChangesOnly D.Disk space world.old world.new) }
     // However it ends: whatever moment of it a crash comes, the journal of that moment allows what it leaves.

@@ -5,8 +5,10 @@ mod checking;
 mod import_error;
 mod importing;
 mod requests;
+mod saving;
 mod tally;
 
 pub use import_error::ImportError;
 pub use importing::import_core;
+pub use saving::saved_next;
 pub use tally::Tally;

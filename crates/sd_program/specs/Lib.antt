@@ -1,4 +1,5 @@
 pub mod Beside
+pub mod Folders
 pub mod Pace
 pub mod Seen
 pub mod Texts

@@ -1,7 +1,8 @@
 //! How a program is called.
-ghost use Rattle.std.specs.Prelude.{◌≡◌, ◌<◌, ◌↔◌, false, IfOk, IsTrue};
+ghost use Rattle.std.specs.Prelude.{◌≡◌, ◌<◌, ◌↔◌, false, IfErr, IfOk, IsTrue};
 ghost use Rattle.log.specs.Handle.{max_level};
 ghost use Rattle.sd_disk.specs.Folder.{folder_failures, folder_files, outside_of};
+ghost use Rattle.sd_program.specs.Folders.{IsUnopened};
 ghost use Rattle.sd_program.specs.Verbose.{level_asked};
 
 use crate::beside::BESIDE;
@@ -103,6 +104,7 @@ impl<'a> Called<'a> {
         ensures files { IfOk result (λ disk. folder_files disk ≡ (outside_of self.entry.found.now).found) }
         // No call failed yet.
         ensures fresh { IfOk result (λ disk. folder_failures disk ≡ 0) }
+        ensures unopened { IfErr result IsUnopened }
     {
         open_store(self.rt, self.causes, self.folder, self.found)
     }
@@ -115,6 +117,7 @@ impl<'a> Called<'a> {
     pub fn make_store<R: Clock + Wait>(self, clock: &R) -> Result<DirDisk, Stop>
         ensures files { IfOk result (λ disk. folder_files disk ≡ (outside_of self.entry.found.now).found) }
         ensures fresh { IfOk result (λ disk. folder_failures disk ≡ 0) }
+        ensures unopened { IfErr result IsUnopened }
     {
         make_store(self.rt, clock, self.causes, self.folder, self.found)
     }

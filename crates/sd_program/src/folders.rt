@@ -1,6 +1,7 @@
 //! The folder of a store, opened to be read or written.
-ghost use Rattle.std.specs.Prelude.{◌≡◌, IfOk};
+ghost use Rattle.std.specs.Prelude.{◌≡◌, IfErr, IfOk};
 ghost use Rattle.sd_disk.specs.Folder.{folder_failures, folder_files, outside_of};
+ghost use Rattle.sd_program.specs.Folders.{IsUnopened};
 
 use crate::cause::{Advised, Causes, tell};
 use sd_disk::{DirDisk, FileFault, Folder, Found, OpenError};
@@ -44,6 +45,7 @@ pub fn make_store<R: Clock + Wait>(
     // Its files are what is found.
     ensures files { IfOk result (λ disk. folder_files disk ≡ (outside_of found.now).found) }
     ensures fresh { IfOk result (λ disk. folder_failures disk ≡ 0) }
+    ensures unopened { IfErr result IsUnopened }
 {
     let opened = open_folder(rt, clock, folder);
     disk_over(rt, causes, folder, opened, "", found)
@@ -60,6 +62,7 @@ pub fn open_store(
     ensures files { IfOk result (λ disk. folder_files disk ≡ (outside_of found.now).found) }
     // No call failed yet.
     ensures fresh { IfOk result (λ disk. folder_failures disk ≡ 0) }
+    ensures unopened { IfErr result IsUnopened }
 {
     let opened = Folder::open(rt, folder, false);
     disk_over(rt, causes, folder, opened, IS_MISSING, found)
@@ -91,6 +94,7 @@ fn disk_over(
 ) -> Result<DirDisk, Stop>
     ensures files { IfOk result (λ disk. folder_files disk ≡ (outside_of found.now).found) }
     ensures fresh { IfOk result (λ disk. folder_failures disk ≡ 0) }
+    ensures unopened { IfErr result IsUnopened }
 {
     match opened {
         Ok(files) => Ok(DirDisk::over(files, found.again())),

@@ -1,5 +1,6 @@
 //! `ckpt diff`: what differs between the memories of a store at two checkpoints.
-ghost use Rattle.std.specs.Prelude.{◌≡◌, ◌≢◌, ◌⊎◌, IfErr};
+ghost use Rattle.std.specs.Prelude.{◌≡◌, ◌≢◌, ◌⊎◌, IfErr, OnOk};
+ghost use Rattle.sd_diff.specs.Difference.{HasBoth};
 ghost use Rattle.sd_disk.specs.Reads.{OnlyReads};
 ghost use Rattle.sd_exit.specs.Ending.{status_of};
 ghost use Rattle.sd_restore.specs.declared.fault.Fault.TheVariants as restore;
@@ -39,6 +40,7 @@ fn diff_steady<D: Disk>(
     compared: Compared,
     disk: &mut D,
 ) -> Result<Difference, DiffFault>
+    ensures both { D.is_honest disk.new → OnOk result (HasBoth (D.contents disk.old) compared.old compared.new) }
     ensures reads { OnlyReads D.Disk disk.old disk.new }
 {
     let before = fronts(alloc, disk).map_err(unread)?;
@@ -96,6 +98,7 @@ pub(crate) fn print_compared<D: Disk, W: Write>(
     disk: &mut D,
     out: &mut Output<W>,
 ) -> u8
+    ensures both { D.is_honest disk.new → result ≡ 0 → HasBoth (D.contents disk.old) compared.old compared.new }
     ensures reads { OnlyReads D.Disk disk.old disk.new }
 {
     let is_document = compared.is_document;

@@ -1,13 +1,15 @@
 //! What is asked of a store that is only read, and its answer.
-ghost use Rattle.std.specs.Prelude.{◌≡◌, ◌≢◌, false, if◌then◌else◌, Err, IfErr, IfOk, MatchResult, OnOk, Some};
+ghost use Rattle.std.specs.Prelude.{◌≡◌, ◌≢◌, ℕ, false, if◌then◌else◌, Err, IfErr, IfOk, MatchResult, OnOk, Option};
+ghost use Rattle.std.specs.Prelude.{Some};
+ghost use Rattle.std.specs.Option.{option_map};
+ghost use Rattle.sd_areas.specs.PlainMemory.{PlainMemory};
 ghost use Rattle.sd_disk.specs.Reads.{OnlyReads};
 ghost use Rattle.sd_exit.specs.Ending.{ExitsAs, status_of};
-ghost use Rattle.sd_readers.specs.declared.steady.Reader.{Reader};
+ghost use Rattle.sd_image.specs.Shows.{Shows};
+ghost use Rattle.sd_readers.specs.At.{PrintsAt};
 ghost use Rattle.sd_readers.specs.Reading.{ReaderEnds};
-ghost use Rattle.sd_json.specs.declared.moment.Document.{Document};
-ghost use Rattle.sd_queries.specs.Printing.{PrintsDocument};
+ghost use Rattle.sd_queries.specs.Printing.{Answers, PrintsDocument, ShowsAtLeast};
 ghost use Rattle.sd_queries.specs.Asked.{has_document, names_one_checkpoint, reader_at_verb, reader_verb, verb_text};
-ghost use Rattle.sd_queries.specs.declared.queries.Query.TheVariants as query;
 
 use crate::difference::{Compared, print_compared};
 use sd_disk::Disk;
@@ -100,14 +102,9 @@ impl Query {
 
     /// Prints what is asked of a store, or why there is no answer, flushes, and returns the exit status.
     pub fn answer<D: Disk, W: Write>(self, alloc: Global, disk: &mut D, out: &mut Output<W>) -> u8
-        ensures newest { (reader : Reader) → self ≡ query.Newest reader
-            → ReaderEnds reader (D.is_honest disk.new) (D.contents disk.old)
-            (D.failed disk.old) (D.failed disk.new) (W.contents out.old.writer)
-            (W.contents out.new.writer) out.new.refused result }
-        // Status 0: the document that is asked for is printed, as the files have it.
-        ensures document { D.is_honest disk.new → (document : Document) → self ≡ query.Document document
-            → result ≡ 0 → PrintsDocument document (D.contents disk.old) (W.contents out.old.writer)
-            (W.contents out.new.writer) }
+        // With status 0 the answer is printed, as the files have it, and nothing else.
+        ensures answers { Answers self (D.is_honest disk.new) (D.contents disk.old) (D.failed disk.old)
+            (D.failed disk.new) (W.contents out.old.writer) (W.contents out.new.writer) out.new.refused result }
         // Whatever is asked, it only reads.
         ensures reads { OnlyReads D.Disk disk.old disk.new }
     {
@@ -172,6 +169,8 @@ fn print_one<D: Disk, W: Write>(
     number: u64,
     out: &mut Output<W>,
 ) -> u8
+    ensures text { D.is_honest disk.new → result ≡ 0 → PrintsAt reader (D.contents disk.old) number
+        (W.contents out.old.writer) (W.contents out.new.writer) }
     ensures reads { OnlyReads D.Disk disk.old disk.new }
 {
     let ended = print_at(alloc, reader, disk, number, out);
@@ -309,6 +308,8 @@ fn print_history<D: Disk, W: Write>(
 
 /// What `verify` finds in a store, of one moment.
 fn steady_report<D: Disk>(alloc: Global, disk: &mut D) -> Result<Report, Fault>
+    ensures shown { D.is_honest disk.new → IfOk result (λ report. (shown : Option (ℕ × PlainMemory))
+        × Shows (D.contents disk.old) shown × (report.checkpoint ≡ option_map (λ moment. moment.0) shown)) }
     ensures reads { OnlyReads D.Disk disk.old disk.new }
 {
     let before = fronts(alloc, disk)?;
@@ -327,6 +328,7 @@ fn print_at_least<D: Disk, W: Write>(
     least: u64,
     out: &mut Output<W>,
 ) -> Result<(), Stop>
+    ensures shown { D.is_honest disk.new → OnOk result (ShowsAtLeast (D.contents disk.old) least) }
     ensures reads { OnlyReads D.Disk disk.old disk.new }
 {
     let report = steady_report(alloc, disk)?;

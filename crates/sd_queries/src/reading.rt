@@ -1,10 +1,6 @@
 //! Programs that only read a store, also while a run writes it.
-ghost use Rattle.std.specs.Prelude.{◌≡◌, false, [], Some, IfOk};
-ghost use Rattle.sd_disk.specs.Folder.{IsFolderHonest, folder_failures, folder_files};
-ghost use Rattle.sd_readers.specs.declared.steady.Reader.{Reader};
-ghost use Rattle.sd_readers.specs.Reading.{ReaderEnds};
-ghost use Rattle.sd_queries.specs.Reading.{EndsReading, ReadsFound};
-ghost use Rattle.sd_queries.specs.declared.queries.Query.TheVariants as query;
+ghost use Rattle.std.specs.Prelude.{false, [], Some, IfOk};
+ghost use Rattle.sd_queries.specs.Reading.{AnswersFound, EndsReading};
 
 use crate::queries::Query;
 use sd_disk::{DirDisk, Disk};
@@ -43,9 +39,8 @@ impl ReadAsked<'_> {
     /// Reads the store once, and prints what is asked of it. The error is a folder that isn't opened.
     #[tactic(auto, using(crate::proofs::ReadingLemmas::answers_folder))]
     fn read_once<W: Write>(self, out: &mut Output<W>) -> Result<Reading, Stop>
-        ensures answers { (reader : Reader) → self.entry.query ≡ query.Newest reader → IfOk result (λ read.
-            ReadsFound self.entry.called.found.now reader read (W.contents out.old.writer) (W.contents out.new.writer)
-            out.new.refused) }
+        ensures answers { IfOk result (λ read. AnswersFound self.entry.called.found.now self.entry.query read
+            (W.contents out.old.writer) (W.contents out.new.writer) out.new.refused) }
     {
         let disk = self.called.open_store()?;
         let mut disk = self.seen.disk(self.query.verb(), disk);
@@ -55,9 +50,8 @@ impl ReadAsked<'_> {
 
     /// Reads the store once, and keeps what is printed.
     fn try_once(self) -> Result<Tried, Stop>
-        ensures answers { (reader : Reader) → self.entry.query ≡ query.Newest reader → IfOk result (λ tried.
-            ReadsFound self.entry.called.found.now reader (tried.disk, tried.status) (Some []) (Some tried.text.items)
-            false) }
+        ensures answers { IfOk result (λ tried. AnswersFound self.entry.called.found.now self.entry.query
+            (tried.disk, tried.status) (Some []) (Some tried.text.items) false) }
     {
         let mut out = Output::new(Vec::new(self.called.rt.alloc()));
         let (disk, status) = self.read_once(&mut out)?;
@@ -76,22 +70,24 @@ impl ReadAsked<'_> {
 
     /// Reads the store while a run writes it: again where the run may have come between.
     fn try_often<R: Clock + Wait>(self, clock: &R) -> Result<Tried, Stop>
-        ensures answers { (reader : Reader) → self.entry.query ≡ query.Newest reader → IfOk result (λ tried.
-            ReadsFound self.entry.called.found.now reader (tried.disk, tried.status) (Some []) (Some tried.text.items)
-            false) }
+        ensures answers { IfOk result (λ tried. AnswersFound self.entry.called.found.now self.entry.query
+            (tried.disk, tried.status) (Some []) (Some tried.text.items) false) }
     {
         read_until_steady(clock, || self.try_once(), |tried| may_change(tried.fault))
     }
 
     /// Ends a reading with a fault that was found beside a run: it stands alone, but where the answer is a document,
     /// which has it.
+    #[tactic(auto, using(crate::proofs::ReadingLemmas::answers_faulty))]
     fn end_with<W: Write>(
         self,
         tried: Tried,
         fault: Fault,
         out: &mut Output<W>,
     ) -> Result<Reading, Stop>
-        ensures none { (reader : Reader) → self.entry.query ≡ query.Newest reader → IfOk result (λ _. ⊥) }
+        ensures answers { AnswersFound self.entry.called.found.now self.entry.query (tried.disk, tried.status) (Some [])
+            (Some tried.text.items) false → IfOk result (λ read. AnswersFound self.entry.called.found.now
+            self.entry.query read (W.contents out.old.writer) (W.contents out.new.writer) out.new.refused) }
     {
         if may_change(Some(fault)) {
             self.called.tell(&BESIDE);
@@ -109,9 +105,8 @@ impl ReadAsked<'_> {
         clock: &R,
         out: &mut Output<W>,
     ) -> Result<Reading, Stop>
-        ensures answers { (reader : Reader) → self.entry.query ≡ query.Newest reader → IfOk result (λ read.
-            ReadsFound self.entry.called.found.now reader read (W.contents out.old.writer) (W.contents out.new.writer)
-            out.new.refused) }
+        ensures answers { IfOk result (λ read. AnswersFound self.entry.called.found.now self.entry.query read
+            (W.contents out.old.writer) (W.contents out.new.writer) out.new.refused) }
     {
         let tried = self.try_often(clock)?;
         if let Some(fault) = tried.fault {
@@ -123,15 +118,14 @@ impl ReadAsked<'_> {
             status,
             ..
         } = tried;
-        let status = print_held(&disk, &text, status, out);
+        let status = print_held(&text, status, out);
         Ok((disk, status))
     }
 
     /// Reads the store that no run is writing.
     fn read_alone<W: Write>(self, out: &mut Output<W>) -> Result<Reading, Stop>
-        ensures answers { (reader : Reader) → self.entry.query ≡ query.Newest reader → IfOk result (λ read.
-            ReadsFound self.entry.called.found.now reader read (W.contents out.old.writer) (W.contents out.new.writer)
-            out.new.refused) }
+        ensures answers { IfOk result (λ read. AnswersFound self.entry.called.found.now self.entry.query read
+            (W.contents out.old.writer) (W.contents out.new.writer) out.new.refused) }
     {
         let (disk, status) = self.read_once(out)?;
         self.called.report_device(&disk);
@@ -165,11 +159,10 @@ fn read_store<R: Clock + Wait, W: Write>(
     clock: &R,
     out: &mut Output<W>,
 ) -> Result<Reading, Stop>
-    // The files are those that are found. The whole text of what the store shows is written, or a beginning of it, with
-    // the last line and the exit status.
-    ensures answers { (reader : Reader) → asked.entry.query ≡ query.Newest reader → IfOk result (λ read.
-        ReadsFound asked.entry.called.found.now reader read (W.contents out.old.writer) (W.contents out.new.writer)
-        out.new.refused) }
+    // The files are those that are found. With status 0 what they answer is written, and nothing else; of the newest
+    // checkpoint else a beginning of it, with the last line and the exit status.
+    ensures answers { IfOk result (λ read. AnswersFound asked.entry.called.found.now asked.entry.query read
+        (W.contents out.old.writer) (W.contents out.new.writer) out.new.refused) }
 {
     if asked.called.is_beside() {
         asked.read_beside(clock, out)
@@ -189,10 +182,10 @@ pub fn reader_program<R: Clock + Wait, W: Write>(
     question: Query,
     out: &mut Output<W>,
 ) -> Result<u8, Stop>
-    // The folder of the command line is read: what is found there.
-    ensures answers { (reader : Reader) → question ≡ query.Newest reader → IfOk result (λ status.
-        EndsReading called.entry.found.now reader status (W.contents out.old.writer) (W.contents out.new.writer)
-        out.new.refused) }
+    // The folder of the command line is read: what is found there. With status 0 its answer is written, and nothing
+    // else.
+    ensures answers { IfOk result (λ status. EndsReading called.entry.found.now question status
+        (W.contents out.old.writer) (W.contents out.new.writer) out.new.refused) }
 {
     let log = called.logger();
     let asked = ReadAsked {

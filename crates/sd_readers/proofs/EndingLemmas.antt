@@ -41,7 +41,7 @@ module _ (before printed after : Option (List ℕ)) (refused : Bool) (status : �
   empty_told ended (inr e) shows is = let one : status ≡ 1 = e.1 in absurd (omega (arith, one, is))
 
 -- what was printed stands where nothing is printed after it
-then_nothing : (a b c : Option (List ℕ)) (bs : List ℕ) → Appends a b bs → Appends b c [] → Appends a c bs
+pub then_nothing : (a b c : Option (List ℕ)) (bs : List ℕ) → Appends a b bs → Appends b c [] → Appends a c bs
 then_nothing a b c bs p q = subst (Appends a c) (append-nil bs) (Appends-trans a b c bs [] p q)
 
 pub prints_then_nothing : (by : Reader) (contents : List (List ℕ)) (before a b : Option (List ℕ)) → Appends a b [] → Prints by contents before a → Prints by contents before b
@@ -102,7 +102,7 @@ stands_alone same why = λ _. Keeps-refl same
 -- ---- what was kept in a vector, and then printed
 
 -- it grew from nothing to this text, and then a writer took it
-moved : (before after : Option (List ℕ)) (text wanted : List ℕ) → Appends (Some []) (Some text) wanted → Appends before after text → Appends before after wanted
+pub moved : (before after : Option (List ℕ)) (text wanted : List ℕ) → Appends (Some []) (Some text) wanted → Appends before after text → Appends before after wanted
 moved before after text wanted is printed = subst (Appends before after) is printed
 
 pub prints_moved : (by : Reader) (contents : List (List ℕ)) (before after : Option (List ℕ)) (text : List ℕ) → Prints by contents (Some []) (Some text) → Appends before after text

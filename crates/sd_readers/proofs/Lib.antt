@@ -7,6 +7,6 @@ pub mod MemoryTexts
 pub mod BreakLemmas
 pub mod SteadyLemmas
 mod AnswerLemmas
-mod HeldLemmas
+pub mod HeldLemmas
 mod AtLemmas
 pub mod RestoredLemmas

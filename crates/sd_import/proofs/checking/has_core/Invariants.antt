@@ -1,4 +1,4 @@
-use Rattle.std.proofs.Common.{◌+◌, ◌^◌, ◌<◌, ℕ, All, IfSome, slice_index_or}
+use Rattle.std.proofs.Common.{◌<◌, ℕ, slice_index_or}
 use Rattle.sd_elf.specs.declared.program_header.ProgramHeader.{ProgramHeader}
 use Rattle.sd_pagetable.specs.Contents.{plain_of}
 use Rattle.sd_pagetable.specs.Nested.{inside}
@@ -7,5 +7,5 @@ use Rattle.sd_import.proofs.checking.has_core.Given as goal
 
 -- the segments so far are there
 abbrev pub invariant-loop-segment : goal.invariant-loop-segment
-invariant-loop-segment g l = IfSome (g.F.CoreFile.bytes l.file) (λ held. All (λ (s : ProgramHeader). s.p_offset + s.p_filesz < 2 ^ 64) l.segments
-    → (k : ℕ) (d : ProgramHeader) → k < l.segment-index → HasSegment held (inside (plain_of l.memory) l.space) (slice_index_or l.segments k d))
+invariant-loop-segment g l = (k : ℕ) (d : ProgramHeader) → k < l.segment-index
+    → HasSegment (g.F.CoreFile.bytes l.file) (inside (plain_of l.memory) l.space) (slice_index_or l.segments k d)

@@ -1,4 +1,3 @@
-use Rattle.std.proofs.Common.{◌+◌, ◌^◌, ◌<◌}
 use Rattle.sd_pagetable.specs.Contents.{plain_of}
 use Rattle.sd_pagetable.specs.Nested.{inside}
 use Rattle.sd_import.specs.Imported.{HasPageOfSegment}
@@ -7,6 +6,5 @@ use Rattle.sd_import.proofs.checking.has_segment.Goals as goal
 
 pub loop-number-preserved : goal.loop-number-preserved
 loop-number-preserved g c =
-    pages_more _ (g.F.CoreFile.bytes c.args.file.now) (c.args.segment.now.p_offset + c.args.segment.now.p_filesz < 2 ^ 64)
-    (λ held k. HasPageOfSegment held (inside (plain_of c.args.memory.now) c.args.space) c.args.segment.now k) c.loop-number.number c.in_ok-has_page.field-0
-    c.if-not-branch.false c.loop-number.invariant c.in_ok-has_page.ensures
+    pages_more _ (HasPageOfSegment (g.F.CoreFile.bytes c.args.file.now) (inside (plain_of c.args.memory.now) c.args.space) c.args.segment.now)
+    c.loop-number.number c.in_ok-has_page.field-0 c.if-not-branch.false c.loop-number.invariant c.in_ok-has_page.ensures

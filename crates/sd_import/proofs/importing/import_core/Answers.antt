@@ -1,6 +1,5 @@
-use Rattle.std.proofs.Common.{◌≡◌, ◌∙◌, ◌^◌, ◌<◌, IfSome, ap, length, refl, subst, sym}
+use Rattle.std.proofs.Common.{◌≡◌, ◌∙◌, Ok, ap, subst}
 use Rattle.sd_crash_safety.specs.View.{CoreView}
-use Rattle.sd_elf.specs.Cores.{IsCoreFile}
 use Rattle.sd_pagetable.specs.Contents.{plain_of}
 use Rattle.sd_pagetable.specs.Nested.{inside}
 use Rattle.sd_disk.specs.declared.disk.Disk.{Ghosts}
@@ -10,7 +9,6 @@ use Rattle.sd_world.specs.Goes.{GoesOn}
 use Rattle.sd_world.specs.View.{WorldView}
 use Rattle.sd_world.proofs.GoesOnLemmas.{goes_nowhere}
 use Rattle.sd_import.proofs.ChangeLemmas.{changes_further, goes_at_least, may_further}
-use Rattle.sd_import.proofs.CheckLemmas.{core_imported}
 use Rattle.sd_import.proofs.importing.import_core.Goals as goal
 
 pub returns-then-branch-clause-memory : goal.returns-then-branch-clause-memory
@@ -18,10 +16,9 @@ returns-then-branch-clause-memory g c =
     let bytes = g.F.CoreFile.bytes c.args.file.now in
     let last = c.take_core.new.world in
     let memory : c.memory-2.result.now ≡ last.core.memory = c.memory-2.ensures.same ∙ ap (λ (core : CoreView). core.memory) c.core-2.ensures in
-    let found = core_imported _ bytes c.deref.result.now (inside (plain_of c.memory-2.result.now) c.args.space) c.in_ok-has_core.field-0 c.if-branch.true c.in_ok-has_core.ensures in
-    subst (λ segments. IfSome bytes (λ held. length held < 2 ^ 64 → IsCoreFile held segments → HasCore held segments (inside (plain_of last.core.memory) c.args.space)))
-    c.deref.ensures.value
-    (subst (λ m. IfSome bytes (λ held. length held < 2 ^ 64 → IsCoreFile held c.deref.result.now → HasCore held c.deref.result.now (inside (plain_of m) c.args.space))) memory found)
+    let found = c.in_ok-has_core.ensures (ap Ok c.if-branch.true) in
+    subst (λ segments. HasCore bytes segments (inside (plain_of last.core.memory) c.args.space)) c.deref.ensures.value
+    (subst (λ m. HasCore bytes c.deref.result.now (inside (plain_of m) c.args.space)) memory found)
 
 pub returns-then-branch-clause-changes : goal.returns-then-branch-clause-changes
 returns-then-branch-clause-changes g c = changes_further g.D.Disk c.args.space c.args.world.now c.make_missing.new.world c.take_core.new.world
