@@ -91,14 +91,16 @@ pub catalog_less : (contents : List (List ℕ)) (old new : Places) (slot : ℕ) 
     → ((serial : ℕ) → place_of new serial ≡ without_slot slot (place_of old serial)) → IsCatalogOf (closed_at contents slot) new
 catalog_less contents old new slot catalog removes = record {
   sound = λ serial i there. let was = stays_at slot (place_of old serial) i (sym (removes serial) ∙ there) in
-      let opened = catalog.sound serial i was.0 in
-      (opened.0, record {
-        file = opened.1.file;
-        slot = get_set_other contents slot i.slot [] was.1 ∙ opened.1.slot;
-        spelled = opened.1.spelled;
-        header = opened.1.header;
-        spaces = opened.1.spaces;
-      });
+      let opened = catalog.sound serial i was.0 in (
+        opened.0,
+        record {
+          file = opened.1.file;
+          slot = get_set_other contents slot i.slot [] was.1 ∙ opened.1.slot;
+          spelled = opened.1.spelled;
+          header = opened.1.header;
+          spaces = opened.1.spaces;
+        },
+      );
   all = λ other file there opens. ⊎_elim
       (λ same. absurd (false≢true (sym (none_here contents slot) ∙ ap (λ s. is_open (file_at (closed_at contents slot) s)) (sym same)
       ∙ ap is_open (get_or_from_slice_get (closed_at contents slot) other file [] there) ∙ opens)))

@@ -124,8 +124,8 @@ pub others_keep : (contents c : List (List ℕ)) (may_leave : List (List ℕ) �
     → (is_open (file_at contents other) ≡ true → file_at c other ≡ file_at contents other) × (is_open (file_at contents other) ≡ false → is_open (file_at c other) ≡ false)
 others_keep contents c may_leave rest slot image left other apart = ⊎_elim
     (λ inside. (let many = rest.fits.slots in
-        let p = phase_at rest.phases other (omega (arith, inside, many)) in
-        slot_keeps p.0 (file_at rest.bodies other) (file_at contents other) (file_at c other) (rest.settled other p.0 p.1) (rest.fits.each other p.0 p.1).reads (left.others other p.0 apart p.1)))
+    let p = phase_at rest.phases other (omega (arith, inside, many)) in
+    slot_keeps p.0 (file_at rest.bodies other) (file_at contents other) (file_at c other) (rest.settled other p.0 p.1) (rest.fits.each other p.0 p.1).reads (left.others other p.0 apart p.1)))
     (λ beyond. (
       λ opens. absurd (let no_it : true ≡ false = sym opens ∙ nothing_is_closed contents other beyond in cc),
       λ closed. nothing_is_closed c other (let count = left.count in let many = rest.fits.slots in omega (arith, beyond, count, many)),

@@ -11,7 +11,8 @@ ghost use Rattle.sd_image.specs.Image.{is_open};
 ghost use Rattle.sd_restore.specs.Placed.{PlacedPage};
 ghost use Rattle.sd_receive.specs.Arrived.{HasPages};
 ghost use Rattle.sd_receive.specs.Arriving.{IsSettled, KeepsImages};
-ghost use Rattle.sd_receive.specs.Merged.{AreAlikeBut, AddsBytes, HasCopies, IsElsewhere, IsStoredAt, page_of, pages_seen};
+ghost use Rattle.sd_receive.specs.Merged.{AddsBytes, AreAlikeBut, HasCopies, IsElsewhere, IsStoredAt};
+ghost use Rattle.sd_receive.specs.Merged.{page_of, pages_seen};
 
 use crate::arriving::{format, put_page};
 use crate::mapped::{MappedPage, push};
@@ -121,7 +122,14 @@ fn copy_bytes<D: Disk>(
         Found::Zero => Ok(Found::Zero),
         Found::Data { slot: from, offset } => {
             let place = copied.stored;
-            copy_data(alloc, disk, slot, place, (from, offset), &mut copied.digester)?;
+            copy_data(
+                alloc,
+                disk,
+                slot,
+                place,
+                (from, offset),
+                &mut copied.digester,
+            )?;
             copied.stored = place + 1;
             let offset = PAGE_BYTES + PAGE_BYTES * place as u64;
             Ok(Found::Data { slot, offset })

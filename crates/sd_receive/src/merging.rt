@@ -90,8 +90,10 @@ fn place_pages<'a>(
 ) -> Result<(PlacedMemory<'a>, Vec<MappedPage>), ReceiveError>
     requires { AreImages catalog.now }
     ensures shown { (contents : List (List ℕ)) → IsCatalogOf contents catalog.now
-        → IfOk result (λ placed. Shows contents (Some (placed.0.checkpoint,
-        placed_memory contents (map listing_of placed.0.spaces.now) (pages_seen placed.1.items)))) }
+        → IfOk result (λ placed. Shows contents (Some (
+          placed.0.checkpoint,
+          placed_memory contents (map listing_of placed.0.spaces.now) (pages_seen placed.1.items),
+        ))) }
     ensures few { IfOk result (λ placed. length placed.1.items ≤ 65536) }
     ensures elsewhere { IfOk result (λ placed.
         All (λ (p : MappedPage). IsElsewhere slot slots p.there) placed.1.items) }
@@ -206,11 +208,7 @@ fn is_copied(
 }
 
 /// Checks that the newest checkpoint of a catalog has the memory that was copied, where its copies are.
-fn check_copy(
-    alloc: Global,
-    catalog: &Catalog,
-    memory: &CopiedMemory,
-) -> Result<(), ReceiveError>
+fn check_copy(alloc: Global, catalog: &Catalog, memory: &CopiedMemory) -> Result<(), ReceiveError>
     requires { AreImages catalog.now }
     ensures { (contents : List (List ℕ)) → IsCatalogOf contents catalog.now
         → OnOk result (IsFoundAsCopied contents memory.now) }

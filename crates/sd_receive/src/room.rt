@@ -15,9 +15,9 @@ use sd_chain::Catalog;
 use sd_disk::Disk;
 use std::alloc::{AllocError, Global};
 
-/// The slot and the serial for a merge of a catalog's newest chain, before the image with the next serial. There is none
-/// where no serial is free before that, as one is where its sender merged; where there is no chain, or no free slot; and
-/// while less than half of so many slots have an image, so that old checkpoints stay meanwhile.
+/// The slot and the serial for a merge of a catalog's newest chain, before the image with the next serial. There is
+/// none where no serial is free before that, as one is where its sender merged; where there is no chain, or no free
+/// slot; and while less than half of so many slots have an image, so that old checkpoints stay meanwhile.
 fn merge_place(
     catalog: &Catalog,
     next: u64,

@@ -100,7 +100,13 @@ fn table_of(
 }
 
 /// The header of an image that takes the place of one with this header, after its data pages were digested.
-fn header_of(tip: &Header, serial: u64, pages: usize, table: &[u8], mut digester: Digester) -> Header
+fn header_of(
+    tip: &Header,
+    serial: u64,
+    pages: usize,
+    table: &[u8],
+    mut digester: Digester,
+) -> Header
     ensures fields { result ≡ header_after tip.now serial pages (length table.now) result.digest }
     ensures digest { (fed : List ℕ) → HasFed digester fed
         → result.digest ≡ sha256 ((fed ++ table.now) ++ header_front result) }

@@ -1,15 +1,14 @@
 //! What a crash leaves of a store after each call by which a stream is received.
 use crate::arrivals::leaves;
-use crate::builders::{FIRST, FOURTH, Image, SECOND, image_file, store};
+use crate::builders::{FIRST, Image, SECOND, image_file, store};
 use sd_disk::{Fused, MemDisk};
 use sd_receive::{Received, Receiver, settle};
 use sd_stream::{StreamReader, StreamWriter, WriteError};
 use std::alloc::{AllocError, Global};
 use std::mem::forget;
 
-/// How many calls it takes: to sync and look at four empty slots, to take in two images, to merge them where a serial is
-/// free, and to take in a third.
-const CALLS: u64 = 63;
+/// How many calls it takes: to sync and look at four empty slots, and to take in two images.
+const CALLS: u64 = 29;
 
 fn write_file(writer: &mut StreamWriter<Vec<u8>>, file: &[u8]) -> Result<(), WriteError> {
     writer.image(file.len() as u64)?;
@@ -17,7 +16,7 @@ fn write_file(writer: &mut StreamWriter<Vec<u8>>, file: &[u8]) -> Result<(), Wri
 }
 
 /// Writes an image and its checkpoint.
-fn write(
+pub(crate) fn write(
     alloc: Global,
     writer: &mut StreamWriter<Vec<u8>>,
     image: &Image,
@@ -29,22 +28,21 @@ fn write(
     writer.acknowledged(image.0.checkpoint)
 }
 
-fn write_all(alloc: Global, writer: &mut StreamWriter<Vec<u8>>) -> Result<(), WriteError> {
+fn write_both(alloc: Global, writer: &mut StreamWriter<Vec<u8>>) -> Result<(), WriteError> {
     write(alloc, writer, &FIRST)?;
-    write(alloc, writer, &SECOND)?;
-    write(alloc, writer, &FOURTH)
+    write(alloc, writer, &SECOND)
 }
 
-/// A stream of three checkpoints, whose sender merged before the last.
-fn three_checkpoints(alloc: Global) -> Result<Vec<u8>, WriteError> {
+/// A stream of two checkpoints.
+fn two_checkpoints(alloc: Global) -> Result<Vec<u8>, WriteError> {
     let mut writer = StreamWriter::begin(Vec::new(alloc), None)?;
-    match write_all(alloc, &mut writer) {
+    match write_both(alloc, &mut writer) {
         Ok(()) => writer.end(),
         Err(why) => Err(why),
     }
 }
 
-/// Receives three checkpoints, as far as it comes. Returns the last that was received, or 0.
+/// Receives two checkpoints, as far as it comes. Returns the last that was received, or 0.
 fn receive(alloc: Global, disk: &mut Fused<MemDisk>, stream: &[u8]) -> u64 {
     let Ok(reader) = StreamReader::begin(stream) else {
         return 0;
@@ -53,8 +51,11 @@ fn receive(alloc: Global, disk: &mut Fused<MemDisk>, stream: &[u8]) -> u64 {
         return 0;
     };
     let mut last = 0;
-    while let Ok(Received::Checkpoint(number)) = receiver.next(alloc, disk) {
+    if let Ok(Received::Checkpoint(number)) = receiver.next(alloc, disk) {
         last = number;
+        if let Ok(Received::Checkpoint(number)) = receiver.next(alloc, disk) {
+            last = number;
+        }
     }
     forget(receiver);
     last
@@ -65,9 +66,9 @@ fn is_cut_off_so(alloc: Global, calls: u64, stream: &[u8]) -> Result<bool, Alloc
     let mut fused = Fused::new(store(alloc, &[])?, calls);
     let last = receive(alloc, &mut fused, stream);
     let disk = fused.into_inner();
-    let leaves = leaves(alloc, &disk, last, last.saturating_add(1).min(3));
+    let leaves = leaves(alloc, &disk, last, last.saturating_add(1).min(2));
     forget(disk);
-    Ok((last == 3) == (calls >= CALLS) && leaves?)
+    Ok((last == 2) == (calls >= CALLS) && leaves?)
 }
 
 /// Whether it is so after any number of calls.
@@ -80,9 +81,9 @@ fn are_cut_off_so(alloc: Global, stream: &[u8]) -> Result<bool, AllocError> {
     Ok(true)
 }
 
-/// Whether a stream of three checkpoints stands crashes.
+/// Whether a stream of two checkpoints stands crashes.
 fn stands(alloc: Global) -> Result<bool, AllocError> {
-    match three_checkpoints(alloc) {
+    match two_checkpoints(alloc) {
         Ok(stream) => are_cut_off_so(alloc, &stream),
         Err(_) => Ok(false),
     }
