@@ -15,9 +15,18 @@ use sd_chain::Catalog;
 use sd_disk::Disk;
 use std::alloc::{AllocError, Global};
 
+/// The serial of a catalog's newest dump or merged image, or 0.
+fn newest_serial(catalog: &Catalog) -> u64 {
+    match catalog.tip() {
+        Some(tip) => tip.header().serial,
+        None => 0,
+    }
+}
+
 /// The slot and the serial for a merge of a catalog's newest chain, before the image with the next serial. There is
-/// none where no serial is free before that, as one is where its sender merged; where there is no chain, or no free
-/// slot; and while less than half of so many slots have an image, so that old checkpoints stay meanwhile.
+/// none where no serial is free before that, as one is where its sender merged. Nor is there one after a pre-dump: a
+/// sender that begins anew sends that again, by its serial. Nor while less than half of so many slots have an image, so
+/// that old checkpoints stay; nor where no slot is free.
 fn merge_place(
     catalog: &Catalog,
     next: u64,
@@ -30,23 +39,15 @@ fn merge_place(
         (j : Opened) → Contains (images catalog.now) j → j.header.serial < place.1)) }
 {
     let greatest = catalog.greatest_serial();
-    if next <= greatest || next - greatest == 1 || catalog.tip().is_none() {
+    if next <= greatest || next - greatest == 1 || newest_serial(catalog) != greatest {
         return Ok(None);
     }
-    if catalog.list()?.len() < slots / 2 {
+    if greatest == 0 || catalog.list()?.len() < slots / 2 {
         return Ok(None);
     }
     match free_slot(catalog, slots)? {
         Some(slot) => Ok(Some((slot, greatest + 1))),
         None => Ok(None),
-    }
-}
-
-/// The serial of a catalog's newest dump or merged image, or 0.
-fn newest_serial(catalog: &Catalog) -> u64 {
-    match catalog.tip() {
-        Some(tip) => tip.header().serial,
-        None => 0,
     }
 }
 
