@@ -305,8 +305,86 @@ a_damaged_store_takes_nothing() {
   same "a serial that stands twice" "$(cat out)" "damaged 063 19"
 }
 
-# A store whose 64 slots all have an image that the newest checkpoint needs.
-no_slot_is_left() {
+# Requests that make 16 checkpoints more, with two rounds at most.
+sixteen_more() {  # sixteen_more FIRST
+  local number
+  for number in $(seq "$1" $(($1 + 15))); do
+    printf 'store 1 0x1%d000 %02x\ncheckpoint %d\n' $((number % 2)) $((number % 256)) $((number % 3))
+  done
+}
+
+# Writes the digest of what a store restores at each of 16 checkpoints, as `receive --tip` prints it.
+write_tips() {  # write_tips STORE FIRST
+  local number
+  for number in $(seq "$2" $(($2 + 15))); do
+    echo "tip $number $("$ckpt" restore --checkpoint "$number" "$1" | sha256sum | cut -d ' ' -f 1)"
+  done >> tips
+}
+
+# A run that merges after every 16 checkpoints, and is followed: its receiver takes more images than it has slots.
+a_follower_merges_with_its_run() {
+  mkfifo words
+  "$ckpt" shell store < words > answers 2> err &
+  exec 9> words
+  printf '%s\n' 'mmap 1 0x10000 8192 rw' 'checkpoint 0' >&9
+  waits_for "acked 1" answers || return 1
+  "$ckpt" send --follow store 2> sent 9>&- | "$ckpt" receive -q other > got 9>&- &
+  local receiver=$! first
+  for first in 2 18 34 50; do
+    sixteen_more "$first" >&9
+    waits_for "received $((first + 15))" got || return 1
+    same "the tip" "$("$ckpt" receive --tip other)" "$("$ckpt" receive --tip store)" || return 1
+    echo merge >&9
+  done
+  exec 9>&-
+  wait $receiver
+  same "the status" $? 0 || return 1
+  same "the checkpoints" "$(grep -c received got)" 65 || return 1
+  same "the memory" "$("$ckpt" restore other)" "$("$ckpt" restore store)" || return 1
+  same "the merged image" "$("$ckpt" list -q other | grep -c ' merged ')" 1
+}
+
+# A receiver is killed at some moment. What it printed is there, or what it was about to print.
+kill_a_receiver() {  # kill_a_receiver [--since N]
+  local last
+  "$ckpt" send -q "$@" store > stream || return 1
+  { cat stream; sleep 1; } | "$ckpt" receive -q other > out 2> err &
+  sleep 0.$((RANDOM % 3))$((RANDOM % 10))
+  kill -9 $! 2> /dev/null
+  wait $! 2> /dev/null
+  last=$(grep received out | tail -n 1 | cut -d ' ' -f 2)
+  "$ckpt" receive -q --tip other > tip || { cat tip; return 1; }
+  grep -qxFf tip tips || { cat tip; echo "is no tip of the sender"; return 1; }
+  [ "$(cut -d ' ' -f 2 tip)" -ge "${last:-1}" ] || { cat tip; echo "after received $last"; return 1; }
+}
+
+# A run that merges after every 16 checkpoints, whose receivers are killed, also while they merge.
+a_killed_receiver_goes_on_where_it_merged() {
+  local first turn
+  mkfifo words
+  "$ckpt" shell store < words > answers 2> err &
+  exec 9> words
+  printf '%s\n' 'mmap 1 0x10000 8192 rw' 'checkpoint 0' >&9
+  waits_for "acked 1" answers || return 1
+  "$ckpt" send -q store 9>&- | "$ckpt" receive -q other > out 9>&- || return 1
+  "$ckpt" receive --tip other | tee tip > tips
+  for first in 2 18 34 50; do
+    sixteen_more "$first" >&9
+    waits_for "acked $((first + 15))" answers || return 1
+    write_tips store "$first"
+    for turn in 1 2 3 4; do
+      kill_a_receiver --since "$(cut -d ' ' -f 2 tip)" 9>&- || return 1
+    done
+    "$ckpt" send -q --since "$(cut -d ' ' -f 2 tip)" store | "$ckpt" receive -q other > out || { tail -n 1 out; return 1; }
+    "$ckpt" receive --tip other > tip
+    same "the tip" "$(cat tip)" "$("$ckpt" receive --tip store)" || return 1
+    echo merge >&9
+  done
+  exec 9>&-
+}
+
+# A store with one free slot, whose other images the newest checkpoint needs, merges where its sender did.
+a_full_receiver_takes_more() {
   { echo 'mmap 1 0x10000 4096 rw'; for i in $(seq 1 63); do echo 'checkpoint 0'; done; } > script
   "$ckpt" run store script > made
   same "the run" "$(grep -c acked made)" 63 || return 1
@@ -315,10 +393,9 @@ no_slot_is_left() {
   printf '%s\n' 'checkpoint 0' 'checkpoint 0' > script
   "$ckpt" run store script > out || return 1
   "$ckpt" send -q --since 63 store > more || return 1
-  ends_with 1 "received 64
-no-slot" "ckpt: other: no slot is free, and a merge needs one: receive the whole into another folder" \
-    "$ckpt" receive other < more || return 1
-  same "the verdict" "$("$ckpt" verify other)" "ok checkpoint 64 images 64"
+  same "the lines" "$("$ckpt" receive -q other < more)" "received 64
+received 65" || return 1
+  same "the verdict" "$("$ckpt" verify -q other)" "ok checkpoint 65 images 3"
 }
 
 a_locked_store_is_refused() {
@@ -361,6 +438,8 @@ try a_run_is_followed
 try a_killed_follower_is_taken_up_again
 try a_receiver_is_reached_by_ssh
 try a_damaged_store_takes_nothing
-try no_slot_is_left
+try a_follower_merges_with_its_run
+try a_killed_receiver_goes_on_where_it_merged
+try a_full_receiver_takes_more
 try a_locked_store_is_refused
 try a_program_goes_on_over_another_store

@@ -10,3 +10,4 @@ mod reached;
 
 pub use drop_error::DropError;
 pub use dropping::{check_drop, drop_image};
+pub use reached::is_reached;

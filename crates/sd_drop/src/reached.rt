@@ -7,7 +7,7 @@ use sd_chain::Catalog;
 
 /// Whether the newest dump or merged image of a catalog stands in a slot, or leads to an image there by parent numbers.
 /// It takes no memory.
-pub(crate) fn is_reached(catalog: &Catalog, slot: usize) -> bool
+pub fn is_reached(catalog: &Catalog, slot: usize) -> bool
     ensures { ParentsFall catalog.now → IsTrue result ↔ IsReachedIn catalog.now slot }
 {
     catalog.sound();

@@ -70,3 +70,10 @@ has_arrived contents may_leave slot len header arrived pages fills counted is go
     append_assoc : (a b c : List ℕ) → (a ++ b) ++ c ≡ a ++ b ++ c
     append_assoc [] b c = refl
     append_assoc (x ∷ a) b c = ap (λ l. x ∷ l) (append_assoc a b c)
+
+-- with the same data pages
+pub arrived_pages : (contents : List (List ℕ)) (may_leave : List (List ℕ) → Type 0) (slot len : ℕ) (header : Header) (arrived : Arrived) (pages : List (List ℕ))
+    (fills : IsFilled contents may_leave slot pages) (counted : header.pages ≡ length pages) (is : IsHeader header len) (good : GoesWith header pages arrived)
+    → (has_arrived contents may_leave slot len header arrived pages fills counted is good).pages ≡ pages
+unfolding has_arrived
+arrived_pages contents may_leave slot len header arrived pages fills counted is good = refl

@@ -90,7 +90,7 @@ free_is_closed contents places slot sound catalog within none = elim (either (is
 ]
 
 -- what is so of each image that is listed is so of the list
-each_is : {X : Type 0} (P : X → Type 0) (xs : List X) → ((x : X) → Contains xs x → P x) → All P xs
+pub each_is : {X : Type 0} (P : X → Type 0) (xs : List X) → ((x : X) → Contains xs x → P x) → All P xs
 each_is P xs each k d within = each (slice_index_or xs k d) (All-contains_itself xs k d within)
 
 pub all_mapped : {X Y : Type 0} (f : X → Y) (P : Y → Type 0) (xs : List X) → All (λ x. P (f x)) xs → All P (map f xs)

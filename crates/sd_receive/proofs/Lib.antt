@@ -6,3 +6,7 @@ pub mod ArriveLemmas
 pub mod ShowLemmas
 pub mod CatalogLemmas
 pub mod OpenLemmas
+pub mod KeepLemmas
+pub mod CopyLemmas
+pub mod ClosedLemmas
+pub mod MergeLemmas

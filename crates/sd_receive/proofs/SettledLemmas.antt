@@ -10,7 +10,7 @@ use Rattle.sd_gate.specs.declared.phase.Phase.TheVariants.{Raw, RawClosing, Whol
 use Rattle.sd_gate.specs.declared.phase.Phase.TheVariants.{Writing, Ready, Opening, Doubt, DoubtSynced}
 use Rattle.sd_gate.specs.Fits.{IsBehindClosed, IsClosed, IsShort, PhaseLeaves, PhaseReads, SlotFits}
 use Rattle.sd_gate.specs.Laws.{AllFoundFit, FoundFits, IsClosedOrWhole, found_phase}
-use Rattle.sd_receive.specs.Arriving.{IsSettled, KeepsImages, is_settled}
+use Rattle.sd_receive.specs.Arriving.{IsFilled, IsSettled, KeepsImages, is_settled}
 use Rattle.sd_receive.specs.PlanRuns.{IsLeftBeside}
 use Rattle.sd_receive.proofs.RunLemmas.{get_set_other, get_set_same}
 
@@ -54,7 +54,7 @@ rests Opening body is = absurd (let no_it : false ≡ true = is in cc)
 rests Doubt body is = absurd (let no_it : false ≡ true = is in cc)
 rests DoubtSynced body is = absurd (let no_it : false ≡ true = is in cc)
 
-phase_at : (phases : List Phase) (slot : ℕ) → slot < length phases → (phase : Phase) × (slice_get phases slot ≡ Some phase)
+pub phase_at : (phases : List Phase) (slot : ℕ) → slot < length phases → (phase : Phase) × (slice_get phases slot ≡ Some phase)
 phase_at [] slot inside = absurd (omega (arith, inside))
 phase_at (p ∷ ps) zero inside = (p, refl)
 phase_at (p ∷ ps) (suc slot) inside = phase_at ps slot (omega (arith, inside))
@@ -117,6 +117,27 @@ beside_keeps contents c may_leave rest slot shut left = record {
         let many = rest.fits.slots in
         let p = phase_at rest.phases other (omega (arith, inside, many)) in
         slot_keeps p.0 (file_at rest.bodies other) (file_at contents other) (file_at c other) (rest.settled other p.0 p.1) (rest.fits.each other p.0 p.1).reads (left.others other p.0 apart p.1)
+
+-- all the way through the calls of a plan each other slot has its image, or none, as before
+pub others_keep : (contents c : List (List ℕ)) (may_leave : List (List ℕ) → Type 0) (rest : IsSettled contents may_leave) (slot : ℕ) (image : List ℕ)
+    → IsLeftBeside rest.phases rest.bodies slot image c → (other : ℕ) → other ≢ slot
+    → (is_open (file_at contents other) ≡ true → file_at c other ≡ file_at contents other) × (is_open (file_at contents other) ≡ false → is_open (file_at c other) ≡ false)
+others_keep contents c may_leave rest slot image left other apart = ⊎_elim
+    (λ inside. (let many = rest.fits.slots in
+    let p = phase_at rest.phases other (omega (arith, inside, many)) in
+    slot_keeps p.0 (file_at rest.bodies other) (file_at contents other) (file_at c other) (rest.settled other p.0 p.1) (rest.fits.each other p.0 p.1).reads (left.others other p.0 apart p.1)))
+    (λ beyond. (
+      λ opens. absurd (let no_it : true ≡ false = sym opens ∙ nothing_is_closed contents other beyond in cc),
+      λ closed. nothing_is_closed c other (let count = left.count in let many = rest.fits.slots in omega (arith, beyond, count, many)),
+    )) (within_or_beyond other (length contents))
+
+-- a slot that is open has its whole image
+pub open_is_whole : (phase : Phase) (body file : List ℕ) → is_settled phase ≡ true → PhaseReads phase body file → is_open file ≡ true → phase ≡ Whole
+open_is_whole phase body file settled reads opens = by (rests phase body settled)
+  where
+    by : Rests phase body → phase ≡ Whole
+    by (Rests.has_image is) = is
+    by (Rests.has_none was now) = absurd (let no_it : true ≡ false = sym opens ∙ was file reads in cc)
 
 -- ---- a slot that was synced is in the phase of its file
 
@@ -191,4 +212,18 @@ settled_fewer contents before now fewer rest = record {
         record { reads = fits.reads; leaves = λ c may. fits.leaves c (fewer c may); as_read = λ synced c may. fits.as_read synced c (fewer c may) };
   };
   settled = rest.settled;
+}
+
+-- a slot is as full after reads
+pub filled_fewer : (contents : List (List ℕ)) (before now : List (List ℕ) → Type 0) (slot : ℕ) (pages : List (List ℕ)) → Within now before
+    → IsFilled contents before slot pages → IsFilled contents now slot pages
+unfolding settled_fewer
+filled_fewer contents before now slot pages fewer fill = record {
+  rests = settled_fewer contents before now fewer fill.rests;
+  phase = fill.phase;
+  is = fill.is;
+  ready = fill.ready;
+  fills = fill.fills;
+  body = fill.body;
+  whole = fill.whole;
 }

@@ -91,7 +91,7 @@ stays_in old new i j adds c = subst (λ (xs : List Image). Contains xs j) (sym a
     ])
 
 -- the numbers of an image
-numbers : (kind : Kind) (serial stands_for parent : ℕ) → AreNumbers kind serial stands_for parent → (stands_for ≤ serial) × (parent < stands_for)
+pub numbers : (kind : Kind) (serial stands_for parent : ℕ) → AreNumbers kind serial stands_for parent → (stands_for ≤ serial) × (parent < stands_for)
 numbers PreDump serial stands_for parent are = (omega (arith, are), omega (arith, are))
 numbers Dump serial stands_for parent are = (omega (arith, are), omega (arith, are))
 numbers Merged serial stands_for parent are = (omega (arith, are), omega (arith, are))

@@ -1,3 +1,5 @@
 pub mod PlanRuns
 pub mod Arriving
 pub mod Arrived
+pub mod Merged
+pub mod Copies

@@ -3,11 +3,18 @@
 
 mod arrived;
 mod arriving;
+mod closing;
+mod copying;
+mod mapped;
+mod merging;
 mod pages;
 mod plans;
 mod receive_error;
 mod receiver;
+mod room;
 mod settling;
+mod slots;
+mod spelling;
 mod taking;
 
 pub use arriving::{format, open_gate, put_page};

@@ -19,14 +19,16 @@ ghost use Rattle.sd_receive.specs.declared.receiver.Received.TheVariants as rece
 use crate::arrived::{Arrived, arrive};
 use crate::arriving::open_gate;
 use crate::receive_error::ReceiveError;
+use crate::room::make_room;
 use crate::settling::settle;
+use crate::slots::{add, free_slot};
 use crate::taking::take_header;
-use sd_chain::{Catalog, CatalogError, OpenImage, PlacedTable};
+use sd_chain::Catalog;
 use sd_disk::Disk;
 use sd_image::{Header, Kind};
 use sd_restore::{Fault, place_newest, scan};
 use sd_stream::{Item, StreamReader};
-use std::alloc::{AllocError, Global};
+use std::alloc::Global;
 use std::io::Read;
 use std::thread::Threads;
 
@@ -51,33 +53,6 @@ pub struct Receiver<R> {
     last: u64,
 }
 
-/// Whether none of these images stands in a slot.
-fn is_free(images: &[&OpenImage], slot: usize) -> bool
-    ensures { result ≡ true → All (λ (i : Bor Opened). i.now.slot ≢ slot) images.now }
-{
-    for image in images {
-        if image.slot() == slot {
-            return false;
-        }
-    }
-    true
-}
-
-/// The first of so many slots in which no image of a catalog stands.
-fn free_slot(catalog: &Catalog, slots: usize) -> Result<Option<usize>, AllocError>
-    ensures slot { IfOk result (λ found. IfSome found (λ slot. slot < slots)) }
-    ensures free { IfOk result (λ found. IfSome found (λ slot.
-        All (λ (i : Opened). i.slot ≢ slot) (images catalog.now))) }
-{
-    let images = catalog.list()?;
-    for slot in 0..slots {
-        if is_free(&images, slot) {
-            return Ok(Some(slot));
-        }
-    }
-    Ok(None)
-}
-
 /// Checks that the checkpoint of a dump or a merged image is the newest of a catalog that has it, and that each of its
 /// pages stands in an image.
 fn check_shown(alloc: Global, catalog: &Catalog, header: &Header) -> Result<(), ReceiveError>
@@ -94,28 +69,6 @@ fn check_shown(alloc: Global, catalog: &Catalog, header: &Header) -> Result<(), 
             Err(ReceiveError::LacksPages(header.checkpoint))
         }
         Err(fault) => Err(ReceiveError::Fault(fault)),
-    }
-}
-
-/// Adds an image that arrived to a catalog, and gives the bytes of its table back.
-fn add(
-    alloc: Global,
-    catalog: &mut Catalog,
-    slot: usize,
-    header: Header,
-    arrived: Arrived,
-) -> Result<Vec<u8>, ReceiveError>
-    ensures adds { OnOk result (AddsImage catalog.old catalog.new (opened_with slot header arrived)) }
-    ensures images { AreImages catalog.old → header.parent < header.stands_for
-        → IsTable header (map listing_of arrived.table.spaces.items) → OnOk result (AreImages catalog.new) }
-    ensures bytes { IfOk result (λ bytes. bytes ≡ arrived.bytes) }
-{
-    let Arrived { bytes, table } = arrived;
-    let placed = PlacedTable::new(alloc, table)?;
-    match catalog.add(slot, header, placed) {
-        Ok(()) => Ok(bytes),
-        Err(CatalogError::DoubleSerial) => Err(ReceiveError::Serial(header.serial)),
-        Err(CatalogError::OutOfMemory) => Err(ReceiveError::Fault(Fault::OutOfMemory)),
     }
 }
 
@@ -160,24 +113,19 @@ impl<R: Read> Receiver<R> {
         })
     }
 
-    /// Reads the header of an image of so many bytes, and chooses one of so many slots for it.
-    fn choose(&mut self, slots: usize, len: u64) -> Result<(usize, Header), ReceiveError>
-        ensures catalog { self.new.catalog ≡ self.old.catalog }
-        ensures reads { OnOk result (GoesOn R.remaining self.old.reader [] self.new.reader) }
-        ensures header { IfOk result (λ chosen. IsHeader chosen.1 len) }
-        ensures few { IfOk result (λ chosen. chosen.1.pages ≤ 2 ^ 39) }
-        ensures slot { IfOk result (λ chosen. chosen.0 < slots) }
+    /// Chooses one of so many slots for the image with this header.
+    fn choose(&self, slots: usize, header: &Header) -> Result<usize, ReceiveError>
+        ensures slot { IfOk result (λ chosen. chosen < slots) }
         ensures free { IfOk result (λ chosen.
-            All (λ (i : Opened). i.slot ≢ chosen.0) (images self.old.catalog)) }
-        ensures under { IfOk result (λ chosen. (j : Opened) → Contains (images self.old.catalog) j
-            → j.header.serial < chosen.1.serial) }
+            All (λ (i : Opened). i.slot ≢ chosen) (images self.now.catalog)) }
+        ensures under { OnOk result ((j : Opened) → Contains (images self.now.catalog) j
+            → j.header.serial < header.now.serial) }
     {
-        let header = take_header(&mut self.reader, len)?;
         if header.serial <= self.catalog.greatest_serial() {
             return Err(ReceiveError::Serial(header.serial));
         }
         match free_slot(&self.catalog, slots)? {
-            Some(slot) => Ok((slot, header)),
+            Some(slot) => Ok(slot),
             None => Err(ReceiveError::NoSlot),
         }
     }
@@ -231,6 +179,41 @@ impl<R: Read> Receiver<R> {
         Ok(bytes)
     }
 
+    /// Takes an image with this header into a free slot.
+    fn put_image<D: Disk, T: Threads>(
+        &mut self,
+        threads: &T,
+        alloc: Global,
+        disk: &mut D,
+        header: Header,
+        len: u64,
+    ) -> Result<Received, ReceiveError>
+    where
+        R: Send,
+        requires images { AreImages self.old.catalog }
+        requires header { IsHeader header len }
+        requires few { header.pages ≤ 2 ^ 39 }
+        ensures keeps { D.is_honest disk.new
+            → IsReady (D.contents disk.old) (D.may_leave disk.old) self.old.catalog
+            → (shown : Option (ℕ × PlainMemory)) → Shows (D.contents disk.old) shown
+            → (memory : PlainMemory) × Receives D.Disk disk.old disk.new shown self.new.last memory result }
+        ensures ready { D.is_honest disk.new
+            → IsReady (D.contents disk.old) (D.may_leave disk.old) self.old.catalog
+            → OnOk result (IsReady (D.contents disk.new) (D.may_leave disk.new) self.new.catalog) }
+        ensures images { OnOk result (AreImages self.new.catalog) }
+        ensures image { IfOk result (λ r. r ≢ received.End) }
+        ensures reads { IfOk result (ReadsNext R.remaining self.old.reader self.new.reader) }
+        ensures honest { D.is_honest disk.new → D.is_honest disk.old }
+    {
+        self.catalog.sound();
+        self.catalog.has_the_images();
+        let slot = self.choose(disk.slots(), &header)?;
+        let arrived = arrive(threads, alloc, disk, slot, &header, &mut self.reader)?;
+        let bytes = self.prepare(alloc, slot, header, arrived)?;
+        open_gate(disk, slot, header, bytes)?;
+        Ok(received_with(&header))
+    }
+
     /// Takes an image of so many bytes into a free slot.
     fn take_image<D: Disk, T: Threads>(
         &mut self,
@@ -254,24 +237,21 @@ impl<R: Read> Receiver<R> {
         ensures reads { IfOk result (ReadsNext R.remaining self.old.reader self.new.reader) }
         ensures honest { D.is_honest disk.new → D.is_honest disk.old }
     {
-        self.catalog.sound();
-        self.catalog.has_the_images();
-        let (slot, header) = self.choose(disk.slots(), len)?;
-        let arrived = arrive(threads, alloc, disk, slot, &header, &mut self.reader)?;
-        let bytes = self.prepare(alloc, slot, header, arrived)?;
-        open_gate(disk, slot, header, bytes)?;
-        Ok(received_with(&header))
+        let header = take_header(&mut self.reader, len)?;
+        make_room(alloc, disk, &mut self.catalog, header.serial)?;
+        self.put_image(threads, alloc, disk, header, len)
     }
 
     /// Receives the next image into a slot that has none, of which one thread reads data pages and another writes those
-    /// before. A pre-dump is there once this is done. A dump or a merged
-    /// image is received where the stream acknowledges its checkpoint and all its pages are there. No gate is opened
-    /// before the header, the table and the digest of the image were checked.
+    /// before. A pre-dump is there once this is done. A dump or a merged image is received where the stream acknowledges
+    /// its checkpoint and all its pages are there. No gate is opened before the header, the table and the digest of the
+    /// image were checked. Where few slots are free, the newest chain may be merged before, and images be closed that
+    /// the newest checkpoint doesn't need.
     ///
     /// # Errors
     ///
     /// `Stream`; `Image`, `Closed`, `Serial`, `Unacknowledged`, `WithoutDump` and `LacksPages` where an image is
-    /// refused; `NoSlot`; `Fault`. After an error nothing more is received.
+    /// refused; `NoSlot` where no slot gets free; `Fault`. After an error nothing more is received.
     pub fn next<D: Disk, T: Threads>(
         &mut self,
         threads: &T,

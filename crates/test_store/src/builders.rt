@@ -54,6 +54,19 @@ pub(crate) const FIRST: Image = (DUMP, DATA, 7);
 /// A dump of serial 2, whose page is in the first.
 pub(crate) const SECOND: Image = (ABOVE, IN_PARENT, 0);
 
+/// A dump of serial 4 above that, whose page is in the second.
+pub(crate) const FOURTH: Image = (
+    Header {
+        serial: 4,
+        stands_for: 4,
+        parent: 2,
+        checkpoint: 3,
+        ..ABOVE
+    },
+    IN_PARENT,
+    0,
+);
+
 /// A merged image of serial 3 that stands for the first, with a data page filled with 9.
 pub(crate) const THIRD_MERGED: Image = (
     Header {

@@ -18,6 +18,8 @@ mod drops;
 #[cfg(test)]
 mod feeding;
 #[cfg(test)]
+mod merges;
+#[cfg(test)]
 mod picks;
 #[cfg(test)]
 mod receipts;

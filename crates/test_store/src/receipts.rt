@@ -17,7 +17,7 @@ fn write_file(writer: &mut StreamWriter<Vec<u8>>, file: &[u8]) -> Result<(), Wri
 }
 
 /// Writes an image and its checkpoint.
-fn write(
+pub(crate) fn write(
     alloc: Global,
     writer: &mut StreamWriter<Vec<u8>>,
     image: &Image,

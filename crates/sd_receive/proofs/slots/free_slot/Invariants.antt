@@ -1,6 +1,6 @@
 use Rattle.std.proofs.Common.{◌≡◌, Bor, map}
 use Rattle.sd_chain.specs.Catalog.{Opened, images}
-use Rattle.sd_receive.proofs.receiver.free_slot.Given as goal
+use Rattle.sd_receive.proofs.slots.free_slot.Given as goal
 
 -- the list is that of the catalog
 abbrev pub invariant-loop-slot : goal.invariant-loop-slot

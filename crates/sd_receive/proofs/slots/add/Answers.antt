@@ -2,7 +2,7 @@ use Rattle.std.proofs.Common.{List, sym, subst}
 use Rattle.sd_chain.specs.Catalog.{Opened}
 use Rattle.sd_image.specs.Table.{IsTable, Listed}
 use Rattle.sd_receive.proofs.CatalogLemmas.{images_more}
-use Rattle.sd_receive.proofs.receiver.add.Goals as goal
+use Rattle.sd_receive.proofs.slots.add.Goals as goal
 
 pub returns-in-Ok-clause-images : goal.returns-in-Ok-clause-images
 returns-in-Ok-clause-images c = λ are falls table.

@@ -1,7 +1,7 @@
 use Rattle.std.proofs.Common.{◌≢◌, All, Bor, subst}
 use Rattle.sd_chain.specs.Catalog.{Opened}
 use Rattle.sd_receive.proofs.CatalogLemmas.{all_mapped}
-use Rattle.sd_receive.proofs.receiver.free_slot.Goals as goal
+use Rattle.sd_receive.proofs.slots.free_slot.Goals as goal
 
 pub returns-then-is_free-clause-free : goal.returns-then-is_free-clause-free
 returns-then-is_free-clause-free c =
