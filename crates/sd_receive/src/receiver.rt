@@ -237,12 +237,13 @@ impl<R: Read> Receiver<R> {
 
     /// Receives the next image into a slot that has none. A pre-dump is there once this is done. A dump or a merged
     /// image is received where the stream acknowledges its checkpoint and all its pages are there. No gate is opened
-    /// before the header, the table and the digest of the image were checked.
+    /// before the header, the table and the digest of the image were checked. Where few slots are free, the newest
+    /// chain may be merged before, and images be closed that the newest checkpoint doesn't need.
     ///
     /// # Errors
     ///
     /// `Stream`; `Image`, `Closed`, `Serial`, `Unacknowledged`, `WithoutDump` and `LacksPages` where an image is
-    /// refused; `NoSlot`; `Fault`. After an error nothing more is received.
+    /// refused; `NoSlot` where no slot gets free; `Fault`. After an error nothing more is received.
     pub fn next<D: Disk>(&mut self, alloc: Global, disk: &mut D) -> Result<Received, ReceiveError>
         requires { AreImages self.old.catalog }
         // At each moment a crash leaves what was shown, or the checkpoint that was acknowledged last; once it is
