@@ -368,11 +368,11 @@ a_killed_receiver_goes_on_where_it_merged() {
   waits_for "acked 1" answers || return 1
   "$ckpt" send -q store 9>&- | "$ckpt" receive -q other > out 9>&- || return 1
   "$ckpt" receive --tip other | tee tip > tips
-  for first in 2 18 34 50; do
+  for first in 2 18 34; do
     sixteen_more "$first" >&9
     waits_for "acked $((first + 15))" answers || return 1
     write_tips store "$first"
-    for turn in 1 2 3 4; do
+    for turn in 1 2 3; do
       kill_a_receiver --since "$(cut -d ' ' -f 2 tip)" 9>&- || return 1
     done
     "$ckpt" send -q --since "$(cut -d ' ' -f 2 tip)" store | "$ckpt" receive -q other > out || { tail -n 1 out; return 1; }
