@@ -243,10 +243,10 @@ impl<R: Read> Receiver<R> {
     }
 
     /// Receives the next image into a slot that has none, of which one thread reads data pages and another writes those
-    /// before. A pre-dump is there once this is done. A dump or a merged image is received where the stream acknowledges
-    /// its checkpoint and all its pages are there. No gate is opened before the header, the table and the digest of the
-    /// image were checked. Where few slots are free, the newest chain may be merged before, and images be closed that
-    /// the newest checkpoint doesn't need.
+    /// before. A pre-dump is there once this is done. A dump or a merged image is received where the stream
+    /// acknowledges its checkpoint and all its pages are there. No gate is opened before the header, the table and the
+    /// digest of the image were checked. Where few slots are free, the newest chain may be merged before, and images be
+    /// closed that the newest checkpoint doesn't need.
     ///
     /// # Errors
     ///
