@@ -77,7 +77,11 @@ fn check_digest(header: &Header, mut digester: Digester, table: &[u8]) -> Result
 }
 
 /// The table that the bytes spell, after this header.
-fn table_of(alloc: Global, header: &Header, bytes: &[u8]) -> Result<Table, ReceiveError>
+pub(crate) fn read_table(
+    alloc: Global,
+    header: &Header,
+    bytes: &[u8],
+) -> Result<Table, ReceiveError>
     ensures { IfOk result (λ table. (bytes.now ≡ table_text (map listing_of table.spaces.items))
         × IsTable header.now (map listing_of table.spaces.items)) }
 {
@@ -103,7 +107,7 @@ fn take_rest<R: Read>(
     ensures reads { OnOk result (GoesOn R.remaining reader.old [] reader.new) }
 {
     let bytes = take_table(alloc, reader, header.table_len as usize)?;
-    let table = table_of(alloc, header, &bytes)?;
+    let table = read_table(alloc, header, &bytes)?;
     check_digest(header, digester, &bytes)?;
     Ok(Arrived { bytes, table })
 }

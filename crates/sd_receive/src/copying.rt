@@ -1,12 +1,11 @@
 //! A memory that is copied into a closed slot, page by page.
-ghost use Rattle.std.specs.Prelude.{◌≡◌, ◌≢◌, ◌+◌, ◌<◌, ◌≤◌, ◌^◌, ◌++◌, ◌∷◌, [], false, ℕ, List, length};
+ghost use Rattle.std.specs.Prelude.{◌≡◌, ◌≢◌, ◌+◌, ◌<◌, ◌≤◌, ◌^◌, ◌∷◌, [], false, ℕ, List, length};
 ghost use Rattle.std.specs.Prelude.{All, IfOk, OnOk};
 ghost use Rattle.sd_disk.specs.Contents.{file_at};
 ghost use Rattle.sd_disk.specs.Reads.{OnlyReads};
 ghost use Rattle.sd_disk.specs.Spans.{LeavesOnly};
 ghost use Rattle.sd_chain.specs.declared.found.Found.TheVariants.{Data};
 ghost use Rattle.sd_chain.specs.Store.{bytes_at};
-ghost use Rattle.sd_image.specs.Digests.{HasFed};
 ghost use Rattle.sd_image.specs.Image.{is_open};
 ghost use Rattle.sd_restore.specs.Placed.{PlacedPage};
 ghost use Rattle.sd_receive.specs.Arrived.{HasPages};
@@ -16,6 +15,7 @@ ghost use Rattle.sd_receive.specs.Merged.{page_of, pages_seen};
 
 use crate::arriving::{format, put_page};
 use crate::mapped::{MappedPage, push};
+use crate::pages::digest_page;
 use crate::receive_error::ReceiveError;
 use sd_areas::{PAGE_BYTES, PAGE_SIZE};
 use sd_chain::Found;
@@ -35,17 +35,6 @@ pub(crate) struct Copied {
     pub(crate) stored: usize,
     /// Was fed these.
     pub(crate) digester: Digester,
-}
-
-/// Takes a page into a digest.
-fn digest_page(digester: &mut Digester, page: &[u8])
-    requires { length page.now ≡ 4096 }
-    ensures { (fed : List ℕ) → HasFed digester.old fed → HasFed digester.new (fed ++ page.now) }
-{
-    match page.try_into() {
-        Ok(page) => digester.page(page),
-        Err(_) => unreachable!(),
-    }
 }
 
 /// Reads a page that stands in a slot's file.

@@ -21,7 +21,7 @@ use std::thread::{Threads, join_mut};
 const PIECE: usize = 16;
 
 /// Gives a page to a digester.
-fn digest_page(digester: &mut Digester, page: &[u8])
+pub(crate) fn digest_page(digester: &mut Digester, page: &[u8])
     requires { length page.now ≡ 4096 }
     ensures { (fed : List ℕ) → HasFed digester.old fed → HasFed digester.new (fed ++ page.now) }
 {

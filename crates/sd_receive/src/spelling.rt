@@ -4,22 +4,19 @@ ghost use Rattle.std.specs.List.{concat};
 ghost use Rattle.sha2.specs.Sha256.{sha256};
 ghost use Rattle.sd_image.specs.Digests.{HasFed};
 ghost use Rattle.sd_image.specs.Header.{HasWords, header_front};
-ghost use Rattle.sd_image.specs.Table.{IsTable, listing_of, table_text};
-ghost use Rattle.sd_gate.specs.Sequences.{IsBody};
+ghost use Rattle.sd_image.specs.Table.{IsTable, listing_of};
 ghost use Rattle.sd_receive.specs.Arrived.{GoesWith};
 ghost use Rattle.sd_receive.specs.Merged.{header_after};
 
-use crate::arrived::Arrived;
+use crate::arrived::{Arrived, read_table};
 use crate::copying::Copied;
 use crate::mapped::MappedPage;
 use crate::receive_error::ReceiveError;
 use sd_areas::SpaceId;
 use sd_chain::Found;
 use sd_image::{
-    Digester, Header, Kind, Reason, Run, RunKind, SpaceTable, Table, TableError, Version,
-    decode_table, encode_table,
+    Digester, Header, Kind, Reason, Run, RunKind, SpaceTable, Table, Version, encode_table,
 };
-use sd_restore::Fault;
 use std::alloc::{AllocError, Global};
 
 /// In which way an image has a page whose copy lies there.
@@ -126,18 +123,6 @@ fn header_of(
     digester.table(table);
     let digest = digester.finish(&header);
     Header { digest, ..header }
-}
-
-/// The table that the bytes spell, after this header.
-fn read_table(alloc: Global, header: &Header, bytes: &[u8]) -> Result<Table, ReceiveError>
-    ensures { IfOk result (λ table. (bytes.now ≡ table_text (map listing_of table.spaces.items))
-        × IsTable header.now (map listing_of table.spaces.items)) }
-{
-    match decode_table(alloc, header, bytes) {
-        Ok(table) => Ok(table),
-        Err(TableError::Damaged(reason)) => Err(ReceiveError::Image(reason)),
-        Err(TableError::OutOfMemory) => Err(ReceiveError::Fault(Fault::OutOfMemory)),
-    }
 }
 
 /// The header and the table of a merged image, whose pages were copied, and which takes the place of one with this
