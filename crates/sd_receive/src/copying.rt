@@ -1,5 +1,5 @@
 //! A memory that is copied into a closed slot, page by page.
-ghost use Rattle.std.specs.Prelude.{◌≡◌, ◌≢◌, ◌+◌, ◌<◌, ◌≤◌, ◌^◌, ◌∷◌, [], false, ℕ, List, length};
+ghost use Rattle.std.specs.Prelude.{◌≡◌, ◌≢◌, ◌+◌, ◌<◌, ◌≤◌, ◌^◌, ◌++◌, ◌∷◌, [], false, ℕ, List, length};
 ghost use Rattle.std.specs.Prelude.{All, IfOk, OnOk};
 ghost use Rattle.sd_disk.specs.Contents.{file_at};
 ghost use Rattle.sd_disk.specs.Reads.{OnlyReads};
