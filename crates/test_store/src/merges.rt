@@ -14,11 +14,11 @@ const LIMIT: u64 = 100;
 
 /// A stream of the third checkpoint, whose sender merged before it.
 fn third_checkpoint(alloc: Global) -> Result<Vec<u8>, WriteError> {
-    let mut out = Vec::new(alloc);
-    let mut writer = StreamWriter::begin(&mut out, None)?;
-    write(alloc, &mut writer, &FOURTH)?;
-    writer.end()?;
-    Ok(out)
+    let mut writer = StreamWriter::begin(Vec::new(alloc), None)?;
+    match write(alloc, &mut writer, &FOURTH) {
+        Ok(()) => writer.end(),
+        Err(why) => Err(why),
+    }
 }
 
 /// A synced store of four slots, with two checkpoints.
