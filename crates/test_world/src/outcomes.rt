@@ -9,7 +9,7 @@ use sd_areas::{Snapshot, SpaceId};
 use sd_command::{Refusal, Reply};
 use sd_core::{Core, Start, Taken};
 use sd_disk::{Disk, MemDisk};
-use sd_gate::{Outcome, Phase, Worker, perform};
+use sd_gate::{Phase, Worker, perform};
 use sd_pagetable::Memory;
 use std::alloc::{AllocError, Global};
 
@@ -42,35 +42,38 @@ fn start(alloc: Global) -> Result<Start, AllocError>
     }
 }
 
-/// The outcome of a core's next call, performed.
-fn next_outcome<D: Disk>(core: &mut Core, disk: &mut D) -> Option<Outcome> {
-    match core.take_up(Worker::Opener) {
-        Taken::Call(request) if request.id().slot < disk.slots() => Some(perform(disk, request)),
-        _ => None,
+/// Takes up the next step of one core's opener, performs its call, and hands the outcome in to a second core.
+fn hand_to<D: Disk>(from: &mut Core, to: &mut Core, disk: &mut D) -> Reply {
+    match from.take_up(Worker::Opener) {
+        Taken::Step(reply) => reply,
+        Taken::Call(request) => {
+            if request.id().slot >= disk.slots() {
+                return Reply::Done;
+            }
+            to.hand_in(perform(disk, request))
+        }
     }
 }
 
-/// Hands the outcome of one core's next call in to another core.
-fn hand_to<D: Disk>(from: &mut Core, to: &mut Core, disk: &mut D) -> Option<Reply> {
-    let outcome = next_outcome(from, disk)?;
-    Some(to.hand_in(outcome))
-}
-
-/// Hands the outcome of a core's next call in to it.
-fn go_on<D: Disk>(core: &mut Core, disk: &mut D) -> Option<Reply> {
-    let outcome = next_outcome(core, disk)?;
-    Some(core.hand_in(outcome))
+/// Takes up the next step of a core's opener, performs its call, and hands the outcome in.
+fn go_on<D: Disk>(core: &mut Core, disk: &mut D) -> Reply {
+    match core.take_up(Worker::Opener) {
+        Taken::Step(reply) => reply,
+        Taken::Call(request) => {
+            if request.id().slot >= disk.slots() {
+                return Reply::Done;
+            }
+            core.hand_in(perform(disk, request))
+        }
+    }
 }
 
 /// Whether the outcome of a call of another core is refused, and the core's own is taken.
 fn takes_its_own<D: Disk>(core: &mut Core, other: &mut Core, disk: &mut D) -> bool {
     matches!(core.reopen(), Reply::Worked)
         && matches!(other.reopen(), Reply::Worked)
-        && matches!(
-            hand_to(other, core, disk),
-            Some(Reply::Refused(Refusal::Idle))
-        )
-        && matches!(go_on(core, disk), Some(Reply::Worked))
+        && matches!(hand_to(other, core, disk), Reply::Refused(Refusal::Idle))
+        && matches!(go_on(core, disk), Reply::Worked)
 }
 
 /// Makes another core, and discards it.
